@@ -1,0 +1,65 @@
+ghost use Rattle.std.specs.Prelude.{◌≡◌, ◌↔◌, IfOk, IsTrue};
+
+use std::alloc::{AllocError, Global};
+use std::marker::Model;
+
+/// Any octets: a tag, a pattern, a message's text.
+#[derive(Drop)]
+pub struct Octets {
+    octets: Vec<u8>,
+}
+
+impl Model for Octets {
+    ghost use Rattle.std.specs.Prelude.{ℕ, List};
+
+    ghost Value = { List ℕ };
+
+    ghost view = { λ o. o.octets.items };
+}
+
+impl Octets {
+    /// These octets, whose memory it takes over.
+    pub fn new(octets: Vec<u8>) -> Octets
+        ensures { result ≡ octets.items }
+    {
+        Octets { octets }
+    }
+
+    /// A copy of these octets; `Err` where there is no memory for it.
+    pub fn copied_from(alloc: Global, octets: &[u8]) -> Result<Octets, AllocError>
+        ensures { IfOk result (λ copied. copied ≡ octets.now) }
+    {
+        Ok(Octets {
+            octets: octets.to_vec(alloc)?,
+        })
+    }
+
+    /// The octets, with their memory.
+    pub fn into_vec(self) -> Vec<u8>
+        ensures { result.items ≡ self }
+    {
+        let Octets { octets } = self;
+        octets
+    }
+
+    /// The octets.
+    pub fn as_bytes(&self) -> &[u8]
+        ensures { result.now ≡ self.now }
+    {
+        &self.octets
+    }
+
+    /// Whether both hold the same octets.
+    pub fn same(&self, other: &Octets) -> bool
+        ensures { IsTrue result ↔ (self.now ≡ other.now) }
+    {
+        self.as_bytes() == other.as_bytes()
+    }
+
+    /// An equal one; `Err` where there is no memory for it.
+    pub fn copy(&self, alloc: Global) -> Result<Octets, AllocError>
+        ensures { IfOk result (λ copied. copied ≡ self.now) }
+    {
+        Octets::copied_from(alloc, self.as_bytes())
+    }
+}
