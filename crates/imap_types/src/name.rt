@@ -1,3 +1,4 @@
+ghost use Rattle.imap_types.specs.Ascending.{compared};
 ghost use Rattle.std.specs.Prelude.{◌≡◌, ◌↔◌, IfOk, IsTrue, map};
 ghost use Rattle.std.specs.Char.{to_ascii_uppercase};
 ghost use Rattle.imap_types.specs.Names.{IsLawfulName, folded_name, has_octets, inbox, is_inbox, is_name_octet, levels_of};
@@ -5,6 +6,7 @@ ghost use Rattle.std.specs.List.{list_all};
 ghost use Rattle.std.specs.Str.{IsUtf8};
 
 use std::alloc::{AllocError, Global};
+use std::cmp::Ordering;
 use std::marker::Model;
 use std::str;
 
@@ -69,6 +71,13 @@ impl Name {
         ensures { IsTrue result ↔ (self.now ≡ other.now) }
     {
         self.as_bytes() == other.as_bytes()
+    }
+
+    /// How the octets compare, by the first that differs.
+    pub fn compare(&self, other: &Name) -> Ordering
+        ensures { result ≡ compared self.now other.now }
+    {
+        self.as_bytes().cmp(other.as_bytes())
     }
 
     /// An equal name; `Err` where there is no memory for it.

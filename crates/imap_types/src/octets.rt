@@ -1,6 +1,8 @@
+ghost use Rattle.imap_types.specs.Ascending.{compared};
 ghost use Rattle.std.specs.Prelude.{◌≡◌, ◌↔◌, IfOk, IsTrue};
 
 use std::alloc::{AllocError, Global};
+use std::cmp::Ordering;
 use std::marker::Model;
 
 /// Any octets: a tag, a pattern, a message's text.
@@ -54,6 +56,13 @@ impl Octets {
         ensures { IsTrue result ↔ (self.now ≡ other.now) }
     {
         self.as_bytes() == other.as_bytes()
+    }
+
+    /// How the octets compare, by the first that differs.
+    pub fn compare(&self, other: &Octets) -> Ordering
+        ensures { result ≡ compared self.now other.now }
+    {
+        self.as_bytes().cmp(other.as_bytes())
     }
 
     /// An equal one; `Err` where there is no memory for it.
