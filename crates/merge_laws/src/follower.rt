@@ -1,0 +1,82 @@
+//! What keeps account of the operations that were applied.
+
+ghost use Rattle.std.specs.Prelude.{◌≡◌, ◌↔◌, List, [], ◌∷◌, ◌++◌, OnOk, Err};
+ghost use Rattle.merge_laws.specs.Orders.{fold_of};
+ghost use Rattle.merge_laws.specs.declared.follower.NotReady.TheVariants.{Exhausted as UsedUp};
+
+use crate::replicated::Replicated;
+use std::alloc::Global;
+use thiserror::Error;
+
+/// Why a follower can't note operations.
+#[derive(Clone, Copy, Debug, PartialEq, Eq, Error)]
+pub enum NotReady {
+    /// One of its counters has no number left.
+    #[error("number used up")]
+    Exhausted,
+    /// No memory.
+    #[error("no memory")]
+    NoMemory,
+}
+
+/// What is told each operation that is applied to an `R`, and keeps an account of them.
+/// All that it says follows from what it began with and the list of operations noted.
+pub trait Follower<R: Replicated> {
+    /// What it began with, as the first numbers of its counters.
+    type Start;
+
+    /// What this one began with.
+    ghost start: { Self → Self.Start };
+
+    /// It stands for this list of noted operations.
+    ghost follows: { Self → List R.Op → Type 0 };
+
+    /// It can note these operations in this order with no more memory.
+    ghost is_ready: { Self → List R.Op → Type 0 };
+
+    /// After the first list, noting the second would need a number that a counter doesn't have.
+    ghost exhausts: { Self.Start → List R.Op → List R.Op → Type 0 };
+
+    /// Makes room for noting these operations, in this order. It answers Exhausted exactly where a counter has no number
+    /// left for one of them. An error leaves all that it says as it was.
+    fn ready(&mut self, alloc: Global, value: &R, ops: &[R::Op]) -> Result<(), NotReady>
+        ensures start { start self.new ≡ start self.old }
+        ensures follows { (list : List R.Op) → follows self.old list → follows self.new list }
+        ensures ready { OnOk result (is_ready self.new ops.now) }
+        ensures exhausted { (list : List R.Op) → follows self.old list → R.meaning value.now ≡ fold_of R.effect R.initial list → ((result ≡ Err UsedUp) ↔ exhausts (start self.old) list ops.now) };
+
+    /// Notes an operation that it was made ready for, with the value as applying left it; takes no memory, and it stays
+    /// ready for those behind.
+    fn note(&mut self, value: &R, op: &R::Op)
+        requires { is_ready self.old (op.now ∷ []) }
+        ensures start { start self.new ≡ start self.old }
+        ensures follows { (list : List R.Op) → follows self.old list → R.meaning value.now ≡ fold_of R.effect R.initial (list ++ op.now ∷ []) → follows self.new (list ++ op.now ∷ []) }
+        ensures others { (rest : List R.Op) → is_ready self.old (op.now ∷ rest) → is_ready self.new rest };
+
+    /// What is ready for some operations is ready for the first of them.
+    ghost first: { (x : Self) (o : R.Op) (os : List R.Op) → is_ready x (o ∷ os) → is_ready x (o ∷ []) };
+}
+
+/// A follower that is always ready and notes nothing.
+#[derive(Drop, Clone, Copy, Debug, PartialEq, Eq)]
+pub struct Unfollowed;
+
+impl<R: Replicated> Follower<R> for Unfollowed {
+    type Start = ();
+
+    ghost start = { λ _. tt };
+
+    ghost follows = { λ _ _. Unit {0} };
+
+    ghost is_ready = { λ _ _. Unit {0} };
+
+    ghost exhausts = { λ _ _ _. ⊥ };
+
+    ghost first = { λ _ _ _ _. tt };
+
+    fn ready(&mut self, _alloc: Global, _value: &R, _ops: &[R::Op]) -> Result<(), NotReady> {
+        Ok(())
+    }
+
+    fn note(&mut self, _value: &R, _op: &R::Op) {}
+}

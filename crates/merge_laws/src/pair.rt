@@ -1,0 +1,39 @@
+//! Two values changed by the same operations.
+
+use crate::replicated::Replicated;
+use std::alloc::{AllocError, Global};
+
+/// Two values that the same operations change.
+#[derive(Drop)]
+pub struct Pair<A, B> {
+    pub first: A,
+    pub second: B,
+}
+
+impl<A: Replicated, B: Replicated<Op = A::Op>> Replicated for Pair<A, B> {
+    type Op = A::Op;
+
+    ghost Meaning = { A.Meaning × B.Meaning };
+
+    ghost meaning = { λ p. (A.meaning p.first, B.meaning p.second) };
+
+    ghost effect = { λ v o. (A.effect v.0 o, B.effect v.1 o) };
+
+    ghost initial = { (A.initial, B.initial) };
+
+    ghost is_prepared = { λ p os. A.is_prepared p.first os × B.is_prepared p.second os };
+
+    ghost first = { λ p o os h. (A.first p.first o os h.0, B.first p.second o os h.1) };
+
+    ghost commutes = { λ v a b s t c. λ i. (A.commutes v.0 a b s t c i, B.commutes v.1 a b s t c i) };
+
+    fn prepare(&mut self, alloc: Global, ops: &[A::Op]) -> Result<(), AllocError> {
+        self.first.prepare(alloc, ops)?;
+        self.second.prepare(alloc, ops)
+    }
+
+    fn apply(&mut self, op: &A::Op) {
+        self.first.apply(op);
+        self.second.apply(op);
+    }
+}
