@@ -1,2 +1,5 @@
 pub mod Ascending
+pub mod DateTimes
+pub mod Flags
+pub mod Keywords
 pub mod Names

@@ -1,0 +1,38 @@
+use Rattle.std.specs.Prelude.{ℕ, Bool, not, ◌&&◌, ◌||◌, ◌==◌, nat_lt, List, [], ◌∷◌, length, map, IsTrue}
+use Rattle.std.specs.List.{list_all, list_any}
+use Rattle.std.specs.Char.{to_ascii_lowercase}
+use Rattle.std.specs.Ordering.{match_ordering}
+use Rattle.std.specs.Str.{bytes_eq}
+use Rattle.imap_types.specs.Ascending.{compared, AreAscending}
+
+-- A text in lower case (ASCII letters alone).
+abbrev pub lowered : List ℕ → List ℕ
+lowered text = map to_ascii_lowercase text
+
+-- Whether a text has no capital letters.
+abbrev pub is_lowered : List ℕ → Bool
+is_lowered text = bytes_eq (lowered text) text
+
+-- A set of keywords in its one spelling: in lower case, ascending by octets (RFC 9051, section 2.3.2: keywords have no case).
+abbrev pub AreKeywords : List (List ℕ) → Type 0
+AreKeywords keywords = IsTrue (list_all is_lowered keywords) × AreAscending keywords
+
+-- An ascending list with one text more; a text that is there already stays once.
+abbrev pub with_text : List ℕ → List (List ℕ) → List (List ℕ)
+with_text text [] = text ∷ []
+with_text text (next ∷ texts) =
+    match_ordering (compared text next) (text ∷ next ∷ texts) (next ∷ texts) (next ∷ with_text text texts)
+
+-- Whether a keyword of any case is one of these.
+abbrev pub has_keyword : List ℕ → List (List ℕ) → Bool
+has_keyword keyword keywords = list_any (λ other. bytes_eq (lowered other) (lowered keyword)) keywords
+
+-- An octet of an atom (RFC 9051, section 9, ATOM-CHAR): from 33 to 126, none of `( ) { % * " \ ]`.
+abbrev pub is_atom_octet : ℕ → Bool
+is_atom_octet octet =
+    not (nat_lt octet 33) && nat_lt octet 127
+    && not ((octet == 40) || (octet == 41) || (octet == 123) || (octet == 37) || (octet == 42) || (octet == 34) || (octet == 92) || (octet == 93))
+
+-- Whether a message may bear a keyword: 1 to 64 atom octets (the bound is this project's own).
+abbrev pub is_lawful_keyword : List ℕ → Bool
+is_lawful_keyword keyword = not (length keyword == 0) && not (nat_lt 64 (length keyword)) && list_all is_atom_octet keyword

@@ -1,0 +1,181 @@
+ghost use Rattle.std.specs.Prelude.{◌≡◌, ◌↔◌, ◌≤◌, [], length, IfErr, IfOk, IsTrue, OnErr, OnOk};
+ghost use Rattle.std.specs.List.{insert, list_all};
+ghost use Rattle.imap_types.specs.Keywords.{has_keyword, is_atom_octet, is_lawful_keyword, lowered, with_text};
+
+use crate::Octets;
+use std::alloc::{AllocError, Global};
+use std::cmp::Ordering;
+use std::marker::Model;
+
+/// The longest keyword that a message may bear, in octets.
+pub const MAX_KEYWORD_OCTETS: usize = 64;
+
+/// A set of keywords: each in lower case, ascending by octets, none twice (RFC 9051, section 2.3.2).
+#[derive(Drop)]
+pub struct Keywords {
+    words: Vec<Octets>,
+}
+
+impl Model for Keywords {
+    ghost use Rattle.std.specs.Prelude.{ℕ, List};
+    ghost use Rattle.imap_types.specs.Keywords.{AreKeywords};
+
+    ghost Value = { List (List ℕ) };
+
+    ghost view = { λ k. k.words.items };
+
+    ghost invariant = { λ k. AreKeywords k.words.items };
+}
+
+impl Keywords {
+    ghost use Rattle.imap_types.specs.Keywords.{AreKeywords};
+
+    /// No keywords, in no memory.
+    pub fn empty(alloc: Global) -> Keywords
+        ensures { result ≡ [] }
+    {
+        Keywords {
+            words: Vec::new(alloc),
+        }
+    }
+
+    /// Adds a keyword of any case in lower case; one that is there already changes nothing. `Err` where there is no
+    /// memory for it, and then nothing is changed.
+    pub fn insert(&mut self, alloc: Global, keyword: &[u8]) -> Result<(), AllocError>
+        ensures ok { OnOk result (self.new ≡ with_text (lowered keyword.now) self.old) }
+        ensures err { OnErr result (self.new ≡ self.old) }
+    {
+        let word = lowered(alloc, keyword)?;
+        if let Err(place) = place_of(self.as_slice(), word.as_bytes()) {
+            self.words.insert(place, word)?;
+        }
+        Ok(())
+    }
+
+    /// Whether a keyword of any case is one of these.
+    pub fn contains(&self, keyword: &[u8]) -> bool
+        ensures { result ≡ has_keyword keyword.now self.now }
+    {
+        contains(self.as_slice(), keyword)
+    }
+
+    /// How many there are.
+    pub fn len(&self) -> usize
+        ensures { result ≡ length self.now }
+    {
+        self.words.len()
+    }
+
+    /// Whether there is none.
+    pub fn is_empty(&self) -> bool
+        ensures { IsTrue result ↔ (self.now ≡ []) }
+    {
+        self.as_slice().is_empty()
+    }
+
+    /// The keywords, ascending by octets, each in lower case.
+    pub fn as_slice(&self) -> &[Octets]
+        ensures value { result.now ≡ self.now }
+        ensures ascending { AreKeywords self.now }
+    {
+        self.words.as_slice()
+    }
+
+    /// Whether both are the same keywords.
+    pub fn same(&self, other: &Keywords) -> bool
+        ensures { IsTrue result ↔ (self.now ≡ other.now) }
+    {
+        are_same(self.as_slice(), other.as_slice())
+    }
+
+    /// The same keywords; `Err` where there is no memory for them.
+    pub fn copy(&self, alloc: Global) -> Result<Keywords, AllocError>
+        ensures { IfOk result (λ copied. copied ≡ self.now) }
+    {
+        Ok(Keywords {
+            words: copied(alloc, self.as_slice())?,
+        })
+    }
+}
+
+fn lowered(alloc: Global, text: &[u8]) -> Result<Octets, AllocError>
+    ensures { IfOk result (λ word. word ≡ lowered text.now) }
+{
+    let mut octets = text.to_vec(alloc)?;
+    octets.make_ascii_lowercase();
+    Ok(Octets::new(octets))
+}
+
+/// Where the text stands among ascending ones, or at `Err` where it would go.
+fn place_of(texts: &[Octets], text: &[u8]) -> Result<usize, usize>
+    ensures there { IfOk result (λ place. with_text text.now texts.now ≡ texts.now) }
+    ensures absent { IfErr result (λ place. (place ≤ length texts.now) × (with_text text.now texts.now ≡ insert texts.now place text.now)) }
+{
+    for (place, other) in texts.iter().enumerate() {
+        match text.cmp(other.as_bytes()) {
+            Ordering::Less => return Err(place),
+            Ordering::Equal => return Ok(place),
+            Ordering::Greater => {}
+        }
+    }
+    Err(texts.len())
+}
+
+fn contains(words: &[Octets], keyword: &[u8]) -> bool
+    ensures { result ≡ has_keyword keyword.now words.now }
+{
+    for word in words {
+        if word.as_bytes().eq_ignore_ascii_case(keyword) {
+            return true;
+        }
+    }
+    false
+}
+
+fn are_same(words: &[Octets], others: &[Octets]) -> bool
+    ensures { IsTrue result ↔ (words.now ≡ others.now) }
+{
+    if words.len() != others.len() {
+        return false;
+    }
+    for i in 0..words.len() {
+        if !words[i].same(&others[i]) {
+            return false;
+        }
+    }
+    true
+}
+
+fn copied(alloc: Global, words: &[Octets]) -> Result<Vec<Octets>, AllocError>
+    ensures { IfOk result (λ copied. copied.items ≡ words.now) }
+{
+    let mut copies = Vec::with_capacity(alloc, words.len())?;
+    for word in words {
+        copies.push(word.copy(alloc)?)?;
+    }
+    Ok(copies)
+}
+
+/// Whether a message may bear this keyword: 1 to 64 atom octets (RFC 9051, section 9, atom).
+pub fn is_lawful_keyword(keyword: &[u8]) -> bool
+    ensures { result ≡ is_lawful_keyword keyword.now }
+{
+    !keyword.is_empty() && keyword.len() <= MAX_KEYWORD_OCTETS && has_atom_octets(keyword)
+}
+
+fn has_atom_octets(octets: &[u8]) -> bool
+    ensures { result ≡ list_all is_atom_octet octets.now }
+{
+    octets.iter().all(|octet| is_atom_octet(*octet))
+}
+
+/// Whether an octet may stand in an atom (RFC 9051, section 9, ATOM-CHAR).
+pub fn is_atom_octet(octet: u8) -> bool
+    ensures { result ≡ is_atom_octet octet }
+{
+    let is_special = match octet {
+        b'(' | b')' | b'{' | b'%' | b'*' | b'"' | b'\\' | b']' => true,
+        _ => false,
+    };
+    octet >= 33 && octet < 127 && !is_special
+}
