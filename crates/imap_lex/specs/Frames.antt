@@ -1,0 +1,169 @@
+use Rattle.std.specs.Prelude.{◌≡◌, ◌≢◌, ℕ, ◌+◌, ◌<◌, ◌≤◌, Bool, true, false, List, [], ◌∷◌, ◌++◌, ◌⊎◌, length, sum_by}
+use Rattle.std.specs.List.{flat_map}
+use Rattle.imap_lex.specs.declared.fault.Fault.{Fault}
+use Rattle.imap_lex.specs.declared.fault.Fault.TheVariants.{LineTooLong, LiteralTooLong, NulByte, NoMemory, Failed}
+use Rattle.imap_lex.specs.declared.item.Item.{Item}
+use Rattle.imap_lex.specs.declared.item.Item.TheVariants.{Ready, Frame, Refused}
+use Rattle.imap_lex.specs.declared.limits.Limits.{Limits}
+use Rattle.imap_lex.specs.Marks.{crlf, IsMarked, IsUnmarked}
+
+-- CRLF stands nowhere in the text.
+abbrev pub HasNoCrlf : List ℕ → Type 0
+HasNoCrlf text = (front back : List ℕ) → text ≢ front ++ 13 ∷ 10 ∷ back
+
+-- A line: it ends with CRLF, which stands nowhere before its end. So it is the shortest front of a text that ends so.
+pub record IsLine (text : List ℕ) : Type 0 where
+  pub inside : List ℕ
+  pub ends : text ≡ inside ++ crlf
+  pub shortest : (front back : List ℕ) → text ≡ front ++ 13 ∷ 10 ∷ back → back ≡ []
+
+-- No octet of the text is NUL.
+abbrev pub HasNoNul : List ℕ → Type 0
+HasNoNul [] = Unit {0}
+HasNoNul (octet ∷ octets) = (octet ≢ 0) × HasNoNul octets
+
+-- A line that ends with a mark, and the literal that the mark announces (RFC 9051, section 4.3).
+pub record Part : Type 0 where
+  pub line : List ℕ
+  pub plus : Bool
+  pub literal : List ℕ
+
+-- The part's line ends with the mark of its literal.
+pub record IsPart (part : Part) : Type 0 where
+  pub line : IsLine part.line
+  pub mark : IsMarked (length part.literal) part.plus part.line
+
+abbrev pub ArePartsOfCommand : List Part → Type 0
+ArePartsOfCommand [] = Unit {0}
+ArePartsOfCommand (part ∷ parts) = IsPart part × ArePartsOfCommand parts
+
+-- The octets of some parts.
+abbrev pub octets_of : List Part → List ℕ
+octets_of parts = flat_map (λ part. part.line ++ part.literal) parts
+
+-- How many of them stand outside literals.
+abbrev pub outside_of : List Part → ℕ
+outside_of parts = sum_by (λ part. length part.line) parts
+
+-- How many of them stand in literals.
+abbrev pub announced_of : List Part → ℕ
+announced_of parts = sum_by (λ part. length part.literal) parts
+
+-- Behind a mark `{n}` the client waits for leave to go on; behind `{n+}` it doesn't (RFC 9051, section 4.3).
+abbrev pub ready : Bool → List Item
+ready true = []
+ready false = Ready ∷ []
+
+abbrev pub readies : List Part → List Item
+readies parts = flat_map (λ part. ready part.plus) parts
+
+-- Parts and a line behind them that keep the limits and have no NUL.
+pub record AreTaken (limits : Limits) (parts : List Part) (line : List ℕ) : Type 0 where
+  pub are_parts : ArePartsOfCommand parts
+  pub outside : outside_of parts + length line ≤ limits.line
+  pub announced : announced_of parts ≤ limits.literals
+  pub no_nul : HasNoNul (octets_of parts ++ line)
+
+-- A whole command: parts, and a line that ends with no mark (RFC 9051, section 2.2.2).
+pub record IsFrame (limits : Limits) (text : List ℕ) (items : List Item) : Type 0 where
+  pub parts : List Part
+  pub line : List ℕ
+  pub taken : AreTaken limits parts line
+  pub ends : IsLine line
+  pub unmarked : IsUnmarked line
+  pub text_is : text ≡ octets_of parts ++ line
+  pub items_are : items ≡ readies parts ++ Frame text ∷ []
+
+-- A front of a command whose last mark `{n}` announces more than the limit leaves.
+pub record IsRefusedFront (limits : Limits) (text : List ℕ) (items : List Item) : Type 0 where
+  pub parts : List Part
+  pub line : List ℕ
+  pub n : ℕ
+  pub taken : AreTaken limits parts line
+  pub ends : IsLine line
+  pub mark : IsMarked n false line
+  pub too_long : limits.literals < announced_of parts + n
+  pub text_is : text ≡ octets_of parts ++ line
+  pub items_are : items ≡ readies parts ++ Refused text ∷ []
+
+-- Less than a command: parts, and a line that hasn't ended.
+pub record IsOpenLine (limits : Limits) (text : List ℕ) (items : List Item) : Type 0 where
+  pub parts : List Part
+  pub line : List ℕ
+  pub taken : AreTaken limits parts line
+  pub open_line : HasNoCrlf line
+  pub text_is : text ≡ octets_of parts ++ line
+  pub items_are : items ≡ readies parts
+
+-- Less than a command: parts, a line with a mark, and less than the mark announces.
+pub record IsOpenLiteral (limits : Limits) (text : List ℕ) (items : List Item) : Type 0 where
+  pub parts : List Part
+  pub line : List ℕ
+  pub n : ℕ
+  pub plus : Bool
+  pub literal : List ℕ
+  pub taken : AreTaken limits parts line
+  pub ends : IsLine line
+  pub mark : IsMarked n plus line
+  pub fits : announced_of parts + n ≤ limits.literals
+  pub short : length literal < n
+  pub no_nul : HasNoNul literal
+  pub text_is : text ≡ octets_of parts ++ (line ++ literal)
+  pub items_are : items ≡ readies parts ++ ready plus
+
+-- What a stream has behind its last whole command, and the items that it gives so far.
+abbrev pub IsRest : Limits → List ℕ → List Item → Type 0
+IsRest limits text items = IsOpenLine limits text items ⊎ IsOpenLiteral limits text items
+
+-- Commands and refused fronts, each with the items that it gives.
+abbrev pub AreCommands : Limits → List (List ℕ × List Item) → Type 0
+AreCommands limits [] = Unit {0}
+AreCommands limits (c ∷ cs) = (IsFrame limits c.0 c.1 ⊎ IsRefusedFront limits c.0 c.1) × AreCommands limits cs
+
+-- The stream is commands and refused fronts, one behind the other, and a rest that is less than a command; and these are
+-- the items that they give.
+pub record AreFrames (limits : Limits) (stream : List ℕ) (items : List Item) (rest : List ℕ) : Type 0 where
+  pub commands : List (List ℕ × List Item)
+  pub last : List Item
+  pub are_commands : AreCommands limits commands
+  pub is_rest : IsRest limits rest last
+  pub stream_is : stream ≡ flat_map (λ c. c.0) commands ++ rest
+  pub items_are : items ≡ flat_map (λ c. c.1) commands ++ last
+
+-- Behind this rest the next octet is one more than the limit of those outside literals.
+pub record IsFullLine (limits : Limits) (rest : List ℕ) : Type 0 where
+  pub parts : List Part
+  pub line : List ℕ
+  pub taken : AreTaken limits parts line
+  pub open_line : HasNoCrlf line
+  pub full : outside_of parts + length line ≡ limits.line
+  pub rest_is : rest ≡ octets_of parts ++ line
+
+-- Behind this rest LF ends a line with a mark `{n+}` that announces more than the limit leaves.
+pub record IsTooLongAtLf (limits : Limits) (rest : List ℕ) : Type 0 where
+  pub parts : List Part
+  pub line : List ℕ
+  pub n : ℕ
+  pub taken : AreTaken limits parts (line ++ 10 ∷ [])
+  pub ends : IsLine (line ++ 10 ∷ [])
+  pub mark : IsMarked n true (line ++ 10 ∷ [])
+  pub too_long : limits.literals < announced_of parts + n
+  pub rest_is : rest ≡ octets_of parts ++ line
+
+-- The octet makes this fault behind this rest.
+abbrev pub MakesFault : Limits → List ℕ → ℕ → Fault → Type 0
+MakesFault limits rest octet NulByte = octet ≡ 0
+MakesFault limits rest octet LineTooLong = (octet ≢ 0) × IsFullLine limits rest
+MakesFault limits rest octet LiteralTooLong = (octet ≡ 10) × IsTooLongAtLf limits rest
+MakesFault limits rest octet NoMemory = ⊥
+MakesFault limits rest octet Failed = ⊥
+
+-- The stream's first octet that makes a fault makes this one; these are the items before it.
+pub record FailsAt (limits : Limits) (stream : List ℕ) (items : List Item) (why : Fault) : Type 0 where
+  pub front : List ℕ
+  pub octet : ℕ
+  pub behind : List ℕ
+  pub rest : List ℕ
+  pub stream_is : stream ≡ front ++ octet ∷ behind
+  pub before : AreFrames limits front items rest
+  pub fault : MakesFault limits rest octet why

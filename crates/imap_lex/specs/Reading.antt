@@ -1,0 +1,167 @@
+use Rattle.std.specs.Prelude.{◌≡◌, ℕ, ◌+◌, ◌-◌, ◌^◌, Bool, true, false, ◌&&◌, ◌==◌, nat_lt, nat_le, List, [], ◌∷◌, ◌++◌, length, take, drop, slice_index, Option, Some, None, Result, Ok, Err, IsOk, IsErr, if◌then◌else◌, option_to_list}
+use Rattle.std.specs.Char.{is_ascii_digit}
+use Rattle.std.specs.List.{prefix_len}
+use Rattle.std.specs.Str.{bytes_eq}
+use Rattle.imap_lex.specs.declared.fault.Fault.{Fault}
+use Rattle.imap_lex.specs.declared.fault.Fault.TheVariants.{LineTooLong, LiteralTooLong, NulByte, NoMemory, Failed}
+use Rattle.imap_lex.specs.declared.item.Item.{Item}
+use Rattle.imap_lex.specs.declared.item.Item.TheVariants.{Ready, Frame, Refused}
+use Rattle.imap_lex.specs.declared.limits.Limits.{Limits}
+use Rattle.imap_lex.specs.declared.mark.Ending.{Ending}
+use Rattle.imap_lex.specs.declared.mark.Mark.{Mark}
+use Rattle.imap_lex.specs.declared.mark.Ending.TheVariants.{Whole, Literal, TooLong}
+use Rattle.imap_lex.specs.Marks.{value_of}
+
+-- How a stream is read octet by octet: what the framer computes. `Frames` says what it means.
+
+-- Whether a mark closed so is `{n+}`.
+abbrev pub closing_at : List ℕ → Option Bool
+closing_at text =
+    if bytes_eq text (125 ∷ 13 ∷ 10 ∷ []) then Some false else (if bytes_eq text (43 ∷ 125 ∷ 13 ∷ 10 ∷ []) then Some true else None)
+
+abbrev pub numbered : ℕ → Option Bool → Option (ℕ × Bool)
+numbered n None = None
+numbered n (Some plus) = Some (n, plus)
+
+-- How many digits stand at the front of a text.
+abbrev pub digits_at : List ℕ → ℕ
+digits_at text = prefix_len is_ascii_digit text
+
+-- The mark whose brace stands before this text: the octets that it announces, and whether it is `{n+}`.
+abbrev pub mark_behind : List ℕ → Option (ℕ × Bool)
+mark_behind text =
+    if digits_at text == 0 then None else numbered (value_of 0 (take (digits_at text) text)) (closing_at (drop (digits_at text) text))
+
+abbrev pub or_else : Option (ℕ × Bool) → Option (ℕ × Bool) → Option (ℕ × Bool)
+or_else None other = other
+or_else (Some mark) other = Some mark
+
+-- The mark at the end of a line.
+abbrev pub mark_at : List ℕ → Option (ℕ × Bool)
+mark_at [] = None
+mark_at (octet ∷ octets) = if octet == 123 then or_else (mark_behind octets) (mark_at octets) else mark_at octets
+
+-- The mark as the program keeps it: a number that 64 bits don't hold is more than any limit.
+abbrev pub fitted : Option (ℕ × Bool) → Option Mark
+fitted None = None
+fitted (Some mark) = Some (record { octets = if nat_lt mark.0 (2 ^ 64) then Some mark.0 else None; plus = mark.1 })
+
+-- What a line's end brings, where literals have so much room.
+abbrev pub ending_by : Option (ℕ × Bool) → ℕ → Ending
+ending_by None room = Whole
+ending_by (Some mark) room = if nat_le mark.0 room then Literal mark.0 mark.1 else TooLong mark.1
+
+abbrev pub ending_of : List ℕ → ℕ → Ending
+ending_of line room = ending_by (mark_at line) room
+
+-- What has come of the next command: its parts, the octets behind them, how many of all these stand outside literals,
+-- how many octets were announced, and how many of those are still to come.
+pub record Progress : Type 0 where
+  pub front : List ℕ
+  pub line : List ℕ
+  pub outside : ℕ
+  pub announced : ℕ
+  pub awaited : ℕ
+
+abbrev pub start : Progress
+start = record { front = []; line = []; outside = 0; announced = 0; awaited = 0 }
+
+abbrev pub ready_item : Bool → Option Item
+ready_item true = None
+ready_item false = Some Ready
+
+-- What an octet brings: an item or none, and the progress behind it; or a fault.
+abbrev pub Outcome : Type 0
+Outcome = Result (Option Item × Progress) Fault
+
+-- Behind the end of the line that has come.
+abbrev pub after_ending : Progress → Ending → Outcome
+after_ending p Whole = Ok (Some (Frame (p.front ++ p.line)), start)
+after_ending p (Literal n plus) =
+    Ok (ready_item plus, record { front = p.front ++ p.line; line = []; outside = p.outside; announced = p.announced + n; awaited = n })
+after_ending p (TooLong true) = Err LiteralTooLong
+after_ending p (TooLong false) = Ok (Some (Refused (p.front ++ p.line)), start)
+
+-- Whether this octet behind this line ends it.
+abbrev pub is_end : List ℕ → ℕ → Bool
+is_end line octet = (octet == 10) && (slice_index line (length line - 1) == 13)
+
+-- One octet more outside literals.
+abbrev pub with_octet : Progress → ℕ → Progress
+with_octet p octet = record p { line = p.line ++ octet ∷ []; outside = p.outside + 1 }
+
+-- Behind an octet outside literals.
+abbrev pub after_line_octet : Limits → Progress → ℕ → Outcome
+after_line_octet limits p octet =
+    if nat_le limits.line p.outside then Err LineTooLong
+    else (if is_end p.line octet then after_ending (with_octet p octet) (ending_of (p.line ++ octet ∷ []) (limits.literals - p.announced))
+    else Ok (None, with_octet p octet))
+
+abbrev pub after_octet : Limits → Progress → ℕ → Outcome
+after_octet limits p octet =
+    if octet == 0 then Err NulByte
+    else (if nat_lt 0 p.awaited then Ok (None, record p { front = p.front ++ octet ∷ []; awaited = p.awaited - 1 })
+    else after_line_octet limits p octet)
+
+-- The items of a stretch of the stream, and what has come of the next command behind it, or the fault.
+abbrev pub Cut : Type 0
+Cut = List Item × Result Progress Fault
+
+abbrev pub with_items : List Item → Cut → Cut
+with_items items cut = (items ++ cut.0, cut.1)
+
+abbrev pub given : Outcome → Cut
+given (Ok both) = (option_to_list both.0, Ok both.1)
+given (Err why) = ([], Err why)
+
+abbrev pub next : Limits → Result Progress Fault → ℕ → Cut
+next limits (Ok p) octet = given (after_octet limits p octet)
+next limits (Err why) octet = ([], Err why)
+
+-- How a stream goes on from here.
+abbrev pub goes_on : Limits → Result Progress Fault → List ℕ → Cut
+goes_on limits state [] = ([], state)
+goes_on limits state (octet ∷ octets) = with_items (next limits state octet).0 (goes_on limits (next limits state octet).1 octets)
+
+-- A framer between two pieces of input.
+pub record Framing : Type 0 where
+  pub limits : Limits
+  pub state : Result Progress Fault
+
+abbrev pub state_of : Option Fault → Progress → Result Progress Fault
+state_of None p = Ok p
+state_of (Some why) p = Err why
+
+-- One list begins with the other.
+abbrev pub IsPrefix : List Item → List Item → Type 0
+IsPrefix front items = (back : List Item) × (items ≡ front ++ back)
+
+-- A fault of this cut comes behind these items; where memory runs out, behind some of them.
+abbrev pub Faults : Fault → List Item → Cut → Type 0
+Faults NoMemory items cut = IsPrefix items cut.0
+Faults LineTooLong items cut = cut ≡ (items, Err LineTooLong)
+Faults LiteralTooLong items cut = cut ≡ (items, Err LiteralTooLong)
+Faults NulByte items cut = cut ≡ (items, Err NulByte)
+Faults Failed items cut = ⊥
+
+-- What a feed that failed leaves: `Failed` exactly where it had failed before, which changes nothing; else the fault for good.
+abbrev pub FaultsNow : Fault → List Item → Result Progress Fault → Result Progress Fault → Cut → Type 0
+FaultsNow Failed items old new cut = IsErr old × (items ≡ []) × (new ≡ old)
+FaultsNow NoMemory items old new cut = IsOk old × (new ≡ Err NoMemory) × Faults NoMemory items cut
+FaultsNow LineTooLong items old new cut = IsOk old × (new ≡ Err LineTooLong) × Faults LineTooLong items cut
+FaultsNow LiteralTooLong items old new cut = IsOk old × (new ≡ Err LiteralTooLong) × Faults LiteralTooLong items cut
+FaultsNow NulByte items old new cut = IsOk old × (new ≡ Err NulByte) × Faults NulByte items cut
+
+-- One piece after another.
+abbrev pub fed : Limits → Result Progress Fault → List (List ℕ) → Cut
+fed limits state [] = ([], state)
+fed limits state (piece ∷ pieces) = with_items (goes_on limits state piece).0 (fed limits (goes_on limits state piece).1 pieces)
+
+-- What has come of the next command.
+abbrev pub octets_so_far : Progress → List ℕ
+octets_so_far p = p.front ++ p.line
+
+-- The pieces, one behind the other.
+abbrev pub joined : List (List ℕ) → List ℕ
+joined [] = []
+joined (piece ∷ pieces) = piece ++ joined pieces

@@ -1,0 +1,132 @@
+//! What has come of the next command.
+
+ghost use Rattle.std.specs.Prelude.{◌≡◌, ◌⊎◌, ◌-◌, ◌++◌, IfOk, IfErr, Ok, Err};
+ghost use Rattle.imap_lex.specs.declared.fault.Fault.TheVariants.{NoMemory};
+
+use crate::fault::Fault;
+use crate::item::{Frame, Item};
+use crate::limits::Limits;
+use crate::mark::{Ending, read_ending};
+use std::alloc::Global;
+use std::marker::Model;
+use std::mem;
+
+/// What has come of the next command.
+#[derive(Drop)]
+pub(crate) struct Progress {
+    /// Its lines that ended with a mark, with the octets of their literals.
+    front: Vec<u8>,
+    /// The octets behind them, of a line that hasn't ended.
+    line: Vec<u8>,
+    /// How many octets stand outside literals.
+    outside: usize,
+    /// How many octets the marks announced.
+    announced: usize,
+    /// How many of those are still to come.
+    awaited: usize,
+}
+
+impl Model for Progress {
+    ghost use Rattle.imap_lex.specs.Reading.{Progress};
+
+    ghost Value = { Progress };
+
+    ghost view = { λ p. record { front = p.front.items; line = p.line.items; outside = p.outside; announced = p.announced; awaited = p.awaited } };
+}
+
+impl Progress {
+    ghost use Rattle.imap_lex.specs.Reading.{start, ending_of, after_octet, after_line_octet, after_ending};
+
+    /// Nothing has come.
+    pub(crate) fn new(alloc: Global) -> Progress
+        ensures { result ≡ start }
+    {
+        Progress {
+            front: Vec::new(alloc),
+            line: Vec::new(alloc),
+            outside: 0,
+            announced: 0,
+            awaited: 0,
+        }
+    }
+
+    /// Takes the next octet, and gives the item that it completes. Behind an `Err` it is of no further use.
+    pub(crate) fn take(
+        &mut self,
+        alloc: Global,
+        limits: Limits,
+        octet: u8,
+    ) -> Result<Option<Item>, Fault>
+        ensures ok { IfOk result (λ item. after_octet limits self.old octet ≡ Ok (item, self.new)) }
+        ensures err { IfErr result (λ why. (why ≡ NoMemory) ⊎ (after_octet limits self.old octet ≡ Err why)) }
+    {
+        if octet == 0 {
+            return Err(Fault::NulByte);
+        }
+        if self.awaited > 0 {
+            self.front.push(octet)?;
+            self.awaited -= 1;
+            return Ok(None);
+        }
+        self.take_line_octet(alloc, limits, octet)
+    }
+
+    /// Takes an octet outside literals.
+    fn take_line_octet(
+        &mut self,
+        alloc: Global,
+        limits: Limits,
+        octet: u8,
+    ) -> Result<Option<Item>, Fault>
+        ensures ok { IfOk result (λ item. after_line_octet limits self.old octet ≡ Ok (item, self.new)) }
+        ensures err { IfErr result (λ why. (why ≡ NoMemory) ⊎ (after_line_octet limits self.old octet ≡ Err why)) }
+    {
+        if self.outside >= limits.line {
+            return Err(Fault::LineTooLong);
+        }
+        let ends = octet == b'\n' && self.line.last() == Some(&b'\r');
+        self.line.push(octet)?;
+        self.outside += 1;
+        if ends {
+            return self.end_line(alloc, limits);
+        }
+        Ok(None)
+    }
+
+    /// Ends the line that has come, whose last octets are CRLF.
+    fn end_line(&mut self, alloc: Global, limits: Limits) -> Result<Option<Item>, Fault>
+        ensures ok { IfOk result (λ item. after_ending self.old (ending_of self.old.line (limits.literals - self.old.announced)) ≡ Ok (item, self.new)) }
+        ensures err { IfErr result (λ why. (why ≡ NoMemory) ⊎ (after_ending self.old (ending_of self.old.line (limits.literals - self.old.announced)) ≡ Err why)) }
+    {
+        match read_ending(&self.line, limits.literals.saturating_sub(self.announced)) {
+            Ending::Whole => Ok(Some(Item::Frame(self.finish(alloc)?))),
+            Ending::Literal { octets, plus } => {
+                self.front.extend_from_slice(&self.line)?;
+                self.line.clear();
+                self.announced += octets;
+                self.awaited = octets;
+                Ok(if plus { None } else { Some(Item::Ready) })
+            }
+            Ending::TooLong { plus } => {
+                if plus {
+                    return Err(Fault::LiteralTooLong);
+                }
+                Ok(Some(Item::Refused(self.finish(alloc)?)))
+            }
+        }
+    }
+
+    /// Gives the octets that have come, and begins anew.
+    fn finish(&mut self, alloc: Global) -> Result<Frame, Fault>
+        ensures ok { IfOk result (λ frame. (frame ≡ self.old.front ++ self.old.line) × (self.new ≡ start)) }
+        ensures err { IfErr result (λ why. why ≡ NoMemory) }
+    {
+        let Progress { front, line, .. } = mem::replace(self, Progress::new(alloc));
+        if front.is_empty() {
+            return Ok(Frame::new(line));
+        }
+        let mut octets = front;
+        octets.extend_from_slice(&line)?;
+        Ok(Frame::new(octets))
+    }
+}
