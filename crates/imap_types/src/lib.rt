@@ -7,6 +7,7 @@
 mod date_time;
 mod flags;
 mod keywords;
+mod escape;
 mod moment;
 mod name;
 mod octets;
@@ -14,6 +15,7 @@ mod octets;
 pub use date_time::{DATE_TIME_OCTETS, DateTime};
 pub use flags::{Flags, MAX_KEYWORDS};
 pub use keywords::{Keywords, MAX_KEYWORD_OCTETS, is_atom_octet, is_lawful_keyword};
+pub use escape::{Escape, EscapeFault, read_escaped, write_escaped};
 pub use moment::{LAST_MOMENT, Moment};
 pub use name::Name;
 pub use octets::Octets;

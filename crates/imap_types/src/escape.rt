@@ -1,0 +1,173 @@
+//! The escape in which lines of text carry any octets.
+
+ghost use Rattle.std.specs.Prelude.{◌≡◌, ◌++◌, ℕ, true, List, [], ◌∷◌, Option, Some, None, IfOk, OnErr, OnOk, ◌<◌, length};
+ghost use Rattle.imap_types.specs.Escape.{AreOctets, GivesRead, escaped, escaped_octet, hex_digit, hex_octet, is_escape, is_hex, is_plain, unescaped, with_front, hex_value};
+
+use crate::Octets;
+use std::alloc::{AllocError, AllocFailed, Global};
+
+/// Which octets stand for themselves. An octet from 33 to 126 other than `~` does; any other is `~` and two upper-case
+/// hexadecimal digits.
+#[derive(Clone, Copy, Debug, PartialEq, Eq)]
+pub enum Escape {
+    /// In a field of a line: the space is escaped too.
+    Field,
+    /// In a text that ends its line: the space stands for itself.
+    Text,
+}
+
+/// Why a text isn't read.
+#[derive(thiserror::Error, Clone, Copy, Debug, PartialEq, Eq)]
+pub enum EscapeFault {
+    /// It isn't how the escape spells any octets.
+    #[error("not escaped text")]
+    NotEscaped,
+    /// There is no memory for the octets.
+    #[error("no memory")]
+    NoMemory,
+}
+
+impl From<AllocError> for EscapeFault {
+    ghost use Rattle.std.specs.Prelude.{◌≡◌};
+    ghost use Rattle.imap_types.specs.declared.escape.EscapeFault.TheVariants.{NoMemory};
+
+    ghost from_gives = { λ _ e. e ≡ NoMemory };
+
+    fn from(_fault: AllocError) -> EscapeFault {
+        EscapeFault::NoMemory
+    }
+}
+
+impl<T: Drop> From<AllocFailed<T>> for EscapeFault {
+    ghost use Rattle.std.specs.Prelude.{◌≡◌};
+    ghost use Rattle.imap_types.specs.declared.escape.EscapeFault.TheVariants.{NoMemory};
+
+    ghost from_gives = { λ _ e. e ≡ NoMemory };
+
+    fn from(_fault: AllocFailed<T>) -> EscapeFault {
+        EscapeFault::NoMemory
+    }
+}
+
+/// Appends the octets in the escape; `Err` where there is no memory for it, and then `out` is as it was.
+pub fn write_escaped(escape: Escape, octets: &[u8], out: &mut Vec<u8>) -> Result<(), AllocError>
+    ensures ok { OnOk result (out.new.items ≡ out.old.items ++ escaped escape octets.now) }
+    ensures err { OnErr result (out.new.items ≡ out.old.items) }
+{
+    let start = out.len();
+    if let Err(e) = push_escaped(escape, octets, out) {
+        out.truncate(start);
+        return Err(e);
+    }
+    Ok(())
+}
+
+fn push_escaped(escape: Escape, octets: &[u8], out: &mut Vec<u8>) -> Result<(), AllocError>
+    ensures ok { OnOk result (out.new.items ≡ out.old.items ++ escaped escape octets.now) }
+    ensures kept { (more : List ℕ) × (out.new.items ≡ out.old.items ++ more) }
+{
+    for octet in octets {
+        push_octet(escape, *octet, out)?;
+    }
+    Ok(())
+}
+
+fn push_octet(escape: Escape, octet: u8, out: &mut Vec<u8>) -> Result<(), AllocError>
+    ensures ok { OnOk result (out.new.items ≡ out.old.items ++ escaped_octet escape octet) }
+    ensures err { OnErr result (out.new.items ≡ out.old.items) }
+{
+    if is_plain(escape, octet) {
+        out.extend_from_slice(&[octet])
+    } else {
+        out.extend_from_slice(&[b'~', hex_digit(octet / 16), hex_digit(octet % 16)])
+    }
+}
+
+fn is_plain(escape: Escape, octet: u8) -> bool
+    ensures { result ≡ is_plain escape octet }
+{
+    match escape {
+        Escape::Field => octet >= 33 && octet < b'~',
+        Escape::Text => octet >= 32 && octet < b'~',
+    }
+}
+
+fn hex_digit(number: u8) -> u8
+    requires { number < 16 }
+    ensures { result ≡ hex_digit number }
+{
+    if number < 10 {
+        b'0' + number
+    } else {
+        b'A' - 10 + number
+    }
+}
+
+/// The octets that a text in the escape stands for. `NotEscaped` exactly where the escape spells no octets so, and
+/// `NoMemory` where there is no memory for them.
+pub fn read_escaped(alloc: Global, escape: Escape, text: &[u8]) -> Result<Octets, EscapeFault>
+    ensures value { GivesRead (λ octets. octets) result (unescaped escape text.now) }
+    ensures found { IfOk result (λ octets. AreOctets octets × (text.now ≡ escaped escape octets)) }
+    ensures only { (octets : List ℕ) → AreOctets octets → text.now ≡ escaped escape octets → GivesRead (λ o. o) result (Some octets) }
+{
+    unescape(alloc, escape, text)
+}
+
+fn unescape(alloc: Global, escape: Escape, text: &[u8]) -> Result<Octets, EscapeFault>
+    ensures { GivesRead (λ octets. octets) result (unescaped escape text.now) }
+{
+    let mut octets = Vec::new(alloc);
+    let mut rest = text;
+    while let [first, tail @ ..] = rest {
+        let (octet, behind) = first_octet(escape, *first, tail)?;
+        octets.push(octet)?;
+        rest = behind;
+    }
+    Ok(Octets::new(octets))
+}
+
+/// The first octet that the text stands for, and what follows its spelling.
+fn first_octet(escape: Escape, first: u8, tail: &[u8]) -> Result<(u8, &[u8]), EscapeFault>
+    ensures found { IfOk result (λ read. (unescaped escape (first ∷ tail.now) ≡ with_front (read.0 ∷ []) (unescaped escape read.1.now)) × (length read.1.now < length (first ∷ tail.now))) }
+    ensures none { OnErr result (unescaped escape (first ∷ tail.now) ≡ None) }
+{
+    if is_plain(escape, first) {
+        return Ok((first, tail));
+    }
+    match tail {
+        [high, low, behind @ ..] => {
+            if !is_escape(escape, first, *high, *low) {
+                return Err(EscapeFault::NotEscaped);
+            }
+            Ok((hex_value(*high) * 16 + hex_value(*low), behind))
+        }
+        _ => Err(EscapeFault::NotEscaped),
+    }
+}
+
+fn is_escape(escape: Escape, mark: u8, high: u8, low: u8) -> bool
+    ensures { result ≡ is_escape escape mark high low }
+{
+    mark == b'~'
+        && is_hex(high)
+        && is_hex(low)
+        && !is_plain(escape, hex_value(high) * 16 + hex_value(low))
+}
+
+fn is_hex(octet: u8) -> bool
+    ensures { result ≡ is_hex octet }
+{
+    matches!(octet, b'0'..=b'9' | b'A'..=b'F')
+}
+
+fn hex_value(digit: u8) -> u8
+    requires { is_hex digit ≡ true }
+    ensures value { result ≡ hex_value digit }
+    ensures small { result < 16 }
+{
+    if digit <= b'9' {
+        digit - b'0'
+    } else {
+        digit - b'A' + 10
+    }
+}
