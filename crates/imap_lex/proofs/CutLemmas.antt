@@ -1,13 +1,13 @@
-use Rattle.std.proofs.Common.{◌≡◌, ℕ, ◌+◌, ◌-◌, ◌<◌, Bool, true, false, eqb, ltb, leb, List, [], ◌∷◌, ◌++◌, length, drop, get_or, Option, Some, None, Result, Ok, Err, ◌⊎◌, inl, inr, sym, refl, ap, ◌∙◌, subst, append_assoc}
-use Rattle.std.proofs.lemmas.List.{append-nil, at_drop_more}
-use Rattle.std.proofs.lemmas.Bool.{cases_Bool}
+use Rattle.std.proofs.Common.{◌≡◌, ℕ, ◌+◌, ◌-◌, ◌<◌, ◌≤◌, true, false, eqb, ltb, leb, List, [], ◌∷◌, ◌++◌, length, take, drop, get_or, None, Result, Ok, Err, ◌⊎◌, inl, inr, sym, refl, ap, ◌∙◌, subst, append_assoc, arith}
+use Rattle.std.proofs.lemmas.List.{append-nil, at_drop_more, take-append-drop}
+use Rattle.std.proofs.lemmas.Bool.{cases_Bool, lt-ltb, or_parts}
 use Rattle.imap_lex.specs.declared.fault.Fault.{Fault}
 use Rattle.imap_lex.specs.declared.fault.Fault.TheVariants.{LineTooLong, LiteralTooLong, NulByte, NoMemory, Failed}
 use Rattle.imap_lex.specs.declared.item.Item.{Item}
 use Rattle.imap_lex.specs.declared.limits.Limits.{Limits}
 use Rattle.imap_lex.specs.declared.mark.Ending.{Ending}
 use Rattle.imap_lex.specs.declared.mark.Ending.TheVariants.{Whole, Literal, TooLong}
-use Rattle.imap_lex.specs.Reading.{Progress, Outcome, Cut, with_items, goes_on, next, given, after_octet, after_line_octet, after_ending, ending_of, is_end, with_octet, fed, joined, Faults, FaultsNow}
+use Rattle.imap_lex.specs.Reading.{Progress, Cut, with_items, goes_on, next, given, has_nul, after_literal, after_octet, after_line_octet, after_ending, ending_of, is_end, with_octet, fed, joined, Faults}
 
 pub with_items-with_items : (front items : List Item) (cut : Cut) → with_items front (with_items items cut) ≡ with_items (front ++ items) cut
 with_items-with_items front items cut = ap (λ all. (all, cut.1)) (sym (append_assoc front items cut.0))
@@ -97,4 +97,67 @@ stops_at limits p i piece why items cut h fails e =
       | inr k ↦
           let step : goes_on limits (Ok p) (drop i piece) ≡ goes_on limits (Ok p) (get_or piece i 0 ∷ drop (i + 1) piece) = at_drop_more (goes_on limits (Ok p)) piece i 0 h in
           faults_at limits p (get_or piece i 0) (drop (i + 1) piece) why items cut k (sym (ap (with_items items) step) ∙ e)
+    ]
+
+-- Octets of a literal, read one by one.
+literal_step : (limits : Limits) (p : Progress) (octet : ℕ) → eqb octet 0 ≡ false → 0 < p.awaited → after_octet limits p octet ≡ Ok (None, after_literal p (octet ∷ []))
+literal_step limits p octet nul l = rw (nul, lt-ltb 0 p.awaited l) refl
+
+literal_join : (p : Progress) (octet : ℕ) (octets : List ℕ) → after_literal (after_literal p (octet ∷ [])) octets ≡ after_literal p (octet ∷ octets)
+literal_join p octet octets =
+    let e : p.awaited - 1 - length octets ≡ p.awaited - length (octet ∷ octets) = omega arith in
+    let f : (p.front ++ octet ∷ []) ++ octets ≡ p.front ++ octet ∷ octets = append_assoc p.front (octet ∷ []) octets in
+    λ k. record p { front = f k; awaited = e k }
+
+literal_empty : (p : Progress) → p ≡ after_literal p []
+literal_empty p =
+    let e : p.awaited ≡ p.awaited - 0 = omega arith in
+    λ k. record p { front = sym (append-nil p.front) k; awaited = e k }
+
+literal_read : (limits : Limits) (p : Progress) (octets : List ℕ) → length octets ≤ p.awaited → has_nul octets ≡ false → goes_on limits (Ok p) octets ≡ ([], Ok (after_literal p octets))
+literal_read limits p [] l h = ap (λ q. ([], Ok q)) (literal_empty p)
+literal_read limits p (b ∷ bs) l h =
+    let parts = or_parts (eqb b 0) (has_nul bs) h in
+    ap (λ o. with_items (given o).0 (goes_on limits (given o).1 bs)) (literal_step limits p b parts.0 (omega arith))
+    ∙ ap (with_items []) (literal_read limits (after_literal p (b ∷ [])) bs (omega arith) parts.1)
+    ∙ ap (λ q. ([], Ok q)) (literal_join p b bs)
+
+literal_nul : (limits : Limits) (p : Progress) (octets : List ℕ) → length octets ≤ p.awaited → has_nul octets ≡ true → goes_on limits (Ok p) octets ≡ ([], Err NulByte)
+literal_nul limits p [] l h = absurd cc
+literal_nul limits p (b ∷ bs) l h =
+    elim (cases_Bool (eqb b 0)) [
+      | inl t ↦
+          let s : after_octet limits p b ≡ Err NulByte = rw t refl in
+          ap (λ o. with_items (given o).0 (goes_on limits (given o).1 bs)) s ∙ ap (with_items []) (goes_on-fault limits NulByte bs)
+      | inr f ↦
+          ap (λ o. with_items (given o).0 (goes_on limits (given o).1 bs)) (literal_step limits p b f (omega arith))
+          ∙ ap (with_items []) (literal_nul limits (after_literal p (b ∷ [])) bs (omega arith) (rw f at h))
+    ]
+
+-- Octets of a literal at the front of a piece.
+pub literal_front : (limits : Limits) (p q : Progress) (items : List Item) (n : ℕ) (octets rest piece : List ℕ) → octets ≡ take n piece → rest ≡ drop n piece → length octets ≤ p.awaited → has_nul octets ≡ false → q ≡ after_literal p octets → with_items items (goes_on limits (Ok p) piece) ≡ with_items items (goes_on limits (Ok q) rest)
+literal_front limits p q items n octets rest piece e f l h g =
+    let whole : piece ≡ octets ++ rest = sym (take-append-drop n piece) ∙ ap (λ t. t ++ drop n piece) (sym e) ∙ ap (λ t. octets ++ t) (sym f) in
+    ap (with_items items) (
+    ap (goes_on limits (Ok p)) whole
+    ∙ goes_on-append limits (Ok p) octets rest
+    ∙ ap (λ c. with_items c.0 (goes_on limits c.1 rest)) (literal_read limits p octets l h)
+    ∙ ap (λ q. with_items [] (goes_on limits (Ok q) rest)) (sym g)
+    )
+
+pub literal_stops : (limits : Limits) (p : Progress) (items : List Item) (n : ℕ) (octets piece : List ℕ) (why : Fault) → octets ≡ take n piece → length octets ≤ p.awaited → (why ≡ NoMemory) ⊎ ((why ≡ NulByte) × (has_nul octets ≡ true)) → Faults why items (with_items items (goes_on limits (Ok p) piece))
+literal_stops limits p items n octets piece why e l fails =
+    let whole : piece ≡ octets ++ drop n piece = sym (take-append-drop n piece) ∙ ap (λ t. t ++ drop n piece) (sym e) in
+    let cut : Cut = with_items items (goes_on limits (Ok p) piece) in
+    elim fails [
+      | inl k ↦ subst (λ (w : Fault). Faults w items cut) (sym k) (lacks_memory items (goes_on limits (Ok p) piece) cut refl)
+      | inr k ↦
+          let g : goes_on limits (Ok p) piece ≡ ([], Err NulByte) =
+          ap (goes_on limits (Ok p)) whole
+          ∙ goes_on-append limits (Ok p) octets (drop n piece)
+          ∙ ap (λ c. with_items c.0 (goes_on limits c.1 (drop n piece))) (literal_nul limits p octets l k.1)
+          ∙ ap (with_items []) (goes_on-fault limits NulByte (drop n piece))
+          in
+          let all : cut ≡ (items, Err NulByte) = ap (with_items items) g ∙ ap (λ all. (all, Err NulByte)) (append-nil items) in
+          subst (λ (w : Fault). Faults w items cut) (sym k.0) all
     ]

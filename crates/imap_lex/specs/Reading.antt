@@ -1,6 +1,6 @@
 use Rattle.std.specs.Prelude.{◌≡◌, ℕ, ◌+◌, ◌-◌, ◌^◌, Bool, true, false, ◌&&◌, ◌==◌, nat_lt, nat_le, List, [], ◌∷◌, ◌++◌, length, take, drop, slice_index, Option, Some, None, Result, Ok, Err, IsOk, IsErr, if◌then◌else◌, option_to_list}
 use Rattle.std.specs.Char.{is_ascii_digit}
-use Rattle.std.specs.List.{prefix_len}
+use Rattle.std.specs.List.{list_any, prefix_len}
 use Rattle.std.specs.Str.{bytes_eq}
 use Rattle.imap_lex.specs.declared.fault.Fault.{Fault}
 use Rattle.imap_lex.specs.declared.fault.Fault.TheVariants.{LineTooLong, LiteralTooLong, NulByte, NoMemory, Failed}
@@ -102,6 +102,14 @@ after_octet limits p octet =
     if octet == 0 then Err NulByte
     else (if nat_lt 0 p.awaited then Ok (None, record p { front = p.front ++ octet ∷ []; awaited = p.awaited - 1 })
     else after_line_octet limits p octet)
+
+-- Whether an octet is NUL.
+abbrev pub has_nul : List ℕ → Bool
+has_nul octets = list_any (λ octet. octet == 0) octets
+
+-- Behind octets of a literal.
+abbrev pub after_literal : Progress → List ℕ → Progress
+after_literal p octets = record p { front = p.front ++ octets; awaited = p.awaited - length octets }
 
 -- The items of a stretch of the stream, and what has come of the next command behind it, or the fault.
 abbrev pub Cut : Type 0

@@ -1,6 +1,6 @@
-//! Takes a piece of input octet by octet.
+//! Takes a piece of input.
 
-ghost use Rattle.std.specs.Prelude.{◌≡◌, OnOk, IfErr, Ok};
+ghost use Rattle.std.specs.Prelude.{◌≡◌, ◌<◌, length, IfOk, OnOk, IfErr, Ok};
 ghost use Rattle.imap_lex.specs.Reading.{Faults, goes_on, with_items};
 
 use crate::fault::Fault;
@@ -21,10 +21,35 @@ pub(crate) fn cut_into(
     ensures ok { OnOk result (with_items items.old.items (goes_on limits (Ok progress.old) piece.now) ≡ (items.new.items, Ok progress.new)) }
     ensures err { IfErr result (λ why. Faults why items.new.items (with_items items.old.items (goes_on limits (Ok progress.old) piece.now))) }
 {
-    for octet in piece {
-        if let Some(item) = progress.take(alloc, limits, *octet)? {
-            items.push(item)?;
-        }
+    let mut rest = piece;
+    while !rest.is_empty() {
+        rest = cut_front(alloc, limits, progress, items, rest)?;
     }
     Ok(())
+}
+
+/// Takes the front of a piece, and gives what stands behind it: as much of a literal as there is, or one octet of a line.
+fn cut_front<'a>(
+    alloc: Global,
+    limits: Limits,
+    progress: &mut Progress,
+    items: &mut Vec<Item>,
+    piece: &'a [u8],
+) -> Result<&'a [u8], Fault>
+    requires { 0 < length piece.now }
+    ensures ok { IfOk result (λ rest. with_items items.old.items (goes_on limits (Ok progress.old) piece.now) ≡ with_items items.new.items (goes_on limits (Ok progress.new) rest.now)) }
+    ensures shorter { IfOk result (λ rest. length rest.now < length piece.now) }
+    ensures err { IfErr result (λ why. Faults why items.new.items (with_items items.old.items (goes_on limits (Ok progress.old) piece.now))) }
+{
+    let literal = progress.awaited().min(piece.len());
+    if literal > 0 {
+        let (octets, rest) = piece.split_at(literal);
+        progress.take_literal(octets)?;
+        return Ok(rest);
+    }
+    let octet = piece[0];
+    if let Some(item) = progress.take(alloc, limits, octet)? {
+        items.push(item)?;
+    }
+    Ok(&piece[1..])
 }

@@ -17,5 +17,5 @@ mod progress;
 pub use fault::{Fault, FrameFault};
 pub use framer::Framer;
 pub use item::{Frame, Item};
-pub use laws::any_cuts;
+pub use laws::{any_cuts, faults_come_first, frames_are_given, given_are_frames};
 pub use limits::Limits;

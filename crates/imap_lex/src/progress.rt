@@ -1,7 +1,7 @@
 //! What has come of the next command.
 
-ghost use Rattle.std.specs.Prelude.{◌≡◌, ◌⊎◌, ◌-◌, ◌++◌, IfOk, IfErr, Ok, Err};
-ghost use Rattle.imap_lex.specs.declared.fault.Fault.TheVariants.{NoMemory};
+ghost use Rattle.std.specs.Prelude.{◌≡◌, ◌⊎◌, ◌-◌, ◌≤◌, ◌++◌, true, false, length, IfOk, IfErr, OnOk, Ok, Err};
+ghost use Rattle.imap_lex.specs.declared.fault.Fault.TheVariants.{NoMemory, NulByte};
 
 use crate::fault::Fault;
 use crate::item::{Frame, Item};
@@ -35,7 +35,7 @@ impl Model for Progress {
 }
 
 impl Progress {
-    ghost use Rattle.imap_lex.specs.Reading.{start, ending_of, after_octet, after_line_octet, after_ending};
+    ghost use Rattle.imap_lex.specs.Reading.{start, has_nul, ending_of, after_literal, after_octet, after_line_octet, after_ending};
 
     /// Nothing has come.
     pub(crate) fn new(alloc: Global) -> Progress
@@ -50,28 +50,45 @@ impl Progress {
         }
     }
 
-    /// Takes the next octet, and gives the item that it completes. Behind an `Err` it is of no further use.
+    /// How many octets of a literal are still to come.
+    pub(crate) fn awaited(&self) -> usize
+        ensures { result ≡ self.now.awaited }
+    {
+        self.awaited
+    }
+
+    /// Takes the next octets of a literal, all at once. Behind an `Err` it is of no further use.
+    pub(crate) fn take_literal(&mut self, octets: &[u8]) -> Result<(), Fault>
+        requires { length octets.now ≤ self.old.awaited }
+        ensures ok { OnOk result ((has_nul octets.now ≡ false) × (self.new ≡ after_literal self.old octets.now)) }
+        ensures err { IfErr result (λ why. (why ≡ NoMemory) ⊎ ((why ≡ NulByte) × (has_nul octets.now ≡ true))) }
+    {
+        if octets.contains(&0) {
+            return Err(Fault::NulByte);
+        }
+        self.front.extend_from_slice(octets)?;
+        self.awaited -= octets.len();
+        Ok(())
+    }
+
+    /// Takes the next octet of a line, and gives the item that it completes. Behind an `Err` it is of no further use.
     pub(crate) fn take(
         &mut self,
         alloc: Global,
         limits: Limits,
         octet: u8,
     ) -> Result<Option<Item>, Fault>
+        requires { self.old.awaited ≡ 0 }
         ensures ok { IfOk result (λ item. after_octet limits self.old octet ≡ Ok (item, self.new)) }
         ensures err { IfErr result (λ why. (why ≡ NoMemory) ⊎ (after_octet limits self.old octet ≡ Err why)) }
     {
         if octet == 0 {
             return Err(Fault::NulByte);
         }
-        if self.awaited > 0 {
-            self.front.push(octet)?;
-            self.awaited -= 1;
-            return Ok(None);
-        }
         self.take_line_octet(alloc, limits, octet)
     }
 
-    /// Takes an octet outside literals.
+    /// Takes an octet of a line that is no NUL.
     fn take_line_octet(
         &mut self,
         alloc: Global,

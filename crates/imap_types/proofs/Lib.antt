@@ -1,3 +1,4 @@
-pub mod KeywordLemmas
-pub mod Pictures
 pub mod EscapeLemmas
+pub mod KeywordLemmas
+pub mod NumbersLemmas
+pub mod Pictures

@@ -1,6 +1,7 @@
 pub mod Ascending
 pub mod DateTimes
+pub mod Escape
 pub mod Flags
 pub mod Keywords
-pub mod Escape
 pub mod Names
+pub mod Numbers

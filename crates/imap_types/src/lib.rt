@@ -1,21 +1,25 @@
-//! The values that commands, answers and operations are made of: octet strings, mailbox names, flags, date-times and
-//! moments.
+//! The values that commands, answers and operations are made of: octet strings, mailbox names, flags, date-times, moments,
+//! sets of numbers and sections; and the escape in which lines of text spell octets.
 //!
 //! Each type owns its octets and is seen by contracts as the list of them.
 #![tactic(auto)]
 
 mod date_time;
+mod escape;
 mod flags;
 mod keywords;
-mod escape;
 mod moment;
 mod name;
+mod number_set;
 mod octets;
+mod section;
 
 pub use date_time::{DATE_TIME_OCTETS, DateTime};
+pub use escape::{Escape, EscapeFault, read_escaped, write_escaped};
 pub use flags::{Flags, MAX_KEYWORDS};
 pub use keywords::{Keywords, MAX_KEYWORD_OCTETS, is_atom_octet, is_lawful_keyword};
-pub use escape::{Escape, EscapeFault, read_escaped, write_escaped};
 pub use moment::{LAST_MOMENT, Moment};
 pub use name::Name;
+pub use number_set::{NumberSet, Run};
 pub use octets::Octets;
+pub use section::{FieldNames, Section};

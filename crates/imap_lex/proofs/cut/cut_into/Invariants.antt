@@ -1,8 +1,11 @@
-use Rattle.std.proofs.Common.{◌≡◌, Ok, drop}
+use Rattle.std.proofs.Common.{◌≡◌, Ok, length}
 use Rattle.imap_lex.specs.Reading.{goes_on, with_items}
 use Rattle.imap_lex.proofs.cut.cut_into.Given as goal
 
-abbrev pub invariant-loop-octet : goal.invariant-loop-octet
-invariant-loop-octet l =
-    with_items l.items.items (goes_on l.limits (Ok l.progress) (drop l.octet-index l.piece))
+abbrev pub invariant-loop-rest : goal.invariant-loop-rest
+invariant-loop-rest l =
+    with_items l.items.items (goes_on l.limits (Ok l.progress) l.rest)
     ≡ with_items l.fn.items.items (goes_on l.limits (Ok l.fn.progress) l.piece)
+
+abbrev pub decreases-loop-rest : goal.decreases-loop-rest
+decreases-loop-rest l = length l.rest

@@ -1,0 +1,27 @@
+use Rattle.std.specs.Prelude.{◌≡◌, ℕ, Bool, false, List, [], ◌∷◌, ◌++◌, IsTrue}
+use Rattle.std.specs.List.{list_all}
+use Rattle.imap_grammar.specs.Languages.{word}
+use Rattle.imap_grammar.specs.Strings.{is_in, run}
+use Rattle.imap_grammar.specs.Words.{command_word}
+use Rattle.imap_grammar.specs.declared.class.Class.{Class}
+use Rattle.imap_grammar.specs.declared.class.Class.TheVariants.{Tag, Atom}
+use Rattle.imap_grammar.specs.declared.word.CommandWord.{CommandWord}
+
+-- A frame is a tag, a space and this rest.
+abbrev pub IsTagged : List ℕ → List ℕ → List ℕ → Type 0
+IsTagged frame tag rest = run Tag tag tag × (frame ≡ tag ++ 32 ∷ rest)
+
+-- A frame begins with a tag and a space.
+abbrev pub HasTag : List ℕ → Type 0
+HasTag frame = (tag rest : List ℕ) × IsTagged frame tag rest
+
+-- Whether a text begins with an octet of a class.
+abbrev pub begins_in : Class → List ℕ → Bool
+begins_in class [] = false
+begins_in class (octet ∷ octets) = is_in class octet
+
+-- The atom octets behind the tag are the word of a command, in any case: one of this grammar, or one that it leaves out.
+abbrev pub NamesCommand : List ℕ → Type 0
+NamesCommand frame =
+    (tag letters rest : List ℕ) × (named : CommandWord) × IsTagged frame tag (letters ++ rest)
+    × IsTrue (list_all (is_in Atom) letters) × (begins_in Atom rest ≡ false) × word (command_word named) letters

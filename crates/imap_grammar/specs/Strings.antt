@@ -1,0 +1,74 @@
+use Rattle.std.specs.Prelude.{◌≡◌, ◌≢◌, ◌⊎◌, ℕ, ◌+◌, ◌-◌, ◌*◌, Bool, not, ◌&&◌, ◌||◌, ◌==◌, List, [], ◌∷◌, ◌++◌, length, IsTrue, if◌then◌else◌}
+use Rattle.std.specs.List.{list_all}
+use Rattle.imap_types.specs.DateTimes.{is_digit}
+use Rattle.imap_types.specs.Keywords.{is_atom_octet}
+use Rattle.imap_types.specs.Names.{folded_name}
+use Rattle.imap_grammar.specs.Languages.{◌⌢◌, exactly, nothing}
+use Rattle.imap_grammar.specs.declared.class.Class.{Class}
+use Rattle.imap_grammar.specs.declared.class.Class.TheVariants.{Tag, Atom, Astring, Pattern, Digit}
+
+-- Whether an octet may stand in an astring without quotes: an atom octet or `]` (RFC 9051, section 9, ASTRING-CHAR).
+abbrev pub is_astring_octet : ℕ → Bool
+is_astring_octet octet = is_atom_octet octet || (octet == 93)
+
+-- Whether an octet may stand in a pattern without quotes: an astring octet, `%` or `*` (RFC 9051, section 9, list-char).
+abbrev pub is_pattern_octet : ℕ → Bool
+is_pattern_octet octet = is_astring_octet octet || (octet == 37) || (octet == 42)
+
+-- The octets of each class. A tag has astring octets other than `+` (RFC 9051, section 9, tag).
+abbrev pub is_in : Class → ℕ → Bool
+is_in Tag octet = is_astring_octet octet && not (octet == 43)
+is_in Atom octet = is_atom_octet octet
+is_in Astring octet = is_astring_octet octet
+is_in Pattern octet = is_pattern_octet octet
+is_in Digit octet = is_digit octet
+
+-- One or more octets of a class, which stand for themselves.
+abbrev pub run : Class → List ℕ → List ℕ → Type 0
+run class value text = (value ≢ []) × IsTrue (list_all (is_in class) value) × (text ≡ value)
+
+-- The text between quotes: `"` (34) and `\` (92) are written `\"` and `\\` (RFC 9051, section 9, QUOTED-CHAR).
+abbrev pub escaped : List ℕ → List ℕ
+escaped [] = []
+escaped (octet ∷ octets) = if (octet == 34) || (octet == 92) then 92 ∷ octet ∷ escaped octets else octet ∷ escaped octets
+
+-- Whether an octet may stand between quotes: none of NUL, CR and LF.
+abbrev pub is_quotable : ℕ → Bool
+is_quotable octet = not ((octet == 0) || (octet == 13) || (octet == 10))
+
+-- A quoted string (RFC 9051, section 9, quoted).
+abbrev pub quoted : List ℕ → List ℕ → Type 0
+quoted value text = IsTrue (list_all is_quotable value) × (text ≡ 34 ∷ (escaped value ++ 34 ∷ []))
+
+-- The number that decimal digits write, behind a number so far.
+abbrev pub number_of : ℕ → List ℕ → ℕ
+number_of so_far [] = so_far
+number_of so_far (digit ∷ digits) = number_of (so_far * 10 + (digit - 48)) digits
+
+-- A number in decimal digits (RFC 9051, section 9, number).
+abbrev pub number : ℕ → List ℕ → Type 0
+number value text = (digits : List ℕ) × run Digit digits text × (number_of 0 digits ≡ value)
+
+-- A `+` (43) or nothing.
+abbrev pub optional_plus : List ℕ → Type 0
+optional_plus text = exactly (43 ∷ []) text ⊎ nothing text
+
+-- A literal: `{n}` or `{n+}`, CRLF and n octets (RFC 9051, section 9, literal).
+abbrev pub literal : List ℕ → List ℕ → Type 0
+literal value = exactly (123 ∷ []) ⌢ number (length value) ⌢ optional_plus ⌢ exactly (125 ∷ 13 ∷ 10 ∷ []) ⌢ exactly value
+
+-- Octets of a class as they stand, or a string in either form.
+abbrev pub text_of : Class → List ℕ → List ℕ → Type 0
+text_of class value text = run class value text ⊎ (quoted value text ⊎ literal value text)
+
+-- A string or a word of astring octets (RFC 9051, section 9, astring).
+abbrev pub astring : List ℕ → List ℕ → Type 0
+astring = text_of Astring
+
+-- A pattern of mailbox names (RFC 9051, section 9, list-mailbox).
+abbrev pub pattern : List ℕ → List ℕ → Type 0
+pattern = text_of Pattern
+
+-- A mailbox name: an astring, of which INBOX is meant in any case (RFC 9051, section 9, mailbox).
+abbrev pub mailbox : List ℕ → List ℕ → Type 0
+mailbox name text = (written : List ℕ) × astring written text × (folded_name written ≡ name)

@@ -1,0 +1,43 @@
+use std::alloc::{AllocError, AllocFailed};
+
+/// Why a frame gives no command. Each leaves everything as it was.
+#[derive(Clone, Copy, Debug, PartialEq, Eq, thiserror::Error)]
+pub enum ParseFault {
+    /// The frame doesn't begin with a tag and a space.
+    #[error("no tag")]
+    NoTag,
+    /// The word behind the tag is no command's.
+    #[error("unknown command")]
+    UnknownCommand,
+    /// The command isn't written as its form asks.
+    #[error("bad syntax")]
+    BadSyntax,
+    /// A form of IMAP that this server leaves out.
+    #[error("not in this profile")]
+    NotInProfile,
+    /// There is no memory for the command.
+    #[error("no memory")]
+    NoMemory,
+}
+
+impl From<AllocError> for ParseFault {
+    ghost use Rattle.std.specs.Prelude.{◌≡◌};
+    ghost use Rattle.imap_grammar.specs.declared.fault.ParseFault.TheVariants.{NoMemory};
+
+    ghost from_gives = { λ _ e. e ≡ NoMemory };
+
+    fn from(_e: AllocError) -> ParseFault {
+        ParseFault::NoMemory
+    }
+}
+
+impl<T: Drop> From<AllocFailed<T>> for ParseFault {
+    ghost use Rattle.std.specs.Prelude.{◌≡◌};
+    ghost use Rattle.imap_grammar.specs.declared.fault.ParseFault.TheVariants.{NoMemory};
+
+    ghost from_gives = { λ _ e. e ≡ NoMemory };
+
+    fn from(_e: AllocFailed<T>) -> ParseFault {
+        ParseFault::NoMemory
+    }
+}

@@ -1,0 +1,127 @@
+ghost use Rattle.std.specs.Prelude.{◌≡◌, ◌↔◌, ◌⊎◌, ℕ, List, IfErr, IfNone, IfOk, IfSome, IsNone, Ok, Err, option_map};
+ghost use Rattle.imap_grammar.specs.Commands.{IsSpelled};
+ghost use Rattle.imap_grammar.specs.Faults.{HasTag, IsTagged, NamesCommand};
+ghost use Rattle.imap_grammar.specs.Reading.{Gives, arguments_at, create_at, delete_at, ended_at, list_at, tag_at, word_at};
+ghost use Rattle.imap_grammar.specs.declared.command.Tagged.{Tagged as Spelled};
+ghost use Rattle.imap_grammar.specs.declared.fault.ParseFault.TheVariants.{NoMemory, NoTag, UnknownCommand};
+
+use std::alloc::Global;
+
+use imap_types::Octets;
+
+use crate::class::Class;
+use crate::command::{Command, Tagged};
+use crate::fault::ParseFault;
+use crate::scan::{run, skip, space, span};
+use crate::text::{mailbox, text};
+use crate::word::{find_command, CommandWord};
+
+/// The command that a whole frame spells, CRLF included.
+///
+/// The faults: `NoTag` and `UnknownCommand` exactly where `specs/Faults.antt` says; `BadSyntax` and `NotInProfile` only
+/// where no command is spelled; `NoMemory` in place of any answer but the first two.
+pub fn parse(alloc: Global, frame: &[u8]) -> Result<Tagged, ParseFault>
+    // What is read is spelled so.
+    ensures found { IfOk result (λ tagged. IsSpelled tagged frame.now) }
+    // What is spelled so is read, unless memory runs out.
+    ensures only { (tagged : Spelled) → IsSpelled tagged frame.now → (result ≡ Ok tagged) ⊎ (result ≡ Err NoMemory) }
+    ensures no_tag { (result ≡ Err NoTag) ↔ (HasTag frame.now → ⊥) }
+    ensures unknown { (result ≡ Err UnknownCommand) ↔ (HasTag frame.now × (NamesCommand frame.now → ⊥)) }
+{
+    let Some((tag, rest)) = tagged(frame) else {
+        return Err(ParseFault::NoTag);
+    };
+    let (letters, rest) = span(Class::Atom, rest);
+    let Some(word) = find_command(letters) else {
+        return Err(ParseFault::UnknownCommand);
+    };
+    let command = ended(alloc, word, rest)?;
+    Ok(Tagged {
+        tag: Octets::copied_from(alloc, tag)?,
+        command,
+    })
+}
+
+/// The tag with which a frame begins; `None` where no tag and space stand first.
+pub fn tag_of(frame: &[u8]) -> Option<&[u8]>
+    ensures found { IfSome result (λ tag. (rest : List ℕ) × IsTagged frame.now tag.now rest) }
+    ensures none { IsNone result ↔ (HasTag frame.now → ⊥) }
+{
+    let (tag, _) = tagged(frame)?;
+    Some(tag)
+}
+
+/// No frame spells two commands.
+pub fn one_reading()
+    ensures { (this that : Spelled) (frame : List ℕ) → IsSpelled this frame → IsSpelled that frame → this ≡ that }
+{
+}
+
+fn tagged(frame: &[u8]) -> Option<(&[u8], &[u8])>
+    ensures { option_map (λ x. (x.0.now, x.1.now)) result ≡ tag_at frame.now }
+{
+    let (tag, rest) = span(Class::Tag, frame);
+    if tag.is_empty() {
+        return None;
+    }
+    match rest {
+        [] => None,
+        [first, rest @ ..] => {
+            if *first != b' ' {
+                return None;
+            }
+            Some((tag, rest))
+        }
+    }
+}
+
+/// The command of this word, with its arguments and CRLF.
+fn ended(alloc: Global, word: CommandWord, octets: &[u8]) -> Result<Command, ParseFault>
+    ensures { Gives (λ x. x) result (ended_at word octets.now) }
+{
+    let (command, rest) = arguments(alloc, word, octets)?;
+    let rest = skip(rest, b"\r\n")?;
+    if !rest.is_empty() {
+        return Err(ParseFault::BadSyntax);
+    }
+    Ok(command)
+}
+
+fn arguments(alloc: Global, word: CommandWord, octets: &[u8]) -> Result<(Command, &[u8]), ParseFault>
+    ensures { Gives (λ x. (x.0, x.1.now)) result (arguments_at word octets.now) }
+{
+    match word {
+        CommandWord::Noop => Ok((Command::Noop, octets)),
+        CommandWord::Logout => Ok((Command::Logout, octets)),
+        CommandWord::Create => create(alloc, octets),
+        CommandWord::Delete => delete(alloc, octets),
+        CommandWord::ListNames => list(alloc, octets),
+        _ => Err(ParseFault::NotInProfile),
+    }
+}
+
+fn create(alloc: Global, octets: &[u8]) -> Result<(Command, &[u8]), ParseFault>
+    ensures { Gives (λ x. (x.0, x.1.now)) result (create_at octets.now) }
+{
+    let rest = space(octets)?;
+    let (name, rest) = mailbox(alloc, rest)?;
+    Ok((Command::Create { name }, rest))
+}
+
+fn delete(alloc: Global, octets: &[u8]) -> Result<(Command, &[u8]), ParseFault>
+    ensures { Gives (λ x. (x.0, x.1.now)) result (delete_at octets.now) }
+{
+    let rest = space(octets)?;
+    let (name, rest) = mailbox(alloc, rest)?;
+    Ok((Command::Delete { name }, rest))
+}
+
+fn list(alloc: Global, octets: &[u8]) -> Result<(Command, &[u8]), ParseFault>
+    ensures { Gives (λ x. (x.0, x.1.now)) result (list_at octets.now) }
+{
+    let rest = space(octets)?;
+    let (reference, rest) = text(alloc, Class::Astring, rest)?;
+    let rest = space(rest)?;
+    let (pattern, rest) = text(alloc, Class::Pattern, rest)?;
+    Ok((Command::ListNames { reference, pattern }, rest))
+}

@@ -1,0 +1,57 @@
+ghost use Rattle.std.specs.Prelude.{◌≡◌, ◌<◌, ◌≤◌, length, [], ◌∷◌, IfSome};
+ghost use Rattle.imap_grammar.specs.Strings.{is_in, number_of};
+ghost use Rattle.imap_grammar.specs.Reading.{Gives, after, run_at, span, after_plus};
+
+use crate::class::{is_in, Class};
+use crate::fault::ParseFault;
+
+/// The longest front of octets of a class, and the rest.
+pub fn span(class: Class, octets: &[u8]) -> (&[u8], &[u8])
+    ensures { (result.0.now, result.1.now) ≡ span (is_in class) octets.now }
+{
+    let mut len = 0;
+    for octet in octets {
+        if !is_in(class, *octet) {
+            break;
+        }
+        len += 1;
+    }
+    octets.split_at(len)
+}
+
+/// One or more octets of a class, and the rest.
+pub fn run(class: Class, octets: &[u8]) -> Result<(&[u8], &[u8]), ParseFault>
+    ensures { Gives (λ x. (x.0.now, x.1.now)) result (run_at class octets.now) }
+{
+    let (front, rest) = span(class, octets);
+    if front.is_empty() {
+        return Err(ParseFault::BadSyntax);
+    }
+    Ok((front, rest))
+}
+
+/// What stands behind these octets.
+pub fn skip<'a>(octets: &'a [u8], wanted: &[u8]) -> Result<&'a [u8], ParseFault>
+    ensures { Gives (λ rest. rest.now) result (after wanted.now octets.now) }
+{
+    let mut rest = octets;
+    for octet in wanted {
+        match rest {
+            [] => return Err(ParseFault::BadSyntax),
+            [first, tail @ ..] => {
+                if *first != *octet {
+                    return Err(ParseFault::BadSyntax);
+                }
+                rest = tail;
+            }
+        }
+    }
+    Ok(rest)
+}
+
+/// What stands behind one space.
+pub fn space(octets: &[u8]) -> Result<&[u8], ParseFault>
+    ensures { Gives (λ rest. rest.now) result (after (32 ∷ []) octets.now) }
+{
+    skip(octets, b" ")
+}

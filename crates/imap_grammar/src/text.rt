@@ -1,0 +1,123 @@
+ghost use Rattle.std.specs.Prelude.{◌≡◌, ◌<◌, ◌≤◌, ◌-◌, ◌^◌, length, min, true, false};
+ghost use Rattle.imap_grammar.specs.Strings.{is_quotable, number_of};
+ghost use Rattle.imap_grammar.specs.Reading.{Gives, literal_at, mailbox_at, octets_at, quoted_at, run_at, text_at, after_plus};
+
+use std::alloc::Global;
+
+use imap_types::{Name, Octets};
+
+use crate::class::Class;
+use crate::fault::ParseFault;
+use crate::scan::{run, skip};
+
+/// An astring or a pattern (RFC 9051, section 9): octets of the class as they stand, or a string in either form.
+pub fn text(alloc: Global, class: Class, octets: &[u8]) -> Result<(Octets, &[u8]), ParseFault>
+    ensures { Gives (λ x. (x.0, x.1.now)) result (text_at class octets.now) }
+{
+    match octets {
+        [] => Err(ParseFault::BadSyntax),
+        [first, rest @ ..] => match *first {
+            b'"' => quoted(alloc, rest),
+            b'{' => literal(alloc, rest),
+            _ => plain(alloc, class, octets),
+        },
+    }
+}
+
+fn plain(alloc: Global, class: Class, octets: &[u8]) -> Result<(Octets, &[u8]), ParseFault>
+    ensures { Gives (λ x. (x.0, x.1.now)) result (run_at class octets.now) }
+{
+    let (front, rest) = run(class, octets)?;
+    Ok((Octets::copied_from(alloc, front)?, rest))
+}
+
+/// A mailbox name (RFC 9051, section 9, mailbox), with INBOX of any case in capitals.
+pub fn mailbox(alloc: Global, octets: &[u8]) -> Result<(Name, &[u8]), ParseFault>
+    ensures { Gives (λ x. (x.0, x.1.now)) result (mailbox_at octets.now) }
+{
+    let (written, rest) = text(alloc, Class::Astring, octets)?;
+    Ok((Name::new(written.into_vec()).folded(), rest))
+}
+
+/// What stands up to the closing quote, without the escapes.
+fn quoted(alloc: Global, octets: &[u8]) -> Result<(Octets, &[u8]), ParseFault>
+    ensures { Gives (λ x. (x.0, x.1.now)) result (quoted_at false octets.now) }
+{
+    let mut value = Vec::new(alloc);
+    let mut escaped = false;
+    let mut rest = octets;
+    while let [octet, tail @ ..] = rest {
+        rest = tail;
+        let octet = *octet;
+        if escaped {
+            if octet != b'"' && octet != b'\\' {
+                return Err(ParseFault::BadSyntax);
+            }
+            value.push(octet)?;
+            escaped = false;
+        } else if octet == b'"' {
+            return Ok((Octets::new(value), rest));
+        } else if octet == b'\\' {
+            escaped = true;
+        } else if is_quotable(octet) {
+            value.push(octet)?;
+        } else {
+            return Err(ParseFault::BadSyntax);
+        }
+    }
+    Err(ParseFault::BadSyntax)
+}
+
+fn is_quotable(octet: u8) -> bool
+    ensures { result ≡ is_quotable octet }
+{
+    octet != 0 && octet != b'\r' && octet != b'\n'
+}
+
+/// A literal behind its `{` (RFC 9051, section 9, literal).
+#[tactic(auto, unfolding(crate::specs::Reading::literal_at))]
+fn literal(alloc: Global, octets: &[u8]) -> Result<(Octets, &[u8]), ParseFault>
+    ensures { Gives (λ x. (x.0, x.1.now)) result (literal_at octets.now) }
+{
+    let (digits, rest) = run(Class::Digit, octets)?;
+    let rest = skip(after_plus(rest), b"}\r\n")?;
+    counted(alloc, digits, rest)
+}
+
+fn after_plus(octets: &[u8]) -> &[u8]
+    ensures { result.now ≡ after_plus octets.now }
+{
+    match octets {
+        [] => octets,
+        [first, rest @ ..] => {
+            if *first == b'+' {
+                rest
+            } else {
+                octets
+            }
+        }
+    }
+}
+
+/// As many octets as the digits say.
+fn counted<'a>(alloc: Global, digits: &[u8], octets: &'a [u8]) -> Result<(Octets, &'a [u8]), ParseFault>
+    ensures { Gives (λ x. (x.0, x.1.now)) result (octets_at (number_of 0 digits.now) octets.now) }
+{
+    let count = saturated(digits);
+    if octets.len() < count {
+        return Err(ParseFault::BadSyntax);
+    }
+    let (value, rest) = octets.split_at(count);
+    Ok((Octets::copied_from(alloc, value)?, rest))
+}
+
+/// The number that the digits write, or the greatest `usize` where it is greater.
+fn saturated(digits: &[u8]) -> usize
+    ensures { result ≡ min (number_of 0 digits.now) (2 ^ 64 - 1) }
+{
+    let mut number: usize = 0;
+    for digit in digits {
+        number = number.saturating_mul(10).saturating_add(digit.saturating_sub(b'0') as usize);
+    }
+    number
+}

@@ -1,0 +1,138 @@
+ghost use Rattle.std.specs.Prelude.{◌≡◌};
+ghost use Rattle.imap_grammar.specs.Words.{command_word, command_words, named};
+
+/// The word of a command (RFC 9051, section 6; RFC 2177, section 3): those of this grammar, and those that it leaves out.
+#[derive(Clone, Copy, Debug, PartialEq, Eq)]
+pub enum CommandWord {
+    Capability,
+    Noop,
+    Logout,
+    Login,
+    Enable,
+    Select,
+    Examine,
+    Create,
+    Delete,
+    Subscribe,
+    Unsubscribe,
+    ListNames,
+    Namespace,
+    Status,
+    Append,
+    Idle,
+    Close,
+    Unselect,
+    Expunge,
+    Search,
+    Fetch,
+    Store,
+    Copy,
+    Move,
+    Uid,
+    /// Left out of this grammar.
+    Rename,
+    /// Left out of this grammar.
+    StartTls,
+    /// Left out of this grammar.
+    Authenticate,
+}
+
+/// A word of the grammar, which is read without ASCII case.
+pub trait Word: Copy {
+    ghost use Rattle.std.specs.Prelude.{ℕ, List};
+
+    ghost word_of: { Self → List ℕ };
+
+    /// The word in capitals.
+    fn text(self) -> &'static [u8]
+        ensures { result.now ≡ word_of self };
+}
+
+impl Word for CommandWord {
+    ghost use Rattle.imap_grammar.specs.Words.{command_word};
+
+    ghost word_of = { command_word };
+
+    fn text(self) -> &'static [u8] {
+        match self {
+            CommandWord::Capability => b"CAPABILITY",
+            CommandWord::Noop => b"NOOP",
+            CommandWord::Logout => b"LOGOUT",
+            CommandWord::Login => b"LOGIN",
+            CommandWord::Enable => b"ENABLE",
+            CommandWord::Select => b"SELECT",
+            CommandWord::Examine => b"EXAMINE",
+            CommandWord::Create => b"CREATE",
+            CommandWord::Delete => b"DELETE",
+            CommandWord::Subscribe => b"SUBSCRIBE",
+            CommandWord::Unsubscribe => b"UNSUBSCRIBE",
+            CommandWord::ListNames => b"LIST",
+            CommandWord::Namespace => b"NAMESPACE",
+            CommandWord::Status => b"STATUS",
+            CommandWord::Append => b"APPEND",
+            CommandWord::Idle => b"IDLE",
+            CommandWord::Close => b"CLOSE",
+            CommandWord::Unselect => b"UNSELECT",
+            CommandWord::Expunge => b"EXPUNGE",
+            CommandWord::Search => b"SEARCH",
+            CommandWord::Fetch => b"FETCH",
+            CommandWord::Store => b"STORE",
+            CommandWord::Copy => b"COPY",
+            CommandWord::Move => b"MOVE",
+            CommandWord::Uid => b"UID",
+            CommandWord::Rename => b"RENAME",
+            CommandWord::StartTls => b"STARTTLS",
+            CommandWord::Authenticate => b"AUTHENTICATE",
+        }
+    }
+}
+
+const COMMAND_WORDS: [CommandWord; 28] = [
+    CommandWord::Capability,
+    CommandWord::Noop,
+    CommandWord::Logout,
+    CommandWord::Login,
+    CommandWord::Enable,
+    CommandWord::Select,
+    CommandWord::Examine,
+    CommandWord::Create,
+    CommandWord::Delete,
+    CommandWord::Subscribe,
+    CommandWord::Unsubscribe,
+    CommandWord::ListNames,
+    CommandWord::Namespace,
+    CommandWord::Status,
+    CommandWord::Append,
+    CommandWord::Idle,
+    CommandWord::Close,
+    CommandWord::Unselect,
+    CommandWord::Expunge,
+    CommandWord::Search,
+    CommandWord::Fetch,
+    CommandWord::Store,
+    CommandWord::Copy,
+    CommandWord::Move,
+    CommandWord::Uid,
+    CommandWord::Rename,
+    CommandWord::StartTls,
+    CommandWord::Authenticate,
+];
+
+/// The first of the values whose word is this text, but for ASCII case.
+pub fn find<W: Word>(values: &[W], text: &[u8]) -> Option<W>
+    ensures { result ≡ named W.word_of values.now text.now }
+{
+    for value in values {
+        if text.eq_ignore_ascii_case(value.text()) {
+            return Some(*value);
+        }
+    }
+    None
+}
+
+/// The command's word that this text is, but for ASCII case.
+pub fn find_command(text: &[u8]) -> Option<CommandWord>
+    ensures { result ≡ named command_word command_words text.now }
+{
+    find(&COMMAND_WORDS, text)
+}

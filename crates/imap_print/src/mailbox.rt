@@ -1,0 +1,48 @@
+//! What answers tell of mailboxes and searches.
+
+use imap_types::NumberSet;
+
+/// Whether a name in LIST is a mailbox (RFC 9051, section 7.3.1).
+#[derive(Clone, Copy, Debug, PartialEq, Eq)]
+pub enum MailboxState {
+    /// It can be selected.
+    There,
+    /// It is only a level above other mailboxes.
+    NoSelect,
+    /// There is no mailbox of this name.
+    NonExistent,
+}
+
+/// What STATUS tells, of what was asked (RFC 9051, section 7.3.2; RFC 7162, section 3.1.7).
+#[derive(Clone, Copy, Debug, PartialEq, Eq)]
+pub struct StatusItems {
+    /// How many messages there are.
+    pub messages: Option<u32>,
+    /// The next UID.
+    pub uidnext: Option<u32>,
+    /// The UIDVALIDITY.
+    pub uidvalidity: Option<u32>,
+    /// How many messages lack `\Seen`.
+    pub unseen: Option<u32>,
+    /// How many messages have `\Deleted`.
+    pub deleted: Option<u32>,
+    /// The octets of all messages together.
+    pub size: Option<u64>,
+    /// The greatest mod-sequence.
+    pub highest_modseq: Option<u64>,
+}
+
+/// What a search found, of what was asked (RFC 9051, section 7.3.4; RFC 7162, section 3.1.10).
+#[derive(Drop)]
+pub struct SearchResults {
+    /// The least hit.
+    pub min: Option<u32>,
+    /// The greatest hit.
+    pub max: Option<u32>,
+    /// All hits; left out where there are none.
+    pub all: NumberSet,
+    /// How many hits there are.
+    pub count: Option<u32>,
+    /// The greatest mod-sequence of the hits.
+    pub modseq: Option<u64>,
+}

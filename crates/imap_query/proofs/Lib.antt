@@ -1,0 +1,4 @@
+pub mod RowLemmas
+pub mod MatchLemmas
+pub mod PlacingLemmas
+pub mod ListingLemmas

@@ -1,0 +1,4 @@
+pub mod Listing
+pub mod Patterns
+pub mod Placing
+pub mod Rows

@@ -1,0 +1,68 @@
+-- What the code computes, entry by entry; proofs/PlacingLemmas and proofs/ListingLemmas tie it to Listing.
+use Rattle.std.specs.Prelude.{ℕ, Bool, true, false, ◌==◌, List, [], ◌∷◌, ◌++◌, if◌then◌else◌}
+use Rattle.std.specs.List.{list_any}
+use Rattle.std.specs.Str.{bytes_eq}
+use Rattle.std.specs.declared.cmp.Ordering.{Ordering}
+use Rattle.std.specs.declared.cmp.Ordering.TheVariants.{Less, Equal, Greater}
+use Rattle.imap_types.specs.Ascending.{compared}
+use Rattle.imap_types.specs.Names.{folded_name}
+use Rattle.imap_query.specs.Rows.{is_shown}
+use Rattle.imap_query.specs.declared.listing.ListEntry.{ListEntry}
+
+-- An entry put before another, left out, or put behind it.
+abbrev pub placed_by : Ordering → ListEntry → ListEntry → List ListEntry → List ListEntry → List ListEntry
+placed_by Less entry other others behind = entry ∷ other ∷ others
+placed_by Equal entry other others behind = other ∷ others
+placed_by Greater entry other others behind = other ∷ behind
+
+-- The entries with one more, by name, unless there is one of its name.
+abbrev pub placed : ListEntry → List ListEntry → List ListEntry
+placed entry [] = entry ∷ []
+placed entry (other ∷ others) = placed_by (compared entry.name other.name) entry other others (placed entry others)
+
+-- The entries with more, one after another.
+abbrev pub placed_all : List ListEntry → List ListEntry → List ListEntry
+placed_all [] entries = entries
+placed_all (entry ∷ more) entries = placed_all more (placed entry entries)
+
+-- The entries of the mailboxes that a pattern matches.
+abbrev pub shown_mailboxes : List ℕ → List (List ℕ) → List ListEntry
+shown_mailboxes pattern [] = []
+shown_mailboxes pattern (folder ∷ folders) = if is_shown pattern folder then (record { name = folder; is_mailbox = true }) ∷ shown_mailboxes pattern folders else shown_mailboxes pattern folders
+
+-- Whether a name is one of the folders.
+abbrev pub is_among : List (List ℕ) → List ℕ → Bool
+is_among folders name = list_any (λ folder. bytes_eq folder name) folders
+
+-- The entry of a superior level that a pattern matches and that is none of the folders.
+abbrev pub shown_level : List ℕ → List (List ℕ) → List ℕ → List ListEntry
+shown_level pattern folders upper = if is_among folders (folded_name upper) then [] else (if is_shown pattern (folded_name upper) then (record { name = folded_name upper; is_mailbox = false }) ∷ [] else [])
+
+-- The entries of such levels among some.
+abbrev pub shown_among : List ℕ → List (List ℕ) → List (List ℕ) → List ListEntry
+shown_among pattern folders [] = []
+shown_among pattern folders (upper ∷ uppers) = shown_level pattern folders upper ++ shown_among pattern folders uppers
+
+-- The superior levels of a name whose front was read.
+abbrev pub levels_from : List ℕ → List ℕ → List (List ℕ)
+levels_from front [] = []
+levels_from front (octet ∷ rest) = if octet == 47 then front ∷ levels_from (front ++ octet ∷ []) rest else levels_from (front ++ octet ∷ []) rest
+
+-- The entries of the superior levels of some of the folders.
+abbrev pub shown_levels : List ℕ → List (List ℕ) → List (List ℕ) → List ListEntry
+shown_levels pattern folders [] = []
+shown_levels pattern folders (folder ∷ some) = shown_among pattern folders (levels_from [] folder) ++ shown_levels pattern folders some
+
+-- Whether a pattern ends in `%` (37).
+abbrev pub ends_in_percent : List ℕ → Bool
+ends_in_percent [] = false
+ends_in_percent (octet ∷ []) = octet == 37
+ends_in_percent (octet ∷ next ∷ rest) = ends_in_percent (next ∷ rest)
+
+-- The entries of superior levels, where the pattern asks for them.
+abbrev pub found_levels : List ℕ → List (List ℕ) → List ListEntry
+found_levels pattern folders = if ends_in_percent pattern then shown_levels pattern folders folders else []
+
+-- The entries that a pattern lists, in the order in which they are found.
+abbrev pub found : List ℕ → List (List ℕ) → List ListEntry
+found pattern folders = shown_mailboxes pattern folders ++ found_levels pattern folders

@@ -1,0 +1,82 @@
+use crate::octets::Octets;
+use std::alloc::{AllocError, Global};
+use std::marker::Model;
+
+/// A part of a message's text, as FETCH names it (RFC 9051, section 6.4.5.1).
+#[derive(Drop)]
+pub enum Section {
+    /// The whole text.
+    Whole,
+    /// The header with the empty line that ends it.
+    Header,
+    /// What follows the header.
+    Text,
+    /// The header fields of these names.
+    Fields { names: FieldNames },
+    /// The header fields of all other names.
+    FieldsNot { names: FieldNames },
+}
+
+impl Section {
+    ghost use Rattle.std.specs.Prelude.{◌≡◌, IfOk};
+
+    /// An equal section; `Err` where there is no memory for it.
+    pub fn copy(&self, alloc: Global) -> Result<Section, AllocError>
+        ensures { IfOk result (λ copied. copied ≡ self.now) }
+    {
+        match self {
+            Section::Whole => Ok(Section::Whole),
+            Section::Header => Ok(Section::Header),
+            Section::Text => Ok(Section::Text),
+            Section::Fields { names } => Ok(Section::Fields {
+                names: names.copy(alloc)?,
+            }),
+            Section::FieldsNot { names } => Ok(Section::FieldsNot {
+                names: names.copy(alloc)?,
+            }),
+        }
+    }
+}
+
+/// Names of header fields as they were written, in order.
+#[derive(Drop)]
+pub struct FieldNames {
+    names: Vec<Octets>,
+}
+
+impl Model for FieldNames {
+    ghost use Rattle.std.specs.Prelude.{ℕ, List};
+
+    ghost Value = { List (List ℕ) };
+
+    ghost view = { λ n. n.names.items };
+}
+
+impl FieldNames {
+    ghost use Rattle.std.specs.Prelude.{◌≡◌, IfOk};
+
+    /// These names, whose memory it takes over.
+    pub fn new(names: Vec<Octets>) -> FieldNames
+        ensures { result ≡ names.items }
+    {
+        FieldNames { names }
+    }
+
+    /// The names, in order.
+    pub fn names(&self) -> &[Octets]
+        ensures { result.now ≡ self.now }
+    {
+        &self.names
+    }
+
+    /// Equal names; `Err` where there is no memory for them.
+    pub fn copy(&self, alloc: Global) -> Result<FieldNames, AllocError>
+        ensures { IfOk result (λ copied. copied ≡ self.now) }
+    {
+        let mut names = Vec::new(alloc);
+        for name in self.names() {
+            names.push(name.copy(alloc)?)?;
+        }
+        Ok(FieldNames { names })
+    }
+}

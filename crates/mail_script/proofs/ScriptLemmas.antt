@@ -1,0 +1,208 @@
+use Rattle.std.proofs.Common.{◌≡◌, ◌++◌, ◌<◌, ◌≤◌, ◌⊎◌, inl, inr, ℕ, Bool, true, false, cond, eqb, eqb-true, List, [], ◌∷◌, Option, Some, None, Result, Ok, Err, IfOk, IsTrue, refl, sym, ap, ◌∙◌, subst, arith}
+use Rattle.std.proofs.lemmas.Slice.Eq.{bytes_eq-Decides}
+use Rattle.std.specs.Fmt.{decimal}
+use Rattle.std.specs.Str.{bytes_eq}
+use Rattle.tags_clocks.specs.declared.id.OpId.{OpId}
+use Rattle.imap_types.specs.Escape.{AreOctets, escaped}
+use Rattle.imap_types.specs.declared.escape.Escape.TheVariants.{Text}
+use Rattle.mail_script.specs.Fields.{IsMoment, IsOpNumber, IsReplica, id_text, is_session_name}
+use Rattle.mail_script.specs.Reading.{◌>>=◌, Gives, cut_at, deliver_at, fields_at, forge_at, id_at, keyword_at, line_at, moment_at, open_at, replica_at, session_at, spoken_at, words_at}
+use Rattle.mail_script.specs.Script.{Says}
+use Rattle.mail_script.specs.declared.script.Keyword.{Keyword}
+use Rattle.mail_script.specs.declared.script.Keyword.TheVariants.{Node as NodeWord, Now as NowWord, Open as OpenWord, Line as LineWord, Send as SendWord, Close as CloseWord, Show as ShowWord, Deliver as DeliverWord, Forge as ForgeWord, Drain as DrainWord}
+use Rattle.mail_script.specs.declared.script.LineFault.{LineFault}
+use Rattle.mail_script.specs.declared.script.ScriptLine.{ScriptLine}
+use Rattle.mail_script.specs.declared.script.ScriptLine.TheVariants.{Blank, Node, Now, Open, Line, Send, Close, Show, Deliver, Forge, Drain}
+use Rattle.mail_script.proofs.FieldLemmas.{bind_some, bound, chosen, cut_again, cut_takes, decimal_no_space, id_again, id_no_space, id_takes, moment_again, moment_takes, replica_again, replica_takes, session_again, session_takes, spoken_again, spoken_takes}
+use Rattle.std.specs.Prelude.{codes}
+
+-- how each word is spelled
+abbrev keyword_text : Keyword → List ℕ
+keyword_text NodeWord = codes "node"
+keyword_text NowWord = codes "now"
+keyword_text OpenWord = codes "open"
+keyword_text LineWord = codes "line"
+keyword_text SendWord = codes "send"
+keyword_text CloseWord = codes "close"
+keyword_text ShowWord = codes "show"
+keyword_text DeliverWord = codes "deliver"
+keyword_text ForgeWord = codes "forge"
+keyword_text DrainWord = codes "drain"
+
+picked : (word text : List ℕ) (k : Keyword) (next : Option Keyword) (keyword : Keyword) → text ≡ keyword_text k → cond (bytes_eq word text) (Some k) next ≡ Some keyword → (word ≡ keyword_text keyword) ⊎ (next ≡ Some keyword)
+picked word text k next keyword s h =
+    elim (chosen (bytes_eq word text) (Some k) next (Some keyword) h) [
+      | inl t ↦ inl ((bytes_eq-Decides word text).0 t.0 ∙ s ∙ ap keyword_text (let e = t.1 in cc))
+      | inr f ↦ inr f.1
+    ]
+
+keyword_takes : (word : List ℕ) (keyword : Keyword) → keyword_at word ≡ Some keyword → word ≡ keyword_text keyword
+unfolding keyword_at
+keyword_takes word keyword h =
+    elim (picked word (codes "node") NodeWord _ keyword refl h) [ inl e ↦ e | inr h ↦
+    elim (picked word (codes "now") NowWord _ keyword refl h) [ inl e ↦ e | inr h ↦
+    elim (picked word (codes "open") OpenWord _ keyword refl h) [ inl e ↦ e | inr h ↦
+    elim (picked word (codes "line") LineWord _ keyword refl h) [ inl e ↦ e | inr h ↦
+    elim (picked word (codes "send") SendWord _ keyword refl h) [ inl e ↦ e | inr h ↦
+    elim (picked word (codes "close") CloseWord _ keyword refl h) [ inl e ↦ e | inr h ↦
+    elim (picked word (codes "show") ShowWord _ keyword refl h) [ inl e ↦ e | inr h ↦
+    elim (picked word (codes "deliver") DeliverWord _ keyword refl h) [ inl e ↦ e | inr h ↦
+    elim (picked word (codes "forge") ForgeWord _ keyword refl h) [ inl e ↦ e | inr h ↦
+    elim (picked word (codes "drain") DrainWord _ keyword refl h) [ inl e ↦ e | inr h ↦ absurd (let k = h in cc) ] ] ] ] ] ] ] ] ] ]
+
+-- what is read behind each word is said
+open_takes : (fields : List ℕ) (said : ScriptLine) → open_at fields ≡ Some said → Says (codes "open " ++ fields) said
+unfolding open_at
+open_takes fields said h =
+    let c = bind_some (cut_at 32 fields) _ said h in
+    let r = bind_some (replica_at c.0.0) _ said c.2 in
+    let s = bind_some (session_at c.0.1) _ said r.2 in
+    let e : Open r.0 s.0 ≡ said = let k = s.2 in cc in
+    let t = replica_takes c.0.0 r.0 r.1 in
+    let u = session_takes c.0.1 s.0 s.1 in
+    let text : fields ≡ decimal r.0 ++ 32 ∷ s.0 = cut_takes 32 fields c.0 c.1 ∙ (λ i. t.1 i ++ 32 ∷ u.1 i) in
+    subst (Says (codes "open " ++ fields)) e (t.0, u.0, ap (λ (t : List ℕ). codes "open " ++ t) text)
+
+deliver_takes : (fields : List ℕ) (said : ScriptLine) → deliver_at fields ≡ Some said → Says (codes "deliver " ++ fields) said
+unfolding deliver_at
+deliver_takes fields said h =
+    let c = bind_some (cut_at 32 fields) _ said h in
+    let n = bind_some (id_at c.0.0) _ said c.2 in
+    let r = bind_some (replica_at c.0.1) _ said n.2 in
+    let e : Deliver n.0 r.0 ≡ said = let k = r.2 in cc in
+    let t = id_takes c.0.0 n.0 n.1 in
+    let u = replica_takes c.0.1 r.0 r.1 in
+    let text : fields ≡ id_text n.0 ++ 32 ∷ decimal r.0 = cut_takes 32 fields c.0 c.1 ∙ (λ i. t.2 i ++ 32 ∷ u.1 i) in
+    subst (Says (codes "deliver " ++ fields)) e (t.0, t.1, u.0, ap (λ (t : List ℕ). codes "deliver " ++ t) text)
+
+forge_takes : (fields : List ℕ) (said : ScriptLine) → forge_at fields ≡ Some said → Says (codes "forge " ++ fields) said
+unfolding forge_at
+forge_takes fields said h =
+    let c = bind_some (cut_at 32 fields) _ said h in
+    let r = bind_some (replica_at c.0.0) _ said c.2 in
+    let e : Forge r.0 c.0.1 ≡ said = let k = r.2 in cc in
+    let t = replica_takes c.0.0 r.0 r.1 in
+    let text : fields ≡ decimal r.0 ++ 32 ∷ c.0.1 = cut_takes 32 fields c.0 c.1 ∙ (λ i. t.1 i ++ 32 ∷ c.0.1) in
+    subst (Says (codes "forge " ++ fields)) e (t.0, ap (λ (t : List ℕ). codes "forge " ++ t) text)
+
+replica_said : (word fields : List ℕ) (line : ℕ → ScriptLine) (said : ScriptLine) → ((r : ℕ) → IsReplica r → fields ≡ decimal r → Says (word ++ 32 ∷ fields) (line r)) → (replica_at fields >>= (λ r. Some (line r))) ≡ Some said → Says (word ++ 32 ∷ fields) said
+replica_said word fields line said says h =
+    let r = bind_some (replica_at fields) (λ r. Some (line r)) said h in
+    let e : line r.0 ≡ said = let k = r.2 in cc in
+    let t = replica_takes fields r.0 r.1 in
+    subst (Says (word ++ 32 ∷ fields)) e (says r.0 t.0 t.1)
+
+spoken_said : (word fields : List ℕ) (line : List ℕ → List ℕ → ScriptLine) (said : ScriptLine) → ((session text : List ℕ) → IsTrue (is_session_name session) → AreOctets text → fields ≡ session ++ 32 ∷ escaped Text text → Says (word ++ 32 ∷ fields) (line session text)) → (spoken_at fields >>= (λ spoken. Some (line spoken.0 spoken.1))) ≡ Some said → Says (word ++ 32 ∷ fields) said
+spoken_said word fields line said says h =
+    let s = bind_some (spoken_at fields) (λ spoken. Some (line spoken.0 spoken.1)) said h in
+    let e : line s.0.0 s.0.1 ≡ said = let k = s.2 in cc in
+    let t = spoken_takes fields s.0 s.1 in
+    subst (Says (word ++ 32 ∷ fields)) e (says s.0.0 s.0.1 t.0 t.1 t.2)
+
+now_said : (fields : List ℕ) (said : ScriptLine) → (moment_at fields >>= (λ m. Some (Now m))) ≡ Some said → Says (codes "now " ++ fields) said
+now_said fields said h =
+    let m = bind_some (moment_at fields) (λ m. Some (Now m)) said h in
+    let e : Now m.0 ≡ said = let k = m.2 in cc in
+    let t = moment_takes fields m.0 m.1 in
+    subst (Says (codes "now " ++ fields)) e (t.0, ap (λ (t : List ℕ). codes "now " ++ t) t.1)
+
+close_said : (fields : List ℕ) (said : ScriptLine) → (session_at fields >>= (λ s. Some (Close s))) ≡ Some said → Says (codes "close " ++ fields) said
+close_said fields said h =
+    let s = bind_some (session_at fields) (λ s. Some (Close s)) said h in
+    let e : Close s.0 ≡ said = let k = s.2 in cc in
+    let t = session_takes fields s.0 s.1 in
+    subst (Says (codes "close " ++ fields)) e (t.0, ap (λ (t : List ℕ). codes "close " ++ t) t.1)
+
+fields_takes : (keyword : Keyword) (fields : List ℕ) (said : ScriptLine) → fields_at keyword fields ≡ Some said → Says (keyword_text keyword ++ 32 ∷ fields) said
+fields_takes NodeWord fields said h = replica_said (codes "node") fields Node said (λ r i e. (i, ap (λ (t : List ℕ). codes "node " ++ t) e)) h
+fields_takes NowWord fields said h = now_said fields said h
+fields_takes OpenWord fields said h = open_takes fields said h
+fields_takes LineWord fields said h = spoken_said (codes "line") fields Line said (λ s t i a e. (i, a, ap (λ (t : List ℕ). codes "line " ++ t) e)) h
+fields_takes SendWord fields said h = spoken_said (codes "send") fields Send said (λ s t i a e. (i, a, ap (λ (t : List ℕ). codes "send " ++ t) e)) h
+fields_takes CloseWord fields said h = close_said fields said h
+fields_takes ShowWord fields said h = replica_said (codes "show") fields Show said (λ r i e. (i, ap (λ (t : List ℕ). codes "show " ++ t) e)) h
+fields_takes DeliverWord fields said h = deliver_takes fields said h
+fields_takes ForgeWord fields said h = forge_takes fields said h
+fields_takes DrainWord fields said h = replica_said (codes "drain") fields Drain said (λ r i e. (i, ap (λ (t : List ℕ). codes "drain " ++ t) e)) h
+
+words_takes : (line : List ℕ) (said : ScriptLine) → words_at line ≡ Some said → Says line said
+unfolding words_at
+words_takes line said h =
+    let c = bind_some (cut_at 32 line) _ said h in
+    let k = bind_some (keyword_at c.0.0) _ said c.2 in
+    let text : line ≡ keyword_text k.0 ++ 32 ∷ c.0.1 = cut_takes 32 line c.0 c.1 ∙ ap (λ (w : List ℕ). w ++ 32 ∷ c.0.1) (keyword_takes c.0.0 k.0 k.1) in
+    subst (λ (t : List ℕ). Says t said) (sym text) (fields_takes k.0 c.0.1 said k.2)
+
+-- what is read of a line is what it says
+pub line_takes : (line : List ℕ) (said : ScriptLine) → line_at line ≡ Some said → Says line said
+line_takes [] said h = let e : Blank ≡ said = cc in subst (Says []) e (inl refl)
+line_takes (octet ∷ octets) said h =
+    elim (chosen (eqb octet 35) (Some Blank) (words_at (octet ∷ octets)) (Some said) h) [
+      | inl t ↦
+          let e : Blank ≡ said = let k = t.1 in cc in
+          let s : octet ≡ 35 = eqb-true octet 35 t.0 in
+          subst (Says (octet ∷ octets)) e (inr (octets, (λ i. s i ∷ octets)))
+      | inr f ↦ words_takes (octet ∷ octets) said f.1
+    ]
+
+-- the word of a line leads to its fields
+read_on : (keyword : Keyword) (fields : List ℕ) → line_at (keyword_text keyword ++ 32 ∷ fields) ≡ fields_at keyword fields
+unfolding words_at keyword_at
+read_on NodeWord fields = refl
+read_on NowWord fields = refl
+read_on OpenWord fields = refl
+read_on LineWord fields = refl
+read_on SendWord fields = refl
+read_on CloseWord fields = refl
+read_on ShowWord fields = refl
+read_on DeliverWord fields = refl
+read_on ForgeWord fields = refl
+read_on DrainWord fields = refl
+
+read_of : (keyword : Keyword) (line fields : List ℕ) (said : ScriptLine) → line ≡ keyword_text keyword ++ 32 ∷ fields → fields_at keyword fields ≡ Some said → line_at line ≡ Some said
+read_of keyword line fields said e h = ap line_at e ∙ read_on keyword fields ∙ h
+
+open_again : (r : ℕ) (session : List ℕ) → IsReplica r → IsTrue (is_session_name session) → open_at (decimal r ++ 32 ∷ session) ≡ Some (Open r session)
+unfolding open_at
+open_again r session i s =
+    bound (cut_at 32 (decimal r ++ 32 ∷ session)) _ (decimal r, session) (cut_again 32 (decimal r) session (decimal_no_space r (omega arith)))
+    ∙ bound (replica_at (decimal r)) _ r (replica_again r i)
+    ∙ bound (session_at session) _ session (session_again session s)
+
+deliver_again : (id : OpId) (r : ℕ) → IsReplica id.replica → IsOpNumber id.number → IsReplica r → deliver_at (id_text id ++ 32 ∷ decimal r) ≡ Some (Deliver id r)
+unfolding deliver_at
+deliver_again id r i n s =
+    bound (cut_at 32 (id_text id ++ 32 ∷ decimal r)) _ (id_text id, decimal r) (cut_again 32 (id_text id) (decimal r) (id_no_space id i n))
+    ∙ bound (id_at (id_text id)) _ id (id_again id i n)
+    ∙ bound (replica_at (decimal r)) _ r (replica_again r s)
+
+forge_again : (r : ℕ) (operation : List ℕ) → IsReplica r → forge_at (decimal r ++ 32 ∷ operation) ≡ Some (Forge r operation)
+unfolding forge_at
+forge_again r operation i =
+    bound (cut_at 32 (decimal r ++ 32 ∷ operation)) _ (decimal r, operation) (cut_again 32 (decimal r) operation (decimal_no_space r (omega arith)))
+    ∙ bound (replica_at (decimal r)) _ r (replica_again r i)
+
+-- what a line says is read of it
+pub line_again : (line : List ℕ) (said : ScriptLine) → Says line said → line_at line ≡ Some said
+line_again line Blank h = elim h [ inl e ↦ ap line_at e | inr c ↦ ap line_at c.1 ]
+line_again line (Node r) h = read_of NodeWord line (decimal r) (Node r) h.1 (bound (replica_at (decimal r)) _ r (replica_again r h.0))
+line_again line (Now m) h = read_of NowWord line (decimal m) (Now m) h.1 (bound (moment_at (decimal m)) _ m (moment_again m h.0))
+line_again line (Open r s) h = read_of OpenWord line (decimal r ++ 32 ∷ s) (Open r s) h.2 (open_again r s h.0 h.1)
+line_again line (Line s t) h = read_of LineWord line (s ++ 32 ∷ escaped Text t) (Line s t) h.2 (bound (spoken_at (s ++ 32 ∷ escaped Text t)) _ (s, t) (spoken_again s t h.0 h.1))
+line_again line (Send s t) h = read_of SendWord line (s ++ 32 ∷ escaped Text t) (Send s t) h.2 (bound (spoken_at (s ++ 32 ∷ escaped Text t)) _ (s, t) (spoken_again s t h.0 h.1))
+line_again line (Close s) h = read_of CloseWord line s (Close s) h.1 (bound (session_at s) _ s (session_again s h.0))
+line_again line (Show r) h = read_of ShowWord line (decimal r) (Show r) h.1 (bound (replica_at (decimal r)) _ r (replica_again r h.0))
+line_again line (Deliver id r) h = read_of DeliverWord line (id_text id ++ 32 ∷ decimal r) (Deliver id r) h.3 (deliver_again id r h.0 h.1 h.2)
+line_again line (Forge r op) h = read_of ForgeWord line (decimal r ++ 32 ∷ op) (Forge r op) h.1 (forge_again r op h.0)
+line_again line (Drain r) h = read_of DrainWord line (decimal r) (Drain r) h.1 (bound (replica_at (decimal r)) _ r (replica_again r h.0))
+
+pub found_by : (line : List ℕ) (r : Result ScriptLine LineFault) → Gives (λ said. said) r (line_at line) → IfOk r (λ said. Says line said)
+found_by line (Ok said) g = line_takes line said g
+found_by line (Err e) g = tt
+
+pub only_by : (line : List ℕ) (r : Result ScriptLine LineFault) → Gives (λ said. said) r (line_at line) → (meaning : ScriptLine) → Says line meaning → Gives (λ said. said) r (Some meaning)
+only_by line r g meaning s = subst (Gives (λ said. said) r) (line_again line meaning s) g
+
+pub one_by : (line : List ℕ) (meaning other : ScriptLine) → Says line meaning → Says line other → meaning ≡ other
+one_by line meaning other s t =
+    let e : ◌≡◌ {A = Option ScriptLine} (Some meaning) (Some other) = sym (line_again line meaning s) ∙ line_again line other t in cc

@@ -1,0 +1,9 @@
+use Rattle.imap_types.specs.declared.escape.EscapeFault.{EscapeFault}
+use Rattle.imap_types.specs.declared.escape.EscapeFault.TheVariants.{NotEscaped, NoMemory as NoMemoryForEscape}
+use Rattle.mail_script.specs.declared.script.LineFault.{LineFault}
+use Rattle.mail_script.specs.declared.script.LineFault.TheVariants.{NotALine, NoMemory}
+
+-- A text that isn't in the escape makes no line.
+abbrev pub fault_of : EscapeFault → LineFault
+fault_of NotEscaped = NotALine
+fault_of NoMemoryForEscape = NoMemory

@@ -1,0 +1,14 @@
+//! Replay scripts and transcripts: what a line of a script says, and how the lines of a transcript are written.
+#![tactic(auto)]
+
+mod fields;
+mod lines;
+
+
+mod script;
+mod session_name;
+
+
+pub use lines::{ScriptLines, cut_in_turn};
+pub use script::{LineFault, ScriptLine, one_meaning, read_line};
+pub use session_name::{MAX_SESSION_NAME_OCTETS, SessionName};

@@ -1,0 +1,227 @@
+//! What a line of a replay script says.
+
+ghost use Rattle.std.specs.Prelude.{◌≡◌, ℕ, List, Option, Some, IfOk, OnErr};
+ghost use Rattle.mail_script.specs.declared.script.ScriptLine.{ScriptLine as Meaning};
+ghost use Rattle.mail_script.specs.Reading.{Gives, deliver_at, fields_at, forge_at, keyword_at, line_at, open_at, words_at};
+ghost use Rattle.mail_script.specs.Script.{Says};
+
+use std::alloc::{AllocError, Global};
+
+use imap_types::{EscapeFault, Moment, Octets};
+use tags_clocks::{OpId, ReplicaId};
+
+use crate::fields::{cut, id, moment, replica, session, spoken};
+use crate::session_name::SessionName;
+
+/// What a line of a script asks for.
+#[derive(Drop)]
+pub enum ScriptLine {
+    /// Nothing: the line is empty or a comment.
+    Blank,
+    /// `node R` declares a replica.
+    Node { replica: ReplicaId },
+    /// `now N` sets the moment.
+    Now { moment: Moment },
+    /// `open R NAME` opens an authenticated session at a replica.
+    Open { replica: ReplicaId, session: SessionName },
+    /// `line NAME TEXT` feeds a session the text and CRLF; the text is without its escapes and without the CRLF.
+    Line { session: SessionName, text: Octets },
+    /// `send NAME TEXT` feeds a session the text alone, which is without its escapes.
+    Send { session: SessionName, text: Octets },
+    /// `close NAME` closes a session.
+    Close { session: SessionName },
+    /// `show R` prints a replica's dump.
+    Show { replica: ReplicaId },
+    /// `deliver ID R` delivers an issued operation to a replica.
+    Deliver { id: OpId, replica: ReplicaId },
+    /// `forge R OP` delivers an operation to a replica; the operation is the rest of the line as it stands.
+    Forge { replica: ReplicaId, operation: Octets },
+    /// `drain R` goes on with a replica's ripe held operations.
+    Drain { replica: ReplicaId },
+}
+
+/// Why a line isn't read.
+#[derive(thiserror::Error, Clone, Copy, Debug, PartialEq, Eq)]
+pub enum LineFault {
+    /// It says nothing that a script may say.
+    #[error("not a line of a script")]
+    NotALine,
+    /// There is no memory for its fields.
+    #[error("no memory")]
+    NoMemory,
+}
+
+impl From<AllocError> for LineFault {
+    ghost use Rattle.std.specs.Prelude.{◌≡◌};
+    ghost use Rattle.mail_script.specs.declared.script.LineFault.TheVariants.{NoMemory};
+
+    ghost from_gives = { λ _ e. e ≡ NoMemory };
+
+    fn from(_fault: AllocError) -> LineFault {
+        LineFault::NoMemory
+    }
+}
+
+impl From<EscapeFault> for LineFault {
+    ghost use Rattle.std.specs.Prelude.{◌≡◌};
+    ghost use Rattle.mail_script.specs.Faults.{fault_of};
+
+    ghost from_gives = { λ fault e. e ≡ fault_of fault };
+
+    fn from(fault: EscapeFault) -> LineFault {
+        match fault {
+            EscapeFault::NotEscaped => LineFault::NotALine,
+            EscapeFault::NoMemory => LineFault::NoMemory,
+        }
+    }
+}
+
+/// The word that begins a line.
+#[derive(Clone, Copy)]
+pub enum Keyword {
+    Node,
+    Now,
+    Open,
+    Line,
+    Send,
+    Close,
+    Show,
+    Deliver,
+    Forge,
+    Drain,
+}
+
+/// What a line says, which is given without its LF; a CR before the LF belongs to it. `NotALine` exactly where the line
+/// says nothing, and `NoMemory` where there is no memory for its fields.
+pub fn read_line(alloc: Global, line: &[u8]) -> Result<ScriptLine, LineFault>
+    ensures found { IfOk result (λ said. Says line.now said) }
+    ensures only { (meaning : Meaning) → Says line.now meaning → Gives (λ said. said) result (Some meaning) }
+{
+    said(alloc, line)
+}
+
+/// A line says at most one thing.
+pub fn one_meaning()
+    ensures { (line : List ℕ) (meaning other : Meaning) → Says line meaning → Says line other → meaning ≡ other }
+{
+}
+
+fn said(alloc: Global, line: &[u8]) -> Result<ScriptLine, LineFault>
+    ensures { Gives (λ said. said) result (line_at line.now) }
+{
+    match line {
+        [] => Ok(ScriptLine::Blank),
+        [first, ..] => {
+            if *first == b'#' {
+                return Ok(ScriptLine::Blank);
+            }
+            words(alloc, line)
+        }
+    }
+}
+
+#[tactic(auto, unfolding(crate::specs::Reading::words_at))]
+fn words(alloc: Global, line: &[u8]) -> Result<ScriptLine, LineFault>
+    ensures { Gives (λ said. said) result (words_at line.now) }
+{
+    let (word, fields) = cut(b' ', line)?;
+    let keyword = read_keyword(word)?;
+    after_keyword(alloc, keyword, fields)
+}
+
+#[tactic(auto, unfolding(crate::specs::Reading::keyword_at))]
+fn read_keyword(word: &[u8]) -> Result<Keyword, LineFault>
+    ensures { Gives (λ keyword. keyword) result (keyword_at word.now) }
+{
+    if word == b"node".as_slice() {
+        Ok(Keyword::Node)
+    } else if word == b"now".as_slice() {
+        Ok(Keyword::Now)
+    } else if word == b"open".as_slice() {
+        Ok(Keyword::Open)
+    } else if word == b"line".as_slice() {
+        Ok(Keyword::Line)
+    } else if word == b"send".as_slice() {
+        Ok(Keyword::Send)
+    } else if word == b"close".as_slice() {
+        Ok(Keyword::Close)
+    } else if word == b"show".as_slice() {
+        Ok(Keyword::Show)
+    } else if word == b"deliver".as_slice() {
+        Ok(Keyword::Deliver)
+    } else if word == b"forge".as_slice() {
+        Ok(Keyword::Forge)
+    } else if word == b"drain".as_slice() {
+        Ok(Keyword::Drain)
+    } else {
+        Err(LineFault::NotALine)
+    }
+}
+
+fn after_keyword(alloc: Global, keyword: Keyword, fields: &[u8]) -> Result<ScriptLine, LineFault>
+    ensures { Gives (λ said. said) result (fields_at keyword fields.now) }
+{
+    match keyword {
+        Keyword::Node => {
+            let replica = replica(fields)?;
+            Ok(ScriptLine::Node { replica })
+        }
+        Keyword::Now => {
+            let moment = moment(fields)?;
+            Ok(ScriptLine::Now { moment })
+        }
+        Keyword::Open => open(alloc, fields),
+        Keyword::Line => {
+            let (session, text) = spoken(alloc, fields)?;
+            Ok(ScriptLine::Line { session, text })
+        }
+        Keyword::Send => {
+            let (session, text) = spoken(alloc, fields)?;
+            Ok(ScriptLine::Send { session, text })
+        }
+        Keyword::Close => {
+            let session = session(alloc, fields)?;
+            Ok(ScriptLine::Close { session })
+        }
+        Keyword::Show => {
+            let replica = replica(fields)?;
+            Ok(ScriptLine::Show { replica })
+        }
+        Keyword::Deliver => deliver(fields),
+        Keyword::Forge => forge(alloc, fields),
+        Keyword::Drain => {
+            let replica = replica(fields)?;
+            Ok(ScriptLine::Drain { replica })
+        }
+    }
+}
+
+#[tactic(auto, unfolding(crate::specs::Reading::open_at))]
+fn open(alloc: Global, fields: &[u8]) -> Result<ScriptLine, LineFault>
+    ensures { Gives (λ said. said) result (open_at fields.now) }
+{
+    let (number, name) = cut(b' ', fields)?;
+    let replica = replica(number)?;
+    let session = session(alloc, name)?;
+    Ok(ScriptLine::Open { replica, session })
+}
+
+#[tactic(auto, unfolding(crate::specs::Reading::deliver_at))]
+fn deliver(fields: &[u8]) -> Result<ScriptLine, LineFault>
+    ensures { Gives (λ said. said) result (deliver_at fields.now) }
+{
+    let (name, number) = cut(b' ', fields)?;
+    let id = id(name)?;
+    let replica = replica(number)?;
+    Ok(ScriptLine::Deliver { id, replica })
+}
+
+#[tactic(auto, unfolding(crate::specs::Reading::forge_at))]
+fn forge(alloc: Global, fields: &[u8]) -> Result<ScriptLine, LineFault>
+    ensures { Gives (λ said. said) result (forge_at fields.now) }
+{
+    let (number, operation) = cut(b' ', fields)?;
+    let replica = replica(number)?;
+    let operation = Octets::copied_from(alloc, operation)?;
+    Ok(ScriptLine::Forge { replica, operation })
+}
