@@ -1,4 +1,4 @@
-use Rattle.std.specs.Prelude.{◌≡◌, ℕ, List}
+use Rattle.std.specs.Prelude.{ℕ, List}
 use Rattle.imap_grammar.specs.Languages.{◌⌢◌, nothing, sp, crlf, word}
 use Rattle.imap_grammar.specs.Strings.{run, astring, pattern, mailbox}
 use Rattle.imap_grammar.specs.Words.{command_word}

@@ -1,8 +1,7 @@
-use Rattle.std.specs.Prelude.{◌≡◌, ◌⊎◌, ℕ, List, [], ◌∷◌, ◌++◌}
+use Rattle.std.specs.Prelude.{◌≡◌, ℕ, List, [], ◌∷◌, ◌++◌}
 use Rattle.imap_types.specs.Keywords.{lowered}
 
 infixr 7 ◌⌢◌
-
 -- A language is a fact about texts. A text of `P ⌢ Q` is a text of P and behind it a text of Q.
 abbrev pub ◌⌢◌ : (List ℕ → Type 0) → (List ℕ → Type 0) → List ℕ → Type 0
 (P ⌢ Q) text = (front back : List ℕ) × P front × Q back × (text ≡ front ++ back)

@@ -1,4 +1,4 @@
-use Rattle.std.specs.Prelude.{◌≡◌, ℕ, zero, suc, ◌+◌, ◌-◌, ◌*◌, Bool, true, false, ◌&&◌, ◌||◌, ◌==◌, nat_lt, List, [], ◌∷◌, ◌++◌, length, take, drop, Option, Some, None, Result, Ok, Err, if◌then◌else◌}
+use Rattle.std.specs.Prelude.{◌≡◌, ℕ, Bool, true, false, ◌||◌, ◌==◌, nat_lt, List, [], ◌∷◌, ◌++◌, length, take, drop, Option, Some, None, Result, Ok, Err, if◌then◌else◌}
 use Rattle.imap_types.specs.Names.{folded_name}
 use Rattle.imap_grammar.specs.Strings.{is_in, is_quotable, number_of}
 use Rattle.imap_grammar.specs.Words.{named, command_word, command_words}
@@ -13,7 +13,6 @@ use Rattle.imap_grammar.specs.declared.word.CommandWord.{CommandWord}
 use Rattle.imap_grammar.specs.declared.word.CommandWord.TheVariants as words
 
 infixl 10 ◌>>=◌
-
 -- A step and what comes behind it, where neither fails.
 abbrev pub ◌>>=◌ : {A B : Type 0} → Option A → (A → Option B) → Option B
 None >>= f = None
@@ -90,22 +89,27 @@ text_at class (octet ∷ octets) =
     if octet == 34 then quoted_at false octets
     else (if octet == 123 then literal_at octets else run_at class (octet ∷ octets))
 
+-- Two values, one behind the other.
+abbrev pub both : {A B : Type 0} → (List ℕ → Option (A × List ℕ)) → (List ℕ → Option (B × List ℕ)) → List ℕ → Option ((A × B) × List ℕ)
+both read more octets = read octets >>= λ first. more first.1 >>= λ second. Some ((first.0, second.0), second.1)
+
+-- What is made of a value that is read.
+abbrev pub made : {A B : Type 0} → (A → B) → (List ℕ → Option (A × List ℕ)) → List ℕ → Option (B × List ℕ)
+made make read octets = read octets >>= λ first. Some (make first.0, first.1)
+
 abbrev pub mailbox_at : List ℕ → Option (List ℕ × List ℕ)
-mailbox_at octets = text_at Astring octets >>= λ written. Some (folded_name written.0, written.1)
+mailbox_at = made folded_name (text_at Astring)
 
 -- ---- Commands, behind their words.
 
 abbrev pub create_at : List ℕ → Option (Command × List ℕ)
-create_at octets = spaced mailbox_at octets >>= λ name. Some (commands.Create name.0, name.1)
+create_at = made commands.Create (spaced mailbox_at)
 
 abbrev pub delete_at : List ℕ → Option (Command × List ℕ)
-delete_at octets = spaced mailbox_at octets >>= λ name. Some (commands.Delete name.0, name.1)
+delete_at = made commands.Delete (spaced mailbox_at)
 
 abbrev pub list_at : List ℕ → Option (Command × List ℕ)
-list_at octets =
-    spaced (text_at Astring) octets >>= λ reference.
-    spaced (text_at Pattern) reference.1 >>= λ wanted.
-    Some (commands.ListNames reference.0 wanted.0, wanted.1)
+list_at = made (λ parts. commands.ListNames parts.0 parts.1) (spaced (both (text_at Astring) (spaced (text_at Pattern))))
 
 abbrev pub arguments_at : CommandWord → List ℕ → Option (Command × List ℕ)
 arguments_at words.Noop octets = Some (commands.Noop, octets)
@@ -128,10 +132,16 @@ abbrev pub ended_at : CommandWord → List ℕ → Option Command
 ended_at found octets =
     arguments_at found octets >>= λ this. after (13 ∷ 10 ∷ []) this.1 >>= λ rest. if is_nil rest then Some this.0 else None
 
--- The command that stands behind the tag.
-abbrev pub command_at : List ℕ → Option Command
-command_at octets = word_at octets >>= λ found. ended_at found (span (is_in Atom) octets).1
+-- The command with its tag.
+abbrev pub tagged_at : List ℕ → CommandWord → List ℕ → Option Tagged
+tagged_at tag found octets = ended_at found octets >>= λ this. Some (record { tag = tag; command = this })
 
-abbrev pub frame_at : List ℕ → Option Tagged
-frame_at frame =
-    tag_at frame >>= λ tag. command_at tag.1 >>= λ this. Some (record { tag = tag.0; command = this })
+-- What is answered where the word behind the tag is this one, or none.
+abbrev pub AnswersWord : Result Tagged ParseFault → List ℕ → Option CommandWord → List ℕ → Type 0
+AnswersWord answer tag None octets = answer ≡ Err UnknownCommand
+AnswersWord answer tag (Some found) octets = Gives (λ x. x) answer (tagged_at tag found octets)
+
+-- What is answered where the frame has this tag and rest, or none.
+abbrev pub AnswersTag : Result Tagged ParseFault → Option (List ℕ × List ℕ) → Type 0
+AnswersTag answer None = answer ≡ Err NoTag
+AnswersTag answer (Some tag) = AnswersWord answer tag.0 (word_at tag.1) (span (is_in Atom) tag.1).1

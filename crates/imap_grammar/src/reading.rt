@@ -1,20 +1,18 @@
-ghost use Rattle.std.specs.Prelude.{◌≡◌, ◌↔◌, ◌⊎◌, ℕ, List, IfErr, IfNone, IfOk, IfSome, IsNone, Ok, Err, option_map};
+ghost use Rattle.std.specs.Prelude.{◌≡◌, ◌↔◌, ◌⊎◌, ℕ, List, IfOk, MatchOption, Ok, Err, option_map};
 ghost use Rattle.imap_grammar.specs.Commands.{IsSpelled};
 ghost use Rattle.imap_grammar.specs.Faults.{HasTag, IsTagged, NamesCommand};
-ghost use Rattle.imap_grammar.specs.Reading.{Gives, arguments_at, create_at, delete_at, ended_at, list_at, tag_at, word_at};
+ghost use Rattle.imap_grammar.specs.Reading.{AnswersTag, Gives, arguments_at, create_at, delete_at, ended_at, list_at, tag_at, word_at};
 ghost use Rattle.imap_grammar.specs.declared.command.Tagged.{Tagged as Spelled};
 ghost use Rattle.imap_grammar.specs.declared.fault.ParseFault.TheVariants.{NoMemory, NoTag, UnknownCommand};
-
-use std::alloc::Global;
-
-use imap_types::Octets;
 
 use crate::class::Class;
 use crate::command::{Command, Tagged};
 use crate::fault::ParseFault;
 use crate::scan::{run, skip, space, span};
 use crate::text::{mailbox, text};
-use crate::word::{find_command, CommandWord};
+use crate::word::{CommandWord, find_command};
+use imap_types::Octets;
+use std::alloc::Global;
 
 /// The command that a whole frame spells, CRLF included.
 ///
@@ -28,6 +26,27 @@ pub fn parse(alloc: Global, frame: &[u8]) -> Result<Tagged, ParseFault>
     ensures no_tag { (result ≡ Err NoTag) ↔ (HasTag frame.now → ⊥) }
     ensures unknown { (result ≡ Err UnknownCommand) ↔ (HasTag frame.now × (NamesCommand frame.now → ⊥)) }
 {
+    answered(alloc, frame)
+}
+
+/// The tag with which a frame begins; `None` where no tag and space stand first.
+pub fn tag_of(frame: &[u8]) -> Option<&[u8]>
+    ensures { MatchOption result (HasTag frame.now → ⊥) (λ tag. (rest : List ℕ) × IsTagged frame.now tag.now rest) }
+{
+    match tagged(frame) {
+        Some((tag, _)) => Some(tag),
+        None => None,
+    }
+}
+
+/// No frame spells two commands.
+pub fn one_reading()
+    ensures { (this that : Spelled) (frame : List ℕ) → IsSpelled this frame → IsSpelled that frame → this ≡ that }
+{}
+
+fn answered(alloc: Global, frame: &[u8]) -> Result<Tagged, ParseFault>
+    ensures { AnswersTag result (tag_at frame.now) }
+{
     let Some((tag, rest)) = tagged(frame) else {
         return Err(ParseFault::NoTag);
     };
@@ -40,21 +59,6 @@ pub fn parse(alloc: Global, frame: &[u8]) -> Result<Tagged, ParseFault>
         tag: Octets::copied_from(alloc, tag)?,
         command,
     })
-}
-
-/// The tag with which a frame begins; `None` where no tag and space stand first.
-pub fn tag_of(frame: &[u8]) -> Option<&[u8]>
-    ensures found { IfSome result (λ tag. (rest : List ℕ) × IsTagged frame.now tag.now rest) }
-    ensures none { IsNone result ↔ (HasTag frame.now → ⊥) }
-{
-    let (tag, _) = tagged(frame)?;
-    Some(tag)
-}
-
-/// No frame spells two commands.
-pub fn one_reading()
-    ensures { (this that : Spelled) (frame : List ℕ) → IsSpelled this frame → IsSpelled that frame → this ≡ that }
-{
 }
 
 fn tagged(frame: &[u8]) -> Option<(&[u8], &[u8])>
@@ -87,7 +91,11 @@ fn ended(alloc: Global, word: CommandWord, octets: &[u8]) -> Result<Command, Par
     Ok(command)
 }
 
-fn arguments(alloc: Global, word: CommandWord, octets: &[u8]) -> Result<(Command, &[u8]), ParseFault>
+fn arguments(
+    alloc: Global,
+    word: CommandWord,
+    octets: &[u8],
+) -> Result<(Command, &[u8]), ParseFault>
     ensures { Gives (λ x. (x.0, x.1.now)) result (arguments_at word octets.now) }
 {
     match word {

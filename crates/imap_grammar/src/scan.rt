@@ -2,7 +2,7 @@ ghost use Rattle.std.specs.Prelude.{◌≡◌, ◌<◌, ◌≤◌, length, [], �
 ghost use Rattle.imap_grammar.specs.Strings.{is_in, number_of};
 ghost use Rattle.imap_grammar.specs.Reading.{Gives, after, run_at, span, after_plus};
 
-use crate::class::{is_in, Class};
+use crate::class::{Class, is_in};
 use crate::fault::ParseFault;
 
 /// The longest front of octets of a class, and the rest.

@@ -2,13 +2,11 @@ ghost use Rattle.std.specs.Prelude.{◌≡◌, ◌<◌, ◌≤◌, ◌-◌, ◌^
 ghost use Rattle.imap_grammar.specs.Strings.{is_quotable, number_of};
 ghost use Rattle.imap_grammar.specs.Reading.{Gives, literal_at, mailbox_at, octets_at, quoted_at, run_at, text_at, after_plus};
 
-use std::alloc::Global;
-
-use imap_types::{Name, Octets};
-
 use crate::class::Class;
 use crate::fault::ParseFault;
 use crate::scan::{run, skip};
+use imap_types::{Name, Octets};
+use std::alloc::Global;
 
 /// An astring or a pattern (RFC 9051, section 9): octets of the class as they stand, or a string in either form.
 pub fn text(alloc: Global, class: Class, octets: &[u8]) -> Result<(Octets, &[u8]), ParseFault>
@@ -89,18 +87,16 @@ fn after_plus(octets: &[u8]) -> &[u8]
 {
     match octets {
         [] => octets,
-        [first, rest @ ..] => {
-            if *first == b'+' {
-                rest
-            } else {
-                octets
-            }
-        }
+        [first, rest @ ..] => { if *first == b'+' { rest } else { octets } }
     }
 }
 
 /// As many octets as the digits say.
-fn counted<'a>(alloc: Global, digits: &[u8], octets: &'a [u8]) -> Result<(Octets, &'a [u8]), ParseFault>
+fn counted<'a>(
+    alloc: Global,
+    digits: &[u8],
+    octets: &'a [u8],
+) -> Result<(Octets, &'a [u8]), ParseFault>
     ensures { Gives (λ x. (x.0, x.1.now)) result (octets_at (number_of 0 digits.now) octets.now) }
 {
     let count = saturated(digits);
@@ -117,7 +113,9 @@ fn saturated(digits: &[u8]) -> usize
 {
     let mut number: usize = 0;
     for digit in digits {
-        number = number.saturating_mul(10).saturating_add(digit.saturating_sub(b'0') as usize);
+        number = number
+            .saturating_mul(10)
+            .saturating_add(digit.saturating_sub(b'0') as usize);
     }
     number
 }

@@ -1,13 +1,14 @@
-use Rattle.std.proofs.Common.{◌≡◌, ℕ, ◌+◌, ◌-◌, ◌<◌, ◌≤◌, true, false, eqb, ltb, leb, List, [], ◌∷◌, ◌++◌, length, take, drop, get_or, None, Result, Ok, Err, ◌⊎◌, inl, inr, sym, refl, ap, ◌∙◌, subst, append_assoc, arith}
+use Rattle.std.proofs.Common.{◌≡◌, ℕ, zero, suc, not, ◌+◌, ◌-◌, ◌<◌, ◌≤◌, true, false, eqb, ltb, leb, List, [], ◌∷◌, ◌++◌, length, take, drop, get_or, None, Result, Ok, Err, ◌⊎◌, inl, inr, sym, refl, ap, ◌∙◌, subst, append_assoc, arith}
 use Rattle.std.proofs.lemmas.List.{append-nil, at_drop_more, take-append-drop}
-use Rattle.std.proofs.lemmas.Bool.{cases_Bool, lt-ltb, or_parts}
+use Rattle.std.specs.List.{prefix_len}
+use Rattle.std.proofs.lemmas.Bool.{and_parts, cases_Bool, le-ltb, lt-leb, lt-ltb, not-true, or_parts}
 use Rattle.imap_lex.specs.declared.fault.Fault.{Fault}
 use Rattle.imap_lex.specs.declared.fault.Fault.TheVariants.{LineTooLong, LiteralTooLong, NulByte, NoMemory, Failed}
 use Rattle.imap_lex.specs.declared.item.Item.{Item}
 use Rattle.imap_lex.specs.declared.limits.Limits.{Limits}
 use Rattle.imap_lex.specs.declared.mark.Ending.{Ending}
 use Rattle.imap_lex.specs.declared.mark.Ending.TheVariants.{Whole, Literal, TooLong}
-use Rattle.imap_lex.specs.Reading.{Progress, Cut, with_items, goes_on, next, given, has_nul, after_literal, after_octet, after_line_octet, after_ending, ending_of, is_end, with_octet, fed, joined, Faults}
+use Rattle.imap_lex.specs.Reading.{Progress, Cut, with_items, goes_on, next, given, has_nul, is_inside, with_octets, after_literal, after_octet, after_line_octet, after_ending, ending_of, is_end, with_octet, fed, joined, Faults}
 
 pub with_items-with_items : (front items : List Item) (cut : Cut) → with_items front (with_items items cut) ≡ with_items (front ++ items) cut
 with_items-with_items front items cut = ap (λ all. (all, cut.1)) (sym (append_assoc front items cut.0))
@@ -161,3 +162,54 @@ literal_stops limits p items n octets piece why e l fails =
           let all : cut ≡ (items, Err NulByte) = ap (with_items items) g ∙ ap (λ all. (all, Err NulByte)) (append-nil items) in
           subst (λ (w : Fault). Faults w items cut) (sym k.0) all
     ]
+
+-- Octets of a line none of which ends it, read one by one.
+inside_step : (limits : Limits) (p : Progress) (octet : ℕ) → is_inside octet ≡ true → p.awaited ≡ 0 → p.outside < limits.line → after_octet limits p octet ≡ Ok (None, with_octet p octet)
+inside_step limits p octet h e l =
+    let parts = and_parts (not (eqb octet 10)) (not (eqb octet 0)) h in
+    let no_end : eqb octet 10 ≡ false = not-true (eqb octet 10) parts.0 in
+    let no_nul : eqb octet 0 ≡ false = not-true (eqb octet 0) parts.1 in
+    let z : ltb 0 p.awaited ≡ false = le-ltb 0 p.awaited (omega arith) in
+    rw (no_nul, z, lt-leb limits.line p.outside l, no_end) refl
+
+inside_join : (p : Progress) (octet : ℕ) (octets : List ℕ) → with_octets (with_octet p octet) octets ≡ with_octets p (octet ∷ octets)
+inside_join p octet octets =
+    let e : p.outside + 1 + length octets ≡ p.outside + length (octet ∷ octets) = omega arith in
+    let f : (p.line ++ octet ∷ []) ++ octets ≡ p.line ++ octet ∷ octets = append_assoc p.line (octet ∷ []) octets in
+    λ k. record p { line = f k; outside = e k }
+
+inside_empty : (p : Progress) → p ≡ with_octets p []
+inside_empty p =
+    let e : p.outside ≡ p.outside + 0 = omega arith in
+    λ k. record p { line = sym (append-nil p.line) k; outside = e k }
+
+inside_read : (limits : Limits) (p : Progress) (n : ℕ) (octets : List ℕ) → n ≤ prefix_len is_inside octets → p.awaited ≡ 0 → p.outside + n ≤ limits.line → goes_on limits (Ok p) (take n octets) ≡ ([], Ok (with_octets p (take n octets)))
+inside_read limits p zero octets h e l = ap (λ q. ([], Ok q)) (inside_empty p)
+inside_read limits p (suc n) [] h e l = absurd (omega arith)
+inside_read limits p (suc n) (b ∷ bs) h e l =
+    elim (cases_Bool (is_inside b)) [
+      | inl t ↦
+          let k : n ≤ prefix_len is_inside bs = let g = rw t at h in omega arith in
+          ap (λ o. with_items (given o).0 (goes_on limits (given o).1 (take n bs))) (inside_step limits p b t e (omega arith))
+          ∙ ap (with_items []) (inside_read limits (with_octet p b) n bs k e (omega arith))
+          ∙ ap (λ q. ([], Ok q)) (inside_join p b (take n bs))
+      | inr f ↦ let g = rw f at h in absurd (omega arith)
+    ]
+
+-- Octets of a line at the front of a piece.
+pub inside_front : (limits : Limits) (p q : Progress) (items : List Item) (n : ℕ) (octets rest piece : List ℕ) → octets ≡ take n piece → rest ≡ drop n piece → n ≤ prefix_len is_inside piece → p.awaited ≡ 0 → p.outside + n ≤ limits.line → q ≡ with_octets p octets → with_items items (goes_on limits (Ok p) piece) ≡ with_items items (goes_on limits (Ok q) rest)
+inside_front limits p q items n octets rest piece e f h z l g =
+    let read : goes_on limits (Ok p) octets ≡ ([], Ok (with_octets p octets)) =
+    subst (λ (t : List ℕ). goes_on limits (Ok p) t ≡ ([], Ok (with_octets p t))) (sym e) (inside_read limits p n piece h z l)
+    in
+    let whole : piece ≡ octets ++ rest = sym (take-append-drop n piece) ∙ ap (λ t. t ++ drop n piece) (sym e) ∙ ap (λ t. octets ++ t) (sym f) in
+    ap (with_items items) (
+    ap (goes_on limits (Ok p)) whole
+    ∙ goes_on-append limits (Ok p) octets rest
+    ∙ ap (λ c. with_items c.0 (goes_on limits c.1 rest)) read
+    ∙ ap (λ q. with_items [] (goes_on limits (Ok q) rest)) (sym g)
+    )
+
+-- Where memory runs out at the front of a piece.
+pub lacks_here : (items : List Item) (cut : Cut) (why : Fault) → why ≡ NoMemory → Faults why items (with_items items cut)
+lacks_here items cut why e = subst (λ (w : Fault). Faults w items (with_items items cut)) (sym e) (lacks_memory items cut (with_items items cut) refl)

@@ -1,4 +1,4 @@
-use Rattle.std.specs.Prelude.{◌≡◌, ℕ, ◌+◌, ◌-◌, ◌^◌, Bool, true, false, ◌&&◌, ◌==◌, nat_lt, nat_le, List, [], ◌∷◌, ◌++◌, length, take, drop, slice_index, Option, Some, None, Result, Ok, Err, IsOk, IsErr, if◌then◌else◌, option_to_list}
+use Rattle.std.specs.Prelude.{◌≡◌, ℕ, ◌+◌, ◌-◌, ◌^◌, Bool, true, false, not, ◌&&◌, ◌==◌, nat_lt, nat_le, List, [], ◌∷◌, ◌++◌, length, take, drop, slice_index, Option, Some, None, Result, Ok, Err, IsOk, IsErr, if◌then◌else◌, option_to_list}
 use Rattle.std.specs.Char.{is_ascii_digit}
 use Rattle.std.specs.List.{list_any, prefix_len}
 use Rattle.std.specs.Str.{bytes_eq}
@@ -106,6 +106,14 @@ after_octet limits p octet =
 -- Whether an octet is NUL.
 abbrev pub has_nul : List ℕ → Bool
 has_nul octets = list_any (λ octet. octet == 0) octets
+
+-- Whether an octet of a line can neither end it nor make a fault by itself.
+abbrev pub is_inside : ℕ → Bool
+is_inside octet = not (octet == 10) && not (octet == 0)
+
+-- Behind octets of a line none of which ends it.
+abbrev pub with_octets : Progress → List ℕ → Progress
+with_octets p octets = record p { line = p.line ++ octets; outside = p.outside + length octets }
 
 -- Behind octets of a literal.
 abbrev pub after_literal : Progress → List ℕ → Progress

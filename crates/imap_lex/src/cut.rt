@@ -1,7 +1,8 @@
 //! Takes a piece of input.
 
 ghost use Rattle.std.specs.Prelude.{◌≡◌, ◌<◌, length, IfOk, OnOk, IfErr, Ok};
-ghost use Rattle.imap_lex.specs.Reading.{Faults, goes_on, with_items};
+ghost use Rattle.std.specs.List.{prefix_len};
+ghost use Rattle.imap_lex.specs.Reading.{Faults, is_inside, goes_on, with_items};
 
 use crate::fault::Fault;
 use crate::item::Item;
@@ -28,7 +29,8 @@ pub(crate) fn cut_into(
     Ok(())
 }
 
-/// Takes the front of a piece, and gives what stands behind it: as much of a literal as there is, or one octet of a line.
+/// Takes the front of a piece, and gives what stands behind it: as much of a literal
+/// as there is, or of a line up to an LF or NUL, or else one octet.
 fn cut_front<'a>(
     alloc: Global,
     limits: Limits,
@@ -47,9 +49,25 @@ fn cut_front<'a>(
         progress.take_literal(octets)?;
         return Ok(rest);
     }
+    let inside = count_inside(piece).min(progress.room(limits));
+    if inside > 0 {
+        let (octets, rest) = piece.split_at(inside);
+        progress.take_inside(octets)?;
+        return Ok(rest);
+    }
     let octet = piece[0];
     if let Some(item) = progress.take(alloc, limits, octet)? {
         items.push(item)?;
     }
     Ok(&piece[1..])
+}
+
+/// How many octets stand before the first LF or NUL.
+fn count_inside(octets: &[u8]) -> usize
+    ensures { result ≡ prefix_len is_inside octets.now }
+{
+    octets
+        .iter()
+        .take_while(|octet| **octet != b'\n' && **octet != 0)
+        .count()
 }

@@ -1,6 +1,6 @@
 //! What has come of the next command.
 
-ghost use Rattle.std.specs.Prelude.{◌≡◌, ◌⊎◌, ◌-◌, ◌≤◌, ◌++◌, true, false, length, IfOk, IfErr, OnOk, Ok, Err};
+ghost use Rattle.std.specs.Prelude.{◌≡◌, ◌⊎◌, ◌+◌, ◌-◌, ◌^◌, ◌<◌, ◌≤◌, ◌++◌, true, false, length, IfOk, IfErr, OnOk, Ok, Err};
 ghost use Rattle.imap_lex.specs.declared.fault.Fault.TheVariants.{NoMemory, NulByte};
 
 use crate::fault::Fault;
@@ -35,7 +35,7 @@ impl Model for Progress {
 }
 
 impl Progress {
-    ghost use Rattle.imap_lex.specs.Reading.{start, has_nul, ending_of, after_literal, after_octet, after_line_octet, after_ending};
+    ghost use Rattle.imap_lex.specs.Reading.{start, has_nul, ending_of, after_literal, after_octet, after_line_octet, after_ending, with_octets};
 
     /// Nothing has come.
     pub(crate) fn new(alloc: Global) -> Progress
@@ -68,6 +68,24 @@ impl Progress {
         }
         self.front.extend_from_slice(octets)?;
         self.awaited -= octets.len();
+        Ok(())
+    }
+
+    /// How many more octets may stand outside literals.
+    pub(crate) fn room(&self, limits: Limits) -> usize
+        ensures { result ≡ limits.line - self.now.outside }
+    {
+        limits.line.saturating_sub(self.outside)
+    }
+
+    /// Takes octets of a line, none of which ends it, all at once. Behind an `Err` it is of no further use.
+    pub(crate) fn take_inside(&mut self, octets: &[u8]) -> Result<(), Fault>
+        requires { self.old.outside + length octets.now < 2 ^ 64 }
+        ensures ok { OnOk result (self.new ≡ with_octets self.old octets.now) }
+        ensures err { IfErr result (λ why. why ≡ NoMemory) }
+    {
+        self.line.extend_from_slice(octets)?;
+        self.outside += octets.len();
         Ok(())
     }
 

@@ -1,3 +1,4 @@
+pub mod Appending
 pub mod Printed
 pub mod Strings
 pub mod Words

@@ -1,4 +1,4 @@
-use Rattle.std.specs.Prelude.{ℕ, Bool, true, false, List, [], ◌∷◌, ◌++◌, map, codes, decimal, Option, Some, None, if◌then◌else◌}
+use Rattle.std.specs.Prelude.{ℕ, Bool, true, false, List, [], ◌∷◌, ◌++◌, map, codes, decimal, Option, Some, None}
 use Rattle.imap_types.specs.Flags.{flag_texts}
 use Rattle.imap_types.specs.declared.date_time.DateTime.{DateTime}
 use Rattle.imap_types.specs.declared.flags.Flags.{Flags as FlagSet}
@@ -10,6 +10,7 @@ use Rattle.imap_print.specs.declared.codes.Code.{Code}
 use Rattle.imap_print.specs.declared.codes.Code.TheVariants as code
 use Rattle.imap_print.specs.declared.codes.Notice.{Notice}
 use Rattle.imap_print.specs.declared.codes.Notice.TheVariants as notice
+use Rattle.imap_print.specs.declared.words.CommandWord.{CommandWord}
 use Rattle.imap_print.specs.declared.fetched.FetchItems.{FetchItems}
 use Rattle.imap_print.specs.declared.fetched.SectionData.{SectionData}
 use Rattle.imap_print.specs.declared.mailbox.MailboxState.{MailboxState}
@@ -37,10 +38,13 @@ attributes_text state.NoSelect true = codes "(\\Noselect \\Subscribed)"
 attributes_text state.NonExistent false = codes "(\\NonExistent)"
 attributes_text state.NonExistent true = codes "(\\NonExistent \\Subscribed)"
 
+-- The UIDs before and after copying.
+abbrev pub sets_text : List ℕ → List ℕ → List ℕ
+sets_text source copies = set_text source ++ codes " " ++ set_text copies
+
 -- A UIDVALIDITY, and the UIDs before and after copying (RFC 9051, section 7.1, COPYUID).
 abbrev pub copied_text : ℕ → List ℕ → List ℕ → List ℕ
-copied_text uidvalidity source copies =
-    codes "[COPYUID " ++ decimal uidvalidity ++ codes " " ++ set_text source ++ codes " " ++ set_text copies ++ codes "]"
+copied_text uidvalidity source copies = codes "[COPYUID " ++ decimal uidvalidity ++ codes " " ++ sets_text source copies ++ codes "]"
 
 -- The code of an untagged OK (RFC 9051, section 7.1; RFC 7162, section 3.1.2.1).
 abbrev pub notice_text : Notice → List ℕ
@@ -51,11 +55,15 @@ notice_text (notice.PermanentFlags flags) = codes "[PERMANENTFLAGS " ++ permanen
 notice_text (notice.HighestModSeq modseq) = codes "[HIGHESTMODSEQ " ++ decimal modseq ++ codes "]"
 notice_text (notice.CopyUid uidvalidity source copies) = copied_text uidvalidity source copies
 
+-- A UIDVALIDITY, and the UID of what was appended (RFC 9051, section 7.1, APPENDUID).
+abbrev pub appended_text : ℕ → ℕ → List ℕ
+appended_text uidvalidity uid = codes "[APPENDUID " ++ decimal uidvalidity ++ codes " " ++ decimal uid ++ codes "]"
+
 -- The code of a tagged OK (RFC 9051, section 7.1; RFC 7162, section 3.1.3).
 abbrev pub code_text : Code → List ℕ
 code_text code.ReadWrite = codes "[READ-WRITE]"
 code_text code.ReadOnly = codes "[READ-ONLY]"
-code_text (code.AppendUid uidvalidity uid) = codes "[APPENDUID " ++ decimal uidvalidity ++ codes " " ++ decimal uid ++ codes "]"
+code_text (code.AppendUid uidvalidity uid) = appended_text uidvalidity uid
 code_text (code.CopyUid uidvalidity source copies) = copied_text uidvalidity source copies
 code_text (code.Modified refused) = codes "[MODIFIED " ++ set_text refused ++ codes "]"
 code_text code.ExpungeIssued = codes "[EXPUNGEISSUED]"
@@ -130,6 +138,31 @@ fetch_texts items =
     ++ modseq_item items.modseq
     ++ map body_text items.sections
 
+-- A name in LIST (RFC 9051, section 7.3.1).
+abbrev pub list_text : List ℕ → MailboxState → Bool → List ℕ
+list_text name state subscribed = codes "* LIST " ++ attributes_text state subscribed ++ codes " \"/\" " ++ name_text name
+
+-- A mailbox in STATUS (RFC 9051, section 7.3.2).
+abbrev pub status_text : List ℕ → StatusItems → List ℕ
+status_text name items = codes "* STATUS " ++ name_text name ++ codes " (" ++ separated 32 (status_texts items) ++ codes ")"
+
+-- The end of the tag in ESEARCH, and whether it tells UIDs (RFC 9051, section 7.3.4).
+abbrev pub uid_mark : Bool → List ℕ
+uid_mark true = codes "\") UID"
+uid_mark false = codes "\")"
+
+-- A search's hits (RFC 9051, section 7.3.4).
+abbrev pub search_text : List ℕ → Bool → SearchResults → List ℕ
+search_text tag by_uid results = codes "* ESEARCH (TAG \"" ++ tag ++ uid_mark by_uid ++ results_text results
+
+-- A message in FETCH (RFC 9051, section 7.5.2).
+abbrev pub fetch_text : ℕ → FetchItems → List ℕ
+fetch_text number items = codes "* " ++ decimal number ++ codes " FETCH (" ++ separated 32 (fetch_texts items) ++ codes ")"
+
+-- The tagged line of a command that is done (RFC 9051, section 7.1.1).
+abbrev pub completed_text : List ℕ → Option Code → CommandWord → List ℕ
+completed_text tag code command = tag ++ codes " OK " ++ code_before code ++ command_text command ++ codes " completed"
+
 -- An answer without its line end.
 unfoldable pub answer_text : Answer → List ℕ
 answer_text (answer.Greeting login) = greeting_text login
@@ -140,16 +173,15 @@ answer_text answer.Namespace = codes "* NAMESPACE ((\"\" \"/\")) NIL NIL"
 answer_text (answer.Flags flags) = codes "* FLAGS " ++ flags_text flags
 answer_text (answer.Exists count) = codes "* " ++ decimal count ++ codes " EXISTS"
 answer_text (answer.Expunge number) = codes "* " ++ decimal number ++ codes " EXPUNGE"
-answer_text (answer.List name state subscribed) = codes "* LIST " ++ attributes_text state subscribed ++ codes " \"/\" " ++ name_text name
+answer_text (answer.List name state subscribed) = list_text name state subscribed
 answer_text (answer.Tell notice) = codes "* OK " ++ notice_text notice ++ codes " ok"
-answer_text (answer.Status name items) = codes "* STATUS " ++ name_text name ++ codes " (" ++ separated 32 (status_texts items) ++ codes ")"
-answer_text (answer.Search tag by_uid results) =
-    codes "* ESEARCH (TAG \"" ++ tag ++ codes "\")" ++ (if by_uid then codes " UID" else []) ++ results_text results
-answer_text (answer.Fetch number items) = codes "* " ++ decimal number ++ codes " FETCH (" ++ separated 32 (fetch_texts items) ++ codes ")"
+answer_text (answer.Status name items) = status_text name items
+answer_text (answer.Search tag by_uid results) = search_text tag by_uid results
+answer_text (answer.Fetch number items) = fetch_text number items
 answer_text (answer.Bye reason) = bye_text reason
 answer_text answer.NoTag = codes "* BAD no tag"
 answer_text answer.LiteralTooLong = codes "* NO [LIMIT] literal too long"
-answer_text (answer.Completed tag code command) = tag ++ codes " OK " ++ code_before code ++ command_text command ++ codes " completed"
+answer_text (answer.Completed tag code command) = completed_text tag code command
 answer_text (answer.Refused tag reason) = tag ++ codes " " ++ refusal_text reason
 
 -- The one text of an answer (RFC 9051, section 7; the words behind codes are this project's own).

@@ -24,9 +24,13 @@ separated between (text ∷ texts) = text ++ flat_map (λ next. between ∷ next
 abbrev pub is_plain : List ℕ → Bool
 is_plain string = not (length string == 0) && list_all is_astring_octet string && not (bytes_eq (lowered string) (codes "nil"))
 
--- A string between quotes, `"` (34) and `\` (92) behind a `\` (RFC 9051, section 9, quoted).
+-- An octet between quotes: `"` (34) and `\` (92) behind a `\` (RFC 9051, section 9, QUOTED-CHAR).
+abbrev pub escaped_octet : ℕ → List ℕ
+escaped_octet octet = if (octet == 34) || (octet == 92) then 92 ∷ octet ∷ [] else octet ∷ []
+
+-- A string between quotes (RFC 9051, section 9, quoted).
 abbrev pub quoted_text : List ℕ → List ℕ
-quoted_text string = 34 ∷ (flat_map (λ octet. if (octet == 34) || (octet == 92) then 92 ∷ octet ∷ [] else octet ∷ []) string ++ 34 ∷ [])
+quoted_text string = codes "\"" ++ flat_map escaped_octet string ++ codes "\""
 
 -- A string as a counted literal (RFC 9051, section 9, literal).
 abbrev pub literal_text : List ℕ → List ℕ
@@ -46,7 +50,7 @@ field_text name = if is_plain name then name else (if has_line_octet name then l
 
 -- A run of numbers: one number alone, more by both ends (RFC 9051, section 9, seq-range).
 abbrev pub run_text : Run → List ℕ
-run_text run = if run.first == run.last then decimal run.first else decimal run.first ++ 58 ∷ decimal run.last
+run_text run = if run.first == run.last then decimal run.first else decimal run.first ++ codes ":" ++ decimal run.last
 
 -- Rising numbers as runs with commas (44) between them (RFC 9051, section 9, sequence-set).
 abbrev pub set_text : List ℕ → List ℕ

@@ -4,11 +4,16 @@
 mod answer;
 mod codes;
 mod fetched;
+mod lists;
 mod mailbox;
+mod parts;
+mod printer;
+mod strings;
 mod words;
 
 pub use answer::Answer;
 pub use codes::{Code, Notice};
 pub use fetched::{FetchItems, SectionData, Sections};
 pub use mailbox::{MailboxState, SearchResults, StatusItems};
+pub use printer::print;
 pub use words::{ByeReason, CommandWord, Continuation, Enabled, Login, Refusal};

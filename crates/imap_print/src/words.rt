@@ -9,6 +9,21 @@ pub enum Login {
     Given,
 }
 
+impl Login {
+    ghost use Rattle.std.specs.Prelude.{◌≡◌};
+    ghost use Rattle.imap_print.specs.Words.{greeting_text};
+
+    /// The greeting without its line end.
+    pub fn text(self) -> &'static [u8]
+        ensures { result.now ≡ greeting_text self }
+    {
+        match self {
+            Login::Wanted => b"* OK [CAPABILITY IMAP4rev2 IDLE CONDSTORE] ready",
+            Login::Given => b"* PREAUTH [CAPABILITY IMAP4rev2 IDLE CONDSTORE] ready",
+        }
+    }
+}
+
 /// What the server waits for (RFC 9051, section 7.5; RFC 2177).
 #[derive(Clone, Copy, Debug, PartialEq, Eq)]
 pub enum Continuation {
@@ -16,6 +31,21 @@ pub enum Continuation {
     Ready,
     /// The end of IDLE.
     Idling,
+}
+
+impl Continuation {
+    ghost use Rattle.std.specs.Prelude.{◌≡◌};
+    ghost use Rattle.imap_print.specs.Words.{continuation_text};
+
+    /// The line without its end.
+    pub fn text(self) -> &'static [u8]
+        ensures { result.now ≡ continuation_text self }
+    {
+        match self {
+            Continuation::Ready => b"+ ready",
+            Continuation::Idling => b"+ idling",
+        }
+    }
 }
 
 /// Which of the extensions that ENABLE asked for are on now, in the order first asked (RFC 9051, section 7.2.1).
@@ -28,6 +58,24 @@ pub enum Enabled {
     Imap4Rev2Condstore,
 }
 
+impl Enabled {
+    ghost use Rattle.std.specs.Prelude.{◌≡◌};
+    ghost use Rattle.imap_print.specs.Words.{enabled_text};
+
+    /// The answer without its line end.
+    pub fn text(self) -> &'static [u8]
+        ensures { result.now ≡ enabled_text self }
+    {
+        match self {
+            Enabled::Nothing => b"* ENABLED",
+            Enabled::Condstore => b"* ENABLED CONDSTORE",
+            Enabled::Imap4Rev2 => b"* ENABLED IMAP4rev2",
+            Enabled::CondstoreImap4Rev2 => b"* ENABLED CONDSTORE IMAP4rev2",
+            Enabled::Imap4Rev2Condstore => b"* ENABLED IMAP4rev2 CONDSTORE",
+        }
+    }
+}
+
 /// Why the server ends the connection (RFC 9051, section 7.1.5).
 #[derive(Clone, Copy, Debug, PartialEq, Eq)]
 pub enum ByeReason {
@@ -38,6 +86,26 @@ pub enum ByeReason {
     NoMemory,
     ReplicaChanged,
     TooManySessions,
+}
+
+impl ByeReason {
+    ghost use Rattle.std.specs.Prelude.{◌≡◌};
+    ghost use Rattle.imap_print.specs.Words.{bye_text};
+
+    /// The answer without its line end.
+    pub fn text(self) -> &'static [u8]
+        ensures { result.now ≡ bye_text self }
+    {
+        match self {
+            ByeReason::LoggingOut => b"* BYE logging out",
+            ByeReason::LineTooLong => b"* BYE line too long",
+            ByeReason::LiteralTooLong => b"* BYE literal too long",
+            ByeReason::NulInText => b"* BYE NUL in text",
+            ByeReason::NoMemory => b"* BYE no memory",
+            ByeReason::ReplicaChanged => b"* BYE replica changed",
+            ByeReason::TooManySessions => b"* BYE too many sessions",
+        }
+    }
 }
 
 /// Why a command isn't done: each is a tagged NO or BAD with its text (RFC 9051, sections 7.1.2 and 7.1.3).
@@ -81,6 +149,37 @@ pub enum Refusal {
     DoneExpected,
 }
 
+impl Refusal {
+    ghost use Rattle.std.specs.Prelude.{◌≡◌};
+    ghost use Rattle.imap_print.specs.Words.{refusal_text};
+
+    /// What stands behind the tag.
+    pub fn text(self) -> &'static [u8]
+        ensures { result.now ≡ refusal_text self }
+    {
+        match self {
+            Refusal::NoSuchMailbox => b"NO [NONEXISTENT] no such mailbox",
+            Refusal::NoDestination => b"NO [TRYCREATE] no such mailbox",
+            Refusal::MailboxExists => b"NO [ALREADYEXISTS] mailbox exists",
+            Refusal::NameNotAllowed => b"NO [CANNOT] name not allowed",
+            Refusal::InboxStays => b"NO [CANNOT] INBOX stays",
+            Refusal::NotInProfile => b"NO [CANNOT] not in this profile",
+            Refusal::LoginFailed => b"NO [AUTHENTICATIONFAILED] login failed",
+            Refusal::ReadOnly => b"NO mailbox is read-only",
+            Refusal::TooManyKeywords => b"NO [LIMIT] too many keywords",
+            Refusal::KeywordTooLong => b"NO [LIMIT] keyword too long",
+            Refusal::NumberUsedUp => b"NO [LIMIT] number used up",
+            Refusal::LiteralTooLong => b"NO [LIMIT] literal too long",
+            Refusal::NoMemory => b"NO [UNAVAILABLE] no memory",
+            Refusal::UnknownCommand => b"BAD unknown command",
+            Refusal::BadSyntax => b"BAD syntax",
+            Refusal::NotNow => b"BAD not now",
+            Refusal::NoSuchMessage => b"BAD no such message",
+            Refusal::DoneExpected => b"BAD DONE expected",
+        }
+    }
+}
+
 /// The command that a tagged OK answers.
 #[derive(Clone, Copy, Debug, PartialEq, Eq)]
 pub enum CommandWord {
@@ -114,4 +213,47 @@ pub enum CommandWord {
     UidCopy,
     UidMove,
     UidExpunge,
+}
+
+impl CommandWord {
+    ghost use Rattle.std.specs.Prelude.{◌≡◌};
+    ghost use Rattle.imap_print.specs.Words.{command_text};
+
+    /// The word in capitals, of two words in the UID forms.
+    pub fn text(self) -> &'static [u8]
+        ensures { result.now ≡ command_text self }
+    {
+        match self {
+            CommandWord::Capability => b"CAPABILITY",
+            CommandWord::Noop => b"NOOP",
+            CommandWord::Logout => b"LOGOUT",
+            CommandWord::Login => b"LOGIN",
+            CommandWord::Enable => b"ENABLE",
+            CommandWord::Select => b"SELECT",
+            CommandWord::Examine => b"EXAMINE",
+            CommandWord::Create => b"CREATE",
+            CommandWord::Delete => b"DELETE",
+            CommandWord::Subscribe => b"SUBSCRIBE",
+            CommandWord::Unsubscribe => b"UNSUBSCRIBE",
+            CommandWord::List => b"LIST",
+            CommandWord::Namespace => b"NAMESPACE",
+            CommandWord::Status => b"STATUS",
+            CommandWord::Append => b"APPEND",
+            CommandWord::Idle => b"IDLE",
+            CommandWord::Close => b"CLOSE",
+            CommandWord::Unselect => b"UNSELECT",
+            CommandWord::Expunge => b"EXPUNGE",
+            CommandWord::Search => b"SEARCH",
+            CommandWord::Fetch => b"FETCH",
+            CommandWord::Store => b"STORE",
+            CommandWord::Copy => b"COPY",
+            CommandWord::Move => b"MOVE",
+            CommandWord::UidFetch => b"UID FETCH",
+            CommandWord::UidStore => b"UID STORE",
+            CommandWord::UidSearch => b"UID SEARCH",
+            CommandWord::UidCopy => b"UID COPY",
+            CommandWord::UidMove => b"UID MOVE",
+            CommandWord::UidExpunge => b"UID EXPUNGE",
+        }
+    }
 }

@@ -1,4 +1,4 @@
-use Rattle.std.proofs.Common.{◌≡◌, ◌≢◌, ◌++◌, ◌+◌, ◌^◌, ◌<◌, ◌≤◌, ◌⊎◌, inl, inr, ℕ, zero, suc, Bool, true, false, not, cond, ◌&&◌, eqb, eqb-true, eq-eqb, leb, le-leb, leb-true, nat_le, List, [], ◌∷◌, Option, Some, None, Result, Ok, Err, refl, sym, ap, ◌∙◌, subst, arith, rules, IsTrue, length, take, drop, get_or, append_assoc}
+use Rattle.std.proofs.Common.{◌≡◌, ◌≢◌, ◌++◌, ◌^◌, ◌<◌, ◌≤◌, ◌⊎◌, inl, inr, ℕ, zero, suc, Bool, true, false, not, cond, ◌&&◌, eqb, eqb-true, eq-eqb, leb, le-leb, leb-true, List, [], ◌∷◌, Option, Some, None, Result, Ok, Err, refl, sym, ap, ◌∙◌, subst, arith, rules, IsTrue, length, get_or}
 use Rattle.std.proofs.lemmas.Bool.{and_parts, and_from, cases_Bool, eqb-false, ne_eqb}
 use Rattle.std.proofs.lemmas.Bool.Decides.{nat_tests}
 use Rattle.std.proofs.lemmas.Fmt.{IsAscii-from_digits, decimal-digits_value, digits_decimal, digits_value-decimal, first_decimal, decimal_nonempty, decimal_digit}
@@ -63,8 +63,7 @@ number_takes limit n text l h =
     let p = and_parts _ _ s.0 in
     let q = and_parts _ _ p.0 in
     let le : digits_value 10 text ≤ limit = leb-true _ _ p.1 in
-    let value : digits_value 10 text ≡ n = s.1 in
-    (
+    let value : digits_value 10 text ≡ n = s.1 in (
       omega arith,
       sym (decimal-digits_value digits_model text q.1 (some_digit text q.0) (one_digit text q.0) (omega arith)) ∙ ap decimal value,
     )
@@ -225,8 +224,7 @@ id_takes text id h =
     let low : 0 < n.0 = a.0 in
     let same : n.0 ≡ p.0 = a.1 in
     let high : n.0 ≤ 4294967295 = t.0 in
-    subst (λ (id : OpId). IsReplica id.replica × IsOpNumber id.number × (text ≡ id_text id)) e
-    (
+    subst (λ (id : OpId). IsReplica id.replica × IsOpNumber id.number × (text ≡ id_text id)) e (
       u.0,
       (omega arith, omega arith),
       cut_takes 58 text c.0 c.1 ∙ (λ i. u.1 i ++ 58 ∷ (t.1 ∙ ap decimal same) i),

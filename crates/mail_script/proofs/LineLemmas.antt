@@ -1,8 +1,8 @@
-use Rattle.std.proofs.Common.{◌≡◌, ◌≢◌, ◌++◌, ◌+◌, ◌-◌, ◌<◌, ◌≤◌, ◌⊎◌, inl, inr, ℕ, Bool, true, false, cond, eqb, eqb-true, List, [], ◌∷◌, Option, Some, None, option_map, refl, sym, ap, ◌∙◌, subst, arith, length, take, drop, append_assoc, length-drop, length-append}
+use Rattle.std.proofs.Common.{◌≡◌, ◌≢◌, ◌++◌, ◌+◌, take_all, ◌-◌, ◌≤◌, inl, inr, ℕ, eqb, List, [], ◌∷◌, Option, Some, None, refl, sym, ap, ◌∙◌, arith, length, take, drop, append_assoc, length-drop, length-append}
 use Rattle.std.proofs.lemmas.Bool.{cases_Bool}
-use Rattle.std.proofs.lemmas.List.{take-append-drop}
-use Rattle.std.proofs.lemmas.List.Prefix.{end_rest}
-use Rattle.mail_script.specs.Lines.{line_begun, lines_of}
+use Rattle.std.proofs.Math.Seq.{drop-append_seam, take-append_seam}
+use Rattle.std.proofs.lemmas.List.{length-take-le, drop-drop, take-append-drop}
+use Rattle.mail_script.specs.Lines.{IsSearched, line_begun, lines_of}
 use Rattle.mail_script.specs.Reading.{cut_at, in_front}
 use Rattle.mail_script.proofs.FieldLemmas.{chosen, cut_takes, front_some}
 
@@ -29,6 +29,14 @@ none_front octet (Some y) h = absurd cc
 joined : (front line behind : List ℕ) → (front ++ (line ++ 10 ∷ [])) ++ behind ≡ front ++ (line ++ 10 ∷ behind)
 joined front line behind = simp append_assoc
 
+no_front : (r : Option (List ℕ × List ℕ)) → r ≡ in_front [] r
+no_front None = refl
+no_front (Some y) = refl
+
+more_front : (octet : ℕ) (front : List ℕ) (r : Option (List ℕ × List ℕ)) → in_front (octet ∷ []) (in_front front r) ≡ in_front (octet ∷ front) r
+more_front octet front None = refl
+more_front octet front (Some y) = refl
+
 pub lines_last : (text : List ℕ) → cut_at 10 text ≡ None → text ≢ [] → lines_of text ≡ text ∷ []
 lines_last [] h n = absurd (n refl)
 lines_last (octet ∷ []) h n =
@@ -39,22 +47,95 @@ lines_last (octet ∷ next ∷ octets) h n =
       | inr f ↦ rw (f.0) (ap (line_begun octet) (lines_last (next ∷ octets) (none_front octet (cut_at 10 (next ∷ octets)) f.1) (λ k. cc)))
     ]
 
--- what is behind a line is what is left of the octets
-pub behind_line : (taken : ℕ) (octets rest behind line : List ℕ) → taken ≤ length octets → rest ≡ drop taken octets → cut_at 10 rest ≡ Some (line, behind) → (length behind ≤ length octets) × (drop (length octets - length behind) octets ≡ behind)
-behind_line taken octets rest behind line t r h =
-    let e : drop taken octets ≡ line ++ 10 ∷ behind = sym r ∙ cut_takes 10 rest (line, behind) h in
-    let l = ap length e in
-    let m = length-append line (10 ∷ behind) in
+-- what has no separator goes in front of the cut
+cut_past : (front back : List ℕ) → cut_at 10 front ≡ None → cut_at 10 (front ++ back) ≡ in_front front (cut_at 10 back)
+cut_past [] back h = no_front (cut_at 10 back)
+cut_past (octet ∷ front) back h =
+    elim (chosen (eqb octet 10) (Some ([], front)) (in_front (octet ∷ []) (cut_at 10 front)) None h) [
+      | inl t ↦ absurd (let k = t.1 in cc)
+      | inr f ↦ rw (f.0) (ap (in_front (octet ∷ [])) (cut_past front back (none_front octet (cut_at 10 front) f.1)) ∙ more_front octet front (cut_at 10 back))
+    ]
+
+-- the octets from those taken on are those searched and the rest
+searched_parts : (taken searched : ℕ) (octets : List ℕ) → taken ≤ searched → drop taken octets ≡ take (searched - taken) (drop taken octets) ++ drop searched octets
+searched_parts taken searched octets h =
+    sym (take-append-drop (searched - taken) (drop taken octets))
+    ∙ ap (λ (t : List ℕ). take (searched - taken) (drop taken octets) ++ t) (drop-drop (searched - taken) taken octets ∙ ap (λ n. drop n octets) (let e : taken + (searched - taken) ≡ searched = omega arith in e))
+
+pub cut_on : (taken searched : ℕ) (octets : List ℕ) → IsSearched taken searched octets → cut_at 10 (drop taken octets) ≡ in_front (take (searched - taken) (drop taken octets)) (cut_at 10 (drop searched octets))
+cut_on taken searched octets h =
+    ap (cut_at 10) (searched_parts taken searched octets h.taken_first)
+    ∙ cut_past (take (searched - taken) (drop taken octets)) (drop searched octets) h.no_end
+
+-- all was searched
+pub all_searched : (taken searched len : ℕ) (octets own : List ℕ) → IsSearched taken searched octets → len ≡ length octets → None ≡ cut_at 10 (drop searched octets) → own ≡ drop taken octets → (cut_at 10 own ≡ None) × IsSearched taken len octets
+all_searched taken searched len octets own h l c o =
+    let whole : cut_at 10 (drop taken octets) ≡ None = cut_on taken searched octets h ∙ ap (in_front (take (searched - taken) (drop taken octets))) (sym c) in
+    let low = h.taken_first in
+    let high = h.within in (
+      ap (cut_at 10) o ∙ whole,
+      record {
+        taken_first = omega arith;
+        within = omega arith;
+        no_end = ap (cut_at 10) (take_all (len - taken) (drop taken octets) (let d = length-drop taken octets in omega arith)) ∙ whole;
+      },
+    )
+
+-- the end of the line fits
+pub end_fits : (taken searched : ℕ) (octets front behind : List ℕ) → IsSearched taken searched octets → ◌≡◌ {A = Option (List ℕ × List ℕ)} (Some (front, behind)) (cut_at 10 (drop searched octets)) → searched + length front + 1 + length behind ≡ length octets
+end_fits taken searched octets front behind h c =
+    let e : drop searched octets ≡ front ++ 10 ∷ behind = cut_takes 10 (drop searched octets) (front, behind) (sym c) in
+    let m = ap length e in
+    let n = length-append front (10 ∷ behind) in
+    let d = length-drop searched octets in
+    let w = h.within in
+    omega arith
+
+front_of : (count : ℕ) (front behind : List ℕ) → count ≡ length front → (take count (front ++ 10 ∷ behind) ≡ front) × (drop (count + 1) (front ++ 10 ∷ behind) ≡ behind)
+front_of count front behind k =
+    let one : length (front ++ 10 ∷ []) ≡ count + 1 = length-append front (10 ∷ []) ∙ (let j = k in omega arith) in (
+      ap (λ n. take n (front ++ 10 ∷ behind)) k ∙ take-append_seam front (10 ∷ behind),
+      (λ i. drop (sym one i) (sym (append_assoc front (10 ∷ []) behind) i)) ∙ drop-append_seam (front ++ 10 ∷ []) behind,
+    )
+
+-- the line up to the LF that was found
+pub line_found : (taken searched : ℕ) (octets own front behind copied : List ℕ) → IsSearched taken searched octets → own ≡ drop taken octets → ◌≡◌ {A = Option (List ℕ × List ℕ)} (Some (front, behind)) (cut_at 10 (drop searched octets)) → copied ≡ take (searched - taken + length front) own → cut_at 10 own ≡ Some (copied, drop (taken + (searched - taken + length front + 1)) octets)
+line_found taken searched octets own front behind copied h o c k =
+    let before : List ℕ = take (searched - taken) (drop taken octets) in
+    let low = h.taken_first in
+    let high = h.within in
     let d = length-drop taken octets in
-    let whole : octets ≡ (take taken octets ++ (line ++ 10 ∷ [])) ++ behind =
-    sym (take-append-drop taken octets) ∙ ap (λ (t : List ℕ). take taken octets ++ t) e ∙ sym (joined (take taken octets) line behind) in
-    (omega arith, end_rest octets behind (take taken octets ++ (line ++ 10 ∷ [])) whole)
+    let b : length before ≡ searched - taken = length-take-le (searched - taken) (drop taken octets) (omega arith) in
+    let found : cut_at 10 (drop taken octets) ≡ Some (before ++ front, behind) = cut_on taken searched octets h ∙ ap (in_front before) (sym c) in
+    let whole : drop taken octets ≡ (before ++ front) ++ 10 ∷ behind = cut_takes 10 (drop taken octets) (before ++ front, behind) found in
+    let count : searched - taken + length front ≡ length (before ++ front) = sym (length-append before front ∙ ap (λ n. n + length front) b) in
+    let f = front_of (searched - taken + length front) (before ++ front) behind count in
+    let line : copied ≡ before ++ front = k ∙ ap (take (searched - taken + length front)) (o ∙ whole) ∙ f.0 in
+    let rest : drop (taken + (searched - taken + length front + 1)) octets ≡ behind =
+    sym (drop-drop (searched - taken + length front + 1) taken octets) ∙ ap (drop (searched - taken + length front + 1)) whole ∙ f.1 in
+    ap (cut_at 10) o ∙ found ∙ (λ i. Some (sym line i, sym rest i))
 
-pub line_taken : (taken len : ℕ) (octets rest own behind line copied : List ℕ) → taken ≤ len → len ≡ length octets → rest ≡ own → own ≡ drop taken octets → ◌≡◌ {A = Option (List ℕ × List ℕ)} (Some (line, behind)) (cut_at 10 rest) → copied ≡ line → cut_at 10 own ≡ Some (copied, drop (len - length behind) octets)
-line_taken taken len octets rest own behind line copied t l o v c k =
-    let b = behind_line taken octets rest behind line (omega arith) (o ∙ v) (sym c) in
-    ap (cut_at 10) (sym o) ∙ sym c ∙ (λ i. Some (sym k i, (sym b.1 ∙ ap (λ n. drop (n - length behind) octets) (sym l)) i))
+-- nothing is left between what was taken and what was searched
+pub none_between : (n : ℕ) (octets : List ℕ) → n ≤ length octets → IsSearched n n octets
+none_between n octets h =
+    let z : n - n ≡ 0 = omega arith in
+    record { taken_first = omega arith; within = h; no_end = ap (λ k. cut_at 10 (take k (drop n octets))) z }
 
-pub behind_fits : (taken len : ℕ) (octets rest own behind line : List ℕ) → taken ≤ len → len ≡ length octets → rest ≡ own → own ≡ drop taken octets → ◌≡◌ {A = Option (List ℕ × List ℕ)} (Some (line, behind)) (cut_at 10 rest) → length behind ≤ len
-behind_fits taken len octets rest own behind line t l o v c =
-    let b = behind_line taken octets rest behind line (omega arith) (o ∙ v) (sym c) in omega (arith, b.0)
+-- a part up to the end
+pub part_is : (n : ℕ) (xs ys : List ℕ) → ys ≡ xs → take (length ys - n) (drop n ys) ≡ drop n xs
+part_is n xs ys e =
+    take_all (length ys - n) (drop n ys) (let d = length-drop n ys in omega arith) ∙ ap (drop n) e
+
+pub count_fits : (taken searched : ℕ) (octets own rest front behind : List ℕ) → IsSearched taken searched octets → own ≡ drop taken octets → rest ≡ own → ◌≡◌ {A = Option (List ℕ × List ℕ)} (Some (front, behind)) (cut_at 10 (drop searched octets)) → searched - taken + length front ≡ length (take (searched - taken + length front) rest)
+count_fits taken searched octets own rest front behind h o r c =
+    let f = end_fits taken searched octets front behind h c in
+    let l : length rest ≡ length (drop taken octets) = ap length (r ∙ o) in
+    let d = length-drop taken octets in
+    let low = h.taken_first in
+    sym (length-take-le (searched - taken + length front) rest (omega arith))
+
+pub taken_fits : (taken searched : ℕ) (octets front behind : List ℕ) → IsSearched taken searched octets → ◌≡◌ {A = Option (List ℕ × List ℕ)} (Some (front, behind)) (cut_at 10 (drop searched octets)) → taken + (searched - taken + length front + 1) ≤ length octets
+taken_fits taken searched octets front behind h c =
+    let f = end_fits taken searched octets front behind h c in
+    let low = h.taken_first in
+    omega arith

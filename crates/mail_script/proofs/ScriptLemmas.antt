@@ -1,16 +1,17 @@
-use Rattle.std.proofs.Common.{◌≡◌, ◌++◌, ◌<◌, ◌≤◌, ◌⊎◌, inl, inr, ℕ, Bool, true, false, cond, eqb, eqb-true, List, [], ◌∷◌, Option, Some, None, Result, Ok, Err, IfOk, IsTrue, refl, sym, ap, ◌∙◌, subst, arith}
+use Rattle.std.proofs.Common.{◌≡◌, ◌++◌, ◌⊎◌, inl, inr, ℕ, cond, eqb, eqb-true, List, [], ◌∷◌, Option, Some, None, Result, Ok, Err, IfOk, MatchResult, IsTrue, refl, sym, ap, ◌∙◌, subst, arith}
 use Rattle.std.proofs.lemmas.Slice.Eq.{bytes_eq-Decides}
 use Rattle.std.specs.Fmt.{decimal}
 use Rattle.std.specs.Str.{bytes_eq}
 use Rattle.tags_clocks.specs.declared.id.OpId.{OpId}
 use Rattle.imap_types.specs.Escape.{AreOctets, escaped}
 use Rattle.imap_types.specs.declared.escape.Escape.TheVariants.{Text}
-use Rattle.mail_script.specs.Fields.{IsMoment, IsOpNumber, IsReplica, id_text, is_session_name}
+use Rattle.mail_script.specs.Fields.{IsOpNumber, IsReplica, id_text, is_session_name}
 use Rattle.mail_script.specs.Reading.{◌>>=◌, Gives, cut_at, deliver_at, fields_at, forge_at, id_at, keyword_at, line_at, moment_at, open_at, replica_at, session_at, spoken_at, words_at}
 use Rattle.mail_script.specs.Script.{Says}
 use Rattle.mail_script.specs.declared.script.Keyword.{Keyword}
 use Rattle.mail_script.specs.declared.script.Keyword.TheVariants.{Node as NodeWord, Now as NowWord, Open as OpenWord, Line as LineWord, Send as SendWord, Close as CloseWord, Show as ShowWord, Deliver as DeliverWord, Forge as ForgeWord, Drain as DrainWord}
 use Rattle.mail_script.specs.declared.script.LineFault.{LineFault}
+use Rattle.mail_script.specs.declared.script.LineFault.TheVariants.{NotALine, NoMemory}
 use Rattle.mail_script.specs.declared.script.ScriptLine.{ScriptLine}
 use Rattle.mail_script.specs.declared.script.ScriptLine.TheVariants.{Blank, Node, Now, Open, Line, Send, Close, Show, Deliver, Forge, Drain}
 use Rattle.mail_script.proofs.FieldLemmas.{bind_some, bound, chosen, cut_again, cut_takes, decimal_no_space, id_again, id_no_space, id_takes, moment_again, moment_takes, replica_again, replica_takes, session_again, session_takes, spoken_again, spoken_takes}
@@ -39,16 +40,43 @@ picked word text k next keyword s h =
 keyword_takes : (word : List ℕ) (keyword : Keyword) → keyword_at word ≡ Some keyword → word ≡ keyword_text keyword
 unfolding keyword_at
 keyword_takes word keyword h =
-    elim (picked word (codes "node") NodeWord _ keyword refl h) [ inl e ↦ e | inr h ↦
-    elim (picked word (codes "now") NowWord _ keyword refl h) [ inl e ↦ e | inr h ↦
-    elim (picked word (codes "open") OpenWord _ keyword refl h) [ inl e ↦ e | inr h ↦
-    elim (picked word (codes "line") LineWord _ keyword refl h) [ inl e ↦ e | inr h ↦
-    elim (picked word (codes "send") SendWord _ keyword refl h) [ inl e ↦ e | inr h ↦
-    elim (picked word (codes "close") CloseWord _ keyword refl h) [ inl e ↦ e | inr h ↦
-    elim (picked word (codes "show") ShowWord _ keyword refl h) [ inl e ↦ e | inr h ↦
-    elim (picked word (codes "deliver") DeliverWord _ keyword refl h) [ inl e ↦ e | inr h ↦
-    elim (picked word (codes "forge") ForgeWord _ keyword refl h) [ inl e ↦ e | inr h ↦
-    elim (picked word (codes "drain") DrainWord _ keyword refl h) [ inl e ↦ e | inr h ↦ absurd (let k = h in cc) ] ] ] ] ] ] ] ] ] ]
+    elim (picked word (codes "node") NodeWord _ keyword refl h) [
+      | inl e ↦ e
+      | inr h ↦
+          elim (picked word (codes "now") NowWord _ keyword refl h) [
+            | inl e ↦ e
+            | inr h ↦
+                elim (picked word (codes "open") OpenWord _ keyword refl h) [
+                  | inl e ↦ e
+                  | inr h ↦
+                      elim (picked word (codes "line") LineWord _ keyword refl h) [
+                        | inl e ↦ e
+                        | inr h ↦
+                            elim (picked word (codes "send") SendWord _ keyword refl h) [
+                              | inl e ↦ e
+                              | inr h ↦
+                                  elim (picked word (codes "close") CloseWord _ keyword refl h) [
+                                    | inl e ↦ e
+                                    | inr h ↦
+                                        elim (picked word (codes "show") ShowWord _ keyword refl h) [
+                                          | inl e ↦ e
+                                          | inr h ↦
+                                              elim (picked word (codes "deliver") DeliverWord _ keyword refl h) [
+                                                | inl e ↦ e
+                                                | inr h ↦
+                                                    elim (picked word (codes "forge") ForgeWord _ keyword refl h) [
+                                                      | inl e ↦ e
+                                                      | inr h ↦
+                                                          elim (picked word (codes "drain") DrainWord _ keyword refl h) [ inl e ↦ e | inr h ↦ absurd (let k = h in cc) ]
+                                                    ]
+                                              ]
+                                        ]
+                                  ]
+                            ]
+                      ]
+                ]
+          ]
+    ]
 
 -- what is read behind each word is said
 open_takes : (fields : List ℕ) (said : ScriptLine) → open_at fields ≡ Some said → Says (codes "open " ++ fields) said
@@ -200,8 +228,12 @@ pub found_by : (line : List ℕ) (r : Result ScriptLine LineFault) → Gives (λ
 found_by line (Ok said) g = line_takes line said g
 found_by line (Err e) g = tt
 
-pub only_by : (line : List ℕ) (r : Result ScriptLine LineFault) → Gives (λ said. said) r (line_at line) → (meaning : ScriptLine) → Says line meaning → Gives (λ said. said) r (Some meaning)
-only_by line r g meaning s = subst (Gives (λ said. said) r) (line_again line meaning s) g
+pub only_by : (line : List ℕ) (r : Result ScriptLine LineFault) → Gives (λ said. said) r (line_at line) → (meaning : ScriptLine) → Says line meaning → MatchResult r (λ said. said ≡ meaning) (λ fault. fault ≡ NoMemory)
+only_by line (Ok said) g meaning s =
+    let e : ◌≡◌ {A = Option ScriptLine} (Some said) (Some meaning) = sym g ∙ line_again line meaning s in cc
+only_by line (Err NoMemory) g meaning s = refl
+only_by line (Err NotALine) g meaning s =
+    let e : ◌≡◌ {A = Option ScriptLine} None (Some meaning) = sym g ∙ line_again line meaning s in absurd cc
 
 pub one_by : (line : List ℕ) (meaning other : ScriptLine) → Says line meaning → Says line other → meaning ≡ other
 one_by line meaning other s t =

@@ -1,4 +1,5 @@
-use Rattle.std.specs.Prelude.{ℕ, ◌==◌, List, [], ◌∷◌, if◌then◌else◌}
+use Rattle.std.specs.Prelude.{◌≡◌, ℕ, ◌-◌, ◌≤◌, ◌==◌, List, [], ◌∷◌, None, length, take, drop, if◌then◌else◌}
+use Rattle.mail_script.specs.Reading.{cut_at}
 
 -- One more octet in front of the first line.
 abbrev pub line_begun : ℕ → List (List ℕ) → List (List ℕ)
@@ -9,3 +10,9 @@ line_begun octet (line ∷ lines) = (octet ∷ line) ∷ lines
 abbrev pub lines_of : List ℕ → List (List ℕ)
 lines_of [] = []
 lines_of (octet ∷ octets) = if octet == 10 then [] ∷ lines_of octets else line_begun octet (lines_of octets)
+
+-- From the octets taken up to those searched stands no LF (10).
+pub record IsSearched (taken searched : ℕ) (octets : List ℕ) : Type 0 where
+  pub taken_first : taken ≤ searched
+  pub within : searched ≤ length octets
+  pub no_end : cut_at 10 (take (searched - taken) (drop taken octets)) ≡ None

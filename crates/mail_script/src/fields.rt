@@ -7,14 +7,12 @@ ghost use Rattle.std.specs.List.{list_all};
 ghost use Rattle.std.specs.Str.Parse.{digits_value};
 ghost use Rattle.mail_script.specs.Reading.{Gives, cut_at, has_no_leading_zero, id_at, moment_at, number_at, replica_at, session_at, spoken_at};
 
-use std::alloc::Global;
-use std::str;
-
-use imap_types::{Escape, LAST_MOMENT, Moment, Octets, read_escaped};
-use tags_clocks::{OpId, ReplicaId};
-
 use crate::script::LineFault;
 use crate::session_name::{SessionName, is_session_name};
+use imap_types::{Escape, LAST_MOMENT, Moment, Octets, read_escaped};
+use std::alloc::Global;
+use std::str;
+use tags_clocks::{OpId, ReplicaId};
 
 /// What stands before the first separator, and what behind it; `None` where there is no separator.
 pub fn split(separator: u8, text: &[u8]) -> Option<(&[u8], &[u8])>

@@ -4,28 +4,30 @@ ghost use Rattle.std.specs.Prelude.{◌≡◌, ◌≢◌, ◌++◌, ℕ, List, [
 ghost use Rattle.mail_script.specs.Lines.{lines_of};
 ghost use Rattle.mail_script.specs.Reading.{cut_at};
 
+use crate::fields::split;
+use imap_types::Octets;
 use std::alloc::{AllocError, Global};
 use std::marker::Model;
-
-use imap_types::Octets;
-
-use crate::fields::split;
 
 /// What came of a script and wasn't yet taken as lines. Each line ends with LF; the last may lack its own.
 #[derive(Drop)]
 pub struct ScriptLines {
     octets: Vec<u8>,
+    /// So many of them were taken as lines.
     taken: usize,
+    /// No LF stands from there up to here.
+    searched: usize,
 }
 
 impl Model for ScriptLines {
-    ghost use Rattle.std.specs.Prelude.{ℕ, ◌≤◌, List, drop, vec_len};
+    ghost use Rattle.std.specs.Prelude.{ℕ, List, drop};
+    ghost use Rattle.mail_script.specs.Lines.{IsSearched};
 
     ghost Value = { List ℕ };
 
     ghost view = { λ s. drop s.taken s.octets.items };
 
-    ghost invariant = { λ s. s.taken ≤ vec_len s.octets };
+    ghost invariant = { λ s. IsSearched s.taken s.searched s.octets.items };
 }
 
 impl ScriptLines {
@@ -36,6 +38,7 @@ impl ScriptLines {
         ScriptLines {
             octets: Vec::new(alloc),
             taken: 0,
+            searched: 0,
         }
     }
 
@@ -55,12 +58,16 @@ impl ScriptLines {
         ensures ok { IfOk result (λ next. MatchOption next ((cut_at 10 self.old ≡ None) × (self.new ≡ self.old)) (λ line. cut_at 10 self.old ≡ Some (line, self.new))) }
         ensures err { OnErr result (self.new ≡ self.old) }
     {
-        match split(b'\n', self.rest()) {
-            None => Ok(None),
-            Some((line, behind)) => {
-                let taken = self.octets.len() - behind.len();
-                let line = Octets::copied_from(alloc, line)?;
-                self.taken = taken;
+        match split(b'\n', &self.octets[self.searched..]) {
+            None => {
+                self.searched = self.octets.len();
+                Ok(None)
+            }
+            Some((end, _)) => {
+                let count = self.searched - self.taken + end.len();
+                let line = Octets::copied_from(alloc, &self.rest()[..count])?;
+                self.taken += count + 1;
+                self.searched = self.taken;
                 Ok(Some(line))
             }
         }
@@ -70,7 +77,11 @@ impl ScriptLines {
     pub fn into_rest(self) -> Octets
         ensures { result ≡ self }
     {
-        let ScriptLines { mut octets, taken } = self;
+        let ScriptLines {
+            mut octets,
+            taken,
+            searched: _,
+        } = self;
         octets.drain(..taken);
         Octets::new(octets)
     }
@@ -85,6 +96,7 @@ impl ScriptLines {
         ensures value { self.new ≡ self.old }
     {
         self.octets.drain(..self.taken);
+        self.searched -= self.taken;
         self.taken = 0;
     }
 }
@@ -93,5 +105,4 @@ impl ScriptLines {
 pub fn cut_in_turn()
     ensures next { (text line rest more : List ℕ) → cut_at 10 text ≡ Some (line, rest) → lines_of (text ++ more) ≡ line ∷ lines_of (rest ++ more) }
     ensures last { (text : List ℕ) → cut_at 10 text ≡ None → text ≢ [] → lines_of text ≡ text ∷ [] }
-{
-}
+{}

@@ -1,17 +1,16 @@
 //! What a line of a replay script says.
 
-ghost use Rattle.std.specs.Prelude.{◌≡◌, ℕ, List, Option, Some, IfOk, OnErr};
+ghost use Rattle.std.specs.Prelude.{◌≡◌, ℕ, List, IfOk, MatchResult};
 ghost use Rattle.mail_script.specs.declared.script.ScriptLine.{ScriptLine as Meaning};
+ghost use Rattle.mail_script.specs.declared.script.LineFault.TheVariants.{NoMemory};
 ghost use Rattle.mail_script.specs.Reading.{Gives, deliver_at, fields_at, forge_at, keyword_at, line_at, open_at, words_at};
 ghost use Rattle.mail_script.specs.Script.{Says};
 
-use std::alloc::{AllocError, Global};
-
-use imap_types::{EscapeFault, Moment, Octets};
-use tags_clocks::{OpId, ReplicaId};
-
 use crate::fields::{cut, id, moment, replica, session, spoken};
 use crate::session_name::SessionName;
+use imap_types::{EscapeFault, Moment, Octets};
+use std::alloc::{AllocError, Global};
+use tags_clocks::{OpId, ReplicaId};
 
 /// What a line of a script asks for.
 #[derive(Drop)]
@@ -19,25 +18,50 @@ pub enum ScriptLine {
     /// Nothing: the line is empty or a comment.
     Blank,
     /// `node R` declares a replica.
-    Node { replica: ReplicaId },
+    Node {
+        replica: ReplicaId,
+    },
     /// `now N` sets the moment.
-    Now { moment: Moment },
+    Now {
+        moment: Moment,
+    },
     /// `open R NAME` opens an authenticated session at a replica.
-    Open { replica: ReplicaId, session: SessionName },
+    Open {
+        replica: ReplicaId,
+        session: SessionName,
+    },
     /// `line NAME TEXT` feeds a session the text and CRLF; the text is without its escapes and without the CRLF.
-    Line { session: SessionName, text: Octets },
+    Line {
+        session: SessionName,
+        text: Octets,
+    },
     /// `send NAME TEXT` feeds a session the text alone, which is without its escapes.
-    Send { session: SessionName, text: Octets },
+    Send {
+        session: SessionName,
+        text: Octets,
+    },
     /// `close NAME` closes a session.
-    Close { session: SessionName },
+    Close {
+        session: SessionName,
+    },
     /// `show R` prints a replica's dump.
-    Show { replica: ReplicaId },
+    Show {
+        replica: ReplicaId,
+    },
     /// `deliver ID R` delivers an issued operation to a replica.
-    Deliver { id: OpId, replica: ReplicaId },
+    Deliver {
+        id: OpId,
+        replica: ReplicaId,
+    },
     /// `forge R OP` delivers an operation to a replica; the operation is the rest of the line as it stands.
-    Forge { replica: ReplicaId, operation: Octets },
+    Forge {
+        replica: ReplicaId,
+        operation: Octets,
+    },
     /// `drain R` goes on with a replica's ripe held operations.
-    Drain { replica: ReplicaId },
+    Drain {
+        replica: ReplicaId,
+    },
 }
 
 /// Why a line isn't read.
@@ -95,7 +119,7 @@ pub enum Keyword {
 /// says nothing, and `NoMemory` where there is no memory for its fields.
 pub fn read_line(alloc: Global, line: &[u8]) -> Result<ScriptLine, LineFault>
     ensures found { IfOk result (λ said. Says line.now said) }
-    ensures only { (meaning : Meaning) → Says line.now meaning → Gives (λ said. said) result (Some meaning) }
+    ensures only { (meaning : Meaning) → Says line.now meaning → MatchResult result (λ said. said ≡ meaning) (λ fault. fault ≡ NoMemory) }
 {
     said(alloc, line)
 }
@@ -103,8 +127,7 @@ pub fn read_line(alloc: Global, line: &[u8]) -> Result<ScriptLine, LineFault>
 /// A line says at most one thing.
 pub fn one_meaning()
     ensures { (line : List ℕ) (meaning other : Meaning) → Says line meaning → Says line other → meaning ≡ other }
-{
-}
+{}
 
 fn said(alloc: Global, line: &[u8]) -> Result<ScriptLine, LineFault>
     ensures { Gives (λ said. said) result (line_at line.now) }

@@ -1,1 +1,6 @@
+pub mod Conversation
+pub mod FaultAnswers
+pub mod Inputs
+pub mod Nodes
 pub mod Sessions
+pub mod Talks

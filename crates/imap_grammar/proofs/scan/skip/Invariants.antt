@@ -1,0 +1,6 @@
+use Rattle.std.proofs.Common.{◌≡◌, drop}
+use Rattle.imap_grammar.specs.Reading.{after}
+use Rattle.imap_grammar.proofs.scan.skip.Given as goal
+
+abbrev pub invariant-loop-octet : goal.invariant-loop-octet
+invariant-loop-octet l = after (drop l.octet-index l.wanted) l.rest ≡ after l.wanted l.octets

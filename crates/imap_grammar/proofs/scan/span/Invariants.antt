@@ -1,0 +1,9 @@
+use Rattle.std.proofs.Common.{◌≡◌, ◌++◌, take, drop}
+use Rattle.imap_grammar.specs.Strings.{is_in}
+use Rattle.imap_grammar.specs.Reading.{span}
+use Rattle.imap_grammar.proofs.scan.span.Given as goal
+
+abbrev pub invariant-loop-octet : goal.invariant-loop-octet
+invariant-loop-octet l =
+    (l.len ≡ l.octet-index)
+    × (span (is_in l.class) l.octets ≡ (take l.len l.octets ++ (span (is_in l.class) (drop l.len l.octets)).0, (span (is_in l.class) (drop l.len l.octets)).1))

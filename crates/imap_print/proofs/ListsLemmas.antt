@@ -1,0 +1,57 @@
+use Rattle.std.proofs.Common.{◌≡◌, ℕ, ◌+◌, ◌<◌, Bool, true, false, ◌&&◌, cond, List, [], ◌∷◌, ◌++◌, length, map, take, get_or, refl, ap, sym, subst, ◌∙◌, append_assoc}
+use Rattle.std.proofs.lemmas.List.{map-append, take_more}
+use Rattle.std.proofs.lemmas.Grind.{flat_map-append}
+use Rattle.imap_print.specs.Appending.{Appends, Extends, Lists, has_none, spaced}
+
+append_none : {X : Type 0} (xs : List X) → xs ++ [] ≡ xs
+append_none [] = refl
+append_none (x ∷ xs) = ap (λ ys. x ∷ ys) (append_none xs)
+
+-- a list goes on where its front ended
+spaced-append : (f : Bool) (xs ys : List (List ℕ)) → spaced f (xs ++ ys) ≡ spaced f xs ++ spaced (f && has_none xs) ys
+spaced-append true [] ys = refl
+spaced-append true (x ∷ xs) ys = ap (λ zs. x ++ zs) (flat_map-append (λ next. 32 ∷ next) xs ys) ∙ sym (append_assoc x _ _)
+spaced-append false xs ys = flat_map-append (λ next. 32 ∷ next) xs ys
+
+has_none-append : (f : Bool) (xs ys : List (List ℕ)) → (f && has_none (xs ++ ys)) ≡ ((f && has_none xs) && has_none ys)
+has_none-append true [] ys = refl
+has_none-append true (x ∷ xs) ys = refl
+has_none-append false xs ys = refl
+
+pub goes_on : (f g h : Bool) (xs ys : List (List ℕ)) (a b c : List ℕ) → Lists f xs a b g → Lists g ys b c h → Lists f (xs ++ ys) a c h
+goes_on f g h xs ys a b c p q = record {
+  still_is = q.still_is ∙ ap (λ k. k && has_none ys) p.still_is ∙ sym (has_none-append f xs ys);
+  text =
+      q.text ∙ ap (λ zs. zs ++ spaced g ys) p.text ∙ append_assoc a (spaced f xs) (spaced g ys)
+      ∙ ap (λ zs. a ++ zs) (ap (λ k. spaced f xs ++ spaced k ys) p.still_is ∙ sym (spaced-append f xs ys));
+}
+
+pub begins : (f : Bool) (a : List ℕ) → Lists f [] a a f
+begins true a = record { still_is = refl; text = sym (append_none a) }
+begins false a = record { still_is = refl; text = sym (append_none a) }
+
+-- what was kept is still kept
+pub further : (a b c : List ℕ) → Extends a b → Extends b c → Extends a c
+further a b c p q = (p.0 ++ q.0, q.1 ∙ ap (λ zs. zs ++ q.0) p.1 ∙ append_assoc a p.0 q.0)
+
+-- one text behind another
+pub behind : (a b c x y : List ℕ) → Appends a b x → Appends b c y → Appends a c (x ++ y)
+behind a b c x y p q = q ∙ ap (λ zs. zs ++ y) p ∙ append_assoc a x y
+
+-- one text on a list, behind its space
+pub listed : (f : Bool) (a b c text : List ℕ) → Appends a b (cond f [] (32 ∷ [])) → Appends b c text → Lists f (text ∷ []) a c false
+listed true a b c text p q = record {
+  still_is = refl;
+  text = q ∙ ap (λ zs. zs ++ text) (p ∙ append_none a) ∙ ap (λ zs. a ++ zs) (sym (append_none text));
+}
+listed false a b c text p q = record {
+  still_is = refl;
+  text = q ∙ ap (λ zs. zs ++ text) p ∙ append_assoc a (32 ∷ []) text ∙ ap (λ zs. a ++ 32 ∷ zs) (sym (append_none text));
+}
+
+-- the step of a loop that puts the text of each element on a list
+pub lists_more : {X : Type 0} (f : X → List ℕ) (xs : List X) (i : ℕ) (x : X) (first still : Bool) (a b c : List ℕ) → i < length xs → x ≡ get_or xs i x → Lists first (map f (take i xs)) a b still → Lists still (f x ∷ []) b c false → Lists first (map f (take (i + 1) xs)) a c false
+lists_more {X} f xs i x first still a b c l e p q =
+    let whole : take (i + 1) xs ≡ take i xs ++ x ∷ [] = take_more xs i x l ∙ ap (λ z. take i xs ++ z ∷ []) (sym e) in
+    let texts : map f (take i xs) ++ f x ∷ [] ≡ map f (take (i + 1) xs) = sym (map-append f (take i xs) (x ∷ [])) ∙ ap (map f) (sym whole) in
+    subst (λ (zs : List (List ℕ)). Lists first zs a c false) texts (goes_on first still false _ _ a b c p q)

@@ -1,0 +1,25 @@
+use Rattle.std.specs.Prelude.{◌≡◌, ℕ, Bool, true, false, ◌&&◌, List, [], ◌∷◌, ◌++◌, flat_map}
+use Rattle.imap_print.specs.Strings.{separated}
+
+-- A text was put behind what was there.
+abbrev pub Appends : List ℕ → List ℕ → List ℕ → Type 0
+Appends old new text = new ≡ old ++ text
+
+-- What was there still begins what is there.
+abbrev pub Extends : List ℕ → List ℕ → Type 0
+Extends old new = (more : List ℕ) × (new ≡ old ++ more)
+
+-- Whether there are no texts.
+abbrev pub has_none : List (List ℕ) → Bool
+has_none [] = true
+has_none (text ∷ texts) = false
+
+-- Texts that go on a list: a space (32) before each but the first of the list.
+abbrev pub spaced : Bool → List (List ℕ) → List ℕ
+spaced true texts = separated 32 texts
+spaced false texts = flat_map (λ next. 32 ∷ next) texts
+
+-- These texts were put on a list, and whether the list is still empty.
+pub record Lists (is_first : Bool) (texts : List (List ℕ)) (old new : List ℕ) (still : Bool) : Type 0 where
+  pub still_is : still ≡ (is_first && has_none texts)
+  pub text : new ≡ old ++ spaced is_first texts

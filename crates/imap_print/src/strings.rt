@@ -1,0 +1,178 @@
+//! Strings, numbers and sets of numbers as answers print them. Each function puts a text behind what is there; an
+//! `Err`, which is want of memory, may leave a beginning of it.
+
+ghost use Rattle.std.specs.Prelude.{◌≡◌, ◌++◌, [], ◌∷◌, codes, decimal, flat_map, map, OnOk};
+ghost use Rattle.std.specs.List.{list_all, list_any};
+ghost use Rattle.imap_print.specs.Appending.{Appends, Extends};
+ghost use Rattle.imap_print.specs.Strings.{escaped_octet, field_text, has_line_octet, is_astring_octet, is_plain, labelled, literal_text, name_text, quoted_text, run_text, separated, set_text};
+
+use imap_types::{Name, NumberSet, Run, is_atom_octet};
+use itoa::Buffer;
+use std::alloc::AllocError;
+
+pub fn push_text(text: &[u8], out: &mut Vec<u8>) -> Result<(), AllocError>
+    ensures ok { OnOk result (Appends out.old.items out.new.items text.now) }
+    ensures kept { Extends out.old.items out.new.items }
+{
+    out.extend_from_slice(text)
+}
+
+/// Decimal digits without leading zeros.
+pub fn push_number(number: u64, out: &mut Vec<u8>) -> Result<(), AllocError>
+    ensures ok { OnOk result (Appends out.old.items out.new.items (decimal number)) }
+    ensures kept { Extends out.old.items out.new.items }
+{
+    let mut buffer = Buffer::new();
+    push_text(buffer.format(number).as_bytes(), out)
+}
+
+/// A label and a number.
+pub fn push_label(label: &[u8], number: u64, out: &mut Vec<u8>) -> Result<(), AllocError>
+    ensures ok { OnOk result (Appends out.old.items out.new.items (label.now ++ decimal number)) }
+    ensures kept { Extends out.old.items out.new.items }
+{
+    push_text(label, out)?;
+    push_number(number, out)
+}
+
+/// A label and its number, where there is one.
+pub fn push_labelled(label: &[u8], number: Option<u64>, out: &mut Vec<u8>) -> Result<(), AllocError>
+    ensures ok { OnOk result (Appends out.old.items out.new.items (labelled label.now number)) }
+    ensures kept { Extends out.old.items out.new.items }
+{
+    match number {
+        None => Ok(()),
+        Some(number) => push_label(label, number, out),
+    }
+}
+
+/// A mailbox name (RFC 9051, section 9, mailbox).
+pub fn push_name(name: &Name, out: &mut Vec<u8>) -> Result<(), AllocError>
+    ensures ok { OnOk result (Appends out.old.items out.new.items (name_text name.now)) }
+    ensures kept { Extends out.old.items out.new.items }
+{
+    if name.is_inbox() {
+        push_text(b"INBOX", out)
+    } else if is_plain(name.as_bytes()) {
+        push_text(name.as_bytes(), out)
+    } else {
+        push_quoted(name.as_bytes(), out)
+    }
+}
+
+/// The name of a header field (RFC 9051, section 9, header-fld-name).
+pub fn push_field(name: &[u8], out: &mut Vec<u8>) -> Result<(), AllocError>
+    ensures ok { OnOk result (Appends out.old.items out.new.items (field_text name.now)) }
+    ensures kept { Extends out.old.items out.new.items }
+{
+    if is_plain(name) {
+        push_text(name, out)
+    } else if has_line_octet(name) {
+        push_literal(name, out)
+    } else {
+        push_quoted(name, out)
+    }
+}
+
+/// A counted literal (RFC 9051, section 9, literal).
+pub fn push_literal(string: &[u8], out: &mut Vec<u8>) -> Result<(), AllocError>
+    ensures ok { OnOk result (Appends out.old.items out.new.items (literal_text string.now)) }
+    ensures kept { Extends out.old.items out.new.items }
+{
+    push_text(b"{", out)?;
+    push_number(string.len() as u64, out)?;
+    push_text(b"}\r\n", out)?;
+    push_text(string, out)
+}
+
+fn push_quoted(string: &[u8], out: &mut Vec<u8>) -> Result<(), AllocError>
+    ensures ok { OnOk result (Appends out.old.items out.new.items (quoted_text string.now)) }
+    ensures kept { Extends out.old.items out.new.items }
+{
+    push_text(b"\"", out)?;
+    push_escaped(string, out)?;
+    push_text(b"\"", out)
+}
+
+fn push_escaped(string: &[u8], out: &mut Vec<u8>) -> Result<(), AllocError>
+    ensures ok { OnOk result (Appends out.old.items out.new.items (flat_map escaped_octet string.now)) }
+    ensures kept { Extends out.old.items out.new.items }
+{
+    for octet in string {
+        push_escaped_octet(*octet, out)?;
+    }
+    Ok(())
+}
+
+fn push_escaped_octet(octet: u8, out: &mut Vec<u8>) -> Result<(), AllocError>
+    ensures ok { OnOk result (Appends out.old.items out.new.items (escaped_octet octet)) }
+    ensures kept { Extends out.old.items out.new.items }
+{
+    if octet == b'"' || octet == b'\\' {
+        push_text(&[b'\\', octet], out)
+    } else {
+        push_text(&[octet], out)
+    }
+}
+
+/// Numbers as runs (RFC 9051, section 9, sequence-set).
+pub fn push_set(set: &NumberSet, out: &mut Vec<u8>) -> Result<(), AllocError>
+    ensures ok { OnOk result (Appends out.old.items out.new.items (set_text set.now)) }
+    ensures kept { Extends out.old.items out.new.items }
+{
+    push_runs(set.runs(), out)
+}
+
+fn push_runs(runs: &[Run], out: &mut Vec<u8>) -> Result<(), AllocError>
+    ensures ok { OnOk result (Appends out.old.items out.new.items (separated 44 (map run_text runs.now))) }
+    ensures kept { Extends out.old.items out.new.items }
+{
+    if let [first, rest @ ..] = runs {
+        push_run(*first, out)?;
+        for run in rest {
+            push_text(b",", out)?;
+            push_run(*run, out)?;
+        }
+    }
+    Ok(())
+}
+
+fn push_run(run: Run, out: &mut Vec<u8>) -> Result<(), AllocError>
+    ensures ok { OnOk result (Appends out.old.items out.new.items (run_text run)) }
+    ensures kept { Extends out.old.items out.new.items }
+{
+    if run.first == run.last {
+        return push_number(u64::from(run.first), out);
+    }
+    push_number(u64::from(run.first), out)?;
+    push_text(b":", out)?;
+    push_number(u64::from(run.last), out)
+}
+
+/// Whether a string can stand without quotes.
+pub fn is_plain(string: &[u8]) -> bool
+    ensures { result ≡ is_plain string.now }
+{
+    !string.is_empty() && has_astring_octets(string) && !string.eq_ignore_ascii_case(b"nil")
+}
+
+fn has_astring_octets(string: &[u8]) -> bool
+    ensures { result ≡ list_all is_astring_octet string.now }
+{
+    string.iter().all(|octet| is_astring_octet(*octet))
+}
+
+/// Whether an octet may stand in an unquoted string (RFC 9051, section 9, ASTRING-CHAR).
+pub fn is_astring_octet(octet: u8) -> bool
+    ensures { result ≡ is_astring_octet octet }
+{
+    is_atom_octet(octet) || octet == b']'
+}
+
+fn has_line_octet(string: &[u8]) -> bool
+    ensures { result ≡ has_line_octet string.now }
+{
+    string
+        .iter()
+        .any(|octet| *octet == b'\r' || *octet == b'\n')
+}

@@ -1,0 +1,55 @@
+use Rattle.std.specs.Prelude.{ℕ, Bool, true, false, List, [], ◌∷◌, ◌++◌, codes}
+use Rattle.std.specs.Fmt.{decimal}
+use Rattle.tags_clocks.specs.declared.id.OpId.{OpId}
+use Rattle.mail_script.specs.Fields.{id_text}
+use Rattle.mail_script.specs.declared.outcome.BrokenRule.{BrokenRule}
+use Rattle.mail_script.specs.declared.outcome.BrokenRule.TheVariants.{OwnEntry, UncoveredId, UnlawfulName, UnlawfulFlags, InboxDeleted}
+use Rattle.mail_script.specs.declared.outcome.DeliveryResult.{DeliveryResult}
+use Rattle.mail_script.specs.declared.outcome.DeliveryResult.TheVariants.{Applied, Held, Repeat, Conflict, HeldFull, Exhausted, NoMemory as NoMemoryForIt}
+use Rattle.mail_script.specs.declared.outcome.OutcomeLine.{OutcomeLine}
+use Rattle.mail_script.specs.declared.outcome.OutcomeLine.TheVariants.{Delivered, Forged, Unsound, Drained, BadScript, CannotRead, NoMemory}
+
+-- Says that a ripe operation stays held.
+abbrev pub stalled_text : Bool → List ℕ
+stalled_text true = codes " stalled"
+stalled_text false = []
+
+-- How many operations were applied.
+abbrev pub applied_text : ℕ → Bool → List ℕ
+applied_text count stalled = codes "Applied " ++ (decimal count ++ stalled_text stalled)
+
+-- The result of a delivery.
+abbrev pub result_text : DeliveryResult → List ℕ
+result_text (Applied count stalled) = applied_text count stalled
+result_text (Held stalled) = codes "Held" ++ stalled_text stalled
+result_text (Repeat stalled) = codes "Repeat" ++ stalled_text stalled
+result_text (Conflict id) = codes "Conflict " ++ id_text id
+result_text HeldFull = codes "HeldFull"
+result_text Exhausted = codes "Exhausted"
+result_text NoMemoryForIt = codes "NoMemory"
+
+-- The rule that an operation breaks.
+abbrev pub rule_text : BrokenRule → List ℕ
+rule_text OwnEntry = codes "U1"
+rule_text UncoveredId = codes "U2"
+rule_text UnlawfulName = codes "U3"
+rule_text UnlawfulFlags = codes "U4"
+rule_text InboxDeleted = codes "U5"
+
+-- An operation and the replica to which it was delivered.
+abbrev pub delivery_text : OpId → ℕ → List ℕ
+delivery_text id replica = id_text id ++ (32 ∷ (decimal replica ++ codes ": "))
+
+-- What a line that tells an outcome says.
+abbrev pub outcome_text : OutcomeLine → List ℕ
+outcome_text (Delivered id replica result) = codes "deliver " ++ (delivery_text id replica ++ result_text result)
+outcome_text (Forged id replica result) = codes "forge " ++ (delivery_text id replica ++ result_text result)
+outcome_text (Unsound rule) = codes "forge: Unsound " ++ rule_text rule
+outcome_text (Drained replica count stalled) = codes "drain " ++ (decimal replica ++ (codes ": " ++ applied_text count stalled))
+outcome_text (BadScript line) = codes "bad script: line " ++ decimal line
+outcome_text CannotRead = codes "cannot read"
+outcome_text NoMemory = codes "no memory"
+
+-- The line with its LF (10).
+abbrev pub outcome_line : OutcomeLine → List ℕ
+outcome_line outcome = outcome_text outcome ++ 10 ∷ []

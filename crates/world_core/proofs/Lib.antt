@@ -1,0 +1,3 @@
+pub mod FaultLemmas
+pub mod TalkLemmas
+pub mod TurnLemmas

@@ -1,0 +1,31 @@
+use Rattle.std.specs.Prelude.{◌≡◌, ◌⊎◌, ℕ, List}
+use Rattle.imap_grammar.specs.Commands.{IsSpelled}
+use Rattle.imap_grammar.specs.Faults.{HasTag, IsTagged}
+use Rattle.imap_grammar.specs.declared.fault.ParseFault.{ParseFault}
+use Rattle.imap_grammar.specs.declared.fault.ParseFault.TheVariants as faults
+use Rattle.imap_print.specs.declared.answer.Answer.{Answer}
+use Rattle.imap_print.specs.declared.answer.Answer.TheVariants as answers
+use Rattle.imap_print.specs.declared.words.Refusal.{Refusal}
+use Rattle.imap_print.specs.declared.words.Refusal.TheVariants as refusals
+use Rattle.world_core.specs.FaultAnswers.{IsFaultAnswer}
+use Rattle.world_core.specs.declared.talk.Input.{Input}
+use Rattle.world_core.specs.declared.talk.Input.TheVariants.{Command, Fault}
+
+-- What a frame is to a node: the command that it spells, or the answer to its fault.
+abbrev pub IsInput : List ℕ → Input → Type 0
+IsInput octets (Command tagged) = IsSpelled tagged octets
+IsInput octets (Fault answer) = IsFaultAnswer octets answer
+
+-- The reason that a fault of the parser gives for a frame with a tag.
+abbrev pub reason_for : ParseFault → Refusal
+reason_for faults.NoTag = refusals.BadSyntax
+reason_for faults.UnknownCommand = refusals.UnknownCommand
+reason_for faults.BadSyntax = refusals.BadSyntax
+reason_for faults.NotInProfile = refusals.NotInProfile
+reason_for faults.NoMemory = refusals.NoMemory
+
+-- The answer to a frame with this fault, by whether the frame has a tag.
+abbrev pub AnswersFault : ParseFault → List ℕ → Answer → Type 0
+AnswersFault why frame answer =
+    ((HasTag frame → ⊥) × (answer ≡ answers.NoTag))
+    ⊎ ((tag : List ℕ) × (rest : List ℕ) × IsTagged frame tag rest × (answer ≡ answers.Refused tag (reason_for why)))

@@ -1,0 +1,35 @@
+use Rattle.std.specs.Prelude.{◌≡◌, ◌⊎◌, ℕ, List, [], ◌∷◌, Option, Some, None}
+use Rattle.imap_grammar.specs.declared.command.Tagged.{Tagged}
+use Rattle.imap_print.specs.declared.answer.Answer.{Answer}
+use Rattle.imap_print.specs.declared.answer.Answer.TheVariants as answers
+use Rattle.world_core.specs.Sessions.{Places, session_at, with_session}
+use Rattle.world_core.specs.declared.sessions.SessionState.TheVariants.{Authenticated, LoggedOut}
+use Rattle.world_core.specs.declared.node.Reply.{Reply}
+use Rattle.world_core.specs.declared.node.Reply.TheVariants.{Done, Refused}
+
+-- A node: its name, the operations that it applied in their order, and its sessions.
+pub record NodeState : Type 0 where
+  pub replica : ℕ
+  pub applied : List ℕ
+  pub sessions : Places
+
+-- The session is open and has not logged out.
+abbrev pub IsGoing : NodeState → ℕ → Type 0
+IsGoing node session = session_at node.sessions session ≡ Some Authenticated
+
+-- The session's LOGOUT was answered OK.
+abbrev pub HasLoggedOut : NodeState → ℕ → Type 0
+HasLoggedOut node session = session_at node.sessions session ≡ Some LoggedOut
+
+-- The node with this session closed.
+abbrev pub closed : NodeState → ℕ → NodeState
+closed node session = record node { sessions = with_session node.sessions session None }
+
+-- The answers of a reply, in the order in which they are sent.
+abbrev pub answers_of : Reply → List Answer
+answers_of (Done given) = given
+answers_of (Refused tag reason) = answers.Refused tag reason ∷ []
+
+abbrev pub Responds : NodeState → ℕ → Tagged → Reply → NodeState → Type 0
+Responds old session tagged (Done given) new = IsGoing new session ⊎ HasLoggedOut new session
+Responds old session tagged (Refused tag why) new = (new ≡ old) × (tag ≡ tagged.tag)
