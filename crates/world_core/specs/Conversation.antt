@@ -9,7 +9,7 @@ use Rattle.imap_print.specs.declared.answer.Answer.TheVariants.{Continue}
 use Rattle.imap_print.specs.declared.words.Continuation.TheVariants as continuations
 use Rattle.world_core.specs.FaultAnswers.{IsFaultAnswer, IsLiteralAnswer}
 use Rattle.world_core.specs.Nodes.{NodeState, IsGoing, HasLoggedOut, Responds, answers_of, closed}
-use Rattle.world_core.specs.declared.node.Reply.{Reply}
+use Rattle.world_core.specs.declared.reply.Reply.{Reply}
 use Rattle.world_core.specs.declared.turn.Turn.{Turn}
 use Rattle.world_core.specs.declared.turn.Turn.TheVariants.{Got, Sent}
 

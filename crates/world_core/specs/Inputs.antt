@@ -8,8 +8,8 @@ use Rattle.imap_print.specs.declared.answer.Answer.TheVariants as answers
 use Rattle.imap_print.specs.declared.words.Refusal.{Refusal}
 use Rattle.imap_print.specs.declared.words.Refusal.TheVariants as refusals
 use Rattle.world_core.specs.FaultAnswers.{IsFaultAnswer}
-use Rattle.world_core.specs.declared.talk.Input.{Input}
-use Rattle.world_core.specs.declared.talk.Input.TheVariants.{Command, Fault}
+use Rattle.world_core.specs.declared.talking.Input.{Input}
+use Rattle.world_core.specs.declared.talking.Input.TheVariants.{Command, Fault}
 
 -- What a frame is to a node: the command that it spells, or the answer to its fault.
 abbrev pub IsInput : List ℕ → Input → Type 0

@@ -1,16 +1,19 @@
 use Rattle.std.specs.Prelude.{◌≡◌, ◌⊎◌, ℕ, List, [], ◌∷◌, Option, Some, None}
+use Rattle.crdt_ops.specs.declared.op.Op.{Op}
 use Rattle.imap_grammar.specs.declared.command.Tagged.{Tagged}
 use Rattle.imap_print.specs.declared.answer.Answer.{Answer}
 use Rattle.imap_print.specs.declared.answer.Answer.TheVariants as answers
 use Rattle.world_core.specs.Sessions.{Places, session_at, with_session}
 use Rattle.world_core.specs.declared.sessions.SessionState.TheVariants.{Authenticated, LoggedOut}
-use Rattle.world_core.specs.declared.node.Reply.{Reply}
-use Rattle.world_core.specs.declared.node.Reply.TheVariants.{Done, Refused}
+use Rattle.world_core.specs.declared.reply.Reply.{Reply}
+use Rattle.world_core.specs.declared.reply.Reply.TheVariants.{Done, Refused}
 
--- A node: its name, the operations that it applied in their order, and its sessions.
+-- A node: its name, the operations that it applied, in their order, those that it holds until their causes come, and its
+-- sessions.
 pub record NodeState : Type 0 where
   pub replica : ℕ
-  pub applied : List ℕ
+  pub applied : List Op
+  pub held : List Op
   pub sessions : Places
 
 -- The session is open and has not logged out.
@@ -27,9 +30,9 @@ closed node session = record node { sessions = with_session node.sessions sessio
 
 -- The answers of a reply, in the order in which they are sent.
 abbrev pub answers_of : Reply → List Answer
-answers_of (Done given) = given
+answers_of (Done given issued) = given
 answers_of (Refused tag reason) = answers.Refused tag reason ∷ []
 
 abbrev pub Responds : NodeState → ℕ → Tagged → Reply → NodeState → Type 0
-Responds old session tagged (Done given) new = IsGoing new session ⊎ HasLoggedOut new session
+Responds old session tagged (Done given issued) new = IsGoing new session ⊎ HasLoggedOut new session
 Responds old session tagged (Refused tag why) new = (new ≡ old) × (tag ≡ tagged.tag)

@@ -1,12 +1,16 @@
 //! Replicas with their sessions, and the way from the octets of a connection to its answers.
 #![tactic(auto)]
 
+mod dump;
 mod node;
+mod reply;
 mod sessions;
-pub mod talk;
+mod talking;
 mod turn;
 
-
-pub use node::{Node, Reply};
+pub use dump::write_dump;
+pub use node::Node;
+pub use reply::{Answers, Issued, Reply};
 pub use sessions::{MAX_SESSIONS, OpenFault, SessionNo, SessionState, Sessions};
+pub use talking::talk;
 pub use turn::{TalkFault, TalkFaultKind, Turn};

@@ -5,7 +5,7 @@ use Rattle.world_core.specs.Conversation.{BreaksOff, Converses}
 use Rattle.world_core.specs.Nodes.{HasLoggedOut, IsGoing, NodeState}
 use Rattle.world_core.specs.declared.turn.Turn.{Turn}
 use Rattle.world_core.proofs.TurnLemmas.{Underway, underway_on, underway_done, underway_out, underway_broken}
-use Rattle.world_core.proofs.talk.take_all.Goals as goal
+use Rattle.world_core.proofs.talking.take_all.Goals as goal
 
 -- what is left begins with the item at hand
 next_item : (items : List Item) (i : ℕ) (item : Item) → i < length items → item ≡ get_or items i item → drop i items ≡ item ∷ drop (i + 1) items

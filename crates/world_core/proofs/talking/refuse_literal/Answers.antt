@@ -1,7 +1,7 @@
 use Rattle.std.proofs.Common.{◌∷◌, [], ◌∙◌, append-nil, refl, sym}
 use Rattle.world_core.specs.declared.turn.Turn.TheVariants.{Got}
 use Rattle.world_core.proofs.TurnLemmas.{at_error}
-use Rattle.world_core.proofs.talk.refuse_literal.Goals as goal
+use Rattle.world_core.proofs.talking.refuse_literal.Goals as goal
 
 pub returns-in_err-show-clause-err : goal.returns-in_err-show-clause-err
 returns-in_err-show-clause-err c =

@@ -1,5 +1,5 @@
 use Rattle.world_core.proofs.FaultLemmas.{fault_of_result}
-use Rattle.world_core.proofs.talk.input_of.Goals as goal
+use Rattle.world_core.proofs.talking.input_of.Goals as goal
 
 pub returns-in_ok-fault_answer-in-Err : goal.returns-in_ok-fault_answer-in-Err
 returns-in_ok-fault_answer-in-Err c =

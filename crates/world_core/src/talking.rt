@@ -13,7 +13,8 @@ ghost use Rattle.world_core.specs.Inputs.{AnswersFault, IsInput, reason_for};
 ghost use Rattle.world_core.specs.Talks.{EndsTalk, SaysGoodbye, Talks, goodbye_of};
 ghost use Rattle.world_core.specs.declared.turn.Turn.TheVariants.{Got as GotTurn};
 
-use crate::node::{Node, Reply};
+use crate::node::Node;
+use crate::reply::Reply;
 use crate::sessions::{SessionNo, SessionState};
 use crate::turn::{TalkFault, TalkFaultKind, Turn};
 use imap_grammar::{ParseFault, Tagged, parse, tag_of};
@@ -50,7 +51,7 @@ fn send_reply(alloc: Global, turns: &mut Vec<Turn>, reply: Reply) -> Result<(), 
     ensures err { OnErr result ((front : List OneTurn) × (turns.new.items ≡ turns.old.items ++ front) × IsFront front (sent (answers_of reply))) }
 {
     match reply {
-        Reply::Done { answers } => send_all(alloc, turns, answers.as_slice()),
+        Reply::Done { answers, .. } => send_all(alloc, turns, answers.as_slice()),
         Reply::Refused { tag, reason } => send_all(alloc, turns, &[Answer::Refused { tag, reason }]),
     }
 }

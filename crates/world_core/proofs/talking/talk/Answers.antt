@@ -6,7 +6,7 @@ use Rattle.world_core.specs.Nodes.{IsGoing, NodeState}
 use Rattle.world_core.specs.Talks.{EndsTalk}
 use Rattle.world_core.specs.declared.turn.Turn.{Turn}
 use Rattle.world_core.proofs.TalkLemmas.{ends_talk, given_in_front, stopped_early}
-use Rattle.world_core.proofs.talk.talk.Goals as goal
+use Rattle.world_core.proofs.talking.talk.Goals as goal
 
 -- the conversation over the items, from what a call added to no turns
 from_none : (old : NodeState) (session : ℕ) (items slice : List Item) (none turns : List Turn) (new : NodeState) → slice ≡ items → none ≡ []

@@ -1,7 +1,7 @@
 use Rattle.std.proofs.Common.{take, drop, ◌∙◌}
 use Rattle.world_core.specs.Conversation.{sent}
 use Rattle.world_core.proofs.TurnLemmas.{at_error, sent_parts}
-use Rattle.world_core.proofs.talk.send_all.Goals as goal
+use Rattle.world_core.proofs.talking.send_all.Goals as goal
 
 pub returns-in_err-send-clause-err : goal.returns-in_err-send-clause-err
 returns-in_err-send-clause-err c =

@@ -3,10 +3,10 @@ use Rattle.world_core.specs.Conversation.{TakesFrame}
 use Rattle.world_core.specs.FaultAnswers.{IsFaultAnswer}
 use Rattle.world_core.specs.Inputs.{IsInput}
 use Rattle.world_core.specs.Nodes.{answers_of}
-use Rattle.world_core.specs.declared.talk.Input.TheVariants.{Command, Fault}
+use Rattle.world_core.specs.declared.talking.Input.TheVariants.{Command, Fault}
 use Rattle.world_core.specs.declared.turn.Turn.TheVariants.{Got}
 use Rattle.world_core.proofs.TurnLemmas.{at_error, frame_answered, frame_broken}
-use Rattle.world_core.proofs.talk.take_frame.Goals as goal
+use Rattle.world_core.proofs.talking.take_frame.Goals as goal
 
 pub returns-in-Fault-clause-ok : goal.returns-in-Fault-clause-ok
 returns-in-Fault-clause-ok c =
