@@ -1,2 +1,4 @@
 pub mod OrderLemmas
 pub mod TextLemmas
+pub mod Members
+pub mod SetLemmas

@@ -4,3 +4,4 @@ pub mod Sound
 pub mod Sets
 pub mod Laws
 pub mod Text
+pub mod TagLaws

@@ -1,9 +1,10 @@
-use Rattle.std.specs.Prelude.{◌≡◌, Bool, ◌&&◌, ◌==◌, List, [], ◌∷◌}
+use Rattle.std.specs.Prelude.{◌≡◌, ◌↔◌, Bool, ◌&&◌, ◌==◌, List, [], ◌∷◌}
 use Rattle.std.specs.List.{fold}
 use Rattle.std.specs.Ordering.{nat_cmp, ordering_then, match_ordering}
 use Rattle.std.specs.declared.cmp.Ordering.{Ordering}
 use Rattle.std.specs.declared.cmp.Ordering.TheVariants.{Less}
 use Rattle.tags_clocks.specs.declared.id.OpId.{OpId}
+use Rattle.merge_laws.specs.Orders.{IsIn}
 
 -- Whether two ids are the same.
 abbrev pub same_id : OpId → OpId → Bool
@@ -31,3 +32,7 @@ placed order x (y ∷ rest) = match_ordering (order x y) (x ∷ y ∷ rest) (y �
 -- The elements in ascending order, none twice.
 abbrev pub in_order : {X : Type 0} → (X → X → Ordering) → List X → List X
 in_order order xs = fold (λ done x. placed order x done) [] xs
+
+-- The list has just the elements with a property, ascending, none twice.
+abbrev pub IsListOf : {X : Type 0} → (X → X → Ordering) → (X → Type 0) → List X → Type 0
+IsListOf {X} order P xs = IsAscending order xs × ((x : X) → IsIn x xs ↔ P x)

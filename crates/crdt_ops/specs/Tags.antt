@@ -13,6 +13,12 @@ pub data Tag : Type 0 where
   MessageTag : List ℕ → OpId → Tag
   SubscriptionTag : List ℕ → OpId → Tag
 
+-- The id of the operation that adds the tag.
+abbrev pub id_at : Tag → OpId
+id_at (FolderTag folder id) = id
+id_at (MessageTag folder id) = id
+id_at (SubscriptionTag name id) = id
+
 -- Whether two tags are the same.
 abbrev pub same_tag : Tag → Tag → Bool
 same_tag (FolderTag a i) (FolderTag b j) = bytes_eq a b && same_id i j

@@ -8,7 +8,8 @@ use Rattle.imap_lex.specs.declared.item.Item.{Item}
 use Rattle.imap_lex.specs.declared.limits.Limits.{Limits}
 use Rattle.imap_lex.specs.declared.mark.Ending.{Ending}
 use Rattle.imap_lex.specs.declared.mark.Ending.TheVariants.{Whole, Literal, TooLong}
-use Rattle.imap_lex.specs.Reading.{Progress, Cut, with_items, goes_on, next, given, has_nul, is_inside, with_octets, after_literal, after_octet, after_line_octet, after_ending, ending_of, is_end, with_octet, fed, joined, Faults}
+use Rattle.imap_lex.specs.MarkReading.{ending_of}
+use Rattle.imap_lex.specs.Reading.{Progress, Cut, with_items, goes_on, next, given, has_nul, is_inside, with_octets, after_literal, after_octet, after_line_octet, after_ending, is_end, with_octet, fed, joined, Faults}
 
 pub with_items-with_items : (front items : List Item) (cut : Cut) → with_items front (with_items items cut) ≡ with_items (front ++ items) cut
 with_items-with_items front items cut = ap (λ all. (all, cut.1)) (sym (append_assoc front items cut.0))

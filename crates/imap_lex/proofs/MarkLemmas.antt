@@ -5,7 +5,7 @@ use Rattle.std.proofs.lemmas.Bool.{cases_Bool, and_parts, and_from, eqb-true, eq
 use Rattle.std.proofs.lemmas.List.{at_drop_more, take-append-drop, take_at, drop_at}
 use Rattle.std.proofs.lemmas.Slice.Eq.{bytes_eq-Decides}
 use Rattle.imap_lex.specs.Marks.{AreDigits, IsNumber, IsMarked, IsUnmarked, closing, value_of}
-use Rattle.imap_lex.specs.Reading.{closing_at, digits_at, mark_at, mark_behind, numbered, or_else}
+use Rattle.imap_lex.specs.MarkReading.{closing_at, digits_at, mark_at, mark_behind, numbered, or_else}
 
 -- Digits make a number no smaller.
 pub grows : (n : ℕ) (ds : List ℕ) → n ≤ value_of n ds

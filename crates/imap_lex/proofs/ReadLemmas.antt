@@ -11,7 +11,8 @@ use Rattle.imap_lex.specs.declared.item.Item.TheVariants.{Frame, Refused}
 use Rattle.imap_lex.specs.declared.limits.Limits.{Limits}
 use Rattle.imap_lex.specs.Marks.{IsMarked}
 use Rattle.imap_lex.specs.Frames.{AreCommands, AreFrames, ArePartsOfCommand, AreTaken, FailsAt, HasNoCrlf, HasNoNul, IsFrame, IsLine, IsOpenLine, IsOpenLiteral, IsPart, IsRefusedFront, MakesFault, Part, announced_of, octets_of, outside_of, readies, ready}
-use Rattle.imap_lex.specs.Reading.{Cut, Progress, after_octet, goes_on, is_end, mark_at, octets_so_far, ready_item, start, with_items}
+use Rattle.imap_lex.specs.MarkReading.{mark_at}
+use Rattle.imap_lex.specs.Reading.{Cut, Progress, after_octet, goes_on, is_end, octets_so_far, ready_item, start, with_items}
 use Rattle.imap_lex.proofs.CutLemmas.{goes_on-fault}
 use Rattle.imap_lex.proofs.LineLemmas.{end_parts, ended_line, no_nul_both, open_more}
 use Rattle.imap_lex.proofs.MarkLemmas.{mark_is, unmarked_is}

@@ -9,7 +9,8 @@ use Rattle.imap_lex.specs.declared.limits.Limits.{Limits}
 use Rattle.imap_lex.specs.declared.mark.Ending.TheVariants.{Whole, TooLong}
 use Rattle.imap_lex.specs.Marks.{IsMarked, IsUnmarked}
 use Rattle.imap_lex.specs.Frames.{Part, octets_of, outside_of, announced_of, ready, readies}
-use Rattle.imap_lex.specs.Reading.{Progress, Outcome, after_octet, after_ending, ending_of, is_end, with_octet, ready_item}
+use Rattle.imap_lex.specs.MarkReading.{ending_of}
+use Rattle.imap_lex.specs.Reading.{Progress, Outcome, after_octet, after_ending, is_end, with_octet, ready_item}
 use Rattle.imap_lex.proofs.MarkLemmas.{mark_found, unmarked_found}
 
 -- Where these parts have come, and this much of a line.

@@ -33,11 +33,12 @@ pub record IsPart (part : Part) : Type 0 where
   pub line : IsLine part.line
   pub mark : IsMarked (length part.literal) part.plus part.line
 
+-- Each of them is a part.
 abbrev pub ArePartsOfCommand : List Part → Type 0
 ArePartsOfCommand [] = Unit {0}
 ArePartsOfCommand (part ∷ parts) = IsPart part × ArePartsOfCommand parts
 
--- The octets of some parts.
+-- Their octets, one part behind the other.
 abbrev pub octets_of : List Part → List ℕ
 octets_of parts = flat_map (λ part. part.line ++ part.literal) parts
 
@@ -54,6 +55,7 @@ abbrev pub ready : Bool → List Item
 ready true = []
 ready false = Ready ∷ []
 
+-- The items of some parts.
 abbrev pub readies : List Part → List Item
 readies parts = flat_map (λ part. ready part.plus) parts
 

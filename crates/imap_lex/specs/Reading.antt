@@ -1,58 +1,15 @@
-use Rattle.std.specs.Prelude.{◌≡◌, ℕ, ◌+◌, ◌-◌, ◌^◌, Bool, true, false, not, ◌&&◌, ◌==◌, nat_lt, nat_le, List, [], ◌∷◌, ◌++◌, length, take, drop, slice_index, Option, Some, None, Result, Ok, Err, IsOk, IsErr, if◌then◌else◌, option_to_list}
-use Rattle.std.specs.Char.{is_ascii_digit}
-use Rattle.std.specs.List.{list_any, prefix_len}
-use Rattle.std.specs.Str.{bytes_eq}
+use Rattle.std.specs.Prelude.{◌≡◌, ℕ, ◌+◌, ◌-◌, Bool, true, false, not, ◌&&◌, ◌==◌, nat_lt, nat_le, List, [], ◌∷◌, ◌++◌, length, slice_index, Option, Some, None, Result, Ok, Err, IsOk, IsErr, if◌then◌else◌, option_to_list}
+use Rattle.std.specs.List.{list_any}
 use Rattle.imap_lex.specs.declared.fault.Fault.{Fault}
 use Rattle.imap_lex.specs.declared.fault.Fault.TheVariants.{LineTooLong, LiteralTooLong, NulByte, NoMemory, Failed}
 use Rattle.imap_lex.specs.declared.item.Item.{Item}
 use Rattle.imap_lex.specs.declared.item.Item.TheVariants.{Ready, Frame, Refused}
 use Rattle.imap_lex.specs.declared.limits.Limits.{Limits}
 use Rattle.imap_lex.specs.declared.mark.Ending.{Ending}
-use Rattle.imap_lex.specs.declared.mark.Mark.{Mark}
 use Rattle.imap_lex.specs.declared.mark.Ending.TheVariants.{Whole, Literal, TooLong}
-use Rattle.imap_lex.specs.Marks.{value_of}
+use Rattle.imap_lex.specs.MarkReading.{ending_of}
 
 -- How a stream is read octet by octet: what the framer computes. `Frames` says what it means.
-
--- Whether a mark closed so is `{n+}`.
-abbrev pub closing_at : List ℕ → Option Bool
-closing_at text =
-    if bytes_eq text (125 ∷ 13 ∷ 10 ∷ []) then Some false else (if bytes_eq text (43 ∷ 125 ∷ 13 ∷ 10 ∷ []) then Some true else None)
-
-abbrev pub numbered : ℕ → Option Bool → Option (ℕ × Bool)
-numbered n None = None
-numbered n (Some plus) = Some (n, plus)
-
--- How many digits stand at the front of a text.
-abbrev pub digits_at : List ℕ → ℕ
-digits_at text = prefix_len is_ascii_digit text
-
--- The mark whose brace stands before this text: the octets that it announces, and whether it is `{n+}`.
-abbrev pub mark_behind : List ℕ → Option (ℕ × Bool)
-mark_behind text =
-    if digits_at text == 0 then None else numbered (value_of 0 (take (digits_at text) text)) (closing_at (drop (digits_at text) text))
-
-abbrev pub or_else : Option (ℕ × Bool) → Option (ℕ × Bool) → Option (ℕ × Bool)
-or_else None other = other
-or_else (Some mark) other = Some mark
-
--- The mark at the end of a line.
-abbrev pub mark_at : List ℕ → Option (ℕ × Bool)
-mark_at [] = None
-mark_at (octet ∷ octets) = if octet == 123 then or_else (mark_behind octets) (mark_at octets) else mark_at octets
-
--- The mark as the program keeps it: a number that 64 bits don't hold is more than any limit.
-abbrev pub fitted : Option (ℕ × Bool) → Option Mark
-fitted None = None
-fitted (Some mark) = Some (record { octets = if nat_lt mark.0 (2 ^ 64) then Some mark.0 else None; plus = mark.1 })
-
--- What a line's end brings, where literals have so much room.
-abbrev pub ending_by : Option (ℕ × Bool) → ℕ → Ending
-ending_by None room = Whole
-ending_by (Some mark) room = if nat_le mark.0 room then Literal mark.0 mark.1 else TooLong mark.1
-
-abbrev pub ending_of : List ℕ → ℕ → Ending
-ending_of line room = ending_by (mark_at line) room
 
 -- What has come of the next command: its parts, the octets behind them, how many of all these stand outside literals,
 -- how many octets were announced, and how many of those are still to come.
@@ -63,9 +20,11 @@ pub record Progress : Type 0 where
   pub announced : ℕ
   pub awaited : ℕ
 
+-- Nothing has come.
 abbrev pub start : Progress
 start = record { front = []; line = []; outside = 0; announced = 0; awaited = 0 }
 
+-- The item behind a mark: Ready, but none behind `{n+}` (RFC 9051, section 4.3).
 abbrev pub ready_item : Bool → Option Item
 ready_item true = None
 ready_item false = Some Ready
@@ -90,13 +49,14 @@ is_end line octet = (octet == 10) && (slice_index line (length line - 1) == 13)
 abbrev pub with_octet : Progress → ℕ → Progress
 with_octet p octet = record p { line = p.line ++ octet ∷ []; outside = p.outside + 1 }
 
--- Behind an octet outside literals.
+-- Behind an octet outside literals, which is too many where the limit is reached.
 abbrev pub after_line_octet : Limits → Progress → ℕ → Outcome
 after_line_octet limits p octet =
     if nat_le limits.line p.outside then Err LineTooLong
     else (if is_end p.line octet then after_ending (with_octet p octet) (ending_of (p.line ++ octet ∷ []) (limits.literals - p.announced))
     else Ok (None, with_octet p octet))
 
+-- Behind any octet: NUL is no octet of a command, and an announced octet belongs to its literal whatever it is.
 abbrev pub after_octet : Limits → Progress → ℕ → Outcome
 after_octet limits p octet =
     if octet == 0 then Err NulByte
@@ -123,18 +83,21 @@ after_literal p octets = record p { front = p.front ++ octets; awaited = p.await
 abbrev pub Cut : Type 0
 Cut = List Item × Result Progress Fault
 
+-- These items, and then what the cut has.
 abbrev pub with_items : List Item → Cut → Cut
 with_items items cut = (items ++ cut.0, cut.1)
 
+-- What an octet brings, as the cut of that octet.
 abbrev pub given : Outcome → Cut
 given (Ok both) = (option_to_list both.0, Ok both.1)
 given (Err why) = ([], Err why)
 
+-- One octet more: behind a fault nothing comes.
 abbrev pub next : Limits → Result Progress Fault → ℕ → Cut
 next limits (Ok p) octet = given (after_octet limits p octet)
 next limits (Err why) octet = ([], Err why)
 
--- How a stream goes on from here.
+-- How a stream goes on from here: the items of these octets, and what has come of the next command, or the fault.
 abbrev pub goes_on : Limits → Result Progress Fault → List ℕ → Cut
 goes_on limits state [] = ([], state)
 goes_on limits state (octet ∷ octets) = with_items (next limits state octet).0 (goes_on limits (next limits state octet).1 octets)
@@ -144,6 +107,7 @@ pub record Framing : Type 0 where
   pub limits : Limits
   pub state : Result Progress Fault
 
+-- What has come of the next command, or the fault.
 abbrev pub state_of : Option Fault → Progress → Result Progress Fault
 state_of None p = Ok p
 state_of (Some why) p = Err why

@@ -15,7 +15,7 @@ pub enum Fault {
     /// A mark `{n+}` announces more octets than the limit leaves.
     #[error("literal too long")]
     LiteralTooLong,
-    /// An octet is NUL (RFC 9051, section 9: no text or literal of a client holds it).
+    /// An octet is NUL, also within a literal (RFC 9051, section 9: neither `CHAR` nor `CHAR8` has it).
     #[error("NUL octet")]
     NulByte,
     /// There was no memory for an octet or an item.

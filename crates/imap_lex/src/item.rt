@@ -23,7 +23,7 @@ impl Frame {
     pub fn new(octets: Vec<u8>) -> Frame
         ensures { result ≡ octets.items }
     {
-        Frame { octets }
+        Self { octets }
     }
 
     /// The octets.

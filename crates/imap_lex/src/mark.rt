@@ -4,7 +4,7 @@ ghost use Rattle.std.specs.Prelude.{◌≡◌, ◌+◌, ◌-◌, ◌*◌, ◌<�
 ghost use Rattle.std.specs.Char.{is_ascii_digit};
 ghost use Rattle.std.specs.List.{prefix_len};
 ghost use Rattle.imap_lex.specs.Marks.{value_of};
-ghost use Rattle.imap_lex.specs.Reading.{closing_at, fitted, mark_behind, mark_at, ending_of};
+ghost use Rattle.imap_lex.specs.MarkReading.{closing_at, fitted, mark_behind, mark_at, ending_of};
 
 /// What the end of a line brings.
 #[derive(Clone, Copy)]

@@ -35,7 +35,8 @@ impl Model for Progress {
 }
 
 impl Progress {
-    ghost use Rattle.imap_lex.specs.Reading.{start, has_nul, ending_of, after_literal, after_octet, after_line_octet, after_ending, with_octets};
+    ghost use Rattle.imap_lex.specs.MarkReading.{ending_of};
+    ghost use Rattle.imap_lex.specs.Reading.{start, has_nul, after_literal, after_octet, after_line_octet, after_ending, with_octets};
 
     /// Nothing has come.
     pub(crate) fn new(alloc: Global) -> Progress

@@ -1,6 +1,6 @@
 use Rattle.std.proofs.Common.{◌≡◌, ◌↔◌, ◌⊎◌, inl, inr, ℕ, List, [], ◌∷◌, ◌++◌, sym, refl, ap, ◌∙◌, subst, append_assoc, append-nil}
 use Rattle.tags_clocks.specs.declared.id.OpId.{OpId}
-use Rattle.merge_laws.specs.Orders.{HasId, IsRipe, IsCausal}
+use Rattle.merge_laws.specs.Orders.{IsIn, HasId, IsRipe, IsCausal}
 use Rattle.merge_laws.proofs.Lists.{id_in_front, id_in_back, id_in_parts}
 
 -- where a list that ends with o is cut, that is at its end or within the rest
@@ -78,3 +78,39 @@ module _ {O : Type 0} (id : O → OpId) (clock : O → List (ℕ × ℕ)) where
   -- the operations in front are causal
   pub causal_front : (front back : List O) → IsCausal id clock (front ++ back) → IsCausal id clock front
   causal_front front back c first o rest k = c first o (rest ++ back) (ap (λ xs. xs ++ back) k ∙ append_assoc first (o ∷ rest) back)
+
+  -- no id of a causal list came before it
+  pub is_new : (e os : List O) (o : O) → IsCausalAfter e os → IsIn o os → HasId id e (id o) → ⊥
+  is_new e [] o c h = absurd h
+  is_new e (a ∷ os) o c h =
+      elim h [
+        | inl k ↦ λ i. c.0.1 (subst (λ (b : O). HasId id e (id b)) (sym k) i)
+        | inr t ↦ λ i. is_new (a ∷ e) os o c.1 t (inr i)
+      ]
+
+  -- in a causal list an id determines the operation
+  pub after_determines : (e os : List O) (a b : O) → IsCausalAfter e os → IsIn a os → IsIn b os → id a ≡ id b → a ≡ b
+  after_determines e [] a b c h k same = absurd h
+  after_determines e (o ∷ os) a b c h k same =
+      elim h [
+        | inl p ↦ elim k [
+          | inl q ↦ sym p ∙ q
+          | inr t ↦ absurd (is_new (o ∷ e) os b c.1 t (inl (ap id p ∙ same)))
+        ]
+        | inr s ↦ elim k [
+          | inl q ↦ absurd (is_new (o ∷ e) os a c.1 s (inl (ap id q ∙ sym same)))
+          | inr t ↦ after_determines (o ∷ e) os a b c.1 s t same
+        ]
+      ]
+
+  pub causal_determines : (os : List O) (a b : O) → IsCausal id clock os → IsIn a os → IsIn b os → id a ≡ id b → a ≡ b
+  causal_determines os a b c = after_determines [] os a b (causal_after os c)
+
+  -- operations that are each ripe for the list and those in front of them
+  pub causal_append : (os ops : List O) → IsCausal id clock os → ((front : List O) (o : O) (back : List O) → ops ≡ front ++ o ∷ back → IsRipe id clock (os ++ front) o) → IsCausal id clock (os ++ ops)
+  causal_append os [] c r = subst (IsCausal id clock) (sym (append-nil os)) c
+  causal_append os (o ∷ ops) c r =
+      let first : IsRipe id clock os o = subst (λ (xs : List O). IsRipe id clock xs o) (append-nil os) (r [] o ops refl) in
+      subst (IsCausal id clock) (append_assoc os (o ∷ []) ops)
+      (causal_append (os ++ o ∷ []) ops (causal_more os o c first) (λ front p back k.
+      subst (λ (xs : List O). IsRipe id clock xs p) (sym (append_assoc os (o ∷ []) front)) (r (o ∷ front) p back (ap (λ xs. o ∷ xs) k))))

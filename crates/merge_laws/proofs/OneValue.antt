@@ -3,7 +3,7 @@ use Rattle.tags_clocks.specs.declared.id.OpId.{OpId}
 use Rattle.tags_clocks.specs.Clock.{IsCause}
 use Rattle.merge_laws.specs.Orders.{IsIn, HasId, fold_of, HaveSameElements, AreSound, IsConcurrent, GivesOneValue}
 use Rattle.merge_laws.proofs.Lists.{in_middle, in_rest, in_front, in_cases, split_at}
-use Rattle.merge_laws.proofs.Causal.{HaveSameIds, IsCausalAfter, ripe_along, same_behind, causal_after}
+use Rattle.merge_laws.proofs.Causal.{HaveSameIds, IsCausalAfter, ripe_along, same_behind, causal_after, is_new}
 
 module _ {O V : Type 0} (id : O → OpId) (clock : O → List (ℕ × ℕ)) (sound : O → Type 0) (effect : V → O → V) where
   -- causal after earlier ones with the same ids
@@ -18,24 +18,15 @@ module _ {O V : Type 0} (id : O → OpId) (clock : O → List (ℕ × ℕ)) (sou
     λ t. elim t [ inl k ↦ inr (inl k) | inr u ↦ elim u [ inl k ↦ inl k | inr w ↦ inr (inr w) ] ],
   )
 
-  -- no id of a causal list came before it
-  is_new : (e os : List O) (o : O) → IsCausalAfter id clock e os → IsIn o os → HasId id e (id o) → ⊥
-  is_new e [] o c h = absurd h
-  is_new e (a ∷ os) o c h =
-      elim h [
-        | inl k ↦ λ i. c.0.1 (subst (λ (b : O). HasId id e (id b)) (sym k) i)
-        | inr t ↦ λ i. is_new (a ∷ e) os o c.1 t (inr i)
-      ]
-
   -- what stands in front of an operation that needs none beyond the earlier ones is concurrent with it
   in_front_apart : (e front back : List O) (x a : O) → IsCausalAfter id clock e (front ++ x ∷ back) → ((i : OpId) → IsCause (clock x) i → HasId id e i) → IsIn a front → IsConcurrent id clock a x
   in_front_apart e [] back x a c first h = absurd h
   in_front_apart e (b ∷ front) back x a c first h =
       elim h [
         | inl k ↦ subst (λ (d : O). IsConcurrent id clock d x) k (record {
-          apart = λ same. is_new (b ∷ e) (front ++ x ∷ back) x c.1 (in_middle x front back) (inl same);
+          apart = λ same. is_new id clock (b ∷ e) (front ++ x ∷ back) x c.1 (in_middle x front back) (inl same);
           not_before = λ cause. c.0.1 (first (id b) cause);
-          not_after = λ cause. is_new e (b ∷ front ++ x ∷ back) x c (inr (in_middle x front back)) (c.0.0 (id x) cause);
+          not_after = λ cause. is_new id clock e (b ∷ front ++ x ∷ back) x c (inr (in_middle x front back)) (c.0.0 (id x) cause);
         })
         | inr t ↦ in_front_apart (b ∷ e) front back x a c.1 (λ i k. inr (first i k)) t
       ]
@@ -46,7 +37,7 @@ module _ {O V : Type 0} (id : O → OpId) (clock : O → List (ℕ × ℕ)) (sou
   causal_moved e (a ∷ front) back x c = (
     (
       λ i k. inr (c.0.0 i k),
-      λ i. elim i [ inl k ↦ is_new (a ∷ e) (front ++ x ∷ back) x c.1 (in_middle x front back) (inl (sym k)) | inr t ↦ c.0.1 t ],
+      λ i. elim i [ inl k ↦ is_new id clock (a ∷ e) (front ++ x ∷ back) x c.1 (in_middle x front back) (inl (sym k)) | inr t ↦ c.0.1 t ],
     ),
     causal_along (x ∷ a ∷ e) (a ∷ x ∷ e) (front ++ back) (same_swapped x a e) (causal_moved (a ∷ e) front back x c.1),
   )
@@ -72,8 +63,8 @@ module _ {O V : Type 0} (id : O → OpId) (clock : O → List (ℕ × ℕ)) (sou
         let moved : IsCausalAfter id clock (x ∷ e) (front ++ back) = causal_moved e front back x d' in
         let ss : AreSound sound front = λ o t. s o ((h' o).1 (in_front o front (x ∷ back) t)) in
         let same : HaveSameElements xs (front ++ back) = λ o. (
-          λ t. elim (in_cases x o front back ((h' o).0 (inr t))) [ inl k ↦ absurd (is_new (x ∷ e) xs o c.1 t (inl (ap id k))) | inr u ↦ u ],
-          λ t. elim ((h' o).1 (in_rest x o front back t)) [ inl k ↦ absurd (is_new (x ∷ e) (front ++ back) o moved t (inl (ap id k))) | inr u ↦ u ],
+          λ t. elim (in_cases x o front back ((h' o).0 (inr t))) [ inl k ↦ absurd (is_new id clock (x ∷ e) xs o c.1 t (inl (ap id k))) | inr u ↦ u ],
+          λ t. elim ((h' o).1 (in_rest x o front back t)) [ inl k ↦ absurd (is_new id clock (x ∷ e) (front ++ back) o moved t (inl (ap id k))) | inr u ↦ u ],
         ) in
         one_value_after (x ∷ e) (effect v x) xs (front ++ back) (λ o t. s o (inr t)) c.1 moved same
         ∙ sym (ap (fold_of effect v) at ∙ fold_moved v front back x (s x (inl refl)) ss (λ a t. in_front_apart e front back x a d' c.0.0 t))

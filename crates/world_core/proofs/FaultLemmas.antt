@@ -38,10 +38,10 @@ answers_fault frame why answer r a =
 
 -- the same, of the parser's result
 pub fault_of_result : (frame : List ℕ) (why : ParseFault) (answer : Answer) (result : Result Tagged ParseFault) → result ≡ Err why
-  → ((tagged : Tagged) → IsSpelled tagged frame → (result ≡ Ok tagged) ⊎ (result ≡ Err faults.NoMemory))
-  → ((result ≡ Err faults.NoTag) ↔ (HasTag frame → ⊥))
-  → ((result ≡ Err faults.UnknownCommand) ↔ (HasTag frame × (NamesCommand frame → ⊥)))
-  → AnswersFault why frame answer → IsFaultAnswer frame answer
+    → ((tagged : Tagged) → IsSpelled tagged frame → (result ≡ Ok tagged) ⊎ (result ≡ Err faults.NoMemory))
+    → ((result ≡ Err faults.NoTag) ↔ (HasTag frame → ⊥))
+    → ((result ≡ Err faults.UnknownCommand) ↔ (HasTag frame × (NamesCommand frame → ⊥)))
+    → AnswersFault why frame answer → IsFaultAnswer frame answer
 fault_of_result frame why answer result e o n u a =
     answers_fault frame why answer (record {
       only = subst (λ (r : Result Tagged ParseFault). (tagged : Tagged) → IsSpelled tagged frame → (r ≡ Ok tagged) ⊎ (r ≡ Err faults.NoMemory)) e o;

@@ -1,3 +1,4 @@
+pub mod DeleteLemmas
 pub mod FaultLemmas
 pub mod TalkLemmas
 pub mod TurnLemmas

@@ -37,11 +37,15 @@ given_in_front Failed items old new cut f = (cut.0, ap (λ front. front ++ cut.0
 -- behind a LOGOUT no more items count
 pub stopped_early : (old : NodeState) (session : ℕ) (items more : List Item) (turns : List Turn) (new : NodeState) → IsGoing old session → (IsGoing new session → ⊥) → Converses old session items turns new → Converses old session (items ++ more) turns new
 stopped_early old session [] more turns new going stopped c = absurd (stopped (subst (λ (n : NodeState). IsGoing n session) (sym c.1) going))
-stopped_early old session (item ∷ items) more turns new going stopped c =
-    (c.0, c.1, c.2, elim c.3 [
-      | inl on ↦ inl (on.0, (on.1.0, on.1.1, stopped_early c.1 session items more on.1.0 new on.0 stopped on.1.2))
-      | inr out ↦ inr out
-    ])
+stopped_early old session (item ∷ items) more turns new going stopped c = (
+  c.0,
+  c.1,
+  c.2,
+  elim c.3 [
+    | inl on ↦ inl (on.0, (on.1.0, on.1.1, stopped_early c.1 session items more on.1.0 new on.0 stopped on.1.2))
+    | inr out ↦ inr out
+  ],
+)
 
 -- a conversation that went on up to here, broken off
 pub broken_at_end : (old : NodeState) (session : ℕ) (items : List Item) (turns : List Turn) (mid : NodeState) → IsGoing mid session → Converses old session items turns mid → BreaksOff old session items turns (closed mid session)

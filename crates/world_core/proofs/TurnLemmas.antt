@@ -30,8 +30,8 @@ module _ (session : ℕ) (octets : List ℕ) (before mid after : List Turn) (sho
 
   -- some answers to a frame behind what came of it
   pub frame_broken : {T E : Type 0} (new : NodeState) (given : List Answer) (r : Result T E) → TakesFrame old session octets given new
-    → OnErr r ((front : List Turn) × (after ≡ mid ++ front) × IsFront front (sent given))
-    → OnErr r ((more : List Turn) × (after ≡ before ++ more) × StopsAt old session (Frame octets) more new)
+      → OnErr r ((front : List Turn) × (after ≡ mid ++ front) × IsFront front (sent given))
+      → OnErr r ((more : List Turn) × (after ≡ before ++ more) × StopsAt old session (Frame octets) more new)
   frame_broken new given (Ok x) t o = tt
   frame_broken new given (Err e) t o = (
     Got octets ∷ o.0,
@@ -52,7 +52,7 @@ module _ {start : NodeState} {session : ℕ} {items : List Item} {before : List 
   underway_at_first h = record { going = h; done = []; turns_are = sym (append-nil before); converses = λ rest new c. c; breaks = λ rest new b. b }
 
   pub underway_on : (node mid : NodeState) (item : Item) (left : List Item) (turns after : List Turn) → Underway start session items before node (item ∷ left) turns
-    → ((given : List Answer) × Takes node session item given mid × (after ≡ turns ++ turns_of item given)) → IsGoing mid session → Underway start session items before mid left after
+      → ((given : List Answer) × Takes node session item given mid × (after ≡ turns ++ turns_of item given)) → IsGoing mid session → Underway start session items before mid left after
   underway_on node mid item left turns after u t g =
       let more = turns_of item t.0 in
       record {
@@ -67,15 +67,15 @@ module _ {start : NodeState} {session : ℕ} {items : List Item} {before : List 
   underway_done node turns u = (u.done ++ [], u.turns_are ∙ ap (λ ts. before ++ ts) (sym (append-nil u.done)), u.converses [] node (refl, refl))
 
   pub underway_out : (node mid : NodeState) (item : Item) (left : List Item) (turns after : List Turn) → Underway start session items before node (item ∷ left) turns
-    → ((given : List Answer) × Takes node session item given mid × (after ≡ turns ++ turns_of item given)) → HasLoggedOut mid session
-    → (more : List Turn) × (after ≡ before ++ more) × Converses start session items more (closed mid session)
+      → ((given : List Answer) × Takes node session item given mid × (after ≡ turns ++ turns_of item given)) → HasLoggedOut mid session
+      → (more : List Turn) × (after ≡ before ++ more) × Converses start session items more (closed mid session)
   underway_out node mid item left turns after u t g =
       let more = turns_of item t.0 in
       (u.done ++ more, t.2 ∙ ap (λ ts. ts ++ more) u.turns_are ∙ append_assoc before u.done more, u.converses more (closed mid session) (t.0, mid, t.1, inr (g, refl, refl)))
 
   pub underway_broken : (node mid : NodeState) (item : Item) (left : List Item) (turns after : List Turn) → Underway start session items before node (item ∷ left) turns
-    → ((more : List Turn) × (after ≡ turns ++ more) × StopsAt node session item more mid)
-    → (more : List Turn) × (after ≡ before ++ more) × BreaksOff start session items more (closed mid session)
+      → ((more : List Turn) × (after ≡ turns ++ more) × StopsAt node session item more mid)
+      → (more : List Turn) × (after ≡ before ++ more) × BreaksOff start session items more (closed mid session)
   underway_broken node mid item left turns after u t =
       (u.done ++ t.0, t.1 ∙ ap (λ ts. ts ++ t.0) u.turns_are ∙ append_assoc before u.done t.0, u.breaks t.0 (closed mid session) (inl (mid, t.2, refl)))
 

@@ -8,7 +8,8 @@ use Rattle.imap_print.specs.declared.answer.Answer.{Answer}
 use Rattle.imap_print.specs.declared.answer.Answer.TheVariants.{Continue}
 use Rattle.imap_print.specs.declared.words.Continuation.TheVariants as continuations
 use Rattle.world_core.specs.FaultAnswers.{IsFaultAnswer, IsLiteralAnswer}
-use Rattle.world_core.specs.Nodes.{NodeState, IsGoing, HasLoggedOut, Responds, answers_of, closed}
+use Rattle.world_core.specs.Nodes.{NodeState, IsGoing, HasLoggedOut, answers_of, closed}
+use Rattle.world_core.specs.Responses.{Responds}
 use Rattle.world_core.specs.declared.reply.Reply.{Reply}
 use Rattle.world_core.specs.declared.turn.Turn.{Turn}
 use Rattle.world_core.specs.declared.turn.Turn.TheVariants.{Got, Sent}

@@ -1,6 +1,10 @@
 pub mod Conversation
+pub mod Dumps
 pub mod FaultAnswers
 pub mod Inputs
 pub mod Nodes
+pub mod Operations
+pub mod Replicas
+pub mod Responses
 pub mod Sessions
 pub mod Talks

@@ -1,6 +1,5 @@
-use Rattle.std.specs.Prelude.{◌≡◌, ◌⊎◌, ℕ, List, [], ◌∷◌, Option, Some, None}
+use Rattle.std.specs.Prelude.{◌≡◌, ℕ, List, [], ◌∷◌, Option, Some, None}
 use Rattle.crdt_ops.specs.declared.op.Op.{Op}
-use Rattle.imap_grammar.specs.declared.command.Tagged.{Tagged}
 use Rattle.imap_print.specs.declared.answer.Answer.{Answer}
 use Rattle.imap_print.specs.declared.answer.Answer.TheVariants as answers
 use Rattle.world_core.specs.Sessions.{Places, session_at, with_session}
@@ -32,7 +31,3 @@ closed node session = record node { sessions = with_session node.sessions sessio
 abbrev pub answers_of : Reply → List Answer
 answers_of (Done given issued) = given
 answers_of (Refused tag reason) = answers.Refused tag reason ∷ []
-
-abbrev pub Responds : NodeState → ℕ → Tagged → Reply → NodeState → Type 0
-Responds old session tagged (Done given issued) new = IsGoing new session ⊎ HasLoggedOut new session
-Responds old session tagged (Refused tag why) new = (new ≡ old) × (tag ≡ tagged.tag)

@@ -3,6 +3,7 @@
 
 mod dump;
 mod node;
+mod replica;
 mod reply;
 mod sessions;
 mod talking;

@@ -1,34 +1,44 @@
 //! A replica with its sessions.
 
-ghost use Rattle.std.specs.Prelude.{◌≡◌, [], IfOk, OnOk, OnErr, IsTrue, ◌↔◌};
+ghost use Rattle.std.specs.Prelude.{◌≡◌, ◌⊎◌, ◌↔◌, ◌<◌, ◌∷◌, [], IfOk, OnErr, IsTrue, vec_capacity, vec_len};
+ghost use Rattle.imap_grammar.specs.declared.command.Command.TheVariants.{Create, Delete, ListNames, Logout};
+ghost use Rattle.imap_print.specs.declared.words.Refusal.TheVariants.{NoMemory};
+ghost use Rattle.imap_types.specs.Names.{inbox};
+ghost use Rattle.world_core.specs.Operations.{CanIssue};
+ghost use Rattle.world_core.specs.Responses.{ListsAnswers, Replies, RepliesChange, completed, created_name, list_answer, without_last_separator};
+ghost use Rattle.world_core.specs.declared.reply.Reply.TheVariants.{Done as DoneReply, Refused as RefusedReply};
 
-use crate::reply::Reply;
+use crate::replica::{IssueFault, Replica};
+use crate::reply::{Answers, Issued, Reply};
 use crate::sessions::{OpenFault, SessionNo, SessionState, Sessions};
-use imap_grammar::Tagged;
-use imap_print::Refusal;
-use imap_types::Moment;
+use crdt_ops::Kind;
+use imap_grammar::{Command, Tagged};
+use imap_print::{Answer, ByeReason, CommandWord, MailboxState, Refusal};
+use imap_query::{ListEntry, list};
+use imap_types::{Moment, Name, Octets};
+use merge_laws::Caused;
 use std::alloc::{AllocError, Global};
 use std::marker::Model;
 use tags_clocks::ReplicaId;
 
-/// A replica with its sessions.
+/// A replica with its sessions. It answers from its own state alone.
 #[derive(Drop)]
 pub struct Node {
-    replica: ReplicaId,
+    replica: Replica,
     sessions: Sessions,
 }
 
 impl Model for Node {
-    ghost use Rattle.std.specs.Prelude.{[]};
     ghost use Rattle.world_core.specs.Nodes.{NodeState};
 
     ghost Value = { NodeState };
 
-    ghost view = { λ n. record { replica = n.replica; applied = []; held = []; sessions = n.sessions } };
+    ghost view = { λ n. record { replica = n.replica.replica; applied = n.replica.applied; held = n.replica.held; sessions = n.sessions } };
 }
 
 impl Node {
-    ghost use Rattle.world_core.specs.Nodes.{HasLoggedOut, IsGoing, Responds, closed};
+    ghost use Rattle.world_core.specs.Nodes.{IsGoing, closed};
+    ghost use Rattle.world_core.specs.Responses.{Responds};
     ghost use Rattle.world_core.specs.Sessions.{IsOpen, Opens, session_at};
 
     /// A replica of this name that has received nothing, without sessions; `Err` where there is no memory for it.
@@ -36,7 +46,7 @@ impl Node {
         ensures { IfOk result (λ node. node ≡ record { replica = replica; applied = []; held = []; sessions = [] }) }
     {
         Ok(Node {
-            replica,
+            replica: Replica::new(alloc, replica)?,
             sessions: Sessions::new(alloc),
         })
     }
@@ -72,7 +82,14 @@ impl Node {
         self.sessions.set(session, None);
     }
 
-    /// Carries out a command.
+    /// The replica's part of the node.
+    pub(crate) fn replica(&self) -> &Replica
+        ensures { (result.now.replica ≡ self.now.replica) × (result.now.applied ≡ self.now.applied) × (result.now.held ≡ self.now.held) }
+    {
+        &self.replica
+    }
+
+    /// Carries out a command of an open session, whole, or refuses it and changes nothing.
     pub fn command(
         &mut self,
         alloc: Global,
@@ -83,9 +100,226 @@ impl Node {
         requires { IsOpen self.old.sessions session }
         ensures { Responds self.old session tagged result self.new }
     {
-        Reply::Refused {
-            tag: tagged.tag,
-            reason: Refusal::NoMemory,
+        let Tagged { tag, command } = tagged;
+        match command {
+            Command::Noop => complete(alloc, tag, CommandWord::Noop),
+            Command::Logout => self.log_out(alloc, session, tag),
+            Command::Create { name } => self.create(alloc, session, tag, name),
+            Command::Delete { name } => self.delete(alloc, session, tag, name),
+            Command::ListNames { reference, pattern } => self.list_names(
+                alloc, session, tag, &reference, &pattern,
+            ),
         }
+    }
+
+    fn is_going(&self, session: SessionNo) -> bool
+        ensures { IsTrue result ↔ IsGoing self.now session }
+    {
+        self.session(session) == Some(SessionState::Authenticated)
+    }
+
+    /// LOGOUT (RFC 9051, section 6.1.3).
+    fn log_out(&mut self, alloc: Global, session: SessionNo, tag: Octets) -> Reply
+        requires { IsOpen self.old.sessions session }
+        ensures { Replies self.old session tag Logout result self.new }
+    {
+        let Ok(mut answers) = Vec::with_capacity(alloc, 2) else {
+            return refused(tag, Refusal::NoMemory);
+        };
+        answers.push_reserved(Answer::Bye {
+            reason: ByeReason::LoggingOut,
+        });
+        answers.push_reserved(completed(tag, CommandWord::Logout));
+        self.sessions.set(session, Some(SessionState::LoggedOut));
+        done(alloc, answers)
+    }
+
+    /// CREATE (RFC 9051, section 6.3.4). It makes no superior levels.
+    fn create(&mut self, alloc: Global, session: SessionNo, tag: Octets, name: Name) -> Reply
+        ensures { Replies self.old session tag (Create name) result self.new }
+    {
+        if !self.is_going(session) {
+            return refused(tag, Refusal::NotNow);
+        }
+        let folder = created(name);
+        if !folder.is_lawful() {
+            return refused(tag, Refusal::NameNotAllowed);
+        }
+        if self.replica.exists(&folder) {
+            return refused(tag, Refusal::MailboxExists);
+        }
+        self.change(alloc, tag, CommandWord::Create, Kind::Create { folder })
+    }
+
+    /// DELETE (RFC 9051, section 6.3.5).
+    fn delete(&mut self, alloc: Global, session: SessionNo, tag: Octets, folder: Name) -> Reply
+        ensures { Replies self.old session tag (Delete folder) result self.new }
+    {
+        if !self.is_going(session) {
+            return refused(tag, Refusal::NotNow);
+        }
+        if !self.replica.exists(&folder) {
+            return refused(tag, Refusal::NoSuchMailbox);
+        }
+        if is_inbox(&folder) {
+            return refused(tag, Refusal::InboxStays);
+        }
+        match self.replica.delete_set(alloc, &folder) {
+            Ok(seen) => self.change(
+                alloc,
+                tag,
+                CommandWord::Delete,
+                Kind::Delete { folder, seen },
+            ),
+            Err(_) => refused(tag, Refusal::NoMemory),
+        }
+    }
+
+    /// LIST (RFC 9051, section 6.3.9).
+    fn list_names(
+        &mut self,
+        alloc: Global,
+        session: SessionNo,
+        tag: Octets,
+        reference: &Octets,
+        pattern: &Octets,
+    ) -> Reply
+        ensures { Replies self.old session tag (ListNames reference.now pattern.now) result self.new }
+    {
+        if !self.is_going(session) {
+            return refused(tag, Refusal::NotNow);
+        }
+        match self.list_answers(alloc, reference, pattern) {
+            Ok(mut answers) => {
+                answers.push_reserved(completed(tag, CommandWord::List));
+                done(alloc, answers)
+            }
+            Err(_) => refused(tag, Refusal::NoMemory),
+        }
+    }
+
+    /// The answers of LIST, with room for one more.
+    fn list_answers(
+        &self,
+        alloc: Global,
+        reference: &Octets,
+        pattern: &Octets,
+    ) -> Result<Vec<Answer>, AllocError>
+        ensures given { IfOk result (λ answers. ListsAnswers self.now.applied reference.now pattern.now answers.items) }
+        ensures room { IfOk result (λ answers. vec_len answers < vec_capacity answers) }
+    {
+        let folders = self.replica.folders(alloc)?;
+        let entries = list(alloc, reference.as_bytes(), pattern.as_bytes(), &folders)?;
+        let mut answers = Vec::new(alloc);
+        for entry in entries.iter() {
+            answers.push(list_answer(alloc, entry)?)?;
+        }
+        answers.reserve(1)?;
+        Ok(answers)
+    }
+
+    /// Issues one operation of this kind, and answers OK.
+    fn change(&mut self, alloc: Global, tag: Octets, word: CommandWord, kind: Kind) -> Reply
+        requires { CanIssue self.old.applied kind }
+        ensures { RepliesChange self.old tag word kind result self.new }
+    {
+        let (Ok(mut answers), Ok(mut issued)) = (
+            Vec::with_capacity(alloc, 1),
+            Vec::with_capacity(alloc, 1),
+        ) else {
+            return refused(tag, Refusal::NoMemory);
+        };
+        let op = match self.replica.next_op(alloc, kind) {
+            Ok(op) => op,
+            Err(IssueFault::NumberUsedUp) => return refused(tag, Refusal::NumberUsedUp),
+            Err(IssueFault::NoMemory) => return refused(tag, Refusal::NoMemory),
+        };
+        let Ok(copy) = op.copy(alloc) else {
+            return refused(tag, Refusal::NoMemory);
+        };
+        if let Err(_) = self.replica.issue(alloc, op) {
+            return refused(tag, Refusal::NoMemory);
+        }
+        issued.push_reserved(copy);
+        answers.push_reserved(completed(tag, word));
+        Reply::Done {
+            answers: Answers::new(answers),
+            issued: Issued::new(issued),
+        }
+    }
+}
+
+fn refused(tag: Octets, reason: Refusal) -> Reply
+    ensures { result ≡ RefusedReply tag reason }
+{
+    Reply::Refused { tag, reason }
+}
+
+/// The tagged OK of a command.
+fn completed(tag: Octets, command: CommandWord) -> Answer
+    ensures { result ≡ completed tag command }
+{
+    Answer::Completed {
+        tag,
+        code: None,
+        command,
+    }
+}
+
+/// A reply that issues nothing.
+fn done(alloc: Global, answers: Vec<Answer>) -> Reply
+    ensures { result ≡ DoneReply answers.items [] }
+{
+    Reply::Done {
+        answers: Answers::new(answers),
+        issued: Issued::new(Vec::new(alloc)),
+    }
+}
+
+/// The reply to a command that is answered OK and does nothing.
+fn complete(alloc: Global, tag: Octets, command: CommandWord) -> Reply
+    ensures { (result ≡ RefusedReply tag NoMemory) ⊎ (result ≡ DoneReply (completed tag command ∷ []) []) }
+{
+    let Ok(mut answers) = Vec::with_capacity(alloc, 1) else {
+        return refused(tag, Refusal::NoMemory);
+    };
+    answers.push_reserved(completed(tag, command));
+    done(alloc, answers)
+}
+
+fn list_answer(alloc: Global, entry: &ListEntry) -> Result<Answer, AllocError>
+    ensures { IfOk result (λ answer. answer ≡ list_answer entry.now) }
+{
+    Ok(Answer::List {
+        name: entry.name.copy(alloc)?,
+        state: if entry.is_mailbox {
+            MailboxState::There
+        } else {
+            MailboxState::NoSelect
+        },
+        subscribed: false,
+    })
+}
+
+fn is_inbox(name: &Name) -> bool
+    ensures { IsTrue result ↔ (name.now ≡ inbox) }
+{
+    name.as_bytes() == b"INBOX".as_slice()
+}
+
+/// The name that CREATE makes of the one that was asked for.
+fn created(name: Name) -> Name
+    ensures { result ≡ created_name name }
+{
+    let mut octets = name.into_vec();
+    drop_last_separator(&mut octets);
+    Name::new(octets).folded()
+}
+
+fn drop_last_separator(octets: &mut Vec<u8>)
+    ensures { octets.new.items ≡ without_last_separator octets.old.items }
+{
+    if let [.., b'/'] = octets.as_slice() {
+        octets.truncate(octets.len() - 1);
     }
 }

@@ -52,7 +52,11 @@ fn send_reply(alloc: Global, turns: &mut Vec<Turn>, reply: Reply) -> Result<(), 
 {
     match reply {
         Reply::Done { answers, .. } => send_all(alloc, turns, answers.as_slice()),
-        Reply::Refused { tag, reason } => send_all(alloc, turns, &[Answer::Refused { tag, reason }]),
+        Reply::Refused { tag, reason } => send_all(
+            alloc,
+            turns,
+            &[Answer::Refused { tag, reason }],
+        ),
     }
 }
 
@@ -168,9 +172,13 @@ fn take_item(
     ensures open { IsGoing node.new session ⊎ HasLoggedOut node.new session }
 {
     match item {
-        Item::Ready => send_all(alloc, turns, &[Answer::Continue {
+        Item::Ready => send_all(
+            alloc,
+            turns,
+            &[Answer::Continue {
                 with: Continuation::Ready,
-            }]),
+            }],
+        ),
         Item::Frame(frame) => take_frame(alloc, node, session, moment, frame.bytes(), turns),
         Item::Refused(front) => refuse_literal(alloc, front.bytes(), turns),
     }

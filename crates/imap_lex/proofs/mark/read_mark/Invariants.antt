@@ -1,5 +1,5 @@
 use Rattle.std.proofs.Common.{◌≡◌, length}
-use Rattle.imap_lex.specs.Reading.{mark_at}
+use Rattle.imap_lex.specs.MarkReading.{mark_at}
 use Rattle.imap_lex.proofs.mark.read_mark.Given as goal
 
 abbrev pub invariant-loop-rest : goal.invariant-loop-rest

@@ -1,0 +1,4 @@
+mod Clocks
+mod Places
+mod Ascending
+mod Received

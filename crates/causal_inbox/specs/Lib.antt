@@ -1,0 +1,4 @@
+pub mod Seen
+pub mod Kept
+pub mod Delivery
+pub mod Standing

@@ -1,0 +1,14 @@
+//! The inbox of a replica: it applies each operation once, behind all its causes, and holds those that come early.
+//!
+//! This is causal delivery as operation-based replicated types ask for it (Jungnickel, Oldenburg, Loibl, OPODIS 2017). The
+//! inbox serves any [`merge_laws::Replicated`] value, and tells a [`merge_laws::Follower`] each operation that it applies.
+#![tactic(auto)]
+
+mod answers;
+mod held;
+mod history;
+mod inbox;
+mod search;
+
+pub use answers::{Arrival, DeliverFault, Delivered, Drained, IssueFault};
+pub use inbox::{HELD_LIMIT, Inbox};

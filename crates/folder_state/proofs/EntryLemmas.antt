@@ -1,0 +1,114 @@
+use Rattle.std.proofs.Common.{◌≡◌, ℕ, Bool, true, false, cond, not, ◌&&◌, ◌||◌, Option, None, Some, List, [], ◌∷◌, ◌++◌, refl, sym, ap, ◌∙◌}
+use Rattle.std.specs.List.{filter, list_any}
+use Rattle.std.specs.Option.{option_or}
+use Rattle.std.specs.Str.{bytes_eq}
+use Rattle.std.proofs.lemmas.Bool.{and_parts}
+use Rattle.std.proofs.lemmas.Slice.Eq.{bytes_eq-Decides}
+use Rattle.tags_clocks.specs.declared.id.OpId.{OpId}
+use Rattle.tags_clocks.proofs.Decide.{ids_decide}
+use Rattle.crdt_ops.specs.Order.{same_id}
+use Rattle.crdt_ops.specs.Sets.{Body, Letter, first_given}
+use Rattle.folder_state.specs.declared.tables.FolderEntry.{FolderEntry}
+use Rattle.folder_state.specs.declared.tables.MessageEntry.{MessageEntry}
+use Rattle.folder_state.specs.declared.tables.LetterEntry.{LetterEntry}
+use Rattle.folder_state.specs.Keys.{is_among, is_at}
+use Rattle.folder_state.specs.Entries.{body_in, letter_in, tag_in}
+
+-- the tests say that folder and id are equal
+at_is : (f g : List ℕ) (i j : OpId) → is_at f i g j ≡ true → (f ≡ g) × (i ≡ j)
+at_is f g i j h =
+    let p = and_parts (bytes_eq f g) (same_id i j) h in
+    ((bytes_eq-Decides f g).0 p.0, (ids_decide i j).0 p.1)
+
+or-none : {Y : Type 0} (x : Option Y) → option_or x None ≡ x
+or-none None = refl
+or-none (Some y) = refl
+
+and-false : (b : Bool) → false ≡ (b && false)
+and-false true = refl
+and-false false = refl
+
+cond-none : {Y : Type 0} (r : Bool) → ◌≡◌ {A = Option Y} None (cond r None None)
+cond-none true = refl
+cond-none false = refl
+
+any_step : (a b r rest after : Bool) → (a ≡ true → b ≡ not r) → after ≡ (not r && rest) → cond b (a || after) after ≡ (not r && (a || rest))
+any_step true b true rest after h ih = rw (h refl) ih
+any_step true b false rest after h ih = rw (h refl) refl
+any_step false true r rest after h ih = ih
+any_step false false r rest after h ih = ih
+
+module _ {E : Type 0} where
+  any_cond : (p : E → Bool) (b : Bool) (e : E) (es : List E) → list_any p (cond b (e ∷ es) es) ≡ cond b (p e || list_any p es) (list_any p es)
+  any_cond p true e es = refl
+  any_cond p false e es = refl
+
+  -- what is sought passes the filter, or all of it doesn't
+  any_filtered : (p q : E → Bool) (r : Bool) → ((e : E) → p e ≡ true → q e ≡ not r) → (es : List E) → list_any p (filter q es) ≡ (not r && list_any p es)
+  any_filtered p q r h [] = and-false (not r)
+  any_filtered p q r h (e ∷ es) =
+      any_cond p (q e) e (filter q es) ∙ any_step (p e) (q e) r (list_any p es) (list_any p (filter q es)) (h e) (any_filtered p q r h es)
+
+  module _ {Y : Type 0} (g : E → Y) where
+    first_cond : (f : E → Option Y) (b : Bool) (e : E) (es : List E) → first_given f (cond b (e ∷ es) es) ≡ cond b (option_or (f e) (first_given f es)) (first_given f es)
+    first_cond f true e es = refl
+    first_cond f false e es = refl
+
+    first_step : (a b r : Bool) (y : Y) (rest after : Option Y) → (a ≡ true → b ≡ not r) → after ≡ cond r None rest → cond b (option_or (cond a (Some y) None) after) after ≡ cond r None (option_or (cond a (Some y) None) rest)
+    first_step true b true y rest after h ih = rw (h refl) ih
+    first_step true b false y rest after h ih = rw (h refl) refl
+    first_step false true r y rest after h ih = ih
+    first_step false false r y rest after h ih = ih
+
+    first_filtered : (p q : E → Bool) (r : Bool) → ((e : E) → p e ≡ true → q e ≡ not r) → (es : List E) → first_given (λ e. cond (p e) (Some (g e)) None) (filter q es) ≡ cond r None (first_given (λ e. cond (p e) (Some (g e)) None) es)
+    first_filtered p q r h [] = cond-none r
+    first_filtered p q r h (e ∷ es) =
+        first_cond (λ e. cond (p e) (Some (g e)) None) (q e) e (filter q es)
+        ∙ first_step (p e) (q e) r (g e) (first_given (λ e. cond (p e) (Some (g e)) None) es) (first_given (λ e. cond (p e) (Some (g e)) None) (filter q es)) (h e) (first_filtered p q r h es)
+
+    first-push : (f : E → Option Y) (es : List E) (e : E) → first_given f (es ++ e ∷ []) ≡ option_or (first_given f es) (f e)
+    first-push f [] e = or-none (f e)
+    first-push f (x ∷ es) e = ap (option_or (f x)) (first-push f es e) ∙ or_or (f x) (first_given f es) (f e)
+      where
+        or_or : (x y z : Option Y) → option_or x (option_or y z) ≡ option_or (option_or x y) z
+        or_or None y z = refl
+        or_or (Some v) y z = refl
+
+    put_step : (r : Bool) (y : Y) (rest : Option Y) → option_or (cond r None rest) (cond r (Some y) None) ≡ cond r (Some y) rest
+    put_step true y rest = refl
+    put_step false y rest = or-none rest
+
+    -- one put in place of those with its key
+    first_put : (p q : E → Bool) (e : E) → ((x : E) → p x ≡ true → q x ≡ not (p e)) → (es : List E) → first_given (λ x. cond (p x) (Some (g x)) None) (filter q es ++ e ∷ []) ≡ cond (p e) (Some (g e)) (first_given (λ x. cond (p x) (Some (g x)) None) es)
+    first_put p q e h es =
+        first-push (λ x. cond (p x) (Some (g x)) None) (filter q es) e
+        ∙ ap (λ o. option_or o (cond (p e) (Some (g e)) None)) (first_filtered p q (p e) h es)
+        ∙ put_step (p e) (g e) (first_given (λ x. cond (p x) (Some (g x)) None) es)
+
+-- the folder tags that are left
+pub tags_left : (old new : List FolderEntry) (folder : List ℕ) (ids : List OpId) → new ≡ filter (λ entry. not (is_among entry.folder entry.id folder ids)) old → (f : List ℕ) (i : OpId) → tag_in new f i ≡ (not (is_among f i folder ids) && tag_in old f i)
+tags_left old new folder ids e f i =
+    ap (λ es. tag_in es f i) e
+    ∙ any_filtered (λ entry. is_at f i entry.folder entry.id) (λ entry. not (is_among entry.folder entry.id folder ids)) (is_among f i folder ids)
+    (λ entry h k. not (is_among (sym (at_is f entry.folder i entry.id h).0 k) (sym (at_is f entry.folder i entry.id h).1 k) folder ids)) old
+
+-- the messages that are left
+pub bodies_left : (old new : List MessageEntry) (folder : List ℕ) (ids : List OpId) → new ≡ filter (λ entry. not (is_among entry.folder entry.id folder ids)) old → (f : List ℕ) (i : OpId) → body_in new f i ≡ cond (is_among f i folder ids) None (body_in old f i)
+bodies_left old new folder ids e f i =
+    ap (λ es. body_in es f i) e
+    ∙ first_filtered (λ (entry : MessageEntry). let body : Body = record { flags = entry.flags; origin = entry.origin } in body) (λ entry. is_at f i entry.folder entry.id) (λ entry. not (is_among entry.folder entry.id folder ids)) (is_among f i folder ids)
+    (λ entry h k. not (is_among (sym (at_is f entry.folder i entry.id h).0 k) (sym (at_is f entry.folder i entry.id h).1 k) folder ids)) old
+
+-- a message put in
+pub body_put : (old new : List MessageEntry) (message : MessageEntry) → new ≡ filter (λ entry. not (is_at entry.folder entry.id message.folder message.id)) old ++ message ∷ [] → (f : List ℕ) (i : OpId) → body_in new f i ≡ cond (is_at f i message.folder message.id) (Some (record { flags = message.flags; origin = message.origin })) (body_in old f i)
+body_put old new message e f i =
+    ap (λ es. body_in es f i) e
+    ∙ first_put (λ (entry : MessageEntry). let body : Body = record { flags = entry.flags; origin = entry.origin } in body) (λ entry. is_at f i entry.folder entry.id) (λ entry. not (is_at entry.folder entry.id message.folder message.id)) message
+    (λ entry h k. not (is_at (sym (at_is f entry.folder i entry.id h).0 k) (sym (at_is f entry.folder i entry.id h).1 k) message.folder message.id)) old
+
+-- a date and text put in
+pub letter_put : (old new : List LetterEntry) (letter : LetterEntry) → new ≡ filter (λ entry. not (same_id entry.id letter.id)) old ++ letter ∷ [] → (i : OpId) → letter_in new i ≡ cond (same_id i letter.id) (Some (record { date = letter.date; text = letter.text })) (letter_in old i)
+letter_put old new letter e i =
+    ap (λ es. letter_in es i) e
+    ∙ first_put (λ (entry : LetterEntry). let text : Letter = record { date = entry.date; text = entry.text } in text) (λ entry. same_id i entry.id) (λ entry. not (same_id entry.id letter.id)) letter
+    (λ entry h k. not (same_id (sym ((ids_decide i entry.id).0 h) k) letter.id)) old

@@ -1,0 +1,20 @@
+use Rattle.std.proofs.Common.{not, ◌&&◌, sym, ap, ◌∙◌}
+use Rattle.std.specs.List.{list_any}
+use Rattle.crdt_ops.specs.declared.kind.Kind.{Kind}
+use Rattle.crdt_ops.specs.Tags.{FolderTag, removed_by, same_tag}
+use Rattle.crdt_ops.specs.TagLaws.{delete_removes_folder_tags, unsubscribe_keeps_folder_tags}
+use Rattle.folder_state.specs.Entries.{tag_in}
+use Rattle.folder_state.specs.Keys.{is_among}
+use Rattle.folder_state.proofs.changes.forget_removed_tags.Goals as goal
+
+pub returns-in-Delete-clause-found : goal.returns-in-Delete-clause-found
+returns-in-Delete-clause-found c = λ f i.
+    c.forget_tags.ensures.found f i
+    ∙ ap (λ ids. not (is_among f i c.in-Delete.folder ids) && tag_in c.args.tags.now.items f i) c.as_slice.ensures.ids
+    ∙ ap (λ b. not b && tag_in c.args.tags.now.items f i)
+    (sym (ap (λ (kind : Kind). list_any (same_tag (FolderTag f i)) (removed_by kind)) c.in-Delete.is ∙ delete_removes_folder_tags f c.in-Delete.folder i c.in-Delete.seen))
+
+pub returns-in-Unsubscribe-clause-found : goal.returns-in-Unsubscribe-clause-found
+returns-in-Unsubscribe-clause-found c = λ f i.
+    ap (λ b. not b && tag_in c.args.tags.now.items f i)
+    (sym (ap (λ (kind : Kind). list_any (same_tag (FolderTag f i)) (removed_by kind)) c.in-Unsubscribe.is ∙ unsubscribe_keeps_folder_tags f c.in-Unsubscribe.name i c.in-Unsubscribe.seen))

@@ -1,0 +1,137 @@
+//! The replicated folders.
+
+use crate::changes::{forget_removed_messages, forget_removed_tags, keep_added};
+use crate::lookups::{all_ids, folder_names, has_folder, message_ids, tag_ids};
+use crate::reading::messages_at;
+use crate::tables::{FolderEntry, LetterEntry, MessageEntry, copied};
+use crdt_ops::{Ids, Message, SoundOp};
+use imap_types::Name;
+use merge_laws::Replicated;
+use std::alloc::{AllocError, Global};
+use std::collections::VecDeque;
+
+/// Folders with their messages, changed by operations in any causal order.
+#[derive(Drop)]
+pub struct Folders {
+    tags: Vec<FolderEntry>,
+    messages: Vec<MessageEntry>,
+    letters: Vec<LetterEntry>,
+    spare: VecDeque<SoundOp>,
+}
+
+impl Folders {
+    ghost use Rattle.std.specs.Prelude.{◌≡◌, ◌↔◌, List, IfOk, IsTrue, true};
+    ghost use Rattle.imap_types.specs.Ascending.{compared};
+    ghost use Rattle.merge_laws.specs.Orders.{IsIn};
+    ghost use Rattle.crdt_ops.specs.declared.op.Op.{Op as Operation};
+    ghost use Rattle.crdt_ops.specs.Order.{IsListOf, id_order};
+    ghost use Rattle.crdt_ops.specs.Sets.{delete_set_of, folder_tags_of, folders_of, messages_of};
+    ghost use Rattle.folder_state.specs.Contents.{AreMessages, HasTag, IsFolder, IsMadeBy, no_contents};
+    ghost use Rattle.folder_state.specs.Tables.{contents_of};
+
+    /// No folders but INBOX, no messages, and no memory.
+    pub fn new(alloc: Global) -> Folders
+        ensures { contents_of result ≡ no_contents }
+    {
+        Folders {
+            tags: Vec::new(alloc),
+            messages: Vec::new(alloc),
+            letters: Vec::new(alloc),
+            spare: VecDeque::new(alloc),
+        }
+    }
+
+    /// Whether this folder is there: INBOX, or a name with a present tag. Takes no memory.
+    pub fn exists(&self, name: &Name) -> bool
+        ensures contents { IsTrue result ↔ IsFolder (contents_of self.now) name.now }
+        ensures set { (ops : List Operation) → IsMadeBy (contents_of self.now) ops → IsTrue result ↔ IsIn name.now (folders_of ops) }
+    {
+        has_folder(&self.tags, &self.messages, name)
+    }
+
+    /// The names of the folders that are there, ascending by octets, INBOX among them; `Err` where there is no memory for
+    /// them.
+    pub fn names(&self, alloc: Global) -> Result<Vec<Name>, AllocError>
+        ensures contents { IfOk result (λ names. IsListOf compared (IsFolder (contents_of self.now)) names.items) }
+        ensures set { (ops : List Operation) → IsMadeBy (contents_of self.now) ops → IfOk result (λ names. names.items ≡ folders_of ops) }
+    {
+        let names = folder_names(alloc, &self.tags, &self.messages)?;
+        Ok(names)
+    }
+
+    /// The ids of the folder's present folder tags; `Err` where there is no memory for them.
+    pub fn tags(&self, alloc: Global, folder: &Name) -> Result<Ids, AllocError>
+        ensures contents { IfOk result (λ ids. IsListOf id_order (λ i. (contents_of self.now).tags folder.now i ≡ true) ids) }
+        ensures set { (ops : List Operation) → IsMadeBy (contents_of self.now) ops → IfOk result (λ ids. ids ≡ folder_tags_of ops folder.now) }
+    {
+        let ids = tag_ids(alloc, &self.tags, folder)?;
+        Ok(ids)
+    }
+
+    /// The folder's messages, ascending by their ids: each present message tag with its flags and origin, and the date and
+    /// text of the Append that is its origin, whatever that one's folder. Where the origin is no Append that was applied,
+    /// the text is empty and the date the first moment of 1970. `Err` where there is no memory for them.
+    pub fn messages(&self, alloc: Global, folder: &Name) -> Result<Vec<Message>, AllocError>
+        ensures contents { IfOk result (λ messages. AreMessages (contents_of self.now) folder.now messages.items) }
+        ensures set { (ops : List Operation) → IsMadeBy (contents_of self.now) ops → IfOk result (λ messages. messages.items ≡ messages_of ops folder.now) }
+    {
+        let ids = message_ids(alloc, &self.messages, folder)?;
+        let messages = messages_at(alloc, &self.messages, &self.letters, folder, ids.as_slice())?;
+        Ok(messages)
+    }
+
+    /// The ids that a Delete of the folder lists: those of all its present tags, of both kinds; `Err` where there is no
+    /// memory for them.
+    pub fn delete_set(&self, alloc: Global, folder: &Name) -> Result<Ids, AllocError>
+        ensures contents { IfOk result (λ ids. IsListOf id_order (HasTag (contents_of self.now) folder.now) ids) }
+        ensures set { (ops : List Operation) → IsMadeBy (contents_of self.now) ops → IfOk result (λ ids. ids ≡ delete_set_of ops folder.now) }
+    {
+        let ids = all_ids(alloc, &self.tags, &self.messages, folder)?;
+        Ok(ids)
+    }
+}
+
+impl Replicated for Folders {
+    ghost use Rattle.folder_state.specs.Contents.{Contents, effect_of, no_contents};
+    ghost use Rattle.folder_state.specs.Tables.{IsPrepared, contents_of, prepared_first};
+    ghost use Rattle.folder_state.specs.Laws.{effects_commute};
+
+    type Op = SoundOp;
+
+    ghost Meaning = { Contents };
+
+    ghost meaning = { contents_of };
+
+    ghost effect = { effect_of };
+
+    ghost initial = { no_contents };
+
+    ghost is_prepared = { IsPrepared };
+
+    ghost first = { prepared_first };
+
+    ghost commutes = { effects_commute };
+
+    fn prepare(&mut self, alloc: Global, ops: &[SoundOp]) -> Result<(), AllocError> {
+        let copies = copied(alloc, ops)?;
+        self.tags.reserve(ops.len())?;
+        self.messages.reserve(ops.len())?;
+        self.letters.reserve(ops.len())?;
+        self.spare = copies;
+        Ok(())
+    }
+
+    fn apply(&mut self, op: &SoundOp) {
+        forget_removed_tags(&mut self.tags, op.op());
+        forget_removed_messages(&mut self.messages, op.op());
+        match self.spare.pop_front() {
+            Some(copy) => keep_added(
+                &mut self.tags,
+                &mut self.messages,
+                &mut self.letters,
+                copy.into_op(),
+            ),
+            None => unreachable!(),
+        }
+    }
+}

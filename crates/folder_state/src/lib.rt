@@ -1,0 +1,15 @@
+//! Folders and their messages, as replicated values (Jungnickel, Oldenburg, Loibl, OPODIS 2017).
+//!
+//! [`Folders`] keeps the present folder tags and message tags of the operations applied, and the dates and texts of all
+//! Appends. What it tells of any causal list of sound operations is what the set of them means.
+#![tactic(auto)]
+
+mod changes;
+mod folders;
+mod laws;
+mod lookups;
+mod reading;
+mod tables;
+
+pub use folders::Folders;
+pub use laws::{contents_follow_the_set, folders_for_all_orders};

@@ -1,0 +1,5 @@
+//! Tests of the texts: framing, grammar, printing and mail texts.
+#![tactic(auto)]
+
+#[cfg(test)]
+mod framing;

@@ -1,0 +1,165 @@
+//! A replica without its sessions: the operations that it received, and what they lead to.
+
+ghost use Rattle.std.specs.Prelude.{◌≡◌, ◌↔◌, ◌++◌, ◌∷◌, [], IfOk, OnOk, OnErr, IsTrue, Err, map};
+ghost use Rattle.causal_inbox.specs.Seen.{AreKept, IsClockOf};
+ghost use Rattle.crdt_ops.specs.Sets.{delete_set_of, folder_tags_of, folders_of};
+ghost use Rattle.crdt_ops.specs.declared.op.Op.{Op as Operation};
+ghost use Rattle.folder_state.specs.Contents.{IsMadeBy};
+ghost use Rattle.folder_state.specs.Tables.{contents_of};
+ghost use Rattle.crdt_ops.specs.Sound.{CoversNamed, HasLawfulFlags, IsDeleteOfInbox, IsSound};
+ghost use Rattle.crdt_ops.specs.Tags.{name_of};
+ghost use Rattle.imap_types.specs.Names.{IsLawfulName};
+ghost use Rattle.merge_laws.specs.Orders.{IsCausal};
+ghost use Rattle.world_core.specs.Operations.{CanIssue, IsNext, IsThere, IsUsedUp};
+
+use causal_inbox::Inbox;
+use crdt_ops::{Ids, Kind, Op, SoundOp, check};
+use folder_state::Folders;
+use imap_types::Name;
+use merge_laws::Unfollowed;
+use std::alloc::{AllocError, Global};
+use std::marker::Model;
+use tags_clocks::{Clock, OpId, ReplicaId};
+use thiserror::Error;
+
+/// Why an operation can't be issued. The replica stays as it was.
+#[derive(Clone, Copy, Debug, PartialEq, Eq, Error)]
+pub enum IssueFault {
+    /// The replica's last number was given.
+    #[error("number used up")]
+    NumberUsedUp,
+    /// There is no memory for it.
+    #[error("no memory")]
+    NoMemory,
+}
+
+/// A replica without its sessions.
+#[derive(Drop)]
+pub struct Replica {
+    id: ReplicaId,
+    inbox: Inbox<Folders, Unfollowed>,
+}
+
+impl Model for Replica {
+    ghost use Rattle.world_core.specs.Replicas.{ReplicaState};
+
+    ghost Value = { ReplicaState };
+
+    ghost view = { λ r. record { replica = r.id; applied = r.inbox.seen.applied; held = r.inbox.seen.held } };
+}
+
+impl Replica {
+    /// A replica of this name that has received nothing; `Err` where there is no memory for it.
+    pub fn new(alloc: Global, id: ReplicaId) -> Result<Replica, AllocError>
+        ensures { IfOk result (λ replica. replica ≡ record { replica = id; applied = []; held = [] }) }
+    {
+        Ok(Replica {
+            id,
+            inbox: Inbox::new(alloc, Folders::new(alloc), Unfollowed)?,
+        })
+    }
+
+    /// The operations applied, in their order.
+    pub fn applied(&self) -> &[SoundOp]
+        ensures { result.now ≡ self.now.applied }
+    {
+        self.inbox.op_list()
+    }
+
+    /// The replica's name.
+    pub fn id(&self) -> ReplicaId
+        ensures { result ≡ self.now.replica }
+    {
+        self.id
+    }
+
+    /// The clock that counts the operations applied.
+    pub fn clock(&self) -> &Clock
+        ensures counts { IsClockOf (λ (o : Operation). o.id) self.now.applied result.now }
+    {
+        self.inbox.clock()
+    }
+
+    /// The next operation of this replica, which is to do this.
+    pub fn next_op(&self, alloc: Global, kind: Kind) -> Result<SoundOp, IssueFault>
+        requires { CanIssue self.now.applied kind }
+        ensures ok { IfOk result (λ op. IsNext self.now.replica self.now.applied op) }
+        ensures kind { IfOk result (λ op. op.kind ≡ kind) }
+        ensures used_up { result ≡ Err IssueFault.NumberUsedUp → IsUsedUp self.now.replica self.now.applied }
+    {
+        let clock = self.inbox.clock();
+        let Some(number) = clock.get(self.id).checked_add(1) else {
+            return Err(IssueFault::NumberUsedUp);
+        };
+        let Some(id) = OpId::new(self.id, number) else {
+            unreachable!()
+        };
+        let clock = match clock.copy(alloc) {
+            Ok(clock) => clock,
+            Err(_) => return Err(IssueFault::NoMemory),
+        };
+        match check(Op { id, clock, kind }) {
+            Ok(op) => Ok(op),
+            Err(_) => unreachable!(),
+        }
+    }
+
+    /// Applies the replica's own next operation. An error leaves the replica as it was.
+    pub fn issue(&mut self, alloc: Global, op: SoundOp) -> Result<(), IssueFault>
+        requires { IsNext self.old.replica self.old.applied op }
+        ensures applied { OnOk result (self.new.applied ≡ self.old.applied ++ op ∷ []) }
+        ensures held { OnOk result (AreKept (λ (o : Operation). o.id) (op ∷ []) self.old.held self.new.held) }
+        ensures replica { self.new.replica ≡ self.old.replica }
+        ensures memory { result ≡ Err IssueFault.NumberUsedUp → ⊥ }
+        ensures err { OnErr result (self.new ≡ self.old) }
+    {
+        let mut ops = match Vec::with_capacity(alloc, 1) {
+            Ok(ops) => ops,
+            Err(_) => return Err(IssueFault::NoMemory),
+        };
+        ops.push_reserved(op);
+        if let Err(_) = self.inbox.ready(alloc, &ops) {
+            return Err(IssueFault::NoMemory);
+        }
+        self.inbox.issue(ops);
+        Ok(())
+    }
+
+    /// Whether the mailbox is there. INBOX always is; a name that isn't lawful never is.
+    pub fn exists(&self, name: &Name) -> bool
+        ensures { IsTrue result ↔ IsThere self.now.applied name.now }
+    {
+        let folders = self.folders_now();
+        name.is_lawful() && folders.exists(name)
+    }
+
+    /// The mailboxes, ascending, none twice; `Err` where there is no memory for them.
+    pub fn folders(&self, alloc: Global) -> Result<Vec<Name>, AllocError>
+        ensures { IfOk result (λ names. names.items ≡ folders_of self.now.applied) }
+    {
+        self.folders_now().names(alloc)
+    }
+
+    /// The ids of the folder's present folder tags, ascending; `Err` where there is no memory for them.
+    pub fn tags(&self, alloc: Global, name: &Name) -> Result<Ids, AllocError>
+        ensures { IfOk result (λ ids. ids ≡ folder_tags_of self.now.applied name.now) }
+    {
+        self.folders_now().tags(alloc, name)
+    }
+
+    /// The ids of the folder's present tags, ascending, of folders and messages alike; `Err` where there is no memory for
+    /// them.
+    pub fn delete_set(&self, alloc: Global, name: &Name) -> Result<Ids, AllocError>
+        ensures { IfOk result (λ ids. ids ≡ delete_set_of self.now.applied name.now) }
+    {
+        self.folders_now().delete_set(alloc, name)
+    }
+
+    /// The folders to which the operations applied led.
+    fn folders_now(&self) -> &Folders
+        ensures { IsMadeBy (contents_of result.now) self.now.applied }
+    {
+        let _list = self.inbox.op_list();
+        self.inbox.value()
+    }
+}
