@@ -2,3 +2,4 @@ pub mod OrderLemmas
 pub mod TextLemmas
 pub mod Members
 pub mod SetLemmas
+pub mod Presence

@@ -1,4 +1,4 @@
-use Rattle.std.specs.Prelude.{◌≡◌, ℕ, ◌&&◌, Bool, true, false, List, [], ◌∷◌, map}
+use Rattle.std.specs.Prelude.{not, ◌≡◌, ℕ, ◌&&◌, Bool, true, false, List, [], ◌∷◌, map}
 use Rattle.std.specs.List.{list_any}
 use Rattle.std.specs.Str.{bytes_eq}
 use Rattle.std.proofs.Common.{◌||◌, refl, sym, ap, ◌∙◌, subst, inl, inr}
@@ -119,3 +119,21 @@ unsubscribe_keeps_folder_tags f m i seen = any_made (FolderTag f i) (Subscriptio
 
 pub unsubscribe_keeps_message_tags : (f m : List ℕ) (i : OpId) (seen : List OpId) → list_any (same_tag (MessageTag f i)) (removed_by (Unsubscribe m seen)) ≡ false
 unsubscribe_keeps_message_tags f m i seen = any_made (MessageTag f i) (SubscriptionTag m) false i (λ j k. false) seen
+
+-- Two changes of a tag's presence may be exchanged, where neither adds what the other removes.
+pub swap_tags : (aa ra ab rb v : Bool) → (aa ≡ true → rb ≡ true → ⊥) → (ab ≡ true → ra ≡ true → ⊥) → (ab || (not rb && (aa || (not ra && v)))) ≡ (aa || (not ra && (ab || (not rb && v))))
+swap_tags true ra true rb v h k = refl
+swap_tags true ra false true v h k = absurd (h refl refl)
+swap_tags true ra false false v h k = refl
+swap_tags false true true rb v h k = absurd (k refl refl)
+swap_tags false false true rb v h k = refl
+swap_tags false true false true v h k = refl
+swap_tags false true false false v h k = refl
+swap_tags false false false true v h k = refl
+swap_tags false false false false v h k = refl
+
+-- A Delete removes no subscription tag.
+pub delete_keeps_subscriptions : (n g : List ℕ) (i : OpId) (seen : List OpId) → list_any (same_tag (SubscriptionTag n i)) (removed_by (Delete g seen)) ≡ false
+delete_keeps_subscriptions n g i seen =
+    list_any-append (same_tag (SubscriptionTag n i)) (map (FolderTag g) seen) (map (MessageTag g) seen)
+    ∙ (λ k. any_made (SubscriptionTag n i) (FolderTag g) false i (λ j k. false) seen k || any_made (SubscriptionTag n i) (MessageTag g) false i (λ j k. false) seen k)

@@ -1,5 +1,5 @@
-use Rattle.std.proofs.Common.{◌≡◌, ℕ, Bool, true, false, cond, not, ◌&&◌, ◌||◌, Option, None, Some, List, [], ◌∷◌, ◌++◌, refl, sym, ap, ◌∙◌}
-use Rattle.std.specs.List.{filter, list_any}
+use Rattle.std.proofs.Common.{◌≡◌, ℕ, Bool, true, false, cond, not, ◌&&◌, Option, None, Some, List, [], ◌∷◌, ◌++◌, refl, sym, ap, ◌∙◌}
+use Rattle.std.specs.List.{filter}
 use Rattle.std.specs.Option.{option_or}
 use Rattle.std.specs.Str.{bytes_eq}
 use Rattle.std.proofs.lemmas.Bool.{and_parts}
@@ -8,6 +8,7 @@ use Rattle.tags_clocks.specs.declared.id.OpId.{OpId}
 use Rattle.tags_clocks.proofs.Decide.{ids_decide}
 use Rattle.crdt_ops.specs.Order.{same_id}
 use Rattle.crdt_ops.specs.Sets.{Body, Letter, first_given}
+use Rattle.crdt_ops.proofs.Members.{any_filtered}
 use Rattle.folder_state.specs.declared.tables.FolderEntry.{FolderEntry}
 use Rattle.folder_state.specs.declared.tables.MessageEntry.{MessageEntry}
 use Rattle.folder_state.specs.declared.tables.LetterEntry.{LetterEntry}
@@ -24,31 +25,11 @@ or-none : {Y : Type 0} (x : Option Y) → option_or x None ≡ x
 or-none None = refl
 or-none (Some y) = refl
 
-and-false : (b : Bool) → false ≡ (b && false)
-and-false true = refl
-and-false false = refl
-
 cond-none : {Y : Type 0} (r : Bool) → ◌≡◌ {A = Option Y} None (cond r None None)
 cond-none true = refl
 cond-none false = refl
 
-any_step : (a b r rest after : Bool) → (a ≡ true → b ≡ not r) → after ≡ (not r && rest) → cond b (a || after) after ≡ (not r && (a || rest))
-any_step true b true rest after h ih = rw (h refl) ih
-any_step true b false rest after h ih = rw (h refl) refl
-any_step false true r rest after h ih = ih
-any_step false false r rest after h ih = ih
-
 module _ {E : Type 0} where
-  any_cond : (p : E → Bool) (b : Bool) (e : E) (es : List E) → list_any p (cond b (e ∷ es) es) ≡ cond b (p e || list_any p es) (list_any p es)
-  any_cond p true e es = refl
-  any_cond p false e es = refl
-
-  -- what is sought passes the filter, or all of it doesn't
-  any_filtered : (p q : E → Bool) (r : Bool) → ((e : E) → p e ≡ true → q e ≡ not r) → (es : List E) → list_any p (filter q es) ≡ (not r && list_any p es)
-  any_filtered p q r h [] = and-false (not r)
-  any_filtered p q r h (e ∷ es) =
-      any_cond p (q e) e (filter q es) ∙ any_step (p e) (q e) r (list_any p es) (list_any p (filter q es)) (h e) (any_filtered p q r h es)
-
   module _ {Y : Type 0} (g : E → Y) where
     first_cond : (f : E → Option Y) (b : Bool) (e : E) (es : List E) → first_given f (cond b (e ∷ es) es) ≡ cond b (option_or (f e) (first_given f es)) (first_given f es)
     first_cond f true e es = refl

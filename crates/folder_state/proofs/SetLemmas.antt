@@ -1,39 +1,20 @@
-use Rattle.std.proofs.Common.{◌≡◌, inl, inr, ℕ, Bool, true, false, cond, not, ◌&&◌, ◌||◌, Option, None, Some, IsSome, List, [], ◌∷◌, refl, sym, ap, ◌∙◌, subst}
+use Rattle.std.proofs.Common.{◌≡◌, inl, inr, ℕ, Bool, true, false, cond, not, ◌&&◌, ◌||◌, Option, None, Some, IsSome, List, [], ◌∷◌, refl, sym, ◌∙◌, subst}
 use Rattle.std.specs.List.{list_any}
 use Rattle.std.specs.Option.{option_or}
 use Rattle.std.proofs.lemmas.Bool.{false≢true, false_from_ne_true, or_parts}
 use Rattle.tags_clocks.specs.declared.id.OpId.{OpId}
-use Rattle.merge_laws.specs.Orders.{AreSound, HasId, IsCausal, fold_of}
-use Rattle.merge_laws.proofs.Causal.{IsCausalAfter, causal_after}
+use Rattle.merge_laws.specs.Orders.{AreSound, IsCausal, fold_of}
+use Rattle.merge_laws.proofs.Causal.{causal_after}
 use Rattle.crdt_ops.specs.declared.kind.Kind.{Kind}
 use Rattle.crdt_ops.specs.declared.op.Op.{Op}
 use Rattle.crdt_ops.specs.Order.{same_id}
 use Rattle.crdt_ops.specs.Sound.{IsSound}
 use Rattle.crdt_ops.specs.Sets.{Body, Letter, body_by, body_from, first_given, letter_by, letter_from}
-use Rattle.crdt_ops.specs.Tags.{Tag, FolderTag, MessageTag, added_by, adds, id_at, is_some_tag, removes}
+use Rattle.crdt_ops.specs.Tags.{Tag, FolderTag, MessageTag, added_by, adds, is_some_tag, removes}
 use Rattle.crdt_ops.specs.declared.kind.Kind.TheVariants.{Create, Delete, Append, Expunge, Store, Subscribe, Unsubscribe}
-use Rattle.crdt_ops.specs.TagLaws.{adds_own, removes_cause, same_id_is}
+use Rattle.crdt_ops.specs.TagLaws.{adds_own, same_id_is}
+use Rattle.crdt_ops.proofs.Presence.{Causal, Has, changed, clock_of, id_of, later_ids, not_removed, present_after, removed_earlier}
 use Rattle.folder_state.specs.Contents.{Contents, IsMadeBy, contents_by, effect_of, no_contents}
-
-abbrev id_of : Op → OpId
-id_of o = o.id
-
-abbrev clock_of : Op → List (ℕ × ℕ)
-clock_of o = o.clock
-
-abbrev Causal : List Op → List Op → Type 0
-Causal = IsCausalAfter id_of clock_of
-
-abbrev Has : List Op → OpId → Type 0
-Has = HasId id_of
-
--- ---- what came earlier isn't added again
-
-no_adder : (t : Tag) (earlier os : List Op) → Has earlier (id_at t) → Causal earlier os → list_any (adds t) os ≡ false
-no_adder t earlier [] h c = refl
-no_adder t earlier (o ∷ os) h c =
-    let here : adds t o ≡ false = false_from_ne_true (adds t o) (λ a. c.0.1 (subst (Has earlier) (adds_own t o a) h)) in
-    (λ k. here k || list_any (adds t) os) ∙ no_adder t (o ∷ earlier) os (inr h) c.1
 
 no_body : (f : List ℕ) (i : OpId) (earlier os : List Op) → Has earlier i → Causal earlier os → first_given (body_from f i) os ≡ None
 no_body f i earlier [] h c = refl
@@ -47,42 +28,11 @@ no_letter i earlier (o ∷ os) h c =
     let here : same_id i o.id ≡ false = false_from_ne_true (same_id i o.id) (λ a. c.0.1 (subst (Has earlier) (same_id_is i o.id a) h)) in
     (λ k. option_or (cond (here k) (letter_by o.kind) None) (first_given (letter_from i) os)) ∙ no_letter i (o ∷ earlier) os (inr h) c.1
 
--- what is removed came earlier
-removed_earlier : (t : Tag) (earlier os : List Op) (o : Op) → AreSound IsSound (o ∷ os) → Causal earlier (o ∷ os) → removes t o ≡ true → Has earlier (id_at t)
-removed_earlier t earlier os o s c r = c.0.0 (id_at t) (removes_cause t o (s o (inl refl)) r)
-
-not_removed : (t : Tag) (earlier os : List Op) (o : Op) → AreSound IsSound (o ∷ os) → Causal earlier (o ∷ os) → removes t o ≡ true → adds t o ≡ false
-not_removed t earlier os o s c r =
-    false_from_ne_true (adds t o) (λ a. c.0.1 (subst (Has earlier) (adds_own t o a) (removed_earlier t earlier os o s c r)))
-
-later_ids : (t : Tag) (earlier : List Op) (o : Op) → adds t o ≡ true → Has (o ∷ earlier) (id_at t)
-later_ids t earlier o a = inl (sym (adds_own t o a))
-
 -- ---- the folder tags
 
-and-false : (b : Bool) → (b && false) ≡ false
-and-false true = refl
-and-false false = refl
-
-tag_step : (a r rest gone v : Bool) → (r ≡ true → a ≡ false) → (r ≡ true → rest ≡ false) → (a ≡ true → rest ≡ false) → ((rest || (a || (not r && v))) && not gone) ≡ (((a || rest) || v) && not (r || gone))
-tag_step true true rest gone v h k l = absurd (false≢true (sym (h refl)))
-tag_step true false rest gone v h k l = rw (l refl) refl
-tag_step false true rest gone v h k l = rw (k refl) (sym (and-false v))
-tag_step false false rest gone v h k l = refl
-
-tags_after : (f : List ℕ) (i : OpId) (earlier os : List Op) (v : Contents) → AreSound IsSound os → Causal earlier os → (fold_of effect_of v os).tags f i ≡ ((list_any (adds (FolderTag f i)) os || v.tags f i) && not (list_any (removes (FolderTag f i)) os))
-tags_after f i earlier [] v s c = sym (and-true (v.tags f i))
-  where
-    and-true : (b : Bool) → (b && true) ≡ b
-    and-true true = refl
-    and-true false = refl
-tags_after f i earlier (o ∷ os) v s c =
-    let t : Tag = FolderTag f i in
-    tags_after f i (o ∷ earlier) os (effect_of v o) (λ p h. s p (inr h)) c.1
-    ∙ tag_step (adds t o) (removes t o) (list_any (adds t) os) (list_any (removes t) os) (v.tags f i)
-    (not_removed t earlier os o s c)
-    (λ r. no_adder t (o ∷ earlier) os (inr (removed_earlier t earlier os o s c r)) c.1)
-    (λ a. no_adder t (o ∷ earlier) os (later_ids t earlier o a) c.1)
+tags_folded : (f : List ℕ) (i : OpId) (os : List Op) (v : Contents) → (fold_of effect_of v os).tags f i ≡ fold_of (changed (FolderTag f i)) (v.tags f i) os
+tags_folded f i [] v = refl
+tags_folded f i (o ∷ os) v = tags_folded f i os (effect_of v o)
 
 -- ---- the message tags
 
@@ -148,19 +98,12 @@ letters_after i earlier (o ∷ os) v c =
     ∙ letter_step (same_id i o.id) (letter_by o.kind) (first_given (letter_from i) os) (v.letters i)
     (λ a. no_letter i (o ∷ earlier) os (inl (sym (same_id_is i o.id a))) c.1)
 
-or_none_false : (b : Bool) → (b || false) ≡ b
-or_none_false true = refl
-or_none_false false = refl
-
 -- what a causal list of sound operations leaves is what the set of them means
 pub contents_after : (os : List Op) → AreSound IsSound os → IsCausal id_of clock_of os → fold_of effect_of no_contents os ≡ contents_by os
 contents_after os s c =
     let d : Causal [] os = causal_after id_of clock_of os c in
     λ k. record {
-      tags = λ f i. (
-          tags_after f i [] os no_contents s d
-          ∙ ap (λ b. b && not (list_any (removes (FolderTag f i)) os)) (or_none_false (list_any (adds (FolderTag f i)) os))
-          ) k;
+      tags = λ f i. (tags_folded f i os no_contents ∙ present_after (FolderTag f i) os s c) k;
       bodies = λ f i. (
           bodies_after f i [] os no_contents s d
           ∙ present_step (list_any (adds (MessageTag f i)) os) (list_any (removes (MessageTag f i)) os) (first_given (body_from f i) os) (none_given f i os)

@@ -3,8 +3,8 @@
 use crate::changes::{forget_removed_messages, forget_removed_tags, keep_added};
 use crate::lookups::{all_ids, folder_names, has_folder, message_ids, tag_ids};
 use crate::reading::messages_at;
-use crate::tables::{FolderEntry, LetterEntry, MessageEntry, copied};
-use crdt_ops::{Ids, Message, SoundOp};
+use crate::tables::{FolderEntry, LetterEntry, MessageEntry};
+use crdt_ops::{Ids, Message, SoundOp, copied_ops};
 use imap_types::Name;
 use merge_laws::Replicated;
 use std::alloc::{AllocError, Global};
@@ -113,7 +113,7 @@ impl Replicated for Folders {
     ghost commutes = { effects_commute };
 
     fn prepare(&mut self, alloc: Global, ops: &[SoundOp]) -> Result<(), AllocError> {
-        let copies = copied(alloc, ops)?;
+        let copies = copied_ops(alloc, ops)?;
         self.tags.reserve(ops.len())?;
         self.messages.reserve(ops.len())?;
         self.letters.reserve(ops.len())?;

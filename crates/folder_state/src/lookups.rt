@@ -10,10 +10,9 @@ ghost use Rattle.crdt_ops.specs.Order.{id_order, in_order, placed, same_id};
 ghost use Rattle.folder_state.specs.Entries.{body_in, folder_tag_of, letter_in, message_tag_of};
 
 use crate::tables::{FolderEntry, LetterEntry, MessageEntry};
-use crdt_ops::Ids;
+use crdt_ops::{Ids, place_name};
 use imap_types::Name;
 use std::alloc::{AllocError, Global};
-use std::cmp::Ordering;
 use tags_clocks::OpId;
 
 /// Whether the folder is there.
@@ -86,32 +85,6 @@ fn place_message_names(
         place_name(alloc, names, &entry.folder)?;
     }
     Ok(())
-}
-
-/// Puts a copy of the name in its place among ascending ones; one that is there stays once.
-fn place_name(alloc: Global, names: &mut Vec<Name>, name: &Name) -> Result<(), AllocError>
-    ensures { OnOk result (names.new.items ≡ placed compared name.now names.old.items) }
-{
-    if let Err(at) = place_of(names, name) {
-        names.insert(at, name.copy(alloc)?)?;
-    }
-    Ok(())
-}
-
-/// Where the name stands, or where it would be put.
-fn place_of(names: &[Name], name: &Name) -> Result<usize, usize>
-    ensures { MatchResult result
-        (λ at. placed compared name.now names.now ≡ names.now)
-        (λ at. (at ≤ length names.now) × (placed compared name.now names.now ≡ insert names.now at name.now)) }
-{
-    for (at, other) in names.iter().enumerate() {
-        match name.compare(other) {
-            Ordering::Less => return Err(at),
-            Ordering::Equal => return Ok(at),
-            Ordering::Greater => {}
-        }
-    }
-    Err(names.len())
 }
 
 /// The ids of the folder's folder tags, ascending.

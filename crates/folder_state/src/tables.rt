@@ -1,6 +1,6 @@
 //! The lists that folders are kept in, and the work on them.
 
-ghost use Rattle.std.specs.Prelude.{◌≡◌, ◌≤◌, ◌<◌, ◌+◌, ℕ, List, ◌∷◌, [], ◌++◌, IfOk, Some, None, not, ◌&&◌, ◌||◌, if◌then◌else◌};
+ghost use Rattle.std.specs.Prelude.{◌≡◌, ◌≤◌, ◌<◌, ◌+◌, ℕ, List, ◌∷◌, [], ◌++◌, Some, None, not, ◌&&◌, ◌||◌, if◌then◌else◌};
 ghost use Rattle.std.specs.List.{filter, list_any};
 ghost use Rattle.std.specs.Vec.{vec_len, vec_capacity};
 ghost use Rattle.crdt_ops.specs.Order.{same_id};
@@ -8,11 +8,7 @@ ghost use Rattle.tags_clocks.specs.declared.id.OpId.{OpId as Id};
 ghost use Rattle.folder_state.specs.Keys.{is_among, is_at};
 ghost use Rattle.folder_state.specs.Entries.{body_in, letter_in, tag_in};
 
-use crdt_ops::SoundOp;
 use imap_types::{DateTime, Flags, Name, Octets};
-use merge_laws::Caused;
-use std::alloc::{AllocError, Global};
-use std::collections::VecDeque;
 use tags_clocks::OpId;
 
 /// A present folder tag.
@@ -112,15 +108,4 @@ fn lists(ids: &[OpId], id: OpId) -> bool
     ensures { result ≡ list_any (same_id id) ids.now }
 {
     ids.iter().any(|other| id == *other)
-}
-
-/// Copies of the operations, in their order; `Err` where there is no memory for them.
-pub fn copied(alloc: Global, ops: &[SoundOp]) -> Result<VecDeque<SoundOp>, AllocError>
-    ensures { IfOk result (λ copies. copies.items ≡ ops.now) }
-{
-    let mut copies = VecDeque::new(alloc);
-    for op in ops {
-        copies.push_back(op.copy(alloc)?)?;
-    }
-    Ok(copies)
 }

@@ -1,3 +1,4 @@
 pub mod Lists
 pub mod Causal
 mod OneValue
+pub mod Pairs

@@ -1,12 +1,15 @@
 //! Two values changed by the same operations.
 
+use crate::follower::{Follower, NotReady};
 use crate::replicated::Replicated;
 use std::alloc::{AllocError, Global};
 
 /// Two values that the same operations change.
 #[derive(Drop)]
 pub struct Pair<A, B> {
+    /// The one.
     pub first: A,
+    /// The other.
     pub second: B,
 }
 
@@ -35,5 +38,34 @@ impl<A: Replicated, B: Replicated<Op = A::Op>> Replicated for Pair<A, B> {
     fn apply(&mut self, op: &A::Op) {
         self.first.apply(op);
         self.second.apply(op);
+    }
+}
+
+/// A follower of the first value of a pair, as a follower of the pair.
+#[derive(Drop)]
+pub struct OnFirst<F> {
+    /// The follower of the first value.
+    pub follower: F,
+}
+
+impl<A: Replicated, B: Replicated<Op = A::Op>, F: Follower<A>> Follower<Pair<A, B>> for OnFirst<F> {
+    type Start = F::Start;
+
+    ghost start = { λ x. F.start x.follower };
+
+    ghost follows = { λ x list. F.follows x.follower list };
+
+    ghost is_ready = { λ x ops. F.is_ready x.follower ops };
+
+    ghost exhausts = { F.exhausts };
+
+    ghost first = { λ x o os h. F.first x.follower o os h };
+
+    fn ready(&mut self, alloc: Global, value: &Pair<A, B>, ops: &[A::Op]) -> Result<(), NotReady> {
+        self.follower.ready(alloc, &value.first, ops)
+    }
+
+    fn note(&mut self, value: &Pair<A, B>, op: &A::Op) {
+        self.follower.note(&value.first, op);
     }
 }

@@ -90,7 +90,9 @@ impl OpNumber {
 /// Ids are ordered by replica, then by number.
 #[derive(Clone, Copy, PartialEq, Eq, PartialOrd, Ord, Debug)]
 pub struct OpId {
+    /// The replica that issued it.
     pub replica: ReplicaId,
+    /// Its number among that replica's operations.
     pub number: OpNumber,
 }
 

@@ -7,4 +7,5 @@ pub mod Operations
 pub mod Replicas
 pub mod Responses
 pub mod Sessions
+pub mod Streams
 pub mod Talks

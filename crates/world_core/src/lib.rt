@@ -2,6 +2,7 @@
 #![tactic(auto)]
 
 mod dump;
+mod laws;
 mod node;
 mod replica;
 mod reply;
@@ -10,6 +11,7 @@ mod talking;
 mod turn;
 
 pub use dump::write_dump;
+pub use laws::{commands_are_answered, pieces_are_one_stream};
 pub use node::Node;
 pub use reply::{Answers, Issued, Reply};
 pub use sessions::{MAX_SESSIONS, OpenFault, SessionNo, SessionState, Sessions};

@@ -1,0 +1,9 @@
+use Rattle.std.proofs.Common.{ap, ◌∙◌}
+use Rattle.merge_laws.proofs.Pairs.{fold_pair}
+use Rattle.merge_laws.proofs.pair.OnFirstFollowerPair.ready.Goals as goal
+
+pub returns-clause-exhausted : goal.returns-clause-exhausted
+returns-clause-exhausted g c = λ list h m.
+    let a = g.A.Replicated in
+    let b = g.B.Replicated in
+    c.ready.ensures.exhausted list h (ap (λ p. p.0) (m ∙ fold_pair a.effect b.effect a.initial b.initial list))

@@ -1,0 +1,32 @@
+//! What holds of subscriptions, and of them with folders, in every order of operations.
+
+ghost use Rattle.std.specs.Prelude.{◌≡◌, List};
+ghost use Rattle.merge_laws.specs.Orders.{AreSound, GivesOneValue, IsCausal, fold_of};
+ghost use Rattle.crdt_ops.specs.declared.op.Op.{Op as Operation};
+ghost use Rattle.crdt_ops.specs.Sound.{IsSound};
+ghost use Rattle.folder_state.specs.Contents.{Contents};
+ghost use Rattle.folder_state.specs.Contents as folders;
+ghost use Rattle.subs_state.specs.Subscriptions.{Subscriptions, effect_of, no_subscriptions, subscriptions_by};
+
+use crate::subs::Subs;
+use folder_state::Folders;
+use merge_laws::{Pair, same_for_all_orders};
+
+/// Any two causal lists of the same sound operations lead from one content of subscriptions to one.
+pub fn subs_for_all_orders()
+    ensures { GivesOneValue (λ (o : Operation). o.id) (λ o. o.clock) IsSound effect_of }
+{
+    same_for_all_orders::<Subs>()
+}
+
+/// Any two causal lists of the same sound operations lead from one content of folders and subscriptions to one.
+pub fn whole_state_for_all_orders()
+    ensures { GivesOneValue {V = Contents × Subscriptions} (λ (o : Operation). o.id) (λ o. o.clock) IsSound (λ v o. (folders.effect_of v.0 o, effect_of v.1 o)) }
+{
+    same_for_all_orders::<Pair<Folders, Subs>>()
+}
+
+/// A causal list of sound operations leaves in empty subscriptions the present subscription tags of the set of them.
+pub fn subscriptions_follow_the_set()
+    ensures { (ops : List Operation) → AreSound IsSound ops → IsCausal (λ (o : Operation). o.id) (λ o. o.clock) ops → fold_of effect_of no_subscriptions ops ≡ subscriptions_by ops }
+{}

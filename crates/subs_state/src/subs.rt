@@ -1,0 +1,91 @@
+//! The replicated subscriptions.
+
+use crate::table::{SubscriptionEntry, forget_removed, keep_added, subscribed_names, tag_ids};
+use crdt_ops::{Ids, SoundOp, copied_ops};
+use imap_types::Name;
+use merge_laws::Replicated;
+use std::alloc::{AllocError, Global};
+use std::collections::VecDeque;
+
+/// The names that are subscribed to, changed by operations in any causal order (RFC 9051, section 6.3.7).
+#[derive(Drop)]
+pub struct Subs {
+    tags: Vec<SubscriptionEntry>,
+    spare: VecDeque<SoundOp>,
+}
+
+impl Subs {
+    ghost use Rattle.std.specs.Prelude.{◌≡◌, List, IfOk, true};
+    ghost use Rattle.imap_types.specs.Ascending.{compared};
+    ghost use Rattle.crdt_ops.specs.declared.op.Op.{Op as Operation};
+    ghost use Rattle.crdt_ops.specs.Order.{IsListOf, id_order};
+    ghost use Rattle.crdt_ops.specs.Sets.{subscribed_of, subscription_tags_of};
+    ghost use Rattle.subs_state.specs.Subscriptions.{IsMadeBy, IsSubscribed, no_subscriptions};
+    ghost use Rattle.subs_state.specs.Table.{subscriptions_of};
+
+    /// No subscriptions, and no memory.
+    pub fn new(alloc: Global) -> Subs
+        ensures { subscriptions_of result ≡ no_subscriptions }
+    {
+        Subs {
+            tags: Vec::new(alloc),
+            spare: VecDeque::new(alloc),
+        }
+    }
+
+    /// The names that are subscribed to, ascending by octets; `Err` where there is no memory for them.
+    pub fn names(&self, alloc: Global) -> Result<Vec<Name>, AllocError>
+        ensures contents { IfOk result (λ names. IsListOf compared (IsSubscribed (subscriptions_of self.now)) names.items) }
+        ensures set { (ops : List Operation) → IsMadeBy (subscriptions_of self.now) ops → IfOk result (λ names. names.items ≡ subscribed_of ops) }
+    {
+        let names = subscribed_names(alloc, &self.tags)?;
+        Ok(names)
+    }
+
+    /// The ids of the name's present subscription tags, which an Unsubscribe lists; `Err` where there is no memory for
+    /// them.
+    pub fn tags(&self, alloc: Global, name: &Name) -> Result<Ids, AllocError>
+        ensures contents { IfOk result (λ ids. IsListOf id_order (λ i. subscriptions_of self.now name.now i ≡ true) ids) }
+        ensures set { (ops : List Operation) → IsMadeBy (subscriptions_of self.now) ops → IfOk result (λ ids. ids ≡ subscription_tags_of ops name.now) }
+    {
+        let ids = tag_ids(alloc, &self.tags, name)?;
+        Ok(ids)
+    }
+}
+
+impl Replicated for Subs {
+    ghost use Rattle.subs_state.specs.Subscriptions.{Subscriptions, effect_of, no_subscriptions};
+    ghost use Rattle.subs_state.specs.Table.{IsPrepared, prepared_first, subscriptions_of};
+    ghost use Rattle.subs_state.specs.Laws.{effects_commute};
+
+    type Op = SoundOp;
+
+    ghost Meaning = { Subscriptions };
+
+    ghost meaning = { subscriptions_of };
+
+    ghost effect = { effect_of };
+
+    ghost initial = { no_subscriptions };
+
+    ghost is_prepared = { IsPrepared };
+
+    ghost first = { prepared_first };
+
+    ghost commutes = { effects_commute };
+
+    fn prepare(&mut self, alloc: Global, ops: &[SoundOp]) -> Result<(), AllocError> {
+        let copies = copied_ops(alloc, ops)?;
+        self.tags.reserve(ops.len())?;
+        self.spare = copies;
+        Ok(())
+    }
+
+    fn apply(&mut self, op: &SoundOp) {
+        forget_removed(&mut self.tags, op.op());
+        match self.spare.pop_front() {
+            Some(copy) => keep_added(&mut self.tags, copy.into_op()),
+            None => unreachable!(),
+        }
+    }
+}

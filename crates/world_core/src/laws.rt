@@ -1,0 +1,37 @@
+//! What a conversation is, whatever the pieces in which its octets come: laws over `specs/Streams.antt`, each the contract of a
+//! function that does nothing.
+
+ghost use Rattle.std.specs.Prelude.{◌≡◌, ℕ, List, ◌++◌, ◌∷◌, [], Result, Ok, Err};
+ghost use Rattle.imap_lex.specs.Frames.{AreFrames, FailsAt};
+ghost use Rattle.imap_lex.specs.Reading.{Progress as Begun, goes_on, joined, start};
+ghost use Rattle.imap_lex.specs.declared.fault.Fault.{Fault as Why};
+ghost use Rattle.imap_lex.specs.declared.item.Item.{Item as Given};
+ghost use Rattle.imap_lex.specs.declared.limits.Limits.{Limits as Bounds};
+ghost use Rattle.world_core.specs.Conversation.{Converses};
+ghost use Rattle.world_core.specs.Nodes.{IsGoing, NodeState};
+ghost use Rattle.world_core.specs.Streams.{TalksOn};
+ghost use Rattle.world_core.specs.Talks.{EndsTalk, Talks};
+ghost use Rattle.world_core.specs.declared.turn.TalkFaultKind.{TalkFaultKind as Kind};
+ghost use Rattle.world_core.specs.declared.turn.Turn.{Turn as OneTurn};
+
+/// It doesn't matter how the octets of a connection were cut into pieces: what calls of `talk` make of them, the last of which
+/// may have ended the session by a LOGOUT, is the conversation over the items of all these octets.
+pub fn pieces_are_one_stream()
+    ensures going { (old new : NodeState) (session : ℕ) (limits : Bounds) (state end : Result Begun Why) (pieces : List (List ℕ)) (turns : List OneTurn)
+        → TalksOn old session limits state pieces turns new end
+        → Converses old session (goes_on limits state (joined pieces)).0 turns new × (end ≡ (goes_on limits state (joined pieces)).1) }
+    ensures last { (old mid new : NodeState) (session : ℕ) (limits : Bounds) (state between end : Result Begun Why) (pieces : List (List ℕ)) (piece : List ℕ) (turns more : List OneTurn)
+        → IsGoing mid session
+        → TalksOn old session limits state pieces turns mid between
+        → Talks mid session (goes_on limits between piece) more new end
+        → Converses old session (goes_on limits state (joined pieces ++ piece)).0 (turns ++ more) new }
+{}
+
+/// A connection whose octets are these commands, refused fronts and this rest, in whatever pieces they came, has the
+/// conversation over just these: each is answered in its order, and nothing else is.
+pub fn commands_are_answered()
+    ensures { (old new : NodeState) (session : ℕ) (limits : Bounds) (end : Result Begun Why) (pieces : List (List ℕ)) (turns : List OneTurn) (items : List Given) (rest : List ℕ)
+        → TalksOn old session limits (Ok start) pieces turns new end
+        → AreFrames limits (joined pieces) items rest
+        → Converses old session items turns new }
+{}
