@@ -14,7 +14,7 @@ use Rattle.imap_grammar.specs.declared.fault.ParseFault.{ParseFault}
 use Rattle.imap_grammar.specs.declared.fault.ParseFault.TheVariants.{NoTag, UnknownCommand, BadSyntax, NotInProfile, NoMemory}
 use Rattle.imap_grammar.specs.declared.word.CommandWord.{CommandWord}
 use Rattle.imap_grammar.proofs.CommandLaws.{arguments_take, arguments_again, arguments_end}
-use Rattle.imap_grammar.proofs.Fronts.{Front, Ends, joined, parted, whole_from, whole_to, bind_some, some_is, after_takes, after_again}
+use Rattle.imap_grammar.proofs.Fronts.{Closes, Front, Ends, joined, parted, whole_from, whole_to, bind_some, some_is, after_takes, after_again}
 use Rattle.imap_grammar.proofs.Spans.{span_parts, span_all, span_again, span_stops, run_takes, run_again, ends_stop}
 use Rattle.imap_grammar.proofs.WordLaws.{named_takes, command_again, command_atoms, word_atoms}
 
@@ -49,7 +49,7 @@ ended_takes w octets c h =
 pub ended_again : (c : Command) (octets mid : List ℕ) → Front (arguments c) octets mid → Front crlf mid [] → ended_at (word_of c) octets ≡ Some c
 ended_again c octets mid f e =
     let is : mid ≡ 13 ∷ 10 ∷ [] = e.2 ∙ ap (λ xs. xs ++ []) e.1 in
-    let s : Ends mid = subst Ends (sym is) refl in
+    let s : Closes mid = subst Closes (sym is) refl in
     ap (λ r. r >>= λ this. after (13 ∷ 10 ∷ []) this.1 >>= λ rest. cond (is_nil rest) (Some this.0) None) (arguments_again c octets mid f s)
     ∙ ap (λ r. r >>= λ rest. cond (is_nil rest) (Some c) None) (after_again (13 ∷ 10 ∷ []) mid [] e)
 
@@ -94,7 +94,7 @@ read_again frame t h =
     let r = parted (command c) crlf q.0 [] q.2 in
     let s = parted (word (command_word w)) (arguments c) q.0 r.0 r.1 in
     let line : r.0 ≡ 13 ∷ 10 ∷ [] = r.2.2 ∙ ap (λ xs. xs ++ []) r.2.1 in
-    let stop : Ends s.0 = arguments_end c s.0 r.0 s.2 (subst Ends (sym line) refl) in
+    let stop : Ends s.0 = arguments_end c s.0 r.0 s.2 (subst Closes (sym line) refl) in
     let cut : span (is_in Atom) q.0 ≡ (s.1.0, s.0) = word_span q.0 s.0 w s.1 (ends_stop Atom s.0 stop) in
     record {
       rest = q.0;

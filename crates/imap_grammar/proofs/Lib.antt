@@ -1,8 +1,16 @@
+pub mod AppendLaws
 pub mod CommandLaws
+pub mod DateTimeLaws
+pub mod Digits
+pub mod FlagLaws
 pub mod FrameLaws
 pub mod Fronts
-pub mod Numbers
+pub mod ItemLaws
+pub mod ListingLaws
+pub mod Lists
+pub mod ModifierLaws
 pub mod Scans
+pub mod SetLaws
 pub mod Spans
 pub mod Texts
 pub mod WordLaws

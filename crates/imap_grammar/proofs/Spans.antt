@@ -6,7 +6,7 @@ use Rattle.imap_grammar.specs.Faults.{begins_in}
 use Rattle.imap_grammar.specs.Reading.{span, is_nil, run_at}
 use Rattle.imap_grammar.specs.Strings.{is_in, is_pattern_octet, run}
 use Rattle.imap_grammar.specs.declared.class.Class.{Class}
-use Rattle.imap_grammar.specs.declared.class.Class.TheVariants.{Tag, Atom, Astring, Pattern, Digit}
+use Rattle.imap_grammar.specs.declared.class.Class.TheVariants.{Tag, Atom, Astring, Pattern, Digit, Item}
 use Rattle.imap_grammar.proofs.Fronts.{Front, Reads, guarded, some_is, Ends}
 
 pub span_parts : (p : ℕ → Bool) (bs : List ℕ) → bs ≡ (span p bs).0 ++ (span p bs).1
@@ -62,6 +62,7 @@ pattern_octet Atom b h = grind (arith, nat_tests)
 pattern_octet Astring b h = grind (arith, nat_tests)
 pattern_octet Pattern b h = h
 pattern_octet Digit b h = grind (arith, nat_tests)
+pattern_octet Item b h = grind (arith, nat_tests)
 
 pub ends_stop : (class : Class) (rest : List ℕ) → Ends rest → begins_in class rest ≡ false
 ends_stop class [] h = refl

@@ -9,7 +9,7 @@ use Rattle.imap_types.specs.Names.{folded_name}
 use Rattle.imap_grammar.specs.Faults.{begins_in}
 use Rattle.imap_grammar.specs.Reading.{◌>>=◌, mailbox_at, after, after_plus, with_front, quoted_at, run_at, literal_at, octets_at, text_at}
 use Rattle.imap_grammar.specs.declared.class.Class.{Class}
-use Rattle.imap_grammar.specs.declared.class.Class.TheVariants.{Tag, Atom, Astring, Pattern, Digit}
+use Rattle.imap_grammar.specs.declared.class.Class.TheVariants.{Tag, Atom, Astring, Pattern, Digit, Item}
 use Rattle.imap_grammar.proofs.Fronts.{Front, Reads, Ends, made_reads, joined, parted, bind_some, chosen, guarded, some_is, after_takes}
 use Rattle.imap_grammar.proofs.Spans.{run_takes, run_again, ends_stop}
 
@@ -183,6 +183,7 @@ plain_first Atom b bs h = let q : eqb b 34 ≡ false = grind (arith, nat_tests) 
 plain_first Astring b bs h = let q : eqb b 34 ≡ false = grind (arith, nat_tests) in let l : eqb b 123 ≡ false = grind (arith, nat_tests) in rw (q, l) refl
 plain_first Pattern b bs h = let q : eqb b 34 ≡ false = grind (arith, nat_tests) in let l : eqb b 123 ≡ false = grind (arith, nat_tests) in rw (q, l) refl
 plain_first Digit b bs h = let q : eqb b 34 ≡ false = grind (arith, nat_tests) in let l : eqb b 123 ≡ false = grind (arith, nat_tests) in rw (q, l) refl
+plain_first Item b bs h = let q : eqb b 34 ≡ false = grind (arith, nat_tests) in let l : eqb b 123 ≡ false = grind (arith, nat_tests) in rw (q, l) refl
 
 plain_again : (class : Class) (octets rest value : List ℕ) → Front (run class value) octets rest → Ends rest → text_at class octets ≡ Some (value, rest)
 plain_again class octets rest [] f s = absurd (f.1.0 refl)

@@ -1,6 +1,6 @@
 -- A word is found without ASCII case.
-use Rattle.std.proofs.Common.{◌≡◌, ℕ, true, cond, List, [], ◌∷◌, Some, inl, inr, ap, ◌∙◌, refl, arith}
-use Rattle.std.proofs.lemmas.Bool.{and_parts, and_from}
+use Rattle.std.proofs.Common.{eqb, sym, false, None, subst, ◌++◌, ◌≡◌, ℕ, true, cond, List, [], ◌∷◌, Some, inl, inr, ap, ◌∙◌, refl, arith}
+use Rattle.std.proofs.lemmas.Bool.{and_parts, and_from, cases_Bool, eqb-true}
 use Rattle.std.proofs.lemmas.Bool.Decides.{nat_tests}
 use Rattle.std.proofs.lemmas.Slice.Eq.{bytes_eq-Decides}
 use Rattle.std.specs.Char.{to_ascii_lowercase}
@@ -8,10 +8,18 @@ use Rattle.std.specs.List.{list_all}
 use Rattle.std.specs.Str.{bytes_eq}
 use Rattle.imap_types.specs.Keywords.{lowered, is_atom_octet}
 use Rattle.imap_grammar.specs.Languages.{word}
-use Rattle.imap_grammar.specs.Words.{named, command_word, command_words}
+use Rattle.imap_grammar.specs.Words.{named, command_word, command_words, status_word, status_items}
 use Rattle.imap_grammar.specs.declared.word.CommandWord.{CommandWord}
 use Rattle.imap_grammar.specs.declared.word.CommandWord.TheVariants.{Capability, Noop, Logout, Login, Enable, Select, Examine, Create, Delete, Subscribe, Unsubscribe, ListNames, Namespace, Status, Append, Idle, Close, Unselect, Expunge, Search, Fetch, Store, Copy, Move, Uid, Rename, StartTls, Authenticate}
-use Rattle.imap_grammar.proofs.Fronts.{chosen, some_is}
+use Rattle.imap_grammar.specs.Commands.{status_item}
+use Rattle.imap_grammar.specs.Faults.{begins_in}
+use Rattle.imap_grammar.specs.Reading.{◌>>=◌, after_word, is_nil, named_at, span}
+use Rattle.imap_grammar.specs.Strings.{begins, is_in}
+use Rattle.imap_grammar.specs.declared.class.Class.TheVariants.{Item}
+use Rattle.imap_grammar.specs.declared.status.StatusItem.{StatusItem}
+use Rattle.imap_grammar.specs.declared.status.StatusItem.TheVariants as status
+use Rattle.imap_grammar.proofs.Fronts.{Front, Reads, Ends, bind_some, chosen, some_is, stopping}
+use Rattle.imap_grammar.proofs.Spans.{ends_stop, span_again, span_parts}
 
 module _ {W : Type 0} (word_of : W → List ℕ) where
   pub named_takes : (ws : List W) (text : List ℕ) (w : W) → named word_of ws text ≡ Some w → word (word_of w) text
@@ -107,3 +115,86 @@ command_atoms Uid = refl
 command_atoms Rename = refl
 command_atoms StartTls = refl
 command_atoms Authenticate = refl
+
+-- words as the arguments have them, which `[` ends too
+item_octet : (b : ℕ) → is_in Item (to_ascii_lowercase b) ≡ true → is_in Item b ≡ true
+item_octet b h = grind (arith, nat_tests)
+
+items_lower : (text : List ℕ) → list_all (is_in Item) (lowered text) ≡ true → list_all (is_in Item) text ≡ true
+items_lower [] h = refl
+items_lower (b ∷ bs) h = let p = and_parts _ _ h in and_from _ _ (item_octet b p.0) (items_lower bs p.1)
+
+abbrev pub NoItem : List ℕ → Type 0
+NoItem rest = begins_in Item rest ≡ false
+
+pub item_span : (letters octets rest : List ℕ) → list_all (is_in Item) (lowered letters) ≡ true → (f : Front (word letters) octets rest) → NoItem rest → span (is_in Item) octets ≡ (f.0, rest)
+item_span letters octets rest h f s = ap (span (is_in Item)) f.2 ∙ span_again Item f.0 rest (items_lower f.0 (ap (list_all (is_in Item)) f.1 ∙ h)) s
+
+pub after_word_takes : (letters octets rest : List ℕ) → after_word letters octets ≡ Some rest → Front (word letters) octets rest
+after_word_takes letters octets rest h =
+    elim (chosen (bytes_eq (lowered (span (is_in Item) octets).0) (lowered letters)) (Some (span (is_in Item) octets).1) None (Some rest) h) [
+      | inl t ↦ ((span (is_in Item) octets).0, (bytes_eq-Decides _ _).0 t.0, span_parts (is_in Item) octets ∙ ap (λ xs. (span (is_in Item) octets).0 ++ xs) (some_is (span (is_in Item) octets).1 rest t.1))
+      | inr n ↦ absurd cc
+    ]
+
+pub after_word_again : (letters octets rest : List ℕ) → list_all (is_in Item) (lowered letters) ≡ true → Front (word letters) octets rest → NoItem rest → after_word letters octets ≡ Some rest
+after_word_again letters octets rest h f s =
+    ap (λ (y : List ℕ × List ℕ). cond (bytes_eq (lowered y.0) (lowered letters)) (Some y.1) None) (item_span letters octets rest h f s)
+    ∙ ap (λ b. cond b (Some rest) None) ((bytes_eq-Decides _ _).1 f.1)
+
+-- tables of words
+pub named_at_takes : {W : Type 0} (word_of : W → List ℕ) (values : List W) (octets : List ℕ) (x : W × List ℕ) → named_at word_of values octets ≡ Some x → Front (word (word_of x.0)) octets x.1
+named_at_takes {W} word_of values octets x h =
+    let cut = span (is_in Item) octets in
+    let a = bind_some (named word_of values cut.0) _ x h in
+    subst (λ (y : W × List ℕ). Front (word (word_of y.0)) octets y.1) (some_is (a.0, cut.1) x a.2) (cut.0, named_takes word_of values cut.0 a.0 a.1, span_parts (is_in Item) octets)
+
+pub named_at_again : {W : Type 0} (word_of : W → List ℕ) (values : List W) (w : W) (octets rest : List ℕ) → named word_of values (word_of w) ≡ Some w → list_all (is_in Item) (lowered (word_of w)) ≡ true
+    → Front (word (word_of w)) octets rest → NoItem rest → named_at word_of values octets ≡ Some (w, rest)
+named_at_again {W} word_of values w octets rest e h f s =
+    ap (λ (y : List ℕ × List ℕ). named word_of values y.0 >>= λ v. Some (v, y.1)) (item_span (word_of w) octets rest h f s)
+    ∙ ap (λ o. o >>= λ v. Some (v, rest)) (named_again word_of values f.0 w e f.1)
+
+pub table_reads : {W : Type 0} (word_of : W → List ℕ) (values : List W) → ((w : W) → named word_of values (word_of w) ≡ Some w) → ((w : W) → list_all (is_in Item) (lowered (word_of w)) ≡ true)
+    → Reads (named_at word_of values) (λ w. word (word_of w)) NoItem
+table_reads word_of values found letters = record {
+  takes = named_at_takes word_of values;
+  again = λ octets rest w f s. named_at_again word_of values w octets rest (found w) (letters w) f s;
+}
+
+pub ends_item : (rest : List ℕ) → Ends rest → NoItem rest
+ends_item rest s = ends_stop Item rest s
+
+status_found : (w : StatusItem) → named status_word status_items (status_word w) ≡ Some w
+status_found status.Messages = refl
+status_found status.UidNext = refl
+status_found status.UidValidity = refl
+status_found status.Unseen = refl
+status_found status.Deleted = refl
+status_found status.Size = refl
+status_found status.HighestModSeq = refl
+
+status_letters : (w : StatusItem) → list_all (is_in Item) (lowered (status_word w)) ≡ true
+status_letters status.Messages = refl
+status_letters status.UidNext = refl
+status_letters status.UidValidity = refl
+status_letters status.Unseen = refl
+status_letters status.Deleted = refl
+status_letters status.Size = refl
+status_letters status.HighestModSeq = refl
+
+pub status_reads : Reads (named_at status_word status_items) status_item Ends
+status_reads = stopping (table_reads status_word status_items status_found status_letters) Ends ends_item
+
+item_not : (b m : ℕ) → is_in Item b ≡ true → is_in Item m ≡ false → eqb b m ≡ false
+item_not b m h o = elim (cases_Bool (eqb b m)) [ inl t ↦ absurd (let e : true ≡ false = sym h ∙ ap (is_in Item) (eqb-true b m t) ∙ o in cc) | inr f ↦ f ]
+
+word_begins : (letters text octets rest : List ℕ) (m : ℕ) → list_all (is_in Item) (lowered letters) ≡ true → is_nil (lowered letters) ≡ false → is_in Item m ≡ false → word letters text → octets ≡ text ++ rest → begins m octets ≡ false
+word_begins letters [] octets rest m h n o w e = absurd (let k : true ≡ false = ap is_nil w ∙ n in cc)
+word_begins letters (b ∷ text) octets rest m h n o w e =
+    let i = items_lower (b ∷ text) (ap (list_all (is_in Item)) w ∙ h) in
+    ap (begins m) e ∙ item_not b m (and_parts (is_in Item b) (list_all (is_in Item) text) i).0 o
+
+-- the first octet of a word is an octet of words
+pub word_first : (letters octets rest : List ℕ) (m : ℕ) → list_all (is_in Item) (lowered letters) ≡ true → is_nil (lowered letters) ≡ false → is_in Item m ≡ false → Front (word letters) octets rest → begins m octets ≡ false
+word_first letters octets rest m h n o f = word_begins letters f.0 octets rest m h n o f.1 f.2

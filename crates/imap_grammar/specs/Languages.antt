@@ -1,4 +1,4 @@
-use Rattle.std.specs.Prelude.{◌≡◌, ℕ, List, [], ◌∷◌, ◌++◌}
+use Rattle.std.specs.Prelude.{◌≡◌, ℕ, List, [], ◌∷◌, ◌++◌, Option, Some, None}
 use Rattle.imap_types.specs.Keywords.{lowered}
 
 infixr 7 ◌⌢◌
@@ -25,3 +25,31 @@ crlf = exactly (13 ∷ 10 ∷ [])
 -- A word without ASCII case (RFC 9051, section 9, note 1).
 abbrev pub word : List ℕ → List ℕ → Type 0
 word letters text = lowered text ≡ lowered letters
+
+-- No text at all.
+abbrev pub never : List ℕ → Type 0
+never text = ⊥
+
+-- A text between parentheses.
+abbrev pub in_parens : (List ℕ → Type 0) → List ℕ → Type 0
+in_parens P = exactly (40 ∷ []) ⌢ P ⌢ exactly (41 ∷ [])
+
+-- A value behind a space, or nothing.
+abbrev pub optional : {A : Type 0} → (A → List ℕ → Type 0) → Option A → List ℕ → Type 0
+optional form None = nothing
+optional form (Some value) = sp ⌢ form value
+
+-- Each value behind a separator.
+abbrev pub each_behind : {A : Type 0} → (List ℕ → Type 0) → (A → List ℕ → Type 0) → List A → List ℕ → Type 0
+each_behind separator form [] = nothing
+each_behind separator form (value ∷ values) = separator ⌢ form value ⌢ each_behind separator form values
+
+-- One or more values, with a separator between each two.
+abbrev pub listed : {A : Type 0} → (List ℕ → Type 0) → (A → List ℕ → Type 0) → List A → List ℕ → Type 0
+listed separator form [] = never
+listed separator form (value ∷ values) = form value ⌢ each_behind separator form values
+
+-- No values, or a list of them.
+abbrev pub maybe_listed : {A : Type 0} → (List ℕ → Type 0) → (A → List ℕ → Type 0) → List A → List ℕ → Type 0
+maybe_listed separator form [] = nothing
+maybe_listed separator form (value ∷ values) = listed separator form (value ∷ values)

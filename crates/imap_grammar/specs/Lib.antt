@@ -1,6 +1,10 @@
 pub mod Commands
+pub mod Dates
 pub mod Faults
+pub mod Items
 pub mod Languages
+pub mod MessageFlags
 pub mod Reading
+pub mod Sets
 pub mod Strings
 pub mod Words

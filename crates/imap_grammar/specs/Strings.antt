@@ -1,11 +1,11 @@
-use Rattle.std.specs.Prelude.{◌≡◌, ◌≢◌, ◌⊎◌, ℕ, ◌+◌, ◌-◌, ◌*◌, Bool, not, ◌&&◌, ◌||◌, ◌==◌, List, [], ◌∷◌, ◌++◌, length, IsTrue, if◌then◌else◌}
+use Rattle.std.specs.Prelude.{◌≤◌, false, ◌≡◌, ◌≢◌, ◌⊎◌, ℕ, ◌+◌, ◌-◌, ◌*◌, Bool, not, ◌&&◌, ◌||◌, ◌==◌, List, [], ◌∷◌, ◌++◌, length, IsTrue, if◌then◌else◌}
 use Rattle.std.specs.List.{list_all}
 use Rattle.imap_types.specs.DateTimes.{is_digit}
 use Rattle.imap_types.specs.Keywords.{is_atom_octet}
 use Rattle.imap_types.specs.Names.{folded_name}
 use Rattle.imap_grammar.specs.Languages.{◌⌢◌, exactly, nothing}
 use Rattle.imap_grammar.specs.declared.class.Class.{Class}
-use Rattle.imap_grammar.specs.declared.class.Class.TheVariants.{Tag, Atom, Astring, Pattern, Digit}
+use Rattle.imap_grammar.specs.declared.class.Class.TheVariants.{Tag, Atom, Astring, Pattern, Digit, Item}
 
 -- Whether an octet may stand in an astring without quotes: an atom octet or `]` (RFC 9051, section 9, ASTRING-CHAR).
 abbrev pub is_astring_octet : ℕ → Bool
@@ -15,13 +15,15 @@ is_astring_octet octet = is_atom_octet octet || (octet == 93)
 abbrev pub is_pattern_octet : ℕ → Bool
 is_pattern_octet octet = is_astring_octet octet || (octet == 37) || (octet == 42)
 
--- The octets of each class. A tag has astring octets other than `+` (RFC 9051, section 9, tag).
+-- The octets of each class. A tag has astring octets other than `+` (RFC 9051, section 9, tag), the words of arguments have
+-- atom octets other than `[`.
 abbrev pub is_in : Class → ℕ → Bool
 is_in Tag octet = is_astring_octet octet && not (octet == 43)
 is_in Atom octet = is_atom_octet octet
 is_in Astring octet = is_astring_octet octet
 is_in Pattern octet = is_pattern_octet octet
 is_in Digit octet = is_digit octet
+is_in Item octet = is_atom_octet octet && not (octet == 91)
 
 -- One or more octets of a class, which stand for themselves.
 abbrev pub run : Class → List ℕ → List ℕ → Type 0
@@ -72,3 +74,16 @@ pattern = text_of Pattern
 -- A mailbox name: an astring, of which INBOX is meant in any case (RFC 9051, section 9, mailbox).
 abbrev pub mailbox : List ℕ → List ℕ → Type 0
 mailbox name text = (written : List ℕ) × astring written text × (folded_name written ≡ name)
+
+-- Whether a text begins with an octet.
+abbrev pub begins : ℕ → List ℕ → Bool
+begins octet [] = false
+begins octet (first ∷ octets) = first == octet
+
+-- A number up to a limit (RFC 9051, section 9, number64).
+abbrev pub number_to : ℕ → ℕ → List ℕ → Type 0
+number_to limit value text = number value text × (value ≤ limit)
+
+-- A number from 1 to 4,294,967,295 without leading zero (RFC 9051, section 9, nz-number).
+abbrev pub nz : ℕ → List ℕ → Type 0
+nz value text = number value text × (begins 48 text ≡ false) × (value ≤ 4294967295)

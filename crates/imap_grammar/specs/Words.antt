@@ -1,8 +1,19 @@
-use Rattle.std.specs.Prelude.{ℕ, List, [], ◌∷◌, codes, Option, Some, None, if◌then◌else◌}
+use Rattle.std.specs.Prelude.{ℕ, List, [], ◌∷◌, codes, Option, Some, None, if◌then◌else◌, Bool, true, false}
 use Rattle.std.specs.Str.{bytes_eq}
 use Rattle.imap_types.specs.Keywords.{lowered}
 use Rattle.imap_grammar.specs.declared.word.CommandWord.{CommandWord}
 use Rattle.imap_grammar.specs.declared.word.CommandWord.TheVariants.{Capability, Noop, Logout, Login, Enable, Select, Examine, Create, Delete, Subscribe, Unsubscribe, ListNames, Namespace, Status, Append, Idle, Close, Unselect, Expunge, Search, Fetch, Store, Copy, Move, Uid, Rename, StartTls, Authenticate}
+use Rattle.imap_grammar.specs.declared.fetch.FetchWord.{FetchWord}
+use Rattle.imap_grammar.specs.declared.fetch.FetchWord.TheVariants as fetch
+use Rattle.imap_grammar.specs.declared.fetch.SectionWord.{SectionWord}
+use Rattle.imap_grammar.specs.declared.fetch.SectionWord.TheVariants as section
+use Rattle.imap_grammar.specs.declared.flags.SystemFlag.{SystemFlag}
+use Rattle.imap_grammar.specs.declared.flags.SystemFlag.TheVariants as system
+use Rattle.imap_grammar.specs.declared.store.StoreAction.{StoreAction}
+use Rattle.imap_grammar.specs.declared.store.StoreMode.{StoreMode}
+use Rattle.imap_grammar.specs.declared.store.StoreMode.TheVariants as store
+use Rattle.imap_grammar.specs.declared.status.StatusItem.{StatusItem}
+use Rattle.imap_grammar.specs.declared.status.StatusItem.TheVariants as status
 
 -- The first of the values whose word is this text, but for ASCII case.
 abbrev pub named : {W : Type 0} → (W → List ℕ) → List W → List ℕ → Option W
@@ -47,3 +58,74 @@ command_words =
     Capability ∷ Noop ∷ Logout ∷ Login ∷ Enable ∷ Select ∷ Examine ∷ Create ∷ Delete ∷ Subscribe ∷ Unsubscribe ∷ ListNames
     ∷ Namespace ∷ Status ∷ Append ∷ Idle ∷ Close ∷ Unselect ∷ Expunge ∷ Search ∷ Fetch ∷ Store ∷ Copy ∷ Move ∷ Uid ∷ Rename
     ∷ StartTls ∷ Authenticate ∷ []
+
+-- The commands with a form that takes UIDs (RFC 9051, section 6.4.9).
+abbrev pub uid_words : List CommandWord
+uid_words = Copy ∷ Move ∷ Expunge ∷ Fetch ∷ Store ∷ []
+
+-- What STATUS can ask (RFC 9051, section 9, status-att; RFC 7162, section 3.1.7, for HIGHESTMODSEQ).
+abbrev pub status_word : StatusItem → List ℕ
+status_word status.Messages = codes "MESSAGES"
+status_word status.UidNext = codes "UIDNEXT"
+status_word status.UidValidity = codes "UIDVALIDITY"
+status_word status.Unseen = codes "UNSEEN"
+status_word status.Deleted = codes "DELETED"
+status_word status.Size = codes "SIZE"
+status_word status.HighestModSeq = codes "HIGHESTMODSEQ"
+
+-- All of it.
+abbrev pub status_items : List StatusItem
+status_items =
+    status.Messages ∷ status.UidNext ∷ status.UidValidity ∷ status.Unseen ∷ status.Deleted ∷ status.Size ∷ status.HighestModSeq ∷ []
+
+-- The flags that a client may set, without their `\` (RFC 9051, section 9, flag).
+abbrev pub system_word : SystemFlag → List ℕ
+system_word system.Answered = codes "Answered"
+system_word system.Flagged = codes "Flagged"
+system_word system.Deleted = codes "Deleted"
+system_word system.Seen = codes "Seen"
+system_word system.Draft = codes "Draft"
+
+abbrev pub system_flags : List SystemFlag
+system_flags = system.Answered ∷ system.Flagged ∷ system.Deleted ∷ system.Seen ∷ system.Draft ∷ []
+
+-- What STORE does, loudly or silently (RFC 9051, section 9, store-att-flags).
+abbrev pub mode_word : StoreMode → Bool → List ℕ
+mode_word store.Replace false = codes "FLAGS"
+mode_word store.Replace true = codes "FLAGS.SILENT"
+mode_word store.Add false = codes "+FLAGS"
+mode_word store.Add true = codes "+FLAGS.SILENT"
+mode_word store.Remove false = codes "-FLAGS"
+mode_word store.Remove true = codes "-FLAGS.SILENT"
+
+abbrev pub store_word : StoreAction → List ℕ
+store_word action = mode_word action.mode action.silent
+
+abbrev pub store_actions : List StoreAction
+store_actions =
+    record { mode = store.Replace; silent = false } ∷ record { mode = store.Replace; silent = true }
+    ∷ record { mode = store.Add; silent = false } ∷ record { mode = store.Add; silent = true }
+    ∷ record { mode = store.Remove; silent = false } ∷ record { mode = store.Remove; silent = true } ∷ []
+
+-- The words of FETCH items (RFC 9051, section 9, fetch-att; RFC 7162, section 7, for MODSEQ).
+abbrev pub fetch_word : FetchWord → List ℕ
+fetch_word fetch.Flags = codes "FLAGS"
+fetch_word fetch.InternalDate = codes "INTERNALDATE"
+fetch_word fetch.Size = codes "RFC822.SIZE"
+fetch_word fetch.Uid = codes "UID"
+fetch_word fetch.ModSeq = codes "MODSEQ"
+fetch_word fetch.Body = codes "BODY"
+fetch_word fetch.BodyPeek = codes "BODY.PEEK"
+
+abbrev pub fetch_words : List FetchWord
+fetch_words = fetch.Flags ∷ fetch.InternalDate ∷ fetch.Size ∷ fetch.Uid ∷ fetch.ModSeq ∷ fetch.Body ∷ fetch.BodyPeek ∷ []
+
+-- The words of sections (RFC 9051, section 9, section-msgtext).
+abbrev pub section_word : SectionWord → List ℕ
+section_word section.Header = codes "HEADER"
+section_word section.Text = codes "TEXT"
+section_word section.Fields = codes "HEADER.FIELDS"
+section_word section.FieldsNot = codes "HEADER.FIELDS.NOT"
+
+abbrev pub section_words : List SectionWord
+section_words = section.Header ∷ section.Text ∷ section.Fields ∷ section.FieldsNot ∷ []

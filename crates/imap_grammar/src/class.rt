@@ -12,6 +12,8 @@ pub enum Class {
     Astring,
     Pattern,
     Digit,
+    /// The words of arguments: atom octets other than `[`, which ends them.
+    Item,
 }
 
 /// Whether an octet is of the class.
@@ -23,6 +25,7 @@ pub fn is_in(class: Class, octet: u8) -> bool
         Class::Atom => is_atom_octet(octet),
         Class::Astring => is_astring_octet(octet),
         Class::Pattern => is_astring_octet(octet) || octet == b'%' || octet == b'*',
+        Class::Item => is_atom_octet(octet) && octet != b'[',
         Class::Digit => octet >= b'0' && octet <= b'9',
     }
 }

@@ -1,15 +1,15 @@
 ghost use Rattle.std.specs.Prelude.{◌≡◌, ◌↔◌, ◌⊎◌, ℕ, List, IfOk, MatchOption, Ok, Err, option_map};
 ghost use Rattle.imap_grammar.specs.Commands.{IsSpelled};
 ghost use Rattle.imap_grammar.specs.Faults.{HasTag, IsTagged, NamesCommand};
-ghost use Rattle.imap_grammar.specs.Reading.{AnswersTag, Gives, arguments_at, create_at, delete_at, ended_at, list_at, tag_at, word_at};
+ghost use Rattle.imap_grammar.specs.Reading.{AnswersTag, Gives, ended_at, tag_at};
 ghost use Rattle.imap_grammar.specs.declared.command.Tagged.{Tagged as Spelled};
-ghost use Rattle.imap_grammar.specs.declared.fault.ParseFault.TheVariants.{NoMemory, NoTag, UnknownCommand};
+ghost use Rattle.imap_grammar.specs.declared.fault.ParseFault.TheVariants.{BadSyntax, NoMemory, NoTag, NotInProfile, UnknownCommand};
 
+use crate::arguments::arguments;
 use crate::class::Class;
 use crate::command::{Command, Tagged};
 use crate::fault::ParseFault;
-use crate::scan::{run, skip, space, span};
-use crate::text::{mailbox, text};
+use crate::scan::{skip, span};
 use crate::word::{CommandWord, find_command};
 use imap_types::Octets;
 use std::alloc::Global;
@@ -84,52 +84,19 @@ fn ended(alloc: Global, word: CommandWord, octets: &[u8]) -> Result<Command, Par
     ensures { Gives (λ x. x) result (ended_at word octets.now) }
 {
     let (command, rest) = arguments(alloc, word, octets)?;
-    let rest = skip(rest, b"\r\n")?;
-    if !rest.is_empty() {
-        return Err(ParseFault::BadSyntax);
+    if rest != b"\r\n".as_slice() {
+        return Err(trailing(word, rest));
     }
     Ok(command)
 }
 
-fn arguments(
-    alloc: Global,
-    word: CommandWord,
-    octets: &[u8],
-) -> Result<(Command, &[u8]), ParseFault>
-    ensures { Gives (λ x. (x.0, x.1.now)) result (arguments_at word octets.now) }
+/// The fault of what stands where the line should end: behind the literal of APPEND, a space begins a form that this
+/// server leaves out (RFC 3502).
+fn trailing(word: CommandWord, octets: &[u8]) -> ParseFault
+    ensures { (result ≡ BadSyntax) ⊎ (result ≡ NotInProfile) }
 {
-    match word {
-        CommandWord::Noop => Ok((Command::Noop, octets)),
-        CommandWord::Logout => Ok((Command::Logout, octets)),
-        CommandWord::Create => create(alloc, octets),
-        CommandWord::Delete => delete(alloc, octets),
-        CommandWord::ListNames => list(alloc, octets),
-        _ => Err(ParseFault::NotInProfile),
+    if word == CommandWord::Append && octets.starts_with(b" ") {
+        return ParseFault::NotInProfile;
     }
-}
-
-fn create(alloc: Global, octets: &[u8]) -> Result<(Command, &[u8]), ParseFault>
-    ensures { Gives (λ x. (x.0, x.1.now)) result (create_at octets.now) }
-{
-    let rest = space(octets)?;
-    let (name, rest) = mailbox(alloc, rest)?;
-    Ok((Command::Create { name }, rest))
-}
-
-fn delete(alloc: Global, octets: &[u8]) -> Result<(Command, &[u8]), ParseFault>
-    ensures { Gives (λ x. (x.0, x.1.now)) result (delete_at octets.now) }
-{
-    let rest = space(octets)?;
-    let (name, rest) = mailbox(alloc, rest)?;
-    Ok((Command::Delete { name }, rest))
-}
-
-fn list(alloc: Global, octets: &[u8]) -> Result<(Command, &[u8]), ParseFault>
-    ensures { Gives (λ x. (x.0, x.1.now)) result (list_at octets.now) }
-{
-    let rest = space(octets)?;
-    let (reference, rest) = text(alloc, Class::Astring, rest)?;
-    let rest = space(rest)?;
-    let (pattern, rest) = text(alloc, Class::Pattern, rest)?;
-    Ok((Command::ListNames { reference, pattern }, rest))
+    ParseFault::BadSyntax
 }

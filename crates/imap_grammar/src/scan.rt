@@ -1,6 +1,6 @@
 ghost use Rattle.std.specs.Prelude.{◌≡◌, ◌<◌, ◌≤◌, length, [], ◌∷◌, IfSome};
 ghost use Rattle.imap_grammar.specs.Strings.{is_in, number_of};
-ghost use Rattle.imap_grammar.specs.Reading.{Gives, after, run_at, span, after_plus};
+ghost use Rattle.imap_grammar.specs.Reading.{Gives, after, after_word, run_at, span, after_plus};
 
 use crate::class::{Class, is_in};
 use crate::fault::ParseFault;
@@ -54,4 +54,15 @@ pub fn space(octets: &[u8]) -> Result<&[u8], ParseFault>
     ensures { Gives (λ rest. rest.now) result (after (32 ∷ []) octets.now) }
 {
     skip(octets, b" ")
+}
+
+/// What stands behind a word, whose case is nothing.
+pub fn skip_word<'a>(octets: &'a [u8], letters: &[u8]) -> Result<&'a [u8], ParseFault>
+    ensures { Gives (λ rest. rest.now) result (after_word letters.now octets.now) }
+{
+    let (front, rest) = span(Class::Item, octets);
+    if !front.eq_ignore_ascii_case(letters) {
+        return Err(ParseFault::BadSyntax);
+    }
+    Ok(rest)
 }

@@ -4,6 +4,7 @@ ghost use Rattle.imap_grammar.specs.Reading.{Gives, literal_at, mailbox_at, octe
 
 use crate::class::Class;
 use crate::fault::ParseFault;
+use crate::numbers::saturated;
 use crate::scan::{run, skip};
 use imap_types::{Name, Octets};
 use std::alloc::Global;
@@ -22,7 +23,8 @@ pub fn text(alloc: Global, class: Class, octets: &[u8]) -> Result<(Octets, &[u8]
     }
 }
 
-fn plain(alloc: Global, class: Class, octets: &[u8]) -> Result<(Octets, &[u8]), ParseFault>
+/// One or more octets of a class as they stand.
+pub fn plain(alloc: Global, class: Class, octets: &[u8]) -> Result<(Octets, &[u8]), ParseFault>
     ensures { Gives (λ x. (x.0, x.1.now)) result (run_at class octets.now) }
 {
     let (front, rest) = run(class, octets)?;
@@ -74,7 +76,7 @@ fn is_quotable(octet: u8) -> bool
 
 /// A literal behind its `{` (RFC 9051, section 9, literal).
 #[tactic(auto, unfolding(crate::specs::Reading::literal_at))]
-fn literal(alloc: Global, octets: &[u8]) -> Result<(Octets, &[u8]), ParseFault>
+pub fn literal(alloc: Global, octets: &[u8]) -> Result<(Octets, &[u8]), ParseFault>
     ensures { Gives (λ x. (x.0, x.1.now)) result (literal_at octets.now) }
 {
     let (digits, rest) = run(Class::Digit, octets)?;
@@ -100,22 +102,9 @@ fn counted<'a>(
     ensures { Gives (λ x. (x.0, x.1.now)) result (octets_at (number_of 0 digits.now) octets.now) }
 {
     let count = saturated(digits);
-    if octets.len() < count {
+    if (octets.len() as u64) < count {
         return Err(ParseFault::BadSyntax);
     }
-    let (value, rest) = octets.split_at(count);
+    let (value, rest) = octets.split_at(count as usize);
     Ok((Octets::copied_from(alloc, value)?, rest))
-}
-
-/// The number that the digits write, or the greatest `usize` where it is greater.
-fn saturated(digits: &[u8]) -> usize
-    ensures { result ≡ min (number_of 0 digits.now) (2 ^ 64 - 1) }
-{
-    let mut number: usize = 0;
-    for digit in digits {
-        number = number
-            .saturating_mul(10)
-            .saturating_add(digit.saturating_sub(b'0') as usize);
-    }
-    number
 }

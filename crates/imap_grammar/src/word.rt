@@ -1,5 +1,10 @@
 ghost use Rattle.std.specs.Prelude.{◌≡◌};
+ghost use Rattle.imap_grammar.specs.Reading.{Gives, named_at};
 ghost use Rattle.imap_grammar.specs.Words.{command_word, command_words, named};
+
+use crate::class::Class;
+use crate::fault::ParseFault;
+use crate::scan::span;
 
 /// The word of a command (RFC 9051, section 6; RFC 2177, section 3): those of this grammar, and those that it leaves out.
 #[derive(Clone, Copy, Debug, PartialEq, Eq)]
@@ -135,4 +140,15 @@ pub fn find_command(text: &[u8]) -> Option<CommandWord>
     ensures { result ≡ named command_word command_words text.now }
 {
     find(&COMMAND_WORDS, text)
+}
+
+/// The first of the values whose word stands in front, but for ASCII case.
+pub fn named<'a, W: Word>(values: &[W], octets: &'a [u8]) -> Result<(W, &'a [u8]), ParseFault>
+    ensures { Gives (λ x. (x.0, x.1.now)) result (named_at W.word_of values.now octets.now) }
+{
+    let (letters, rest) = span(Class::Item, octets);
+    match find(values, letters) {
+        Some(value) => Ok((value, rest)),
+        None => Err(ParseFault::BadSyntax),
+    }
 }

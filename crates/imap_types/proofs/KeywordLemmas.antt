@@ -1,4 +1,4 @@
-use Rattle.std.proofs.Common.{◌≡◌, ℕ, ◌+◌, ◌<◌, Bool, true, List, [], ◌∷◌, IsTrue, false, ◌||◌, ◌↔◌, ap, sym, ◌∙◌, arith, refl, get_or, drop, length, suc, drop-cons, add-one}
+use Rattle.std.proofs.Common.{◌≡◌, ℕ, ◌+◌, ◌<◌, Bool, true, List, [], ◌∷◌, IsTrue, false, ◌||◌, ◌&&◌, ◌↔◌, ap, sym, ◌∙◌, arith, refl, get_or, drop, length, suc, drop-cons, add-one}
 use Rattle.std.proofs.lemmas.Bool.{and_parts, and_from}
 use Rattle.std.proofs.lemmas.Bool.Decides.{nat_tests, same_from_decides}
 use Rattle.std.proofs.lemmas.Cmp.{nat_list_cmp_total}
@@ -6,11 +6,11 @@ use Rattle.std.proofs.lemmas.Slice.Eq.{bytes_eq-Decides}
 use Rattle.std.specs.Char.{to_ascii_lowercase}
 use Rattle.std.specs.List.{list_all}
 use Rattle.std.specs.Str.{bytes_eq}
-use Rattle.std.specs.Ordering.{match_ordering, ordering_reverse}
+use Rattle.std.specs.Ordering.{is_lt, match_ordering, ordering_reverse}
 use Rattle.std.specs.declared.cmp.Ordering.{Ordering}
 use Rattle.std.specs.declared.cmp.Ordering.TheVariants.{Less, Equal, Greater}
 use Rattle.imap_types.specs.Ascending.{compared, ComesBefore, AreAscending}
-use Rattle.imap_types.specs.Keywords.{lowered, is_lowered, has_keyword, with_text, AreKeywords}
+use Rattle.imap_types.specs.Keywords.{lowered, is_lowered, has_keyword, with_text, are_ascending, are_keywords, AreKeywords}
 
 lower_again : (c : ℕ) → to_ascii_lowercase (to_ascii_lowercase c) ≡ to_ascii_lowercase c
 lower_again c = grind (arith, nat_tests)
@@ -73,3 +73,24 @@ miss k w ws i b l e t h inv =
     let f : bytes_eq (lowered w) (lowered k) ≡ false = same_from_decides _ _ (bytes_eq-Decides (lowered w) (lowered k)) t ∙ h in
     let g : has_keyword k (w ∷ drop (i + 1) ws) ≡ has_keyword k (drop (i + 1) ws) = ap (λ c. c || has_keyword k (drop (i + 1) ws)) f in
     sym (sym inv ∙ ap (has_keyword k) (dropped ws i w l e) ∙ g)
+
+ascending_step : (o : Ordering) (x : Bool) → (is_lt o && x) ≡ true → (o ≡ Less) × (x ≡ true)
+ascending_step Less x h = (refl, h)
+ascending_step Equal x h = cc
+ascending_step Greater x h = cc
+
+ascending_from_test : (ws : List (List ℕ)) → are_ascending ws ≡ true → AreAscending ws
+ascending_from_test [] h = tt
+ascending_from_test (a ∷ []) h = tt
+ascending_from_test (a ∷ b ∷ rest) h = let p = ascending_step (compared a b) _ h in (p.0, ascending_from_test (b ∷ rest) p.1)
+
+pub keywords_from_test : (ws : List (List ℕ)) → are_keywords ws ≡ true → AreKeywords ws
+keywords_from_test ws h = let p = and_parts _ _ h in (p.0, ascending_from_test ws p.1)
+
+test_from_ascending : (ws : List (List ℕ)) → AreAscending ws → are_ascending ws ≡ true
+test_from_ascending [] h = refl
+test_from_ascending (a ∷ []) h = refl
+test_from_ascending (a ∷ b ∷ rest) h = ap (λ o. is_lt o && are_ascending (b ∷ rest)) h.0 ∙ test_from_ascending (b ∷ rest) h.1
+
+pub test_from_keywords : (ws : List (List ℕ)) → AreKeywords ws → are_keywords ws ≡ true
+test_from_keywords ws h = and_from _ _ h.0 (test_from_ascending ws h.1)

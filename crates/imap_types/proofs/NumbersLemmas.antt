@@ -1,8 +1,9 @@
-use Rattle.std.proofs.Common.{◌≡◌, ℕ, zero, suc, ◌+◌, ◌-◌, ◌<◌, ◌≤◌, ◌↔◌, Bool, true, eqb, max, List, [], ◌∷◌, ◌++◌, length, get_or, set, refl, ap, sym, subst, ◌∙◌, arith, append_assoc}
+use Rattle.std.proofs.Common.{◌≡◌, ℕ, zero, suc, ◌+◌, ◌-◌, ◌<◌, ◌≤◌, ◌↔◌, ◌⊎◌, Bool, true, eqb, max, List, [], ◌∷◌, ◌++◌, length, get_or, set, refl, ap, sym, subst, ◌∙◌, arith, append_assoc, ◌≢◌, inl, inr}
+use Rattle.std.proofs.lemmas.Bool.{and_parts, and_from, cases_Bool, eqb-false, eqb-true, leb-true, le-leb}
 use Rattle.std.specs.List.{range_with_len}
 use Rattle.std.proofs.lemmas.Bool.Decides.{nat_tests}
 use Rattle.imap_types.specs.declared.number_set.Run.{Run}
-use Rattle.imap_types.specs.Numbers.{AreRisingFrom, AreRunsFrom, greatest, numbers_in, numbers_of, runs_of, with_number}
+use Rattle.imap_types.specs.Numbers.{AreRisingFrom, AreRunsFrom, are_runs_from, greatest, numbers_in, numbers_of, runs_of, with_number}
 
 append_none : {X : Type 0} (xs : List X) → xs ++ [] ≡ xs
 append_none [] = refl
@@ -127,3 +128,47 @@ rising-numbers low (r ∷ rs) h =
 pub no_numbers : (rs : List Run) (b : Bool) → b ≡ eqb (length rs) 0 → (b ≡ true) ↔ (numbers_in rs ≡ [])
 no_numbers [] b e = (λ _. refl, λ _. e)
 no_numbers (r ∷ rs) b e = (λ t. absurd (grind (arith, nat_tests)), λ t. cc)
+
+pub runs_from_test : (low : ℕ) (rs : List Run) → are_runs_from low rs ≡ true → AreRunsFrom low rs
+runs_from_test low [] h = tt
+runs_from_test low (r ∷ rs) h =
+    let p = and_parts _ _ h in
+    let q = and_parts _ _ p.0 in
+    (leb-true _ _ q.0, leb-true _ _ q.1, runs_from_test (r.last + 2) rs p.1)
+
+pub test_from_runs : (low : ℕ) (rs : List Run) → AreRunsFrom low rs → are_runs_from low rs ≡ true
+test_from_runs low [] h = refl
+test_from_runs low (r ∷ rs) h = and_from _ _ (and_from _ _ (le-leb _ _ h.0) (le-leb _ _ h.1)) (test_from_runs (r.last + 2) rs h.2)
+
+-- the numbers of the runs of rising numbers are these numbers, and the runs have gaps
+RunsBack : ℕ → List ℕ → List Run → Type 0
+RunsBack low ns rs = AreRunsFrom low rs × (numbers_in rs ≡ ns)
+
+with_number_back : (low n : ℕ) (ns : List ℕ) (rs : List Run) → low ≤ n → RunsBack (n + 1) ns rs → RunsBack low (n ∷ ns) (with_number n rs)
+unfolding RunsBack
+with_number_back low n ns [] l h = ((l, omega arith, tt), grind (arith, h.1))
+with_number_back low n ns (r ∷ rs) l h = elim (cases_Bool (eqb (n + 1) r.first)) [
+  | inl t ↦
+      let e : n + 1 ≡ r.first = eqb-true _ _ t in
+      let o : r.first ≤ r.last = h.0.1 in
+      let g : suc (r.last - n) ≡ suc (suc (r.last - r.first)) = omega arith in
+      let numbers : range_with_len n (suc (r.last - n)) ≡ n ∷ numbers_of r = ap (range_with_len n) g ∙ ap (λ (k : ℕ). n ∷ range_with_len k (suc (r.last - r.first))) e in
+      rw t ((l, omega arith, h.0.2), ap (λ (xs : List ℕ). xs ++ numbers_in rs) numbers ∙ ap (λ (xs : List ℕ). n ∷ xs) h.1)
+  | inr f ↦
+      let e : n + 1 ≢ r.first = eqb-false _ _ f in
+      let one : numbers_of (record { first = n; last = n }) ≡ n ∷ [] = ap (λ (k : ℕ). n ∷ range_with_len (n + 1) k) (let z : n - n ≡ 0 = omega arith in z) in
+      rw f ((l, omega arith, (omega (arith, h.0.0), h.0.1, h.0.2)), ap (λ (xs : List ℕ). xs ++ numbers_in (r ∷ rs)) one ∙ ap (λ (xs : List ℕ). n ∷ xs) h.1)
+]
+
+runs_back : (low : ℕ) (ns : List ℕ) → AreRisingFrom low ns → RunsBack low ns (runs_of ns)
+unfolding RunsBack
+runs_back low [] h = (tt, refl)
+runs_back low (n ∷ ns) h = with_number_back low n ns (runs_of ns) h.0 (runs_back (n + 1) ns h.1)
+
+pub runs_of-are_runs : (low : ℕ) (ns : List ℕ) → AreRisingFrom low ns → AreRunsFrom low (runs_of ns)
+unfolding RunsBack
+runs_of-are_runs low ns h = (runs_back low ns h).0
+
+pub numbers_in-runs_of : (low : ℕ) (ns : List ℕ) → AreRisingFrom low ns → numbers_in (runs_of ns) ≡ ns
+unfolding RunsBack
+numbers_in-runs_of low ns h = (runs_back low ns h).1

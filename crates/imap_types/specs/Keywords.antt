@@ -1,7 +1,7 @@
-use Rattle.std.specs.Prelude.{ℕ, Bool, not, ◌&&◌, ◌||◌, ◌==◌, nat_lt, List, [], ◌∷◌, length, map, IsTrue}
+use Rattle.std.specs.Prelude.{ℕ, Bool, true, not, ◌&&◌, ◌||◌, ◌==◌, nat_lt, List, [], ◌∷◌, length, map, IsTrue}
 use Rattle.std.specs.List.{list_all, list_any}
 use Rattle.std.specs.Char.{to_ascii_lowercase}
-use Rattle.std.specs.Ordering.{match_ordering}
+use Rattle.std.specs.Ordering.{is_lt, match_ordering}
 use Rattle.std.specs.Str.{bytes_eq}
 use Rattle.imap_types.specs.Ascending.{compared, AreAscending}
 
@@ -16,6 +16,16 @@ is_lowered text = bytes_eq (lowered text) text
 -- A set of keywords in its one spelling: in lower case, ascending by octets (RFC 9051, section 2.3.2: keywords have no case).
 abbrev pub AreKeywords : List (List ℕ) → Type 0
 AreKeywords keywords = IsTrue (list_all is_lowered keywords) × AreAscending keywords
+
+-- Whether octet strings stand in ascending order, none twice.
+abbrev pub are_ascending : List (List ℕ) → Bool
+are_ascending [] = true
+are_ascending (a ∷ []) = true
+are_ascending (a ∷ b ∷ rest) = is_lt (compared a b) && are_ascending (b ∷ rest)
+
+-- Whether texts are a set of keywords in its one spelling.
+abbrev pub are_keywords : List (List ℕ) → Bool
+are_keywords texts = list_all is_lowered texts && are_ascending texts
 
 -- An ascending list with one text more; a text that is there already stays once.
 abbrev pub with_text : List ℕ → List (List ℕ) → List (List ℕ)

@@ -1,4 +1,4 @@
-use Rattle.std.specs.Prelude.{ℕ, suc, ◌+◌, ◌-◌, ◌==◌, ◌≤◌, List, [], ◌∷◌, max, if◌then◌else◌, flat_map}
+use Rattle.std.specs.Prelude.{ℕ, suc, ◌+◌, ◌-◌, Bool, true, ◌&&◌, ◌==◌, ◌≤◌, nat_le, List, [], ◌∷◌, max, if◌then◌else◌, flat_map}
 use Rattle.std.specs.List.{range_with_len}
 use Rattle.imap_types.specs.declared.number_set.Run.{Run}
 
@@ -34,3 +34,8 @@ runs_of (n ∷ ns) = with_number n (runs_of ns)
 abbrev pub AreRunsFrom : ℕ → List Run → Type 0
 AreRunsFrom low [] = Unit {0}
 AreRunsFrom low (run ∷ runs) = (low ≤ run.first) × (run.first ≤ run.last) × AreRunsFrom (run.last + 2) runs
+
+-- Whether they are such runs.
+abbrev pub are_runs_from : ℕ → List Run → Bool
+are_runs_from low [] = true
+are_runs_from low (run ∷ runs) = nat_le low run.first && nat_le run.first run.last && are_runs_from (run.last + 2) runs

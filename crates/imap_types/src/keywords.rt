@@ -1,6 +1,6 @@
-ghost use Rattle.std.specs.Prelude.{◌≡◌, ◌↔◌, ◌≤◌, [], length, IfErr, IfOk, IsTrue, OnErr, OnOk};
+ghost use Rattle.std.specs.Prelude.{◌≡◌, ◌↔◌, ◌≤◌, ◌==◌, [], length, if◌then◌else◌, IfErr, IfOk, IsTrue, OnErr, OnOk};
 ghost use Rattle.std.specs.List.{insert, list_all};
-ghost use Rattle.imap_types.specs.Keywords.{has_keyword, is_atom_octet, is_lawful_keyword, lowered, with_text};
+ghost use Rattle.imap_types.specs.Keywords.{are_ascending, are_keywords, has_keyword, is_atom_octet, is_lawful_keyword, is_lowered, lowered, with_text};
 
 use crate::Octets;
 use std::alloc::{AllocError, Global};
@@ -36,6 +36,18 @@ impl Keywords {
     {
         Keywords {
             words: Vec::new(alloc),
+        }
+    }
+
+    /// The set of these keywords, whose memory it takes over; `None` where they aren't in lower case and ascending, none
+    /// twice.
+    pub fn new(words: Vec<Octets>) -> Option<Keywords>
+        ensures { result ≡ (if are_keywords words.items then Some words.items else None) }
+    {
+        if are_keywords(&words) {
+            Some(Keywords { words })
+        } else {
+            None
         }
     }
 
@@ -178,4 +190,48 @@ pub fn is_atom_octet(octet: u8) -> bool
         _ => false,
     };
     octet >= 33 && octet < 127 && !is_special
+}
+
+/// Whether they are in lower case and ascending, none twice.
+fn are_keywords(words: &[Octets]) -> bool
+    ensures { result ≡ are_keywords words.now }
+{
+    are_lowered(words) && are_ascending(words)
+}
+
+fn are_lowered(words: &[Octets]) -> bool
+    ensures { result ≡ list_all is_lowered words.now }
+{
+    for word in words {
+        if !is_lowered(word.as_bytes()) {
+            return false;
+        }
+    }
+    true
+}
+
+fn is_lowered(word: &[u8]) -> bool
+    ensures { result ≡ is_lowered word.now }
+{
+    for octet in word {
+        if octet.is_ascii_uppercase() {
+            return false;
+        }
+    }
+    true
+}
+
+fn are_ascending(words: &[Octets]) -> bool
+    ensures { result ≡ are_ascending words.now }
+{
+    let mut rest = words;
+    while let [first, tail @ ..] = rest {
+        if let [second, ..] = tail {
+            if first.compare(second) != Ordering::Less {
+                return false;
+            }
+        }
+        rest = tail;
+    }
+    true
 }

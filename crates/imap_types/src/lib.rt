@@ -1,5 +1,5 @@
 //! The values that commands, answers and operations are made of: octet strings, mailbox names, flags, date-times, moments,
-//! sets of numbers and sections; and the escape in which lines of text spell octets.
+//! sets of numbers, sequence sets and sections; and the escape in which lines of text spell octets.
 //!
 //! Each type owns its octets and is seen by contracts as the list of them.
 #![tactic(auto)]
@@ -13,6 +13,7 @@ mod name;
 mod number_set;
 mod octets;
 mod section;
+mod sequence_set;
 
 pub use date_time::{DATE_TIME_OCTETS, DateTime};
 pub use escape::{Escape, EscapeFault, read_escaped, write_escaped};
@@ -23,3 +24,4 @@ pub use name::Name;
 pub use number_set::{NumberSet, Run};
 pub use octets::Octets;
 pub use section::{FieldNames, Section};
+pub use sequence_set::{SequenceBound, SequenceRange, SequenceSet};

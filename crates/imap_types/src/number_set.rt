@@ -1,5 +1,5 @@
 ghost use Rattle.std.specs.Prelude.{◌≡◌, ◌<◌, ◌≤◌, ◌-◌, ◌++◌, [], ◌∷◌, length, slice_set, IfNone, IfSome, OnErr, OnOk};
-ghost use Rattle.imap_types.specs.Numbers.{AreRunsFrom, greatest, numbers_in, numbers_of};
+ghost use Rattle.imap_types.specs.Numbers.{AreRunsFrom, are_runs_from, greatest, numbers_in, numbers_of};
 
 use std::alloc::{AllocError, Global};
 use std::marker::Model;
@@ -31,8 +31,8 @@ impl Model for NumberSet {
 }
 
 impl NumberSet {
-    ghost use Rattle.std.specs.Prelude.{◌≡◌, ◌↔◌, ◌<◌, ◌++◌, [], ◌∷◌, IfOk, OnErr, OnOk, IsTrue};
-    ghost use Rattle.imap_types.specs.Numbers.{AreRisingFrom, greatest, numbers_in, numbers_of, runs_of};
+    ghost use Rattle.std.specs.Prelude.{◌≡◌, ◌↔◌, ◌<◌, ◌≤◌, ◌++◌, [], ◌∷◌, if◌then◌else◌, IfOk, OnErr, OnOk, IsTrue};
+    ghost use Rattle.imap_types.specs.Numbers.{AreRisingFrom, are_runs_from, greatest, numbers_in, numbers_of, runs_of};
 
     /// The set of no numbers.
     pub fn new(alloc: Global) -> NumberSet
@@ -40,6 +40,18 @@ impl NumberSet {
     {
         NumberSet {
             runs: Vec::new(alloc),
+        }
+    }
+
+    /// The set of the numbers of these runs, whose memory it takes over; `None` where they aren't the fewest, ascending
+    /// from 1.
+    pub fn from_runs(runs: Vec<Run>) -> Option<NumberSet>
+        ensures { result ≡ (if are_runs_from 1 runs.items then Some (numbers_in runs.items) else None) }
+    {
+        if are_runs(&runs) {
+            Some(NumberSet { runs })
+        } else {
+            None
         }
     }
 
@@ -143,4 +155,18 @@ fn joined_run(runs: &[Run], next: Run) -> Option<Run>
         first: last.first,
         last: next.last,
     })
+}
+
+/// Whether runs ascend from 1 with gaps between them.
+fn are_runs(runs: &[Run]) -> bool
+    ensures { result ≡ are_runs_from 1 runs.now }
+{
+    let mut low = 1u64;
+    for run in runs {
+        if u64::from(run.first) < low || run.last < run.first {
+            return false;
+        }
+        low = u64::from(run.last) + 2;
+    }
+    true
 }

@@ -15,7 +15,7 @@ use Rattle.imap_print.specs.declared.words.ByeReason.TheVariants.{LoggingOut}
 use Rattle.imap_print.specs.declared.words.CommandWord.{CommandWord}
 use Rattle.imap_print.specs.declared.words.CommandWord.TheVariants as words
 use Rattle.imap_print.specs.declared.words.Refusal.{Refusal}
-use Rattle.imap_print.specs.declared.words.Refusal.TheVariants.{NoSuchMailbox, MailboxExists, NameNotAllowed, InboxStays, NumberUsedUp, NoMemory, NotNow}
+use Rattle.imap_print.specs.declared.words.Refusal.TheVariants.{NoSuchMailbox, MailboxExists, NameNotAllowed, InboxStays, NotInProfile, NumberUsedUp, NoMemory, NotNow}
 use Rattle.imap_query.specs.Listing.{Lists}
 use Rattle.imap_query.specs.declared.listing.ListEntry.{ListEntry}
 use Rattle.imap_types.specs.Names.{IsLawfulName, folded_name, inbox}
@@ -80,18 +80,30 @@ Does old session tag (Delete name) given issued new =
     IsGoing old session × IsThere old.applied name × (name ≢ inbox)
     × Changes old tag words.Delete (kinds.Delete name (delete_set_of old.applied name)) given issued new
 -- LIST (RFC 9051, section 6.3.9)
-Does old session tag (ListNames reference pattern) given issued new =
+Does old session tag (ListNames false reference pattern false) given issued new =
     IsGoing old session
     × ((entries : List ListEntry) × Lists reference pattern (folders_of old.applied) entries × (given ≡ map list_answer entries ++ completed tag words.List ∷ []))
     × (issued ≡ []) × (new ≡ old)
+-- no other command is served
+Does old session tag _ given issued new = ⊥
 
 -- ---- refusals
 
+-- The command, or its option, is none that this node serves.
+abbrev pub IsNotServed : Command → Type 0
+IsNotServed Noop = ⊥
+IsNotServed Logout = ⊥
+IsNotServed (Create name) = ⊥
+IsNotServed (Delete name) = ⊥
+IsNotServed (ListNames false reference pattern false) = ⊥
+IsNotServed _ = Unit {0}
+
 -- The command wants an authenticated session, which has not logged out (RFC 9051, section 3).
 abbrev pub WantsAuthentication : Command → Type 0
-WantsAuthentication Noop = ⊥
-WantsAuthentication Logout = ⊥
-WantsAuthentication _ = Unit {0}
+WantsAuthentication (Create name) = Unit {0}
+WantsAuthentication (Delete name) = Unit {0}
+WantsAuthentication (ListNames selected reference pattern returned) = Unit {0}
+WantsAuthentication _ = ⊥
 
 -- Why a session that goes on is refused a command.
 abbrev pub IsRefusedHere : NodeState → Command → Refusal → Type 0
@@ -107,8 +119,9 @@ IsRefusedHere old _ _ = ⊥
 abbrev pub IsRefused : NodeState → ℕ → Command → Refusal → Type 0
 IsRefused old session command reason =
     (reason ≡ NoMemory)
+    ⊎ (((reason ≡ NotInProfile) × IsNotServed command)
     ⊎ (((reason ≡ NotNow) × (¬ IsGoing old session) × WantsAuthentication command)
-    ⊎ (IsGoing old session × IsRefusedHere old command reason))
+    ⊎ (IsGoing old session × IsRefusedHere old command reason)))
 
 -- What a node replies to a command with this tag, and what it is then: the command is carried out whole, or refused and
 -- nothing changes.

@@ -1,6 +1,6 @@
 //! A replica with its sessions.
 
-ghost use Rattle.std.specs.Prelude.{◌≡◌, ◌⊎◌, ◌↔◌, ◌<◌, ◌∷◌, [], IfOk, OnErr, IsTrue, vec_capacity, vec_len};
+ghost use Rattle.std.specs.Prelude.{false, ◌≡◌, ◌⊎◌, ◌↔◌, ◌<◌, ◌∷◌, [], IfOk, OnErr, IsTrue, vec_capacity, vec_len};
 ghost use Rattle.imap_grammar.specs.declared.command.Command.TheVariants.{Create, Delete, ListNames, Logout};
 ghost use Rattle.imap_print.specs.declared.words.Refusal.TheVariants.{NoMemory};
 ghost use Rattle.imap_types.specs.Names.{inbox};
@@ -106,9 +106,13 @@ impl Node {
             Command::Logout => self.log_out(alloc, session, tag),
             Command::Create { name } => self.create(alloc, session, tag, name),
             Command::Delete { name } => self.delete(alloc, session, tag, name),
-            Command::ListNames { reference, pattern } => self.list_names(
-                alloc, session, tag, &reference, &pattern,
-            ),
+            Command::ListNames {
+                subscribed_only: false,
+                reference,
+                pattern,
+                return_subscribed: false,
+            } => self.list_names(alloc, session, tag, &reference, &pattern),
+            _ => refused(tag, Refusal::NotInProfile),
         }
     }
 
@@ -184,7 +188,7 @@ impl Node {
         reference: &Octets,
         pattern: &Octets,
     ) -> Reply
-        ensures { Replies self.old session tag (ListNames reference.now pattern.now) result self.new }
+        ensures { Replies self.old session tag (ListNames false reference.now pattern.now false) result self.new }
     {
         if !self.is_going(session) {
             return refused(tag, Refusal::NotNow);

@@ -1,7 +1,7 @@
 use Rattle.std.proofs.Common.{◌≡◌, ◌-◌, ◌^◌, ◌∙◌, [], ap, sym, drop, length-drop, arith}
 use Rattle.std.proofs.lemmas.List.{nil_from_length}
-use Rattle.imap_grammar.proofs.Numbers.{capped, capped_is}
-use Rattle.imap_grammar.proofs.text.saturated.Goals as goal
+use Rattle.imap_grammar.proofs.Digits.{capped, capped_is}
+use Rattle.imap_grammar.proofs.numbers.saturated.Goals as goal
 
 pub returns : goal.returns
 returns c =

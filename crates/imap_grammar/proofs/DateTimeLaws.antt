@@ -1,0 +1,177 @@
+-- Date-times.
+use Rattle.std.proofs.Common.{◌≡◌, ◌⊎◌, ℕ, zero, suc, ◌<◌, ◌≤◌, true, false, cond, not, ◌&&◌, nat_lt, List, [], ◌∷◌, ◌++◌, Some, None, IsTrue, length, take, drop, get_or, ap, sym, ◌∙◌, refl, subst, arith, eqb, inl, inr, pos, length-append}
+use Rattle.std.proofs.lemmas.Bool.{and_parts, and_from, cases_Bool, eqb-true, le-ltb}
+use Rattle.std.proofs.lemmas.Bool.Decides.{nat_tests}
+use Rattle.std.proofs.lemmas.Int.{ints}
+use Rattle.std.proofs.lemmas.List.{take_at, drop_at, take-append-drop}
+use Rattle.jiff.specs.Words.{IsDate, days_in_month}
+use Rattle.imap_types.specs.DateTimes.{HasPicture, HasTime, IsDateTime, date_time_picture, day_at, is_digit, is_pictured, month_at, two_digits, year_at}
+use Rattle.imap_grammar.specs.Dates.{date_time, fits, is_date, is_date_time, is_time, zeroed}
+use Rattle.imap_grammar.specs.Reading.{date_time_at}
+use Rattle.imap_grammar.specs.Strings.{begins}
+use Rattle.imap_grammar.proofs.Fronts.{Front, Reads, chosen, guarded, some_is}
+
+fits_place : (mark octet : ℕ) (marks octets : List ℕ) → is_pictured mark octet ≡ true → ((k : ℕ) → k < length marks → IsTrue (is_pictured (get_or marks k 0) (get_or octets k 0))) → (k : ℕ) → k < length (mark ∷ marks) → IsTrue (is_pictured (get_or (mark ∷ marks) k 0) (get_or (octet ∷ octets) k 0))
+fits_place mark octet marks octets e h zero l = e
+fits_place mark octet marks octets e h (suc k) l = h k (omega arith)
+
+fits_from : (marks octets : List ℕ) → fits marks octets ≡ true → HasPicture marks octets
+fits_from [] [] h = (refl, λ k l. absurd (omega arith))
+fits_from [] (octet ∷ octets) h = cc
+fits_from (mark ∷ marks) [] h = cc
+fits_from (mark ∷ marks) (octet ∷ octets) h =
+    let p = and_parts (is_pictured mark octet) (fits marks octets) h in
+    let r = fits_from marks octets p.1 in
+    (ap suc r.0, fits_place mark octet marks octets p.0 r.1)
+
+fits_to : (marks octets : List ℕ) → HasPicture marks octets → fits marks octets ≡ true
+fits_to [] [] h = refl
+fits_to [] (octet ∷ octets) h = absurd (let e : length (octet ∷ octets) ≡ 0 = h.0 in omega arith)
+fits_to (mark ∷ marks) [] h = absurd (let e : 0 ≡ length (mark ∷ marks) = h.0 in omega arith)
+fits_to (mark ∷ marks) (octet ∷ octets) h =
+    let e : length (octet ∷ octets) ≡ length (mark ∷ marks) = h.0 in
+    and_from _ _ (h.1 0 (omega arith)) (fits_to marks octets (omega arith, λ k l. h.1 (suc k) (omega arith)))
+
+not_above : (limit n : ℕ) → not (nat_lt limit n) ≡ true → n ≤ limit
+not_above limit n h = grind (arith, nat_tests)
+
+above_not : (limit n : ℕ) → n ≤ limit → not (nat_lt limit n) ≡ true
+above_not limit n h = grind (arith, nat_tests)
+
+date_from : (y m d : ℕ) → is_date y m d ≡ true → IsDate (pos y) (pos m) (pos d)
+date_from y m d h =
+    let a = and_parts _ _ h in
+    let b = and_parts _ _ a.1 in
+    let c = and_parts _ _ b.1 in
+    let e = and_parts _ _ c.1 in
+    let year : y ≤ 9999 = not_above 9999 y a.0 in
+    let low : 1 ≤ m = not_above m 1 b.0 in
+    let high : m ≤ 12 = not_above 12 m c.0 in
+    let first : 1 ≤ d = not_above d 1 e.0 in
+    let last : d ≤ days_in_month (pos y) m = not_above (days_in_month (pos y) m) d e.1 in
+    ((omega (arith, ints), omega (arith, ints)), (omega (arith, ints), omega (arith, ints)), (omega (arith, ints), omega (arith, ints)))
+
+date_to : (y m d : ℕ) → IsDate (pos y) (pos m) (pos d) → is_date y m d ≡ true
+date_to y m d h =
+    let year : y ≤ 9999 = let k = h.0.1 in omega (arith, ints) in
+    let low : 1 ≤ m = let k = h.1.0 in omega (arith, ints) in
+    let high : m ≤ 12 = let k = h.1.1 in omega (arith, ints) in
+    let first : 1 ≤ d = let k = h.2.0 in omega (arith, ints) in
+    let last : d ≤ days_in_month (pos y) m = let k = h.2.1 in omega (arith, ints) in
+    and_from _ _ (above_not 9999 y year) (and_from _ _ (above_not m 1 low) (and_from _ _ (above_not 12 m high) (and_from _ _ (above_not d 1 first) (above_not (days_in_month (pos y) m) d last))))
+
+time_from : (text : List ℕ) → is_time text ≡ true → HasTime text
+time_from text h =
+    let a = and_parts _ _ h in
+    let b = and_parts _ _ a.1 in
+    let c = and_parts _ _ b.1 in
+    let e = and_parts _ _ c.1 in
+    record {
+      hour = not_above 23 (two_digits text 13) a.0;
+      minute = not_above 59 (two_digits text 16) b.0;
+      second = not_above 60 (two_digits text 19) c.0;
+      zone_hour = not_above 23 (two_digits text 23) e.0;
+      zone_minute = not_above 59 (two_digits text 25) e.1;
+    }
+
+time_to : (text : List ℕ) → HasTime text → is_time text ≡ true
+time_to text h =
+    and_from _ _ (above_not 23 (two_digits text 13) h.hour) (and_from _ _ (above_not 59 (two_digits text 16) h.minute) (and_from _ _ (above_not 60 (two_digits text 19) h.second)
+    (and_from _ _ (above_not 23 (two_digits text 23) h.zone_hour) (above_not 59 (two_digits text 25) h.zone_minute))))
+
+pub date_time_from : (text : List ℕ) → is_date_time text ≡ true → IsDateTime text
+unfolding is_date_time
+date_time_from text h =
+    let a = and_parts (fits date_time_picture text) (is_date (year_at text) (month_at text) (day_at text) && is_time text) h in
+    let b = and_parts (is_date (year_at text) (month_at text) (day_at text)) (is_time text) a.1 in
+    record { form = fits_from date_time_picture text a.0; date = date_from (year_at text) (month_at text) (day_at text) b.0; time = time_from text b.1 }
+
+pub date_time_to : (text : List ℕ) → IsDateTime text → is_date_time text ≡ true
+unfolding is_date_time
+date_time_to text h = and_from _ _ (fits_to date_time_picture text h.form) (and_from _ _ (date_to (year_at text) (month_at text) (day_at text) h.date) (time_to text h.time))
+
+-- what the code makes of 28 octets
+pub date_made : (octets made : List ℕ) → 28 ≤ length octets → IsDateTime (zeroed (take 28 octets)) → made ≡ zeroed (take 28 octets) → date_time_at octets ≡ Some (made, drop 28 octets)
+date_made octets made l h e =
+    ap (λ b. cond b None (cond (is_date_time (zeroed (take 28 octets))) (Some (zeroed (take 28 octets), drop 28 octets)) None)) (le-ltb _ _ l)
+    ∙ ap (λ b. cond b (Some (zeroed (take 28 octets), drop 28 octets)) None) (date_time_to (zeroed (take 28 octets)) h)
+    ∙ ap (λ v. Some (v, drop 28 octets)) (sym e)
+
+pub date_none : (octets : List ℕ) → 28 ≤ length octets → (IsDateTime (zeroed (take 28 octets)) → ⊥) → date_time_at octets ≡ None
+date_none octets l h =
+    ap (λ b. cond b None (cond (is_date_time (zeroed (take 28 octets))) (Some (zeroed (take 28 octets), drop 28 octets)) None)) (le-ltb _ _ l)
+    ∙ elim (cases_Bool (is_date_time (zeroed (take 28 octets)))) [
+      | inl t ↦ absurd (h (date_time_from (zeroed (take 28 octets)) t))
+      | inr f ↦ ap (λ b. cond b (Some (zeroed (take 28 octets), drop 28 octets)) None) f
+    ]
+
+quote_first : (a : ℕ) (r : List ℕ) → IsDateTime (a ∷ r) → a ≡ 34
+quote_first a r h = let q : eqb a 34 ≡ true = h.form.1 0 (omega arith) in eqb-true a 34 q
+
+zero_cases : (t : List ℕ) → IsDateTime (zeroed t) → (t ≡ zeroed t) ⊎ ((rest : List ℕ) × (zeroed t ≡ 34 ∷ 48 ∷ rest) × (t ≡ 34 ∷ 32 ∷ rest))
+zero_cases [] h = inl refl
+zero_cases (a ∷ []) h = inl refl
+zero_cases (a ∷ b ∷ r) h =
+    elim (cases_Bool (eqb b 32)) [
+      | inl t ↦
+          let z : zeroed (a ∷ b ∷ r) ≡ a ∷ 48 ∷ r = ap (λ c. cond c (a ∷ 48 ∷ r) (a ∷ b ∷ r)) t in
+          let q : a ≡ 34 = quote_first a (48 ∷ r) (subst IsDateTime z h) in
+          inr (r, z ∙ ap (λ c. c ∷ 48 ∷ r) q, ap (λ c. c ∷ b ∷ r) q ∙ ap (λ c. 34 ∷ c ∷ r) (eqb-true b 32 t))
+      | inr f ↦ inl (sym (ap (λ c. cond c (a ∷ 48 ∷ r) (a ∷ b ∷ r)) f))
+    ]
+
+date_takes : (octets : List ℕ) (x : List ℕ × List ℕ) → date_time_at octets ≡ Some x → Front (date_time x.0) octets x.1
+date_takes octets x h =
+    let g = guarded (nat_lt (length octets) 28) (cond (is_date_time (zeroed (take 28 octets))) (Some (zeroed (take 28 octets), drop 28 octets)) None) x h in
+    elim (chosen (is_date_time (zeroed (take 28 octets))) (Some (zeroed (take 28 octets), drop 28 octets)) None (Some x) g.1) [
+      | inl t ↦
+          let d = date_time_from (zeroed (take 28 octets)) t.0 in
+          subst (λ (y : List ℕ × List ℕ). Front (date_time y.0) octets y.1) (some_is (zeroed (take 28 octets), drop 28 octets) x t.1)
+          (take 28 octets, (d, zero_cases (take 28 octets) d), sym (take-append-drop 28 octets))
+      | inr n ↦ absurd cc
+    ]
+
+date_length : (value : List ℕ) → IsDateTime value → length value ≡ 28
+date_length value h = h.form.0
+
+digit_no_space : (b : ℕ) → is_digit b ≡ true → eqb b 32 ≡ false
+digit_no_space b h = grind (arith, nat_tests)
+
+zeroed_same : (v : List ℕ) → is_digit (get_or v 1 0) ≡ true → zeroed v ≡ v
+zeroed_same [] h = refl
+zeroed_same (a ∷ []) h = refl
+zeroed_same (a ∷ b ∷ r) h = ap (λ c. cond c (a ∷ 48 ∷ r) (a ∷ b ∷ r)) (digit_no_space b h)
+
+date_of : (value t octets rest : List ℕ) → IsDateTime value → length t ≡ 28 → zeroed t ≡ value → octets ≡ t ++ rest → date_time_at octets ≡ Some (value, rest)
+date_of value t octets rest h l z e =
+    let n : 28 ≤ length octets = let k : length octets ≡ length (t ++ rest) = ap length e in omega (arith, length-append t rest) in
+    let front : take 28 octets ≡ t = ap (take 28) e ∙ take_at t rest 28 l in
+    let back : drop 28 octets ≡ rest = ap (drop 28) e ∙ drop_at t rest 28 l in
+    let same : zeroed (take 28 octets) ≡ value = ap zeroed front ∙ z in
+    date_made octets value n (subst IsDateTime (sym same) h) (sym same) ∙ ap (λ r. Some (value, r)) back
+
+date_again : (value octets rest : List ℕ) → Front (date_time value) octets rest → date_time_at octets ≡ Some (value, rest)
+date_again value octets rest f =
+    let d = f.1.0 in
+    elim f.1.1 [
+      | inl same ↦
+          let digit : is_digit (get_or value 1 0) ≡ true = d.form.1 1 (omega arith) in
+          date_of value value octets rest d (date_length value d) (zeroed_same value digit) (f.2 ∙ ap (λ xs. xs ++ rest) same)
+      | inr spaced ↦
+          let t : List ℕ = 34 ∷ 32 ∷ spaced.0 in
+          let n : length t ≡ 28 = let k : length value ≡ length (34 ∷ 48 ∷ spaced.0) = ap length spaced.1 in let l = date_length value d in omega arith in
+          date_of value t octets rest d n (sym spaced.1) (f.2 ∙ ap (λ xs. xs ++ rest) spaced.2)
+    ]
+
+pub date_reads : (end : List ℕ → Type 0) → Reads date_time_at date_time end
+date_reads end = record { takes = date_takes; again = λ octets rest value f s. date_again value octets rest f }
+
+value_begins : (value octets rest : List ℕ) → IsDateTime value → octets ≡ value ++ rest → begins 34 octets ≡ true
+value_begins [] octets rest h e = absurd (let k : 0 ≡ 28 = date_length [] h in omega arith)
+value_begins (a ∷ r) octets rest h e = ap (begins 34) e ∙ ap (λ c. eqb c 34) (quote_first a r h)
+
+pub date_begins : (value octets rest : List ℕ) → Front (date_time value) octets rest → begins 34 octets ≡ true
+date_begins value octets rest f = elim f.1.1 [
+  | inl same ↦ value_begins value octets rest f.1.0 (f.2 ∙ ap (λ xs. xs ++ rest) same)
+  | inr spaced ↦ ap (begins 34) (f.2 ∙ ap (λ xs. xs ++ rest) spaced.2)
+]

@@ -1,0 +1,144 @@
+-- Flags.
+use Rattle.std.proofs.Common.{◌≡◌, ℕ, true, false, cond, List, [], ◌∷◌, ◌++◌, Some, ap, ◌∙◌, refl, subst, arith, eqb, inl, inr}
+use Rattle.std.proofs.lemmas.Bool.{and_parts, eqb-true}
+use Rattle.std.proofs.lemmas.Bool.Decides.{nat_tests}
+use Rattle.std.specs.List.{list_all}
+use Rattle.imap_types.specs.Keywords.{lowered, is_atom_octet}
+use Rattle.imap_grammar.specs.Languages.{exactly, sp, word, listed, maybe_listed}
+use Rattle.imap_grammar.specs.MessageFlags.{flag, flag_group, flags_of, no_flags, stored, stored_texts}
+use Rattle.imap_grammar.specs.Reading.{◌>>=◌, flag_at, flag_group_at, listed_at, made, maybe_flags_at, named_at, run_at, stored_at, stored_texts_at}
+use Rattle.imap_grammar.specs.Strings.{begins, is_in, run}
+use Rattle.imap_grammar.specs.Words.{named, system_flags, system_word}
+use Rattle.imap_grammar.specs.declared.class.Class.TheVariants.{Atom, Item}
+use Rattle.imap_grammar.specs.declared.flags.Flag.{Flag}
+use Rattle.imap_grammar.specs.declared.flags.Flag.TheVariants.{System, Keyword}
+use Rattle.imap_grammar.specs.declared.flags.SystemFlag.{SystemFlag}
+use Rattle.imap_grammar.specs.declared.flags.SystemFlag.TheVariants as system
+use Rattle.imap_grammar.proofs.Fronts.{Closes, Ends, Front, Reads, Shut, bind_some, chosen, closes_ends, closes_no_space, enclosed_reads, exactly_is, front_begins, joined, made_reads, parted, shut_closes, some_is, stopping}
+use Rattle.imap_grammar.proofs.Lists.{listed_reads}
+use Rattle.imap_grammar.proofs.Spans.{run_reads}
+use Rattle.imap_grammar.proofs.WordLaws.{ends_item, table_reads}
+
+system_found : (w : SystemFlag) → named system_word system_flags (system_word w) ≡ Some w
+system_found system.Answered = refl
+system_found system.Flagged = refl
+system_found system.Deleted = refl
+system_found system.Seen = refl
+system_found system.Draft = refl
+
+system_letters : (w : SystemFlag) → list_all (is_in Item) (lowered (system_word w)) ≡ true
+system_letters system.Answered = refl
+system_letters system.Flagged = refl
+system_letters system.Deleted = refl
+system_letters system.Seen = refl
+system_letters system.Draft = refl
+
+system_reads : Reads (named_at system_word system_flags) (λ w. word (system_word w)) Ends
+system_reads = stopping (table_reads system_word system_flags system_found system_letters) Ends ends_item
+
+flag_takes : (octets : List ℕ) (x : Flag × List ℕ) → flag_at octets ≡ Some x → Front (flag x.0) octets x.1
+flag_takes [] x h = cc
+flag_takes (b ∷ bs) x h =
+    elim (chosen (eqb b 92) (made System (named_at system_word system_flags) bs) (made Keyword (run_at Atom) (b ∷ bs)) (Some x) h) [
+      | inl t ↦
+          let a = bind_some (named_at system_word system_flags bs) _ x t.1 in
+          subst (λ (y : Flag × List ℕ). Front (flag y.0) (b ∷ bs) y.1) (some_is (System a.0.0, a.0.1) x a.2)
+          (joined (exactly (92 ∷ [])) (word (system_word a.0.0)) (b ∷ bs) bs a.0.1 (92 ∷ [], refl, ap (λ c. c ∷ bs) (eqb-true b 92 t.0)) (system_reads.takes bs a.0 a.1))
+      | inr n ↦
+          let a = bind_some (run_at Atom (b ∷ bs)) _ x n.1 in
+          subst (λ (y : Flag × List ℕ). Front (flag y.0) (b ∷ bs) y.1) (some_is (Keyword a.0.0, a.0.1) x a.2) ((run_reads Atom).takes (b ∷ bs) a.0 a.1)
+    ]
+
+atom_no : (b : ℕ) → is_atom_octet b ≡ true → (eqb b 92 ≡ false) × (eqb b 40 ≡ false) × (eqb b 41 ≡ false)
+atom_no b h = (grind (arith, nat_tests), grind (arith, nat_tests), grind (arith, nat_tests))
+
+-- the first octet of an atom
+atom_first : (keyword text octets rest : List ℕ) → run Atom keyword text → octets ≡ text ++ rest → (begins 92 octets ≡ false) × (begins 40 octets ≡ false) × (begins 41 octets ≡ false)
+atom_first [] text octets rest r e = absurd (r.0 refl)
+atom_first (b ∷ bs) text octets rest r e =
+    let is : octets ≡ (b ∷ bs) ++ rest = e ∙ ap (λ xs. xs ++ rest) r.2 in
+    let n = atom_no b (and_parts (is_atom_octet b) (list_all (is_in Atom) bs) r.1).0 in
+    (ap (begins 92) is ∙ n.0, ap (begins 40) is ∙ n.1, ap (begins 41) is ∙ n.2)
+
+no_escape : (octets : List ℕ) → begins 92 octets ≡ false → flag_at octets ≡ made Keyword (run_at Atom) octets
+no_escape [] h = refl
+no_escape (b ∷ bs) h = ap (λ c. cond c (made System (named_at system_word system_flags) bs) (made Keyword (run_at Atom) (b ∷ bs))) h
+
+flag_again : (value : Flag) (octets rest : List ℕ) → Front (flag value) octets rest → Ends rest → flag_at octets ≡ Some (value, rest)
+flag_again (System known) octets rest f s =
+    let p = parted (exactly (92 ∷ [])) (word (system_word known)) octets rest f in
+    ap flag_at (exactly_is (92 ∷ []) octets p.0 p.1) ∙ ap (λ r. r >>= λ first. Some (System first.0, first.1)) (system_reads.again p.0 rest known p.2 s)
+flag_again (Keyword keyword) octets rest f s =
+    no_escape octets (atom_first keyword f.0 octets rest f.1 f.2).0 ∙ ap (λ r. r >>= λ first. Some (Keyword first.0, first.1)) ((run_reads Atom).again octets rest keyword f s)
+
+flag_reads : Reads flag_at flag Ends
+flag_reads = record { takes = flag_takes; again = λ octets rest value f s. flag_again value octets rest f s }
+
+flags_reads : Reads (listed_at 32 flag_at) (listed sp flag) Closes
+flags_reads = listed_reads 32 flag_reads Closes closes_no_space closes_ends (λ octets. refl)
+
+flag_first : (value : Flag) (octets rest : List ℕ) → Front (flag value) octets rest → (begins 40 octets ≡ false) × (begins 41 octets ≡ false)
+flag_first (System known) octets rest f =
+    let p = parted (exactly (92 ∷ [])) (word (system_word known)) octets rest f in
+    let e = exactly_is (92 ∷ []) octets p.0 p.1 in
+    (ap (begins 40) e, ap (begins 41) e)
+flag_first (Keyword keyword) octets rest f = let n = atom_first keyword f.0 octets rest f.1 f.2 in (n.1, n.2)
+
+list_first : (values : List Flag) (octets rest : List ℕ) → Front (listed sp flag values) octets rest → (begins 40 octets ≡ false) × (begins 41 octets ≡ false)
+list_first [] octets rest f = absurd f.1
+list_first (v ∷ vs) octets rest f = let p = parted (flag v) _ octets rest f in flag_first v octets p.0 p.1
+
+maybe_from : (values : List Flag) (octets rest : List ℕ) → Front (listed sp flag values) octets rest → Front (maybe_listed sp flag values) octets rest
+maybe_from [] octets rest f = absurd f.1
+maybe_from (v ∷ vs) octets rest f = f
+
+maybe_takes : (octets : List ℕ) (x : List Flag × List ℕ) → maybe_flags_at octets ≡ Some x → Front (maybe_listed sp flag x.0) octets x.1
+maybe_takes [] x h = cc
+maybe_takes (b ∷ bs) x h =
+    elim (chosen (eqb b 41) (Some ([], b ∷ bs)) (listed_at 32 flag_at (b ∷ bs)) (Some x) h) [
+      | inl t ↦ subst (λ (y : List Flag × List ℕ). Front (maybe_listed sp flag y.0) (b ∷ bs) y.1) (some_is ([], b ∷ bs) x t.1) ([], refl, refl)
+      | inr n ↦ maybe_from x.0 (b ∷ bs) x.1 (flags_reads.takes (b ∷ bs) x n.1)
+    ]
+
+shut_none : (rest : List ℕ) → begins 41 rest ≡ true → maybe_flags_at rest ≡ Some ([], rest)
+shut_none [] h = cc
+shut_none (b ∷ bs) h = ap (λ c. cond c (Some ([], b ∷ bs)) (listed_at 32 flag_at (b ∷ bs))) h
+
+shut_some : (octets : List ℕ) → begins 41 octets ≡ false → maybe_flags_at octets ≡ listed_at 32 flag_at octets
+shut_some [] h = refl
+shut_some (b ∷ bs) h = ap (λ c. cond c (Some ([], b ∷ bs)) (listed_at 32 flag_at (b ∷ bs))) h
+
+maybe_again : (values : List Flag) (octets rest : List ℕ) → Front (maybe_listed sp flag values) octets rest → Shut rest → maybe_flags_at octets ≡ Some (values, rest)
+maybe_again [] octets rest f s = ap maybe_flags_at (exactly_is [] octets rest f) ∙ shut_none rest s
+maybe_again (v ∷ vs) octets rest f s = shut_some octets (list_first (v ∷ vs) octets rest f).1 ∙ flags_reads.again octets rest (v ∷ vs) f (shut_closes rest s)
+
+pub group_reads : (end : List ℕ → Type 0) → Reads flag_group_at flag_group end
+group_reads end = enclosed_reads 40 41 (record { takes = maybe_takes; again = λ octets rest values f s. maybe_again values octets rest f s }) end
+
+texts_takes : (octets : List ℕ) (x : List Flag × List ℕ) → stored_texts_at octets ≡ Some x → Front (stored_texts x.0) octets x.1
+texts_takes [] x h = cc
+texts_takes (b ∷ bs) x h =
+    elim (chosen (eqb b 40) (flag_group_at (b ∷ bs)) (listed_at 32 flag_at (b ∷ bs)) (Some x) h) [
+      | inl t ↦ let f = (group_reads Closes).takes (b ∷ bs) x t.1 in (f.0, inl f.1, f.2)
+      | inr n ↦ let f = flags_reads.takes (b ∷ bs) x n.1 in (f.0, inr f.1, f.2)
+    ]
+
+open_group : (octets : List ℕ) → begins 40 octets ≡ true → stored_texts_at octets ≡ flag_group_at octets
+open_group [] h = cc
+open_group (b ∷ bs) h = ap (λ c. cond c (flag_group_at (b ∷ bs)) (listed_at 32 flag_at (b ∷ bs))) h
+
+open_list : (octets : List ℕ) → begins 40 octets ≡ false → stored_texts_at octets ≡ listed_at 32 flag_at octets
+open_list [] h = refl
+open_list (b ∷ bs) h = ap (λ c. cond c (flag_group_at (b ∷ bs)) (listed_at 32 flag_at (b ∷ bs))) h
+
+texts_again : (values : List Flag) (octets rest : List ℕ) → Front (stored_texts values) octets rest → Closes rest → stored_texts_at octets ≡ Some (values, rest)
+texts_again values octets rest f s = elim f.1 [
+  | inl g ↦ open_group octets (front_begins 40 _ octets rest (f.0, g, f.2)) ∙ (group_reads Closes).again octets rest values (f.0, g, f.2) s
+  | inr l ↦ open_list octets (list_first values octets rest (f.0, l, f.2)).0 ∙ flags_reads.again octets rest values (f.0, l, f.2) s
+]
+
+texts_reads : Reads stored_texts_at stored_texts Closes
+texts_reads = record { takes = texts_takes; again = λ octets rest values f s. texts_again values octets rest f s }
+
+pub stored_reads : Reads stored_at stored Closes
+stored_reads = made_reads texts_reads (flags_of no_flags) stored (λ value text h. (value, h, refl)) (λ it text h. (h.0, h.1, h.2))

@@ -1,0 +1,66 @@
+use Rattle.std.specs.Prelude.{◌≡◌, ◌⊎◌, ℕ, Bool, true, false, List, [], ◌∷◌, codes, Option, Some, None}
+use Rattle.imap_types.specs.declared.section.Section.{Section}
+use Rattle.imap_types.specs.declared.section.Section.TheVariants.{Whole, Header, Text, Fields, FieldsNot}
+use Rattle.imap_grammar.specs.Languages.{◌⌢◌, exactly, nothing, sp, word, in_parens, listed}
+use Rattle.imap_grammar.specs.Strings.{astring, number_to, nz}
+use Rattle.imap_grammar.specs.Words.{fetch_word, section_word}
+use Rattle.imap_grammar.specs.declared.fetch.FetchItem.{FetchItem}
+use Rattle.imap_grammar.specs.declared.fetch.FetchItem.TheVariants as items
+use Rattle.imap_grammar.specs.declared.fetch.FetchWord.{FetchWord}
+use Rattle.imap_grammar.specs.declared.fetch.FetchWord.TheVariants as words
+use Rattle.imap_grammar.specs.declared.fetch.Partial.{Partial}
+use Rattle.imap_grammar.specs.declared.fetch.SectionWord.TheVariants as sections
+
+-- Names of header fields (RFC 9051, section 9, header-list).
+abbrev pub field_names : List (List ℕ) → List ℕ → Type 0
+field_names names = sp ⌢ in_parens (listed sp astring names)
+
+-- A section (RFC 9051, section 9, section-spec).
+abbrev pub section : Section → List ℕ → Type 0
+section Whole = nothing
+section Header = word (section_word sections.Header)
+section Text = word (section_word sections.Text)
+section (Fields names) = word (section_word sections.Fields) ⌢ field_names names
+section (FieldsNot names) = word (section_word sections.FieldsNot) ⌢ field_names names
+
+-- `<start.count>` or nothing (RFC 9051, section 9, partial).
+abbrev pub partial : Option Partial → List ℕ → Type 0
+partial None = nothing
+partial (Some this) = exactly (60 ∷ []) ⌢ number_to 4294967295 this.start ⌢ exactly (46 ∷ []) ⌢ nz this.count ⌢ exactly (62 ∷ [])
+
+-- The word of each item.
+abbrev pub body_word : Bool → FetchWord
+body_word true = words.BodyPeek
+body_word false = words.Body
+
+abbrev pub item_word : FetchItem → FetchWord
+item_word items.Flags = words.Flags
+item_word items.InternalDate = words.InternalDate
+item_word items.Size = words.Size
+item_word items.Uid = words.Uid
+item_word items.ModSeq = words.ModSeq
+item_word (items.Body peek this_section this_partial) = body_word peek
+
+-- What each item has behind its word.
+abbrev pub item_behind : FetchItem → List ℕ → Type 0
+item_behind items.Flags = nothing
+item_behind items.InternalDate = nothing
+item_behind items.Size = nothing
+item_behind items.Uid = nothing
+item_behind items.ModSeq = nothing
+item_behind (items.Body peek this_section this_partial) = (exactly (91 ∷ []) ⌢ section this_section ⌢ exactly (93 ∷ [])) ⌢ partial this_partial
+
+-- What FETCH asks (RFC 9051, section 9, fetch-att).
+abbrev pub fetch_item : FetchItem → List ℕ → Type 0
+fetch_item item = word (fetch_word (item_word item)) ⌢ item_behind item
+
+-- What FAST stands for (RFC 9051, section 6.4.5).
+abbrev pub fast_items : List FetchItem
+fast_items = items.Flags ∷ items.InternalDate ∷ items.Size ∷ []
+
+-- FAST, one item, or items between parentheses (RFC 9051, section 9, fetch).
+abbrev pub fetched : List FetchItem → List ℕ → Type 0
+fetched these text =
+    in_parens (listed sp fetch_item these) text
+    ⊎ ((word (codes "FAST") text × (fast_items ≡ these))
+    ⊎ ((item : FetchItem) × fetch_item item text × (item ∷ [] ≡ these)))

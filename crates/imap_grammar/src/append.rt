@@ -1,0 +1,96 @@
+ghost use Rattle.std.specs.Prelude.{◌≡◌, length};
+ghost use Rattle.imap_grammar.specs.Dates.{zeroed};
+ghost use Rattle.imap_grammar.specs.Reading.{Gives, append_at, append_date_at, append_flags_at, date_time_at, literal_text_at};
+
+use crate::command::Command;
+use crate::fault::ParseFault;
+use crate::flags::{collected, flag_group};
+use crate::modifier::{left_out, peeks};
+use crate::scan::space;
+use crate::text::{literal, mailbox};
+use imap_types::{DateTime, Flags, Octets};
+use std::alloc::Global;
+
+/// The arguments of APPEND (RFC 9051, section 6.3.12).
+pub fn append(alloc: Global, octets: &[u8]) -> Result<(Command, &[u8]), ParseFault>
+    ensures { Gives (λ x. (x.0, x.1.now)) result (append_at octets.now) }
+{
+    let (name, rest) = mailbox(alloc, space(octets)?)?;
+    let (flags, rest) = append_flags(alloc, rest)?;
+    let (date, rest) = append_date(rest)?;
+    let (text, rest) = literal_text(alloc, space(rest)?)?;
+    Ok((
+        Command::Append {
+            name,
+            flags,
+            date,
+            text,
+        },
+        rest,
+    ))
+}
+
+/// ` (flag flag ..)`, or nothing for no flags.
+fn append_flags(alloc: Global, octets: &[u8]) -> Result<(Flags, &[u8]), ParseFault>
+    ensures { Gives (λ x. (x.0, x.1.now)) result (append_flags_at octets.now) }
+{
+    if !peeks(b'(', octets) {
+        return Ok((Flags::none(alloc), octets));
+    }
+    let rest = space(octets)?;
+    let (written, rest) = flag_group(alloc, rest)?;
+    Ok((collected(alloc, &written)?, rest))
+}
+
+/// A space and a date-time, or nothing.
+fn append_date(octets: &[u8]) -> Result<(Option<DateTime>, &[u8]), ParseFault>
+    ensures { Gives (λ x. (x.0, x.1.now)) result (append_date_at octets.now) }
+{
+    if !peeks(b'"', octets) {
+        return Ok((None, octets));
+    }
+    let rest = space(octets)?;
+    let (date, rest) = date_time(rest)?;
+    Ok((Some(date), rest))
+}
+
+/// A date-time (RFC 9051, section 9, date-time), which has a space or a digit first.
+fn date_time(octets: &[u8]) -> Result<(DateTime, &[u8]), ParseFault>
+    ensures { Gives (λ x. (x.0, x.1.now)) result (date_time_at octets.now) }
+{
+    if octets.len() < 28 {
+        return Err(ParseFault::BadSyntax);
+    }
+    let (front, rest) = octets.split_at(28);
+    match DateTime::new(zeroed(front)) {
+        Some(date) => Ok((date, rest)),
+        None => Err(ParseFault::BadSyntax),
+    }
+}
+
+/// The octets with a zero for a space behind the first quote.
+fn zeroed(octets: &[u8]) -> [u8; 28]
+    requires { length octets.now ≡ 28 }
+    ensures { result ≡ zeroed octets.now }
+{
+    let mut text = [0; 28];
+    text.copy_from_slice(octets);
+    if text[1] == b' ' {
+        text[1] = b'0';
+    }
+    text
+}
+
+/// The message's text. A literal8 and UTF8 (RFC 9051, section 9; RFC 6855) are forms that this server leaves out.
+fn literal_text(alloc: Global, octets: &[u8]) -> Result<(Octets, &[u8]), ParseFault>
+    ensures { Gives (λ x. (x.0, x.1.now)) result (literal_text_at octets.now) }
+{
+    match octets {
+        [] => Err(ParseFault::BadSyntax),
+        [first, rest @ ..] => match *first {
+            b'{' => literal(alloc, rest),
+            b'~' => Err(ParseFault::NotInProfile),
+            _ => Err(left_out(octets, &[b"UTF8"])),
+        },
+    }
+}

@@ -1,0 +1,247 @@
+ghost use Rattle.std.specs.Prelude.{◌≡◌};
+ghost use Rattle.imap_grammar.specs.Reading.{Gives, arguments_at, condstore_at, copy_at, create_at, delete_at, enable_at, examine_at, login_at, move_at, named_at, select_at, status_at, subscribe_at, uid_arguments_at, uid_at, uid_expunge_at, unsubscribe_at};
+ghost use Rattle.imap_grammar.specs.Words.{command_word, uid_words};
+
+use crate::append::append;
+use crate::class::Class;
+use crate::command::Command;
+use crate::fault::ParseFault;
+use crate::fetch::fetch;
+use crate::listed::{Element, listed};
+use crate::listing::list;
+use crate::many::Many;
+use crate::modifier::modifier_word;
+use crate::scan::{skip, space};
+use crate::sets::set;
+use crate::status::StatusItems;
+use crate::store::store;
+use crate::text::{mailbox, plain, text};
+use crate::word::{CommandWord, named};
+use imap_types::Octets;
+use std::alloc::Global;
+
+/// What stands behind a command's word, as `specs/Commands.antt` says of each.
+pub fn arguments(
+    alloc: Global,
+    word: CommandWord,
+    octets: &[u8],
+) -> Result<(Command, &[u8]), ParseFault>
+    ensures { Gives (λ x. (x.0, x.1.now)) result (arguments_at word octets.now) }
+{
+    match word {
+        CommandWord::Capability => Ok((Command::Capability, octets)),
+        CommandWord::Noop => Ok((Command::Noop, octets)),
+        CommandWord::Logout => Ok((Command::Logout, octets)),
+        CommandWord::Login => login(alloc, octets),
+        CommandWord::Enable => enable(alloc, octets),
+        CommandWord::Select => select(alloc, octets),
+        CommandWord::Examine => examine(alloc, octets),
+        CommandWord::Create => create(alloc, octets),
+        CommandWord::Delete => delete(alloc, octets),
+        CommandWord::Subscribe => subscribe(alloc, octets),
+        CommandWord::Unsubscribe => unsubscribe(alloc, octets),
+        CommandWord::ListNames => list(alloc, octets),
+        CommandWord::Namespace => Ok((Command::Namespace, octets)),
+        CommandWord::Status => status(alloc, octets),
+        CommandWord::Idle => Ok((Command::Idle, octets)),
+        CommandWord::Close => Ok((Command::Close, octets)),
+        CommandWord::Unselect => Ok((Command::Unselect, octets)),
+        CommandWord::Expunge => Ok((Command::Expunge, octets)),
+        CommandWord::Copy => copy(alloc, false, octets),
+        CommandWord::Move => move_messages(alloc, false, octets),
+        CommandWord::Append => append(alloc, octets),
+        CommandWord::Fetch => fetch(alloc, false, octets),
+        CommandWord::Store => store(alloc, false, octets),
+        CommandWord::Uid => uid(alloc, octets),
+        _ => Err(ParseFault::NotInProfile),
+    }
+}
+
+fn login(alloc: Global, octets: &[u8]) -> Result<(Command, &[u8]), ParseFault>
+    ensures { Gives (λ x. (x.0, x.1.now)) result (login_at octets.now) }
+{
+    let (user, rest) = text(alloc, Class::Astring, space(octets)?)?;
+    let (password, rest) = text(alloc, Class::Astring, space(rest)?)?;
+    Ok((Command::Login { user, password }, rest))
+}
+
+/// Reads atoms.
+struct Atoms;
+
+impl Element for Atoms {
+    type Value = Octets;
+
+    ghost use Rattle.imap_grammar.specs.Reading.{run_at};
+    ghost use Rattle.imap_grammar.specs.declared.class.Class.TheVariants.{Atom};
+
+    ghost read_at = { run_at Atom };
+
+    fn read(alloc: Global, octets: &[u8]) -> Result<(Octets, &[u8]), ParseFault> {
+        plain(alloc, Class::Atom, octets)
+    }
+}
+
+fn enable(alloc: Global, octets: &[u8]) -> Result<(Command, &[u8]), ParseFault>
+    ensures { Gives (λ x. (x.0, x.1.now)) result (enable_at octets.now) }
+{
+    let (names, rest) = listed::<Atoms>(alloc, b' ', space(octets)?)?;
+    Ok((
+        Command::Enable {
+            names: Many::new(names),
+        },
+        rest,
+    ))
+}
+
+fn select(alloc: Global, octets: &[u8]) -> Result<(Command, &[u8]), ParseFault>
+    ensures { Gives (λ x. (x.0, x.1.now)) result (select_at octets.now) }
+{
+    let (name, rest) = mailbox(alloc, space(octets)?)?;
+    let (condstore, rest) = condstore(rest)?;
+    Ok((Command::Select { name, condstore }, rest))
+}
+
+fn examine(alloc: Global, octets: &[u8]) -> Result<(Command, &[u8]), ParseFault>
+    ensures { Gives (λ x. (x.0, x.1.now)) result (examine_at octets.now) }
+{
+    let (name, rest) = mailbox(alloc, space(octets)?)?;
+    let (condstore, rest) = condstore(rest)?;
+    Ok((Command::Examine { name, condstore }, rest))
+}
+
+/// ` (CONDSTORE)` or nothing (RFC 7162, section 3.1.8).
+fn condstore(octets: &[u8]) -> Result<(bool, &[u8]), ParseFault>
+    ensures { Gives (λ x. (x.0, x.1.now)) result (condstore_at octets.now) }
+{
+    match octets {
+        [] => Ok((false, octets)),
+        [first, rest @ ..] => {
+            if *first != b' ' {
+                return Ok((false, octets));
+            }
+            let rest = skip(rest, b"(")?;
+            let rest = modifier_word(b"CONDSTORE", rest)?;
+            Ok((true, skip(rest, b")")?))
+        }
+    }
+}
+
+fn create(alloc: Global, octets: &[u8]) -> Result<(Command, &[u8]), ParseFault>
+    ensures { Gives (λ x. (x.0, x.1.now)) result (create_at octets.now) }
+{
+    let (name, rest) = mailbox(alloc, space(octets)?)?;
+    Ok((Command::Create { name }, rest))
+}
+
+fn delete(alloc: Global, octets: &[u8]) -> Result<(Command, &[u8]), ParseFault>
+    ensures { Gives (λ x. (x.0, x.1.now)) result (delete_at octets.now) }
+{
+    let (name, rest) = mailbox(alloc, space(octets)?)?;
+    Ok((Command::Delete { name }, rest))
+}
+
+fn subscribe(alloc: Global, octets: &[u8]) -> Result<(Command, &[u8]), ParseFault>
+    ensures { Gives (λ x. (x.0, x.1.now)) result (subscribe_at octets.now) }
+{
+    let (name, rest) = mailbox(alloc, space(octets)?)?;
+    Ok((Command::Subscribe { name }, rest))
+}
+
+fn unsubscribe(alloc: Global, octets: &[u8]) -> Result<(Command, &[u8]), ParseFault>
+    ensures { Gives (λ x. (x.0, x.1.now)) result (unsubscribe_at octets.now) }
+{
+    let (name, rest) = mailbox(alloc, space(octets)?)?;
+    Ok((Command::Unsubscribe { name }, rest))
+}
+
+fn status(alloc: Global, octets: &[u8]) -> Result<(Command, &[u8]), ParseFault>
+    ensures { Gives (λ x. (x.0, x.1.now)) result (status_at octets.now) }
+{
+    let (name, rest) = mailbox(alloc, space(octets)?)?;
+    let rest = skip(space(rest)?, b"(")?;
+    let (items, rest) = listed::<StatusItems>(alloc, b' ', rest)?;
+    let rest = skip(rest, b")")?;
+    Ok((
+        Command::Status {
+            name,
+            items: Many::new(items),
+        },
+        rest,
+    ))
+}
+
+fn copy(alloc: Global, by_uid: bool, octets: &[u8]) -> Result<(Command, &[u8]), ParseFault>
+    ensures { Gives (λ x. (x.0, x.1.now)) result (copy_at by_uid octets.now) }
+{
+    let (messages, rest) = set(alloc, space(octets)?)?;
+    let (name, rest) = mailbox(alloc, space(rest)?)?;
+    Ok((
+        Command::Copy {
+            by_uid,
+            messages,
+            name,
+        },
+        rest,
+    ))
+}
+
+fn move_messages(alloc: Global, by_uid: bool, octets: &[u8]) -> Result<(Command, &[u8]), ParseFault>
+    ensures { Gives (λ x. (x.0, x.1.now)) result (move_at by_uid octets.now) }
+{
+    let (messages, rest) = set(alloc, space(octets)?)?;
+    let (name, rest) = mailbox(alloc, space(rest)?)?;
+    Ok((
+        Command::Move {
+            by_uid,
+            messages,
+            name,
+        },
+        rest,
+    ))
+}
+
+const UID_WORDS: [CommandWord; 5] = [
+    CommandWord::Copy,
+    CommandWord::Move,
+    CommandWord::Expunge,
+    CommandWord::Fetch,
+    CommandWord::Store,
+];
+
+/// The forms that take UIDs (RFC 9051, section 6.4.9).
+fn uid(alloc: Global, octets: &[u8]) -> Result<(Command, &[u8]), ParseFault>
+    ensures { Gives (λ x. (x.0, x.1.now)) result (uid_at octets.now) }
+{
+    let (word, rest) = uid_word(space(octets)?)?;
+    uid_arguments(alloc, word, rest)
+}
+
+fn uid_word(octets: &[u8]) -> Result<(CommandWord, &[u8]), ParseFault>
+    ensures { Gives (λ x. (x.0, x.1.now)) result (named_at command_word uid_words octets.now) }
+{
+    named(&UID_WORDS, octets)
+}
+
+fn uid_arguments(
+    alloc: Global,
+    word: CommandWord,
+    octets: &[u8],
+) -> Result<(Command, &[u8]), ParseFault>
+    ensures { Gives (λ x. (x.0, x.1.now)) result (uid_arguments_at word octets.now) }
+{
+    match word {
+        CommandWord::Copy => copy(alloc, true, octets),
+        CommandWord::Move => move_messages(alloc, true, octets),
+        CommandWord::Expunge => uid_expunge(alloc, octets),
+        CommandWord::Fetch => fetch(alloc, true, octets),
+        CommandWord::Store => store(alloc, true, octets),
+        _ => Err(ParseFault::BadSyntax),
+    }
+}
+
+fn uid_expunge(alloc: Global, octets: &[u8]) -> Result<(Command, &[u8]), ParseFault>
+    ensures { Gives (λ x. (x.0, x.1.now)) result (uid_expunge_at octets.now) }
+{
+    let (uids, rest) = set(alloc, space(octets)?)?;
+    Ok((Command::UidExpunge { uids }, rest))
+}

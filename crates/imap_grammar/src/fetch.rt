@@ -1,0 +1,372 @@
+ghost use Rattle.std.specs.Prelude.{◌≡◌, IfOk};
+ghost use Rattle.imap_grammar.specs.Reading.{Gives, alone_at, body_at, bracketed_at, fetch_at, fetched_at, field_names_at, item_at, item_behind_at, named_at, partial_at, section_at, section_behind_at};
+ghost use Rattle.imap_grammar.specs.Words.{fetch_word, fetch_words, section_word, section_words};
+ghost use Rattle.imap_grammar.specs.Items.{fast_items};
+
+use crate::class::Class;
+use crate::command::Command;
+use crate::fault::ParseFault;
+use crate::listed::{Element, listed};
+use crate::many::Many;
+use crate::modifier::{changed_since, left_out};
+use crate::numbers::{number, nz};
+use crate::scan::{skip, space, span};
+use crate::sets::set;
+use crate::text::text;
+use crate::word::{Word, find};
+use imap_types::{FieldNames, Octets, Section};
+use std::alloc::{AllocError, Global};
+
+/// What FETCH asks of a message (RFC 9051, section 6.4.5).
+#[derive(Drop)]
+pub enum FetchItem {
+    Flags,
+    InternalDate,
+    /// RFC822.SIZE: the octets of the whole text.
+    Size,
+    Uid,
+    /// RFC 7162, section 3.1.4.2.
+    ModSeq,
+    /// A section of the text; `peek` leaves `\Seen` as it is.
+    Body {
+        peek: bool,
+        section: Section,
+        partial: Option<Partial>,
+    },
+}
+
+/// At most `count` octets, from 1 on, of a section, `start` octets from its beginning (RFC 9051, section 6.4.5, partial).
+#[derive(Clone, Copy, Debug, PartialEq, Eq)]
+pub struct Partial {
+    pub start: u32,
+    pub count: u32,
+}
+
+#[derive(Clone, Copy, Debug, PartialEq, Eq)]
+enum FetchWord {
+    Flags,
+    InternalDate,
+    Size,
+    Uid,
+    ModSeq,
+    Body,
+    BodyPeek,
+}
+
+const FETCH_WORDS: [FetchWord; 7] = [
+    FetchWord::Flags,
+    FetchWord::InternalDate,
+    FetchWord::Size,
+    FetchWord::Uid,
+    FetchWord::ModSeq,
+    FetchWord::Body,
+    FetchWord::BodyPeek,
+];
+
+impl Word for FetchWord {
+    ghost use Rattle.imap_grammar.specs.Words.{fetch_word};
+
+    ghost word_of = { fetch_word };
+
+    fn text(self) -> &'static [u8] {
+        match self {
+            FetchWord::Flags => b"FLAGS",
+            FetchWord::InternalDate => b"INTERNALDATE",
+            FetchWord::Size => b"RFC822.SIZE",
+            FetchWord::Uid => b"UID",
+            FetchWord::ModSeq => b"MODSEQ",
+            FetchWord::Body => b"BODY",
+            FetchWord::BodyPeek => b"BODY.PEEK",
+        }
+    }
+}
+
+#[derive(Clone, Copy, Debug, PartialEq, Eq)]
+enum SectionWord {
+    Header,
+    Text,
+    Fields,
+    FieldsNot,
+}
+
+const SECTION_WORDS: [SectionWord; 4] = [
+    SectionWord::Header,
+    SectionWord::Text,
+    SectionWord::Fields,
+    SectionWord::FieldsNot,
+];
+
+impl Word for SectionWord {
+    ghost use Rattle.imap_grammar.specs.Words.{section_word};
+
+    ghost word_of = { section_word };
+
+    fn text(self) -> &'static [u8] {
+        match self {
+            SectionWord::Header => b"HEADER",
+            SectionWord::Text => b"TEXT",
+            SectionWord::Fields => b"HEADER.FIELDS",
+            SectionWord::FieldsNot => b"HEADER.FIELDS.NOT",
+        }
+    }
+}
+
+/// The arguments of FETCH (RFC 9051, section 6.4.5; RFC 7162, section 3.1.4).
+pub fn fetch(alloc: Global, by_uid: bool, octets: &[u8]) -> Result<(Command, &[u8]), ParseFault>
+    ensures { Gives (λ x. (x.0, x.1.now)) result (fetch_at by_uid octets.now) }
+{
+    let (messages, rest) = set(alloc, space(octets)?)?;
+    let (items, rest) = fetched(alloc, space(rest)?)?;
+    let (changed_since, rest) = changed_since(rest)?;
+    Ok((
+        Command::Fetch {
+            by_uid,
+            messages,
+            items: Many::new(items),
+            changed_since,
+        },
+        rest,
+    ))
+}
+
+fn fetched(alloc: Global, octets: &[u8]) -> Result<(Vec<FetchItem>, &[u8]), ParseFault>
+    ensures { Gives (λ x. (x.0.items, x.1.now)) result (fetched_at octets.now) }
+{
+    match octets {
+        [] => Err(ParseFault::BadSyntax),
+        [first, rest @ ..] => {
+            if *first == b'(' {
+                let (items, rest) = listed::<Items>(alloc, b' ', rest)?;
+                let rest = skip(rest, b")")?;
+                return Ok((items, rest));
+            }
+            alone(alloc, octets)
+        }
+    }
+}
+
+/// FAST or one item.
+fn alone(alloc: Global, octets: &[u8]) -> Result<(Vec<FetchItem>, &[u8]), ParseFault>
+    ensures { Gives (λ x. (x.0.items, x.1.now)) result (alone_at octets.now) }
+{
+    let (letters, rest) = span(Class::Item, octets);
+    if letters.eq_ignore_ascii_case(b"FAST") {
+        return Ok((fast(alloc)?, rest));
+    }
+    let (item, rest) = item(alloc, octets)?;
+    let mut items = Vec::new(alloc);
+    items.push(item)?;
+    Ok((items, rest))
+}
+
+/// What FAST stands for.
+fn fast(alloc: Global) -> Result<Vec<FetchItem>, AllocError>
+    ensures { IfOk result (λ items. items.items ≡ fast_items) }
+{
+    let mut items = Vec::new(alloc);
+    items.push(FetchItem::Flags)?;
+    items.push(FetchItem::InternalDate)?;
+    items.push(FetchItem::Size)?;
+    Ok(items)
+}
+
+/// Reads items.
+struct Items;
+
+impl Element for Items {
+    type Value = FetchItem;
+
+    ghost use Rattle.imap_grammar.specs.Reading.{item_at};
+
+    ghost read_at = { item_at };
+
+    fn read(alloc: Global, octets: &[u8]) -> Result<(FetchItem, &[u8]), ParseFault> {
+        item(alloc, octets)
+    }
+}
+
+fn item(alloc: Global, octets: &[u8]) -> Result<(FetchItem, &[u8]), ParseFault>
+    ensures { Gives (λ x. (x.0, x.1.now)) result (item_at octets.now) }
+{
+    let (word, rest) = fetch_word(octets)?;
+    item_behind(alloc, word, rest)
+}
+
+/// An item's word. Some are of forms that this server leaves out.
+fn fetch_word(octets: &[u8]) -> Result<(FetchWord, &[u8]), ParseFault>
+    ensures { Gives (λ x. (x.0, x.1.now)) result (named_at fetch_word fetch_words octets.now) }
+{
+    let (letters, rest) = span(Class::Item, octets);
+    match find(&FETCH_WORDS, letters) {
+        Some(word) => Ok((word, rest)),
+        None => Err(left_out(
+            octets,
+            &[
+                b"ENVELOPE",
+                b"BODYSTRUCTURE",
+                b"BINARY",
+                b"BINARY.PEEK",
+                b"BINARY.SIZE",
+                b"ALL",
+                b"FULL",
+                b"RFC822",
+                b"RFC822.HEADER",
+                b"RFC822.TEXT",
+            ],
+        )),
+    }
+}
+
+fn item_behind(
+    alloc: Global,
+    word: FetchWord,
+    octets: &[u8],
+) -> Result<(FetchItem, &[u8]), ParseFault>
+    ensures { Gives (λ x. (x.0, x.1.now)) result (item_behind_at word octets.now) }
+{
+    match word {
+        FetchWord::Flags => Ok((FetchItem::Flags, octets)),
+        FetchWord::InternalDate => Ok((FetchItem::InternalDate, octets)),
+        FetchWord::Size => Ok((FetchItem::Size, octets)),
+        FetchWord::Uid => Ok((FetchItem::Uid, octets)),
+        FetchWord::ModSeq => Ok((FetchItem::ModSeq, octets)),
+        FetchWord::Body => body(alloc, false, octets),
+        FetchWord::BodyPeek => body(alloc, true, octets),
+    }
+}
+
+fn body(alloc: Global, peek: bool, octets: &[u8]) -> Result<(FetchItem, &[u8]), ParseFault>
+    ensures { Gives (λ x. (x.0, x.1.now)) result (body_at peek octets.now) }
+{
+    let (section, rest) = bracketed(alloc, octets)?;
+    let (partial, rest) = partial_range(rest)?;
+    Ok((
+        FetchItem::Body {
+            peek,
+            section,
+            partial,
+        },
+        rest,
+    ))
+}
+
+/// A section between brackets. BODY without them is a form that this server leaves out.
+fn bracketed(alloc: Global, octets: &[u8]) -> Result<(Section, &[u8]), ParseFault>
+    ensures { Gives (λ x. (x.0, x.1.now)) result (bracketed_at octets.now) }
+{
+    match octets {
+        [] => Err(ParseFault::NotInProfile),
+        [first, rest @ ..] => {
+            if *first != b'[' {
+                return Err(ParseFault::NotInProfile);
+            }
+            let (section, rest) = section(alloc, rest)?;
+            let rest = skip(rest, b"]")?;
+            Ok((section, rest))
+        }
+    }
+}
+
+fn section(alloc: Global, octets: &[u8]) -> Result<(Section, &[u8]), ParseFault>
+    ensures { Gives (λ x. (x.0, x.1.now)) result (section_at octets.now) }
+{
+    match octets {
+        [] => Err(ParseFault::BadSyntax),
+        [first, ..] => {
+            if *first == b']' {
+                return Ok((Section::Whole, octets));
+            }
+            let (word, rest) = section_word(octets)?;
+            section_behind(alloc, word, rest)
+        }
+    }
+}
+
+/// A section's word. Numbered parts and MIME are forms that this server leaves out.
+fn section_word(octets: &[u8]) -> Result<(SectionWord, &[u8]), ParseFault>
+    ensures { Gives (λ x. (x.0, x.1.now)) result (named_at section_word section_words octets.now) }
+{
+    let (letters, rest) = span(Class::Item, octets);
+    match find(&SECTION_WORDS, letters) {
+        Some(word) => Ok((word, rest)),
+        None => {
+            let (digits, _) = span(Class::Digit, octets);
+            if !digits.is_empty() {
+                return Err(ParseFault::NotInProfile);
+            }
+            Err(left_out(octets, &[b"MIME"]))
+        }
+    }
+}
+
+fn section_behind(
+    alloc: Global,
+    word: SectionWord,
+    octets: &[u8],
+) -> Result<(Section, &[u8]), ParseFault>
+    ensures { Gives (λ x. (x.0, x.1.now)) result (section_behind_at word octets.now) }
+{
+    match word {
+        SectionWord::Header => Ok((Section::Header, octets)),
+        SectionWord::Text => Ok((Section::Text, octets)),
+        SectionWord::Fields => {
+            let (names, rest) = field_names(alloc, octets)?;
+            Ok((Section::Fields { names }, rest))
+        }
+        SectionWord::FieldsNot => {
+            let (names, rest) = field_names(alloc, octets)?;
+            Ok((Section::FieldsNot { names }, rest))
+        }
+    }
+}
+
+/// Reads astrings.
+struct Astrings;
+
+impl Element for Astrings {
+    type Value = Octets;
+
+    ghost use Rattle.imap_grammar.specs.Reading.{text_at};
+    ghost use Rattle.imap_grammar.specs.declared.class.Class.TheVariants.{Astring};
+
+    ghost read_at = { text_at Astring };
+
+    fn read(alloc: Global, octets: &[u8]) -> Result<(Octets, &[u8]), ParseFault> {
+        text(alloc, Class::Astring, octets)
+    }
+}
+
+/// ` (name name ..)` (RFC 9051, section 9, header-list).
+fn field_names(alloc: Global, octets: &[u8]) -> Result<(FieldNames, &[u8]), ParseFault>
+    ensures { Gives (λ x. (x.0, x.1.now)) result (field_names_at octets.now) }
+{
+    let rest = skip(space(octets)?, b"(")?;
+    let (names, rest) = listed::<Astrings>(alloc, b' ', rest)?;
+    let rest = skip(rest, b")")?;
+    Ok((FieldNames::new(names), rest))
+}
+
+/// `<start.count>` or nothing.
+fn partial_range(octets: &[u8]) -> Result<(Option<Partial>, &[u8]), ParseFault>
+    ensures { Gives (λ x. (x.0, x.1.now)) result (partial_at octets.now) }
+{
+    match octets {
+        [] => Ok((None, octets)),
+        [first, rest @ ..] => {
+            if *first != b'<' {
+                return Ok((None, octets));
+            }
+            let (start, rest) = number(rest, 4_294_967_295)?;
+            let rest = skip(rest, b".")?;
+            let (count, rest) = nz(rest)?;
+            let rest = skip(rest, b">")?;
+            Ok((
+                Some(Partial {
+                    start: start as u32,
+                    count,
+                }),
+                rest,
+            ))
+        }
+    }
+}

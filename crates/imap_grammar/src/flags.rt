@@ -1,0 +1,173 @@
+ghost use Rattle.std.specs.Prelude.{◌≡◌, IfOk, OnOk};
+ghost use Rattle.imap_grammar.specs.MessageFlags.{flags_of, no_flags, with_flag};
+ghost use Rattle.imap_grammar.specs.Reading.{Gives, flag_at, flag_group_at, maybe_flags_at, named_at, stored_at, stored_texts_at};
+ghost use Rattle.imap_grammar.specs.Words.{system_flags, system_word};
+
+use crate::class::Class;
+use crate::fault::ParseFault;
+use crate::listed::{Element, listed};
+use crate::scan::{skip, span};
+use crate::text::plain;
+use crate::word::{Word, find};
+use imap_types::{Flags, Octets};
+use std::alloc::{AllocError, Global};
+
+/// The flags that RFC 9051, section 2.3.2 defines and a client may set.
+#[derive(Clone, Copy, Debug, PartialEq, Eq)]
+pub enum SystemFlag {
+    Answered,
+    Flagged,
+    Deleted,
+    Seen,
+    Draft,
+}
+
+const SYSTEM_FLAGS: [SystemFlag; 5] = [
+    SystemFlag::Answered,
+    SystemFlag::Flagged,
+    SystemFlag::Deleted,
+    SystemFlag::Seen,
+    SystemFlag::Draft,
+];
+
+impl Word for SystemFlag {
+    ghost use Rattle.imap_grammar.specs.Words.{system_word};
+
+    ghost word_of = { system_word };
+
+    fn text(self) -> &'static [u8] {
+        match self {
+            SystemFlag::Answered => b"Answered",
+            SystemFlag::Flagged => b"Flagged",
+            SystemFlag::Deleted => b"Deleted",
+            SystemFlag::Seen => b"Seen",
+            SystemFlag::Draft => b"Draft",
+        }
+    }
+}
+
+/// A flag as it is written (RFC 9051, section 9, flag).
+#[derive(Drop)]
+pub enum Flag {
+    System(SystemFlag),
+    /// One or more atom octets, in any case.
+    Keyword(Octets),
+}
+
+/// Reads flags.
+struct FlagTexts;
+
+impl Element for FlagTexts {
+    type Value = Flag;
+
+    ghost use Rattle.imap_grammar.specs.Reading.{flag_at};
+
+    ghost read_at = { flag_at };
+
+    fn read(alloc: Global, octets: &[u8]) -> Result<(Flag, &[u8]), ParseFault> {
+        one_flag(alloc, octets)
+    }
+}
+
+fn one_flag(alloc: Global, octets: &[u8]) -> Result<(Flag, &[u8]), ParseFault>
+    ensures { Gives (λ x. (x.0, x.1.now)) result (flag_at octets.now) }
+{
+    match octets {
+        [] => Err(ParseFault::BadSyntax),
+        [first, rest @ ..] => {
+            if *first == b'\\' {
+                let (known, rest) = system_flag(rest)?;
+                return Ok((Flag::System(known), rest));
+            }
+            let (keyword, rest) = plain(alloc, Class::Atom, octets)?;
+            Ok((Flag::Keyword(keyword), rest))
+        }
+    }
+}
+
+/// A system flag behind its `\`. Any other word there is a flag that this server leaves out.
+fn system_flag(octets: &[u8]) -> Result<(SystemFlag, &[u8]), ParseFault>
+    ensures { Gives (λ x. (x.0, x.1.now)) result (named_at system_word system_flags octets.now) }
+{
+    let (letters, rest) = span(Class::Item, octets);
+    match find(&SYSTEM_FLAGS, letters) {
+        Some(known) => Ok((known, rest)),
+        None => {
+            if letters.is_empty() {
+                return Err(ParseFault::BadSyntax);
+            }
+            Err(ParseFault::NotInProfile)
+        }
+    }
+}
+
+/// Flags between parentheses, or one or more without (RFC 9051, section 9, store-att-flags).
+pub fn stored(alloc: Global, octets: &[u8]) -> Result<(Flags, &[u8]), ParseFault>
+    ensures { Gives (λ x. (x.0, x.1.now)) result (stored_at octets.now) }
+{
+    let (written, rest) = stored_texts(alloc, octets)?;
+    Ok((collected(alloc, &written)?, rest))
+}
+
+fn stored_texts(alloc: Global, octets: &[u8]) -> Result<(Vec<Flag>, &[u8]), ParseFault>
+    ensures { Gives (λ x. (x.0.items, x.1.now)) result (stored_texts_at octets.now) }
+{
+    match octets {
+        [] => Err(ParseFault::BadSyntax),
+        [first, ..] => {
+            if *first == b'(' {
+                return flag_group(alloc, octets);
+            }
+            listed::<FlagTexts>(alloc, b' ', octets)
+        }
+    }
+}
+
+/// No flags or more between parentheses (RFC 9051, section 9, flag-list).
+pub fn flag_group(alloc: Global, octets: &[u8]) -> Result<(Vec<Flag>, &[u8]), ParseFault>
+    ensures { Gives (λ x. (x.0.items, x.1.now)) result (flag_group_at octets.now) }
+{
+    let rest = skip(octets, b"(")?;
+    let (written, rest) = maybe_flags(alloc, rest)?;
+    let rest = skip(rest, b")")?;
+    Ok((written, rest))
+}
+
+fn maybe_flags(alloc: Global, octets: &[u8]) -> Result<(Vec<Flag>, &[u8]), ParseFault>
+    ensures { Gives (λ x. (x.0.items, x.1.now)) result (maybe_flags_at octets.now) }
+{
+    match octets {
+        [] => Err(ParseFault::BadSyntax),
+        [first, ..] => {
+            if *first == b')' {
+                return Ok((Vec::new(alloc), octets));
+            }
+            listed::<FlagTexts>(alloc, b' ', octets)
+        }
+    }
+}
+
+/// The set of these flags.
+pub fn collected(alloc: Global, written: &[Flag]) -> Result<Flags, AllocError>
+    ensures { IfOk result (λ flags. flags ≡ flags_of no_flags written.now) }
+{
+    let mut flags = Flags::none(alloc);
+    for flag in written {
+        add(alloc, &mut flags, flag)?;
+    }
+    Ok(flags)
+}
+
+fn add(alloc: Global, flags: &mut Flags, flag: &Flag) -> Result<(), AllocError>
+    ensures { OnOk result (flags.new ≡ with_flag flags.old flag.now) }
+{
+    match flag {
+        Flag::System(SystemFlag::Answered) => flags.answered = true,
+        Flag::System(SystemFlag::Flagged) => flags.flagged = true,
+        Flag::System(SystemFlag::Deleted) => flags.deleted = true,
+        Flag::System(SystemFlag::Seen) => flags.seen = true,
+        Flag::System(SystemFlag::Draft) => flags.draft = true,
+        Flag::Keyword(keyword) => flags.keywords.insert(alloc, keyword.as_bytes())?,
+    }
+    Ok(())
+}

@@ -1,0 +1,115 @@
+ghost use Rattle.std.specs.Prelude.{◌≡◌, codes};
+ghost use Rattle.imap_grammar.specs.Reading.{Gives, after_word, list_at, options_at, options_inner_at, returns_at, selection_at, text_at};
+ghost use Rattle.imap_grammar.specs.declared.class.Class.TheVariants.{Pattern};
+
+use crate::class::Class;
+use crate::command::Command;
+use crate::fault::ParseFault;
+use crate::scan::{skip, skip_word, space, span};
+use crate::text::text;
+use imap_types::Octets;
+use std::alloc::Global;
+
+/// The arguments of LIST (RFC 9051, section 6.3.9).
+pub fn list(alloc: Global, octets: &[u8]) -> Result<(Command, &[u8]), ParseFault>
+    ensures { Gives (λ x. (x.0, x.1.now)) result (list_at octets.now) }
+{
+    let (subscribed_only, rest) = selection(space(octets)?)?;
+    let (reference, rest) = text(alloc, Class::Astring, rest)?;
+    let (pattern, rest) = pattern(alloc, space(rest)?)?;
+    let (return_subscribed, rest) = returns(rest)?;
+    Ok((
+        Command::ListNames {
+            subscribed_only,
+            reference,
+            pattern,
+            return_subscribed,
+        },
+        rest,
+    ))
+}
+
+/// A pattern. A list of patterns is a form that this server leaves out.
+fn pattern(alloc: Global, octets: &[u8]) -> Result<(Octets, &[u8]), ParseFault>
+    ensures { Gives (λ x. (x.0, x.1.now)) result (text_at Pattern octets.now) }
+{
+    match octets {
+        [] => Err(ParseFault::BadSyntax),
+        [first, ..] => match *first {
+            b'(' => Err(ParseFault::NotInProfile),
+            _ => text(alloc, Class::Pattern, octets),
+        },
+    }
+}
+
+/// The selection options and a space, or nothing.
+fn selection(octets: &[u8]) -> Result<(bool, &[u8]), ParseFault>
+    ensures { Gives (λ x. (x.0, x.1.now)) result (selection_at octets.now) }
+{
+    match octets {
+        [] => Ok((false, octets)),
+        [first, ..] => {
+            if *first != b'(' {
+                return Ok((false, octets));
+            }
+            let (chosen, rest) = options(octets)?;
+            let rest = space(rest)?;
+            Ok((chosen, rest))
+        }
+    }
+}
+
+/// A space, RETURN and the return options, or nothing.
+fn returns(octets: &[u8]) -> Result<(bool, &[u8]), ParseFault>
+    ensures { Gives (λ x. (x.0, x.1.now)) result (returns_at octets.now) }
+{
+    match octets {
+        [] => Ok((false, octets)),
+        [first, rest @ ..] => {
+            if *first != b' ' {
+                return Ok((false, octets));
+            }
+            let rest = skip_word(rest, b"RETURN")?;
+            let rest = space(rest)?;
+            options(rest)
+        }
+    }
+}
+
+/// `(SUBSCRIBED)` or `()`.
+fn options(octets: &[u8]) -> Result<(bool, &[u8]), ParseFault>
+    ensures { Gives (λ x. (x.0, x.1.now)) result (options_at octets.now) }
+{
+    let rest = skip(octets, b"(")?;
+    options_inner(rest)
+}
+
+fn options_inner(octets: &[u8]) -> Result<(bool, &[u8]), ParseFault>
+    ensures { Gives (λ x. (x.0, x.1.now)) result (options_inner_at octets.now) }
+{
+    match octets {
+        [] => Err(ParseFault::BadSyntax),
+        [first, rest @ ..] => {
+            if *first == b')' {
+                return Ok((false, rest));
+            }
+            let rest = subscribed(octets)?;
+            let rest = skip(rest, b")")?;
+            Ok((true, rest))
+        }
+    }
+}
+
+/// The one option. Any other word is an option that this server leaves out.
+fn subscribed(octets: &[u8]) -> Result<&[u8], ParseFault>
+    ensures { Gives (λ rest. rest.now) result (after_word (codes "SUBSCRIBED") octets.now) }
+{
+    let (letters, rest) = span(Class::Item, octets);
+    if letters.eq_ignore_ascii_case(b"SUBSCRIBED") {
+        return Ok(rest);
+    }
+    if letters.is_empty() {
+        return Err(ParseFault::BadSyntax);
+    }
+    Err(ParseFault::NotInProfile)
+}

@@ -1,0 +1,33 @@
+use std::marker::Model;
+
+/// Values in the order in which they were written.
+#[derive(Drop)]
+pub struct Many<T> {
+    values: Vec<T>,
+}
+
+impl<T> Model for Many<T> {
+    ghost use Rattle.std.specs.Prelude.{List};
+
+    ghost Value = { List T };
+
+    ghost view = { λ m. m.values.items };
+}
+
+impl<T> Many<T> {
+    ghost use Rattle.std.specs.Prelude.{◌≡◌};
+
+    /// These values, whose memory it takes over.
+    pub fn new(values: Vec<T>) -> Many<T>
+        ensures { result ≡ values.items }
+    {
+        Many { values }
+    }
+
+    /// The values, in order.
+    pub fn as_slice(&self) -> &[T]
+        ensures { result.now ≡ self.now }
+    {
+        &self.values
+    }
+}

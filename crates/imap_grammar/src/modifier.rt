@@ -1,0 +1,82 @@
+ghost use Rattle.std.specs.Prelude.{◌≡◌, ◌<◌, ◌-◌, ◌^◌, ◌⊎◌, codes};
+ghost use Rattle.imap_grammar.specs.Reading.{Gives, after_word, modifier_at, modifier_group_at, peeks};
+ghost use Rattle.imap_grammar.specs.declared.fault.ParseFault.TheVariants.{BadSyntax, NotInProfile};
+
+use crate::class::Class;
+use crate::fault::ParseFault;
+use crate::numbers::number;
+use crate::scan::{skip, space, span};
+
+/// The greatest mod-sequence (RFC 7162, section 7, mod-sequence-value).
+const MAX_MODSEQ: u64 = 9_223_372_036_854_775_807;
+
+/// Whether a space and then this octet stand in front.
+pub fn peeks(mark: u8, octets: &[u8]) -> bool
+    ensures { result ≡ peeks mark octets.now }
+{
+    match octets {
+        [] => false,
+        [_] => false,
+        [first, second, ..] => *first == b' ' && *second == mark,
+    }
+}
+
+/// ` (CHANGEDSINCE n)` or nothing (RFC 7162, section 3.1.4.1).
+pub fn changed_since(octets: &[u8]) -> Result<(Option<u64>, &[u8]), ParseFault>
+    ensures { Gives (λ x. (x.0, x.1.now)) result (modifier_at (codes "CHANGEDSINCE") octets.now) }
+{
+    modifier(b"CHANGEDSINCE", octets)
+}
+
+/// ` (UNCHANGEDSINCE n)` or nothing (RFC 7162, section 3.1.3).
+pub fn unchanged_since(octets: &[u8]) -> Result<(Option<u64>, &[u8]), ParseFault>
+    ensures { Gives (λ x. (x.0, x.1.now)) result (modifier_at (codes "UNCHANGEDSINCE") octets.now) }
+{
+    modifier(b"UNCHANGEDSINCE", octets)
+}
+
+fn modifier<'a>(letters: &[u8], octets: &'a [u8]) -> Result<(Option<u64>, &'a [u8]), ParseFault>
+    ensures { Gives (λ x. (x.0, x.1.now)) result (modifier_at letters.now octets.now) }
+{
+    if !peeks(b'(', octets) {
+        return Ok((None, octets));
+    }
+    let rest = space(octets)?;
+    let (value, rest) = modifier_group(letters, rest)?;
+    Ok((Some(value), rest))
+}
+
+fn modifier_group<'a>(letters: &[u8], octets: &'a [u8]) -> Result<(u64, &'a [u8]), ParseFault>
+    ensures { Gives (λ x. (x.0, x.1.now)) result (modifier_group_at letters.now octets.now) }
+{
+    let rest = skip(octets, b"(")?;
+    let rest = modifier_word(letters, rest)?;
+    let rest = space(rest)?;
+    let (value, rest) = number(rest, MAX_MODSEQ)?;
+    let rest = skip(rest, b")")?;
+    Ok((value, rest))
+}
+
+/// The modifier's word. VANISHED and QRESYNC (RFC 7162, section 3.2) are forms that this server leaves out.
+pub fn modifier_word<'a>(letters: &[u8], octets: &'a [u8]) -> Result<&'a [u8], ParseFault>
+    ensures { Gives (λ rest. rest.now) result (after_word letters.now octets.now) }
+{
+    let (front, rest) = span(Class::Item, octets);
+    if front.eq_ignore_ascii_case(letters) {
+        return Ok(rest);
+    }
+    Err(left_out(octets, &[b"VANISHED", b"QRESYNC"]))
+}
+
+/// The fault where one of these words stands in front, or none.
+pub fn left_out(octets: &[u8], words: &[&[u8]]) -> ParseFault
+    ensures { (result ≡ BadSyntax) ⊎ (result ≡ NotInProfile) }
+{
+    let (letters, _) = span(Class::Item, octets);
+    for word in words {
+        if letters.eq_ignore_ascii_case(word) {
+            return ParseFault::NotInProfile;
+        }
+    }
+    ParseFault::BadSyntax
+}

@@ -1,0 +1,70 @@
+ghost use Rattle.std.specs.Prelude.{◌≡◌};
+ghost use Rattle.imap_grammar.specs.Reading.{Gives, bound_at, range_at, ranged_at, set_at};
+
+use crate::fault::ParseFault;
+use crate::listed::{Element, listed};
+use crate::numbers::nz;
+use imap_types::{SequenceBound, SequenceRange, SequenceSet};
+use std::alloc::Global;
+
+/// A sequence set (RFC 9051, section 9, sequence-set).
+pub fn set(alloc: Global, octets: &[u8]) -> Result<(SequenceSet, &[u8]), ParseFault>
+    ensures { Gives (λ x. (x.0, x.1.now)) result (set_at octets.now) }
+{
+    let (ranges, rest) = listed::<Ranges>(alloc, b',', octets)?;
+    Ok((SequenceSet::new(ranges), rest))
+}
+
+/// Reads the ranges of a set.
+struct Ranges;
+
+impl Element for Ranges {
+    type Value = SequenceRange;
+
+    ghost use Rattle.imap_grammar.specs.Reading.{range_at};
+
+    ghost read_at = { range_at };
+
+    fn read(_alloc: Global, octets: &[u8]) -> Result<(SequenceRange, &[u8]), ParseFault> {
+        range(octets)
+    }
+}
+
+fn range(octets: &[u8]) -> Result<(SequenceRange, &[u8]), ParseFault>
+    ensures { Gives (λ x. (x.0, x.1.now)) result (range_at octets.now) }
+{
+    let (first, rest) = bound(octets)?;
+    ranged(first, rest)
+}
+
+/// The range that begins with this bound.
+fn ranged(first: SequenceBound, octets: &[u8]) -> Result<(SequenceRange, &[u8]), ParseFault>
+    ensures { Gives (λ x. (x.0, x.1.now)) result (ranged_at first octets.now) }
+{
+    match octets {
+        [] => Ok((SequenceRange { first, last: first }, octets)),
+        [next, rest @ ..] => {
+            if *next != b':' {
+                return Ok((SequenceRange { first, last: first }, octets));
+            }
+            let (last, rest) = bound(rest)?;
+            Ok((SequenceRange { first, last }, rest))
+        }
+    }
+}
+
+fn bound(octets: &[u8]) -> Result<(SequenceBound, &[u8]), ParseFault>
+    ensures { Gives (λ x. (x.0, x.1.now)) result (bound_at octets.now) }
+{
+    match octets {
+        [] => Err(ParseFault::BadSyntax),
+        [first, rest @ ..] => match *first {
+            b'*' => Ok((SequenceBound::Greatest, rest)),
+            b'$' => Err(ParseFault::NotInProfile),
+            _ => {
+                let (number, rest) = nz(octets)?;
+                Ok((SequenceBound::Number(number), rest))
+            }
+        },
+    }
+}

@@ -1,0 +1,75 @@
+ghost use Rattle.std.specs.Prelude.{◌≡◌};
+ghost use Rattle.imap_grammar.specs.Reading.{Gives, named_at};
+ghost use Rattle.imap_grammar.specs.Words.{status_items, status_word};
+
+use crate::fault::ParseFault;
+use crate::listed::Element;
+use crate::word::{Word, named};
+use std::alloc::Global;
+
+/// What STATUS can ask of a mailbox (RFC 9051, section 6.3.11; RFC 7162, section 3.1.7).
+#[derive(Clone, Copy, Debug, PartialEq, Eq)]
+pub enum StatusItem {
+    /// How many messages there are.
+    Messages,
+    /// The next message's UID.
+    UidNext,
+    UidValidity,
+    /// How many messages lack `\Seen`.
+    Unseen,
+    /// How many messages have `\Deleted`.
+    Deleted,
+    /// The octets of all messages together.
+    Size,
+    HighestModSeq,
+}
+
+const STATUS_ITEMS: [StatusItem; 7] = [
+    StatusItem::Messages,
+    StatusItem::UidNext,
+    StatusItem::UidValidity,
+    StatusItem::Unseen,
+    StatusItem::Deleted,
+    StatusItem::Size,
+    StatusItem::HighestModSeq,
+];
+
+impl Word for StatusItem {
+    ghost use Rattle.imap_grammar.specs.Words.{status_word};
+
+    ghost word_of = { status_word };
+
+    fn text(self) -> &'static [u8] {
+        match self {
+            StatusItem::Messages => b"MESSAGES",
+            StatusItem::UidNext => b"UIDNEXT",
+            StatusItem::UidValidity => b"UIDVALIDITY",
+            StatusItem::Unseen => b"UNSEEN",
+            StatusItem::Deleted => b"DELETED",
+            StatusItem::Size => b"SIZE",
+            StatusItem::HighestModSeq => b"HIGHESTMODSEQ",
+        }
+    }
+}
+
+/// Reads what STATUS asks.
+pub struct StatusItems;
+
+impl Element for StatusItems {
+    type Value = StatusItem;
+
+    ghost use Rattle.imap_grammar.specs.Reading.{named_at};
+    ghost use Rattle.imap_grammar.specs.Words.{status_items, status_word};
+
+    ghost read_at = { named_at status_word status_items };
+
+    fn read(_alloc: Global, octets: &[u8]) -> Result<(StatusItem, &[u8]), ParseFault> {
+        status_item(octets)
+    }
+}
+
+fn status_item(octets: &[u8]) -> Result<(StatusItem, &[u8]), ParseFault>
+    ensures { Gives (λ x. (x.0, x.1.now)) result (named_at status_word status_items octets.now) }
+{
+    named(&STATUS_ITEMS, octets)
+}

@@ -1,0 +1,116 @@
+ghost use Rattle.std.specs.Prelude.{◌≡◌};
+ghost use Rattle.imap_grammar.specs.Reading.{Gives, named_at, store_at};
+ghost use Rattle.imap_grammar.specs.Words.{store_actions, store_word};
+
+use crate::command::Command;
+use crate::fault::ParseFault;
+use crate::flags::stored;
+use crate::modifier::unchanged_since;
+use crate::scan::space;
+use crate::sets::set;
+use crate::word::{Word, named};
+use std::alloc::Global;
+
+/// What STORE does with its flags (RFC 9051, section 6.4.6).
+#[derive(Clone, Copy, Debug, PartialEq, Eq)]
+pub enum StoreMode {
+    /// FLAGS: a message has these flags and no others.
+    Replace,
+    /// +FLAGS
+    Add,
+    /// -FLAGS
+    Remove,
+}
+
+/// The word of STORE.
+#[derive(Clone, Copy, Debug, PartialEq, Eq)]
+pub struct StoreAction {
+    pub mode: StoreMode,
+    /// `.SILENT`: the client wants no answer with the flags.
+    pub silent: bool,
+}
+
+impl Word for StoreAction {
+    ghost use Rattle.imap_grammar.specs.Words.{store_word};
+
+    ghost word_of = { store_word };
+
+    fn text(self) -> &'static [u8] {
+        match self.mode {
+            StoreMode::Replace => {
+                if self.silent {
+                    b"FLAGS.SILENT"
+                } else {
+                    b"FLAGS"
+                }
+            }
+            StoreMode::Add => {
+                if self.silent {
+                    b"+FLAGS.SILENT"
+                } else {
+                    b"+FLAGS"
+                }
+            }
+            StoreMode::Remove => {
+                if self.silent {
+                    b"-FLAGS.SILENT"
+                } else {
+                    b"-FLAGS"
+                }
+            }
+        }
+    }
+}
+
+const STORE_ACTIONS: [StoreAction; 6] = [
+    StoreAction {
+        mode: StoreMode::Replace,
+        silent: false,
+    },
+    StoreAction {
+        mode: StoreMode::Replace,
+        silent: true,
+    },
+    StoreAction {
+        mode: StoreMode::Add,
+        silent: false,
+    },
+    StoreAction {
+        mode: StoreMode::Add,
+        silent: true,
+    },
+    StoreAction {
+        mode: StoreMode::Remove,
+        silent: false,
+    },
+    StoreAction {
+        mode: StoreMode::Remove,
+        silent: true,
+    },
+];
+
+/// The arguments of STORE (RFC 9051, section 6.4.6; RFC 7162, section 3.1.3).
+pub fn store(alloc: Global, by_uid: bool, octets: &[u8]) -> Result<(Command, &[u8]), ParseFault>
+    ensures { Gives (λ x. (x.0, x.1.now)) result (store_at by_uid octets.now) }
+{
+    let (messages, rest) = set(alloc, space(octets)?)?;
+    let (unchanged_since, rest) = unchanged_since(rest)?;
+    let (action, rest) = store_action(space(rest)?)?;
+    let (flags, rest) = stored(alloc, space(rest)?)?;
+    Ok((
+        Command::Store {
+            by_uid,
+            messages,
+            unchanged_since,
+            action,
+            flags,
+        },
+        rest,
+    ))
+}
+
+fn store_action(octets: &[u8]) -> Result<(StoreAction, &[u8]), ParseFault>
+    ensures { Gives (λ x. (x.0, x.1.now)) result (named_at store_word store_actions octets.now) }
+{
+    named(&STORE_ACTIONS, octets)
+}

@@ -1,0 +1,9 @@
+use Rattle.std.proofs.Common.{◌≡◌, true, sym, ap, ◌∙◌}
+use Rattle.imap_types.specs.Numbers.{are_runs_from}
+use Rattle.imap_types.proofs.NumbersLemmas.{runs_from_test, numbers_in-runs_of, runs_of-are_runs, test_from_runs}
+use Rattle.imap_types.proofs.number_set.NumberSet.from_runs.Goals as goal
+
+pub invariant_of-result : goal.invariant_of-result
+invariant_of-result c =
+    let e : are_runs_from 1 c.deref.result.now ≡ true = sym c.are_runs.ensures ∙ c.if-are_runs.true in
+    runs_from_test 1 _ (rw c.deref.ensures.value at e)
