@@ -1,0 +1,34 @@
+use Rattle.std.proofs.Common.{◌≡◌, ◌++◌, ℕ, List, Some, Err, length, arith, ap, sym, subst}
+use Rattle.mail_script.specs.Reading.{cut_at}
+use Rattle.mail_script.specs.Script.{Says}
+use Rattle.mail_tool.specs.Lines.{IsBad}
+use Rattle.mail_tool.specs.Replays.{Advances}
+use Rattle.mail_tool.specs.Stage.{scene_of}
+use Rattle.mail_tool.proofs.LineLemmas.{advance_on, breaks_there, cut_parts}
+use Rattle.mail_tool.proofs.replay.serve_piece.Goals as goal
+
+pub returns-in_err-serve_next-in-Ok-Some-clause-bad : goal.returns-in_err-serve_next-in-Ok-Some-clause-bad
+returns-in_err-serve_next-in-Ok-Some-clause-bad g c number e =
+    let cut : cut_at 10 c.lines.progress.lines ≡ Some (c.in-Ok-Some.line, c.next_line.new.self) = rw c.in-Ok-Some.field-0-is at c.in-Ok-Some.ensures.ok in
+    let f = c.from_residual.ensures.1 in
+    let k = rw e at f in
+    let b = c.in_err-serve_next-in-Ok-Some.ensures.bad number (ap Err (sym k)) in
+    let bad : IsBad (scene_of c.lines.progress.stage) c.in-Ok-Some.line = subst (λ (z : List ℕ). IsBad (scene_of c.lines.progress.stage) z) c.as_bytes.ensures b.1 in
+    breaks_there _ _ _ _ _ _ _ _ c.lines.invariant c.in-Ok-Some.line c.next_line.new.self cut _ number b.0 bad b.2
+
+pub lines-smaller : goal.lines-smaller
+lines-smaller g c =
+    let cut : cut_at 10 c.lines.progress.lines ≡ Some (c.in-Ok-Some.line, c.next_line.new.self) = rw c.in-Ok-Some.field-0-is at c.in-Ok-Some.ensures.ok in
+    let n = cut_parts c.lines.progress.lines c.in-Ok-Some.line c.next_line.new.self cut in
+    let same : length c.serve_next.new.progress.lines ≡ length c.next_line.new.self = ap length c.in_ok-serve_next-in-Ok-Some.ensures.lines in
+    omega (arith, n, same)
+
+pub lines-preserved : goal.lines-preserved
+lines-preserved g c =
+    let cut : cut_at 10 c.lines.progress.lines ≡ Some (c.in-Ok-Some.line, c.next_line.new.self) = rw c.in-Ok-Some.field-0-is at c.in-Ok-Some.ensures.ok in
+    let ok = c.in_ok-serve_next-in-Ok-Some.ensures.ok in
+    let says : Says c.in-Ok-Some.line ok.0 = subst (λ (z : List ℕ). Says z ok.0) c.as_bytes.ensures ok.2 in
+    let held = g.W.Write.contents in
+    subst (λ (z : List ℕ). Advances (held c.args.writer.now) (scene_of c.args.progress.now.stage) c.args.progress.now.served (c.args.progress.now.lines ++ c.args.piece.now) (held c.serve_next.new.writer) (scene_of c.serve_next.new.progress.stage) c.serve_next.new.progress.served z)
+    (sym c.in_ok-serve_next-in-Ok-Some.ensures.lines)
+    (advance_on _ _ _ _ _ _ _ _ c.lines.invariant c.in-Ok-Some.line c.next_line.new.self cut _ _ _ ok.0 ok.1 ok.5 says ok.3 ok.4)

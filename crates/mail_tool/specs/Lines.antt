@@ -1,0 +1,130 @@
+use Rattle.std.specs.Prelude.{◌≡◌, ◌≢◌, ◌⊎◌, ℕ, ◌++◌, List, [], ◌∷◌, Option, Some, None, IsSome, IsNone, Ok, slice_get, slice_set}
+use Rattle.imap_lex.specs.Reading.{goes_on, start}
+use Rattle.imap_lex.specs.declared.fault.Fault.TheVariants as faults
+use Rattle.imap_print.specs.Printed.{printed}
+use Rattle.imap_print.specs.declared.answer.Answer.{Answer}
+use Rattle.imap_print.specs.declared.answer.Answer.TheVariants.{Greeting, Bye}
+use Rattle.imap_print.specs.declared.words.ByeReason.TheVariants.{TooManySessions}
+use Rattle.imap_print.specs.declared.words.Login.TheVariants.{Given}
+use Rattle.mail_script.specs.Script.{Says}
+use Rattle.mail_script.specs.Transcript.{transcript_line}
+use Rattle.mail_script.specs.declared.script.ScriptLine.{ScriptLine}
+use Rattle.mail_script.specs.declared.script.ScriptLine.TheVariants.{Blank, Node, Now, Open, Line, Send, Close, Show, Deliver, Forge, Drain}
+use Rattle.mail_script.specs.declared.transcript.Speaker.TheVariants.{Server}
+use Rattle.mail_tool.specs.Stage.{Scene, replica_place, session_place}
+use Rattle.mail_tool.specs.Transcript.{transcript}
+use Rattle.mail_tool.specs.declared.stage.Connection.{Connection}
+use Rattle.mail_tool.specs.declared.stage.Replica.{Replica}
+use Rattle.mail_tool.specs.declared.stage.Session.{Session}
+use Rattle.world_core.specs.Nodes.{IsGoing, NodeState, closed}
+use Rattle.world_core.specs.Sessions.{Opens}
+use Rattle.world_core.specs.Talks.{EndsTalk, Talks}
+use Rattle.world_core.specs.declared.turn.TalkFaultKind.{TalkFaultKind}
+use Rattle.world_core.specs.declared.turn.TalkFaultKind.TheVariants.{Framing}
+use Rattle.world_core.specs.declared.turn.Turn.{Turn}
+
+-- The end of a line (RFC 9051, section 2.2).
+abbrev pub crlf : List ℕ
+crlf = 13 ∷ 10 ∷ []
+
+-- A replica of this name that has received nothing.
+abbrev pub new_replica : ℕ → Replica
+new_replica name = record { name = name; node = record { replica = name; applied = []; held = []; sessions = [] } }
+
+-- A replica opens a session and greets, or says that it has no room for one more. The session has ended then.
+abbrev pub Begins : NodeState → Answer → NodeState → Option Connection → Type 0
+Begins old answer new (Some connection) =
+    Opens old.sessions connection.number new.sessions × (new ≡ record old { sessions = new.sessions })
+    × (connection.framer ≡ record { limits = record { line = 8192; literals = 1048576 }; state = Ok start }) × (answer ≡ Greeting Given)
+Begins old answer new None = (new ≡ old) × (answer ≡ Bye TooManySessions)
+
+-- The faults of framing that end a conversation.
+abbrev pub IsFramingEnd : TalkFaultKind → Type 0
+IsFramingEnd why = why ≢ Framing faults.NoMemory
+
+-- What octets make of a connection: the turns of its conversation, and the connection as it goes on; none where a LOGOUT
+-- was answered OK or the octets can't be framed.
+abbrev pub TalksOn : NodeState → Connection → List ℕ → List Turn → NodeState → Option Connection → Type 0
+TalksOn old connection octets turns new (Some left) =
+    (left.number ≡ connection.number) × IsGoing new left.number
+    × Talks old connection.number (goes_on connection.framer.limits connection.framer.state octets) turns new left.framer.state
+TalksOn old connection octets turns new None =
+    ((IsGoing new connection.number → ⊥) × ((state : _) × Talks old connection.number (goes_on connection.framer.limits connection.framer.state octets) turns new state))
+    ⊎ ((why : TalkFaultKind) × IsFramingEnd why × EndsTalk why old connection.number connection.framer.state (goes_on connection.framer.limits connection.framer.state octets) turns new)
+
+-- A session that can be fed: it was opened, and has a connection with a declared replica, which hasn't logged out.
+pub record Talking (scene : Scene) (name : List ℕ) : Type 0 where
+  pub place : ℕ
+  pub session : Session
+  pub at : ℕ
+  pub replica : Replica
+  pub connection : Connection
+  pub session_stands : session_place scene.sessions name ≡ Some place
+  pub session_is : slice_get scene.sessions place ≡ Some session
+  pub replica_stands : replica_place scene.replicas session.replica ≡ Some at
+  pub replica_is : slice_get scene.replicas at ≡ Some replica
+  pub connection_is : session.connection ≡ Some connection
+
+-- The scene with this node and this connection in place of those of a session.
+abbrev pub with_talk : (scene : Scene) (name : List ℕ) → Talking scene name → NodeState → Option Connection → Scene
+with_talk scene name t node left =
+    record scene { replicas = slice_set scene.replicas t.at (record t.replica { node = node }); sessions = slice_set scene.sessions t.place (record t.session { connection = left }) }
+
+-- The session can be fed, and goes on.
+abbrev pub IsTalking : Scene → List ℕ → Type 0
+IsTalking scene name = (t : Talking scene name) × IsGoing t.replica.node t.connection.number
+
+-- A session is fed these octets: the turns of its conversation are printed.
+abbrev pub Feeds : Scene → List ℕ → List ℕ → List ℕ → Scene → Type 0
+Feeds old name octets more new =
+    (t : Talking old name) × (turns : List Turn) × (node : NodeState) × (left : Option Connection)
+    × TalksOn t.replica.node t.connection octets turns node left × (more ≡ transcript name turns) × (new ≡ with_talk old name t node left)
+
+-- A session is closed.
+abbrev pub Closes : Scene → List ℕ → Scene → Type 0
+Closes old name new = (t : Talking old name) × (new ≡ with_talk old name t (closed t.replica.node t.connection.number) None)
+
+-- A replica opens a session, and its first answer is printed.
+abbrev pub OpensAt : Scene → ℕ → List ℕ → List ℕ → Scene → Type 0
+OpensAt old replica name more new =
+    (session_place old.sessions name ≡ None)
+    × ((at : ℕ) × (host : Replica) × (node : NodeState) × (answer : Answer) × (connection : Option Connection)
+    × (replica_place old.replicas replica ≡ Some at) × (slice_get old.replicas at ≡ Some host) × Begins host.node answer node connection
+    × (more ≡ transcript_line name Server (printed answer))
+    × (new ≡ record old {
+      replicas = slice_set old.replicas at (record host { node = node });
+      sessions = old.sessions ++ record { name = name; replica = replica; connection = connection } ∷ [];
+    }))
+
+-- What a line does in a scene, and what it prints.
+abbrev pub Serves : Scene → ScriptLine → List ℕ → Scene → Type 0
+Serves old Blank more new = (more ≡ []) × (new ≡ old)
+Serves old (Node replica) more new = (replica_place old.replicas replica ≡ None) × (more ≡ []) × (new ≡ record old { replicas = old.replicas ++ new_replica replica ∷ [] })
+Serves old (Now moment) more new = (more ≡ []) × (new ≡ record old { moment = moment })
+Serves old (Open replica name) more new = OpensAt old replica name more new
+Serves old (Line name text) more new = Feeds old name (text ++ crlf) more new
+Serves old (Send name text) more new = Feeds old name text more new
+Serves old (Close name) more new = (more ≡ []) × Closes old name new
+Serves old (Show replica) more new = IsSome (replica_place old.replicas replica) × (new ≡ old)
+Serves old (Deliver id replica) more new = ⊥
+Serves old (Forge replica operation) more new = ⊥
+Serves old (Drain replica) more new = ⊥
+
+-- A line that can't be served where it stands: it names what isn't declared, or declares what is, or a session that has
+-- ended, or no such line is served yet.
+abbrev pub IsMisplaced : Scene → ScriptLine → Type 0
+IsMisplaced scene Blank = ⊥
+IsMisplaced scene (Node replica) = IsSome (replica_place scene.replicas replica)
+IsMisplaced scene (Now moment) = ⊥
+IsMisplaced scene (Open replica name) = IsNone (replica_place scene.replicas replica) ⊎ IsSome (session_place scene.sessions name)
+IsMisplaced scene (Line name text) = IsTalking scene name → ⊥
+IsMisplaced scene (Send name text) = IsTalking scene name → ⊥
+IsMisplaced scene (Close name) = IsTalking scene name → ⊥
+IsMisplaced scene (Show replica) = IsNone (replica_place scene.replicas replica)
+IsMisplaced scene (Deliver id replica) = Unit {0}
+IsMisplaced scene (Forge replica operation) = Unit {0}
+IsMisplaced scene (Drain replica) = Unit {0}
+
+-- A line that isn't served: it says nothing that could be, where it stands.
+abbrev pub IsBad : Scene → List ℕ → Type 0
+IsBad scene line = (said : ScriptLine) → Says line said → IsMisplaced scene said

@@ -1,0 +1,28 @@
+//! The program's command line.
+
+use clap::{Arg, Command, Error};
+use std::alloc::Global;
+
+/// What the command line asks for.
+#[derive(Clone, Copy, Debug, PartialEq, Eq)]
+pub enum Request<'a> {
+    /// Replay the script in this file, or on the standard input.
+    Replay { file: Option<&'a str> },
+}
+
+/// Reads the words of a command line, the program's name first.
+pub fn read_words<'a>(alloc: Global, words: &'a [String]) -> Result<Request<'a>, Error> {
+    let file = Arg::new(alloc, "FILE").help("The script; the standard input without it");
+    let replay = Command::new(alloc, "replay")
+        .about("Run a replay script")
+        .arg(file)?;
+    let command = Command::new(alloc, "mail_tool")
+        .subcommand_required(true)
+        .subcommand(replay)?;
+    let matches = command.try_get_matches_from(words)?;
+    let file = match matches.subcommand() {
+        Some((_, replay)) => replay.get_str("FILE"),
+        None => None,
+    };
+    Ok(Request::Replay { file })
+}
