@@ -5,3 +5,6 @@ pub mod Sets
 pub mod Laws
 pub mod Text
 pub mod TagLaws
+pub mod Form
+pub mod Reading
+pub mod Faults

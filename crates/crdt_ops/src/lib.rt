@@ -3,19 +3,26 @@
 #![tactic(auto)]
 
 mod copies;
+mod fault;
+mod fields;
+mod flags;
 mod ids;
 mod kind;
 mod message;
 mod names;
 mod op;
+mod read;
 mod soundness;
+mod verb;
 mod write;
 
 pub use copies::copied_ops;
+pub use fault::OpFault;
 pub use ids::Ids;
 pub use kind::Kind;
 pub use message::Message;
 pub use names::place_name;
 pub use op::{Op, SoundOp};
+pub use read::{one_operation, read_op};
 pub use soundness::{Unsound, check};
 pub use write::{write_clock, write_flags, write_id, write_ids, write_op};
