@@ -5,7 +5,8 @@ use Rattle.imap_types.specs.declared.flags.Flags.{Flags}
 use Rattle.imap_grammar.specs.Dates.{date_time}
 use Rattle.imap_grammar.specs.Languages.{◌⌢◌, exactly, sp, optional}
 use Rattle.imap_grammar.specs.MessageFlags.{append_flags, flag_group, flags_given}
-use Rattle.imap_grammar.specs.Reading.{append_date_at, append_flags_at, append_parts_at, literal_at, literal_text_at, peeks}
+use Rattle.imap_grammar.specs.Reading.{literal_at, peeks}
+use Rattle.imap_grammar.specs.CommandReading.{append_date_at, append_flags_at, append_parts_at, literal_text_at}
 use Rattle.imap_grammar.specs.Strings.{begins, literal, mailbox}
 use Rattle.imap_grammar.proofs.DateTimeLaws.{date_begins, date_reads}
 use Rattle.imap_grammar.proofs.FlagLaws.{group_reads}

@@ -3,7 +3,8 @@ use Rattle.std.proofs.Common.{◌≡◌, ℕ, Bool, true, false, cond, codes, eq
 use Rattle.std.proofs.lemmas.Bool.{eqb-true}
 use Rattle.imap_grammar.specs.Commands.{word_of, arguments, condstore_parameter, own_word, status_item, modifier, returns, selection}
 use Rattle.imap_grammar.specs.Languages.{◌⌢◌, exactly, sp, nothing, word, in_parens, listed, optional}
-use Rattle.imap_grammar.specs.Reading.{◌>>=◌, after, after_word, arguments_at, both, condstore_at, copied_at, listed_at, made, mailbox_at, named_at, opened_at, parens_at, run_at, set_at, spaced, text_at, uid_arguments_at, uid_at, fetch_parts_at, store_parts_at, peeks, is_nil, list_parts_at}
+use Rattle.imap_grammar.specs.Reading.{◌>>=◌, after, after_word, both, listed_at, made, mailbox_at, named_at, parens_at, run_at, set_at, spaced, text_at, peeks, is_nil}
+use Rattle.imap_grammar.specs.CommandReading.{arguments_at, condstore_at, copied_at, opened_at, uid_arguments_at, uid_at, fetch_parts_at, store_parts_at, list_parts_at}
 use Rattle.imap_grammar.specs.Items.{fetched}
 use Rattle.imap_grammar.specs.MessageFlags.{stored}
 use Rattle.imap_grammar.specs.Sets.{sequence_set}
@@ -26,6 +27,7 @@ use Rattle.imap_grammar.specs.declared.word.CommandWord.{CommandWord}
 use Rattle.imap_grammar.specs.declared.word.CommandWord.TheVariants as words
 use Rattle.imap_grammar.proofs.Fronts.{Front, Reads, Ends, Closes, after_again, after_takes, bind_some, both_reads, chosen, closes_ends, closes_no_space, exactly_is, joined, parens_reads, parted, some_is, sp_ends, spaced_reads, to_end, with_nothing, without_nothing, closes_no_peek, optional_ends, peeks_no, stopping}
 use Rattle.imap_grammar.proofs.Lists.{listed_reads}
+use Rattle.imap_grammar.proofs.SearchLaws.{search_parts}
 use Rattle.imap_grammar.proofs.SetLaws.{set_reads}
 use Rattle.imap_grammar.proofs.Spans.{run_reads}
 use Rattle.imap_grammar.proofs.Texts.{mailbox_reads, text_reads}
@@ -198,6 +200,7 @@ uid_take words.Move octets x h = own_by copied_reads (λ parts. commands.Move tr
 uid_take words.Expunge octets x h = own_by uids_reads commands.UidExpunge words.Expunge (λ value. refl) (λ value text f. f) octets x h
 uid_take words.Fetch octets x h = own_by fetch_parts (λ parts. commands.Fetch true parts.0 parts.1.0 parts.1.1) words.Fetch (λ value. refl) (λ value text f. f) octets x h
 uid_take words.Store octets x h = own_by store_parts (λ parts. commands.Store true parts.0 parts.1.0 parts.1.1.0 parts.1.1.1) words.Store (λ value. refl) (λ value text f. f) octets x h
+uid_take words.Search octets x h = own_by search_parts (λ parts. commands.Search true parts.0 parts.1) words.Search (λ value. refl) (λ value text f. f) octets x h
 uid_take _ octets x h = absurd cc
 
 uid_found : (octets : List ℕ) (x : Command × List ℕ) → uid_at octets ≡ Some x → Found words.Uid octets x
@@ -240,7 +243,7 @@ arguments_take words.Copy octets x h = found_by copied_reads (λ parts. commands
 arguments_take words.Move octets x h = found_by copied_reads (λ parts. commands.Move false parts.0 parts.1) words.Move (λ value text f. (refl, with_nothing _ text f)) octets x h
 arguments_take words.Uid octets x h = uid_found octets x h
 arguments_take words.Append octets x h = found_by append_parts (λ parts. commands.Append parts.0 parts.1.0 parts.1.1.0 parts.1.1.1) words.Append (λ value text f. (refl, f)) octets x h
-arguments_take words.Search octets x h = absurd cc
+arguments_take words.Search octets x h = found_by search_parts (λ parts. commands.Search false parts.0 parts.1) words.Search (λ value text f. (refl, with_nothing _ text f)) octets x h
 arguments_take words.Fetch octets x h = found_by fetch_parts (λ parts. commands.Fetch false parts.0 parts.1.0 parts.1.1) words.Fetch (λ value text f. (refl, with_nothing _ text f)) octets x h
 arguments_take words.Store octets x h = found_by store_parts (λ parts. commands.Store false parts.0 parts.1.0 parts.1.1.0 parts.1.1.1) words.Store (λ value text f. (refl, with_nothing _ text f)) octets x h
 arguments_take words.Rename octets x h = absurd cc
@@ -276,6 +279,10 @@ arguments_again commands.Expunge octets rest f s = again_alone commands.Expunge 
 arguments_again (commands.UidExpunge uids) octets rest f s =
     let p = parted (own_word true words.Expunge) _ octets rest f in
     own_again words.Expunge octets p.0 refl refl p.1 (sp_ends (sequence_set uids) p.0 rest p.2) ∙ again_by uids_reads commands.UidExpunge uids p.0 rest p.2 s
+arguments_again (commands.Search true options steps) octets rest f s =
+    let p = parted (own_word true words.Search) _ octets rest f in
+    own_again words.Search octets p.0 refl refl p.1 (sp_ends _ p.0 rest p.2) ∙ again_by search_parts (λ parts. commands.Search true parts.0 parts.1) (options, steps) p.0 rest p.2 s
+arguments_again (commands.Search false options steps) octets rest f s = again_by search_parts (λ parts. commands.Search false parts.0 parts.1) (options, steps) octets rest (without_nothing _ octets rest f) s
 arguments_again (commands.Fetch true messages items since) octets rest f s =
     let p = parted (own_word true words.Fetch) _ octets rest f in
     own_again words.Fetch octets p.0 refl refl p.1 (sp_ends _ p.0 rest p.2) ∙ again_by fetch_parts (λ parts. commands.Fetch true parts.0 parts.1.0 parts.1.1) (messages, (items, since)) p.0 rest p.2 s
@@ -315,6 +322,7 @@ arguments_end commands.Close octets rest f s = end_alone octets rest f s
 arguments_end commands.Unselect octets rest f s = end_alone octets rest f s
 arguments_end commands.Expunge octets rest f s = end_alone octets rest f s
 arguments_end (commands.UidExpunge uids) octets rest f s = copy_front true words.Expunge octets rest _ f
+arguments_end (commands.Search by_uid options steps) octets rest f s = copy_front by_uid words.Search octets rest _ f
 arguments_end (commands.Fetch by_uid messages items since) octets rest f s = copy_front by_uid words.Fetch octets rest _ f
 arguments_end (commands.Store by_uid messages since action flags) octets rest f s = copy_front by_uid words.Store octets rest _ f
 arguments_end (commands.Copy by_uid messages name) octets rest f s = copy_front by_uid words.Copy octets rest _ f

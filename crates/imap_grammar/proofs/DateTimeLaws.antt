@@ -7,7 +7,7 @@ use Rattle.std.proofs.lemmas.List.{take_at, drop_at, take-append-drop}
 use Rattle.jiff.specs.Words.{IsDate, days_in_month}
 use Rattle.imap_types.specs.DateTimes.{HasPicture, HasTime, IsDateTime, date_time_picture, day_at, is_digit, is_pictured, month_at, two_digits, year_at}
 use Rattle.imap_grammar.specs.Dates.{date_time, fits, is_date, is_date_time, is_time, zeroed}
-use Rattle.imap_grammar.specs.Reading.{date_time_at}
+use Rattle.imap_grammar.specs.CommandReading.{date_time_at}
 use Rattle.imap_grammar.specs.Strings.{begins}
 use Rattle.imap_grammar.proofs.Fronts.{Front, Reads, chosen, guarded, some_is}
 

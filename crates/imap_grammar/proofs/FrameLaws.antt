@@ -4,7 +4,8 @@ use Rattle.std.specs.Prelude.{IfOk}
 use Rattle.imap_grammar.specs.Commands.{word_of, arguments, command, IsSpelled}
 use Rattle.imap_grammar.specs.Faults.{HasTag, IsTagged, NamesCommand, begins_in}
 use Rattle.imap_grammar.specs.Languages.{◌⌢◌, sp, crlf, word}
-use Rattle.imap_grammar.specs.Reading.{◌>>=◌, AnswersTag, AnswersWord, Gives, after, arguments_at, ended_at, is_nil, run_at, span, tag_at, tagged_at, word_at}
+use Rattle.imap_grammar.specs.Reading.{◌>>=◌, Gives, after, is_nil, run_at, span}
+use Rattle.imap_grammar.specs.CommandReading.{AnswersTag, AnswersWord, arguments_at, ended_at, tag_at, tagged_at, word_at}
 use Rattle.imap_grammar.specs.Strings.{is_in, run}
 use Rattle.imap_grammar.specs.Words.{named, command_word, command_words}
 use Rattle.imap_grammar.specs.declared.class.Class.TheVariants.{Tag, Atom}

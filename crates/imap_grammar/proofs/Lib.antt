@@ -7,9 +7,12 @@ pub mod FrameLaws
 pub mod Fronts
 pub mod ItemLaws
 pub mod ListingLaws
+pub mod KeyLaws
+pub mod KeyLoops
 pub mod Lists
 pub mod ModifierLaws
 pub mod Scans
+pub mod SearchLaws
 pub mod SetLaws
 pub mod Spans
 pub mod Texts

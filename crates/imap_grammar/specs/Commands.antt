@@ -1,4 +1,5 @@
 use Rattle.std.specs.Prelude.{ℕ, Bool, true, false, List, codes, ◌++◌, ◌∷◌, [], ◌⊎◌}
+use Rattle.imap_grammar.specs.Keys.{charset, return_options, search_keys}
 use Rattle.imap_grammar.specs.Languages.{◌⌢◌, nothing, sp, crlf, word, in_parens, listed, optional}
 use Rattle.imap_grammar.specs.Dates.{date_time}
 use Rattle.imap_grammar.specs.Items.{fetched}
@@ -46,6 +47,7 @@ word_of commands.Close = words.Close
 word_of commands.Unselect = words.Unselect
 word_of commands.Expunge = words.Expunge
 word_of (commands.UidExpunge uids) = words.Uid
+word_of (commands.Search by_uid options steps) = first_word by_uid words.Search
 word_of (commands.Fetch by_uid messages items changed_since) = first_word by_uid words.Fetch
 word_of (commands.Store by_uid messages unchanged_since action flags) = first_word by_uid words.Store
 word_of (commands.Copy by_uid messages name) = first_word by_uid words.Copy
@@ -122,6 +124,8 @@ arguments commands.Unselect = nothing
 arguments commands.Expunge = nothing
 -- RFC 9051, section 6.4.9
 arguments (commands.UidExpunge uids) = own_word true words.Expunge ⌢ sp ⌢ sequence_set uids
+-- RFC 9051, section 6.4.4; RFC 7162, section 3.1.5
+arguments (commands.Search by_uid options steps) = own_word by_uid words.Search ⌢ sp ⌢ return_options options ⌢ charset ⌢ search_keys steps
 -- RFC 9051, section 6.4.5; RFC 7162, section 3.1.4.1
 arguments (commands.Fetch by_uid messages items changed_since) =
     own_word by_uid words.Fetch ⌢ sp ⌢ sequence_set messages ⌢ sp ⌢ fetched items ⌢ optional (modifier (codes "CHANGEDSINCE")) changed_since

@@ -61,7 +61,7 @@ command_words =
 
 -- The commands with a form that takes UIDs (RFC 9051, section 6.4.9).
 abbrev pub uid_words : List CommandWord
-uid_words = Copy ∷ Move ∷ Expunge ∷ Fetch ∷ Store ∷ []
+uid_words = Copy ∷ Move ∷ Expunge ∷ Fetch ∷ Store ∷ Search ∷ []
 
 -- What STATUS can ask (RFC 9051, section 9, status-att; RFC 7162, section 3.1.7, for HIGHESTMODSEQ).
 abbrev pub status_word : StatusItem → List ℕ

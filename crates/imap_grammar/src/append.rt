@@ -1,6 +1,7 @@
 ghost use Rattle.std.specs.Prelude.{◌≡◌, length};
 ghost use Rattle.imap_grammar.specs.Dates.{zeroed};
-ghost use Rattle.imap_grammar.specs.Reading.{Gives, append_at, append_date_at, append_flags_at, date_time_at, literal_text_at};
+ghost use Rattle.imap_grammar.specs.Reading.{Gives};
+ghost use Rattle.imap_grammar.specs.CommandReading.{append_at, append_date_at, append_flags_at, date_time_at, literal_text_at};
 
 use crate::command::Command;
 use crate::fault::ParseFault;

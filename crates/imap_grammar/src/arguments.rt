@@ -1,5 +1,6 @@
 ghost use Rattle.std.specs.Prelude.{◌≡◌};
-ghost use Rattle.imap_grammar.specs.Reading.{Gives, arguments_at, condstore_at, copy_at, create_at, delete_at, enable_at, examine_at, login_at, move_at, named_at, select_at, status_at, subscribe_at, uid_arguments_at, uid_at, uid_expunge_at, unsubscribe_at};
+ghost use Rattle.imap_grammar.specs.Reading.{Gives, named_at};
+ghost use Rattle.imap_grammar.specs.CommandReading.{arguments_at, condstore_at, copy_at, create_at, delete_at, enable_at, examine_at, login_at, move_at, select_at, status_at, subscribe_at, uid_arguments_at, uid_at, uid_expunge_at, unsubscribe_at};
 ghost use Rattle.imap_grammar.specs.Words.{command_word, uid_words};
 
 use crate::append::append;
@@ -12,6 +13,7 @@ use crate::listing::list;
 use crate::many::Many;
 use crate::modifier::modifier_word;
 use crate::scan::{skip, space};
+use crate::searching::search;
 use crate::sets::set;
 use crate::status::StatusItems;
 use crate::store::store;
@@ -50,6 +52,7 @@ pub fn arguments(
         CommandWord::Copy => copy(alloc, false, octets),
         CommandWord::Move => move_messages(alloc, false, octets),
         CommandWord::Append => append(alloc, octets),
+        CommandWord::Search => search(alloc, false, octets),
         CommandWord::Fetch => fetch(alloc, false, octets),
         CommandWord::Store => store(alloc, false, octets),
         CommandWord::Uid => uid(alloc, octets),
@@ -200,12 +203,13 @@ fn move_messages(alloc: Global, by_uid: bool, octets: &[u8]) -> Result<(Command,
     ))
 }
 
-const UID_WORDS: [CommandWord; 5] = [
+const UID_WORDS: [CommandWord; 6] = [
     CommandWord::Copy,
     CommandWord::Move,
     CommandWord::Expunge,
     CommandWord::Fetch,
     CommandWord::Store,
+    CommandWord::Search,
 ];
 
 /// The forms that take UIDs (RFC 9051, section 6.4.9).
@@ -233,6 +237,7 @@ fn uid_arguments(
         CommandWord::Copy => copy(alloc, true, octets),
         CommandWord::Move => move_messages(alloc, true, octets),
         CommandWord::Expunge => uid_expunge(alloc, octets),
+        CommandWord::Search => search(alloc, true, octets),
         CommandWord::Fetch => fetch(alloc, true, octets),
         CommandWord::Store => store(alloc, true, octets),
         _ => Err(ParseFault::BadSyntax),

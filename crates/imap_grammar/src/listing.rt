@@ -1,5 +1,6 @@
 ghost use Rattle.std.specs.Prelude.{◌≡◌, codes};
-ghost use Rattle.imap_grammar.specs.Reading.{Gives, after_word, list_at, options_at, options_inner_at, returns_at, selection_at, text_at};
+ghost use Rattle.imap_grammar.specs.Reading.{Gives, after_word, text_at};
+ghost use Rattle.imap_grammar.specs.CommandReading.{list_at, options_at, options_inner_at, returns_at, selection_at};
 ghost use Rattle.imap_grammar.specs.declared.class.Class.TheVariants.{Pattern};
 
 use crate::class::Class;

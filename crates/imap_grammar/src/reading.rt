@@ -1,7 +1,8 @@
 ghost use Rattle.std.specs.Prelude.{◌≡◌, ◌↔◌, ◌⊎◌, ℕ, List, IfOk, MatchOption, Ok, Err, option_map};
 ghost use Rattle.imap_grammar.specs.Commands.{IsSpelled};
 ghost use Rattle.imap_grammar.specs.Faults.{HasTag, IsTagged, NamesCommand};
-ghost use Rattle.imap_grammar.specs.Reading.{AnswersTag, Gives, ended_at, tag_at};
+ghost use Rattle.imap_grammar.specs.Reading.{Gives};
+ghost use Rattle.imap_grammar.specs.CommandReading.{AnswersTag, ended_at, tag_at};
 ghost use Rattle.imap_grammar.specs.declared.command.Tagged.{Tagged as Spelled};
 ghost use Rattle.imap_grammar.specs.declared.fault.ParseFault.TheVariants.{BadSyntax, NoMemory, NoTag, NotInProfile, UnknownCommand};
 

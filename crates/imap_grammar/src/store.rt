@@ -1,5 +1,6 @@
 ghost use Rattle.std.specs.Prelude.{◌≡◌};
-ghost use Rattle.imap_grammar.specs.Reading.{Gives, named_at, store_at};
+ghost use Rattle.imap_grammar.specs.Reading.{Gives, named_at};
+ghost use Rattle.imap_grammar.specs.CommandReading.{store_at};
 ghost use Rattle.imap_grammar.specs.Words.{store_actions, store_word};
 
 use crate::command::Command;

@@ -8,12 +8,12 @@ append_none [] = refl
 append_none (x ∷ xs) = ap (λ ys. x ∷ ys) (append_none xs)
 
 -- a list goes on where its front ended
-spaced-append : (f : Bool) (xs ys : List (List ℕ)) → spaced f (xs ++ ys) ≡ spaced f xs ++ spaced (f && has_none xs) ys
+pub spaced-append : (f : Bool) (xs ys : List (List ℕ)) → spaced f (xs ++ ys) ≡ spaced f xs ++ spaced (f && has_none xs) ys
 spaced-append true [] ys = refl
 spaced-append true (x ∷ xs) ys = ap (λ zs. x ++ zs) (flat_map-append (λ next. 32 ∷ next) xs ys) ∙ sym (append_assoc x _ _)
 spaced-append false xs ys = flat_map-append (λ next. 32 ∷ next) xs ys
 
-has_none-append : (f : Bool) (xs ys : List (List ℕ)) → (f && has_none (xs ++ ys)) ≡ ((f && has_none xs) && has_none ys)
+pub has_none-append : (f : Bool) (xs ys : List (List ℕ)) → (f && has_none (xs ++ ys)) ≡ ((f && has_none xs) && has_none ys)
 has_none-append true [] ys = refl
 has_none-append true (x ∷ xs) ys = refl
 has_none-append false xs ys = refl

@@ -1,4 +1,8 @@
 pub mod Appending
+pub mod Printable
 pub mod Printed
+pub mod Reading
+pub mod ReadingAnswers
 pub mod Strings
+pub mod Tables
 pub mod Words

@@ -113,7 +113,7 @@ origin_text (Some origin) = codes "<" ++ decimal origin ++ codes ">"
 
 -- A part of a message with its octets (RFC 9051, section 7.5.2).
 abbrev pub body_text : SectionData → List ℕ
-body_text part = codes "BODY[" ++ section_text part.section ++ codes "]" ++ origin_text part.origin ++ codes " " ++ literal_text part.data
+body_text part = codes "BODY[" ++ section_text part.section ++ codes "]" ++ origin_text part.origin ++ codes " " ++ literal_text part.octets
 
 -- The flags of a message, its date and its mod-sequence, each where it is told (RFC 9051, section 7.5.2; RFC 7162, section 3.1.4.1).
 abbrev pub flags_item : Option FlagSet → List (List ℕ)

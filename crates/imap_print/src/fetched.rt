@@ -22,9 +22,9 @@ pub struct FetchItems {
 #[derive(Drop)]
 pub struct SectionData {
     pub section: Section,
-    /// Where the data begins in the section, where a partial was asked.
+    /// Where the octets begin in the section, where a partial was asked.
     pub origin: Option<u32>,
-    pub data: Octets,
+    pub octets: Octets,
 }
 
 /// Parts of a message's text in order, seen by contracts as their list.

@@ -3,12 +3,18 @@
 
 mod answer;
 mod codes;
+mod fault;
 mod fetched;
+mod items;
 mod lists;
 mod mailbox;
 mod parts;
 mod printer;
+mod readers;
+mod reading;
+mod scan;
 mod strings;
+mod tables;
 mod words;
 
 pub use answer::Answer;
@@ -16,4 +22,5 @@ pub use codes::{Code, Notice};
 pub use fetched::{FetchItems, SectionData, Sections};
 pub use mailbox::{MailboxState, SearchResults, StatusItems};
 pub use printer::print;
+pub use reading::{one_reading, read};
 pub use words::{ByeReason, CommandWord, Continuation, Enabled, Login, Refusal};

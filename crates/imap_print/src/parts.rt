@@ -225,7 +225,7 @@ pub fn push_body(part: &SectionData, out: &mut Vec<u8>) -> Result<(), AllocError
     push_text(b"]", out)?;
     push_origin(part.origin, out)?;
     push_text(b" ", out)?;
-    push_literal(part.data.as_bytes(), out)?;
+    push_literal(part.octets.as_bytes(), out)?;
     Ok(())
 }
 

@@ -1,3 +1,4 @@
+pub mod DateTimeLemmas
 pub mod EscapeLemmas
 pub mod KeywordLemmas
 pub mod NumbersLemmas

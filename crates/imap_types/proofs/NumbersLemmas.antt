@@ -1,4 +1,4 @@
-use Rattle.std.proofs.Common.{◌≡◌, ℕ, zero, suc, ◌+◌, ◌-◌, ◌<◌, ◌≤◌, ◌↔◌, ◌⊎◌, Bool, true, eqb, max, List, [], ◌∷◌, ◌++◌, length, get_or, set, refl, ap, sym, subst, ◌∙◌, arith, append_assoc, ◌≢◌, inl, inr}
+use Rattle.std.proofs.Common.{◌≡◌, ℕ, zero, suc, ◌+◌, ◌-◌, ◌<◌, ◌≤◌, ◌↔◌, Bool, true, eqb, max, List, [], ◌∷◌, ◌++◌, length, get_or, set, refl, ap, sym, subst, ◌∙◌, arith, append_assoc, ◌≢◌, inl, inr}
 use Rattle.std.proofs.lemmas.Bool.{and_parts, and_from, cases_Bool, eqb-false, eqb-true, leb-true, le-leb}
 use Rattle.std.specs.List.{range_with_len}
 use Rattle.std.proofs.lemmas.Bool.Decides.{nat_tests}
@@ -37,7 +37,7 @@ numbers_of-joined a b h e k =
 greatest-run : (r : Run) → r.first ≤ r.last → greatest (numbers_of r) ≡ r.last
 greatest-run r h = greatest-range r.first (r.last - r.first) ∙ omega arith
 
-greatest-runs : (r : Run) (rs : List Run) → r.first ≤ r.last → greatest (numbers_in (r ∷ rs)) ≡ max r.last (greatest (numbers_in rs))
+pub greatest-runs : (r : Run) (rs : List Run) → r.first ≤ r.last → greatest (numbers_in (r ∷ rs)) ≡ max r.last (greatest (numbers_in rs))
 greatest-runs r rs h = greatest-append (numbers_of r) (numbers_in rs) ∙ ap (λ n. max n (greatest (numbers_in rs))) (greatest-run r h)
 
 low_greatest : (low : ℕ) (r : Run) (rs : List Run) → AreRunsFrom low (r ∷ rs) → low ≤ greatest (numbers_in (r ∷ rs))

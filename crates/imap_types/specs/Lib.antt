@@ -1,4 +1,5 @@
 pub mod Ascending
+pub mod DateTimeTests
 pub mod DateTimes
 pub mod Escape
 pub mod Flags

@@ -16,6 +16,7 @@ use Rattle.mail_tool.specs.Transcript.{transcript}
 use Rattle.mail_tool.specs.declared.stage.Connection.{Connection}
 use Rattle.mail_tool.specs.declared.stage.Replica.{Replica}
 use Rattle.mail_tool.specs.declared.stage.Session.{Session}
+use Rattle.world_core.specs.Dumps.{IsDump}
 use Rattle.world_core.specs.Nodes.{IsGoing, NodeState, closed}
 use Rattle.world_core.specs.Sessions.{Opens}
 use Rattle.world_core.specs.Talks.{EndsTalk, Talks}
@@ -96,6 +97,11 @@ OpensAt old replica name more new =
       sessions = old.sessions ++ record { name = name; replica = replica; connection = connection } ∷ [];
     }))
 
+-- The dump of a replica is printed.
+abbrev pub Shows : Scene → ℕ → List ℕ → Type 0
+Shows scene name more =
+    (at : ℕ) × (replica : Replica) × (replica_place scene.replicas name ≡ Some at) × (slice_get scene.replicas at ≡ Some replica) × IsDump replica.node more
+
 -- What a line does in a scene, and what it prints.
 abbrev pub Serves : Scene → ScriptLine → List ℕ → Scene → Type 0
 Serves old Blank more new = (more ≡ []) × (new ≡ old)
@@ -105,7 +111,7 @@ Serves old (Open replica name) more new = OpensAt old replica name more new
 Serves old (Line name text) more new = Feeds old name (text ++ crlf) more new
 Serves old (Send name text) more new = Feeds old name text more new
 Serves old (Close name) more new = (more ≡ []) × Closes old name new
-Serves old (Show replica) more new = IsSome (replica_place old.replicas replica) × (new ≡ old)
+Serves old (Show replica) more new = Shows old replica more × (new ≡ old)
 Serves old (Deliver id replica) more new = ⊥
 Serves old (Forge replica operation) more new = ⊥
 Serves old (Drain replica) more new = ⊥

@@ -10,7 +10,7 @@ ghost use Rattle.mail_script.specs.Script.{Says};
 ghost use Rattle.mail_script.specs.Transcript.{transcript_line};
 ghost use Rattle.mail_script.specs.declared.script.ScriptLine.{ScriptLine as Meaning};
 ghost use Rattle.mail_script.specs.declared.transcript.Speaker.TheVariants.{Server};
-ghost use Rattle.mail_tool.specs.Lines.{Begins, Closes, Feeds, IsBad, IsMisplaced, IsTalking, OpensAt, Serves, TalksOn, crlf, new_replica};
+ghost use Rattle.mail_tool.specs.Lines.{Begins, Closes, Feeds, IsBad, IsMisplaced, IsTalking, OpensAt, Serves, Shows, TalksOn, crlf, new_replica};
 ghost use Rattle.mail_tool.specs.Stage.{replica_place, scene_of, session_place};
 ghost use Rattle.mail_tool.specs.Transcript.{transcript};
 ghost use Rattle.mail_tool.specs.declared.serve.ServeFault.TheVariants.{BadScript, NoMemory};
@@ -328,15 +328,13 @@ fn show(
     name: ReplicaId,
     printed: &mut Vec<u8>,
 ) -> Result<(), ServeFault>
-    ensures ok { OnOk result (IsSome (replica_place stage.now.replicas.items name)) }
+    ensures ok { OnOk result ((more : List ℕ) × Shows (scene_of stage.now) name more × (printed.new.items ≡ printed.old.items ++ more)) }
     ensures bad { result ≡ Err BadScript → IsNone (replica_place stage.now.replicas.items name) × (printed.new.items ≡ printed.old.items) }
     ensures kept { (more : List ℕ) × (printed.new.items ≡ printed.old.items ++ more) }
 {
     let Some(place) = replica_place(&stage.replicas, name) else {
         return Err(ServeFault::BadScript);
     };
-    let mut dump = Vec::new(alloc);
-    write_dump(alloc, &stage.replicas[place].node, &mut dump)?;
-    printed.extend_from_slice(&dump)?;
+    write_dump(alloc, &stage.replicas[place].node, printed)?;
     Ok(())
 }

@@ -11,7 +11,7 @@ returns-clause-ok c =
     let third = behind c.args.out.now.items _ _ (codes "BODY[" ++ section_text c.args.part.now.section) (codes "]") second c.in_ok-push_text-2.ensures.ok in
     let fourth = behind c.args.out.now.items _ _ (codes "BODY[" ++ section_text c.args.part.now.section ++ codes "]") (origin_text c.args.part.now.origin) third c.in_ok-push_origin.ensures.ok in
     let fifth = behind c.args.out.now.items _ _ (codes "BODY[" ++ section_text c.args.part.now.section ++ codes "]" ++ origin_text c.args.part.now.origin) (codes " ") fourth c.in_ok-push_text-3.ensures.ok in
-    behind c.args.out.now.items _ _ (codes "BODY[" ++ section_text c.args.part.now.section ++ codes "]" ++ origin_text c.args.part.now.origin ++ codes " ") (literal_text c.args.part.now.data) fifth h5
+    behind c.args.out.now.items _ _ (codes "BODY[" ++ section_text c.args.part.now.section ++ codes "]" ++ origin_text c.args.part.now.origin ++ codes " ") (literal_text c.args.part.now.octets) fifth h5
 
 pub returns-in_err-push_literal-clause-kept : goal.returns-in_err-push_literal-clause-kept
 returns-in_err-push_literal-clause-kept c =

@@ -1,6 +1,6 @@
 use Rattle.std.proofs.Common.{◌≡◌, true, sym, ◌∙◌}
 use Rattle.imap_types.specs.Keywords.{are_keywords}
-use Rattle.imap_types.proofs.KeywordLemmas.{keywords_from_test, test_from_keywords}
+use Rattle.imap_types.proofs.KeywordLemmas.{keywords_from_test}
 use Rattle.imap_types.proofs.keywords.Keywords.new.Goals as goal
 
 pub invariant_of-result : goal.invariant_of-result

@@ -1,6 +1,6 @@
-use Rattle.std.proofs.Common.{◌≡◌, true, sym, ap, ◌∙◌}
+use Rattle.std.proofs.Common.{◌≡◌, true, sym, ◌∙◌}
 use Rattle.imap_types.specs.Numbers.{are_runs_from}
-use Rattle.imap_types.proofs.NumbersLemmas.{runs_from_test, numbers_in-runs_of, runs_of-are_runs, test_from_runs}
+use Rattle.imap_types.proofs.NumbersLemmas.{runs_from_test}
 use Rattle.imap_types.proofs.number_set.NumberSet.from_runs.Goals as goal
 
 pub invariant_of-result : goal.invariant_of-result

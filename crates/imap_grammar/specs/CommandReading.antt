@@ -1,0 +1,210 @@
+use Rattle.std.specs.Prelude.{◌≡◌, ℕ, zero, suc, Bool, true, false, ◌||◌, ◌==◌, nat_lt, List, [], ◌∷◌, ◌++◌, codes, length, take, drop, Option, Some, None, Result, Ok, Err, if◌then◌else◌, ◌&&◌}
+use Rattle.std.specs.Str.{bytes_eq}
+use Rattle.imap_types.specs.Keywords.{lowered}
+use Rattle.imap_types.specs.Names.{folded_name}
+use Rattle.imap_types.specs.declared.sequence_set.SequenceBound.{SequenceBound}
+use Rattle.imap_types.specs.declared.sequence_set.SequenceBound.TheVariants.{Number, Greatest}
+use Rattle.imap_types.specs.declared.sequence_set.SequenceRange.{SequenceRange}
+use Rattle.imap_types.specs.declared.flags.Flags.{Flags}
+use Rattle.imap_types.specs.declared.section.Section.{Section}
+use Rattle.imap_types.specs.declared.section.Section.TheVariants.{Whole, Header, Text, Fields, FieldsNot}
+use Rattle.imap_grammar.specs.Dates.{is_date_time, zeroed}
+use Rattle.imap_grammar.specs.Items.{fast_items}
+use Rattle.imap_grammar.specs.MessageFlags.{flags_of, no_flags, flags_given}
+use Rattle.imap_grammar.specs.declared.fetch.FetchItem.{FetchItem}
+use Rattle.imap_grammar.specs.declared.fetch.FetchItem.TheVariants as items
+use Rattle.imap_grammar.specs.declared.fetch.FetchWord.{FetchWord}
+use Rattle.imap_grammar.specs.declared.fetch.FetchWord.TheVariants as fetch
+use Rattle.imap_grammar.specs.declared.fetch.Partial.{Partial}
+use Rattle.imap_grammar.specs.declared.fetch.SectionWord.{SectionWord}
+use Rattle.imap_grammar.specs.declared.fetch.SectionWord.TheVariants as sections
+use Rattle.imap_grammar.specs.declared.flags.Flag.{Flag}
+use Rattle.imap_grammar.specs.declared.flags.Flag.TheVariants.{System, Keyword}
+use Rattle.imap_grammar.specs.declared.store.StoreAction.{StoreAction}
+use Rattle.imap_grammar.specs.Strings.{begins, is_in, is_quotable, number_of}
+use Rattle.imap_grammar.specs.Words.{named, command_word, command_words, fetch_word, fetch_words, section_word, section_words, status_word, status_items, store_actions, store_word, system_flags, system_word, uid_words}
+use Rattle.imap_grammar.specs.declared.class.Class.{Class}
+use Rattle.imap_grammar.specs.declared.class.Class.TheVariants.{Tag, Atom, Astring, Pattern, Digit, Item}
+use Rattle.imap_grammar.specs.declared.command.Command.{Command}
+use Rattle.imap_grammar.specs.declared.command.Command.TheVariants as commands
+use Rattle.imap_grammar.specs.declared.command.Tagged.{Tagged}
+use Rattle.imap_grammar.specs.declared.fault.ParseFault.{ParseFault}
+use Rattle.imap_grammar.specs.declared.fault.ParseFault.TheVariants.{NoMemory, BadSyntax, NotInProfile, NoTag, UnknownCommand}
+use Rattle.imap_grammar.specs.declared.word.CommandWord.{CommandWord}
+use Rattle.imap_grammar.specs.declared.word.CommandWord.TheVariants as words
+use Rattle.imap_grammar.specs.KeyReading.{search_at}
+use Rattle.imap_grammar.specs.Reading.{◌>>=◌, Fails, Gives, span, is_nil, after, spaced, run_at, with_front, quoted_at, after_plus, octets_at, literal_at, text_at, both, made, next_at, and_more, more_at, listed_at, mailbox_at, before, enclosed_at, parens_at, after_word, named_at, number_at, nz_at, bound_at, ranged_at, range_at, set_at, peeks, peeked_at, modifier_group_at, modifier_at, flag_at, maybe_flags_at, flag_group_at, stored_texts_at, stored_at, field_names_at, section_behind_at, section_at, bracketed_at, partial_at, body_at, item_behind_at, item_at, alone_at, fetched_at}
+
+-- ---- Commands, behind their words.
+
+abbrev pub login_at : List ℕ → Option (Command × List ℕ)
+login_at = made (λ parts. commands.Login parts.0 parts.1) (spaced (both (text_at Astring) (spaced (text_at Astring))))
+
+abbrev pub enable_at : List ℕ → Option (Command × List ℕ)
+enable_at = made commands.Enable (spaced (listed_at 32 (run_at Atom)))
+
+abbrev pub condstore_at : List ℕ → Option (Bool × List ℕ)
+condstore_at [] = Some (false, [])
+condstore_at (octet ∷ octets) =
+    if octet == 32 then (after (40 ∷ []) octets >>= λ inner. after_word (codes "CONDSTORE") inner >>= λ behind. after (41 ∷ []) behind >>= λ rest. Some (true, rest))
+    else Some (false, octet ∷ octets)
+
+abbrev pub opened_at : List ℕ → Option ((List ℕ × Bool) × List ℕ)
+opened_at = spaced (both mailbox_at condstore_at)
+
+abbrev pub select_at : List ℕ → Option (Command × List ℕ)
+select_at = made (λ parts. commands.Select parts.0 parts.1) opened_at
+
+abbrev pub examine_at : List ℕ → Option (Command × List ℕ)
+examine_at = made (λ parts. commands.Examine parts.0 parts.1) opened_at
+
+abbrev pub create_at : List ℕ → Option (Command × List ℕ)
+create_at = made commands.Create (spaced mailbox_at)
+
+abbrev pub delete_at : List ℕ → Option (Command × List ℕ)
+delete_at = made commands.Delete (spaced mailbox_at)
+
+abbrev pub subscribe_at : List ℕ → Option (Command × List ℕ)
+subscribe_at = made commands.Subscribe (spaced mailbox_at)
+
+abbrev pub unsubscribe_at : List ℕ → Option (Command × List ℕ)
+unsubscribe_at = made commands.Unsubscribe (spaced mailbox_at)
+
+abbrev pub options_inner_at : List ℕ → Option (Bool × List ℕ)
+options_inner_at [] = None
+options_inner_at (octet ∷ octets) =
+    if octet == 41 then Some (false, octets)
+    else (after_word (codes "SUBSCRIBED") (octet ∷ octets) >>= λ behind. after (41 ∷ []) behind >>= λ rest. Some (true, rest))
+
+abbrev pub options_at : List ℕ → Option (Bool × List ℕ)
+options_at octets = after (40 ∷ []) octets >>= options_inner_at
+
+abbrev pub selection_at : List ℕ → Option (Bool × List ℕ)
+selection_at [] = Some (false, [])
+selection_at (octet ∷ octets) = if octet == 40 then before options_at (after (32 ∷ [])) (octet ∷ octets) else Some (false, octet ∷ octets)
+
+abbrev pub returns_at : List ℕ → Option (Bool × List ℕ)
+returns_at [] = Some (false, [])
+returns_at (octet ∷ octets) =
+    if octet == 32 then (after_word (codes "RETURN") octets >>= spaced options_at) else Some (false, octet ∷ octets)
+
+abbrev pub list_parts_at : List ℕ → Option ((Bool × (List ℕ × (List ℕ × Bool))) × List ℕ)
+list_parts_at = spaced (both selection_at (both (text_at Astring) (spaced (both (text_at Pattern) returns_at))))
+
+abbrev pub list_at : List ℕ → Option (Command × List ℕ)
+list_at = made (λ parts. commands.ListNames parts.0 parts.1.0 parts.1.1.0 parts.1.1.1) list_parts_at
+
+abbrev pub date_time_at : List ℕ → Option (List ℕ × List ℕ)
+date_time_at octets =
+    if nat_lt (length octets) 28 then None
+    else (if is_date_time (zeroed (take 28 octets)) then Some (zeroed (take 28 octets), drop 28 octets) else None)
+
+abbrev pub append_flags_at : List ℕ → Option (Flags × List ℕ)
+append_flags_at = made flags_given (peeked_at 40 flag_group_at)
+
+abbrev pub append_date_at : List ℕ → Option (Option (List ℕ) × List ℕ)
+append_date_at = peeked_at 34 date_time_at
+
+abbrev pub literal_text_at : List ℕ → Option (List ℕ × List ℕ)
+literal_text_at [] = None
+literal_text_at (octet ∷ octets) = if octet == 123 then literal_at octets else None
+
+abbrev pub append_parts_at : List ℕ → Option ((List ℕ × (Flags × (Option (List ℕ) × List ℕ))) × List ℕ)
+append_parts_at = spaced (both mailbox_at (both append_flags_at (both append_date_at (spaced literal_text_at))))
+
+abbrev pub append_at : List ℕ → Option (Command × List ℕ)
+append_at = made (λ parts. commands.Append parts.0 parts.1.0 parts.1.1.0 parts.1.1.1) append_parts_at
+
+abbrev pub status_at : List ℕ → Option (Command × List ℕ)
+status_at = made (λ parts. commands.Status parts.0 parts.1) (spaced (both mailbox_at (spaced (parens_at (listed_at 32 (named_at status_word status_items))))))
+
+abbrev pub copied_at : List ℕ → Option ((List SequenceRange × List ℕ) × List ℕ)
+copied_at = spaced (both set_at (spaced mailbox_at))
+
+abbrev pub copy_at : Bool → List ℕ → Option (Command × List ℕ)
+copy_at by_uid = made (λ parts. commands.Copy by_uid parts.0 parts.1) copied_at
+
+abbrev pub move_at : Bool → List ℕ → Option (Command × List ℕ)
+move_at by_uid = made (λ parts. commands.Move by_uid parts.0 parts.1) copied_at
+
+abbrev pub uid_expunge_at : List ℕ → Option (Command × List ℕ)
+uid_expunge_at = made commands.UidExpunge (spaced set_at)
+
+abbrev pub fetch_parts_at : List ℕ → Option ((List SequenceRange × (List FetchItem × Option ℕ)) × List ℕ)
+fetch_parts_at = spaced (both set_at (spaced (both fetched_at (modifier_at (codes "CHANGEDSINCE")))))
+
+abbrev pub fetch_at : Bool → List ℕ → Option (Command × List ℕ)
+fetch_at by_uid = made (λ parts. commands.Fetch by_uid parts.0 parts.1.0 parts.1.1) fetch_parts_at
+
+abbrev pub store_parts_at : List ℕ → Option ((List SequenceRange × (Option ℕ × (StoreAction × Flags))) × List ℕ)
+store_parts_at = spaced (both set_at (both (modifier_at (codes "UNCHANGEDSINCE")) (spaced (both (named_at store_word store_actions) (spaced stored_at)))))
+
+abbrev pub store_at : Bool → List ℕ → Option (Command × List ℕ)
+store_at by_uid = made (λ parts. commands.Store by_uid parts.0 parts.1.0 parts.1.1.0 parts.1.1.1) store_parts_at
+
+abbrev pub uid_arguments_at : CommandWord → List ℕ → Option (Command × List ℕ)
+uid_arguments_at words.Copy octets = copy_at true octets
+uid_arguments_at words.Move octets = move_at true octets
+uid_arguments_at words.Expunge octets = uid_expunge_at octets
+uid_arguments_at words.Search octets = search_at true octets
+uid_arguments_at words.Fetch octets = fetch_at true octets
+uid_arguments_at words.Store octets = store_at true octets
+uid_arguments_at _ octets = None
+
+abbrev pub uid_at : List ℕ → Option (Command × List ℕ)
+uid_at octets = spaced (named_at command_word uid_words) octets >>= λ own. uid_arguments_at own.0 own.1
+
+abbrev pub arguments_at : CommandWord → List ℕ → Option (Command × List ℕ)
+arguments_at words.Capability octets = Some (commands.Capability, octets)
+arguments_at words.Noop octets = Some (commands.Noop, octets)
+arguments_at words.Logout octets = Some (commands.Logout, octets)
+arguments_at words.Login octets = login_at octets
+arguments_at words.Enable octets = enable_at octets
+arguments_at words.Select octets = select_at octets
+arguments_at words.Examine octets = examine_at octets
+arguments_at words.Create octets = create_at octets
+arguments_at words.Delete octets = delete_at octets
+arguments_at words.Subscribe octets = subscribe_at octets
+arguments_at words.Unsubscribe octets = unsubscribe_at octets
+arguments_at words.ListNames octets = list_at octets
+arguments_at words.Namespace octets = Some (commands.Namespace, octets)
+arguments_at words.Status octets = status_at octets
+arguments_at words.Append octets = append_at octets
+arguments_at words.Idle octets = Some (commands.Idle, octets)
+arguments_at words.Close octets = Some (commands.Close, octets)
+arguments_at words.Unselect octets = Some (commands.Unselect, octets)
+arguments_at words.Expunge octets = Some (commands.Expunge, octets)
+arguments_at words.Copy octets = copy_at false octets
+arguments_at words.Move octets = move_at false octets
+arguments_at words.Search octets = search_at false octets
+arguments_at words.Fetch octets = fetch_at false octets
+arguments_at words.Store octets = store_at false octets
+arguments_at words.Uid octets = uid_at octets
+arguments_at _ octets = None
+
+-- The tag of a frame, and what stands behind its space.
+abbrev pub tag_at : List ℕ → Option (List ℕ × List ℕ)
+tag_at frame = run_at Tag frame >>= λ tag. after (32 ∷ []) tag.1 >>= λ rest. Some (tag.0, rest)
+
+-- The word that stands in front.
+abbrev pub word_at : List ℕ → Option CommandWord
+word_at octets = named command_word command_words (span (is_in Atom) octets).0
+
+-- The arguments and the end of the line.
+abbrev pub ended_at : CommandWord → List ℕ → Option Command
+ended_at found octets =
+    arguments_at found octets >>= λ this. after (13 ∷ 10 ∷ []) this.1 >>= λ rest. if is_nil rest then Some this.0 else None
+
+-- The command with its tag.
+abbrev pub tagged_at : List ℕ → CommandWord → List ℕ → Option Tagged
+tagged_at tag found octets = ended_at found octets >>= λ this. Some (record { tag = tag; command = this })
+
+-- What is answered where the word behind the tag is this one, or none.
+abbrev pub AnswersWord : Result Tagged ParseFault → List ℕ → Option CommandWord → List ℕ → Type 0
+AnswersWord answer tag None octets = answer ≡ Err UnknownCommand
+AnswersWord answer tag (Some found) octets = Gives (λ x. x) answer (tagged_at tag found octets)
+
+-- What is answered where the frame has this tag and rest, or none.
+abbrev pub AnswersTag : Result Tagged ParseFault → Option (List ℕ × List ℕ) → Type 0
+AnswersTag answer None = answer ≡ Err NoTag
+AnswersTag answer (Some tag) = AnswersWord answer tag.0 (word_at tag.1) (span (is_in Atom) tag.1).1

@@ -1,0 +1,91 @@
+use Rattle.std.specs.Prelude.{◌≡◌, ℕ, zero, suc, Bool, ◌||◌, ◌==◌, List, [], ◌∷◌, ◌++◌, codes, length, Option, Some, None, if◌then◌else◌}
+use Rattle.std.specs.Str.{bytes_eq}
+use Rattle.imap_types.specs.DateTimes.{is_digit}
+use Rattle.imap_types.specs.Keywords.{lowered}
+use Rattle.imap_grammar.specs.KeyWords.{key_word, key_words, option_word, search_options}
+use Rattle.imap_grammar.specs.Reading.{◌>>=◌, after, before, both, listed_at, made, named_at, next_at, number_at, parens_at, run_at, set_at, spaced, span, text_at}
+use Rattle.imap_grammar.specs.Strings.{is_in}
+use Rattle.imap_grammar.specs.declared.class.Class.TheVariants.{Astring, Atom, Digit, Item}
+use Rattle.imap_grammar.specs.declared.command.Command.{Command}
+use Rattle.imap_grammar.specs.declared.command.Command.TheVariants as commands
+use Rattle.imap_grammar.specs.declared.search.KeyWord.{KeyWord}
+use Rattle.imap_grammar.specs.declared.search.KeyWord.TheVariants as key
+use Rattle.imap_grammar.specs.declared.search.SearchOption.{SearchOption}
+use Rattle.imap_grammar.specs.declared.search.SearchStep.{SearchStep}
+use Rattle.imap_grammar.specs.declared.search.SearchStep.TheVariants.{Test, Not, Or, And}
+use Rattle.imap_grammar.specs.declared.search.SearchTest.{SearchTest}
+use Rattle.imap_grammar.specs.declared.search.SearchTest.TheVariants as tests
+
+abbrev pub leaf_at : KeyWord → List ℕ → Option (SearchTest × List ℕ)
+leaf_at key.All octets = Some (tests.All, octets)
+leaf_at (key.System flag is_set) octets = Some (tests.System flag is_set, octets)
+leaf_at (key.Keyword is_set) octets = made (λ keyword. tests.Keyword keyword is_set) (spaced (run_at Atom)) octets
+leaf_at (key.Place place) octets = made (tests.Holds place) (spaced (text_at Astring)) octets
+leaf_at key.Header octets = made (λ parts. tests.Header parts.0 parts.1) (spaced (both (text_at Astring) (spaced (text_at Astring)))) octets
+leaf_at key.Larger octets = made tests.Larger (spaced (number_at 9223372036854775807)) octets
+leaf_at key.Smaller octets = made tests.Smaller (spaced (number_at 9223372036854775807)) octets
+leaf_at key.ModSeq octets = made tests.ModSeq (spaced (number_at 9223372036854775807)) octets
+leaf_at key.Uid octets = made tests.Uids (spaced set_at) octets
+leaf_at key.Not octets = None
+leaf_at key.Or octets = None
+
+-- The steps of keys that are read one behind the other, so many at most.
+abbrev pub or_more : (List SearchStep → List ℕ → Option (List SearchStep × List ℕ)) → List SearchStep → List ℕ → Option (List SearchStep × List ℕ) → Option (List SearchStep × List ℕ)
+or_more more steps octets None = Some (steps, octets)
+or_more more steps octets (Some x) = more (steps ++ x.0 ++ And ∷ []) x.1
+
+abbrev pub more_keys_at : ℕ → (List ℕ → Option (List SearchStep × List ℕ)) → List SearchStep → List ℕ → Option (List SearchStep × List ℕ)
+more_keys_at zero inner steps octets = Some (steps, octets)
+more_keys_at (suc n) inner steps octets = next_at 32 inner octets >>= λ next. or_more (more_keys_at n inner) steps octets next
+
+abbrev pub keys_at : (List ℕ → Option (List SearchStep × List ℕ)) → List ℕ → Option (List SearchStep × List ℕ)
+keys_at inner octets = inner octets >>= λ first. more_keys_at (length octets) inner first.0 first.1
+
+abbrev pub worded_at : (List ℕ → Option (List SearchStep × List ℕ)) → KeyWord → List ℕ → Option (List SearchStep × List ℕ)
+worded_at inner key.Not octets = made (λ steps. steps ++ Not ∷ []) (spaced inner) octets
+worded_at inner key.Or octets = made (λ parts. parts.0 ++ parts.1 ++ Or ∷ []) (spaced (both inner (spaced inner))) octets
+worded_at inner other octets = made (λ test. Test test ∷ []) (leaf_at other) octets
+
+abbrev pub numbers_at : List ℕ → Option (List SearchStep × List ℕ)
+numbers_at = made (λ numbers. Test (tests.Numbers numbers) ∷ []) set_at
+
+abbrev pub level_at : (List ℕ → Option (List SearchStep × List ℕ)) → List ℕ → Option (List SearchStep × List ℕ)
+level_at inner [] = None
+level_at inner (octet ∷ octets) =
+    if octet == 40 then before (keys_at inner) (after (41 ∷ [])) octets
+    else (if is_in Digit octet || (octet == 42) then numbers_at (octet ∷ octets)
+    else (named_at key_word key_words (octet ∷ octets) >>= λ found. worded_at inner found.0 found.1))
+
+-- A key below so many levels, itself included.
+unfoldable pub below_at : ℕ → List ℕ → Option (List SearchStep × List ℕ)
+below_at zero octets = None
+below_at (suc levels) octets = level_at (below_at levels) octets
+
+-- ---- The command.
+
+abbrev pub maybe_options_at : List ℕ → Option (List SearchOption × List ℕ)
+maybe_options_at [] = None
+maybe_options_at (octet ∷ octets) = if octet == 41 then Some ([], octet ∷ octets) else listed_at 32 (named_at option_word search_options) (octet ∷ octets)
+
+abbrev pub returned_group_at : List ℕ → Option (List SearchOption × List ℕ)
+returned_group_at = before (spaced (parens_at maybe_options_at)) (after (32 ∷ []))
+
+abbrev pub returned_at : List ℕ → Option (List SearchOption × List ℕ)
+returned_at octets =
+    if bytes_eq (lowered (span (is_in Item) octets).0) (lowered (codes "RETURN")) then returned_group_at (span (is_in Item) octets).1 else Some ([], octets)
+
+abbrev pub is_charset : List ℕ → Bool
+is_charset name = bytes_eq (lowered name) (lowered (codes "UTF-8")) || bytes_eq (lowered name) (lowered (codes "US-ASCII"))
+
+abbrev pub charset_name_at : List ℕ → Option (List ℕ)
+charset_name_at octets = spaced (text_at Astring) octets >>= λ name. after (32 ∷ []) name.1 >>= λ rest. if is_charset name.0 then Some rest else None
+
+abbrev pub charset_at : List ℕ → Option (List ℕ)
+charset_at octets =
+    if bytes_eq (lowered (span (is_in Item) octets).0) (lowered (codes "CHARSET")) then charset_name_at (span (is_in Item) octets).1 else Some octets
+
+abbrev pub search_parts_at : List ℕ → Option ((List SearchOption × List SearchStep) × List ℕ)
+search_parts_at = spaced (both returned_at (λ octets. charset_at octets >>= keys_at (below_at 65)))
+
+abbrev pub search_at : Bool → List ℕ → Option (Command × List ℕ)
+search_at by_uid = made (λ parts. commands.Search by_uid parts.0 parts.1) search_parts_at

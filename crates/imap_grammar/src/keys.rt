@@ -1,0 +1,314 @@
+ghost use Rattle.std.specs.Prelude.{◌≡◌, ◌++◌, ◌∷◌, [], IfOk, OnOk, option_map};
+ghost use Rattle.imap_grammar.specs.KeyReading.{below_at, keys_at, leaf_at, level_at, numbers_at, worded_at};
+ghost use Rattle.imap_grammar.specs.KeyWords.{key_word, key_words};
+ghost use Rattle.imap_grammar.specs.Reading.{Gives, named_at, next_at, number_at};
+ghost use Rattle.imap_grammar.specs.declared.search.SearchStep.TheVariants.{And, Or, Test};
+
+use crate::class::{Class, is_in};
+use crate::fault::ParseFault;
+use crate::flags::SystemFlag;
+use crate::modifier::left_out;
+use crate::numbers::number;
+use crate::scan::{skip, space, span};
+use crate::search::{KeyWord, SearchStep, SearchTest, TextPlace};
+use crate::sets::set;
+use crate::text::{plain, text};
+use crate::word::find;
+use std::alloc::{AllocError, Global};
+
+/// The greatest number of octets and the greatest mod-sequence: 2^63 - 1.
+const GREATEST: u64 = 9_223_372_036_854_775_807;
+
+const KEY_WORDS: [KeyWord; 27] = [
+    KeyWord::All,
+    KeyWord::System {
+        flag: SystemFlag::Answered,
+        is_set: true,
+    },
+    KeyWord::System {
+        flag: SystemFlag::Answered,
+        is_set: false,
+    },
+    KeyWord::System {
+        flag: SystemFlag::Flagged,
+        is_set: true,
+    },
+    KeyWord::System {
+        flag: SystemFlag::Flagged,
+        is_set: false,
+    },
+    KeyWord::System {
+        flag: SystemFlag::Deleted,
+        is_set: true,
+    },
+    KeyWord::System {
+        flag: SystemFlag::Deleted,
+        is_set: false,
+    },
+    KeyWord::System {
+        flag: SystemFlag::Seen,
+        is_set: true,
+    },
+    KeyWord::System {
+        flag: SystemFlag::Seen,
+        is_set: false,
+    },
+    KeyWord::System {
+        flag: SystemFlag::Draft,
+        is_set: true,
+    },
+    KeyWord::System {
+        flag: SystemFlag::Draft,
+        is_set: false,
+    },
+    KeyWord::Keyword { is_set: true },
+    KeyWord::Keyword { is_set: false },
+    KeyWord::Place {
+        place: TextPlace::Bcc,
+    },
+    KeyWord::Place {
+        place: TextPlace::Cc,
+    },
+    KeyWord::Place {
+        place: TextPlace::From,
+    },
+    KeyWord::Place {
+        place: TextPlace::Subject,
+    },
+    KeyWord::Place {
+        place: TextPlace::To,
+    },
+    KeyWord::Place {
+        place: TextPlace::Body,
+    },
+    KeyWord::Place {
+        place: TextPlace::Text,
+    },
+    KeyWord::Header,
+    KeyWord::Larger,
+    KeyWord::Smaller,
+    KeyWord::ModSeq,
+    KeyWord::Uid,
+    KeyWord::Not,
+    KeyWord::Or,
+];
+
+/// A key below so many levels, of NOT, OR and parentheses, that may still be opened, itself included.
+#[cycle(keys)]
+pub fn below(
+    alloc: Global,
+    levels: usize,
+    octets: &[u8],
+) -> Result<(Vec<SearchStep>, &[u8]), ParseFault>
+    ensures { Gives (λ x. (x.0.items, x.1.now)) result (below_at levels octets.now) }
+{
+    if levels == 0 {
+        return Err(ParseFault::BadSyntax);
+    }
+    level(alloc, levels - 1, octets)
+}
+
+#[cycle(keys)]
+fn level(
+    alloc: Global,
+    levels: usize,
+    octets: &[u8],
+) -> Result<(Vec<SearchStep>, &[u8]), ParseFault>
+    ensures { Gives (λ x. (x.0.items, x.1.now)) result (level_at (below_at levels) octets.now) }
+{
+    match octets {
+        [] => Err(ParseFault::BadSyntax),
+        [first, rest @ ..] => {
+            if *first == b'(' {
+                let (steps, rest) = keys(alloc, levels, rest)?;
+                let rest = skip(rest, b")")?;
+                return Ok((steps, rest));
+            }
+            if is_in(Class::Digit, *first) || *first == b'*' {
+                return numbers(alloc, octets);
+            }
+            let (word, rest) = key_word(octets)?;
+            worded(alloc, levels, word, rest)
+        }
+    }
+}
+
+/// A sequence set as a key.
+fn numbers(alloc: Global, octets: &[u8]) -> Result<(Vec<SearchStep>, &[u8]), ParseFault>
+    ensures { Gives (λ x. (x.0.items, x.1.now)) result (numbers_at octets.now) }
+{
+    let (numbers, rest) = set(alloc, octets)?;
+    Ok((alone(alloc, SearchTest::Numbers { numbers })?, rest))
+}
+
+fn alone(alloc: Global, test: SearchTest) -> Result<Vec<SearchStep>, AllocError>
+    ensures { IfOk result (λ steps. steps.items ≡ Test test ∷ []) }
+{
+    let mut steps = Vec::new(alloc);
+    steps.push(SearchStep::Test(test))?;
+    Ok(steps)
+}
+
+/// The word that begins a key. Some are of forms that this server leaves out.
+fn key_word(octets: &[u8]) -> Result<(KeyWord, &[u8]), ParseFault>
+    ensures { Gives (λ x. (x.0, x.1.now)) result (named_at key_word key_words octets.now) }
+{
+    let (letters, rest) = span(Class::Item, octets);
+    match find(&KEY_WORDS, letters) {
+        Some(word) => Ok((word, rest)),
+        None => Err(left_out(
+            octets,
+            &[
+                b"SENTBEFORE",
+                b"SENTON",
+                b"SENTSINCE",
+                b"BEFORE",
+                b"ON",
+                b"SINCE",
+                b"$",
+            ],
+        )),
+    }
+}
+
+#[cycle(keys)]
+fn worded(
+    alloc: Global,
+    levels: usize,
+    word: KeyWord,
+    octets: &[u8],
+) -> Result<(Vec<SearchStep>, &[u8]), ParseFault>
+    ensures { Gives (λ x. (x.0.items, x.1.now)) result (worded_at (below_at levels) word octets.now) }
+{
+    match word {
+        KeyWord::Not => {
+            let (mut steps, rest) = below(alloc, levels, space(octets)?)?;
+            steps.push(SearchStep::Not)?;
+            Ok((steps, rest))
+        }
+        KeyWord::Or => {
+            let (mut steps, rest) = below(alloc, levels, space(octets)?)?;
+            let (second, rest) = below(alloc, levels, space(rest)?)?;
+            or_key(&mut steps, second)?;
+            Ok((steps, rest))
+        }
+        _ => {
+            let (test, rest) = leaf(alloc, word, octets)?;
+            Ok((alone(alloc, test)?, rest))
+        }
+    }
+}
+
+fn or_key(steps: &mut Vec<SearchStep>, second: Vec<SearchStep>) -> Result<(), AllocError>
+    ensures { OnOk result (steps.new.items ≡ steps.old.items ++ second.items ++ Or ∷ []) }
+{
+    let mut second = second;
+    steps.append(&mut second)?;
+    steps.push(SearchStep::Or)?;
+    Ok(())
+}
+
+fn and_key(steps: &mut Vec<SearchStep>, second: Vec<SearchStep>) -> Result<(), AllocError>
+    ensures { OnOk result (steps.new.items ≡ steps.old.items ++ second.items ++ And ∷ []) }
+{
+    let mut second = second;
+    steps.append(&mut second)?;
+    steps.push(SearchStep::And)?;
+    Ok(())
+}
+
+/// One or more keys with single spaces, which must all hit.
+#[cycle(keys)]
+pub fn keys(
+    alloc: Global,
+    levels: usize,
+    octets: &[u8],
+) -> Result<(Vec<SearchStep>, &[u8]), ParseFault>
+    ensures { Gives (λ x. (x.0.items, x.1.now)) result (keys_at (below_at levels) octets.now) }
+{
+    let (mut steps, mut rest) = below(alloc, levels, octets)?;
+    // Each turn takes a space, so there are no more turns than octets.
+    for _ in 0..octets.len() {
+        let Some((more, after)) = next_key(alloc, levels, rest)? else {
+            return Ok((steps, rest));
+        };
+        and_key(&mut steps, more)?;
+        rest = after;
+    }
+    Ok((steps, rest))
+}
+
+/// The key behind a space, where one stands in front.
+#[cycle(keys)]
+fn next_key(
+    alloc: Global,
+    levels: usize,
+    octets: &[u8],
+) -> Result<Option<(Vec<SearchStep>, &[u8])>, ParseFault>
+    ensures { Gives (λ x. option_map (λ y. (y.0.items, y.1.now)) x) result (next_at 32 (below_at levels) octets.now) }
+{
+    match octets {
+        [] => Ok(None),
+        [first, rest @ ..] => {
+            if *first != b' ' {
+                return Ok(None);
+            }
+            let (more, rest) = below(alloc, levels, rest)?;
+            Ok(Some((more, rest)))
+        }
+    }
+}
+
+/// What a key's word has behind it.
+fn leaf(alloc: Global, word: KeyWord, octets: &[u8]) -> Result<(SearchTest, &[u8]), ParseFault>
+    ensures { Gives (λ x. (x.0, x.1.now)) result (leaf_at word octets.now) }
+{
+    match word {
+        KeyWord::All => Ok((SearchTest::All, octets)),
+        KeyWord::System { flag, is_set } => Ok((SearchTest::System { flag, is_set }, octets)),
+        KeyWord::Keyword { is_set } => {
+            let (keyword, rest) = plain(alloc, Class::Atom, space(octets)?)?;
+            Ok((SearchTest::Keyword { keyword, is_set }, rest))
+        }
+        KeyWord::Place { place } => {
+            let (text, rest) = text(alloc, Class::Astring, space(octets)?)?;
+            Ok((SearchTest::Holds { place, text }, rest))
+        }
+        KeyWord::Header => {
+            let (name, rest) = text(alloc, Class::Astring, space(octets)?)?;
+            let (text, rest) = text(alloc, Class::Astring, space(rest)?)?;
+            Ok((SearchTest::Header { name, text }, rest))
+        }
+        KeyWord::Larger => {
+            let (octets, rest) = number(space(octets)?, GREATEST)?;
+            Ok((SearchTest::Larger { octets }, rest))
+        }
+        KeyWord::Smaller => {
+            let (octets, rest) = number(space(octets)?, GREATEST)?;
+            Ok((SearchTest::Smaller { octets }, rest))
+        }
+        KeyWord::ModSeq => {
+            let (value, rest) = modseq(space(octets)?)?;
+            Ok((SearchTest::ModSeq { value }, rest))
+        }
+        KeyWord::Uid => {
+            let (uids, rest) = set(alloc, space(octets)?)?;
+            Ok((SearchTest::Uids { uids }, rest))
+        }
+        KeyWord::Not => Err(ParseFault::BadSyntax),
+        KeyWord::Or => Err(ParseFault::BadSyntax),
+    }
+}
+
+/// A mod-sequence. An entry's name in front of it (RFC 7162, section 3.1.5) is a form that this server leaves out.
+fn modseq(octets: &[u8]) -> Result<(u64, &[u8]), ParseFault>
+    ensures { Gives (λ x. (x.0, x.1.now)) result (number_at 9223372036854775807 octets.now) }
+{
+    match octets {
+        [] => Err(ParseFault::BadSyntax),
+        [first, ..] => match *first {
+            b'"' => Err(ParseFault::NotInProfile),
+            _ => number(octets, GREATEST),
+        },
+    }
+}

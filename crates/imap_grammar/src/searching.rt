@@ -1,0 +1,136 @@
+ghost use Rattle.std.specs.Prelude.{◌≡◌};
+ghost use Rattle.imap_grammar.specs.KeyReading.{charset_at, charset_name_at, is_charset, maybe_options_at, returned_at, returned_group_at, search_at};
+ghost use Rattle.imap_grammar.specs.KeyWords.{option_word, search_options};
+ghost use Rattle.imap_grammar.specs.Reading.{Gives, named_at};
+
+use crate::class::Class;
+use crate::command::Command;
+use crate::fault::ParseFault;
+use crate::keys::keys;
+use crate::listed::{Element, listed};
+use crate::many::Many;
+use crate::modifier::left_out;
+use crate::scan::{skip, space, span};
+use crate::search::SearchOption;
+use crate::text::text;
+use crate::word::find;
+use std::alloc::Global;
+
+/// How deep NOT, OR and parentheses may stand in one another.
+const MAX_LEVELS: usize = 64;
+
+const SEARCH_OPTIONS: [SearchOption; 4] = [
+    SearchOption::Min,
+    SearchOption::Max,
+    SearchOption::All,
+    SearchOption::Count,
+];
+
+/// The arguments of SEARCH (RFC 9051, section 6.4.4).
+pub fn search(alloc: Global, by_uid: bool, octets: &[u8]) -> Result<(Command, &[u8]), ParseFault>
+    ensures { Gives (λ x. (x.0, x.1.now)) result (search_at by_uid octets.now) }
+{
+    let (options, rest) = returned(alloc, space(octets)?)?;
+    let rest = charset(alloc, rest)?;
+    let (steps, rest) = keys(alloc, MAX_LEVELS + 1, rest)?;
+    Ok((
+        Command::Search {
+            by_uid,
+            options: Many::new(options),
+            steps: Many::new(steps),
+        },
+        rest,
+    ))
+}
+
+/// RETURN with its options and a space, or nothing.
+fn returned(alloc: Global, octets: &[u8]) -> Result<(Vec<SearchOption>, &[u8]), ParseFault>
+    ensures { Gives (λ x. (x.0.items, x.1.now)) result (returned_at octets.now) }
+{
+    let (letters, rest) = span(Class::Item, octets);
+    if !letters.eq_ignore_ascii_case(b"RETURN") {
+        return Ok((Vec::new(alloc), octets));
+    }
+    returned_group(alloc, rest)
+}
+
+fn returned_group(alloc: Global, octets: &[u8]) -> Result<(Vec<SearchOption>, &[u8]), ParseFault>
+    ensures { Gives (λ x. (x.0.items, x.1.now)) result (returned_group_at octets.now) }
+{
+    let rest = skip(space(octets)?, b"(")?;
+    let (options, rest) = maybe_options(alloc, rest)?;
+    let rest = skip(rest, b")")?;
+    let rest = space(rest)?;
+    Ok((options, rest))
+}
+
+fn maybe_options(alloc: Global, octets: &[u8]) -> Result<(Vec<SearchOption>, &[u8]), ParseFault>
+    ensures { Gives (λ x. (x.0.items, x.1.now)) result (maybe_options_at octets.now) }
+{
+    match octets {
+        [] => Err(ParseFault::BadSyntax),
+        [first, ..] => {
+            if *first == b')' {
+                return Ok((Vec::new(alloc), octets));
+            }
+            listed::<Options>(alloc, b' ', octets)
+        }
+    }
+}
+
+/// Reads options.
+struct Options;
+
+impl Element for Options {
+    type Value = SearchOption;
+
+    ghost use Rattle.imap_grammar.specs.KeyWords.{option_word, search_options};
+    ghost use Rattle.imap_grammar.specs.Reading.{named_at};
+
+    ghost read_at = { named_at option_word search_options };
+
+    fn read(_alloc: Global, octets: &[u8]) -> Result<(SearchOption, &[u8]), ParseFault> {
+        search_option(octets)
+    }
+}
+
+/// An option. SAVE (RFC 9051, section 6.4.4.1) is one that this server leaves out.
+fn search_option(octets: &[u8]) -> Result<(SearchOption, &[u8]), ParseFault>
+    ensures { Gives (λ x. (x.0, x.1.now)) result (named_at option_word search_options octets.now) }
+{
+    let (letters, rest) = span(Class::Item, octets);
+    match find(&SEARCH_OPTIONS, letters) {
+        Some(option) => Ok((option, rest)),
+        None => Err(left_out(octets, &[b"SAVE"])),
+    }
+}
+
+/// What stands behind CHARSET, its name and a space, or the octets themselves.
+fn charset(alloc: Global, octets: &[u8]) -> Result<&[u8], ParseFault>
+    ensures { Gives (λ rest. rest.now) result (charset_at octets.now) }
+{
+    let (letters, rest) = span(Class::Item, octets);
+    if !letters.eq_ignore_ascii_case(b"CHARSET") {
+        return Ok(octets);
+    }
+    charset_name(alloc, rest)
+}
+
+/// A charset's name. Others than UTF-8 and US-ASCII are left out.
+fn charset_name(alloc: Global, octets: &[u8]) -> Result<&[u8], ParseFault>
+    ensures { Gives (λ rest. rest.now) result (charset_name_at octets.now) }
+{
+    let (name, rest) = text(alloc, Class::Astring, space(octets)?)?;
+    let is_known = is_charset(name.as_bytes());
+    let rest = space(rest)?;
+    if !is_known {
+        return Err(ParseFault::NotInProfile);
+    }
+    Ok(rest)
+}
+
+fn is_charset(name: &[u8]) -> bool
+    ensures { result ≡ is_charset name.now }
+{
+    name.eq_ignore_ascii_case(b"UTF-8") || name.eq_ignore_ascii_case(b"US-ASCII")
+}
