@@ -7,6 +7,8 @@ mod program;
 mod replay;
 mod serve;
 mod stage;
+#[cfg(test)]
+mod tests;
 mod transcript;
 
 use std::process::ExitCode;
