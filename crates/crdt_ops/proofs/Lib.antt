@@ -5,4 +5,6 @@ pub mod SetLemmas
 pub mod Presence
 pub mod FieldLemmas
 pub mod PartLemmas
+pub mod ListLemmas
+pub mod FlagLemmas
 pub mod ReadLemmas

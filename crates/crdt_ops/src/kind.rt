@@ -135,7 +135,7 @@ impl Kind {
                     folder: other,
                     old: other_old,
                 },
-            ) => { folder.same(other) && old == other_old }
+            ) => folder.same(other) && old == other_old,
             (
                 Kind::Store {
                     folder,

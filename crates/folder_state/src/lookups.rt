@@ -118,10 +118,10 @@ pub fn all_ids(
 ) -> Result<Ids, AllocError>
     ensures { IfOk result (λ ids. ids ≡ in_order id_order (filter_map (folder_tag_of folder.now) tags.now ++ filter_map (message_tag_of folder.now) messages.now)) }
 {
-    let mut ids = Ids::none(alloc);
-    place_tag_ids(&mut ids, tags, folder)?;
-    place_message_ids(&mut ids, messages, folder)?;
-    Ok(ids)
+    let mut all = Ids::none(alloc);
+    place_tag_ids(&mut all, tags, folder)?;
+    place_message_ids(&mut all, messages, folder)?;
+    Ok(all)
 }
 
 /// Puts the ids of the folder's folder tags in their places.
