@@ -12,3 +12,4 @@ mod search;
 
 pub use answers::{Arrival, DeliverFault, Delivered, Drained, IssueFault};
 pub use inbox::{HELD_LIMIT, Inbox};
+pub use search::find_in;

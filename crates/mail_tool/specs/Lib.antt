@@ -1,3 +1,4 @@
+pub mod Deliveries
 pub mod Endings
 pub mod Faults
 pub mod Lines

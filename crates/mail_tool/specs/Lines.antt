@@ -1,4 +1,6 @@
-use Rattle.std.specs.Prelude.{◌≡◌, ◌≢◌, ◌⊎◌, ℕ, ◌++◌, List, [], ◌∷◌, Option, Some, None, IsSome, IsNone, Ok, slice_get, slice_set}
+use Rattle.std.specs.Prelude.{◌≡◌, ◌≢◌, ◌⊎◌, ℕ, ◌++◌, List, [], ◌∷◌, Option, Some, None, IsSome, IsNone, Ok, drop, length, slice_get, slice_set}
+use Rattle.crdt_ops.specs.Form.{IsSpelled}
+use Rattle.crdt_ops.specs.declared.op.Op.{Op}
 use Rattle.imap_lex.specs.Reading.{goes_on, start}
 use Rattle.imap_lex.specs.declared.fault.Fault.TheVariants as faults
 use Rattle.imap_print.specs.Printed.{printed}
@@ -11,6 +13,7 @@ use Rattle.mail_script.specs.Transcript.{transcript_line}
 use Rattle.mail_script.specs.declared.script.ScriptLine.{ScriptLine}
 use Rattle.mail_script.specs.declared.script.ScriptLine.TheVariants.{Blank, Node, Now, Open, Line, Send, Close, Show, Deliver, Forge, Drain}
 use Rattle.mail_script.specs.declared.transcript.Speaker.TheVariants.{Server}
+use Rattle.mail_tool.specs.Deliveries.{DeliversTo, DrainsAt, ForgesAt, Issued}
 use Rattle.mail_tool.specs.Stage.{Scene, replica_place, session_place}
 use Rattle.mail_tool.specs.Transcript.{transcript}
 use Rattle.mail_tool.specs.declared.stage.Connection.{Connection}
@@ -30,7 +33,7 @@ crlf = 13 ∷ 10 ∷ []
 
 -- A replica of this name that has received nothing.
 abbrev pub new_replica : ℕ → Replica
-new_replica name = record { name = name; node = record { replica = name; applied = []; held = []; sessions = [] } }
+new_replica name = record { name = name; node = record { replica = name; applied = []; held = []; sessions = [] }; issued = [] }
 
 -- A replica opens a session and greets, or says that it has no room for one more. The session has ended then.
 abbrev pub Begins : NodeState → Answer → NodeState → Option Connection → Type 0
@@ -66,10 +69,18 @@ pub record Talking (scene : Scene) (name : List ℕ) : Type 0 where
   pub replica_is : slice_get scene.replicas at ≡ Some replica
   pub connection_is : session.connection ≡ Some connection
 
+-- The operations that a node applied behind these.
+abbrev pub applied_behind : NodeState → NodeState → List Op
+applied_behind old new = drop (length old.applied) new.applied
+
+-- The replica after a conversation: what its node applied meanwhile it issued.
+abbrev pub after_talk : Replica → NodeState → Replica
+after_talk old node = record old { node = node; issued = old.issued ++ applied_behind old.node node }
+
 -- The scene with this node and this connection in place of those of a session.
 abbrev pub with_talk : (scene : Scene) (name : List ℕ) → Talking scene name → NodeState → Option Connection → Scene
 with_talk scene name t node left =
-    record scene { replicas = slice_set scene.replicas t.at (record t.replica { node = node }); sessions = slice_set scene.sessions t.place (record t.session { connection = left }) }
+    record scene { replicas = slice_set scene.replicas t.at (after_talk t.replica node); sessions = slice_set scene.sessions t.place (record t.session { connection = left }) }
 
 -- The session can be fed, and goes on.
 abbrev pub IsTalking : Scene → List ℕ → Type 0
@@ -83,7 +94,11 @@ Feeds old name octets more new =
 
 -- A session is closed.
 abbrev pub Closes : Scene → List ℕ → Scene → Type 0
-Closes old name new = (t : Talking old name) × (new ≡ with_talk old name t (closed t.replica.node t.connection.number) None)
+Closes old name new =
+    (t : Talking old name) × (new ≡ record old {
+      replicas = slice_set old.replicas t.at (record t.replica { node = closed t.replica.node t.connection.number });
+      sessions = slice_set old.sessions t.place (record t.session { connection = None });
+    })
 
 -- A replica opens a session, and its first answer is printed.
 abbrev pub OpensAt : Scene → ℕ → List ℕ → List ℕ → Scene → Type 0
@@ -112,12 +127,12 @@ Serves old (Line name text) more new = Feeds old name (text ++ crlf) more new
 Serves old (Send name text) more new = Feeds old name text more new
 Serves old (Close name) more new = (more ≡ []) × Closes old name new
 Serves old (Show replica) more new = Shows old replica more × (new ≡ old)
-Serves old (Deliver id replica) more new = ⊥
-Serves old (Forge replica operation) more new = ⊥
-Serves old (Drain replica) more new = ⊥
+Serves old (Deliver id replica) more new = DeliversTo old id replica more new
+Serves old (Forge replica operation) more new = ForgesAt old replica operation more new
+Serves old (Drain replica) more new = DrainsAt old replica more new
 
--- A line that can't be served where it stands: it names what isn't declared, or declares what is, or a session that has
--- ended, or no such line is served yet.
+-- A line that can't be served where it stands: it names what isn't declared, or declares what is, or names a session that
+-- has ended or an operation that was never issued, or its text is none of an operation's.
 abbrev pub IsMisplaced : Scene → ScriptLine → Type 0
 IsMisplaced scene Blank = ⊥
 IsMisplaced scene (Node replica) = IsSome (replica_place scene.replicas replica)
@@ -127,9 +142,9 @@ IsMisplaced scene (Line name text) = IsTalking scene name → ⊥
 IsMisplaced scene (Send name text) = IsTalking scene name → ⊥
 IsMisplaced scene (Close name) = IsTalking scene name → ⊥
 IsMisplaced scene (Show replica) = IsNone (replica_place scene.replicas replica)
-IsMisplaced scene (Deliver id replica) = Unit {0}
-IsMisplaced scene (Forge replica operation) = Unit {0}
-IsMisplaced scene (Drain replica) = Unit {0}
+IsMisplaced scene (Deliver id replica) = IsNone (replica_place scene.replicas replica) ⊎ ((op : Op) → Issued scene id op → ⊥)
+IsMisplaced scene (Forge replica operation) = IsNone (replica_place scene.replicas replica) ⊎ ((op : Op) → IsSpelled op operation → ⊥)
+IsMisplaced scene (Drain replica) = IsNone (replica_place scene.replicas replica)
 
 -- A line that isn't served: it says nothing that could be, where it stands.
 abbrev pub IsBad : Scene → List ℕ → Type 0

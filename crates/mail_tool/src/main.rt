@@ -2,6 +2,7 @@
 #![tactic(auto)]
 
 mod arguments;
+mod deliveries;
 mod ending;
 mod program;
 mod replay;

@@ -17,7 +17,8 @@ ghost use Rattle.mail_tool.specs.declared.serve.ServeFault.TheVariants.{BadScrip
 ghost use Rattle.world_core.specs.Nodes.{IsGoing, closed};
 ghost use Rattle.world_core.specs.declared.turn.Turn.{Turn as OneTurn};
 
-use crate::stage::{Connection, Replica, Session, Stage, replica_place, session_place};
+use crate::deliveries::{deliver, drain, forge};
+use crate::stage::{Connection, IssuedOps, Replica, Session, Stage, replica_place, session_place};
 use crate::transcript::{write_answer, write_turns};
 use imap_lex::{Fault, Framer, Limits};
 use imap_print::{Answer, ByeReason, Login};
@@ -120,9 +121,11 @@ fn serve(
         }
         ScriptLine::Close { session } => close(stage, &session),
         ScriptLine::Show { replica } => show(alloc, stage, replica, printed),
-        ScriptLine::Deliver { .. } | ScriptLine::Forge { .. } | ScriptLine::Drain { .. } => {
-            Err(ServeFault::BadScript)
+        ScriptLine::Deliver { id, replica } => deliver(alloc, stage, id, replica, printed),
+        ScriptLine::Forge { replica, operation } => {
+            forge(alloc, stage, replica, operation.as_bytes(), printed)
         }
+        ScriptLine::Drain { replica } => drain(alloc, stage, replica, printed),
     }
 }
 
@@ -145,7 +148,8 @@ fn declare(alloc: Global, stage: &mut Stage, name: ReplicaId) -> Result<(), Serv
         return Err(ServeFault::BadScript);
     }
     let node = Node::new(alloc, name)?;
-    stage.replicas.push(Replica { name, node })?;
+    let issued = IssuedOps::new(alloc);
+    stage.replicas.push(Replica { name, node, issued })?;
     Ok(())
 }
 
@@ -246,8 +250,18 @@ fn feed(
     let Some(connection) = session.connection.take() else {
         return Err(ServeFault::BadScript);
     };
-    let node = &mut stage.replicas[at].node;
-    session.connection = converse(alloc, node, connection, stage.moment, octets, name, printed)?;
+    let replica = &mut stage.replicas[at];
+    let applied = replica.node.op_list().len();
+    session.connection = converse(
+        alloc,
+        &mut replica.node,
+        connection,
+        stage.moment,
+        octets,
+        name,
+        printed,
+    )?;
+    replica.issued.add_behind(alloc, replica.node.op_list(), applied)?;
     Ok(())
 }
 

@@ -1,15 +1,79 @@
 //! What a script has declared so far.
 
-ghost use Rattle.std.specs.Prelude.{◌≡◌, ◌<◌, [], IfSome, length};
+ghost use Rattle.std.specs.Prelude.{◌≡◌, ◌<◌, ◌++◌, [], IfSome, MatchOption, OnOk, drop, length};
 ghost use Rattle.std.specs.Str.{bytes_eq};
+ghost use Rattle.crdt_ops.specs.declared.op.Op.{Op as Operation};
+ghost use Rattle.merge_laws.specs.Orders.{HasId, IsIn};
 ghost use Rattle.mail_tool.specs.Stage.{replica_place, scene_of, session_place};
 
+use causal_inbox::find_in;
+use crdt_ops::SoundOp;
 use imap_lex::Framer;
 use imap_types::Moment;
 use mail_script::SessionName;
-use std::alloc::Global;
-use tags_clocks::ReplicaId;
+use merge_laws::Caused;
+use std::alloc::{AllocError, Global};
+use std::marker::Model;
+use tags_clocks::{OpId, ReplicaId};
 use world_core::{Node, SessionNo};
+
+/// The operations that the sessions of a replica issued, in their order, as copies of those that it applied. Forged ones that
+/// bear its name aren't among them.
+#[derive(Drop)]
+pub struct IssuedOps {
+    ops: Vec<SoundOp>,
+}
+
+impl Model for IssuedOps {
+    ghost use Rattle.std.specs.Prelude.{List};
+    ghost use Rattle.crdt_ops.specs.declared.op.Op.{Op};
+
+    ghost Value = { List Op };
+
+    ghost view = { λ i. i.ops.items };
+}
+
+impl IssuedOps {
+    /// None so far.
+    pub fn new(alloc: Global) -> IssuedOps
+        ensures { result ≡ [] }
+    {
+        IssuedOps {
+            ops: Vec::new(alloc),
+        }
+    }
+
+    /// The operation with this id, if it was issued.
+    pub fn find(&self, id: OpId) -> Option<&SoundOp>
+        ensures { MatchOption result (¬ HasId (λ (o : Operation). o.id) self.now id) (λ found. IsIn found.now self.now × (found.now.id ≡ id)) }
+    {
+        find_in(&self.ops, id)
+    }
+
+    /// Adds those of these operations that stand behind the first ones, which are so many. An error leaves some added.
+    pub fn add_behind(
+        &mut self,
+        alloc: Global,
+        ops: &[SoundOp],
+        first: usize,
+    ) -> Result<(), AllocError>
+        ensures { OnOk result (self.new ≡ self.old ++ drop first ops.now) }
+    {
+        match ops.get(first..) {
+            Some(behind) => self.add(alloc, behind),
+            None => Ok(()),
+        }
+    }
+
+    fn add(&mut self, alloc: Global, ops: &[SoundOp]) -> Result<(), AllocError>
+        ensures { OnOk result (self.new ≡ self.old ++ ops.now) }
+    {
+        for op in ops {
+            self.ops.push(op.copy(alloc)?)?;
+        }
+        Ok(())
+    }
+}
 
 /// A replica that the script declared.
 #[derive(Drop)]
@@ -18,6 +82,8 @@ pub struct Replica {
     pub name: ReplicaId,
     /// The replica itself.
     pub node: Node,
+    /// What its sessions issued.
+    pub issued: IssuedOps,
 }
 
 /// An open session's connection with its replica.

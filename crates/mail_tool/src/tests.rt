@@ -1,6 +1,9 @@
+mod cuts;
+mod deliveries;
 mod devices;
 mod hostile;
 mod lines;
+mod many;
 mod rows;
 mod words;
 

@@ -1,3 +1,4 @@
+mod AmidLemmas
 pub mod DeleteLemmas
 pub mod FaultLemmas
 pub mod StreamLemmas

@@ -26,10 +26,10 @@ converses_on old mid new session (item ∷ items) more turns rest going c d = (
 )
 
 -- the items of a piece and of what comes then are those of both
-items_joined : (limits : Limits) (state : Result Progress Fault) (xs ys : List ℕ) → (goes_on limits state (xs ++ ys)).0 ≡ (goes_on limits state xs).0 ++ (goes_on limits (goes_on limits state xs).1 ys).0
+pub items_joined : (limits : Limits) (state : Result Progress Fault) (xs ys : List ℕ) → (goes_on limits state (xs ++ ys)).0 ≡ (goes_on limits state xs).0 ++ (goes_on limits (goes_on limits state xs).1 ys).0
 items_joined limits state xs ys = ap (λ (c : Cut). c.0) (goes_on-append limits state xs ys)
 
-state_joined : (limits : Limits) (state : Result Progress Fault) (xs ys : List ℕ) → (goes_on limits state (xs ++ ys)).1 ≡ (goes_on limits (goes_on limits state xs).1 ys).1
+pub state_joined : (limits : Limits) (state : Result Progress Fault) (xs ys : List ℕ) → (goes_on limits state (xs ++ ys)).1 ≡ (goes_on limits (goes_on limits state xs).1 ys).1
 state_joined limits state xs ys = ap (λ (c : Cut). c.1) (goes_on-append limits state xs ys)
 
 -- piece by piece it is the conversation over the items of the whole

@@ -1,4 +1,5 @@
 pub mod Conversation
+pub mod Deliveries
 pub mod Dumps
 pub mod FaultAnswers
 pub mod Inputs

@@ -9,7 +9,7 @@ ghost use Rattle.imap_lex.specs.declared.item.Item.{Item as Given};
 ghost use Rattle.imap_lex.specs.declared.limits.Limits.{Limits as Bounds};
 ghost use Rattle.world_core.specs.Conversation.{Converses};
 ghost use Rattle.world_core.specs.Nodes.{IsGoing, NodeState};
-ghost use Rattle.world_core.specs.Streams.{TalksOn};
+ghost use Rattle.world_core.specs.Streams.{ConversesAmid, TalksAmid, TalksOn};
 ghost use Rattle.world_core.specs.Talks.{EndsTalk, Talks};
 ghost use Rattle.world_core.specs.declared.turn.TalkFaultKind.{TalkFaultKind as Kind};
 ghost use Rattle.world_core.specs.declared.turn.Turn.{Turn as OneTurn};
@@ -34,4 +34,17 @@ pub fn commands_are_answered()
         → TalksOn old session limits (Ok start) pieces turns new end
         → AreFrames limits (joined pieces) items rest
         → Converses old session items turns new }
+{}
+
+/// Operations of other replicas may come to the node between the pieces of a session's input: what calls of `talk` make of
+/// the pieces is the conversation over the items of all octets, each answered by the operations applied until then.
+pub fn deliveries_come_between()
+    ensures going { (old new : NodeState) (session : ℕ) (limits : Bounds) (state end : Result Begun Why) (pieces : List (List ℕ)) (turns : List OneTurn)
+        → TalksAmid old session limits state pieces turns new end
+        → ConversesAmid old session (goes_on limits state (joined pieces)).0 turns new × (end ≡ (goes_on limits state (joined pieces)).1) }
+    ensures last { (old mid new : NodeState) (session : ℕ) (limits : Bounds) (state between end : Result Begun Why) (pieces : List (List ℕ)) (piece : List ℕ) (turns more : List OneTurn)
+        → IsGoing mid session
+        → TalksAmid old session limits state pieces turns mid between
+        → Talks mid session (goes_on limits between piece) more new end
+        → ConversesAmid old session (goes_on limits state (joined pieces ++ piece)).0 (turns ++ more) new }
 {}

@@ -1,6 +1,8 @@
 //! A replica with its sessions.
 
-ghost use Rattle.std.specs.Prelude.{false, ◌≡◌, ◌⊎◌, ◌↔◌, ◌<◌, ◌∷◌, [], IfOk, OnErr, IsTrue, vec_capacity, vec_len};
+ghost use Rattle.std.specs.Prelude.{false, ◌≡◌, ◌≢◌, ◌⊎◌, ◌↔◌, ℕ, ◌<◌, ◌≤◌, ◌∷◌, [], Err, IfOk, IsNone, MatchResult, OnErr, IsTrue, vec_capacity, vec_len};
+ghost use Rattle.causal_inbox.specs.Seen.{IsClockOf, held_limit, uncovered};
+ghost use Rattle.crdt_ops.specs.declared.op.Op.{Op as Operation};
 ghost use Rattle.imap_grammar.specs.declared.command.Command.TheVariants.{Create, Delete, ListNames, Logout};
 ghost use Rattle.imap_print.specs.declared.words.Refusal.TheVariants.{NoMemory};
 ghost use Rattle.imap_types.specs.Names.{inbox};
@@ -11,7 +13,8 @@ ghost use Rattle.world_core.specs.declared.reply.Reply.TheVariants.{Done as Done
 use crate::replica::{IssueFault, Replica};
 use crate::reply::{Answers, Issued, Reply};
 use crate::sessions::{OpenFault, SessionNo, SessionState, Sessions};
-use crdt_ops::Kind;
+use causal_inbox::{DeliverFault, Delivered, Drained};
+use crdt_ops::{Kind, SoundOp};
 use imap_grammar::{Command, Tagged};
 use imap_print::{Answer, ByeReason, CommandWord, MailboxState, Refusal};
 use imap_query::{ListEntry, list};
@@ -19,7 +22,7 @@ use imap_types::{Moment, Name, Octets};
 use merge_laws::Caused;
 use std::alloc::{AllocError, Global};
 use std::marker::Model;
-use tags_clocks::ReplicaId;
+use tags_clocks::{Clock, ReplicaId};
 
 /// A replica with its sessions. It answers from its own state alone.
 #[derive(Drop)]
@@ -37,9 +40,11 @@ impl Model for Node {
 }
 
 impl Node {
+    ghost use Rattle.world_core.specs.Deliveries.{Delivers, Drains, HoldsRipe, IsRefusedAt};
     ghost use Rattle.world_core.specs.Nodes.{IsGoing, closed};
     ghost use Rattle.world_core.specs.Responses.{Responds};
     ghost use Rattle.world_core.specs.Sessions.{IsOpen, Opens, session_at};
+    ghost use Rattle.world_core.specs.declared.sessions.OpenFault.TheVariants.{TooManySessions};
 
     /// A replica of this name that has received nothing, without sessions; `Err` where there is no memory for it.
     pub fn new(alloc: Global, replica: ReplicaId) -> Result<Node, AllocError>
@@ -65,9 +70,12 @@ impl Node {
         self.session(session).is_some()
     }
 
-    /// Opens an authenticated session, with the least number that isn't open. An error leaves the node as it was.
+    /// Opens an authenticated session, with the least number that isn't open: `TooManySessions` exactly where all numbers from
+    /// 1 to 1,024 are, unless memory is wanting. An error leaves the node as it was.
     pub fn open(&mut self) -> Result<SessionNo, OpenFault>
         ensures ok { IfOk result (λ session. Opens self.old.sessions session self.new.sessions) }
+        ensures full { result ≡ Err TooManySessions → (n : ℕ) → 0 < n → n ≤ 1024 → IsOpen self.old.sessions n }
+        ensures room { ((n : ℕ) × (0 < n) × (n ≤ 1024) × IsNone (session_at self.old.sessions n)) → result ≢ Err TooManySessions }
         ensures rest { self.new ≡ record self.old { sessions = self.new.sessions } }
         ensures err { OnErr result (self.new ≡ self.old) }
     {
@@ -80,6 +88,57 @@ impl Node {
         ensures { self.new ≡ closed self.old session }
     {
         self.sessions.set(session, None);
+    }
+
+    /// Receives an operation: applies it where its causes were all applied, with the held ones that waited for it, the least
+    /// id first; holds it where it is early; or has it already. No session changes. An error leaves the node as it was:
+    /// `Conflict` where another operation has its id, `HeldFull` for an early one where 65,536 are held, `NoMemory`.
+    ///
+    /// It looks through the operations received, and through those held once for each that it applies.
+    pub fn deliver(&mut self, alloc: Global, op: SoundOp) -> Result<Delivered, DeliverFault>
+        ensures answer { MatchResult result (λ d. Delivers self.old op d.arrival self.new) (λ e. IsRefusedAt self.old.applied self.old.held op e) }
+        ensures stalled { IfOk result (λ d. IsTrue d.stalled ↔ HoldsRipe self.new.applied self.new.held) }
+        ensures err { OnErr result (self.new ≡ self.old) }
+    {
+        self.replica.deliver(alloc, op)
+    }
+
+    /// Applies held operations whose causes were all applied, the least id first, until there is none or one is refused. No
+    /// session changes.
+    pub fn drain(&mut self, alloc: Global) -> Drained
+        ensures released { Drains self.old result.applied self.new }
+        ensures stalled { IsTrue result.stalled ↔ HoldsRipe self.new.applied self.new.held }
+        ensures at_most { result.applied ≤ held_limit }
+    {
+        self.replica.drain(alloc)
+    }
+
+    /// The operations applied, in their order.
+    pub fn op_list(&self) -> &[SoundOp]
+        ensures { result.now ≡ self.now.applied }
+    {
+        self.replica.applied()
+    }
+
+    /// The operations held until their causes come, by ascending ids.
+    pub fn held(&self) -> &[SoundOp]
+        ensures { result.now ≡ self.now.held }
+    {
+        self.replica.held()
+    }
+
+    /// The clock that counts the operations applied.
+    pub fn clock(&self) -> &Clock
+        ensures { IsClockOf (λ (o : Operation). o.id) self.now.applied result.now }
+    {
+        self.replica.clock()
+    }
+
+    /// Copies of the operations applied that the clock doesn't cover, in their order; `Err` where there is no memory for them.
+    pub fn ops_since(&self, alloc: Global, clock: &Clock) -> Result<Vec<SoundOp>, AllocError>
+        ensures { IfOk result (λ ops. ops.items ≡ uncovered (λ (o : Operation). o.id) clock.now self.now.applied) }
+    {
+        self.replica.ops_since(alloc, clock)
     }
 
     /// The replica's part of the node.

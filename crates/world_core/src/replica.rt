@@ -1,24 +1,28 @@
 //! A replica without its sessions: the operations that it received, and what they lead to.
 
-ghost use Rattle.std.specs.Prelude.{◌≡◌, ◌↔◌, ◌++◌, ◌∷◌, [], IfOk, OnOk, OnErr, IsTrue, Err, map};
-ghost use Rattle.causal_inbox.specs.Seen.{AreKept, IsClockOf};
-ghost use Rattle.crdt_ops.specs.Sets.{delete_set_of, folder_tags_of, folders_of};
+ghost use Rattle.std.specs.Prelude.{◌≡◌, ◌↔◌, ◌≤◌, ◌++◌, ◌∷◌, [], IfOk, OnOk, OnErr, IsTrue, Err, MatchResult};
+ghost use Rattle.causal_inbox.specs.Seen.{AreKept, IsClockOf, held_limit, uncovered};
+ghost use Rattle.crdt_ops.specs.Sets.{delete_set_of, folder_tags_of, folders_of, messages_of, subscribed_of, subscription_tags_of};
 ghost use Rattle.crdt_ops.specs.declared.op.Op.{Op as Operation};
 ghost use Rattle.folder_state.specs.Contents.{IsMadeBy};
 ghost use Rattle.folder_state.specs.Tables.{contents_of};
+ghost use Rattle.subs_state.specs.Subscriptions.{IsMadeBy as AreMadeBy};
+ghost use Rattle.subs_state.specs.Table.{subscriptions_of};
 ghost use Rattle.crdt_ops.specs.Sound.{CoversNamed, HasLawfulFlags, IsDeleteOfInbox, IsSound};
 ghost use Rattle.crdt_ops.specs.Tags.{name_of};
 ghost use Rattle.imap_types.specs.Names.{IsLawfulName};
 ghost use Rattle.merge_laws.specs.Orders.{IsCausal};
+ghost use Rattle.world_core.specs.Deliveries.{ArrivesAt, HoldsRipe, IsRefusedAt, Releases};
 ghost use Rattle.world_core.specs.Operations.{CanIssue, IsNext, IsThere, IsUsedUp};
 
-use causal_inbox::Inbox;
-use crdt_ops::{Ids, Kind, Op, SoundOp, check};
+use causal_inbox::{DeliverFault, Delivered, Drained, Inbox};
+use crdt_ops::{Ids, Kind, Message, Op, SoundOp, check};
 use folder_state::Folders;
 use imap_types::Name;
-use merge_laws::Unfollowed;
+use merge_laws::{Pair, Unfollowed};
 use std::alloc::{AllocError, Global};
 use std::marker::Model;
+use subs_state::Subs;
 use tags_clocks::{Clock, OpId, ReplicaId};
 use thiserror::Error;
 
@@ -37,7 +41,7 @@ pub enum IssueFault {
 #[derive(Drop)]
 pub struct Replica {
     id: ReplicaId,
-    inbox: Inbox<Folders, Unfollowed>,
+    inbox: Inbox<Pair<Folders, Subs>, Unfollowed>,
 }
 
 impl Model for Replica {
@@ -53,9 +57,13 @@ impl Replica {
     pub fn new(alloc: Global, id: ReplicaId) -> Result<Replica, AllocError>
         ensures { IfOk result (λ replica. replica ≡ record { replica = id; applied = []; held = [] }) }
     {
+        let value = Pair {
+            first: Folders::new(alloc),
+            second: Subs::new(alloc),
+        };
         Ok(Replica {
             id,
-            inbox: Inbox::new(alloc, Folders::new(alloc), Unfollowed)?,
+            inbox: Inbox::new(alloc, value, Unfollowed)?,
         })
     }
 
@@ -125,6 +133,41 @@ impl Replica {
         Ok(())
     }
 
+    /// Receives an operation: applies it and those that waited for it, or holds it where it is early. An error leaves the
+    /// replica as it was.
+    pub fn deliver(&mut self, alloc: Global, op: SoundOp) -> Result<Delivered, DeliverFault>
+        ensures answer { MatchResult result (λ d. ArrivesAt self.old.applied self.old.held op d.arrival self.new.applied self.new.held) (λ e. IsRefusedAt self.old.applied self.old.held op e) }
+        ensures stalled { IfOk result (λ d. IsTrue d.stalled ↔ HoldsRipe self.new.applied self.new.held) }
+        ensures replica { self.new.replica ≡ self.old.replica }
+        ensures err { OnErr result (self.new ≡ self.old) }
+    {
+        self.inbox.deliver(alloc, op)
+    }
+
+    /// Applies held operations whose causes were all applied, the least id first, until there is none or one is refused.
+    pub fn drain(&mut self, alloc: Global) -> Drained
+        ensures released { Releases self.old.applied self.old.held result.applied self.new.applied self.new.held }
+        ensures stalled { IsTrue result.stalled ↔ HoldsRipe self.new.applied self.new.held }
+        ensures at_most { result.applied ≤ held_limit }
+        ensures replica { self.new.replica ≡ self.old.replica }
+    {
+        self.inbox.drain(alloc)
+    }
+
+    /// The operations held, by ascending ids.
+    pub fn held(&self) -> &[SoundOp]
+        ensures { result.now ≡ self.now.held }
+    {
+        self.inbox.held()
+    }
+
+    /// Copies of the operations applied that the clock doesn't cover, in their order; `Err` where there is no memory for them.
+    pub fn ops_since(&self, alloc: Global, clock: &Clock) -> Result<Vec<SoundOp>, AllocError>
+        ensures { IfOk result (λ ops. ops.items ≡ uncovered (λ (o : Operation). o.id) clock.now self.now.applied) }
+    {
+        self.inbox.ops_since(alloc, clock)
+    }
+
     /// Whether the mailbox is there. INBOX always is; a name that isn't lawful never is.
     pub fn exists(&self, name: &Name) -> bool
         ensures { IsTrue result ↔ IsThere self.now.applied name.now }
@@ -155,11 +198,40 @@ impl Replica {
         self.folders_now().delete_set(alloc, name)
     }
 
+    /// The folder's messages, ascending by their ids; `Err` where there is no memory for them.
+    pub fn messages(&self, alloc: Global, name: &Name) -> Result<Vec<Message>, AllocError>
+        ensures { IfOk result (λ messages. messages.items ≡ messages_of self.now.applied name.now) }
+    {
+        self.folders_now().messages(alloc, name)
+    }
+
+    /// The names that are subscribed to, ascending, none twice; `Err` where there is no memory for them.
+    pub fn subscribed(&self, alloc: Global) -> Result<Vec<Name>, AllocError>
+        ensures { IfOk result (λ names. names.items ≡ subscribed_of self.now.applied) }
+    {
+        self.subs_now().names(alloc)
+    }
+
+    /// The ids of the name's present subscription tags, ascending; `Err` where there is no memory for them.
+    pub fn subscription_tags(&self, alloc: Global, name: &Name) -> Result<Ids, AllocError>
+        ensures { IfOk result (λ ids. ids ≡ subscription_tags_of self.now.applied name.now) }
+    {
+        self.subs_now().tags(alloc, name)
+    }
+
     /// The folders to which the operations applied led.
     fn folders_now(&self) -> &Folders
         ensures { IsMadeBy (contents_of result.now) self.now.applied }
     {
         let _list = self.inbox.op_list();
-        self.inbox.value()
+        &self.inbox.value().first
+    }
+
+    /// The subscriptions to which the operations applied led.
+    fn subs_now(&self) -> &Subs
+        ensures { AreMadeBy (subscriptions_of result.now) self.now.applied }
+    {
+        let _list = self.inbox.op_list();
+        &self.inbox.value().second
     }
 }

@@ -146,7 +146,7 @@ fn serves_lines(rt: HostRuntime) -> Result<(), Fail> {
 }
 
 /// Lines that can't be served behind a replica and a session.
-const BAD: [&str; 49] = [
+const BAD: [&str; 85] = [
     "hello",
     " node 2",
     "NODE 2",
@@ -195,7 +195,43 @@ const BAD: [&str; 49] = [
     "settle",
     "agree 1 1",
     "deliver 1:1 1",
-    "drain 1",
+    "deliver 2:1 1",
+    "deliver 1:1 2",
+    "deliver 0:1 1",
+    "deliver 1:0 1",
+    "deliver 1:01 1",
+    "deliver 1:1",
+    "deliver 1:1 ",
+    "deliver 1 1",
+    "deliver 1:4294967296 1",
+    "deliver 65536:1 1",
+    "forge",
+    "forge 1",
+    "forge 1 ",
+    "forge 2 2:1 - create a",
+    "forge 1 2:1 - create",
+    "forge 1 2:1 - create a ",
+    "forge 1 2:1 - create ~41",
+    "forge 1 2:1  create a",
+    "forge 1 2:1 0 create a",
+    "forge 1 2:1 1=0 create a",
+    "forge 1 2:1 2=1,1=1 create a",
+    "forge 1 2:01 - create a",
+    "forge 1 2:1 - Create a",
+    "forge 1 2:1 - rename a b",
+    "forge 1 2:1 - delete a",
+    "forge 1 2:1 - delete a 1:2,1:1",
+    "forge 1 2:1 - append INBOX (\\Seen \\Answered) \"01-Jan-1970 00:00:00 +0000\" =x",
+    "forge 1 2:1 - append INBOX (A) \"01-Jan-1970 00:00:00 +0000\" =x",
+    "forge 1 2:1 - append INBOX () \" 1-Jan-1970 00:00:00 +0000\" =x",
+    "forge 1 2:1 - append INBOX () \"30-Feb-1970 00:00:00 +0000\" =x",
+    "forge 1 2:1 - append INBOX () \"01-Jan-1970 00:00:00 +0000\" x",
+    "forge 1 2:1 - store INBOX () 1:1",
+    "forge 1 2:1 - expunge INBOX -",
+    "drain",
+    "drain 2",
+    "drain 01",
+    "drain 1 ",
 ];
 
 #[test]

@@ -11,12 +11,12 @@ returns-clause-ok c =
       place = c.in-Some.place;
       session = c.index_mut-session.result.now;
       at = c.in-Some-replica_place.at;
-      replica = c.index_mut.result.now;
+      replica = c.index_mut-replica.result.now;
       connection = c.in-Some-take.connection;
       session_stands = search rules;
       session_is = stands_at _ _ _ _ c.deref.ensures.value c.in-Some.ensures.within c.index_mut-session.ensures.value;
       replica_stands = search rules;
-      replica_is = stands_at _ _ _ _ c.deref-2.ensures.value c.in-Some-replica_place.ensures.within c.index_mut.ensures.value;
+      replica_is = stands_at _ _ _ _ c.deref-2.ensures.value c.in-Some-replica_place.ensures.within c.index_mut-replica.ensures.value;
       connection_is = search rules;
     } in
     let told = c.in_ok-session.ensures.ok in

@@ -1,12 +1,12 @@
 use Rattle.std.proofs.Common.{◌≡◌, ◌+◌, ◌<◌, List, [], ◌∷◌, ◌++◌, length, take, ap, sym, ◌∙◌, arith}
 use Rattle.std.proofs.lemmas.List.{flat_map_more, take_more}
 use Rattle.std.specs.List.{flat_map}
-use Rattle.world_core.specs.Dumps.{folder_line}
+use Rattle.world_core.specs.Dumps.{folder_lines}
 use Rattle.world_core.proofs.dump.push_folders.Goals as goal
 
 pub loop-folder-preserved : goal.loop-folder-preserved
 loop-folder-preserved c =
-    let line = folder_line c.args.replica.now.applied in
+    let line = folder_lines c.args.replica.now.applied in
     let i = c.loop-folder.folder-index in
     let folders = c.deref-folder-items.result.now in
     let folder = c.folder-item.result in
