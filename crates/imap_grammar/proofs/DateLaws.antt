@@ -7,7 +7,7 @@ use Rattle.imap_types.specs.DateTimes.{is_digit, month_of}
 use Rattle.imap_types.specs.declared.day.Day.{Day}
 use Rattle.imap_grammar.specs.Dates.{date, date_text, day_of_month, digits_to, hyphen, is_date, month_name, quote, year_number}
 use Rattle.imap_grammar.specs.Faults.{begins_in}
-use Rattle.imap_grammar.specs.Languages.{◌⌢◌, exactly}
+use Rattle.imap_grammar.specs.Languages.{◌⌢◌}
 use Rattle.imap_grammar.specs.Reading.{◌>>=◌, after, before, date_at, date_parts_at, date_text_at, digits_at, hyphened, month_name_at, octets_at, run_at}
 use Rattle.imap_grammar.specs.Strings.{begins, is_in, number_of, run}
 use Rattle.imap_grammar.specs.declared.class.Class.TheVariants.{Digit}

@@ -26,9 +26,11 @@ month_name month text = (length text ≡ 3) × (month_of text ≡ month)
 abbrev pub year_number : ℕ → List ℕ → Type 0
 year_number = digits_to 4 4 9999
 
+-- One `-`.
 abbrev pub hyphen : List ℕ → Type 0
 hyphen = exactly (45 ∷ [])
 
+-- One `"` (RFC 9051, section 9, DQUOTE).
 abbrev pub quote : List ℕ → Type 0
 quote = exactly (34 ∷ [])
 
