@@ -1,8 +1,7 @@
 -- The keys of SEARCH.
-use Rattle.std.proofs.Common.{◌≡◌, ◌⊎◌, ℕ, zero, suc, Bool, true, false, cond, ◌||◌, codes, List, [], ◌∷◌, ◌++◌, Option, Some, None, ap, sym, ◌∙◌, refl, subst, arith, eqb, inl, inr, length}
-use Rattle.std.proofs.lemmas.Bool.{and_parts, cases_Bool, eqb-true}
+use Rattle.std.proofs.Common.{◌≡◌, ℕ, zero, suc, true, false, cond, ◌||◌, codes, List, [], ◌∷◌, ◌++◌, Option, Some, None, ap, sym, ◌∙◌, refl, subst, arith, eqb, inl, inr, length}
+use Rattle.std.proofs.lemmas.Bool.{and_parts, eqb-true}
 use Rattle.std.proofs.lemmas.Bool.Decides.{nat_tests}
-use Rattle.std.proofs.lemmas.Slice.Eq.{bytes_eq-Decides}
 use Rattle.std.specs.Char.{to_ascii_lowercase}
 use Rattle.std.specs.List.{list_all}
 use Rattle.std.specs.Str.{bytes_eq}
@@ -15,11 +14,11 @@ use Rattle.imap_grammar.specs.Dates.{date}
 use Rattle.imap_grammar.specs.Faults.{begins_in}
 use Rattle.imap_grammar.specs.KeyReading.{below_at, keys_at, leaf_at, level_at, more_keys_at, numbers_at, or_more, worded_at}
 use Rattle.imap_grammar.specs.KeyWords.{key_word, key_words}
-use Rattle.imap_grammar.specs.Keys.{all_of, and_all, key_over, key_within, search_keys, test}
+use Rattle.imap_grammar.specs.Keys.{all_of, and_all, key_over, key_within, test}
 use Rattle.imap_grammar.specs.Languages.{◌⌢◌, exactly, never, sp, word, in_parens, listed}
-use Rattle.imap_grammar.specs.Reading.{◌>>=◌, after, and_more, before, both, date_at, is_nil, listed_at, made, more_at, named_at, next_at, number_at, parens_at, run_at, set_at, spaced, span, text_at}
+use Rattle.imap_grammar.specs.Reading.{◌>>=◌, after, and_more, before, both, date_at, is_nil, listed_at, made, more_at, named_at, next_at, number_at, run_at, set_at, spaced, text_at}
 use Rattle.imap_grammar.specs.Sets.{bound, range, sequence_set}
-use Rattle.imap_grammar.specs.Strings.{astring, begins, is_in, number_to, nz, run}
+use Rattle.imap_grammar.specs.Strings.{astring, begins, is_in, number_to, run}
 use Rattle.imap_grammar.specs.Words.{named}
 use Rattle.imap_grammar.specs.declared.class.Class.TheVariants.{Astring, Atom, Digit, Item}
 use Rattle.imap_grammar.specs.declared.flags.SystemFlag.TheVariants as system
@@ -32,12 +31,12 @@ use Rattle.imap_grammar.specs.declared.search.SearchTest.{SearchTest}
 use Rattle.imap_grammar.specs.declared.search.SearchTest.TheVariants as tests
 use Rattle.imap_grammar.specs.declared.search.TextPlace.TheVariants as place
 use Rattle.imap_grammar.proofs.DateLaws.{day_reads}
-use Rattle.imap_grammar.proofs.Fronts.{Closes, Ends, Front, Reads, after_takes, bind_some, both_reads, chosen, closes_ends, closes_no_space, exactly_is, joined, made_reads, parens_reads, parted, some_is, sp_ends, spaced_reads, stopping}
+use Rattle.imap_grammar.proofs.Fronts.{Closes, Ends, Front, Reads, after_takes, bind_some, both_reads, chosen, closes_ends, closes_no_space, exactly_is, joined, made_reads, parted, some_is, sp_ends, spaced_reads, stopping}
 use Rattle.imap_grammar.proofs.Lists.{listed_reads}
 use Rattle.imap_grammar.proofs.SetLaws.{number_reads, set_reads}
 use Rattle.imap_grammar.proofs.Spans.{ends_stop, run_reads}
 use Rattle.imap_grammar.proofs.Texts.{text_reads}
-use Rattle.imap_grammar.proofs.WordLaws.{NoItem, ends_item, item_span, named_at_again, named_at_takes, word_first}
+use Rattle.imap_grammar.proofs.WordLaws.{NoItem, ends_item, named_at_again, named_at_takes, word_first}
 
 pub key_found : (w : KeyWord) → named key_word key_words (key_word w) ≡ Some w
 key_found key.All = refl

@@ -1,6 +1,6 @@
 -- The arguments of SEARCH.
-use Rattle.std.proofs.Common.{zero, suc, ◌≡◌, ◌⊎◌, ℕ, Bool, true, false, cond, ◌&&◌, ◌||◌, codes, List, [], ◌∷◌, ◌++◌, Option, Some, None, ap, sym, ◌∙◌, refl, subst, arith, eqb, inl, inr}
-use Rattle.std.proofs.lemmas.Bool.{cases_Bool, eqb-true}
+use Rattle.std.proofs.Common.{zero, suc, ◌≡◌, ◌⊎◌, ℕ, Bool, true, false, cond, ◌&&◌, ◌||◌, codes, List, [], ◌∷◌, Some, None, ap, sym, ◌∙◌, refl, subst, arith, eqb, inl, inr}
+use Rattle.std.proofs.lemmas.Bool.{cases_Bool}
 use Rattle.std.proofs.lemmas.Bool.Decides.{nat_tests}
 use Rattle.std.proofs.lemmas.Slice.Eq.{bytes_eq-Decides}
 use Rattle.std.specs.Char.{to_ascii_lowercase}
@@ -11,8 +11,8 @@ use Rattle.imap_grammar.specs.Faults.{begins_in}
 use Rattle.imap_grammar.specs.KeyReading.{below_at, charset_at, charset_name_at, is_charset, keys_at, maybe_options_at, returned_at, returned_group_at, search_parts_at}
 use Rattle.imap_grammar.specs.KeyWords.{key_word, option_word, search_options}
 use Rattle.imap_grammar.specs.Keys.{charset, key_over, key_within, return_options, search_keys, search_option, test}
-use Rattle.imap_grammar.specs.Languages.{◌⌢◌, exactly, nothing, sp, word, in_parens, listed, each_behind, maybe_listed}
-use Rattle.imap_grammar.specs.Reading.{◌>>=◌, after, before, is_nil, listed_at, named_at, parens_at, spaced, span, text_at}
+use Rattle.imap_grammar.specs.Languages.{◌⌢◌, exactly, sp, word, in_parens, listed, each_behind, maybe_listed}
+use Rattle.imap_grammar.specs.Reading.{◌>>=◌, after, is_nil, listed_at, named_at, parens_at, spaced, span, text_at}
 use Rattle.imap_grammar.specs.Strings.{astring, begins, is_in}
 use Rattle.imap_grammar.specs.Words.{named}
 use Rattle.imap_grammar.specs.declared.class.Class.TheVariants.{Astring, Digit, Item}
@@ -23,7 +23,7 @@ use Rattle.imap_grammar.specs.declared.search.SearchOption.TheVariants as option
 use Rattle.imap_grammar.specs.declared.search.SearchStep.{SearchStep}
 use Rattle.imap_grammar.specs.declared.search.SearchTest.{SearchTest}
 use Rattle.imap_grammar.specs.declared.search.SearchTest.TheVariants as tests
-use Rattle.imap_grammar.proofs.Fronts.{Closes, Ends, Front, Reads, Shut, after_again, after_takes, bind_some, both_reads, chosen, closes_ends, closes_no_space, enclosed_reads, exactly_is, guarded, joined, parted, shut_closes, some_is, sp_ends, spaced_reads, stopping}
+use Rattle.imap_grammar.proofs.Fronts.{Closes, Ends, Front, Reads, Shut, after_again, after_takes, bind_some, both_reads, chosen, closes_ends, closes_no_space, enclosed_reads, exactly_is, joined, parted, shut_closes, some_is, sp_ends, spaced_reads, stopping}
 use Rattle.imap_grammar.proofs.KeyLaws.{all_reads, key_letters, key_no_charset, key_no_return, set_first, within_reads}
 use Rattle.imap_grammar.proofs.Lists.{listed_reads}
 use Rattle.imap_grammar.proofs.Spans.{span_parts}

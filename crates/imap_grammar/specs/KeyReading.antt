@@ -1,6 +1,5 @@
-use Rattle.std.specs.Prelude.{◌≡◌, ℕ, zero, suc, Bool, ◌||◌, ◌==◌, List, [], ◌∷◌, ◌++◌, codes, length, Option, Some, None, if◌then◌else◌}
+use Rattle.std.specs.Prelude.{ℕ, zero, suc, Bool, ◌||◌, ◌==◌, List, [], ◌∷◌, ◌++◌, codes, length, Option, Some, None, if◌then◌else◌}
 use Rattle.std.specs.Str.{bytes_eq}
-use Rattle.imap_types.specs.DateTimes.{is_digit}
 use Rattle.imap_types.specs.Keywords.{lowered}
 use Rattle.imap_grammar.specs.KeyWords.{key_word, key_words, option_word, search_options}
 use Rattle.imap_grammar.specs.Reading.{◌>>=◌, after, before, both, date_at, listed_at, made, named_at, next_at, number_at, parens_at, run_at, set_at, spaced, span, text_at}

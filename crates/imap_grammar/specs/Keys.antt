@@ -1,7 +1,7 @@
-use Rattle.std.specs.Prelude.{◌≡◌, ◌⊎◌, ℕ, zero, suc, Bool, List, [], ◌∷◌, ◌++◌, codes}
+use Rattle.std.specs.Prelude.{◌≡◌, ◌⊎◌, ℕ, zero, suc, List, [], ◌∷◌, ◌++◌, codes}
 use Rattle.imap_grammar.specs.Dates.{date}
 use Rattle.imap_grammar.specs.KeyWords.{key_word, option_word}
-use Rattle.imap_grammar.specs.Languages.{◌⌢◌, nothing, never, sp, word, in_parens, listed, maybe_listed, optional}
+use Rattle.imap_grammar.specs.Languages.{◌⌢◌, nothing, never, sp, word, in_parens, listed, maybe_listed}
 use Rattle.imap_grammar.specs.Sets.{sequence_set}
 use Rattle.imap_grammar.specs.Strings.{run, astring, number_to}
 use Rattle.imap_grammar.specs.declared.class.Class.TheVariants.{Atom}

@@ -10,9 +10,9 @@ use Rattle.imap_types.specs.declared.section.Section.{Section}
 use Rattle.imap_types.specs.declared.section.Section.TheVariants.{Whole, Header, Text, Fields, FieldsNot}
 use Rattle.imap_types.specs.DateTimes.{month_of}
 use Rattle.imap_types.specs.declared.day.Day.{Day}
-use Rattle.imap_grammar.specs.Dates.{is_date, is_date_time, zeroed}
+use Rattle.imap_grammar.specs.Dates.{is_date}
 use Rattle.imap_grammar.specs.Items.{fast_items}
-use Rattle.imap_grammar.specs.MessageFlags.{flags_of, no_flags, flags_given}
+use Rattle.imap_grammar.specs.MessageFlags.{flags_of, no_flags}
 use Rattle.imap_grammar.specs.declared.fetch.FetchItem.{FetchItem}
 use Rattle.imap_grammar.specs.declared.fetch.FetchItem.TheVariants as items
 use Rattle.imap_grammar.specs.declared.fetch.FetchWord.{FetchWord}
@@ -22,18 +22,12 @@ use Rattle.imap_grammar.specs.declared.fetch.SectionWord.{SectionWord}
 use Rattle.imap_grammar.specs.declared.fetch.SectionWord.TheVariants as sections
 use Rattle.imap_grammar.specs.declared.flags.Flag.{Flag}
 use Rattle.imap_grammar.specs.declared.flags.Flag.TheVariants.{System, Keyword}
-use Rattle.imap_grammar.specs.declared.store.StoreAction.{StoreAction}
 use Rattle.imap_grammar.specs.Strings.{begins, is_in, is_quotable, number_of}
-use Rattle.imap_grammar.specs.Words.{named, command_word, command_words, fetch_word, fetch_words, section_word, section_words, status_word, status_items, store_actions, store_word, system_flags, system_word, uid_words}
+use Rattle.imap_grammar.specs.Words.{named, fetch_word, fetch_words, section_word, section_words, system_flags, system_word}
 use Rattle.imap_grammar.specs.declared.class.Class.{Class}
-use Rattle.imap_grammar.specs.declared.class.Class.TheVariants.{Tag, Atom, Astring, Pattern, Digit, Item}
-use Rattle.imap_grammar.specs.declared.command.Command.{Command}
-use Rattle.imap_grammar.specs.declared.command.Command.TheVariants as commands
-use Rattle.imap_grammar.specs.declared.command.Tagged.{Tagged}
+use Rattle.imap_grammar.specs.declared.class.Class.TheVariants.{Atom, Astring, Digit, Item}
 use Rattle.imap_grammar.specs.declared.fault.ParseFault.{ParseFault}
 use Rattle.imap_grammar.specs.declared.fault.ParseFault.TheVariants.{NoMemory, BadSyntax, NotInProfile, NoTag, UnknownCommand}
-use Rattle.imap_grammar.specs.declared.word.CommandWord.{CommandWord}
-use Rattle.imap_grammar.specs.declared.word.CommandWord.TheVariants as words
 
 infixl 10 ◌>>=◌
 -- A step and what comes behind it, where neither fails.
