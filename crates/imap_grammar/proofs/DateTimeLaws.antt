@@ -38,7 +38,7 @@ not_above limit n h = grind (arith, nat_tests)
 above_not : (limit n : ℕ) → n ≤ limit → not (nat_lt limit n) ≡ true
 above_not limit n h = grind (arith, nat_tests)
 
-date_from : (y m d : ℕ) → is_date y m d ≡ true → IsDate (pos y) (pos m) (pos d)
+pub date_from : (y m d : ℕ) → is_date y m d ≡ true → IsDate (pos y) (pos m) (pos d)
 date_from y m d h =
     let a = and_parts _ _ h in
     let b = and_parts _ _ a.1 in
@@ -51,7 +51,7 @@ date_from y m d h =
     let last : d ≤ days_in_month (pos y) m = not_above (days_in_month (pos y) m) d e.1 in
     ((omega (arith, ints), omega (arith, ints)), (omega (arith, ints), omega (arith, ints)), (omega (arith, ints), omega (arith, ints)))
 
-date_to : (y m d : ℕ) → IsDate (pos y) (pos m) (pos d) → is_date y m d ≡ true
+pub date_to : (y m d : ℕ) → IsDate (pos y) (pos m) (pos d) → is_date y m d ≡ true
 date_to y m d h =
     let year : y ≤ 9999 = let k = h.0.1 in omega (arith, ints) in
     let low : 1 ≤ m = let k = h.1.0 in omega (arith, ints) in

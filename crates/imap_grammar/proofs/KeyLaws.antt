@@ -1,8 +1,7 @@
 -- The keys of SEARCH.
-use Rattle.std.proofs.Common.{◌≡◌, ◌⊎◌, ℕ, zero, suc, Bool, true, false, cond, ◌||◌, codes, List, [], ◌∷◌, ◌++◌, Option, Some, None, ap, sym, ◌∙◌, refl, subst, arith, eqb, inl, inr, length}
-use Rattle.std.proofs.lemmas.Bool.{and_parts, cases_Bool, eqb-true}
+use Rattle.std.proofs.Common.{◌≡◌, ℕ, zero, suc, true, false, cond, ◌||◌, codes, List, [], ◌∷◌, ◌++◌, Option, Some, None, ap, sym, ◌∙◌, refl, subst, arith, eqb, inl, inr, length}
+use Rattle.std.proofs.lemmas.Bool.{and_parts, eqb-true}
 use Rattle.std.proofs.lemmas.Bool.Decides.{nat_tests}
-use Rattle.std.proofs.lemmas.Slice.Eq.{bytes_eq-Decides}
 use Rattle.std.specs.Char.{to_ascii_lowercase}
 use Rattle.std.specs.List.{list_all}
 use Rattle.std.specs.Str.{bytes_eq}
@@ -11,17 +10,19 @@ use Rattle.imap_types.specs.Keywords.{lowered}
 use Rattle.imap_types.specs.declared.sequence_set.SequenceBound.{SequenceBound}
 use Rattle.imap_types.specs.declared.sequence_set.SequenceBound.TheVariants.{Number, Greatest}
 use Rattle.imap_types.specs.declared.sequence_set.SequenceRange.{SequenceRange}
+use Rattle.imap_grammar.specs.Dates.{date}
 use Rattle.imap_grammar.specs.Faults.{begins_in}
 use Rattle.imap_grammar.specs.KeyReading.{below_at, keys_at, leaf_at, level_at, more_keys_at, numbers_at, or_more, worded_at}
 use Rattle.imap_grammar.specs.KeyWords.{key_word, key_words}
-use Rattle.imap_grammar.specs.Keys.{all_of, and_all, key_over, key_within, search_keys, test}
+use Rattle.imap_grammar.specs.Keys.{all_of, and_all, key_over, key_within, test}
 use Rattle.imap_grammar.specs.Languages.{◌⌢◌, exactly, never, sp, word, in_parens, listed}
-use Rattle.imap_grammar.specs.Reading.{◌>>=◌, after, and_more, before, both, is_nil, listed_at, made, more_at, named_at, next_at, number_at, parens_at, run_at, set_at, spaced, span, text_at}
+use Rattle.imap_grammar.specs.Reading.{◌>>=◌, after, and_more, before, both, date_at, is_nil, listed_at, made, more_at, named_at, next_at, number_at, run_at, set_at, spaced, text_at}
 use Rattle.imap_grammar.specs.Sets.{bound, range, sequence_set}
-use Rattle.imap_grammar.specs.Strings.{astring, begins, is_in, number_to, nz, run}
+use Rattle.imap_grammar.specs.Strings.{astring, begins, is_in, number_to, run}
 use Rattle.imap_grammar.specs.Words.{named}
 use Rattle.imap_grammar.specs.declared.class.Class.TheVariants.{Astring, Atom, Digit, Item}
 use Rattle.imap_grammar.specs.declared.flags.SystemFlag.TheVariants as system
+use Rattle.imap_grammar.specs.declared.search.DayOrder.TheVariants as order
 use Rattle.imap_grammar.specs.declared.search.KeyWord.{KeyWord}
 use Rattle.imap_grammar.specs.declared.search.KeyWord.TheVariants as key
 use Rattle.imap_grammar.specs.declared.search.SearchStep.{SearchStep}
@@ -29,12 +30,13 @@ use Rattle.imap_grammar.specs.declared.search.SearchStep.TheVariants.{Test, Not,
 use Rattle.imap_grammar.specs.declared.search.SearchTest.{SearchTest}
 use Rattle.imap_grammar.specs.declared.search.SearchTest.TheVariants as tests
 use Rattle.imap_grammar.specs.declared.search.TextPlace.TheVariants as place
-use Rattle.imap_grammar.proofs.Fronts.{Closes, Ends, Front, Reads, after_takes, bind_some, both_reads, chosen, closes_ends, closes_no_space, exactly_is, joined, made_reads, parens_reads, parted, some_is, sp_ends, spaced_reads, stopping}
+use Rattle.imap_grammar.proofs.DateLaws.{day_reads}
+use Rattle.imap_grammar.proofs.Fronts.{Closes, Ends, Front, Reads, after_takes, bind_some, both_reads, chosen, closes_ends, closes_no_space, exactly_is, joined, made_reads, parted, some_is, sp_ends, spaced_reads, stopping}
 use Rattle.imap_grammar.proofs.Lists.{listed_reads}
 use Rattle.imap_grammar.proofs.SetLaws.{number_reads, set_reads}
 use Rattle.imap_grammar.proofs.Spans.{ends_stop, run_reads}
 use Rattle.imap_grammar.proofs.Texts.{text_reads}
-use Rattle.imap_grammar.proofs.WordLaws.{NoItem, ends_item, item_span, named_at_again, named_at_takes, word_first}
+use Rattle.imap_grammar.proofs.WordLaws.{NoItem, ends_item, named_at_again, named_at_takes, word_first}
 
 pub key_found : (w : KeyWord) → named key_word key_words (key_word w) ≡ Some w
 key_found key.All = refl
@@ -58,6 +60,9 @@ key_found (key.Place place.To) = refl
 key_found (key.Place place.Body) = refl
 key_found (key.Place place.Text) = refl
 key_found key.Header = refl
+key_found (key.Dated order.Before) = refl
+key_found (key.Dated order.On) = refl
+key_found (key.Dated order.Since) = refl
 key_found key.Larger = refl
 key_found key.Smaller = refl
 key_found key.ModSeq = refl
@@ -87,6 +92,9 @@ key_letters (key.Place place.To) = refl
 key_letters (key.Place place.Body) = refl
 key_letters (key.Place place.Text) = refl
 key_letters key.Header = refl
+key_letters (key.Dated order.Before) = refl
+key_letters (key.Dated order.On) = refl
+key_letters (key.Dated order.Since) = refl
 key_letters key.Larger = refl
 key_letters key.Smaller = refl
 key_letters key.ModSeq = refl
@@ -116,6 +124,9 @@ key_some (key.Place place.To) = refl
 key_some (key.Place place.Body) = refl
 key_some (key.Place place.Text) = refl
 key_some key.Header = refl
+key_some (key.Dated order.Before) = refl
+key_some (key.Dated order.On) = refl
+key_some (key.Dated order.Since) = refl
 key_some key.Larger = refl
 key_some key.Smaller = refl
 key_some key.ModSeq = refl
@@ -145,6 +156,9 @@ key_no_digit (key.Place place.To) = refl
 key_no_digit (key.Place place.Body) = refl
 key_no_digit (key.Place place.Text) = refl
 key_no_digit key.Header = refl
+key_no_digit (key.Dated order.Before) = refl
+key_no_digit (key.Dated order.On) = refl
+key_no_digit (key.Dated order.Since) = refl
 key_no_digit key.Larger = refl
 key_no_digit key.Smaller = refl
 key_no_digit key.ModSeq = refl
@@ -174,6 +188,9 @@ key_no_return (key.Place place.To) = refl
 key_no_return (key.Place place.Body) = refl
 key_no_return (key.Place place.Text) = refl
 key_no_return key.Header = refl
+key_no_return (key.Dated order.Before) = refl
+key_no_return (key.Dated order.On) = refl
+key_no_return (key.Dated order.Since) = refl
 key_no_return key.Larger = refl
 key_no_return key.Smaller = refl
 key_no_return key.ModSeq = refl
@@ -203,6 +220,9 @@ key_no_charset (key.Place place.To) = refl
 key_no_charset (key.Place place.Body) = refl
 key_no_charset (key.Place place.Text) = refl
 key_no_charset key.Header = refl
+key_no_charset (key.Dated order.Before) = refl
+key_no_charset (key.Dated order.On) = refl
+key_no_charset (key.Dated order.Since) = refl
 key_no_charset key.Larger = refl
 key_no_charset key.Smaller = refl
 key_no_charset key.ModSeq = refl
@@ -222,6 +242,9 @@ header_reads = spaced_reads (both_reads (text_reads Astring) (spaced_reads (text
 keyword_reads : Reads (spaced (run_at Atom)) (λ value. sp ⌢ run Atom value) Ends
 keyword_reads = spaced_reads (run_reads Atom)
 
+dates_reads : Reads (spaced date_at) (λ value. sp ⌢ date value) Ends
+dates_reads = spaced_reads day_reads
+
 sets_reads : Reads (spaced set_at) (λ value. sp ⌢ sequence_set value) Ends
 sets_reads = spaced_reads set_reads
 
@@ -240,6 +263,7 @@ leaf_takes (key.System flag is_set) octets mid x f h = subst (λ (y : SearchTest
 leaf_takes (key.Keyword is_set) octets mid x f h = test_by keyword_reads (λ keyword. tests.Keyword keyword is_set) (key.Keyword is_set) (λ value text t. t) octets mid x f h
 leaf_takes (key.Place where_it_is) octets mid x f h = test_by texts_reads (tests.Holds where_it_is) (key.Place where_it_is) (λ value text t. t) octets mid x f h
 leaf_takes key.Header octets mid x f h = test_by header_reads (λ parts. tests.Header parts.0 parts.1) key.Header (λ value text t. t) octets mid x f h
+leaf_takes (key.Dated which) octets mid x f h = test_by dates_reads (tests.Dated which) (key.Dated which) (λ value text t. t) octets mid x f h
 leaf_takes key.Larger octets mid x f h = test_by sizes_reads tests.Larger key.Larger (λ value text t. t) octets mid x f h
 leaf_takes key.Smaller octets mid x f h = test_by sizes_reads tests.Smaller key.Smaller (λ value text t. t) octets mid x f h
 leaf_takes key.ModSeq octets mid x f h = test_by sizes_reads tests.ModSeq key.ModSeq (λ value text t. t) octets mid x f h
@@ -373,6 +397,7 @@ module _ {inner : List ℕ → Option (List SearchStep × List ℕ)} {form : Lis
   any_takes (key.Keyword is_set) octets mid x f h = worded_takes (key.Keyword is_set) octets mid x f h
   any_takes (key.Place where_it_is) octets mid x f h = worded_takes (key.Place where_it_is) octets mid x f h
   any_takes key.Header octets mid x f h = worded_takes key.Header octets mid x f h
+  any_takes (key.Dated which) octets mid x f h = worded_takes (key.Dated which) octets mid x f h
   any_takes key.Larger octets mid x f h = worded_takes key.Larger octets mid x f h
   any_takes key.Smaller octets mid x f h = worded_takes key.Smaller octets mid x f h
   any_takes key.ModSeq octets mid x f h = worded_takes key.ModSeq octets mid x f h
@@ -439,6 +464,7 @@ module _ {inner : List ℕ → Option (List SearchStep × List ℕ)} {form : Lis
   test_again (tests.Keyword keyword is_set) octets rest f s = test_from keyword_reads (λ keyword. tests.Keyword keyword is_set) (key.Keyword is_set) (λ o. refl) (λ value o rest f. sp_ends (run Atom value) o rest f) keyword octets rest f s
   test_again (tests.Holds where_it_is text) octets rest f s = test_from texts_reads (tests.Holds where_it_is) (key.Place where_it_is) (λ o. refl) (λ value o rest f. sp_ends (astring value) o rest f) text octets rest f s
   test_again (tests.Header name text) octets rest f s = test_from header_reads (λ parts. tests.Header parts.0 parts.1) key.Header (λ o. refl) (λ value o rest f. sp_ends _ o rest f) (name, text) octets rest f s
+  test_again (tests.Dated which day) octets rest f s = test_from dates_reads (tests.Dated which) (key.Dated which) (λ o. refl) (λ value o rest f. sp_ends (date value) o rest f) day octets rest f s
   test_again (tests.Larger size) octets rest f s = test_from sizes_reads tests.Larger key.Larger (λ o. refl) (λ value o rest f. sp_ends _ o rest f) size octets rest f s
   test_again (tests.Smaller size) octets rest f s = test_from sizes_reads tests.Smaller key.Smaller (λ o. refl) (λ value o rest f. sp_ends _ o rest f) size octets rest f s
   test_again (tests.ModSeq value) octets rest f s = test_from sizes_reads tests.ModSeq key.ModSeq (λ o. refl) (λ value o rest f. sp_ends _ o rest f) value octets rest f s

@@ -1,7 +1,7 @@
 -- Keys, as the code reads them.
-use Rattle.std.proofs.Common.{◌≡◌, ◌≢◌, ℕ, zero, suc, ◌-◌, ◌+◌, ◌≤◌, ◌<◌, List, [], ◌∷◌, ◌++◌, Option, Some, None, Result, refl, sym, ap, ◌∙◌, subst, arith}
+use Rattle.std.proofs.Common.{◌≡◌, ◌≢◌, ℕ, zero, suc, ◌-◌, ◌+◌, ◌<◌, List, [], ◌∷◌, ◌++◌, Option, Some, None, refl, sym, ap, ◌∙◌, arith}
 use Rattle.imap_grammar.specs.KeyReading.{below_at, level_at, more_keys_at, or_more}
-use Rattle.imap_grammar.specs.Reading.{◌>>=◌, Fails, Gives, next_at}
+use Rattle.imap_grammar.specs.Reading.{◌>>=◌, Fails, next_at}
 use Rattle.imap_grammar.specs.declared.fault.ParseFault.{ParseFault}
 use Rattle.imap_grammar.specs.declared.fault.ParseFault.TheVariants.{NoMemory, BadSyntax, NotInProfile, NoTag, UnknownCommand}
 use Rattle.imap_grammar.specs.declared.search.SearchStep.{SearchStep}

@@ -1,5 +1,6 @@
 pub mod AppendLaws
 pub mod CommandLaws
+pub mod DateLaws
 pub mod DateTimeLaws
 pub mod Digits
 pub mod FlagLaws

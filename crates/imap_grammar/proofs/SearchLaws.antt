@@ -1,6 +1,6 @@
 -- The arguments of SEARCH.
-use Rattle.std.proofs.Common.{zero, suc, ◌≡◌, ◌⊎◌, ℕ, Bool, true, false, cond, ◌&&◌, ◌||◌, codes, List, [], ◌∷◌, ◌++◌, Option, Some, None, ap, sym, ◌∙◌, refl, subst, arith, eqb, inl, inr}
-use Rattle.std.proofs.lemmas.Bool.{cases_Bool, eqb-true}
+use Rattle.std.proofs.Common.{zero, suc, ◌≡◌, ◌⊎◌, ℕ, Bool, true, false, cond, ◌&&◌, ◌||◌, codes, List, [], ◌∷◌, Some, None, ap, sym, ◌∙◌, refl, subst, arith, eqb, inl, inr}
+use Rattle.std.proofs.lemmas.Bool.{cases_Bool}
 use Rattle.std.proofs.lemmas.Bool.Decides.{nat_tests}
 use Rattle.std.proofs.lemmas.Slice.Eq.{bytes_eq-Decides}
 use Rattle.std.specs.Char.{to_ascii_lowercase}
@@ -11,8 +11,8 @@ use Rattle.imap_grammar.specs.Faults.{begins_in}
 use Rattle.imap_grammar.specs.KeyReading.{below_at, charset_at, charset_name_at, is_charset, keys_at, maybe_options_at, returned_at, returned_group_at, search_parts_at}
 use Rattle.imap_grammar.specs.KeyWords.{key_word, option_word, search_options}
 use Rattle.imap_grammar.specs.Keys.{charset, key_over, key_within, return_options, search_keys, search_option, test}
-use Rattle.imap_grammar.specs.Languages.{◌⌢◌, exactly, nothing, sp, word, in_parens, listed, each_behind, maybe_listed}
-use Rattle.imap_grammar.specs.Reading.{◌>>=◌, after, before, is_nil, listed_at, named_at, parens_at, spaced, span, text_at}
+use Rattle.imap_grammar.specs.Languages.{◌⌢◌, exactly, sp, word, in_parens, listed, each_behind, maybe_listed}
+use Rattle.imap_grammar.specs.Reading.{◌>>=◌, after, is_nil, listed_at, named_at, parens_at, spaced, span, text_at}
 use Rattle.imap_grammar.specs.Strings.{astring, begins, is_in}
 use Rattle.imap_grammar.specs.Words.{named}
 use Rattle.imap_grammar.specs.declared.class.Class.TheVariants.{Astring, Digit, Item}
@@ -23,7 +23,7 @@ use Rattle.imap_grammar.specs.declared.search.SearchOption.TheVariants as option
 use Rattle.imap_grammar.specs.declared.search.SearchStep.{SearchStep}
 use Rattle.imap_grammar.specs.declared.search.SearchTest.{SearchTest}
 use Rattle.imap_grammar.specs.declared.search.SearchTest.TheVariants as tests
-use Rattle.imap_grammar.proofs.Fronts.{Closes, Ends, Front, Reads, Shut, after_again, after_takes, bind_some, both_reads, chosen, closes_ends, closes_no_space, enclosed_reads, exactly_is, guarded, joined, parted, shut_closes, some_is, sp_ends, spaced_reads, stopping}
+use Rattle.imap_grammar.proofs.Fronts.{Closes, Ends, Front, Reads, Shut, after_again, after_takes, bind_some, both_reads, chosen, closes_ends, closes_no_space, enclosed_reads, exactly_is, joined, parted, shut_closes, some_is, sp_ends, spaced_reads, stopping}
 use Rattle.imap_grammar.proofs.KeyLaws.{all_reads, key_letters, key_no_charset, key_no_return, set_first, within_reads}
 use Rattle.imap_grammar.proofs.Lists.{listed_reads}
 use Rattle.imap_grammar.proofs.Spans.{span_parts}
@@ -114,6 +114,7 @@ module _ (letters : List ℕ) (others : (w : KeyWord) → bytes_eq (lowered (key
   test_other (tests.Keyword keyword is_set) octets rest f s = part_other (key.Keyword is_set) _ octets rest f
   test_other (tests.Holds place text) octets rest f s = part_other (key.Place place) _ octets rest f
   test_other (tests.Header name text) octets rest f s = part_other key.Header _ octets rest f
+  test_other (tests.Dated order day) octets rest f s = part_other (key.Dated order) _ octets rest f
   test_other (tests.Larger size) octets rest f s = part_other key.Larger _ octets rest f
   test_other (tests.Smaller size) octets rest f s = part_other key.Smaller _ octets rest f
   test_other (tests.ModSeq value) octets rest f s = part_other key.ModSeq _ octets rest f
@@ -227,14 +228,12 @@ charset_takes octets rest h =
     elim (chosen (bytes_eq (lowered cut.0) (lowered (codes "CHARSET"))) (charset_name_at cut.1) (Some octets) (Some rest) h) [
       | inl t ↦
           let n = bind_some (spaced (text_at Astring) cut.1) _ rest t.1 in
-          let s = bind_some (after (32 ∷ []) n.0.1) _ rest n.2 in
-          elim (chosen (is_charset n.0.0) (Some s.0) None (Some rest) s.2) [
+          elim (chosen (is_charset n.0.0) (after (32 ∷ []) n.0.1) None (Some rest) n.2) [
             | inl k ↦
-                let e : s.0 ≡ rest = some_is s.0 rest k.1 in
                 let front : Front (word (codes "CHARSET")) octets cut.1 = (cut.0, (bytes_eq-Decides _ _).0 t.0, span_parts (is_in Item) octets) in
                 let g = (spaced_reads (text_reads Astring)).takes cut.1 n.0 n.1 in
                 let p = parted sp (astring n.0.0) cut.1 n.0.1 g in
-                let last : Front sp n.0.1 rest = subst (λ r. Front sp n.0.1 r) e (after_takes (32 ∷ []) n.0.1 s.0 s.1) in
+                let last : Front sp n.0.1 rest = after_takes (32 ∷ []) n.0.1 rest k.1 in
                 let j = joined (word (codes "CHARSET")) _ octets cut.1 rest front (joined sp _ cut.1 p.0 rest p.1 (joined (astring n.0.0) sp p.0 n.0.1 rest p.2 last)) in
                 (j.0, inr (n.0.0, j.1, known_from n.0.0 k.0), j.2)
             | inr k ↦ absurd cc
@@ -255,9 +254,9 @@ charset_again octets rest f s = elim f.1 [
       let cut : span (is_in Item) octets ≡ (p.1.0, p.0) = item_span (codes "CHARSET") octets p.0 refl p.1 (ends_item p.0 (sp_ends _ p.0 rest p.2)) in
       ap (λ (y : List ℕ × List ℕ). cond (bytes_eq (lowered y.0) (lowered (codes "CHARSET"))) (charset_name_at y.1) (Some octets)) cut
       ∙ ap (λ c. cond c (charset_name_at p.0) (Some octets)) ((bytes_eq-Decides _ _).1 p.1.1)
-      ∙ ap (λ r. r >>= λ name. after (32 ∷ []) name.1 >>= λ rest. cond (is_charset name.0) (Some rest) None) ((spaced_reads (text_reads Astring)).again p.0 t.0 name named_text (subst Ends (sym space) refl))
-      ∙ ap (λ r. r >>= λ rest. cond (is_charset name) (Some rest) None) (after_again (32 ∷ []) t.0 rest t.2)
-      ∙ ap (λ c. cond c (Some rest) None) (known_to name r.2)
+      ∙ ap (λ r. r >>= λ name. cond (is_charset name.0) (after (32 ∷ []) name.1) None) ((spaced_reads (text_reads Astring)).again p.0 t.0 name named_text (subst Ends (sym space) refl))
+      ∙ ap (λ c. cond c (after (32 ∷ []) t.0) None) (known_to name r.2)
+      ∙ after_again (32 ∷ []) t.0 rest t.2
 ]
 
 program_reads : Reads (λ octets. charset_at octets >>= keys_at (below_at 65)) (λ steps. charset ⌢ search_keys steps) Closes

@@ -92,13 +92,13 @@ quoted_front_again octets rest value f =
     (escaped value ++ 34 ∷ rest, e, quoted_again value rest f.1.0)
 
 -- so many octets
-octets_takes : (n : ℕ) (octets : List ℕ) (x : List ℕ × List ℕ) → octets_at n octets ≡ Some x → (length x.0 ≡ n) × (octets ≡ x.0 ++ x.1)
+pub octets_takes : (n : ℕ) (octets : List ℕ) (x : List ℕ × List ℕ) → octets_at n octets ≡ Some x → (length x.0 ≡ n) × (octets ≡ x.0 ++ x.1)
 octets_takes n octets x h =
     let g = guarded (nat_lt (length octets) n) (Some (take n octets, drop n octets)) x h in
     let le : n ≤ length octets = ltb-false _ _ g.0 in
     subst (λ (y : List ℕ × List ℕ). (length y.0 ≡ n) × (octets ≡ y.0 ++ y.1)) (some_is (take n octets, drop n octets) x g.1) (omega (arith, length-take n octets), sym (take-append-drop n octets))
 
-octets_again : (value rest : List ℕ) → octets_at (length value) (value ++ rest) ≡ Some (value, rest)
+pub octets_again : (value rest : List ℕ) → octets_at (length value) (value ++ rest) ≡ Some (value, rest)
 octets_again value rest =
     let f : nat_lt (length (value ++ rest)) (length value) ≡ false = le-ltb _ _ (omega (arith, length-append value rest)) in
     ap (λ b. cond b None (Some (take (length value) (value ++ rest), drop (length value) (value ++ rest)))) f

@@ -1,39 +1,22 @@
-use Rattle.std.specs.Prelude.{◌≡◌, ℕ, zero, suc, Bool, true, false, ◌||◌, ◌==◌, nat_lt, List, [], ◌∷◌, ◌++◌, codes, length, take, drop, Option, Some, None, Result, Ok, Err, if◌then◌else◌, ◌&&◌}
-use Rattle.std.specs.Str.{bytes_eq}
-use Rattle.imap_types.specs.Keywords.{lowered}
-use Rattle.imap_types.specs.Names.{folded_name}
-use Rattle.imap_types.specs.declared.sequence_set.SequenceBound.{SequenceBound}
-use Rattle.imap_types.specs.declared.sequence_set.SequenceBound.TheVariants.{Number, Greatest}
+use Rattle.std.specs.Prelude.{◌≡◌, ℕ, Bool, true, false, ◌==◌, nat_lt, List, [], ◌∷◌, codes, length, take, drop, Option, Some, None, Result, Err, if◌then◌else◌}
 use Rattle.imap_types.specs.declared.sequence_set.SequenceRange.{SequenceRange}
 use Rattle.imap_types.specs.declared.flags.Flags.{Flags}
-use Rattle.imap_types.specs.declared.section.Section.{Section}
-use Rattle.imap_types.specs.declared.section.Section.TheVariants.{Whole, Header, Text, Fields, FieldsNot}
 use Rattle.imap_grammar.specs.Dates.{is_date_time, zeroed}
-use Rattle.imap_grammar.specs.Items.{fast_items}
-use Rattle.imap_grammar.specs.MessageFlags.{flags_of, no_flags, flags_given}
+use Rattle.imap_grammar.specs.MessageFlags.{flags_given}
 use Rattle.imap_grammar.specs.declared.fetch.FetchItem.{FetchItem}
-use Rattle.imap_grammar.specs.declared.fetch.FetchItem.TheVariants as items
-use Rattle.imap_grammar.specs.declared.fetch.FetchWord.{FetchWord}
-use Rattle.imap_grammar.specs.declared.fetch.FetchWord.TheVariants as fetch
-use Rattle.imap_grammar.specs.declared.fetch.Partial.{Partial}
-use Rattle.imap_grammar.specs.declared.fetch.SectionWord.{SectionWord}
-use Rattle.imap_grammar.specs.declared.fetch.SectionWord.TheVariants as sections
-use Rattle.imap_grammar.specs.declared.flags.Flag.{Flag}
-use Rattle.imap_grammar.specs.declared.flags.Flag.TheVariants.{System, Keyword}
 use Rattle.imap_grammar.specs.declared.store.StoreAction.{StoreAction}
-use Rattle.imap_grammar.specs.Strings.{begins, is_in, is_quotable, number_of}
-use Rattle.imap_grammar.specs.Words.{named, command_word, command_words, fetch_word, fetch_words, section_word, section_words, status_word, status_items, store_actions, store_word, system_flags, system_word, uid_words}
-use Rattle.imap_grammar.specs.declared.class.Class.{Class}
-use Rattle.imap_grammar.specs.declared.class.Class.TheVariants.{Tag, Atom, Astring, Pattern, Digit, Item}
+use Rattle.imap_grammar.specs.Strings.{is_in}
+use Rattle.imap_grammar.specs.Words.{named, command_word, command_words, status_word, status_items, store_actions, store_word, uid_words}
+use Rattle.imap_grammar.specs.declared.class.Class.TheVariants.{Tag, Atom, Astring, Pattern}
 use Rattle.imap_grammar.specs.declared.command.Command.{Command}
 use Rattle.imap_grammar.specs.declared.command.Command.TheVariants as commands
 use Rattle.imap_grammar.specs.declared.command.Tagged.{Tagged}
 use Rattle.imap_grammar.specs.declared.fault.ParseFault.{ParseFault}
-use Rattle.imap_grammar.specs.declared.fault.ParseFault.TheVariants.{NoMemory, BadSyntax, NotInProfile, NoTag, UnknownCommand}
+use Rattle.imap_grammar.specs.declared.fault.ParseFault.TheVariants.{NoTag, UnknownCommand}
 use Rattle.imap_grammar.specs.declared.word.CommandWord.{CommandWord}
 use Rattle.imap_grammar.specs.declared.word.CommandWord.TheVariants as words
 use Rattle.imap_grammar.specs.KeyReading.{search_at}
-use Rattle.imap_grammar.specs.Reading.{◌>>=◌, Fails, Gives, span, is_nil, after, spaced, run_at, with_front, quoted_at, after_plus, octets_at, literal_at, text_at, both, made, next_at, and_more, more_at, listed_at, mailbox_at, before, enclosed_at, parens_at, after_word, named_at, number_at, nz_at, bound_at, ranged_at, range_at, set_at, peeks, peeked_at, modifier_group_at, modifier_at, flag_at, maybe_flags_at, flag_group_at, stored_texts_at, stored_at, field_names_at, section_behind_at, section_at, bracketed_at, partial_at, body_at, item_behind_at, item_at, alone_at, fetched_at}
+use Rattle.imap_grammar.specs.Reading.{◌>>=◌, Gives, span, is_nil, after, spaced, run_at, literal_at, text_at, both, made, listed_at, mailbox_at, before, parens_at, after_word, named_at, set_at, peeked_at, modifier_at, flag_group_at, stored_at, fetched_at}
 
 -- ---- Commands, behind their words.
 

@@ -1,11 +1,47 @@
-use Rattle.std.specs.Prelude.{◌≡◌, ◌⊎◌, ℕ, Bool, true, false, not, ◌&&◌, ◌==◌, nat_lt, List, [], ◌∷◌, pos, if◌then◌else◌}
-use Rattle.jiff.specs.Words.{days_in_month}
-use Rattle.imap_types.specs.DateTimes.{IsDateTime, date_time_picture, day_at, is_pictured, month_at, two_digits, year_at}
+use Rattle.std.specs.Prelude.{◌≡◌, ◌⊎◌, ℕ, ◌≤◌, Bool, true, false, not, ◌&&◌, ◌==◌, nat_lt, List, [], ◌∷◌, length, pos, if◌then◌else◌}
+use Rattle.jiff.specs.Words.{IsDate, days_in_month}
+use Rattle.imap_types.specs.DateTimes.{IsDateTime, date_time_picture, day_at, is_pictured, month_at, month_of, two_digits, year_at}
+use Rattle.imap_types.specs.declared.day.Day.{Day}
+use Rattle.imap_grammar.specs.Languages.{◌⌢◌, exactly}
+use Rattle.imap_grammar.specs.Strings.{number_to}
 
 -- A date-time as it is written: with a digit first, or with a space for a zero there (RFC 9051, section 9, date-time).
 abbrev pub date_time : List ℕ → List ℕ → Type 0
 date_time value text =
     IsDateTime value × ((text ≡ value) ⊎ ((rest : List ℕ) × (value ≡ 34 ∷ 48 ∷ rest) × (text ≡ 34 ∷ 32 ∷ rest)))
+
+-- A number up to a limit in at least and at most so many digits.
+abbrev pub digits_to : ℕ → ℕ → ℕ → ℕ → List ℕ → Type 0
+digits_to least most limit value text = number_to limit value text × (least ≤ length text) × (length text ≤ most)
+
+-- The day of a month, in one or two digits (RFC 9051, section 9, date-day).
+abbrev pub day_of_month : ℕ → List ℕ → Type 0
+day_of_month = digits_to 1 2 31
+
+-- A month, by the three letters of its name in any case (RFC 9051, section 9, date-month).
+abbrev pub month_name : ℕ → List ℕ → Type 0
+month_name month text = (length text ≡ 3) × (month_of text ≡ month)
+
+-- A year, in four digits (RFC 9051, section 9, date-year).
+abbrev pub year_number : ℕ → List ℕ → Type 0
+year_number = digits_to 4 4 9999
+
+-- One `-`.
+abbrev pub hyphen : List ℕ → Type 0
+hyphen = exactly (45 ∷ [])
+
+-- One `"` (RFC 9051, section 9, DQUOTE).
+abbrev pub quote : List ℕ → Type 0
+quote = exactly (34 ∷ [])
+
+-- A day that the calendar has, as `d-Mon-yyyy` (RFC 9051, section 9, date-text).
+abbrev pub date_text : Day → List ℕ → Type 0
+date_text this text =
+    (day_of_month this.day ⌢ hyphen ⌢ month_name this.month ⌢ hyphen ⌢ year_number this.year) text × IsDate (pos this.year) (pos this.month) (pos this.day)
+
+-- The same, with quotes or without (RFC 9051, section 9, date).
+abbrev pub date : Day → List ℕ → Type 0
+date this text = date_text this text ⊎ (quote ⌢ date_text this ⌢ quote) text
 
 -- ---- The same as tests, for reading.
 

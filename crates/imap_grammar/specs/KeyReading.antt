@@ -1,9 +1,8 @@
-use Rattle.std.specs.Prelude.{◌≡◌, ℕ, zero, suc, Bool, ◌||◌, ◌==◌, List, [], ◌∷◌, ◌++◌, codes, length, Option, Some, None, if◌then◌else◌}
+use Rattle.std.specs.Prelude.{ℕ, zero, suc, Bool, ◌||◌, ◌==◌, List, [], ◌∷◌, ◌++◌, codes, length, Option, Some, None, if◌then◌else◌}
 use Rattle.std.specs.Str.{bytes_eq}
-use Rattle.imap_types.specs.DateTimes.{is_digit}
 use Rattle.imap_types.specs.Keywords.{lowered}
 use Rattle.imap_grammar.specs.KeyWords.{key_word, key_words, option_word, search_options}
-use Rattle.imap_grammar.specs.Reading.{◌>>=◌, after, before, both, listed_at, made, named_at, next_at, number_at, parens_at, run_at, set_at, spaced, span, text_at}
+use Rattle.imap_grammar.specs.Reading.{◌>>=◌, after, before, both, date_at, listed_at, made, named_at, next_at, number_at, parens_at, run_at, set_at, spaced, span, text_at}
 use Rattle.imap_grammar.specs.Strings.{is_in}
 use Rattle.imap_grammar.specs.declared.class.Class.TheVariants.{Astring, Atom, Digit, Item}
 use Rattle.imap_grammar.specs.declared.command.Command.{Command}
@@ -22,6 +21,7 @@ leaf_at (key.System flag is_set) octets = Some (tests.System flag is_set, octets
 leaf_at (key.Keyword is_set) octets = made (λ keyword. tests.Keyword keyword is_set) (spaced (run_at Atom)) octets
 leaf_at (key.Place place) octets = made (tests.Holds place) (spaced (text_at Astring)) octets
 leaf_at key.Header octets = made (λ parts. tests.Header parts.0 parts.1) (spaced (both (text_at Astring) (spaced (text_at Astring)))) octets
+leaf_at (key.Dated order) octets = made (tests.Dated order) (spaced date_at) octets
 leaf_at key.Larger octets = made tests.Larger (spaced (number_at 9223372036854775807)) octets
 leaf_at key.Smaller octets = made tests.Smaller (spaced (number_at 9223372036854775807)) octets
 leaf_at key.ModSeq octets = made tests.ModSeq (spaced (number_at 9223372036854775807)) octets
@@ -78,7 +78,7 @@ abbrev pub is_charset : List ℕ → Bool
 is_charset name = bytes_eq (lowered name) (lowered (codes "UTF-8")) || bytes_eq (lowered name) (lowered (codes "US-ASCII"))
 
 abbrev pub charset_name_at : List ℕ → Option (List ℕ)
-charset_name_at octets = spaced (text_at Astring) octets >>= λ name. after (32 ∷ []) name.1 >>= λ rest. if is_charset name.0 then Some rest else None
+charset_name_at octets = spaced (text_at Astring) octets >>= λ name. if is_charset name.0 then after (32 ∷ []) name.1 else None
 
 abbrev pub charset_at : List ℕ → Option (List ℕ)
 charset_at octets =

@@ -1,6 +1,8 @@
 use Rattle.std.specs.Prelude.{ℕ, Bool, true, false, List, [], ◌∷◌, codes}
 use Rattle.imap_grammar.specs.declared.flags.SystemFlag.{SystemFlag}
 use Rattle.imap_grammar.specs.declared.flags.SystemFlag.TheVariants as system
+use Rattle.imap_grammar.specs.declared.search.DayOrder.{DayOrder}
+use Rattle.imap_grammar.specs.declared.search.DayOrder.TheVariants as order
 use Rattle.imap_grammar.specs.declared.search.KeyWord.{KeyWord}
 use Rattle.imap_grammar.specs.declared.search.KeyWord.TheVariants as key
 use Rattle.imap_grammar.specs.declared.search.SearchOption.{SearchOption}
@@ -40,6 +42,11 @@ place_key place.To = codes "TO"
 place_key place.Body = codes "BODY"
 place_key place.Text = codes "TEXT"
 
+abbrev pub order_key : DayOrder → List ℕ
+order_key order.Before = codes "BEFORE"
+order_key order.On = codes "ON"
+order_key order.Since = codes "SINCE"
+
 abbrev pub key_word : KeyWord → List ℕ
 key_word key.All = codes "ALL"
 key_word (key.System flag is_set) = flag_key flag is_set
@@ -47,6 +54,7 @@ key_word (key.Keyword true) = codes "KEYWORD"
 key_word (key.Keyword false) = codes "UNKEYWORD"
 key_word (key.Place this) = place_key this
 key_word key.Header = codes "HEADER"
+key_word (key.Dated this) = order_key this
 key_word key.Larger = codes "LARGER"
 key_word key.Smaller = codes "SMALLER"
 key_word key.ModSeq = codes "MODSEQ"
@@ -77,6 +85,9 @@ key_words =
     ∷ key.Place place.Body
     ∷ key.Place place.Text
     ∷ key.Header
+    ∷ key.Dated order.Before
+    ∷ key.Dated order.On
+    ∷ key.Dated order.Since
     ∷ key.Larger
     ∷ key.Smaller
     ∷ key.ModSeq

@@ -1,6 +1,7 @@
-use Rattle.std.specs.Prelude.{◌≡◌, ◌⊎◌, ℕ, zero, suc, Bool, List, [], ◌∷◌, ◌++◌, codes}
+use Rattle.std.specs.Prelude.{◌≡◌, ◌⊎◌, ℕ, zero, suc, List, [], ◌∷◌, ◌++◌, codes}
+use Rattle.imap_grammar.specs.Dates.{date}
 use Rattle.imap_grammar.specs.KeyWords.{key_word, option_word}
-use Rattle.imap_grammar.specs.Languages.{◌⌢◌, nothing, never, sp, word, in_parens, listed, maybe_listed, optional}
+use Rattle.imap_grammar.specs.Languages.{◌⌢◌, nothing, never, sp, word, in_parens, listed, maybe_listed}
 use Rattle.imap_grammar.specs.Sets.{sequence_set}
 use Rattle.imap_grammar.specs.Strings.{run, astring, number_to}
 use Rattle.imap_grammar.specs.declared.class.Class.TheVariants.{Atom}
@@ -22,6 +23,7 @@ test (tests.System flag is_set) = word (key_word (key.System flag is_set))
 test (tests.Keyword keyword is_set) = word (key_word (key.Keyword is_set)) ⌢ sp ⌢ run Atom keyword
 test (tests.Holds place text) = word (key_word (key.Place place)) ⌢ sp ⌢ astring text
 test (tests.Header name text) = word (key_word key.Header) ⌢ sp ⌢ astring name ⌢ sp ⌢ astring text
+test (tests.Dated order day) = word (key_word (key.Dated order)) ⌢ sp ⌢ date day
 test (tests.Larger octets) = word (key_word key.Larger) ⌢ sp ⌢ number_to greatest octets
 test (tests.Smaller octets) = word (key_word key.Smaller) ⌢ sp ⌢ number_to greatest octets
 test (tests.ModSeq value) = word (key_word key.ModSeq) ⌢ sp ⌢ number_to greatest value

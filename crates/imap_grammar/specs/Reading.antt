@@ -8,9 +8,11 @@ use Rattle.imap_types.specs.declared.sequence_set.SequenceRange.{SequenceRange}
 use Rattle.imap_types.specs.declared.flags.Flags.{Flags}
 use Rattle.imap_types.specs.declared.section.Section.{Section}
 use Rattle.imap_types.specs.declared.section.Section.TheVariants.{Whole, Header, Text, Fields, FieldsNot}
-use Rattle.imap_grammar.specs.Dates.{is_date_time, zeroed}
+use Rattle.imap_types.specs.DateTimes.{month_of}
+use Rattle.imap_types.specs.declared.day.Day.{Day}
+use Rattle.imap_grammar.specs.Dates.{is_date}
 use Rattle.imap_grammar.specs.Items.{fast_items}
-use Rattle.imap_grammar.specs.MessageFlags.{flags_of, no_flags, flags_given}
+use Rattle.imap_grammar.specs.MessageFlags.{flags_of, no_flags}
 use Rattle.imap_grammar.specs.declared.fetch.FetchItem.{FetchItem}
 use Rattle.imap_grammar.specs.declared.fetch.FetchItem.TheVariants as items
 use Rattle.imap_grammar.specs.declared.fetch.FetchWord.{FetchWord}
@@ -20,18 +22,12 @@ use Rattle.imap_grammar.specs.declared.fetch.SectionWord.{SectionWord}
 use Rattle.imap_grammar.specs.declared.fetch.SectionWord.TheVariants as sections
 use Rattle.imap_grammar.specs.declared.flags.Flag.{Flag}
 use Rattle.imap_grammar.specs.declared.flags.Flag.TheVariants.{System, Keyword}
-use Rattle.imap_grammar.specs.declared.store.StoreAction.{StoreAction}
 use Rattle.imap_grammar.specs.Strings.{begins, is_in, is_quotable, number_of}
-use Rattle.imap_grammar.specs.Words.{named, command_word, command_words, fetch_word, fetch_words, section_word, section_words, status_word, status_items, store_actions, store_word, system_flags, system_word, uid_words}
+use Rattle.imap_grammar.specs.Words.{named, fetch_word, fetch_words, section_word, section_words, system_flags, system_word}
 use Rattle.imap_grammar.specs.declared.class.Class.{Class}
-use Rattle.imap_grammar.specs.declared.class.Class.TheVariants.{Tag, Atom, Astring, Pattern, Digit, Item}
-use Rattle.imap_grammar.specs.declared.command.Command.{Command}
-use Rattle.imap_grammar.specs.declared.command.Command.TheVariants as commands
-use Rattle.imap_grammar.specs.declared.command.Tagged.{Tagged}
+use Rattle.imap_grammar.specs.declared.class.Class.TheVariants.{Atom, Astring, Digit, Item}
 use Rattle.imap_grammar.specs.declared.fault.ParseFault.{ParseFault}
 use Rattle.imap_grammar.specs.declared.fault.ParseFault.TheVariants.{NoMemory, BadSyntax, NotInProfile, NoTag, UnknownCommand}
-use Rattle.imap_grammar.specs.declared.word.CommandWord.{CommandWord}
-use Rattle.imap_grammar.specs.declared.word.CommandWord.TheVariants as words
 
 infixl 10 ◌>>=◌
 -- A step and what comes behind it, where neither fails.
@@ -187,6 +183,32 @@ range_at octets = bound_at octets >>= λ low. ranged_at low.0 low.1
 
 abbrev pub set_at : List ℕ → Option (List SequenceRange × List ℕ)
 set_at = listed_at 44 range_at
+
+-- ---- Dates.
+
+abbrev pub digits_at : ℕ → ℕ → ℕ → List ℕ → Option (ℕ × List ℕ)
+digits_at least most limit octets =
+    run_at Digit octets >>= λ digits.
+    if nat_lt (length digits.0) least || (nat_lt most (length digits.0) || nat_lt limit (number_of 0 digits.0)) then None else Some (number_of 0 digits.0, digits.1)
+
+abbrev pub month_name_at : List ℕ → Option (ℕ × List ℕ)
+month_name_at = made month_of (octets_at 3)
+
+-- A value read behind another one and a hyphen.
+abbrev pub hyphened : {A : Type 0} → (List ℕ → Option (A × List ℕ)) → List ℕ → Option (A × List ℕ)
+hyphened read octets = after (45 ∷ []) octets >>= read
+
+abbrev pub date_parts_at : List ℕ → Option ((ℕ × (ℕ × ℕ)) × List ℕ)
+date_parts_at = both (digits_at 1 2 31) (hyphened (both month_name_at (hyphened (digits_at 4 4 9999))))
+
+abbrev pub date_text_at : List ℕ → Option (Day × List ℕ)
+date_text_at octets =
+    date_parts_at octets >>= λ parts.
+    if is_date parts.0.1.1 parts.0.1.0 parts.0.0 then Some (record { year = parts.0.1.1; month = parts.0.1.0; day = parts.0.0 }, parts.1) else None
+
+abbrev pub date_at : List ℕ → Option (Day × List ℕ)
+date_at [] = None
+date_at (octet ∷ octets) = if octet == 34 then before date_text_at (after (34 ∷ [])) octets else date_text_at (octet ∷ octets)
 
 -- ---- Modifiers, flags and items.
 

@@ -1,8 +1,9 @@
-ghost use Rattle.std.specs.Prelude.{◌≡◌, IfOk};
+ghost use Rattle.std.specs.Prelude.{◌≡◌, ◌⊎◌, IfOk};
 ghost use Rattle.imap_grammar.specs.Reading.{Gives, alone_at, body_at, bracketed_at, fetched_at, field_names_at, item_at, item_behind_at, named_at, partial_at, section_at, section_behind_at};
 ghost use Rattle.imap_grammar.specs.CommandReading.{fetch_at};
 ghost use Rattle.imap_grammar.specs.Words.{fetch_word, fetch_words, section_word, section_words};
 ghost use Rattle.imap_grammar.specs.Items.{fast_items};
+ghost use Rattle.imap_grammar.specs.declared.fault.ParseFault.TheVariants.{BadSyntax, NotInProfile};
 
 use crate::class::Class;
 use crate::command::Command;
@@ -239,7 +240,7 @@ fn item_behind(
 fn body(alloc: Global, peek: bool, octets: &[u8]) -> Result<(FetchItem, &[u8]), ParseFault>
     ensures { Gives (λ x. (x.0, x.1.now)) result (body_at peek octets.now) }
 {
-    let (section, rest) = bracketed(alloc, octets)?;
+    let (section, rest) = bracketed(alloc, peek, octets)?;
     let (partial, rest) = partial_range(rest)?;
     Ok((
         FetchItem::Body {
@@ -251,20 +252,31 @@ fn body(alloc: Global, peek: bool, octets: &[u8]) -> Result<(FetchItem, &[u8]), 
     ))
 }
 
-/// A section between brackets. BODY without them is a form that this server leaves out.
-fn bracketed(alloc: Global, octets: &[u8]) -> Result<(Section, &[u8]), ParseFault>
+/// A section between brackets.
+fn bracketed(alloc: Global, peek: bool, octets: &[u8]) -> Result<(Section, &[u8]), ParseFault>
     ensures { Gives (λ x. (x.0, x.1.now)) result (bracketed_at octets.now) }
 {
     match octets {
-        [] => Err(ParseFault::NotInProfile),
+        [] => Err(no_section(peek)),
         [first, rest @ ..] => {
             if *first != b'[' {
-                return Err(ParseFault::NotInProfile);
+                return Err(no_section(peek));
             }
             let (section, rest) = section(alloc, rest)?;
             let rest = skip(rest, b"]")?;
             Ok((section, rest))
         }
+    }
+}
+
+/// The fault where brackets lack: BODY alone is a form that this server leaves out, BODY.PEEK alone is none.
+fn no_section(peek: bool) -> ParseFault
+    ensures { (result ≡ BadSyntax) ⊎ (result ≡ NotInProfile) }
+{
+    if peek {
+        ParseFault::BadSyntax
+    } else {
+        ParseFault::NotInProfile
     }
 }
 

@@ -1,16 +1,18 @@
-ghost use Rattle.std.specs.Prelude.{◌≡◌, ◌++◌, ◌∷◌, [], IfOk, OnOk, option_map};
+ghost use Rattle.std.specs.Prelude.{◌≡◌, ◌⊎◌, ◌++◌, ◌∷◌, [], IfOk, OnOk, option_map};
 ghost use Rattle.imap_grammar.specs.KeyReading.{below_at, keys_at, leaf_at, level_at, numbers_at, worded_at};
 ghost use Rattle.imap_grammar.specs.KeyWords.{key_word, key_words};
 ghost use Rattle.imap_grammar.specs.Reading.{Gives, named_at, next_at, number_at};
+ghost use Rattle.imap_grammar.specs.declared.fault.ParseFault.TheVariants.{BadSyntax, NotInProfile};
 ghost use Rattle.imap_grammar.specs.declared.search.SearchStep.TheVariants.{And, Or, Test};
 
 use crate::class::{Class, is_in};
+use crate::dates::date;
 use crate::fault::ParseFault;
 use crate::flags::SystemFlag;
 use crate::modifier::left_out;
 use crate::numbers::number;
 use crate::scan::{skip, space, span};
-use crate::search::{KeyWord, SearchStep, SearchTest, TextPlace};
+use crate::search::{DayOrder, KeyWord, SearchStep, SearchTest, TextPlace};
 use crate::sets::set;
 use crate::text::{plain, text};
 use crate::word::find;
@@ -19,7 +21,7 @@ use std::alloc::{AllocError, Global};
 /// The greatest number of octets and the greatest mod-sequence: 2^63 - 1.
 const GREATEST: u64 = 9_223_372_036_854_775_807;
 
-const KEY_WORDS: [KeyWord; 27] = [
+const KEY_WORDS: [KeyWord; 30] = [
     KeyWord::All,
     KeyWord::System {
         flag: SystemFlag::Answered,
@@ -85,6 +87,15 @@ const KEY_WORDS: [KeyWord; 27] = [
         place: TextPlace::Text,
     },
     KeyWord::Header,
+    KeyWord::Dated {
+        order: DayOrder::Before,
+    },
+    KeyWord::Dated {
+        order: DayOrder::On,
+    },
+    KeyWord::Dated {
+        order: DayOrder::Since,
+    },
     KeyWord::Larger,
     KeyWord::Smaller,
     KeyWord::ModSeq,
@@ -149,26 +160,25 @@ fn alone(alloc: Global, test: SearchTest) -> Result<Vec<SearchStep>, AllocError>
     Ok(steps)
 }
 
-/// The word that begins a key. Some are of forms that this server leaves out.
+/// The word that begins a key.
 fn key_word(octets: &[u8]) -> Result<(KeyWord, &[u8]), ParseFault>
     ensures { Gives (λ x. (x.0, x.1.now)) result (named_at key_word key_words octets.now) }
 {
     let (letters, rest) = span(Class::Item, octets);
     match find(&KEY_WORDS, letters) {
         Some(word) => Ok((word, rest)),
-        None => Err(left_out(
-            octets,
-            &[
-                b"SENTBEFORE",
-                b"SENTON",
-                b"SENTSINCE",
-                b"BEFORE",
-                b"ON",
-                b"SINCE",
-                b"$",
-            ],
-        )),
+        None => Err(no_key(octets)),
     }
+}
+
+/// The fault of what is no key: `$` (RFC 5182) and the keys of dates in headers are forms that this server leaves out.
+fn no_key(octets: &[u8]) -> ParseFault
+    ensures { (result ≡ BadSyntax) ⊎ (result ≡ NotInProfile) }
+{
+    if octets.starts_with(b"$") {
+        return ParseFault::NotInProfile;
+    }
+    left_out(octets, &[b"SENTBEFORE", b"SENTON", b"SENTSINCE"])
 }
 
 #[cycle(keys)]
@@ -278,6 +288,10 @@ fn leaf(alloc: Global, word: KeyWord, octets: &[u8]) -> Result<(SearchTest, &[u8
             let (name, rest) = text(alloc, Class::Astring, space(octets)?)?;
             let (text, rest) = text(alloc, Class::Astring, space(rest)?)?;
             Ok((SearchTest::Header { name, text }, rest))
+        }
+        KeyWord::Dated { order } => {
+            let (day, rest) = date(space(octets)?)?;
+            Ok((SearchTest::Dated { order, day }, rest))
         }
         KeyWord::Larger => {
             let (octets, rest) = number(space(octets)?, GREATEST)?;

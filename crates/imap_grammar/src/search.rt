@@ -1,9 +1,9 @@
 ghost use Rattle.std.specs.Prelude.{◌≡◌};
-ghost use Rattle.imap_grammar.specs.KeyWords.{flag_key, place_key};
+ghost use Rattle.imap_grammar.specs.KeyWords.{flag_key, order_key, place_key};
 
 use crate::flags::SystemFlag;
 use crate::word::Word;
-use imap_types::{Octets, SequenceSet};
+use imap_types::{Day, Octets, SequenceSet};
 
 /// What SEARCH answers (RFC 9051, section 6.4.4).
 #[derive(Clone, Copy, Debug, PartialEq, Eq)]
@@ -47,6 +47,17 @@ pub enum TextPlace {
     Text,
 }
 
+/// How the day of a message's internal date, whatever its zone, stands to the day that a key names.
+#[derive(Clone, Copy, Debug, PartialEq, Eq)]
+pub enum DayOrder {
+    /// Earlier.
+    Before,
+    /// The same.
+    On,
+    /// The same or later.
+    Since,
+}
+
 /// What one key asks of a message (RFC 9051, section 6.4.4).
 #[derive(Drop)]
 pub enum SearchTest {
@@ -59,6 +70,8 @@ pub enum SearchTest {
     Holds { place: TextPlace, text: Octets },
     /// The text stands in a header field of this name.
     Header { name: Octets, text: Octets },
+    /// The day of the internal date stands so to this day, which the calendar has.
+    Dated { order: DayOrder, day: Day },
     /// More octets than these, up to 2^63 - 1.
     Larger { octets: u64 },
     /// Fewer octets than these, up to 2^63 - 1.
@@ -89,6 +102,7 @@ pub enum KeyWord {
     Keyword { is_set: bool },
     Place { place: TextPlace },
     Header,
+    Dated { order: DayOrder },
     Larger,
     Smaller,
     ModSeq,
@@ -109,6 +123,7 @@ impl Word for KeyWord {
             KeyWord::Keyword { is_set } => { if is_set { b"KEYWORD" } else { b"UNKEYWORD" } }
             KeyWord::Place { place } => place_key(place),
             KeyWord::Header => b"HEADER",
+            KeyWord::Dated { order } => order_key(order),
             KeyWord::Larger => b"LARGER",
             KeyWord::Smaller => b"SMALLER",
             KeyWord::ModSeq => b"MODSEQ",
@@ -152,5 +167,15 @@ fn place_key(place: TextPlace) -> &'static [u8]
         TextPlace::To => b"TO",
         TextPlace::Body => b"BODY",
         TextPlace::Text => b"TEXT",
+    }
+}
+
+fn order_key(order: DayOrder) -> &'static [u8]
+    ensures { result.now ≡ order_key order }
+{
+    match order {
+        DayOrder::Before => b"BEFORE",
+        DayOrder::On => b"ON",
+        DayOrder::Since => b"SINCE",
     }
 }

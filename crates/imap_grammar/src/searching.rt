@@ -121,11 +121,10 @@ fn charset_name(alloc: Global, octets: &[u8]) -> Result<&[u8], ParseFault>
     ensures { Gives (λ rest. rest.now) result (charset_name_at octets.now) }
 {
     let (name, rest) = text(alloc, Class::Astring, space(octets)?)?;
-    let is_known = is_charset(name.as_bytes());
-    let rest = space(rest)?;
-    if !is_known {
+    if !is_charset(name.as_bytes()) {
         return Err(ParseFault::NotInProfile);
     }
+    let rest = space(rest)?;
     Ok(rest)
 }
 

@@ -146,7 +146,8 @@ fn two_digits(octets: &[u8], place: usize) -> u8
     (octets[place] - b'0') * 10 + (octets[place + 1] - b'0')
 }
 
-fn month_of(letters: &[u8]) -> i8
+/// The number of the month that the letters name in any case, or 0.
+pub fn month_of(letters: &[u8]) -> i8
     ensures value { result ≡ pos (month_of letters.now) }
 {
     if letters.eq_ignore_ascii_case(b"jan") {

@@ -5,6 +5,7 @@
 #![tactic(auto)]
 
 mod date_time;
+mod day;
 mod escape;
 mod flags;
 mod keywords;
@@ -16,6 +17,7 @@ mod section;
 mod sequence_set;
 
 pub use date_time::{DATE_TIME_OCTETS, DateTime};
+pub use day::Day;
 pub use escape::{Escape, EscapeFault, read_escaped, write_escaped};
 pub use flags::{Flags, MAX_KEYWORDS};
 pub use keywords::{Keywords, MAX_KEYWORD_OCTETS, is_atom_octet, is_lawful_keyword};

@@ -1,0 +1,62 @@
+ghost use Rattle.std.specs.Prelude.{◌≡◌, ◌<◌, ◌≤◌, ◌-◌, ◌^◌, IfOk};
+ghost use Rattle.imap_types.specs.DateTimes.{month_of};
+ghost use Rattle.imap_grammar.specs.Reading.{Gives, date_at, date_text_at, digits_at, month_name_at};
+
+use crate::class::Class;
+use crate::fault::ParseFault;
+use crate::numbers::saturated;
+use crate::scan::{run, skip};
+use imap_types::Day;
+
+/// The day that a key of SEARCH names, with quotes or without (RFC 9051, section 9, date).
+pub fn date(octets: &[u8]) -> Result<(Day, &[u8]), ParseFault>
+    ensures { Gives (λ x. (x.0, x.1.now)) result (date_at octets.now) }
+{
+    match octets {
+        [] => Err(ParseFault::BadSyntax),
+        [first, rest @ ..] => {
+            if *first == b'"' {
+                let (day, rest) = date_text(rest)?;
+                let rest = skip(rest, b"\"")?;
+                return Ok((day, rest));
+            }
+            date_text(octets)
+        }
+    }
+}
+
+/// `d-Mon-yyyy`, on a day that the calendar has (RFC 9051, section 9, date-text).
+fn date_text(octets: &[u8]) -> Result<(Day, &[u8]), ParseFault>
+    ensures { Gives (λ x. (x.0, x.1.now)) result (date_text_at octets.now) }
+{
+    let (day, rest) = digits(octets, 1, 2, 31)?;
+    let (month, rest) = month_name(skip(rest, b"-")?)?;
+    let (year, rest) = digits(skip(rest, b"-")?, 4, 4, 9999)?;
+    match Day::named(year, month, day as u8) {
+        Some(day) => Ok((day, rest)),
+        None => Err(ParseFault::BadSyntax),
+    }
+}
+
+/// A number up to a limit in at least and at most so many digits.
+fn digits(octets: &[u8], least: usize, most: usize, limit: u16) -> Result<(u16, &[u8]), ParseFault>
+    ensures value { Gives (λ x. (x.0, x.1.now)) result (digits_at least most limit octets.now) }
+    ensures bound { IfOk result (λ x. x.0 ≤ limit) }
+{
+    let (digits, rest) = run(Class::Digit, octets)?;
+    let value = saturated(digits);
+    if digits.len() < least || digits.len() > most || value > u64::from(limit) {
+        return Err(ParseFault::BadSyntax);
+    }
+    Ok((value as u16, rest))
+}
+
+/// Three octets, where the name of a month should stand.
+fn month_name(octets: &[u8]) -> Result<(&[u8], &[u8]), ParseFault>
+    ensures { Gives (λ x. (month_of x.0.now, x.1.now)) result (month_name_at octets.now) }
+{
+    if octets.len() < 3 {
+        return Err(ParseFault::BadSyntax);
+    }
+    Ok(octets.split_at(3))
+}
