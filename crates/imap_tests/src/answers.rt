@@ -13,9 +13,14 @@ use std::process::Abort;
 use std::str;
 
 /// This is the answer's one text: it is put behind what is there, it is read as the answer, whatever follows it, and no
-/// front of it is read.
+/// front of it is read. A copy is the same answer.
 fn says(rt: &impl Abort, alloc: Global, answer: &Answer, text: &[u8]) -> Result<(), AllocError> {
     prints(rt, alloc, answer, text)?;
+    assert!(rt;
+        answer.copy(alloc)?.same(answer),
+        "copied otherwise: {}",
+        shown(text)
+    );
     for more in [b"".as_slice(), b"\r\n", b" ok\r\n", b"1", b")\r\n", text] {
         reads(rt, alloc, answer, text, more)?;
     }
