@@ -16,7 +16,7 @@ pub enum MailboxState {
     NonExistent,
 }
 
-/// What STATUS tells, of what was asked (RFC 9051, section 7.3.2; RFC 7162, section 3.1.7).
+/// What STATUS tells, of what was asked (RFC 9051, section 7.3.3; RFC 7162, section 3.1.7).
 #[derive(Clone, Copy, Debug, PartialEq, Eq)]
 pub struct StatusItems {
     /// How many messages there are.
