@@ -344,7 +344,9 @@ unfolding search_at
 search-again tag by_uid results rest h i =
     let more = uid_mark by_uid ++ (results_text results ++ (13 ∷ rest)) in
     let parts = word_parts is_tag_octet tag h in
-    ap (λ (x : List ℕ × List ℕ). behind (after (codes "\") UID") x.1) (λ rest. search_from x.0 true rest) (after (codes "\")") x.1 >>= λ rest. search_from x.0 false rest)) (span-again Tag tag more parts.4 (quote_ends by_uid (results_text results ++ (13 ∷ rest))))
+    let filled : eqb (length tag) 0 ≡ false = ap (λ (x : List ℕ). eqb (length x) 0) parts.2 ∙ ne_eqb (suc (length parts.1)) 0 (λ e. absurd (omega arith)) in
+    ap (λ (x : List ℕ × List ℕ). cond (eqb (length x.0) 0) None (behind (after (codes "\") UID") x.1) (λ rest. search_from x.0 true rest) (after (codes "\")") x.1 >>= λ rest. search_from x.0 false rest))) (span-again Tag tag more parts.4 (quote_ends by_uid (results_text results ++ (13 ∷ rest))))
+    ∙ ap (λ b. cond b None (behind (after (codes "\") UID") more) (λ rest. search_from tag true rest) (after (codes "\")") more >>= λ rest. search_from tag false rest))) filled
     ∙ search-by tag by_uid results rest i
 
 done_again : (tag more : List ℕ) → tagged_at tag (32 ∷ 79 ∷ 75 ∷ 32 ∷ more) ≡ completed_at tag more

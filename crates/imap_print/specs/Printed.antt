@@ -73,7 +73,7 @@ abbrev pub code_before : Option Code → List ℕ
 code_before None = []
 code_before (Some code) = code_text code ++ codes " "
 
--- What STATUS tells, each number behind its word (RFC 9051, section 7.3.2).
+-- What STATUS tells, each number behind its word (RFC 9051, section 7.3.3).
 abbrev pub status_texts : StatusItems → List (List ℕ)
 status_texts items =
     item (codes "MESSAGES ") items.messages
@@ -142,7 +142,7 @@ fetch_texts items =
 abbrev pub list_text : List ℕ → MailboxState → Bool → List ℕ
 list_text name state subscribed = codes "* LIST " ++ attributes_text state subscribed ++ codes " \"/\" " ++ name_text name
 
--- A mailbox in STATUS (RFC 9051, section 7.3.2).
+-- A mailbox in STATUS (RFC 9051, section 7.3.3).
 abbrev pub status_text : List ℕ → StatusItems → List ℕ
 status_text name items = codes "* STATUS " ++ name_text name ++ codes " (" ++ separated 32 (status_texts items) ++ codes ")"
 

@@ -243,8 +243,10 @@ search_from tag by_uid bytes = within (λ results. answer.Search tag by_uid resu
 
 unfoldable pub search_at : List ℕ → Option (Answer × List ℕ)
 search_at bytes =
-    behind (after (codes "\") UID") (span (is_in Tag) bytes).1) (λ rest. search_from (span (is_in Tag) bytes).0 true rest)
-    (after (codes "\")") (span (is_in Tag) bytes).1 >>= λ rest. search_from (span (is_in Tag) bytes).0 false rest)
+    if length (span (is_in Tag) bytes).0 == 0 then None
+    else
+      behind (after (codes "\") UID") (span (is_in Tag) bytes).1) (λ rest. search_from (span (is_in Tag) bytes).0 true rest)
+      (after (codes "\")") (span (is_in Tag) bytes).1 >>= λ rest. search_from (span (is_in Tag) bytes).0 false rest)
 
 -- A message in FETCH, behind its number.
 unfoldable pub fetch_at : ℕ → List ℕ → Option (Answer × List ℕ)

@@ -1,8 +1,11 @@
+ghost use Rattle.std.specs.Prelude.{◌≡◌, ◌↔◌, IfOk, IsTrue};
+
 use crate::codes::{Code, Notice};
 use crate::fetched::FetchItems;
 use crate::mailbox::{MailboxState, SearchResults, StatusItems};
 use crate::words::{ByeReason, CommandWord, Continuation, Enabled, Login, Refusal};
 use imap_types::{Flags, Name, Octets};
+use std::alloc::{AllocError, Global};
 
 /// One answer to a client (RFC 9051, section 7).
 #[derive(Drop)]
@@ -80,4 +83,181 @@ pub enum Answer {
         tag: Octets,
         reason: Refusal,
     },
+}
+
+impl Answer {
+    /// Whether both are the same answer.
+    pub fn same(&self, other: &Answer) -> bool
+        ensures { IsTrue result ↔ (self.now ≡ other.now) }
+    {
+        match (self, other) {
+            (Answer::Greeting { login }, Answer::Greeting { login: other }) => login == other,
+            (Answer::Continue { with }, Answer::Continue { with: other }) => with == other,
+            (Answer::Capability, Answer::Capability) => true,
+            (Answer::Enabled { extensions }, Answer::Enabled { extensions: others }) => {
+                extensions == others
+            }
+            (Answer::Namespace, Answer::Namespace) => true,
+            (Answer::Flags { flags }, Answer::Flags { flags: others }) => flags.same(others),
+            (Answer::Exists { count }, Answer::Exists { count: other }) => count == other,
+            (Answer::Expunge { number }, Answer::Expunge { number: other }) => number == other,
+            (
+                Answer::List {
+                    name,
+                    state,
+                    subscribed,
+                },
+                Answer::List {
+                    name: other,
+                    state: other_state,
+                    subscribed: other_subscribed,
+                },
+            ) => name.same(other) && state == other_state && subscribed == other_subscribed,
+            (Answer::Tell { notice }, Answer::Tell { notice: other }) => notice.same(other),
+            (
+                Answer::Status { name, items },
+                Answer::Status {
+                    name: other,
+                    items: others,
+                },
+            ) => name.same(other) && are_same_items(items, others),
+            (
+                Answer::Search {
+                    tag,
+                    by_uid,
+                    results,
+                },
+                Answer::Search {
+                    tag: other,
+                    by_uid: other_by_uid,
+                    results: others,
+                },
+            ) => tag.same(other) && by_uid == other_by_uid && results.same(others),
+            (
+                Answer::Fetch { number, items },
+                Answer::Fetch {
+                    number: other,
+                    items: others,
+                },
+            ) => number == other && items.same(others),
+            (Answer::Bye { reason }, Answer::Bye { reason: other }) => reason == other,
+            (Answer::NoTag, Answer::NoTag) => true,
+            (Answer::LiteralTooLong, Answer::LiteralTooLong) => true,
+            (
+                Answer::Completed { tag, code, command },
+                Answer::Completed {
+                    tag: other,
+                    code: other_code,
+                    command: other_command,
+                },
+            ) => tag.same(other) && are_same_codes(code, other_code) && command == other_command,
+            (
+                Answer::Refused { tag, reason },
+                Answer::Refused {
+                    tag: other,
+                    reason: other_reason,
+                },
+            ) => tag.same(other) && reason == other_reason,
+            _ => false,
+        }
+    }
+
+    /// An equal answer; `Err` where there is no memory for it.
+    pub fn copy(&self, alloc: Global) -> Result<Answer, AllocError>
+        ensures { IfOk result (λ copied. copied ≡ self.now) }
+    {
+        Ok(match self {
+            Answer::Greeting { login } => Answer::Greeting { login: *login },
+            Answer::Continue { with } => Answer::Continue { with: *with },
+            Answer::Capability => Answer::Capability,
+            Answer::Enabled { extensions } => Answer::Enabled {
+                extensions: *extensions,
+            },
+            Answer::Namespace => Answer::Namespace,
+            Answer::Flags { flags } => Answer::Flags {
+                flags: flags.copy(alloc)?,
+            },
+            Answer::Exists { count } => Answer::Exists { count: *count },
+            Answer::Expunge { number } => Answer::Expunge { number: *number },
+            Answer::List {
+                name,
+                state,
+                subscribed,
+            } => Answer::List {
+                name: name.copy(alloc)?,
+                state: *state,
+                subscribed: *subscribed,
+            },
+            Answer::Tell { notice } => Answer::Tell {
+                notice: notice.copy(alloc)?,
+            },
+            Answer::Status { name, items } => Answer::Status {
+                name: name.copy(alloc)?,
+                items: *items,
+            },
+            Answer::Search {
+                tag,
+                by_uid,
+                results,
+            } => Answer::Search {
+                tag: tag.copy(alloc)?,
+                by_uid: *by_uid,
+                results: results.copy(alloc)?,
+            },
+            Answer::Fetch { number, items } => Answer::Fetch {
+                number: *number,
+                items: items.copy(alloc)?,
+            },
+            Answer::Bye { reason } => Answer::Bye { reason: *reason },
+            Answer::NoTag => Answer::NoTag,
+            Answer::LiteralTooLong => Answer::LiteralTooLong,
+            Answer::Completed { tag, code, command } => Answer::Completed {
+                tag: tag.copy(alloc)?,
+                code: copied_code(alloc, code)?,
+                command: *command,
+            },
+            Answer::Refused { tag, reason } => Answer::Refused {
+                tag: tag.copy(alloc)?,
+                reason: *reason,
+            },
+        })
+    }
+}
+
+fn are_same_items(items: &StatusItems, others: &StatusItems) -> bool
+    ensures { IsTrue result ↔ (items.now ≡ others.now) }
+{
+    are_same_counts(items, others)
+        && items.uidnext == others.uidnext
+        && items.uidvalidity == others.uidvalidity
+        && items.highest_modseq == others.highest_modseq
+}
+
+/// Whether both count the same messages.
+fn are_same_counts(items: &StatusItems, others: &StatusItems) -> bool
+    ensures { IsTrue result ↔ ((items.now.messages ≡ others.now.messages) × (items.now.unseen ≡ others.now.unseen) × (items.now.deleted ≡ others.now.deleted) × (items.now.size ≡ others.now.size)) }
+{
+    items.messages == others.messages
+        && items.unseen == others.unseen
+        && items.deleted == others.deleted
+        && items.size == others.size
+}
+
+fn are_same_codes(code: &Option<Code>, other: &Option<Code>) -> bool
+    ensures { IsTrue result ↔ (code.now ≡ other.now) }
+{
+    match (code, other) {
+        (None, None) => true,
+        (Some(code), Some(other)) => code.same(other),
+        _ => false,
+    }
+}
+
+fn copied_code(alloc: Global, code: &Option<Code>) -> Result<Option<Code>, AllocError>
+    ensures { IfOk result (λ copied. copied ≡ code.now) }
+{
+    Ok(match code {
+        None => None,
+        Some(code) => Some(code.copy(alloc)?),
+    })
 }

@@ -1,6 +1,9 @@
 //! What stands in brackets behind an OK (RFC 9051, section 7.1; RFC 7162, section 3.1.2).
 
+ghost use Rattle.std.specs.Prelude.{◌≡◌, ◌↔◌, IfOk, IsTrue};
+
 use imap_types::{Flags, NumberSet};
+use std::alloc::{AllocError, Global};
 
 /// The code of a tagged OK. UIDVALIDITY and UIDs are from 1 on.
 #[derive(Drop)]
@@ -24,6 +27,71 @@ pub enum Code {
     },
     /// Some of the messages named are gone.
     ExpungeIssued,
+}
+
+impl Code {
+    /// Whether both are the same code.
+    pub fn same(&self, other: &Code) -> bool
+        ensures { IsTrue result ↔ (self.now ≡ other.now) }
+    {
+        match (self, other) {
+            (Code::ReadWrite, Code::ReadWrite) => true,
+            (Code::ReadOnly, Code::ReadOnly) => true,
+            (
+                Code::AppendUid { uidvalidity, uid },
+                Code::AppendUid {
+                    uidvalidity: other_validity,
+                    uid: other_uid,
+                },
+            ) => uidvalidity == other_validity && uid == other_uid,
+            (
+                Code::CopyUid {
+                    uidvalidity,
+                    source,
+                    copies,
+                },
+                Code::CopyUid {
+                    uidvalidity: other_validity,
+                    source: other_source,
+                    copies: other_copies,
+                },
+            ) => uidvalidity == other_validity
+                && source.same(other_source)
+                && copies.same(other_copies),
+            (Code::Modified { refused }, Code::Modified { refused: others }) => refused.same(
+                others,
+            ),
+            (Code::ExpungeIssued, Code::ExpungeIssued) => true,
+            _ => false,
+        }
+    }
+
+    /// An equal code; `Err` where there is no memory for it.
+    pub fn copy(&self, alloc: Global) -> Result<Code, AllocError>
+        ensures { IfOk result (λ copied. copied ≡ self.now) }
+    {
+        Ok(match self {
+            Code::ReadWrite => Code::ReadWrite,
+            Code::ReadOnly => Code::ReadOnly,
+            Code::AppendUid { uidvalidity, uid } => Code::AppendUid {
+                uidvalidity: *uidvalidity,
+                uid: *uid,
+            },
+            Code::CopyUid {
+                uidvalidity,
+                source,
+                copies,
+            } => Code::CopyUid {
+                uidvalidity: *uidvalidity,
+                source: source.copy(alloc)?,
+                copies: copies.copy(alloc)?,
+            },
+            Code::Modified { refused } => Code::Modified {
+                refused: refused.copy(alloc)?,
+            },
+            Code::ExpungeIssued => Code::ExpungeIssued,
+        })
+    }
 }
 
 /// What an untagged OK tells.
@@ -53,4 +121,83 @@ pub enum Notice {
         source: NumberSet,
         copies: NumberSet,
     },
+}
+
+impl Notice {
+    /// Whether both tell the same.
+    pub fn same(&self, other: &Notice) -> bool
+        ensures { IsTrue result ↔ (self.now ≡ other.now) }
+    {
+        match (self, other) {
+            (Notice::Closed, Notice::Closed) => true,
+            (Notice::UidValidity { value }, Notice::UidValidity { value: other }) => value == other,
+            (Notice::UidNext { uid }, Notice::UidNext { uid: other }) => uid == other,
+            (Notice::PermanentFlags { flags }, Notice::PermanentFlags { flags: others }) => {
+                are_same_flags(flags, others)
+            }
+            (Notice::HighestModSeq { modseq }, Notice::HighestModSeq { modseq: other }) => {
+                modseq == other
+            }
+            (
+                Notice::CopyUid {
+                    uidvalidity,
+                    source,
+                    copies,
+                },
+                Notice::CopyUid {
+                    uidvalidity: other_validity,
+                    source: other_source,
+                    copies: other_copies,
+                },
+            ) => uidvalidity == other_validity
+                && source.same(other_source)
+                && copies.same(other_copies),
+            _ => false,
+        }
+    }
+
+    /// An equal one; `Err` where there is no memory for it.
+    pub fn copy(&self, alloc: Global) -> Result<Notice, AllocError>
+        ensures { IfOk result (λ copied. copied ≡ self.now) }
+    {
+        Ok(match self {
+            Notice::Closed => Notice::Closed,
+            Notice::UidValidity { value } => Notice::UidValidity { value: *value },
+            Notice::UidNext { uid } => Notice::UidNext { uid: *uid },
+            Notice::PermanentFlags { flags } => Notice::PermanentFlags {
+                flags: copied_flags(alloc, flags)?,
+            },
+            Notice::HighestModSeq { modseq } => Notice::HighestModSeq { modseq: *modseq },
+            Notice::CopyUid {
+                uidvalidity,
+                source,
+                copies,
+            } => Notice::CopyUid {
+                uidvalidity: *uidvalidity,
+                source: source.copy(alloc)?,
+                copies: copies.copy(alloc)?,
+            },
+        })
+    }
+}
+
+/// Whether both are the same flags, or both none.
+pub fn are_same_flags(flags: &Option<Flags>, others: &Option<Flags>) -> bool
+    ensures { IsTrue result ↔ (flags.now ≡ others.now) }
+{
+    match (flags, others) {
+        (None, None) => true,
+        (Some(flags), Some(others)) => flags.same(others),
+        _ => false,
+    }
+}
+
+/// The same flags, where there are any.
+pub fn copied_flags(alloc: Global, flags: &Option<Flags>) -> Result<Option<Flags>, AllocError>
+    ensures { IfOk result (λ copied. copied ≡ flags.now) }
+{
+    Ok(match flags {
+        None => None,
+        Some(flags) => Some(flags.copy(alloc)?),
+    })
 }

@@ -103,7 +103,7 @@ pub fn push_flags_and_any(flags: &Flags, out: &mut Vec<u8>) -> Result<bool, Allo
     Ok(still)
 }
 
-/// What STATUS tells (RFC 9051, section 7.3.2).
+/// What STATUS tells (RFC 9051, section 7.3.3).
 pub fn push_status_items(items: &StatusItems, out: &mut Vec<u8>) -> Result<bool, AllocError>
     ensures ok { IfOk result (λ still. Lists true (status_texts items.now) out.old.items out.new.items still) }
     ensures kept { Extends out.old.items out.new.items }

@@ -1,6 +1,9 @@
 //! What answers tell of mailboxes and searches.
 
+ghost use Rattle.std.specs.Prelude.{◌≡◌, ◌↔◌, IfOk, IsTrue};
+
 use imap_types::NumberSet;
+use std::alloc::{AllocError, Global};
 
 /// Whether a name in LIST is a mailbox (RFC 9051, section 7.3.1).
 #[derive(Clone, Copy, Debug, PartialEq, Eq)]
@@ -13,7 +16,7 @@ pub enum MailboxState {
     NonExistent,
 }
 
-/// What STATUS tells, of what was asked (RFC 9051, section 7.3.2; RFC 7162, section 3.1.7).
+/// What STATUS tells, of what was asked (RFC 9051, section 7.3.3; RFC 7162, section 3.1.7).
 #[derive(Clone, Copy, Debug, PartialEq, Eq)]
 pub struct StatusItems {
     /// How many messages there are.
@@ -45,4 +48,30 @@ pub struct SearchResults {
     pub count: Option<u32>,
     /// The greatest mod-sequence of the hits.
     pub modseq: Option<u64>,
+}
+
+impl SearchResults {
+    /// Whether both tell the same.
+    pub fn same(&self, other: &SearchResults) -> bool
+        ensures { IsTrue result ↔ (self.now ≡ other.now) }
+    {
+        self.min == other.min
+            && self.max == other.max
+            && self.all.same(&other.all)
+            && self.count == other.count
+            && self.modseq == other.modseq
+    }
+
+    /// Equal results; `Err` where there is no memory for them.
+    pub fn copy(&self, alloc: Global) -> Result<SearchResults, AllocError>
+        ensures { IfOk result (λ copied. copied ≡ self.now) }
+    {
+        Ok(SearchResults {
+            min: self.min,
+            max: self.max,
+            all: self.all.copy(alloc)?,
+            count: self.count,
+            modseq: self.modseq,
+        })
+    }
 }

@@ -167,6 +167,9 @@ fn search(alloc: Global, bytes: &[u8]) -> Result<(Answer, &[u8]), ReadFault>
     ensures { Gives (λ x. (x.0, x.1.now)) result (search_at bytes.now) }
 {
     let (tag, rest) = span(Class::Tag, bytes);
+    if tag.is_empty() {
+        return Err(ReadFault::NotPrinted);
+    }
     match skip(rest, b"\") UID") {
         Some(rest) => search_from(alloc, tag, true, rest),
         None => {

@@ -24,7 +24,7 @@ impl Login {
     }
 }
 
-/// What the server waits for (RFC 9051, section 7.5; RFC 2177).
+/// What the server waits for (RFC 9051, section 7.6; RFC 2177).
 #[derive(Clone, Copy, Debug, PartialEq, Eq)]
 pub enum Continuation {
     /// The octets of a literal.

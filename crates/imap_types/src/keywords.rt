@@ -144,7 +144,8 @@ fn contains(words: &[Octets], keyword: &[u8]) -> bool
     false
 }
 
-fn are_same(words: &[Octets], others: &[Octets]) -> bool
+/// Whether both are the same octet strings in the same order.
+pub fn are_same(words: &[Octets], others: &[Octets]) -> bool
     ensures { IsTrue result ↔ (words.now ≡ others.now) }
 {
     if words.len() != others.len() {

@@ -1,3 +1,4 @@
+use crate::keywords::are_same;
 use crate::octets::Octets;
 use std::alloc::{AllocError, Global};
 use std::marker::Model;
@@ -18,7 +19,23 @@ pub enum Section {
 }
 
 impl Section {
-    ghost use Rattle.std.specs.Prelude.{◌≡◌, IfOk};
+    ghost use Rattle.std.specs.Prelude.{◌≡◌, ◌↔◌, IfOk, IsTrue};
+
+    /// Whether both are the same section, by names as they were written.
+    pub fn same(&self, other: &Section) -> bool
+        ensures { IsTrue result ↔ (self.now ≡ other.now) }
+    {
+        match (self, other) {
+            (Section::Whole, Section::Whole) => true,
+            (Section::Header, Section::Header) => true,
+            (Section::Text, Section::Text) => true,
+            (Section::Fields { names }, Section::Fields { names: others }) => names.same(others),
+            (Section::FieldsNot { names }, Section::FieldsNot { names: others }) => {
+                names.same(others)
+            }
+            _ => false,
+        }
+    }
 
     /// An equal section; `Err` where there is no memory for it.
     pub fn copy(&self, alloc: Global) -> Result<Section, AllocError>
@@ -53,7 +70,7 @@ impl Model for FieldNames {
 }
 
 impl FieldNames {
-    ghost use Rattle.std.specs.Prelude.{◌≡◌, IfOk};
+    ghost use Rattle.std.specs.Prelude.{◌≡◌, ◌↔◌, IfOk, IsTrue};
 
     /// These names, whose memory it takes over.
     pub fn new(names: Vec<Octets>) -> FieldNames
@@ -67,6 +84,13 @@ impl FieldNames {
         ensures { result.now ≡ self.now }
     {
         &self.names
+    }
+
+    /// Whether both are the same names as they were written.
+    pub fn same(&self, other: &FieldNames) -> bool
+        ensures { IsTrue result ↔ (self.now ≡ other.now) }
+    {
+        are_same(self.names(), other.names())
     }
 
     /// Equal names; `Err` where there is no memory for them.
