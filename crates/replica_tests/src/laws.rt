@@ -1,0 +1,34 @@
+//! The laws can be called: each is the contract of a function that does nothing.
+
+use crate::fixtures::Mailboxes;
+use crdt_ops::one_operation;
+use folder_state::{contents_follow_the_set, folders_for_all_orders};
+use merge_laws::same_for_all_orders;
+use subs_state::{subs_for_all_orders, subscriptions_follow_the_set, whole_state_for_all_orders};
+
+#[test]
+fn texts() {
+    one_operation();
+}
+
+#[test]
+fn orders() {
+    same_for_all_orders::<Mailboxes>();
+}
+
+#[test]
+fn folders() {
+    folders_for_all_orders();
+    contents_follow_the_set();
+}
+
+#[test]
+fn subscriptions() {
+    subs_for_all_orders();
+    subscriptions_follow_the_set();
+}
+
+#[test]
+fn both() {
+    whole_state_for_all_orders();
+}
