@@ -6,8 +6,8 @@ use std::test::Fail;
 
 const REPLICAS: u32 = 5;
 
-/// Turns of the script: in each, every replica issues an operation, and one that no session issued is forged.
-const TURNS: u32 = 333;
+/// Turns of the script: in each, every replica issues an operation, 2,000 in all, and one that no session issued is forged.
+const TURNS: u32 = 400;
 
 /// A fixed rule of numbers that look random.
 #[derive(Drop)]
@@ -147,7 +147,7 @@ fn replicas_agree_after_late_and_repeated_deliveries(rt: HostRuntime) -> Result<
     let Some(first) = dump_of(alloc, printed, 1)? else {
         return Err(Fail::from("no dump"));
     };
-    assert_eq!(rt; first.lines().filter(|line| line.starts_with("op ")).count(), 1_998);
+    assert_eq!(rt; first.lines().filter(|line| line.starts_with("op ")).count(), 2_400);
     assert!(rt; first.contains("\nmessage ") && first.contains("\nsubscribed "));
     assert!(rt; printed.contains(": Held\n") && printed.contains(": Repeat\n"));
     assert!(rt; !printed.contains("Conflict") && !printed.contains(" stalled") && !printed.contains("Unsound"));
