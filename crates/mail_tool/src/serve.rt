@@ -261,7 +261,9 @@ fn feed(
         name,
         printed,
     )?;
-    replica.issued.add_behind(alloc, replica.node.op_list(), applied)?;
+    replica
+        .issued
+        .add_behind(alloc, replica.node.op_list(), applied)?;
     Ok(())
 }
 

@@ -80,7 +80,11 @@ fn answers_a_stream_however_it_is_cut(rt: HostRuntime) -> Result<(), Fail> {
         for place in 0..octets.len() {
             let (end, printed) = replayed(alloc, &cut_once(alloc, octets, place)?);
             assert_eq!(rt; end, ReplayEnd::Done, "{stream:?} cut at {place}");
-            assert_eq!(rt; str::from_utf8(&printed)?, expected.as_str(), "{stream:?} cut at {place}");
+            assert_eq!(rt;
+                str::from_utf8(&printed)?,
+                expected.as_str(),
+                "{stream:?} cut at {place}"
+            );
         }
         let (end, printed) = replayed(alloc, &cut_everywhere(alloc, octets)?);
         assert_eq!(rt; end, ReplayEnd::Done, "{stream:?} octet by octet");
@@ -106,8 +110,13 @@ fn takes_a_literal_of_the_limit(rt: HostRuntime) -> Result<(), Fail> {
     let (end, printed) = replayed(alloc, &script);
     assert_eq!(rt; end, ReplayEnd::Done);
     assert!(rt;
-        printed.ends_with(b" {1}\nx S: a NO [LIMIT] literal too long\nx C: b NOOP\nx S: b OK NOOP completed\n")
+        printed.ends_with(
+            b" {1}\nx S: a NO [LIMIT] literal too long\nx C: b NOOP\nx S: b OK NOOP completed\n"
+        )
     );
-    assert_eq!(rt; printed.iter().filter(|octet| **octet == b'm').count(), 1_048_577);
+    assert_eq!(rt;
+        printed.iter().filter(|octet| **octet == b'm').count(),
+        1_048_577
+    );
     Ok(())
 }

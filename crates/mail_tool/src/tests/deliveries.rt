@@ -164,7 +164,12 @@ fn delivers_operations(rt: HostRuntime) -> Result<(), Fail> {
 #[test]
 fn delivers_only_what_was_issued(rt: HostRuntime) -> Result<(), Fail> {
     let alloc = rt.alloc();
-    for bad in ["deliver 1:1 2", "deliver 1:3 2", "deliver 3:1 2", "deliver 1:2 3"] {
+    for bad in [
+        "deliver 1:1 2",
+        "deliver 1:3 2",
+        "deliver 3:1 2",
+        "deliver 1:2 3",
+    ] {
         let script = joined(
             alloc,
             &[TWO, "forge 1 1:1 - create a\nline x a CREATE b\n", bad],

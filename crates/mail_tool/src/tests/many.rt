@@ -55,11 +55,18 @@ fn forged(alloc: Global, turn: u32) -> Result<String, AllocError> {
         format!(in alloc; "9={turn}")?
     };
     match turn % 6 {
-        0 => format!(in alloc; "9:{number} {clock} append f1x{turn} () \"01-Jan-1970 00:00:00 +0000\" =x"),
-        1 => format!(in alloc; "9:{number} {clock} store f1x{} (\\Seen) 9:{turn} 9:{turn}", turn - 1),
+        0 => format!(in alloc;
+            "9:{number} {clock} append f1x{turn} () \"01-Jan-1970 00:00:00 +0000\" =x"
+        ),
+        1 => format!(in alloc;
+            "9:{number} {clock} store f1x{} (\\Seen) 9:{turn} 9:{turn}",
+            turn - 1
+        ),
         2 => format!(in alloc; "9:{number} {clock} subscribe n{turn}"),
         3 => format!(in alloc; "9:{number} {clock} unsubscribe n{} 9:{turn}", turn - 1),
-        4 => format!(in alloc; "9:{number} {clock} append INBOX (\\Flagged) \"01-Jan-1970 00:00:00 +0000\" ="),
+        4 => format!(in alloc;
+            "9:{number} {clock} append INBOX (\\Flagged) \"01-Jan-1970 00:00:00 +0000\" ="
+        ),
         _ => format!(in alloc; "9:{number} {clock} expunge INBOX 9:{turn}"),
     }
 }
@@ -95,10 +102,18 @@ fn add_deliveries(
     let forged = forged(alloc, turn)?;
     for replica in 1..=REPLICAS {
         for _ in 0..2 {
-            add(format!(in alloc; "forge {replica} {forged}\n")?, numbers, lines)?;
+            add(
+                format!(in alloc; "forge {replica} {forged}\n")?,
+                numbers,
+                lines,
+            )?;
             for source in 1..=REPLICAS {
                 if source != replica {
-                    add(format!(in alloc; "deliver {source}:{number} {replica}\n")?, numbers, lines)?;
+                    add(
+                        format!(in alloc; "deliver {source}:{number} {replica}\n")?,
+                        numbers,
+                        lines,
+                    )?;
                 }
             }
         }
@@ -130,7 +145,11 @@ fn script(alloc: Global) -> Result<Vec<u8>, AllocError> {
 }
 
 /// The dump of this replica, without its first line.
-fn dump_of<'a>(alloc: Global, printed: &'a str, replica: u32) -> Result<Option<&'a str>, AllocError> {
+fn dump_of<'a>(
+    alloc: Global,
+    printed: &'a str,
+    replica: u32,
+) -> Result<Option<&'a str>, AllocError> {
     let head = format!(in alloc; "\ndump {replica}\n")?;
     let Some((_, behind)) = printed.split_once(head.as_str()) else {
         return Ok(None);
@@ -147,12 +166,23 @@ fn replicas_agree_after_late_and_repeated_deliveries(rt: HostRuntime) -> Result<
     let Some(first) = dump_of(alloc, printed, 1)? else {
         return Err(Fail::from("no dump"));
     };
-    assert_eq!(rt; first.lines().filter(|line| line.starts_with("op ")).count(), 2_400);
+    assert_eq!(rt;
+        first.lines().filter(|line| line.starts_with("op ")).count(),
+        2_400
+    );
     assert!(rt; first.contains("\nmessage ") && first.contains("\nsubscribed "));
     assert!(rt; printed.contains(": Held\n") && printed.contains(": Repeat\n"));
-    assert!(rt; !printed.contains("Conflict") && !printed.contains(" stalled") && !printed.contains("Unsound"));
+    assert!(rt;
+        !printed.contains("Conflict")
+            && !printed.contains(" stalled")
+            && !printed.contains("Unsound")
+    );
     for replica in 2..=REPLICAS {
-        assert_eq!(rt; dump_of(alloc, printed, replica)?, Some(first), "at {replica}");
+        assert_eq!(rt;
+            dump_of(alloc, printed, replica)?,
+            Some(first),
+            "at {replica}"
+        );
     }
     Ok(())
 }

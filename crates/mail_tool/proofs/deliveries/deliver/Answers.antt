@@ -1,5 +1,4 @@
 use Rattle.std.proofs.Common.{Err, ap, inr, refl}
-
 use Rattle.mail_tool.proofs.StageLemmas.{err_same, on_ok}
 use Rattle.mail_tool.proofs.deliveries.deliver.Goals as goal
 
