@@ -245,8 +245,8 @@ unfoldable pub search_at : List ℕ → Option (Answer × List ℕ)
 search_at bytes =
     if length (span (is_in Tag) bytes).0 == 0 then None
     else
-      behind (after (codes "\") UID") (span (is_in Tag) bytes).1) (λ rest. search_from (span (is_in Tag) bytes).0 true rest)
-      (after (codes "\")") (span (is_in Tag) bytes).1 >>= λ rest. search_from (span (is_in Tag) bytes).0 false rest)
+    behind (after (codes "\") UID") (span (is_in Tag) bytes).1) (λ rest. search_from (span (is_in Tag) bytes).0 true rest)
+    (after (codes "\")") (span (is_in Tag) bytes).1 >>= λ rest. search_from (span (is_in Tag) bytes).0 false rest)
 
 -- A message in FETCH, behind its number.
 unfoldable pub fetch_at : ℕ → List ℕ → Option (Answer × List ℕ)
