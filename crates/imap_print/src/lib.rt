@@ -9,6 +9,7 @@ mod items;
 mod lists;
 mod mailbox;
 mod parts;
+mod printable;
 mod printer;
 mod readers;
 mod reading;

@@ -5,6 +5,7 @@ ghost use Rattle.imap_print.specs.declared.answer.Answer.{Answer as AnAnswer};
 
 use crate::answer::Answer;
 use crate::fault::ReadFault;
+use crate::printable::is_printable;
 use crate::printer::print;
 use crate::readers::line;
 use crate::scan::skip;
@@ -15,13 +16,20 @@ use std::alloc::{AllocError, Global};
 pub fn read(alloc: Global, text: &[u8]) -> Result<Option<(Answer, usize)>, AllocError>
     // What is read is printed so.
     ensures found { IfOk result (λ read. IfSome read (λ x. (text.now ≡ printed x.0 ++ drop x.1 text.now) × (x.1 ≡ length (printed x.0)))) }
+    // What is read can be printed.
+    ensures printable { IfOk result (λ read. IfSome read (λ x. IsPrintable x.0)) }
     // What is printed so is read, whatever follows it, unless memory runs out.
     ensures only { (answer : AnAnswer) (rest : List ℕ) → IsPrintable answer → text.now ≡ printed answer ++ rest → IfOk result (λ read. read ≡ Some (answer, length (printed answer))) }
 {
     match line(alloc, text) {
         Err(ReadFault::NoMemory) => Err(AllocError),
         Err(ReadFault::NotPrinted) => Ok(None),
-        Ok((answer, _)) => printed_so(alloc, answer, text),
+        Ok((answer, _)) => {
+            if !is_printable(&answer) {
+                return Ok(None);
+            }
+            printed_so(alloc, answer, text)
+        }
     }
 }
 
@@ -32,6 +40,7 @@ fn printed_so(
     text: &[u8],
 ) -> Result<Option<(Answer, usize)>, AllocError>
     ensures found { IfOk result (λ read. IfSome read (λ x. (text.now ≡ printed x.0 ++ drop x.1 text.now) × (x.1 ≡ length (printed x.0)))) }
+    ensures same { IfOk result (λ read. IfSome read (λ x. x.0 ≡ answer)) }
     ensures only { (rest : List ℕ) → text.now ≡ printed answer ++ rest → IfOk result (λ read. read ≡ Some (answer, length (printed answer))) }
 {
     let mut out = Vec::new(alloc);

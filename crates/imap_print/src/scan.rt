@@ -85,7 +85,8 @@ impl Class {
     ghost use Rattle.std.specs.Prelude.{◌≡◌};
     ghost use Rattle.imap_print.specs.Reading.{is_in};
 
-    fn has(self, octet: u8) -> bool
+    /// Whether an octet is of this class.
+    pub fn has(self, octet: u8) -> bool
         ensures { result ≡ is_in self octet }
     {
         match self {

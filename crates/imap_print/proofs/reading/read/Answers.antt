@@ -1,4 +1,5 @@
-use Rattle.std.proofs.Common.{◌≡◌, ◌++◌, None, Some, length, IfOk, ap, sym, subst, ◌∙◌}
+use Rattle.std.proofs.Common.{◌≡◌, ◌++◌, true, None, Some, length, IfOk, ap, sym, subst, ◌∙◌}
+use Rattle.imap_print.specs.Printable.{IsPrintable}
 use Rattle.imap_print.specs.Printed.{printed}
 use Rattle.imap_print.specs.ReadingAnswers.{line_at}
 use Rattle.imap_print.specs.declared.answer.Answer.{Answer}
@@ -11,7 +12,14 @@ returns-in-Err-NotPrinted-clause-only c answer rest h e =
     let none : line_at c.args.text.now ≡ None = rw c.in-Err-NotPrinted.field-0-is at c.in-Err-NotPrinted.ensures in
     absurd (none_some (answer, rest) (sym none ∙ ap line_at e ∙ line-again answer rest h))
 
-pub returns-in-Ok-clause-only : goal.returns-in-Ok-clause-only
-returns-in-Ok-clause-only c answer rest h e =
+pub returns-then-not-is_printable-clause-only : goal.returns-then-not-is_printable-clause-only
+returns-then-not-is_printable-clause-only c answer rest h e =
+    let same = some_pair _ answer _ rest (sym c.in-Ok.ensures ∙ ap line_at e ∙ line-again answer rest h) in
+    let yes : c.is_printable.result ≡ true = c.is_printable.ensures.1 (subst IsPrintable (sym same.0) h) in
+    let no = c.if-not-is_printable.true in
+    absurd cc
+
+pub returns-else-not-is_printable-clause-only : goal.returns-else-not-is_printable-clause-only
+returns-else-not-is_printable-clause-only c answer rest h e =
     let same = some_pair _ answer _ rest (sym c.in-Ok.ensures ∙ ap line_at e ∙ line-again answer rest h) in
     subst (λ (x : Answer). IfOk c.printed_so.result (λ read. read ≡ Some (x, length (printed x)))) same.0 (c.printed_so.ensures.only rest (e ∙ ap (λ (x : Answer). printed x ++ rest) (sym same.0)))
