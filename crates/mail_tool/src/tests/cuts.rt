@@ -55,7 +55,7 @@ fn add_send(octets: &[u8], script: &mut Vec<u8>) -> Result<(), AllocError> {
 fn cut_once(alloc: Global, stream: &[u8], place: usize) -> Result<Vec<u8>, AllocError> {
     let mut script = Vec::new(alloc);
     script.extend_from_slice(b"node 1\nopen 1 x\n")?;
-    let (front, back) = stream.split_at(place);
+    let (front, back) = stream.split_at(place.min(stream.len()));
     add_send(front, &mut script)?;
     add_send(back, &mut script)?;
     Ok(script)

@@ -48,7 +48,7 @@ fn command(alloc: Global, replica: u32, turn: u32) -> Result<String, AllocError>
 
 /// The operation of this turn that is forged, behind those of the turns before: one of a message or a subscription.
 fn forged(alloc: Global, turn: u32) -> Result<String, AllocError> {
-    let number = turn + 1;
+    let number = turn.saturating_add(1);
     let clock = if turn == 0 {
         format!(in alloc; "-")?
     } else {
@@ -98,7 +98,7 @@ fn add_deliveries(
     numbers: &mut Numbers,
     lines: &mut Vec<String>,
 ) -> Result<(), AllocError> {
-    let number = turn + 1;
+    let number = turn.saturating_add(1);
     let forged = forged(alloc, turn)?;
     for replica in 1..=REPLICAS {
         for _ in 0..2 {
