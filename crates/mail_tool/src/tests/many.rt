@@ -54,7 +54,7 @@ fn forged(alloc: Global, turn: u32) -> Result<String, AllocError> {
     } else {
         format!(in alloc; "9={turn}")?
     };
-    match turn % 6 {
+    match turn % 7 {
         0 => format!(in alloc;
             "9:{number} {clock} append f1x{turn} () \"01-Jan-1970 00:00:00 +0000\" =x"
         ),
@@ -67,7 +67,8 @@ fn forged(alloc: Global, turn: u32) -> Result<String, AllocError> {
         4 => format!(in alloc;
             "9:{number} {clock} append INBOX (\\Flagged) \"01-Jan-1970 00:00:00 +0000\" ="
         ),
-        _ => format!(in alloc; "9:{number} {clock} expunge INBOX 9:{turn}"),
+        5 => format!(in alloc; "9:{number} {clock} expunge INBOX 9:{turn}"),
+        _ => format!(in alloc; "9:{number} {clock} subscribe m{turn}"),
     }
 }
 
