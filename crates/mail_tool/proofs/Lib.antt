@@ -1,3 +1,4 @@
 mod LineLemmas
+mod PartLemmas
 mod StageLemmas
 mod WholeLemmas

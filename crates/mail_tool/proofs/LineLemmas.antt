@@ -1,4 +1,4 @@
-use Rattle.std.proofs.Common.{◌≡◌, ℕ, suc, ◌+◌, List, [], ◌∷◌, ◌++◌, Option, Some, None, length, length-append, append_assoc, append-nil, arith, ap, sym, refl, subst, ◌∙◌}
+use Rattle.std.proofs.Common.{◌≡◌, inl, ℕ, suc, ◌+◌, List, [], ◌∷◌, ◌++◌, Option, Some, None, length, length-append, append_assoc, append-nil, arith, ap, sym, refl, subst, ◌∙◌}
 use Rattle.std.specs.Io.KnownBytes.{Appends, Keeps}
 use Rattle.mail_script.specs.Lines.{lines_of}
 use Rattle.mail_script.specs.Reading.{cut_at}
@@ -6,8 +6,8 @@ use Rattle.mail_script.specs.Script.{Says}
 use Rattle.mail_script.specs.declared.script.ScriptLine.{ScriptLine}
 use Rattle.mail_script.proofs.FieldLemmas.{cut_takes}
 use Rattle.mail_script.proofs.LineLemmas.{lines_next}
-use Rattle.mail_tool.specs.Lines.{IsBad, Serves}
-use Rattle.mail_tool.specs.Replays.{Advances, Breaks, ServesAll}
+use Rattle.mail_tool.specs.Lines.{IsBad, Serves, ServesInPart}
+use Rattle.mail_tool.specs.Replays.{Advances, Breaks, FirstInPart, ServesAll, Stops}
 use Rattle.mail_tool.specs.Stage.{Scene}
 
 -- a line that is cut off, its end and the rest are the whole
@@ -36,6 +36,11 @@ appends_none (Some xs) = sym (append-nil xs)
 
 pub appends_kept : (a b c : Option (List ℕ)) (xs : List ℕ) → Appends a b xs → Keeps b c → Appends a c xs
 appends_kept a b c xs h k = subst (λ (zs : List ℕ). Appends a c zs) (append-nil xs) (appends_both a b c xs [] h (keeps_appends b c k))
+
+-- of a line for which there is no memory nothing may be printed
+pub nothing_in_part : (scene : Scene) (lines : List (List ℕ)) → FirstInPart scene lines []
+nothing_in_part scene [] = refl
+nothing_in_part scene (line ∷ lines) = inl refl
 
 -- one more line behind those that were served
 pub serves_one_more : (old mid new : Scene) (lines : List (List ℕ)) (line told more : List ℕ) (said : ScriptLine)
@@ -68,6 +73,20 @@ module _ (held : Option (List ℕ)) (scene : Scene) (served : ℕ) (text : List 
     fits = omega arith;
   }
 
+  -- no memory behind some of the lines
+  pub stops_behind : (held1 : Option (List ℕ)) (scene1 : Scene) (served1 : ℕ) (text1 : List ℕ) → Advances held scene served text held1 scene1 served1 text1 → Stops held scene text held1
+  stops_behind held1 scene1 served1 text1 a = record {
+    front = a.front;
+    back = λ more. lines_of (text1 ++ more);
+    told = a.told;
+    part = [];
+    scene' = scene1;
+    lines = a.lines;
+    serves = a.serves;
+    first = λ more. nothing_in_part scene1 (lines_of (text1 ++ more));
+    writes = subst (λ (zs : List ℕ). Appends held held1 zs) (sym (append-nil a.told)) a.writes;
+  }
+
   module _ (held1 : Option (List ℕ)) (scene1 : Scene) (served1 : ℕ) (text1 : List ℕ) (a : Advances held scene served text held1 scene1 served1 text1) (line rest : List ℕ) (cut : cut_at 10 text1 ≡ Some (line, rest)) where
     parts : (more : List ℕ) → lines_of (text ++ more) ≡ a.front ++ line ∷ lines_of (rest ++ more)
     parts more = a.lines more ∙ ap (λ ls. a.front ++ ls) (lines_next text1 line rest more cut)
@@ -86,6 +105,19 @@ module _ (held : Option (List ℕ)) (scene : Scene) (served : ℕ) (text : List 
           writes = appends_both held held1 held2 a.told more a.writes writes;
           fits = omega (arith, next, n, a.fits);
         }
+
+    pub stops_there : (held2 : Option (List ℕ)) (part : List ℕ) → ServesInPart scene1 line part → Appends held1 held2 part → Stops held scene text held2
+    stops_there held2 part h writes = record {
+      front = a.front;
+      back = λ more. line ∷ lines_of (rest ++ more);
+      told = a.told;
+      part = part;
+      scene' = scene1;
+      lines = parts;
+      serves = a.serves;
+      first = λ more. h;
+      writes = appends_both held held1 held2 a.told part a.writes writes;
+    }
 
     pub breaks_there : (held2 : Option (List ℕ)) (number : ℕ) → number ≡ served1 + 1 → IsBad scene1 line → Appends held1 held2 [] → Breaks held scene served text held2 number
     breaks_there held2 number next bad writes = record {

@@ -14,8 +14,11 @@ use Rattle.mail_script.specs.declared.outcome.BrokenRule.{BrokenRule}
 use Rattle.mail_script.specs.declared.outcome.BrokenRule.TheVariants as rules
 use Rattle.mail_script.specs.declared.outcome.DeliveryResult.{DeliveryResult}
 use Rattle.mail_script.specs.declared.outcome.DeliveryResult.TheVariants as results
+use Rattle.mail_script.specs.declared.outcome.OutcomeLine.{OutcomeLine}
 use Rattle.mail_script.specs.declared.outcome.OutcomeLine.TheVariants.{Delivered, Drained, Forged, Unsound}
 use Rattle.mail_tool.specs.Stage.{Scene, replica_place}
+use Rattle.mail_tool.specs.declared.deliveries.Source.{Source}
+use Rattle.mail_tool.specs.declared.deliveries.Source.TheVariants as sources
 use Rattle.mail_tool.specs.declared.stage.Replica.{Replica}
 use Rattle.merge_laws.specs.Orders.{IsIn}
 use Rattle.tags_clocks.specs.declared.id.OpId.{OpId}
@@ -73,22 +76,23 @@ Hands old name op told new =
 abbrev pub Issued : Scene → OpId → Op → Type 0
 Issued scene id op = (at : ℕ) × (source : Replica) × StandsAt scene id.replica at source × IsIn op source.issued × (op.id ≡ id)
 
--- An issued operation is handed to a replica.
-abbrev pub HandsIssued : Scene → ℕ → Op → List ℕ → Scene → Type 0
-HandsIssued old name op more new = (told : DeliveryResult) × Hands old name op told new × (more ≡ outcome_line (Delivered op.id name told))
+-- The line that tells what came of an operation that was handed to a replica.
+abbrev pub told_line : Source → OpId → ℕ → DeliveryResult → OutcomeLine
+told_line sources.Issued id name told = Delivered id name told
+told_line sources.Forged id name told = Forged id name told
+
+-- An operation is handed to a replica, and what came of it is printed.
+abbrev pub HandsOver : Scene → Source → ℕ → Op → List ℕ → Scene → Type 0
+HandsOver old source name op more new = (told : DeliveryResult) × Hands old name op told new × (more ≡ outcome_line (told_line source op.id name told))
 
 -- The operation that its replica issued with this id is delivered.
 abbrev pub DeliversTo : Scene → OpId → ℕ → List ℕ → Scene → Type 0
-DeliversTo old id name more new = (op : Op) × Issued old id op × HandsIssued old name op more new
-
--- A forged operation is handed to a replica.
-abbrev pub HandsForged : Scene → ℕ → Op → List ℕ → Scene → Type 0
-HandsForged old name op more new = (told : DeliveryResult) × Hands old name op told new × (more ≡ outcome_line (Forged op.id name told))
+DeliversTo old id name more new = (op : Op) × Issued old id op × HandsOver old sources.Issued name op more new
 
 -- A forged operation is handed to a replica if it is sound; else the rule that it breaks is told.
 abbrev pub Forges : Scene → ℕ → Op → List ℕ → Scene → Type 0
 Forges old name op more new =
-    (IsSound op × HandsForged old name op more new)
+    (IsSound op × HandsOver old sources.Forged name op more new)
     ⊎ ((why : Fault) × IsFirstFault op why × (more ≡ outcome_line (Unsound (rule_told why))) × (new ≡ old))
 
 -- An operation that a line spells, and that no replica need have issued, is delivered.

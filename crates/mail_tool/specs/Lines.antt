@@ -1,4 +1,4 @@
-use Rattle.std.specs.Prelude.{◌≡◌, ◌≢◌, ◌⊎◌, ℕ, ◌++◌, List, [], ◌∷◌, Option, Some, None, IsSome, IsNone, Ok, drop, length, slice_get, slice_set}
+use Rattle.std.specs.Prelude.{◌≡◌, ◌≢◌, ◌⊎◌, ℕ, ◌++◌, List, [], ◌∷◌, Option, Some, None, IsSome, IsNone, Ok, drop, length, slice_get, slice_set, take}
 use Rattle.crdt_ops.specs.Form.{IsSpelled}
 use Rattle.crdt_ops.specs.declared.op.Op.{Op}
 use Rattle.imap_lex.specs.Reading.{goes_on, start}
@@ -24,7 +24,7 @@ use Rattle.world_core.specs.Nodes.{IsGoing, NodeState, closed}
 use Rattle.world_core.specs.Sessions.{Opens}
 use Rattle.world_core.specs.Talks.{EndsTalk, Talks}
 use Rattle.world_core.specs.declared.turn.TalkFaultKind.{TalkFaultKind}
-use Rattle.world_core.specs.declared.turn.TalkFaultKind.TheVariants.{Framing}
+use Rattle.world_core.specs.declared.turn.TalkFaultKind.TheVariants.{Framing, NoMemory}
 use Rattle.world_core.specs.declared.turn.Turn.{Turn}
 
 -- The end of a line (RFC 9051, section 2.2).
@@ -42,9 +42,9 @@ Begins old answer new (Some connection) =
     × (connection.framer ≡ record { limits = record { line = 8192; literals = 1048576 }; state = Ok start }) × (answer ≡ Greeting Given)
 Begins old answer new None = (new ≡ old) × (answer ≡ Bye TooManySessions)
 
--- The faults of framing that end a conversation.
+-- A conversation ends for a fault of framing, and not for want of memory.
 abbrev pub IsFramingEnd : TalkFaultKind → Type 0
-IsFramingEnd why = why ≢ Framing faults.NoMemory
+IsFramingEnd why = (why ≢ Framing faults.NoMemory) × (why ≢ NoMemory)
 
 -- What octets make of a connection: the turns of its conversation, and the connection as it goes on; none where a LOGOUT
 -- was answered OK or the octets can't be framed.
@@ -149,3 +149,27 @@ IsMisplaced scene (Drain replica) = IsNone (replica_place scene.replicas replica
 -- A line that isn't served: it says nothing that could be, where it stands.
 abbrev pub IsBad : Scene → List ℕ → Type 0
 IsBad scene line = (said : ScriptLine) → Says line said → IsMisplaced scene said
+
+-- ---- what is printed where memory runs out
+
+-- The turns that octets make of a connection: to their end, or until a fault or want of memory ends the conversation.
+abbrev pub HasTurns : NodeState → Connection → List ℕ → List Turn → Type 0
+HasTurns old connection octets turns =
+    ((new : NodeState) × (state : _) × Talks old connection.number (goes_on connection.framer.limits connection.framer.state octets) turns new state)
+    ⊎ ((why : TalkFaultKind) × (new : NodeState) × EndsTalk why old connection.number connection.framer.state (goes_on connection.framer.limits connection.framer.state octets) turns new)
+
+-- A session is fed these octets, and some of the first turns of its conversation are printed.
+abbrev pub FeedsInPart : Scene → List ℕ → List ℕ → List ℕ → Type 0
+FeedsInPart scene name octets more =
+    (t : Talking scene name) × (turns : List Turn) × (count : ℕ) × HasTurns t.replica.node t.connection octets turns × (more ≡ transcript name (take count turns))
+
+-- What a line prints that finds no memory for all of it: a session is opened and forgotten, or some of its turns are told.
+abbrev pub PrintsInPart : Scene → ScriptLine → List ℕ → Type 0
+PrintsInPart scene (Open replica name) more = (new : Scene) × OpensAt scene replica name more new
+PrintsInPart scene (Line name text) more = FeedsInPart scene name (text ++ crlf) more
+PrintsInPart scene (Send name text) more = FeedsInPart scene name text more
+PrintsInPart scene said more = ⊥
+
+-- What is printed of a line for which there is no memory: nothing, or a part of it.
+abbrev pub ServesInPart : Scene → List ℕ → List ℕ → Type 0
+ServesInPart scene line more = (more ≡ []) ⊎ ((said : ScriptLine) × Says line said × PrintsInPart scene said more)

@@ -1,9 +1,10 @@
-use Rattle.std.specs.Prelude.{◌≡◌, ℕ, ◌+◌, ◌≤◌, ◌++◌, List, [], ◌∷◌, Option, length}
+use Rattle.std.specs.Prelude.{◌≡◌, ℕ, ◌+◌, ◌≤◌, ◌++◌, List, [], ◌∷◌, Option, Some, None, length}
 use Rattle.std.specs.Io.KnownBytes.{Appends}
 use Rattle.mail_script.specs.Lines.{lines_of}
+use Rattle.mail_script.specs.Reading.{cut_at}
 use Rattle.mail_script.specs.Script.{Says}
 use Rattle.mail_script.specs.declared.script.ScriptLine.{ScriptLine}
-use Rattle.mail_tool.specs.Lines.{IsBad, Serves}
+use Rattle.mail_tool.specs.Lines.{IsBad, Serves, ServesInPart}
 use Rattle.mail_tool.specs.Stage.{Scene}
 use Rattle.mail_tool.specs.declared.ending.ReplayEnd.{ReplayEnd}
 use Rattle.mail_tool.specs.declared.ending.ReplayEnd.TheVariants.{Done, BadScript, ReadFailed, WriteFailed, NoMemory}
@@ -19,16 +20,42 @@ ServesAll old (line ∷ lines) told new =
     (said : ScriptLine) × (first : List ℕ) × (mid : Scene) × (rest : List ℕ) × Says line said × Serves old said first mid
     × (told ≡ first ++ rest) × ServesAll mid lines rest new
 
--- What the replay of a script comes to: at `Done` every line was served; a bad script has a first line that can't be
--- served where it stands, and those before it were. What was written is what the lines that were served print.
-abbrev pub Replays : List ℕ → ReplayEnd → Option (List ℕ) → Option (List ℕ) → Type 0
-Replays script Done held held' = (told : List ℕ) × (scene : Scene) × ServesAll empty_scene (lines_of script) told scene × Appends held held' told
-Replays script (BadScript number) held held' =
+-- A text is these whole lines and the beginning of one, whatever comes behind it.
+abbrev pub IsWholeLines : List ℕ → List (List ℕ) → List ℕ → Type 0
+IsWholeLines text lines begun = (cut_at 10 begun ≡ None) × ((more : List ℕ) → lines_of (text ++ more) ≡ lines ++ lines_of (begun ++ more))
+
+-- What is printed of the first of these lines, for which there is no memory.
+abbrev pub FirstInPart : Scene → List (List ℕ) → List ℕ → Type 0
+FirstInPart scene [] more = more ≡ []
+FirstInPart scene (line ∷ lines) more = ServesInPart scene line more
+
+-- What the replay of a script comes to, whose reader has then this left, and whose writer held the one and holds the other.
+abbrev pub Replays : List ℕ → ReplayEnd → Option (List ℕ) → Option (List ℕ) → Option (List ℕ) → Type 0
+-- every line was served, and what was written is what they print
+Replays script Done left held held' = (told : List ℕ) × (scene : Scene) × ServesAll empty_scene (lines_of script) told scene × Appends held held' told
+-- the first line that can't be served where it stands has this number; those before it were served
+Replays script (BadScript number) left held held' =
     (front back : List (List ℕ)) × (line : List ℕ) × (told : List ℕ) × (scene : Scene) × (lines_of script ≡ front ++ line ∷ back)
     × (number ≡ length front + 1) × ServesAll empty_scene front told scene × IsBad scene line × Appends held held' told
-Replays script ReadFailed held held' = Unit {0}
-Replays script WriteFailed held held' = Unit {0}
-Replays script NoMemory held held' = Unit {0}
+-- the lines that are whole in what was read were served
+Replays script ReadFailed left held held' =
+    (read rest begun : List ℕ) × (front : List (List ℕ)) × (told : List ℕ) × (scene : Scene) × (script ≡ read ++ rest) × (left ≡ Some rest)
+    × IsWholeLines read front begun × ServesAll empty_scene front told scene × Appends held held' told
+-- a writer that failed doesn't tell what it holds
+Replays script WriteFailed left held held' = Unit {0}
+-- some lines were served, and what they print was written, and perhaps a part of what the next one does
+Replays script NoMemory left held held' =
+    (front back : List (List ℕ)) × (told more : List ℕ) × (scene : Scene) × (lines_of script ≡ front ++ back)
+    × ServesAll empty_scene front told scene × FirstInPart scene back more × Appends held held' (told ++ more)
+
+-- A part of a replay that reads nothing ends it early: at a bad line or for want of memory, of which this is true, or since
+-- the writer failed.
+abbrev pub EndsEarly : (ℕ → Type 0) → Type 0 → ReplayEnd → Type 0
+EndsEarly Breaks Stops Done = ⊥
+EndsEarly Breaks Stops (BadScript number) = Breaks number
+EndsEarly Breaks Stops ReadFailed = ⊥
+EndsEarly Breaks Stops WriteFailed = Unit {0}
+EndsEarly Breaks Stops NoMemory = Stops
 
 -- Some lines at the beginning of a text were served, and another text is left.
 pub record Advances (held : Option (List ℕ)) (scene : Scene) (served : ℕ) (text : List ℕ) (held' : Option (List ℕ)) (scene' : Scene) (served' : ℕ) (text' : List ℕ) : Type 0 where
@@ -52,3 +79,15 @@ pub record Breaks (held : Option (List ℕ)) (scene : Scene) (served : ℕ) (tex
   pub serves : ServesAll scene front told scene'
   pub bad : IsBad scene' line
   pub writes : Appends held held' told
+
+-- Some lines at the beginning of a text were served, and there is no memory for the next, whatever comes behind the text.
+pub record Stops (held : Option (List ℕ)) (scene : Scene) (text : List ℕ) (held' : Option (List ℕ)) : Type 0 where
+  pub front : List (List ℕ)
+  pub back : List ℕ → List (List ℕ)
+  pub told : List ℕ
+  pub part : List ℕ
+  pub scene' : Scene
+  pub lines : (more : List ℕ) → lines_of (text ++ more) ≡ front ++ back more
+  pub serves : ServesAll scene front told scene'
+  pub first : (more : List ℕ) → FirstInPart scene' (back more) part
+  pub writes : Appends held held' (told ++ part)

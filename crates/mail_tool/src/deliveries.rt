@@ -1,13 +1,11 @@
 //! The lines that hand operations to replicas.
 
-ghost use Rattle.std.specs.Prelude.{◌≡◌, ◌⊎◌, ◌++◌, ℕ, List, Err, IfErr, IfOk, IsNone, OnErr, OnOk};
+ghost use Rattle.std.specs.Prelude.{◌≡◌, ◌⊎◌, ◌++◌, ℕ, List, Err, IfOk, IsNone, OnErr, OnOk};
 ghost use Rattle.crdt_ops.specs.Form.{IsSpelled};
 ghost use Rattle.crdt_ops.specs.declared.op.Op.{Op as Operation};
-ghost use Rattle.mail_script.specs.Outcomes.{outcome_line};
-ghost use Rattle.mail_script.specs.declared.outcome.OutcomeLine.TheVariants.{Delivered as DeliveredLine, Forged as ForgedLine};
-ghost use Rattle.mail_tool.specs.Deliveries.{DeliversTo, DrainsAt, Forges, ForgesAt, Hands, HandsForged, HandsIssued, Issued, answer_told, arrival_told, rule_told};
+ghost use Rattle.mail_tool.specs.Deliveries.{DeliversTo, DrainsAt, Forges, ForgesAt, Hands, HandsOver, Issued, answer_told, arrival_told, rule_told, told_line};
 ghost use Rattle.mail_tool.specs.Stage.{replica_place, scene_of};
-ghost use Rattle.mail_tool.specs.declared.serve.ServeFault.TheVariants.{BadScript, NoMemory};
+ghost use Rattle.mail_tool.specs.declared.serve.ServeFault.TheVariants.{BadScript};
 
 use crate::serve::ServeFault;
 use crate::stage::{Stage, replica_place};
@@ -17,6 +15,15 @@ use mail_script::{BrokenRule, DeliveryResult, OutcomeLine, write_outcome};
 use merge_laws::Caused;
 use std::alloc::Global;
 use tags_clocks::{OpId, ReplicaId};
+
+/// Where an operation that is handed to a replica comes from.
+#[derive(Clone, Copy, Debug, PartialEq, Eq)]
+enum Source {
+    /// The replica that it names issued it.
+    Issued,
+    /// A line of the script spells it.
+    Forged,
+}
 
 /// Delivers an operation that a replica issued, and prints what came of it. It is a bad script where no such operation was
 /// issued, or the replica isn't declared.
@@ -28,11 +35,11 @@ pub fn deliver(
     printed: &mut Vec<u8>,
 ) -> Result<(), ServeFault>
     ensures ok { OnOk result ((more : List ℕ) × DeliversTo (scene_of stage.old) id replica more (scene_of stage.new) × (printed.new.items ≡ printed.old.items ++ more)) }
-    ensures bad { result ≡ Err BadScript → (IsNone (replica_place stage.old.replicas.items replica) ⊎ ((op : Operation) → Issued (scene_of stage.old) id op → ⊥)) × (printed.new.items ≡ printed.old.items) }
-    ensures kept { (more : List ℕ) × (printed.new.items ≡ printed.old.items ++ more) }
+    ensures bad { result ≡ Err BadScript → IsNone (replica_place stage.old.replicas.items replica) ⊎ ((op : Operation) → Issued (scene_of stage.old) id op → ⊥) }
+    ensures err { OnErr result (printed.new.items ≡ printed.old.items) }
 {
     match issued_op(alloc, stage, id) {
-        Ok(op) => hand_issued(alloc, stage, replica, op, printed),
+        Ok(op) => hand_over(alloc, stage, Source::Issued, replica, op, printed),
         Err(fault) => Err(fault),
     }
 }
@@ -46,8 +53,8 @@ pub fn forge(
     printed: &mut Vec<u8>,
 ) -> Result<(), ServeFault>
     ensures ok { OnOk result ((more : List ℕ) × ForgesAt (scene_of stage.old) replica text.now more (scene_of stage.new) × (printed.new.items ≡ printed.old.items ++ more)) }
-    ensures bad { result ≡ Err BadScript → (IsNone (replica_place stage.old.replicas.items replica) ⊎ ((op : Operation) → IsSpelled op text.now → ⊥)) × (printed.new.items ≡ printed.old.items) }
-    ensures kept { (more : List ℕ) × (printed.new.items ≡ printed.old.items ++ more) }
+    ensures bad { result ≡ Err BadScript → IsNone (replica_place stage.old.replicas.items replica) ⊎ ((op : Operation) → IsSpelled op text.now → ⊥) }
+    ensures err { OnErr result (printed.new.items ≡ printed.old.items) }
 {
     if replica_place(&stage.replicas, replica).is_none() {
         return Err(ServeFault::BadScript);
@@ -64,8 +71,8 @@ pub fn drain(
     printed: &mut Vec<u8>,
 ) -> Result<(), ServeFault>
     ensures ok { OnOk result ((more : List ℕ) × DrainsAt (scene_of stage.old) replica more (scene_of stage.new) × (printed.new.items ≡ printed.old.items ++ more)) }
-    ensures bad { result ≡ Err BadScript → IsNone (replica_place stage.old.replicas.items replica) × (printed.new.items ≡ printed.old.items) }
-    ensures kept { (more : List ℕ) × (printed.new.items ≡ printed.old.items ++ more) }
+    ensures bad { result ≡ Err BadScript → IsNone (replica_place stage.old.replicas.items replica) }
+    ensures err { OnErr result (printed.new.items ≡ printed.old.items) }
 {
     let Some(place) = replica_place(&stage.replicas, replica) else {
         return Err(ServeFault::BadScript);
@@ -116,11 +123,11 @@ fn hand_if_sound(
     printed: &mut Vec<u8>,
 ) -> Result<(), ServeFault>
     ensures ok { OnOk result ((more : List ℕ) × Forges (scene_of stage.old) replica op more (scene_of stage.new) × (printed.new.items ≡ printed.old.items ++ more)) }
-    ensures bad { result ≡ Err BadScript → IsNone (replica_place stage.old.replicas.items replica) × (printed.new.items ≡ printed.old.items) }
-    ensures kept { (more : List ℕ) × (printed.new.items ≡ printed.old.items ++ more) }
+    ensures bad { result ≡ Err BadScript → IsNone (replica_place stage.old.replicas.items replica) }
+    ensures err { OnErr result (printed.new.items ≡ printed.old.items) }
 {
     match check(op) {
-        Ok(op) => hand_forged(alloc, stage, replica, op, printed),
+        Ok(op) => hand_over(alloc, stage, Source::Forged, replica, op, printed),
         Err((_, why)) => {
             let rule = rule_told(why);
             write_outcome(OutcomeLine::Unsound { rule }, printed)?;
@@ -129,76 +136,42 @@ fn hand_if_sound(
     }
 }
 
-/// Hands an issued operation to a replica, and prints what came of it.
-fn hand_issued(
+/// Hands an operation to a replica, and prints what came of it.
+fn hand_over(
     alloc: Global,
     stage: &mut Stage,
+    source: Source,
     replica: ReplicaId,
     op: SoundOp,
     printed: &mut Vec<u8>,
 ) -> Result<(), ServeFault>
-    ensures ok { OnOk result ((more : List ℕ) × HandsIssued (scene_of stage.old) replica op more (scene_of stage.new) × (printed.new.items ≡ printed.old.items ++ more)) }
-    ensures bad { result ≡ Err BadScript → IsNone (replica_place stage.old.replicas.items replica) × (printed.new.items ≡ printed.old.items) }
-    ensures kept { (more : List ℕ) × (printed.new.items ≡ printed.old.items ++ more) }
-{
-    let id = op.id();
-    let told = hand(alloc, stage, replica, op)?;
-    write_delivered(id, replica, told, printed)
-}
-
-/// Hands a forged operation to a replica, and prints what came of it.
-fn hand_forged(
-    alloc: Global,
-    stage: &mut Stage,
-    replica: ReplicaId,
-    op: SoundOp,
-    printed: &mut Vec<u8>,
-) -> Result<(), ServeFault>
-    ensures ok { OnOk result ((more : List ℕ) × HandsForged (scene_of stage.old) replica op more (scene_of stage.new) × (printed.new.items ≡ printed.old.items ++ more)) }
-    ensures bad { result ≡ Err BadScript → IsNone (replica_place stage.old.replicas.items replica) × (printed.new.items ≡ printed.old.items) }
-    ensures kept { (more : List ℕ) × (printed.new.items ≡ printed.old.items ++ more) }
-{
-    let id = op.id();
-    let told = hand(alloc, stage, replica, op)?;
-    write_forged(id, replica, told, printed)
-}
-
-fn write_delivered(
-    id: OpId,
-    replica: ReplicaId,
-    told: DeliveryResult,
-    printed: &mut Vec<u8>,
-) -> Result<(), ServeFault>
-    ensures ok { OnOk result (printed.new.items ≡ printed.old.items ++ outcome_line (DeliveredLine id replica told)) }
+    ensures ok { OnOk result ((more : List ℕ) × HandsOver (scene_of stage.old) source replica op more (scene_of stage.new) × (printed.new.items ≡ printed.old.items ++ more)) }
+    ensures bad { result ≡ Err BadScript → IsNone (replica_place stage.old.replicas.items replica) }
     ensures err { OnErr result (printed.new.items ≡ printed.old.items) }
-    ensures memory { IfErr result (λ fault. fault ≡ NoMemory) }
 {
-    let outcome = OutcomeLine::Delivered {
-        id,
-        replica,
-        result: told,
-    };
+    let id = op.id();
+    let told = hand(alloc, stage, replica, op)?;
+    let outcome = told_line(source, id, replica, told);
     write_outcome(outcome, printed)?;
     Ok(())
 }
 
-fn write_forged(
-    id: OpId,
-    replica: ReplicaId,
-    told: DeliveryResult,
-    printed: &mut Vec<u8>,
-) -> Result<(), ServeFault>
-    ensures ok { OnOk result (printed.new.items ≡ printed.old.items ++ outcome_line (ForgedLine id replica told)) }
-    ensures err { OnErr result (printed.new.items ≡ printed.old.items) }
-    ensures memory { IfErr result (λ fault. fault ≡ NoMemory) }
+/// The line that tells what came of an operation that was handed over.
+fn told_line(source: Source, id: OpId, replica: ReplicaId, told: DeliveryResult) -> OutcomeLine
+    ensures { result ≡ told_line source id replica told }
 {
-    let outcome = OutcomeLine::Forged {
-        id,
-        replica,
-        result: told,
-    };
-    write_outcome(outcome, printed)?;
-    Ok(())
+    match source {
+        Source::Issued => OutcomeLine::Delivered {
+            id,
+            replica,
+            result: told,
+        },
+        Source::Forged => OutcomeLine::Forged {
+            id,
+            replica,
+            result: told,
+        },
+    }
 }
 
 /// Hands an operation to a replica, and tells what came of it.

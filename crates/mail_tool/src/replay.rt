@@ -1,15 +1,15 @@
 //! The replay of a script, from the octets that come to those that go.
 
-ghost use Rattle.std.specs.Prelude.{◌≡◌, ◌≢◌, ◌++◌, ◌+◌, ◌^◌, ◌<◌, ◌≤◌, ℕ, List, [], ◌∷◌, None, Some, Err, IfErr, IfOk, IfSome, OnOk, OnErr, length};
+ghost use Rattle.std.specs.Prelude.{◌≡◌, ◌++◌, ◌+◌, ◌^◌, ◌<◌, ◌≤◌, ℕ, List, [], ◌∷◌, None, Some, IfErr, IfOk, IfSome, OnOk, OnErr, length};
 ghost use Rattle.std.specs.Io.KnownBytes.{Appends, Keeps};
 ghost use Rattle.mail_script.specs.Lines.{lines_of};
 ghost use Rattle.mail_script.specs.Reading.{cut_at};
 ghost use Rattle.mail_script.specs.Script.{Says};
 ghost use Rattle.mail_script.specs.declared.script.ScriptLine.{ScriptLine as Meaning};
-ghost use Rattle.mail_tool.specs.Lines.{IsBad, Serves};
-ghost use Rattle.mail_tool.specs.Replays.{Advances, Breaks, Replays, ServesAll};
+ghost use Rattle.mail_tool.specs.Lines.{IsBad, Serves, ServesInPart};
+ghost use Rattle.mail_tool.specs.Replays.{Advances, Breaks, EndsEarly, FirstInPart, Replays, ServesAll, Stops};
 ghost use Rattle.mail_tool.specs.Stage.{Scene, scene_of};
-ghost use Rattle.mail_tool.specs.declared.ending.ReplayEnd.TheVariants.{BadScript, Done, WriteFailed};
+ghost use Rattle.mail_tool.specs.declared.ending.ReplayEnd.TheVariants.{Done, WriteFailed};
 
 use crate::ending::ReplayEnd;
 use crate::serve::{ServeFault, serve_line};
@@ -31,7 +31,7 @@ pub const PIECE_OCTETS: usize = 65_536;
 /// the reader failed, or that the script has more pieces than 16,777,216; `WriteFailed` that the writer did; `NoMemory`
 /// that a line or what it prints found no memory. What was printed before stays.
 pub fn replay<R: Read, W: Write>(alloc: Global, reader: &mut R, writer: &mut W) -> ReplayEnd
-    ensures { (script : List ℕ) → R.remaining reader.old ≡ Some script → Replays script result (W.contents writer.old) (W.contents writer.new) }
+    ensures { (script : List ℕ) → R.remaining reader.old ≡ Some script → Replays script result (R.remaining reader.new) (W.contents writer.old) (W.contents writer.new) }
 {
     match play(alloc, reader, writer) {
         Ok(()) => ReplayEnd::Done,
@@ -50,9 +50,8 @@ struct Progress {
 }
 
 fn play<R: Read, W: Write>(alloc: Global, reader: &mut R, writer: &mut W) -> Result<(), ReplayEnd>
-    ensures ok { OnOk result ((script : List ℕ) → R.remaining reader.old ≡ Some script → Replays script Done (W.contents writer.old) (W.contents writer.new)) }
-    ensures bad { (number : ℕ) → result ≡ Err (BadScript number) → (script : List ℕ) → R.remaining reader.old ≡ Some script → Replays script (BadScript number) (W.contents writer.old) (W.contents writer.new) }
-    ensures not_done { IfErr result (λ end. end ≢ Done) }
+    ensures ok { OnOk result ((script : List ℕ) → R.remaining reader.old ≡ Some script → Replays script Done (R.remaining reader.new) (W.contents writer.old) (W.contents writer.new)) }
+    ensures err { IfErr result (λ end. (script : List ℕ) → R.remaining reader.old ≡ Some script → Replays script end (R.remaining reader.new) (W.contents writer.old) (W.contents writer.new)) }
 {
     let Ok(mut piece) = room_for(alloc, PIECE_OCTETS) else {
         return Err(ReplayEnd::NoMemory);
@@ -68,9 +67,8 @@ fn serve_pieces<R: Read, W: Write>(
     writer: &mut W,
 ) -> Result<(), ReplayEnd>
     requires { length piece.old ≡ PIECE_OCTETS }
-    ensures ok { OnOk result ((script : List ℕ) → R.remaining reader.old ≡ Some script → Replays script Done (W.contents writer.old) (W.contents writer.new)) }
-    ensures bad { (number : ℕ) → result ≡ Err (BadScript number) → (script : List ℕ) → R.remaining reader.old ≡ Some script → Replays script (BadScript number) (W.contents writer.old) (W.contents writer.new) }
-    ensures not_done { IfErr result (λ end. end ≢ Done) }
+    ensures ok { OnOk result ((script : List ℕ) → R.remaining reader.old ≡ Some script → Replays script Done (R.remaining reader.new) (W.contents writer.old) (W.contents writer.new)) }
+    ensures err { IfErr result (λ end. (script : List ℕ) → R.remaining reader.old ≡ Some script → Replays script end (R.remaining reader.new) (W.contents writer.old) (W.contents writer.new)) }
 {
     let mut progress = Progress {
         stage: Stage::new(alloc),
@@ -107,9 +105,8 @@ fn serve_piece<W: Write>(
 ) -> Result<(), ReplayEnd>
     requires { progress.old.served + length progress.old.lines + length piece.now < 2 ^ 64 }
     ensures ok { OnOk result (Advances (W.contents writer.old) (scene_of progress.old.stage) progress.old.served (progress.old.lines ++ piece.now) (W.contents writer.new) (scene_of progress.new.stage) progress.new.served progress.new.lines) }
-    ensures bad { (number : ℕ) → result ≡ Err (BadScript number) → Breaks (W.contents writer.old) (scene_of progress.old.stage) progress.old.served (progress.old.lines ++ piece.now) (W.contents writer.new) number }
     ensures rest { OnOk result (cut_at 10 progress.new.lines ≡ None) }
-    ensures not_done { IfErr result (λ end. end ≢ Done) }
+    ensures err { IfErr result (EndsEarly (Breaks (W.contents writer.old) (scene_of progress.old.stage) progress.old.served (progress.old.lines ++ piece.now) (W.contents writer.new)) (Stops (W.contents writer.old) (scene_of progress.old.stage) (progress.old.lines ++ piece.now) (W.contents writer.new))) }
 {
     let Ok(()) = progress.lines.push(piece) else {
         return Err(ReplayEnd::NoMemory);
@@ -133,8 +130,7 @@ fn serve_next<W: Write>(
     requires { progress.old.served + 1 < 2 ^ 64 }
     ensures lines { progress.new.lines ≡ progress.old.lines }
     ensures ok { OnOk result ((said : Meaning) × (more : List ℕ) × Says line.now said × Serves (scene_of progress.old.stage) said more (scene_of progress.new.stage) × Appends (W.contents writer.old) (W.contents writer.new) more × (progress.new.served ≡ progress.old.served + 1)) }
-    ensures bad { (number : ℕ) → result ≡ Err (BadScript number) → (number ≡ progress.old.served + 1) × IsBad (scene_of progress.old.stage) line.now × Appends (W.contents writer.old) (W.contents writer.new) [] }
-    ensures not_done { IfErr result (λ end. end ≢ Done) }
+    ensures err { IfErr result (EndsEarly (λ number. (number ≡ progress.old.served + 1) × IsBad (scene_of progress.old.stage) line.now × Appends (W.contents writer.old) (W.contents writer.new) []) ((more : List ℕ) × ServesInPart (scene_of progress.old.stage) line.now more × Appends (W.contents writer.old) (W.contents writer.new) more)) }
 {
     progress.served += 1;
     let mut printed = Vec::new(alloc);
@@ -160,8 +156,7 @@ fn serve_last<W: Write>(
     requires room { progress.old.served + 1 < 2 ^ 64 }
     requires rest { cut_at 10 progress.old.lines ≡ None }
     ensures ok { OnOk result ((told : List ℕ) × (scene : Scene) × ServesAll (scene_of progress.old.stage) (lines_of progress.old.lines) told scene × Appends (W.contents writer.old) (W.contents writer.new) told) }
-    ensures bad { (number : ℕ) → result ≡ Err (BadScript number) → (number ≡ progress.old.served + 1) × (lines_of progress.old.lines ≡ progress.old.lines ∷ []) × IsBad (scene_of progress.old.stage) progress.old.lines × Appends (W.contents writer.old) (W.contents writer.new) [] }
-    ensures not_done { IfErr result (λ end. end ≢ Done) }
+    ensures err { IfErr result (EndsEarly (λ number. (number ≡ progress.old.served + 1) × (lines_of progress.old.lines ≡ progress.old.lines ∷ []) × IsBad (scene_of progress.old.stage) progress.old.lines × Appends (W.contents writer.old) (W.contents writer.new) []) ((more : List ℕ) × FirstInPart (scene_of progress.old.stage) (lines_of progress.old.lines) more × Appends (W.contents writer.old) (W.contents writer.new) more)) }
 {
     let line = mem::replace(&mut progress.lines, ScriptLines::new(alloc)).into_rest();
     serve_rest(alloc, progress, line.as_bytes(), writer)?;
@@ -178,8 +173,7 @@ fn serve_rest<W: Write>(
     requires room { progress.old.served + 1 < 2 ^ 64 }
     requires rest { cut_at 10 line.now ≡ None }
     ensures ok { OnOk result ((told : List ℕ) × (scene : Scene) × ServesAll (scene_of progress.old.stage) (lines_of line.now) told scene × Appends (W.contents writer.old) (W.contents writer.new) told) }
-    ensures bad { (number : ℕ) → result ≡ Err (BadScript number) → (number ≡ progress.old.served + 1) × (lines_of line.now ≡ line.now ∷ []) × IsBad (scene_of progress.old.stage) line.now × Appends (W.contents writer.old) (W.contents writer.new) [] }
-    ensures not_done { IfErr result (λ end. end ≢ Done) }
+    ensures err { IfErr result (EndsEarly (λ number. (number ≡ progress.old.served + 1) × (lines_of line.now ≡ line.now ∷ []) × IsBad (scene_of progress.old.stage) line.now × Appends (W.contents writer.old) (W.contents writer.new) []) ((more : List ℕ) × FirstInPart (scene_of progress.old.stage) (lines_of line.now) more × Appends (W.contents writer.old) (W.contents writer.new) more)) }
 {
     if line.is_empty() {
         return Ok(());

@@ -1,6 +1,6 @@
 //! What each line of a script does.
 
-ghost use Rattle.std.specs.Prelude.{◌≡◌, ◌⊎◌, ◌++◌, ◌∷◌, [], ℕ, List, None, Some, Err, IfOk, IfErr, IsTrue, IsSome, IsNone, ◌↔◌, OnOk, OnErr, codes};
+ghost use Rattle.std.specs.Prelude.{◌≡◌, ◌⊎◌, ◌++◌, ◌∷◌, [], ℕ, List, None, Some, Err, IfOk, IfErr, IsTrue, IsSome, IsNone, ◌↔◌, OnOk, OnErr, codes, take};
 ghost use Rattle.imap_print.specs.Printed.{printed as text_of};
 ghost use Rattle.imap_print.specs.declared.answer.Answer.{Answer as OneAnswer};
 ghost use Rattle.imap_print.specs.declared.answer.Answer.TheVariants.{Bye, Greeting};
@@ -10,8 +10,8 @@ ghost use Rattle.mail_script.specs.Script.{Says};
 ghost use Rattle.mail_script.specs.Transcript.{transcript_line};
 ghost use Rattle.mail_script.specs.declared.script.ScriptLine.{ScriptLine as Meaning};
 ghost use Rattle.mail_script.specs.declared.transcript.Speaker.TheVariants.{Server};
-ghost use Rattle.mail_tool.specs.Lines.{Begins, Closes, Feeds, IsBad, IsMisplaced, IsTalking, OpensAt, Serves, Shows, TalksOn, crlf, new_replica};
-ghost use Rattle.mail_tool.specs.Stage.{replica_place, scene_of, session_place};
+ghost use Rattle.mail_tool.specs.Lines.{Begins, Closes, Feeds, FeedsInPart, HasTurns, IsBad, IsMisplaced, IsTalking, OpensAt, PrintsInPart, Serves, ServesInPart, Shows, TalksOn, crlf, new_replica};
+ghost use Rattle.mail_tool.specs.Stage.{Scene, replica_place, scene_of, session_place};
 ghost use Rattle.mail_tool.specs.Transcript.{transcript};
 ghost use Rattle.mail_tool.specs.declared.serve.ServeFault.TheVariants.{BadScript, NoMemory};
 ghost use Rattle.world_core.specs.Nodes.{IsGoing, closed};
@@ -79,7 +79,8 @@ impl From<LineFault> for ServeFault {
 }
 
 /// Serves a line of the script, given without its LF, and appends what it prints. `BadScript` says that the line can't be
-/// served where it stands, and then nothing is printed; `NoMemory` may come behind a part of what the line prints.
+/// served where it stands, and then nothing is printed; `NoMemory` may come behind a part of what the line prints: the first
+/// answer of a session that is opened, or some of the first turns of one that is fed.
 pub fn serve_line(
     alloc: Global,
     stage: &mut Stage,
@@ -88,7 +89,7 @@ pub fn serve_line(
 ) -> Result<(), ServeFault>
     ensures ok { OnOk result ((said : Meaning) × (more : List ℕ) × Says line.now said × Serves (scene_of stage.old) said more (scene_of stage.new) × (printed.new.items ≡ printed.old.items ++ more)) }
     ensures bad { result ≡ Err BadScript → IsBad (scene_of stage.old) line.now × (printed.new.items ≡ printed.old.items) }
-    ensures kept { (more : List ℕ) × (printed.new.items ≡ printed.old.items ++ more) }
+    ensures memory { result ≡ Err NoMemory → (more : List ℕ) × ServesInPart (scene_of stage.old) line.now more × (printed.new.items ≡ printed.old.items ++ more) }
 {
     let said = read_line(alloc, line)?;
     serve(alloc, stage, said, printed)
@@ -102,7 +103,7 @@ fn serve(
 ) -> Result<(), ServeFault>
     ensures ok { OnOk result ((more : List ℕ) × Serves (scene_of stage.old) said more (scene_of stage.new) × (printed.new.items ≡ printed.old.items ++ more)) }
     ensures bad { result ≡ Err BadScript → IsMisplaced (scene_of stage.old) said × (printed.new.items ≡ printed.old.items) }
-    ensures kept { (more : List ℕ) × (printed.new.items ≡ printed.old.items ++ more) }
+    ensures memory { result ≡ Err NoMemory → (more : List ℕ) × ((more ≡ []) ⊎ PrintsInPart (scene_of stage.old) said more) × (printed.new.items ≡ printed.old.items ++ more) }
 {
     match said {
         ScriptLine::Blank => Ok(()),
@@ -164,7 +165,7 @@ fn open(
 ) -> Result<(), ServeFault>
     ensures ok { OnOk result ((more : List ℕ) × OpensAt (scene_of stage.old) replica name more (scene_of stage.new) × (printed.new.items ≡ printed.old.items ++ more)) }
     ensures bad { result ≡ Err BadScript → (IsNone (replica_place stage.old.replicas.items replica) ⊎ IsSome (session_place stage.old.sessions.items name)) × (printed.new.items ≡ printed.old.items) }
-    ensures kept { (more : List ℕ) × (printed.new.items ≡ printed.old.items ++ more) }
+    ensures memory { result ≡ Err NoMemory → (more : List ℕ) × ((more ≡ []) ⊎ ((new : Scene) × OpensAt (scene_of stage.old) replica name more new)) × (printed.new.items ≡ printed.old.items ++ more) }
 {
     let Some(place) = replica_place(&stage.replicas, replica) else {
         return Err(ServeFault::BadScript);
@@ -238,7 +239,7 @@ fn feed(
 ) -> Result<(), ServeFault>
     ensures ok { OnOk result ((more : List ℕ) × Feeds (scene_of stage.old) name.now octets.now more (scene_of stage.new) × (printed.new.items ≡ printed.old.items ++ more)) }
     ensures bad { result ≡ Err BadScript → (IsTalking (scene_of stage.old) name.now → ⊥) × (printed.new.items ≡ printed.old.items) }
-    ensures kept { (more : List ℕ) × (printed.new.items ≡ printed.old.items ++ more) }
+    ensures memory { result ≡ Err NoMemory → (more : List ℕ) × FeedsInPart (scene_of stage.old) name.now octets.now more × (printed.new.items ≡ printed.old.items ++ more) }
 {
     let Some(place) = session_place(&stage.sessions, name) else {
         return Err(ServeFault::BadScript);
@@ -279,7 +280,7 @@ fn converse(
 ) -> Result<Option<Connection>, ServeFault>
     ensures ok { IfOk result (λ left. (turns : List OneTurn) × TalksOn node.old connection octets.now turns node.new left × (printed.new.items ≡ printed.old.items ++ transcript name.now turns)) }
     ensures bad { result ≡ Err BadScript → (IsGoing node.old connection.number → ⊥) × (printed.new.items ≡ printed.old.items) }
-    ensures kept { (more : List ℕ) × (printed.new.items ≡ printed.old.items ++ more) }
+    ensures memory { result ≡ Err NoMemory → (turns : List OneTurn) × (count : ℕ) × HasTurns node.old connection octets.now turns × (printed.new.items ≡ printed.old.items ++ transcript name.now (take count turns)) }
 {
     let Connection { number, mut framer } = connection;
     if !is_going(node, number) {
@@ -345,8 +346,8 @@ fn show(
     printed: &mut Vec<u8>,
 ) -> Result<(), ServeFault>
     ensures ok { OnOk result ((more : List ℕ) × Shows (scene_of stage.now) name more × (printed.new.items ≡ printed.old.items ++ more)) }
-    ensures bad { result ≡ Err BadScript → IsNone (replica_place stage.now.replicas.items name) × (printed.new.items ≡ printed.old.items) }
-    ensures kept { (more : List ℕ) × (printed.new.items ≡ printed.old.items ++ more) }
+    ensures bad { result ≡ Err BadScript → IsNone (replica_place stage.now.replicas.items name) }
+    ensures err { OnErr result (printed.new.items ≡ printed.old.items) }
 {
     let Some(place) = replica_place(&stage.replicas, name) else {
         return Err(ServeFault::BadScript);

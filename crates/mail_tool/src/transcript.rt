@@ -1,6 +1,6 @@
 //! The lines of a transcript that turns and answers make.
 
-ghost use Rattle.std.specs.Prelude.{◌≡◌, ◌++◌, ℕ, List, OnErr, OnOk};
+ghost use Rattle.std.specs.Prelude.{◌≡◌, ◌++◌, ℕ, OnErr, OnOk, take};
 ghost use Rattle.imap_print.specs.Printed.{printed as text_of};
 ghost use Rattle.mail_script.specs.Transcript.{transcript_line};
 ghost use Rattle.mail_script.specs.declared.transcript.Speaker.TheVariants.{Server};
@@ -19,7 +19,7 @@ pub fn write_turns(
     printed: &mut Vec<u8>,
 ) -> Result<(), AllocError>
     ensures ok { OnOk result (printed.new.items ≡ printed.old.items ++ transcript session.now turns.now) }
-    ensures kept { (more : List ℕ) × (printed.new.items ≡ printed.old.items ++ more) }
+    ensures err { OnErr result ((count : ℕ) × (printed.new.items ≡ printed.old.items ++ transcript session.now (take count turns.now))) }
 {
     for turn in turns {
         write_turn(session, turn, printed)?;

@@ -1,5 +1,6 @@
 use super::{joined, replayed};
 use crate::ending::ReplayEnd;
+use std::alloc::{AllocError, Global};
 use std::str;
 use std::test::Fail;
 
@@ -155,6 +156,38 @@ fn delivers_operations(rt: HostRuntime) -> Result<(), Fail> {
         let expected = joined(alloc, &[TWO_PRINT, prints])?;
         let (end, printed) = replayed(alloc, &whole);
         assert_eq!(rt; end, ReplayEnd::Done, "at {script:?}");
+        assert_eq!(rt; str::from_utf8(&printed)?, str::from_utf8(&expected)?);
+    }
+    Ok(())
+}
+
+/// The keywords with the numbers from 10 to before this one, behind one another.
+fn keywords(alloc: Global, end: u32) -> Result<String, AllocError> {
+    let mut list = String::new(alloc);
+    for number in 10..end {
+        if number > 10 {
+            list.push(' ')?;
+        }
+        let keyword = format!(in alloc; "k{number}")?;
+        list.push_str(&keyword)?;
+    }
+    Ok(list)
+}
+
+/// A message bears at most 32 keywords.
+#[test]
+fn tells_unlawful_flags(rt: HostRuntime) -> Result<(), Fail> {
+    let alloc = rt.alloc();
+    for (end, told) in [
+        (42, "forge 1:1 2: Applied 1\n"),
+        (43, "forge: Unsound U4\n"),
+    ] {
+        let flags = keywords(alloc, end)?;
+        let date = ") \"01-Jan-1970 00:00:00 +0000\" =x\n";
+        let script = joined(alloc, &[TWO, "forge 2 1:1 - append INBOX (", &flags, date])?;
+        let (end, printed) = replayed(alloc, &script);
+        assert_eq!(rt; end, ReplayEnd::Done);
+        let expected = joined(alloc, &[TWO_PRINT, told])?;
         assert_eq!(rt; str::from_utf8(&printed)?, str::from_utf8(&expected)?);
     }
     Ok(())

@@ -1,7 +1,8 @@
 use super::replayed;
-use super::rows::FIRST_RUN;
+use super::rows::{FIRST_RUN, FIRST_RUN_PRINTS};
 use crate::ending::ReplayEnd;
 use std::alloc::{AllocError, Global};
+use std::str;
 use std::test::Fail;
 
 /// Whether these are whole lines of printed ASCII.
@@ -21,25 +22,31 @@ fn with_octet(alloc: Global, text: &[u8], place: usize, octet: u8) -> Result<Vec
     Ok(copy)
 }
 
+/// Whether a replay ended with a name that a script can bring about, and printed whole lines behind what the lines before
+/// the damage print.
+fn is_named_end(end: ReplayEnd, printed: &[u8], before: &[u8]) -> bool {
+    let named = matches!(end, ReplayEnd::Done | ReplayEnd::BadScript { .. });
+    named && printed.starts_with(before) && are_lines(printed)
+}
+
 #[test]
 fn takes_cut_and_damaged_scripts(rt: HostRuntime) -> Result<(), Fail> {
     let alloc = rt.alloc();
     let script = FIRST_RUN.as_bytes();
-    for (place, _) in script.iter().enumerate() {
+    let mut before = Vec::new(alloc);
+    for (place, octet) in script.iter().enumerate() {
         let (end, printed) = replayed(alloc, &script[..place]);
-        assert!(rt;
-            end != ReplayEnd::NoMemory && are_lines(&printed),
-            "cut at {place}"
-        );
-        for octet in [0, 10, 32, 126, 255] {
-            let damaged = with_octet(alloc, script, place, octet)?;
+        assert!(rt; is_named_end(end, &printed, &before), "cut at {place}");
+        for other in [0, 10, 32, 126, 255] {
+            let damaged = with_octet(alloc, script, place, other)?;
             let (end, printed) = replayed(alloc, &damaged);
-            assert!(rt;
-                end != ReplayEnd::NoMemory && are_lines(&printed),
-                "{octet} at {place}"
-            );
+            assert!(rt; is_named_end(end, &printed, &before), "{other} at {place}");
+        }
+        if *octet == b'\n' {
+            before = replayed(alloc, &script[..place + 1]).1;
         }
     }
+    assert_eq!(rt; str::from_utf8(&before)?, FIRST_RUN_PRINTS);
     Ok(())
 }
 

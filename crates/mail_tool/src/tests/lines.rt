@@ -1,5 +1,6 @@
 use super::{joined, replayed};
 use crate::ending::ReplayEnd;
+use std::alloc::{AllocError, Global};
 use std::str;
 use std::test::Fail;
 
@@ -11,7 +12,7 @@ const GREETING: &str = "x S: * PREAUTH [CAPABILITY IMAP4rev2 IDLE CONDSTORE] rea
 const LOGGED_OUT: &str = "x C: a LOGOUT\nx S: * BYE logging out\nx S: a OK LOGOUT completed\n";
 
 /// Lines behind a replica and a session, and what they print.
-const SERVED: [(&str, &str); 43] = [
+const SERVED: [(&str, &str); 45] = [
     ("", ""),
     ("\n\n# node 1\n#\n", ""),
     ("node 2", ""),
@@ -124,6 +125,14 @@ const SERVED: [(&str, &str); 43] = [
         "line x a LIST \"\" \"\"\n",
         "x C: a LIST \"\" \"\"\nx S: * LIST (\\Noselect) \"/\" \"\"\nx S: a OK LIST completed\n",
     ),
+    (
+        "line x a CREATE \"~C3(\"\nline x b CREATE \"~FF\"\n",
+        "x C: a CREATE \"~C3(\"\nx S: a NO [CANNOT] name not allowed\nx C: b CREATE \"~FF\"\nx S: b NO [CANNOT] name not allowed\n",
+    ),
+    (
+        "line x a LIST (SUBSCRIBED) \"\" *\nline x b LIST \"\" * RETURN (SUBSCRIBED)\n",
+        "x C: a LIST (SUBSCRIBED) \"\" *\nx S: a NO [CANNOT] not in this profile\nx C: b LIST \"\" * RETURN (SUBSCRIBED)\nx S: b NO [CANNOT] not in this profile\n",
+    ),
     ("show 1\n", "dump 1\nfolder INBOX -\nend\n"),
     ("node 2\nshow 2\n", "dump 2\nfolder INBOX -\nend\n"),
     (
@@ -146,7 +155,7 @@ fn serves_lines(rt: HostRuntime) -> Result<(), Fail> {
 }
 
 /// Lines that can't be served behind a replica and a session.
-const BAD: [&str; 85] = [
+const BAD: [&str; 99] = [
     "hello",
     " node 2",
     "NODE 2",
@@ -168,6 +177,8 @@ const BAD: [&str; 85] = [
     "now 18446744073709551616",
     "open 2 y",
     "open 1 x",
+    "open 0 y",
+    "open 65536 y",
     "open 1",
     "open 1 ",
     "open 1 seventeenletters1",
@@ -185,10 +196,15 @@ const BAD: [&str; 85] = [
     "line x \t",
     "send y a",
     "send x",
+    "send x ~41",
+    "send x ~0",
+    "send x ~",
     "close y",
     "close x ",
     "close",
     "show 2",
+    "show 0",
+    "show 65536",
     "show 01",
     "show 1 ",
     "poll x",
@@ -205,9 +221,13 @@ const BAD: [&str; 85] = [
     "deliver 1 1",
     "deliver 1:4294967296 1",
     "deliver 65536:1 1",
+    "deliver 1:1 0",
+    "deliver 1:1 65536",
     "forge",
     "forge 1",
     "forge 1 ",
+    "forge 0 2:1 - create a",
+    "forge 65536 2:1 - create a",
     "forge 2 2:1 - create a",
     "forge 1 2:1 - create",
     "forge 1 2:1 - create a ",
@@ -226,10 +246,13 @@ const BAD: [&str; 85] = [
     "forge 1 2:1 - append INBOX () \" 1-Jan-1970 00:00:00 +0000\" =x",
     "forge 1 2:1 - append INBOX () \"30-Feb-1970 00:00:00 +0000\" =x",
     "forge 1 2:1 - append INBOX () \"01-Jan-1970 00:00:00 +0000\" x",
+    "forge 1 2:1 - append INBOX () \"01-Jan-1970 00:00:00 +0000\" =~41",
     "forge 1 2:1 - store INBOX () 1:1",
     "forge 1 2:1 - expunge INBOX -",
     "drain",
     "drain 2",
+    "drain 0",
+    "drain 65536",
     "drain 01",
     "drain 1 ",
 ];
@@ -251,9 +274,21 @@ fn refuses_bad_lines(rt: HostRuntime) -> Result<(), Fail> {
     Ok(())
 }
 
+/// A line that feeds a session one octet more than a command may have.
+fn long_line(alloc: Global) -> Result<String, AllocError> {
+    let mut line = String::new(alloc);
+    line.push_str("send x ")?;
+    for _ in 0..8_193 {
+        line.push('X')?;
+    }
+    line.push('\n')?;
+    Ok(line)
+}
+
 #[test]
 fn ends_sessions_for_good(rt: HostRuntime) -> Result<(), Fail> {
     let alloc = rt.alloc();
+    let too_long = long_line(alloc)?;
     for (ending, prints) in [
         ("close x\n", ""),
         ("line x a LOGOUT\n", LOGGED_OUT),
@@ -262,6 +297,7 @@ fn ends_sessions_for_good(rt: HostRuntime) -> Result<(), Fail> {
             "line x a APPEND INBOX {1048577+}\n",
             "x S: * BYE literal too long\n",
         ),
+        (too_long.as_str(), "x S: * BYE line too long\n"),
     ] {
         let expected = joined(alloc, &[GREETING, prints])?;
         for bad in [

@@ -1,20 +1,27 @@
-use Rattle.std.proofs.Common.{◌≡◌, ◌++◌, ℕ, List, Some, Err, length, arith, ap, sym, subst}
+use Rattle.std.proofs.Common.{◌≡◌, ◌++◌, ℕ, List, Some, length, arith, ap, sym, subst}
 use Rattle.mail_script.specs.Reading.{cut_at}
 use Rattle.mail_script.specs.Script.{Says}
-use Rattle.mail_tool.specs.Lines.{IsBad}
+use Rattle.mail_tool.specs.Lines.{IsBad, ServesInPart}
 use Rattle.mail_tool.specs.Replays.{Advances}
 use Rattle.mail_tool.specs.Stage.{scene_of}
-use Rattle.mail_tool.proofs.LineLemmas.{advance_on, breaks_there, cut_parts}
+use Rattle.mail_tool.proofs.LineLemmas.{advance_at_first, advance_on, breaks_there, cut_parts, stops_behind, stops_there}
+use Rattle.mail_tool.proofs.WholeLemmas.{ends_by, handed_on}
 use Rattle.mail_tool.proofs.replay.serve_piece.Goals as goal
 
-pub returns-in_err-serve_next-in-Ok-Some-clause-bad : goal.returns-in_err-serve_next-in-Ok-Some-clause-bad
-returns-in_err-serve_next-in-Ok-Some-clause-bad g c number e =
+pub returns-in_default-clause-err : goal.returns-in_default-clause-err
+returns-in_default-clause-err g c = stops_behind _ _ c.args.progress.now.served _ _ _ _ _ (advance_at_first _ _ _ _)
+
+pub returns-in-Err-clause-err : goal.returns-in-Err-clause-err
+returns-in-Err-clause-err g c = stops_behind _ _ _ _ _ _ _ _ c.lines.invariant
+
+pub returns-in_err-serve_next-in-Ok-Some-clause-err : goal.returns-in_err-serve_next-in-Ok-Some-clause-err
+returns-in_err-serve_next-in-Ok-Some-clause-err g c =
     let cut : cut_at 10 c.lines.progress.lines ≡ Some (c.in-Ok-Some.line, c.next_line.new.self) = rw c.in-Ok-Some.field-0-is at c.in-Ok-Some.ensures.ok in
-    let f = c.from_residual.ensures.1 in
-    let k = rw e at f in
-    let b = c.in_err-serve_next-in-Ok-Some.ensures.bad number (ap Err (sym k)) in
-    let bad : IsBad (scene_of c.lines.progress.stage) c.in-Ok-Some.line = subst (λ (z : List ℕ). IsBad (scene_of c.lines.progress.stage) z) c.as_bytes.ensures b.1 in
-    breaks_there _ _ _ _ _ _ _ _ c.lines.invariant c.in-Ok-Some.line c.next_line.new.self cut _ number b.0 bad b.2
+    let line : c.as_bytes.result.now ≡ c.in-Ok-Some.line = c.as_bytes.ensures in
+    handed_on c.from_residual.result _ _ _ c.from_residual.ensures.1 (λ e same. same) (ends_by _
+    (λ number b. breaks_there _ _ _ _ _ _ _ _ c.lines.invariant c.in-Ok-Some.line c.next_line.new.self cut _ number b.0 (subst (λ (z : List ℕ). IsBad (scene_of c.lines.progress.stage) z) line b.1) b.2)
+    (λ s. stops_there _ _ _ _ _ _ _ _ c.lines.invariant c.in-Ok-Some.line c.next_line.new.self cut _ s.0 (subst (λ (z : List ℕ). ServesInPart (scene_of c.lines.progress.stage) z s.0) line s.1) s.2)
+    c.in_err-serve_next-in-Ok-Some.ensures.err)
 
 pub lines-smaller : goal.lines-smaller
 lines-smaller g c =

@@ -1,8 +1,8 @@
-use Rattle.std.proofs.Common.{rules, arith, ◌≡◌, ◌<◌, ℕ, [], length, length-append, ◌∙◌, ap, sym, subst, take, Err}
-use Rattle.std.proofs.lemmas.Result.{on_ok_weaker}
+use Rattle.std.proofs.Common.{rules, arith, ◌≡◌, ◌<◌, ℕ, [], length, length-append, ◌∙◌, ap, subst, take}
+use Rattle.std.proofs.lemmas.Result.{IfErr-weaker, on_ok_weaker}
 use Rattle.std.specs.Io.KnownBytes.{Consumes}
 use Rattle.mail_script.specs.Reading.{cut_at}
-use Rattle.mail_tool.proofs.WholeLemmas.{came_at_first, came_kept, came_on, came_to_bad, came_to_bad_last, came_to_end}
+use Rattle.mail_tool.proofs.WholeLemmas.{came_at_first, came_kept, came_on, came_to_bad, came_to_bad_last, came_to_end, came_to_failure, came_to_stop, came_to_stop_last, handed_on, replays_by}
 use Rattle.mail_tool.proofs.replay.serve_pieces.Goals as goal
 use Rattle.mail_tool.proofs.replay.serve_pieces.Goals.{in-Ok+in_ok-serve_piece-in-Ok, in-Err+else-ne}
 
@@ -33,8 +33,8 @@ returns-in-Ok-eq0-clause-ok g c =
     let room : 0 < length c.read.new.buf = omega (arith, a, p) in
     on_ok_weaker c.serve_last.result (λ o script e. came_to_end _ _ _ _ _ _ _ c.loop-read.invariant.came _ taken (b.1 zero room) script e _ o.0 o.1 o.2 o.3) c.serve_last.ensures.ok
 
-pub returns-in-Ok-eq0-clause-bad : goal.returns-in-Ok-eq0-clause-bad
-returns-in-Ok-eq0-clause-bad g c number f script e =
+pub returns-in-Ok-eq0-clause-err : goal.returns-in-Ok-eq0-clause-err
+returns-in-Ok-eq0-clause-err g c =
     let zero : c.in-Ok-eq0.field-0 ≡ 0 = search rules in
     let b = c.in-Ok-eq0.ensures.bytes in
     let taken : Consumes (g.R.Read.remaining c.loop-read.reader) (g.R.Read.remaining c.read.new.self) [] =
@@ -42,8 +42,12 @@ returns-in-Ok-eq0-clause-bad g c number f script e =
     let a = c.read.auto.buf in
     let p = c.loop-read.invariant.piece in
     let room : 0 < length c.read.new.buf = omega (arith, a, p) in
-    let s = c.serve_last.ensures.bad number f in
-    came_to_bad_last _ _ _ _ _ _ _ c.loop-read.invariant.came _ taken (b.1 zero room) script e _ number s.0 s.1 s.2 s.3
+    let end = b.1 zero room in
+    IfErr-weaker c.serve_last.result _ _
+    (λ early h script e. replays_by script _ _ _ early
+    (λ number s. came_to_bad_last _ _ _ _ _ _ _ c.loop-read.invariant.came _ taken end script e _ number s.0 s.1 s.2 s.3)
+    (λ s. came_to_stop_last _ _ _ _ _ _ _ c.loop-read.invariant.came _ taken end script e _ s.0 s.1 s.2) h)
+    c.serve_last.ensures.err
 
 pub serve_piece-requires : goal.serve_piece-requires
 serve_piece-requires g c =
@@ -56,11 +60,22 @@ serve_piece-requires g c =
     let t = c.loop-read-test.true in
     omega (arith, b0, b1, a, p, f, t)
 
-pub returns-in_err-serve_piece-in-Ok-clause-bad : goal.returns-in_err-serve_piece-in-Ok-clause-bad
-returns-in_err-serve_piece-in-Ok-clause-bad g c number e =
-    let k = rw e at c.from_residual.ensures.1 in
-    let b = c.in_err-serve_piece-in-Ok.ensures.bad number (ap Err (sym k)) in
-    came_to_bad _ _ _ _ _ _ _ c.loop-read.invariant.came _ _ _ number c.in-Ok.ensures.bytes.0 b
+pub returns-in_err-serve_piece-in-Ok-clause-err : goal.returns-in_err-serve_piece-in-Ok-clause-err
+returns-in_err-serve_piece-in-Ok-clause-err g c =
+    let early = c.in_err-serve_piece-in-Ok.ensures.err in
+    let taken = c.in-Ok.ensures.bytes.0 in
+    handed_on c.from_residual.result _ _ _ c.from_residual.ensures.1 (λ e same. same)
+    (λ script e. replays_by script _ _ _ _
+    (λ number b. came_to_bad _ _ _ _ _ _ _ c.loop-read.invariant.came _ _ _ number taken b script e)
+    (λ s. came_to_stop _ _ _ _ _ _ _ c.loop-read.invariant.came _ _ _ taken s script e) early)
+
+pub returns-then-ne-clause-err : goal.returns-then-ne-clause-err
+returns-then-ne-clause-err g c =
+    let came = came_kept _ _ _ _ _ _ _ c.loop-read.invariant.came _ c.in-Err.ensures.bytes in
+    came_to_failure _ _ _ _ _ _ _ came c.loop-read.invariant.rest
+
+pub returns-clause-err : goal.returns-clause-err
+returns-clause-err g c = came_to_failure _ _ _ _ _ _ _ c.loop-read.invariant.came c.loop-read.invariant.rest
 
 pub loop-read-preserved : goal.loop-read-preserved
 loop-read-preserved g c =

@@ -1,5 +1,6 @@
 use Rattle.std.proofs.Common.{rules, ◌≢◌, length}
-use Rattle.mail_tool.proofs.WholeLemmas.{none_served, one_line, one_served}
+use Rattle.std.proofs.lemmas.Result.{IfErr-weaker}
+use Rattle.mail_tool.proofs.WholeLemmas.{ends_by, none_served, one_in_part, one_line, one_served}
 use Rattle.mail_tool.proofs.replay.serve_rest.Goals as goal
 
 pub returns-then-is_empty-clause-ok : goal.returns-then-is_empty-clause-ok
@@ -10,8 +11,8 @@ returns-clause-ok g c =
     let n : length c.args.line.now ≢ 0 = search rules in
     one_served _ _ _ _ _ c.args.line.now _ (one_line c.args.line.now c.requires.rest n) c.serve_next.ensures.ok
 
-pub returns-clause-bad : goal.returns-clause-bad
-returns-clause-bad g c number e =
+pub returns-clause-err : goal.returns-clause-err
+returns-clause-err g c =
     let n : length c.args.line.now ≢ 0 = search rules in
-    let b = c.serve_next.ensures.bad number e in
-    (b.0, one_line c.args.line.now c.requires.rest n, b.1, b.2)
+    let one = one_line c.args.line.now c.requires.rest n in
+    IfErr-weaker c.serve_next.result _ _ (λ end. ends_by end (λ number b. (b.0, one, b.1, b.2)) (λ s. (s.0, one_in_part _ c.args.line.now s.0 one s.1, s.2))) c.serve_next.ensures.err
