@@ -30,7 +30,7 @@ amid_later old mid new session [] turns w c = (c.0, meanwhile_both old mid new w
 amid_later old mid new session (item ∷ items) turns w c = (c.0, c.1, c.2, meanwhile_both old mid c.0 w c.3, c.4, c.5)
 
 -- a conversation to which nothing came is one to which something may
-amid_of : (old new : NodeState) (session : ℕ) (items : List Item) (turns : List Turn) → Converses old session items turns new → ConversesAmid old session items turns new
+pub amid_of : (old new : NodeState) (session : ℕ) (items : List Item) (turns : List Turn) → Converses old session items turns new → ConversesAmid old session items turns new
 amid_of old new session [] turns c = (c.0, (zero, c.1))
 amid_of old new session (item ∷ items) turns c = (
   old,
@@ -45,7 +45,7 @@ amid_of old new session (item ∷ items) turns c = (
 )
 
 -- a conversation that goes on, and what comes then
-amid_on : (old mid new : NodeState) (session : ℕ) (items more : List Item) (turns rest : List Turn) → IsGoing mid session → ConversesAmid old session items turns mid → ConversesAmid mid session more rest new → ConversesAmid old session (items ++ more) (turns ++ rest) new
+pub amid_on : (old mid new : NodeState) (session : ℕ) (items more : List Item) (turns rest : List Turn) → IsGoing mid session → ConversesAmid old session items turns mid → ConversesAmid mid session more rest new → ConversesAmid old session (items ++ more) (turns ++ rest) new
 amid_on old mid new session [] more turns rest going c d =
     subst (λ (ts : List Turn). ConversesAmid old session more (ts ++ rest) new) (sym c.0) (amid_later old mid new session more rest c.1 d)
 amid_on old mid new session (item ∷ items) more turns rest going c d = (

@@ -1,5 +1,6 @@
 mod AmidLemmas
 pub mod DeleteLemmas
+mod EndLemmas
 pub mod FaultLemmas
 pub mod StreamLemmas
 pub mod TalkLemmas

@@ -1,17 +1,19 @@
 //! What a conversation is, whatever the pieces in which its octets come: laws over `specs/Streams.antt`, each the contract of a
 //! function that does nothing.
 
-ghost use Rattle.std.specs.Prelude.{◌≡◌, ℕ, List, ◌++◌, ◌∷◌, [], Result, Ok, Err};
+ghost use Rattle.std.specs.Prelude.{◌≡◌, ℕ, List, ◌++◌, ◌∷◌, [], Some, Result, Ok, Err};
 ghost use Rattle.imap_lex.specs.Frames.{AreFrames, FailsAt};
 ghost use Rattle.imap_lex.specs.Reading.{Progress as Begun, goes_on, joined, start};
 ghost use Rattle.imap_lex.specs.declared.fault.Fault.{Fault as Why};
 ghost use Rattle.imap_lex.specs.declared.item.Item.{Item as Given};
 ghost use Rattle.imap_lex.specs.declared.limits.Limits.{Limits as Bounds};
-ghost use Rattle.world_core.specs.Conversation.{Converses};
-ghost use Rattle.world_core.specs.Nodes.{IsGoing, NodeState};
+ghost use Rattle.imap_print.specs.declared.answer.Answer.{Answer as OneAnswer};
+ghost use Rattle.world_core.specs.Conversation.{Converses, sent};
+ghost use Rattle.world_core.specs.Nodes.{IsGoing, NodeState, closed};
 ghost use Rattle.world_core.specs.Streams.{ConversesAmid, TalksAmid, TalksOn};
-ghost use Rattle.world_core.specs.Talks.{EndsTalk, Talks};
+ghost use Rattle.world_core.specs.Talks.{EndsTalk, Talks, goodbye_of};
 ghost use Rattle.world_core.specs.declared.turn.TalkFaultKind.{TalkFaultKind as Kind};
+ghost use Rattle.world_core.specs.declared.turn.TalkFaultKind.TheVariants.{Framing};
 ghost use Rattle.world_core.specs.declared.turn.Turn.{Turn as OneTurn};
 
 /// It doesn't matter how the octets of a connection were cut into pieces: what calls of `talk` make of them, the last of which
@@ -36,8 +38,30 @@ pub fn commands_are_answered()
         → Converses old session items turns new }
 {}
 
+/// A connection that a fault ends, in whatever pieces its octets came. The piece that ends it ends the talk over all octets in
+/// the same way: behind the turns of the pieces before it, for the same reason, and with the node that it leaves. And where the
+/// octets from the first on fail at an octet for a reason that is told, the turns are the conversation over just the items
+/// before that octet, and the BYE that the fault asks for as the last; the session, which was going on until then, is closed.
+pub fn faults_end_the_stream()
+    ensures ends { (old mid new : NodeState) (session : ℕ) (limits : Bounds) (state between : Result Begun Why) (pieces : List (List ℕ)) (piece : List ℕ) (turns more : List OneTurn) (why : Kind)
+        → IsGoing mid session
+        → TalksOn old session limits state pieces turns mid between
+        → EndsTalk why mid session between (goes_on limits between piece) more new
+        → EndsTalk why old session state (goes_on limits state (joined pieces ++ piece)) (turns ++ more) new }
+    ensures frames { (old mid new : NodeState) (session : ℕ) (limits : Bounds) (between : Result Begun Why) (pieces : List (List ℕ)) (piece : List ℕ) (turns more : List OneTurn) (items : List Given) (why : Why) (bye : OneAnswer)
+        → goodbye_of why ≡ Some bye
+        → IsGoing mid session
+        → TalksOn old session limits (Ok start) pieces turns mid between
+        → FailsAt limits (joined pieces ++ piece) items why
+        → EndsTalk (Framing why) mid session between (goes_on limits between piece) more new
+        → (before : List OneTurn) × (last : NodeState) × Converses old session items before last × IsGoing last session
+        × (turns ++ more ≡ before ++ sent (bye ∷ [])) × (new ≡ closed last session) }
+{}
+
 /// Operations of other replicas may come to the node between the pieces of a session's input: what calls of `talk` make of
-/// the pieces is the conversation over the items of all octets, each answered by the operations applied until then.
+/// the pieces is the conversation over the items of all octets, each answered by the operations applied until then. Where a
+/// fault of the framer that is told by a BYE ends the connection, the octets do end in that fault, and the turns are that
+/// conversation over the items before it, and the BYE as the last; the session, which was going on until then, is closed.
 pub fn deliveries_come_between()
     ensures going { (old new : NodeState) (session : ℕ) (limits : Bounds) (state end : Result Begun Why) (pieces : List (List ℕ)) (turns : List OneTurn)
         → TalksAmid old session limits state pieces turns new end
@@ -47,4 +71,12 @@ pub fn deliveries_come_between()
         → TalksAmid old session limits state pieces turns mid between
         → Talks mid session (goes_on limits between piece) more new end
         → ConversesAmid old session (goes_on limits state (joined pieces ++ piece)).0 (turns ++ more) new }
+    ensures fault { (old mid new : NodeState) (session : ℕ) (limits : Bounds) (state between : Result Begun Why) (pieces : List (List ℕ)) (piece : List ℕ) (turns more : List OneTurn) (why : Why) (bye : OneAnswer)
+        → goodbye_of why ≡ Some bye
+        → IsGoing mid session
+        → TalksAmid old session limits state pieces turns mid between
+        → EndsTalk (Framing why) mid session between (goes_on limits between piece) more new
+        → ((goes_on limits state (joined pieces ++ piece)).1 ≡ Err why)
+        × ((before : List OneTurn) × (last : NodeState) × ConversesAmid old session (goes_on limits state (joined pieces ++ piece)).0 before last × IsGoing last session
+        × (turns ++ more ≡ before ++ sent (bye ∷ [])) × (new ≡ closed last session)) }
 {}

@@ -11,7 +11,9 @@ mod talking;
 mod turn;
 
 pub use dump::write_dump;
-pub use laws::{commands_are_answered, deliveries_come_between, pieces_are_one_stream};
+pub use laws::{
+    commands_are_answered, deliveries_come_between, faults_end_the_stream, pieces_are_one_stream,
+};
 pub use node::Node;
 pub use reply::{Answers, Issued, Reply};
 pub use sessions::{MAX_SESSIONS, OpenFault, SessionNo, SessionState, Sessions};

@@ -1,0 +1,155 @@
+use Rattle.std.proofs.Common.{◌≡◌, ◌⊎◌, inl, inr, ℕ, List, [], ◌∷◌, ◌++◌, ap, refl, sym, ◌∙◌, subst, append_assoc, Option, None, Some, option_to_list, Result, Ok, Err, IsOk, IsErr}
+use Rattle.imap_lex.specs.Frames.{FailsAt}
+use Rattle.imap_lex.specs.Reading.{Cut, IsPrefix, Progress, goes_on, joined, start}
+use Rattle.imap_lex.specs.declared.fault.Fault.{Fault}
+use Rattle.imap_lex.specs.declared.fault.Fault.TheVariants.{LineTooLong, LiteralTooLong, NulByte, NoMemory, Failed}
+use Rattle.imap_lex.specs.declared.item.Item.{Item}
+use Rattle.imap_lex.specs.declared.limits.Limits.{Limits}
+use Rattle.imap_lex.proofs.FrameLemmas.{given_by_fault}
+use Rattle.imap_print.specs.declared.answer.Answer.{Answer}
+use Rattle.world_core.specs.Conversation.{BreaksOff, Converses, sent, turns_of}
+use Rattle.world_core.specs.Nodes.{IsGoing, NodeState, closed}
+use Rattle.world_core.specs.Streams.{ConversesAmid, TalksAmid, TalksOn}
+use Rattle.world_core.specs.Talks.{EndsTalk, goodbye_of, goodbyes}
+use Rattle.world_core.specs.declared.turn.TalkFaultKind.{TalkFaultKind}
+use Rattle.world_core.specs.declared.turn.TalkFaultKind.TheVariants as kinds
+use Rattle.world_core.specs.declared.turn.Turn.{Turn}
+use Rattle.world_core.proofs.AmidLemmas.{amid_of, amid_on, talks_amid_joined}
+use Rattle.world_core.proofs.StreamLemmas.{converses_on, items_joined, state_joined, talks_on_joined}
+use Rattle.world_core.proofs.TalkLemmas.{closed_stops}
+
+-- a conversation that goes on, and one that memory breaks off then
+breaks_on : (old mid new : NodeState) (session : ℕ) (items more : List Item) (turns rest : List Turn) → IsGoing mid session → Converses old session items turns mid → BreaksOff mid session more rest new → BreaksOff old session (items ++ more) (turns ++ rest) new
+breaks_on old mid new session [] more turns rest going c d =
+    subst (λ (ts : List Turn). BreaksOff old session more (ts ++ rest) new) (sym c.0) (subst (λ (n : NodeState). BreaksOff n session more rest new) c.1 d)
+breaks_on old mid new session (item ∷ items) more turns rest going c d =
+    elim c.3 [
+      | inl on ↦ inr (c.0, c.1, c.2, on.0, (on.1.0 ++ rest, ap (λ ts. ts ++ rest) on.1.1 ∙ append_assoc (turns_of item c.0) on.1.0 rest, breaks_on c.1 mid new session items more on.1.0 rest going on.1.2 d))
+      | inr out ↦ absurd (closed_stops c.1 session (subst (λ (n : NodeState). IsGoing n session) out.2 going))
+    ]
+
+-- items that begin others do so behind the same front
+prefix_behind : (front items all : List Item) → IsPrefix items all → IsPrefix (front ++ items) (front ++ all)
+prefix_behind front items all p = (p.0, ap (λ xs. front ++ xs) p.1 ∙ sym (append_assoc front items p.0))
+
+-- where the session goes on, the framer has not failed
+talks_on_well : (old new : NodeState) (session : ℕ) (limits : Limits) (state end : Result Progress Fault) (pieces : List (List ℕ)) (turns : List Turn) → TalksOn old session limits state pieces turns new end → IsOk state → IsOk end
+talks_on_well old new session limits state end [] turns t ok = subst (λ (s : Result Progress Fault). IsOk s) (sym t.2) ok
+talks_on_well old new session limits state end (piece ∷ pieces) turns t ok = talks_on_well t.1 new session limits t.2 end pieces t.5.0 t.5.2 (t.3.1 t.4).1
+
+no_both : (state : Result Progress Fault) → IsOk state → IsErr state → ⊥
+no_both (Ok p) ok err = cc
+no_both (Err why) ok err = cc
+
+-- a framer that failed before had failed before all pieces, and there was none
+failed_at_first : (old mid new : NodeState) (session : ℕ) (limits : Limits) (state between : Result Progress Fault) (pieces : List (List ℕ)) (turns more : List Turn)
+    → TalksOn old session limits state pieces turns mid between → IsErr between → more ≡ [] → new ≡ closed mid session
+    → IsErr state × (turns ++ more ≡ []) × (new ≡ closed old session)
+failed_at_first old mid new session limits state between [] turns more t err none out =
+    (subst (λ (s : Result Progress Fault). IsErr s) t.2 err, ap (λ ts. ts ++ more) t.0 ∙ none, out ∙ ap (λ n. closed n session) t.1)
+failed_at_first old mid new session limits state between (piece ∷ pieces) turns more t err none out =
+    absurd (no_both between (talks_on_well t.1 mid session limits t.2 between pieces t.5.0 t.5.2 (t.3.1 t.4).1) err)
+
+-- How a conversation ends that is told by a BYE.
+module _ (why : Fault) (old : NodeState) (session : ℕ) (cut : Cut) (turns : List Turn) (new : NodeState) where
+  abbrev pub EndsTold : Type 0
+  EndsTold =
+      (cut.1 ≡ Err why) × (mid : NodeState) × (before : List Turn) × Converses old session cut.0 before mid × IsGoing mid session
+      × (turns ≡ before ++ goodbyes why) × (new ≡ closed mid session)
+
+-- a fault that is told ends it so
+told : (why : Fault) (bye : Answer) (old : NodeState) (session : ℕ) (state : Result Progress Fault) (cut : Cut) (turns : List Turn) (new : NodeState)
+    → goodbye_of why ≡ Some bye → EndsTalk (kinds.Framing why) old session state cut turns new → EndsTold why old session cut turns new
+told LineTooLong bye old session state cut turns new b e = e
+told LiteralTooLong bye old session state cut turns new b e = e
+told NulByte bye old session state cut turns new b e = e
+told NoMemory bye old session state cut turns new b e = let k : ◌≡◌ {A = Option Answer} None (Some bye) = b in cc
+told Failed bye old session state cut turns new b e = let k : ◌≡◌ {A = Option Answer} None (Some bye) = b in cc
+
+-- the turns before the goodbye, with those of earlier pieces
+behind : (turns more before : List Turn) (why : Fault) → more ≡ before ++ goodbyes why → turns ++ more ≡ (turns ++ before) ++ goodbyes why
+behind turns more before why e = ap (λ ts. turns ++ ts) e ∙ sym (append_assoc turns before (goodbyes why))
+
+module _ (old mid new : NodeState) (session : ℕ) (limits : Limits) (state between : Result Progress Fault) (pieces : List (List ℕ)) (piece : List ℕ) (turns more : List Turn) (going : IsGoing mid session) where
+  -- the cut of the last piece is that of all octets, behind the items of the pieces before it
+  cut_items : between ≡ (goes_on limits state (joined pieces)).1 → (goes_on limits state (joined pieces ++ piece)).0 ≡ (goes_on limits state (joined pieces)).0 ++ (goes_on limits between piece).0
+  cut_items e =
+      items_joined limits state (joined pieces) piece
+      ∙ ap (λ s. (goes_on limits state (joined pieces)).0 ++ (goes_on limits s piece).0) (sym e)
+
+  cut_state : between ≡ (goes_on limits state (joined pieces)).1 → (goes_on limits state (joined pieces ++ piece)).1 ≡ (goes_on limits between piece).1
+  cut_state e = state_joined limits state (joined pieces) piece ∙ ap (λ s. (goes_on limits s piece).1) (sym e)
+
+  -- a fault that is told
+  ends_told : (why : Fault) → TalksOn old session limits state pieces turns mid between → EndsTold why mid session (goes_on limits between piece) more new → EndsTold why old session (goes_on limits state (joined pieces ++ piece)) (turns ++ more) new
+  ends_told why t e =
+      let before = talks_on_joined old mid session limits state between pieces turns t in (
+        cut_state before.1 ∙ e.0,
+        e.1,
+        turns ++ e.2,
+        subst (λ (items : List Item). Converses old session items (turns ++ e.2) e.1) (sym (cut_items before.1))
+            (converses_on old mid e.1 session (goes_on limits state (joined pieces)).0 (goes_on limits between piece).0 turns e.2 going before.0 e.3),
+        e.4,
+        behind turns more e.2 why e.5,
+        e.6,
+      )
+
+  -- the items that begin the last piece's, behind those of the pieces before
+  cut_prefix : (items : List Item) → between ≡ (goes_on limits state (joined pieces)).1 → IsPrefix items (goes_on limits between piece).0 → IsPrefix ((goes_on limits state (joined pieces)).0 ++ items) (goes_on limits state (joined pieces ++ piece)).0
+  cut_prefix items e p = subst (λ (all : List Item). IsPrefix ((goes_on limits state (joined pieces)).0 ++ items) all) (sym (cut_items e)) (prefix_behind _ items _ p)
+
+  -- how the last piece ends the talk, the whole does
+  pub ends_on : (why : TalkFaultKind) → TalksOn old session limits state pieces turns mid between → EndsTalk why mid session between (goes_on limits between piece) more new → EndsTalk why old session state (goes_on limits state (joined pieces ++ piece)) (turns ++ more) new
+  ends_on kinds.NoMemory t e =
+      let before = talks_on_joined old mid session limits state between pieces turns t in
+      ((goes_on limits state (joined pieces)).0 ++ e.0, cut_prefix e.0 before.1 e.1, breaks_on old mid new session (goes_on limits state (joined pieces)).0 e.0 turns more going before.0 e.2)
+  ends_on (kinds.Framing NoMemory) t e =
+      let before = talks_on_joined old mid session limits state between pieces turns t in (
+        (goes_on limits state (joined pieces)).0 ++ e.0,
+        e.1,
+        cut_prefix e.0 before.1 e.2,
+        converses_on old mid e.1 session (goes_on limits state (joined pieces)).0 e.0 turns more going before.0 e.3,
+        e.4,
+        e.5,
+      )
+  ends_on (kinds.Framing Failed) t e = failed_at_first old mid new session limits state between pieces turns more t e.0 e.1 e.2
+  ends_on (kinds.Framing LineTooLong) t e = ends_told LineTooLong t e
+  ends_on (kinds.Framing LiteralTooLong) t e = ends_told LiteralTooLong t e
+  ends_on (kinds.Framing NulByte) t e = ends_told NulByte t e
+
+  -- the same, with deliveries between the pieces
+  pub ends_amid : (why : Fault) (bye : Answer) → goodbye_of why ≡ Some bye → TalksAmid old session limits state pieces turns mid between → EndsTalk (kinds.Framing why) mid session between (goes_on limits between piece) more new
+      → ((goes_on limits state (joined pieces ++ piece)).1 ≡ Err why)
+      × ((before : List Turn) × (last : NodeState) × ConversesAmid old session (goes_on limits state (joined pieces ++ piece)).0 before last × IsGoing last session
+      × (turns ++ more ≡ before ++ sent (bye ∷ [])) × (new ≡ closed last session))
+  ends_amid why bye b t f =
+      let e = told why bye mid session between (goes_on limits between piece) more new b f in
+      let before = talks_amid_joined old mid session limits state between pieces turns t in
+      let later = amid_of mid e.1 session (goes_on limits between piece).0 e.2 e.3 in (
+        cut_state before.1 ∙ e.0,
+        (
+          turns ++ e.2,
+          e.1,
+          subst (λ (items : List Item). ConversesAmid old session items (turns ++ e.2) e.1) (sym (cut_items before.1))
+              (amid_on old mid e.1 session (goes_on limits state (joined pieces)).0 (goes_on limits between piece).0 turns e.2 going before.0 later),
+          e.4,
+          behind turns more e.2 why e.5 ∙ ap (λ told. (turns ++ e.2) ++ sent (option_to_list told)) b,
+          e.6,
+        ),
+      )
+
+-- a stream that fails at an octet
+pub frames_end : (old mid new : NodeState) (session : ℕ) (limits : Limits) (between : Result Progress Fault) (pieces : List (List ℕ)) (piece : List ℕ) (turns more : List Turn) (items : List Item) (why : Fault) (bye : Answer)
+    → goodbye_of why ≡ Some bye → IsGoing mid session → TalksOn old session limits (Ok start) pieces turns mid between → FailsAt limits (joined pieces ++ piece) items why
+    → EndsTalk (kinds.Framing why) mid session between (goes_on limits between piece) more new
+    → (before : List Turn) × (last : NodeState) × Converses old session items before last × IsGoing last session × (turns ++ more ≡ before ++ sent (bye ∷ [])) × (new ≡ closed last session)
+frames_end old mid new session limits between pieces piece turns more items why bye b going t f e =
+    let given = given_by_fault limits (joined pieces ++ piece) items why f in
+    let w = ends_told old mid new session limits (Ok start) between pieces piece turns more going why t (told why bye mid session between (goes_on limits between piece) more new b e) in (
+      w.2,
+      w.1,
+      subst (λ (xs : List Item). Converses old session xs w.2 w.1) (ap (λ (c : Cut). c.0) given) w.3,
+      w.4,
+      w.5 ∙ ap (λ told. w.2 ++ sent (option_to_list told)) b,
+      w.6,
+    )
