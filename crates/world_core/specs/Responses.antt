@@ -98,11 +98,11 @@ IsNotServed (Delete name) = ⊥
 IsNotServed (ListNames false reference pattern false) = ⊥
 IsNotServed _ = Unit {0}
 
--- The command wants an authenticated session, which has not logged out (RFC 9051, section 3).
+-- The command is served, and wants an authenticated session, which has not logged out (RFC 9051, section 3).
 abbrev pub WantsAuthentication : Command → Type 0
 WantsAuthentication (Create name) = Unit {0}
 WantsAuthentication (Delete name) = Unit {0}
-WantsAuthentication (ListNames selected reference pattern returned) = Unit {0}
+WantsAuthentication (ListNames false reference pattern false) = Unit {0}
 WantsAuthentication _ = ⊥
 
 -- Why a session that goes on is refused a command.
