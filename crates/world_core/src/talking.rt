@@ -12,6 +12,8 @@ ghost use Rattle.world_core.specs.FaultAnswers.{IsFaultAnswer, IsLiteralAnswer};
 ghost use Rattle.world_core.specs.Inputs.{AnswersFault, IsInput, reason_for};
 ghost use Rattle.world_core.specs.Talks.{EndsTalk, SaysGoodbye, Talks, goodbye_of};
 ghost use Rattle.world_core.specs.declared.turn.Turn.TheVariants.{Got as GotTurn};
+ghost use Rattle.imap_lex.specs.declared.fault.Fault.{Fault as Why};
+ghost use Rattle.world_core.specs.declared.turn.TalkFaultKind.TheVariants.{Framing};
 
 use crate::node::Node;
 use crate::reply::Reply;
@@ -222,7 +224,8 @@ fn has_logged_out(node: &Node, session: SessionNo) -> bool
 ///
 /// An error closes the session too, and the node is that after the whole commands so far. `Framing` says which fault of the
 /// framer ends the conversation; the turns before it are given, with the BYE behind `LineTooLong`, `LiteralTooLong` and
-/// `NulByte`. `NoMemory` says that a turn found no memory.
+/// `NulByte`. Behind `Framing` the framer has failed for good: each later `feed` of it fails. `NoMemory` says that a turn
+/// found no memory.
 pub fn talk(
     alloc: Global,
     node: &mut Node,
@@ -234,6 +237,7 @@ pub fn talk(
     requires { IsGoing node.old session }
     ensures ok { IfOk result (λ turns. Talks node.old session (goes_on framer.old.limits framer.old.state piece.now) turns.items node.new framer.new.state) }
     ensures err { IfErr result (λ fault. EndsTalk fault.why node.old session framer.old.state (goes_on framer.old.limits framer.old.state piece.now) fault.turns.items node.new) }
+    ensures failed { IfErr result (λ fault. (why : Why) → fault.why ≡ Framing why → IsErr framer.new.state) }
     ensures limits { framer.new.limits ≡ framer.old.limits }
 {
     let mut turns = Vec::new(alloc);
