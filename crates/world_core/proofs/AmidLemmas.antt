@@ -12,22 +12,22 @@ use Rattle.world_core.proofs.StreamLemmas.{items_joined, state_joined}
 use Rattle.world_core.proofs.TalkLemmas.{closed_stops}
 
 -- nothing came meanwhile
-quiet : (node : NodeState) → Meanwhile node node
-quiet node = (zero, refl)
+quiet : (session : ℕ) (node : NodeState) → Meanwhile session node node
+quiet session node = (zero, refl)
 
-more_times : (n : ℕ) (old mid new : NodeState) → MovesTimes n old mid → Meanwhile mid new → Meanwhile old new
-more_times zero old mid new m later = subst (λ (x : NodeState). Meanwhile x new) m later
-more_times (suc n) old mid new m later =
-    let both = more_times n m.0 mid new m.2 later in
+more_times : (session n : ℕ) (old mid new : NodeState) → MovesTimes session n old mid → Meanwhile session mid new → Meanwhile session old new
+more_times session zero old mid new m later = subst (λ (x : NodeState). Meanwhile session x new) m later
+more_times session (suc n) old mid new m later =
+    let both = more_times session n m.0 mid new m.2 later in
     (suc both.0, (m.0, m.1, both.1))
 
-meanwhile_both : (old mid new : NodeState) → Meanwhile old mid → Meanwhile mid new → Meanwhile old new
-meanwhile_both old mid new first later = more_times first.0 old mid new first.1 later
+meanwhile_both : (session : ℕ) (old mid new : NodeState) → Meanwhile session old mid → Meanwhile session mid new → Meanwhile session old new
+meanwhile_both session old mid new first later = more_times session first.0 old mid new first.1 later
 
 -- a conversation that begins later
-amid_later : (old mid new : NodeState) (session : ℕ) (items : List Item) (turns : List Turn) → Meanwhile old mid → ConversesAmid mid session items turns new → ConversesAmid old session items turns new
-amid_later old mid new session [] turns w c = (c.0, meanwhile_both old mid new w c.1)
-amid_later old mid new session (item ∷ items) turns w c = (c.0, c.1, c.2, meanwhile_both old mid c.0 w c.3, c.4, c.5)
+amid_later : (old mid new : NodeState) (session : ℕ) (items : List Item) (turns : List Turn) → Meanwhile session old mid → ConversesAmid mid session items turns new → ConversesAmid old session items turns new
+amid_later old mid new session [] turns w c = (c.0, meanwhile_both session old mid new w c.1)
+amid_later old mid new session (item ∷ items) turns w c = (c.0, c.1, c.2, meanwhile_both session old mid c.0 w c.3, c.4, c.5)
 
 -- a conversation to which nothing came is one to which something may
 pub amid_of : (old new : NodeState) (session : ℕ) (items : List Item) (turns : List Turn) → Converses old session items turns new → ConversesAmid old session items turns new
@@ -36,7 +36,7 @@ amid_of old new session (item ∷ items) turns c = (
   old,
   c.0,
   c.1,
-  quiet old,
+  quiet session old,
   c.2,
   elim c.3 [
     | inl on ↦ inl (on.0, (on.1.0, on.1.1, amid_of c.1 new session items on.1.0 on.1.2))

@@ -30,12 +30,19 @@ pub fn pieces_are_one_stream()
 {}
 
 /// A connection whose octets are these commands, refused fronts and this rest, in whatever pieces they came, has the
-/// conversation over just these: each is answered in its order, and nothing else is.
+/// conversation over just these: each is answered in its order, and nothing else is. The last piece may have ended the session
+/// by a LOGOUT.
 pub fn commands_are_answered()
-    ensures { (old new : NodeState) (session : ℕ) (limits : Bounds) (end : Result Begun Why) (pieces : List (List ℕ)) (turns : List OneTurn) (items : List Given) (rest : List ℕ)
+    ensures going { (old new : NodeState) (session : ℕ) (limits : Bounds) (end : Result Begun Why) (pieces : List (List ℕ)) (turns : List OneTurn) (items : List Given) (rest : List ℕ)
         → TalksOn old session limits (Ok start) pieces turns new end
         → AreFrames limits (joined pieces) items rest
         → Converses old session items turns new }
+    ensures last { (old mid new : NodeState) (session : ℕ) (limits : Bounds) (between end : Result Begun Why) (pieces : List (List ℕ)) (piece : List ℕ) (turns more : List OneTurn) (items : List Given) (rest : List ℕ)
+        → IsGoing mid session
+        → TalksOn old session limits (Ok start) pieces turns mid between
+        → Talks mid session (goes_on limits between piece) more new end
+        → AreFrames limits (joined pieces ++ piece) items rest
+        → Converses old session items (turns ++ more) new }
 {}
 
 /// A connection that a fault ends, in whatever pieces its octets came. The piece that ends it ends the talk over all octets in
@@ -58,11 +65,13 @@ pub fn faults_end_the_stream()
         × (turns ++ more ≡ before ++ sent (bye ∷ [])) × (new ≡ closed last session) }
 {}
 
-/// Operations of other replicas may come to the node between the pieces of a session's input: what calls of `talk` make of
-/// the pieces is the conversation over the items of all octets, each answered by the operations applied until then. Where a
-/// fault of the framer that is told by a BYE ends the connection, the octets do end in that fault, and the turns are that
-/// conversation over the items before it, and the BYE as the last; the session, which was going on until then, is closed.
-pub fn deliveries_come_between()
+/// Operations of other replicas may come to the node between the pieces of a session's input, and other sessions be opened, take
+/// commands and be closed: what calls of `talk` make of the pieces is the conversation over the items of all octets, each
+/// answered by the operations applied until then. Where the octets are these commands, refused fronts and this rest, it is the
+/// one over just these. Where a fault of the framer that is told by a BYE ends the connection, the octets do end in that fault,
+/// and the turns are that conversation over the items before it, and the BYE as the last; the session, which was going on until
+/// then, is closed.
+pub fn others_come_between()
     ensures going { (old new : NodeState) (session : ℕ) (limits : Bounds) (state end : Result Begun Why) (pieces : List (List ℕ)) (turns : List OneTurn)
         → TalksAmid old session limits state pieces turns new end
         → ConversesAmid old session (goes_on limits state (joined pieces)).0 turns new × (end ≡ (goes_on limits state (joined pieces)).1) }
@@ -71,6 +80,12 @@ pub fn deliveries_come_between()
         → TalksAmid old session limits state pieces turns mid between
         → Talks mid session (goes_on limits between piece) more new end
         → ConversesAmid old session (goes_on limits state (joined pieces ++ piece)).0 (turns ++ more) new }
+    ensures frames { (old mid new : NodeState) (session : ℕ) (limits : Bounds) (between end : Result Begun Why) (pieces : List (List ℕ)) (piece : List ℕ) (turns more : List OneTurn) (items : List Given) (rest : List ℕ)
+        → IsGoing mid session
+        → TalksAmid old session limits (Ok start) pieces turns mid between
+        → Talks mid session (goes_on limits between piece) more new end
+        → AreFrames limits (joined pieces ++ piece) items rest
+        → ConversesAmid old session items (turns ++ more) new }
     ensures fault { (old mid new : NodeState) (session : ℕ) (limits : Bounds) (state between : Result Begun Why) (pieces : List (List ℕ)) (piece : List ℕ) (turns more : List OneTurn) (why : Why) (bye : OneAnswer)
         → goodbye_of why ≡ Some bye
         → IsGoing mid session

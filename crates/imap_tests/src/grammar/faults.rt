@@ -413,6 +413,10 @@ pub const LEFT_OUT_OF_FETCH: &[&[u8]] = &[
     b"a EXAMINE x (qresync (1 2))",
     b"a FETCH 1 FLAGS (VANISHED CHANGEDSINCE 1)",
     b"a UID FETCH 1 (FLAGS) (Vanished CHANGEDSINCE 1)",
+    b"a FETCH 1 FLAGS (QRESYNC (1 2))",
+    b"a SELECT x (VANISHED)",
+    b"a STORE 1 (QRESYNC (1 2)) FLAGS x",
+    b"a STORE 1 (VANISHED) FLAGS x",
     // sets
     b"a FETCH $ FLAGS",
     b"a STORE $ FLAGS x",
@@ -424,6 +428,7 @@ pub const LEFT_OUT_OF_FETCH: &[&[u8]] = &[
     b"a SEARCH NOT $",
     b"a SEARCH ($ SEEN)",
     b"a FETCH 1,$ FLAGS",
+    b"a FETCH 1:$ FLAGS",
     b"a FETCH $,1 FLAGS",
     b"a SEARCH $,1",
 ];
