@@ -1,4 +1,4 @@
-use Rattle.std.proofs.Common.{◌≡◌, ◌⊎◌, inl, inr, ℕ, List, [], ◌∷◌, ◌++◌, ap, refl, sym, ◌∙◌, subst, append_assoc, Option, None, Some, option_to_list, Result, Ok, Err, IsOk, IsErr}
+use Rattle.std.proofs.Common.{◌≡◌, inl, inr, ℕ, List, [], ◌∷◌, ◌++◌, ap, sym, ◌∙◌, subst, append_assoc, Option, None, Some, option_to_list, Result, Ok, Err, IsOk, IsErr}
 use Rattle.imap_lex.specs.Frames.{FailsAt}
 use Rattle.imap_lex.specs.Reading.{Cut, IsPrefix, Progress, goes_on, joined, start}
 use Rattle.imap_lex.specs.declared.fault.Fault.{Fault}

@@ -45,10 +45,10 @@ pub fn commands_are_answered()
         → Converses old session items (turns ++ more) new }
 {}
 
-/// A connection that a fault ends, in whatever pieces its octets came. The piece that ends it ends the talk over all octets in
-/// the same way: behind the turns of the pieces before it, for the same reason, and with the node that it leaves. And where the
-/// octets from the first on fail at an octet for a reason that is told, the turns are the conversation over just the items
-/// before that octet, and the BYE that the fault asks for as the last; the session, which was going on until then, is closed.
+/// It doesn't matter in which pieces the octets came of a connection that a fault of the framer or want of memory ends: the
+/// whole ends as its last piece does, for the same reason and with the same node, behind the turns of the pieces before it.
+/// And where the octets from the first on fail at an octet for a reason that a BYE tells, the turns are the conversation over
+/// just the items before that octet, and that BYE as the last; the session, which was going on until then, is closed.
 pub fn faults_end_the_stream()
     ensures ends { (old mid new : NodeState) (session : ℕ) (limits : Bounds) (state between : Result Begun Why) (pieces : List (List ℕ)) (piece : List ℕ) (turns more : List OneTurn) (why : Kind)
         → IsGoing mid session
