@@ -1,5 +1,6 @@
 mod AmidLemmas
 pub mod DeleteLemmas
+mod DumpLemmas
 mod EndLemmas
 pub mod FaultLemmas
 pub mod StreamLemmas

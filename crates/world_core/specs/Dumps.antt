@@ -1,25 +1,17 @@
 use Rattle.std.specs.Prelude.{◌≡◌, ℕ, ◌==◌, List, [], ◌∷◌, ◌++◌, codes, if◌then◌else◌}
 use Rattle.std.specs.Fmt.{decimal}
 use Rattle.std.specs.List.{flat_map}
-use Rattle.causal_inbox.specs.Seen.{IsClockOf}
+use Rattle.causal_inbox.specs.Seen.{AreAscending}
 use Rattle.crdt_ops.specs.declared.message.Message.{Message}
 use Rattle.crdt_ops.specs.declared.op.Op.{Op}
 use Rattle.crdt_ops.specs.Sets.{folder_tags_of, folders_of, messages_of, subscribed_of, subscription_tags_of}
 use Rattle.crdt_ops.specs.Text.{flags_text, id_text, ids_text, letter_text, name_text, op_text}
-use Rattle.tags_clocks.specs.Clock.{IsClock}
+use Rattle.merge_laws.specs.Orders.{HaveSameElements}
 use Rattle.world_core.specs.Nodes.{NodeState}
 
 -- The line of an operation.
 abbrev pub op_line : Op → List ℕ
 op_line op = codes "op " ++ op_text op ++ 10 ∷ []
-
--- The line of an operation, where it is this replica's.
-abbrev pub own_line : ℕ → Op → List ℕ
-own_line replica op = if op.id.replica == replica then op_line op else []
-
--- The lines of one replica's operations of a list, in its order.
-abbrev pub op_lines_by : List Op → ℕ × ℕ → List ℕ
-op_lines_by ops entry = flat_map (own_line entry.0) ops
 
 -- The line of a folder, with the ids of its present folder tags.
 abbrev pub folder_line : List Op → List ℕ → List ℕ
@@ -53,13 +45,21 @@ subscription_line ops name = codes "subscribed " ++ (name_text name ++ 32 ∷ (i
 abbrev pub state_text : List Op → List ℕ
 state_text ops = flat_map (folder_lines ops) (folders_of ops) ++ flat_map (subscription_line ops) (subscribed_of ops)
 
--- The dump of a replica: its operations by ascending replicas, each replica's in the order of its numbers, in which a causal
--- list has them; then what the set of these operations defines.
-abbrev pub dump_text : ℕ → List (ℕ × ℕ) → List Op → List ℕ
-dump_text replica clock ops =
-    codes "dump " ++ decimal replica ++ 10 ∷ [] ++ flat_map (op_lines_by ops) clock ++ state_text ops ++ codes "end" ++ 10 ∷ []
-
--- A text is the dump of a node; the clock of its operations counts the replicas that issued them.
+-- A text is the dump of a node: the operations that were applied, each once, ascending by replica and then by number, and
+-- what the set of them defines.
 abbrev pub IsDump : NodeState → List ℕ → Type 0
 IsDump node text =
-    (clock : List (ℕ × ℕ)) × IsClock clock × IsClockOf (λ (o : Op). o.id) node.applied clock × (text ≡ dump_text node.replica clock node.applied)
+    (listed : List Op)
+    × AreAscending (λ (o : Op). o.id) listed
+    × HaveSameElements listed node.applied
+    × (text ≡ codes "dump " ++ decimal node.replica ++ 10 ∷ [] ++ flat_map op_line listed ++ state_text node.applied ++ codes "end" ++ 10 ∷ [])
+
+-- ---- what the code writes, part by part
+
+-- The line of an operation, where it is this replica's.
+abbrev pub own_line : ℕ → Op → List ℕ
+own_line replica op = if op.id.replica == replica then op_line op else []
+
+-- The lines of one replica's operations of a list, in its order.
+abbrev pub op_lines_by : List Op → ℕ × ℕ → List ℕ
+op_lines_by ops entry = flat_map (own_line entry.0) ops

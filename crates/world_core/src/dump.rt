@@ -5,7 +5,7 @@ ghost use Rattle.std.specs.Fmt.{decimal};
 ghost use Rattle.std.specs.List.{flat_map};
 ghost use Rattle.crdt_ops.specs.Sets.{folders_of, subscribed_of};
 ghost use Rattle.crdt_ops.specs.Text.{ids_text, letter_text, name_text};
-ghost use Rattle.world_core.specs.Dumps.{IsDump, body_text, dated_text, dump_text, folder_line, folder_lines, message_line, message_lines, op_line, op_lines_by, own_line, state_text, subscription_line};
+ghost use Rattle.world_core.specs.Dumps.{IsDump, body_text, dated_text, folder_line, folder_lines, message_line, message_lines, op_line, op_lines_by, own_line, state_text, subscription_line};
 
 use crate::node::Node;
 use crate::replica::Replica;
@@ -26,8 +26,9 @@ pub fn write_dump(alloc: Global, node: &Node, out: &mut Vec<u8>) -> Result<(), A
     ensures err { OnErr result (out.new.items ≡ out.old.items) }
 {
     let replica = node.replica();
+    let ops = replica.applied();
     let entries = replica.clock().entries();
-    let text = dump(alloc, replica, entries)?;
+    let text = dump(alloc, replica, ops, entries)?;
     out.extend_from_slice(&text)?;
     Ok(())
 }
@@ -35,13 +36,14 @@ pub fn write_dump(alloc: Global, node: &Node, out: &mut Vec<u8>) -> Result<(), A
 fn dump(
     alloc: Global,
     replica: &Replica,
+    ops: &[SoundOp],
     entries: &[(ReplicaId, u32)],
 ) -> Result<Vec<u8>, AllocError>
-    ensures { IfOk result (λ text. text.items ≡ dump_text replica.now.replica entries.now replica.now.applied) }
+    ensures { IfOk result (λ text. text.items ≡ codes "dump " ++ decimal replica.now.replica ++ 10 ∷ [] ++ flat_map (op_lines_by ops.now) entries.now ++ state_text replica.now.applied ++ codes "end" ++ 10 ∷ []) }
 {
     let mut text = Vec::new(alloc);
     push_head(replica.id(), &mut text)?;
-    push_ops(alloc, replica.applied(), entries, &mut text)?;
+    push_ops(alloc, ops, entries, &mut text)?;
     push_state(alloc, replica, &mut text)?;
     text.extend_from_slice(b"end\n")?;
     Ok(text)

@@ -11,7 +11,7 @@ ghost use Rattle.subs_state.specs.Table.{subscriptions_of};
 ghost use Rattle.crdt_ops.specs.Sound.{CoversNamed, HasLawfulFlags, IsDeleteOfInbox, IsSound};
 ghost use Rattle.crdt_ops.specs.Tags.{name_of};
 ghost use Rattle.imap_types.specs.Names.{IsLawfulName};
-ghost use Rattle.merge_laws.specs.Orders.{IsCausal};
+ghost use Rattle.merge_laws.specs.Orders.{AreSound, IsCausal};
 ghost use Rattle.world_core.specs.Deliveries.{ArrivesAt, HoldsRipe, IsRefusedAt, Releases};
 ghost use Rattle.world_core.specs.Operations.{CanIssue, IsNext, IsThere, IsUsedUp};
 
@@ -67,9 +67,11 @@ impl Replica {
         })
     }
 
-    /// The operations applied, in their order.
+    /// The operations applied, in their order, which is causal.
     pub fn applied(&self) -> &[SoundOp]
-        ensures { result.now ≡ self.now.applied }
+        ensures applied { result.now ≡ self.now.applied }
+        ensures causal { IsCausal (λ (o : Operation). o.id) (λ (o : Operation). o.clock) self.now.applied }
+        ensures sound { AreSound IsSound self.now.applied }
     {
         self.inbox.op_list()
     }
