@@ -173,3 +173,41 @@ lists_applied node ops clock entries text causal sound is_clock counts same show
       listed.1,
       written ∙ ap (λ (ls : List ℕ). codes "dump " ++ decimal node.replica ++ 10 ∷ [] ++ ls ++ state_text node.applied ++ codes "end" ++ 10 ∷ []) lines,
     )
+
+-- of two ids one at most is less than the other
+less_both : (i j : OpId) → IsLess i j → IsLess j i → ⊥
+less_both i j h k =
+    elim h [
+      | inl l ↦ elim k [ inl m ↦ omega arith | inr q ↦ let e = q.0 in omega arith ]
+      | inr p ↦ let e = p.0 in let a = p.1 in elim k [ inl m ↦ omega arith | inr q ↦ let b = q.1 in omega arith ]
+    ]
+
+-- there is one ascending list of some elements
+one_listing : (xs ys : List Op) → AreAscending id_of xs → AreAscending id_of ys → HaveSameElements xs ys → xs ≡ ys
+one_listing [] [] a b h = refl
+one_listing [] (y ∷ ys) a b h = absurd ((h y).1 (inl refl))
+one_listing (x ∷ xs) [] a b h = absurd ((h x).0 (inl refl))
+one_listing (x ∷ xs) (y ∷ ys) a b h =
+    let first : x ≡ y =
+    elim ((h x).0 (inl refl)) [
+      | inl e ↦ sym e
+      | inr t ↦ elim ((h y).1 (inl refl)) [ inl e ↦ e | inr u ↦ absurd (less_both x.id y.id (a.0 y u) (b.0 x t)) ]
+    ] in
+    let rest : HaveSameElements xs ys = λ z. (
+      λ t. elim ((h z).0 (inr t)) [
+        | inl e ↦ absurd (less_both x.id x.id (subst (λ (w : Op). IsLess x.id w.id) (sym (first ∙ e)) (a.0 z t)) (subst (λ (w : Op). IsLess x.id w.id) (sym (first ∙ e)) (a.0 z t)))
+        | inr u ↦ u
+      ],
+      λ t. elim ((h z).1 (inr t)) [
+        | inl e ↦ absurd (less_both y.id y.id (subst (λ (w : Op). IsLess y.id w.id) (sym (sym first ∙ e)) (b.0 z t)) (subst (λ (w : Op). IsLess y.id w.id) (sym (sym first ∙ e)) (b.0 z t)))
+        | inr u ↦ u
+      ],
+    ) in
+    ap (λ (w : Op). w ∷ xs) first ∙ ap (λ (ws : List Op). y ∷ ws) (one_listing xs ys a.1 b.1 rest)
+
+-- a node has one dump
+pub one_dump : (node : NodeState) (s t : List ℕ) → IsDump node s → IsDump node t → s ≡ t
+one_dump node s t d f =
+    d.3 ∙ ap (λ (os : List Op). codes "dump " ++ decimal node.replica ++ 10 ∷ [] ++ flat_map op_line os ++ state_text node.applied ++ codes "end" ++ 10 ∷ [])
+    (one_listing d.0 f.0 d.1 f.1 (λ o. (λ h. (f.2 o).1 ((d.2 o).0 h), λ h. (d.2 o).1 ((f.2 o).0 h))))
+    ∙ sym f.3

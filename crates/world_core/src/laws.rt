@@ -1,5 +1,5 @@
 //! What a conversation is, whatever the pieces in which its octets come: laws over `specs/Streams.antt`, each the contract of a
-//! function that does nothing.
+//! function that does nothing; and that a node has one dump (`specs/Dumps.antt`).
 
 ghost use Rattle.std.specs.Prelude.{◌≡◌, ℕ, List, ◌++◌, ◌∷◌, [], Some, Result, Ok, Err};
 ghost use Rattle.imap_lex.specs.Frames.{AreFrames, FailsAt};
@@ -9,6 +9,7 @@ ghost use Rattle.imap_lex.specs.declared.item.Item.{Item as Given};
 ghost use Rattle.imap_lex.specs.declared.limits.Limits.{Limits as Bounds};
 ghost use Rattle.imap_print.specs.declared.answer.Answer.{Answer as OneAnswer};
 ghost use Rattle.world_core.specs.Conversation.{Converses, sent};
+ghost use Rattle.world_core.specs.Dumps.{IsDump};
 ghost use Rattle.world_core.specs.Nodes.{IsGoing, NodeState, closed};
 ghost use Rattle.world_core.specs.Streams.{ConversesAmid, TalksAmid, TalksOn};
 ghost use Rattle.world_core.specs.Talks.{EndsTalk, Talks, goodbye_of};
@@ -94,4 +95,9 @@ pub fn others_come_between()
         → ((goes_on limits state (joined pieces ++ piece)).1 ≡ Err why)
         × ((before : List OneTurn) × (last : NodeState) × ConversesAmid old session (goes_on limits state (joined pieces ++ piece)).0 before last × IsGoing last session
         × (turns ++ more ≡ before ++ sent (bye ∷ [])) × (new ≡ closed last session)) }
+{}
+
+/// A node has one dump: what `write_dump` writes of it is the one text that `IsDump` admits.
+pub fn one_dump()
+    ensures { (node : NodeState) (text other : List ℕ) → IsDump node text → IsDump node other → text ≡ other }
 {}

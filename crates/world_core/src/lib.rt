@@ -12,7 +12,8 @@ mod turn;
 
 pub use dump::write_dump;
 pub use laws::{
-    commands_are_answered, others_come_between, faults_end_the_stream, pieces_are_one_stream,
+    commands_are_answered, faults_end_the_stream, one_dump, others_come_between,
+    pieces_are_one_stream,
 };
 pub use node::Node;
 pub use reply::{Answers, Issued, Reply};
