@@ -1,8 +1,8 @@
-use Rattle.std.proofs.Common.{◌≡◌, ◌⊎◌, inl, inr, ◌↔◌, ◌<◌, ℕ, List, [], ◌∷◌, Bool, true, ◌&&◌, subst, sym, refl}
+use Rattle.std.proofs.Common.{◌≡◌, inl, inr, ◌↔◌, ℕ, List, [], ◌∷◌, true, subst, sym, refl}
 use Rattle.std.proofs.lemmas.Bool.{and_parts}
-use Rattle.std.specs.List.{filter_map, list_any}
+use Rattle.std.specs.List.{filter_map}
 use Rattle.crdt_ops.specs.declared.op.Op.{Op}
-use Rattle.crdt_ops.specs.Order.{id_order, in_order}
+use Rattle.crdt_ops.specs.Order.{id_order}
 use Rattle.crdt_ops.specs.Sets.{delete_set_of, folder_id}
 use Rattle.crdt_ops.specs.Sound.{AreCovered}
 use Rattle.crdt_ops.specs.Tags.{Tag, FolderTag, MessageTag, adds, is_present, present_tags}

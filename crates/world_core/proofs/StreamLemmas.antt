@@ -1,11 +1,11 @@
-use Rattle.std.proofs.Common.{◌≡◌, ◌⊎◌, inl, inr, ℕ, List, [], ◌∷◌, ◌++◌, ap, refl, sym, ◌∙◌, subst, append_assoc, append-nil, Result, Ok, Err}
-use Rattle.imap_lex.specs.Reading.{Cut, Progress, goes_on, joined, with_items}
+use Rattle.std.proofs.Common.{◌≡◌, inl, inr, ℕ, List, [], ◌∷◌, ◌++◌, ap, sym, ◌∙◌, subst, append_assoc, Result}
+use Rattle.imap_lex.specs.Reading.{Cut, Progress, goes_on, joined}
 use Rattle.imap_lex.specs.declared.fault.Fault.{Fault}
 use Rattle.imap_lex.specs.declared.item.Item.{Item}
 use Rattle.imap_lex.specs.declared.limits.Limits.{Limits}
 use Rattle.imap_lex.proofs.CutLemmas.{goes_on-append}
 use Rattle.world_core.specs.Conversation.{Converses, turns_of}
-use Rattle.world_core.specs.Nodes.{IsGoing, NodeState, closed}
+use Rattle.world_core.specs.Nodes.{IsGoing, NodeState}
 use Rattle.world_core.specs.Streams.{TalksOn}
 use Rattle.world_core.specs.Talks.{Talks}
 use Rattle.world_core.specs.declared.turn.Turn.{Turn}

@@ -1,15 +1,12 @@
-use Rattle.std.proofs.Common.{◌≡◌, ◌⊎◌, inl, inr, ◌<◌, ◌≤◌, ℕ, ◌-◌, zero, suc, List, [], ◌∷◌, ◌++◌, length, get_or, set, ap, refl, sym, ◌∙◌, subst, append_assoc, append-nil, Option, None, Some, Result, Ok, Err, OnOk, IsOk, IsErr, arith}
-use Rattle.std.proofs.lemmas.Bool.{cases_lt}
-use Rattle.std.proofs.lemmas.List.{get_or-set_same}
+use Rattle.std.proofs.Common.{◌≡◌, inl, inr, ℕ, ◌-◌, zero, suc, List, [], ◌∷◌, ◌++◌, get_or, set, ap, refl, sym, ◌∙◌, subst, append-nil, Option, None, Some, Result}
 use Rattle.imap_lex.specs.Reading.{Cut, FaultsNow, IsPrefix, Progress}
 use Rattle.imap_lex.specs.declared.fault.Fault.{Fault}
 use Rattle.imap_lex.specs.declared.fault.Fault.TheVariants.{LineTooLong, LiteralTooLong, NulByte, NoMemory, Failed}
 use Rattle.imap_lex.specs.declared.item.Item.{Item}
-use Rattle.imap_print.specs.declared.answer.Answer.{Answer}
-use Rattle.world_core.specs.Conversation.{BreaksOff, Converses, turns_of}
+use Rattle.world_core.specs.Conversation.{BreaksOff, Converses}
 use Rattle.world_core.specs.Nodes.{IsGoing, NodeState, closed}
-use Rattle.world_core.specs.Sessions.{Places, session_at, with_session}
-use Rattle.world_core.specs.Talks.{EndsTalk, SaysGoodbye, Talks, goodbyes}
+use Rattle.world_core.specs.Sessions.{Places}
+use Rattle.world_core.specs.Talks.{EndsTalk, SaysGoodbye, goodbyes}
 use Rattle.world_core.specs.declared.sessions.SessionState.{SessionState}
 use Rattle.world_core.specs.declared.sessions.SessionState.TheVariants.{Authenticated}
 use Rattle.world_core.specs.declared.turn.TalkFaultKind.{TalkFaultKind}

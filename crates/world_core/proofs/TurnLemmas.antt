@@ -1,4 +1,4 @@
-use Rattle.std.proofs.Common.{◌≡◌, ◌⊎◌, inl, inr, ℕ, zero, suc, List, [], ◌∷◌, ◌++◌, map, take, drop, ap, refl, sym, ◌∙◌, append_assoc, append-nil, subst, Result, Ok, Err, OnOk, OnErr}
+use Rattle.std.proofs.Common.{◌≡◌, inl, inr, ℕ, zero, suc, List, [], ◌∷◌, ◌++◌, take, drop, ap, refl, sym, ◌∙◌, append_assoc, append-nil, subst, Result, Ok, Err, OnOk, OnErr}
 use Rattle.imap_lex.specs.declared.item.Item.{Item}
 use Rattle.imap_lex.specs.declared.item.Item.TheVariants.{Ready, Frame, Refused}
 use Rattle.std.proofs.lemmas.Result.{on_ok_weaker, on_err_weaker}
@@ -7,9 +7,9 @@ use Rattle.imap_print.specs.declared.answer.Answer.TheVariants.{Continue}
 use Rattle.imap_print.specs.declared.words.Continuation.TheVariants as continuations
 use Rattle.world_core.specs.FaultAnswers.{IsLiteralAnswer}
 use Rattle.world_core.specs.Conversation.{BreaksOff, Converses, IsFront, StopsAt, Takes, TakesFrame, got, sent, sent_one, turns_of}
-use Rattle.world_core.specs.Nodes.{HasLoggedOut, IsGoing, NodeState, answers_of, closed}
+use Rattle.world_core.specs.Nodes.{HasLoggedOut, IsGoing, NodeState, closed}
 use Rattle.world_core.specs.declared.turn.Turn.{Turn}
-use Rattle.world_core.specs.declared.turn.Turn.TheVariants.{Got, Sent}
+use Rattle.world_core.specs.declared.turn.Turn.TheVariants.{Got}
 
 -- some answers and the others are all
 pub sent_parts : (i : ℕ) (given : List Answer) → sent given ≡ sent (take i given) ++ sent (drop i given)

@@ -1,4 +1,4 @@
-use Rattle.std.specs.Prelude.{◌≡◌, ℕ, List, [], ◌∷◌, Option, Some, None}
+use Rattle.std.specs.Prelude.{◌≡◌, ℕ, List, [], ◌∷◌, Some, None}
 use Rattle.crdt_ops.specs.declared.op.Op.{Op}
 use Rattle.imap_print.specs.declared.answer.Answer.{Answer}
 use Rattle.imap_print.specs.declared.answer.Answer.TheVariants as answers

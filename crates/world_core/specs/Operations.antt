@@ -8,7 +8,6 @@ use Rattle.crdt_ops.specs.Tags.{name_of}
 use Rattle.imap_types.specs.Names.{IsLawfulName}
 use Rattle.merge_laws.specs.Orders.{HasId, IsIn}
 use Rattle.tags_clocks.specs.Clock.{count_of}
-use Rattle.tags_clocks.specs.declared.id.OpId.{OpId}
 
 -- The mailbox is there: its name is lawful, and the operations that were applied define its folder. A name that isn't
 -- lawful is one that isn't there.

@@ -1,4 +1,4 @@
-use Rattle.std.specs.Prelude.{◌≡◌, ◌≢◌, ℕ, ◌-◌, ◌<◌, ◌≤◌, List, slice_index_or, slice_set, Option, Some, None, IsSome, IsNone}
+use Rattle.std.specs.Prelude.{◌≡◌, ◌≢◌, ℕ, ◌-◌, ◌<◌, List, slice_index_or, slice_set, Option, Some, None, IsSome, IsNone}
 use Rattle.world_core.specs.declared.sessions.SessionState.{SessionState}
 use Rattle.world_core.specs.declared.sessions.SessionState.TheVariants.{Authenticated}
 

@@ -1,9 +1,7 @@
-use Rattle.std.proofs.Common.{◌≡◌, ◌+◌, ◌<◌, ◌⊎◌, inl, inr, ℕ, List, ◌∷◌, length, drop, drop-cons, add-one, get_or, subst, sym, ap, ◌∙◌, arith, true, false, true≢false, Bool, IsTrue, ◌↔◌, suc, []}
+use Rattle.std.proofs.Common.{◌≡◌, ◌+◌, ◌<◌, ◌⊎◌, inl, inr, ℕ, List, ◌∷◌, length, drop, drop-cons, add-one, get_or, subst, sym, ap, ◌∙◌, arith, false, true≢false, Bool, IsTrue, ◌↔◌, suc}
 use Rattle.std.proofs.lemmas.List.{drop_all}
 use Rattle.imap_lex.specs.declared.item.Item.{Item}
 use Rattle.world_core.specs.Conversation.{BreaksOff, Converses}
-use Rattle.world_core.specs.Nodes.{HasLoggedOut, IsGoing, NodeState}
-use Rattle.world_core.specs.declared.turn.Turn.{Turn}
 use Rattle.world_core.proofs.TurnLemmas.{Underway, underway_on, underway_done, underway_out, underway_broken}
 use Rattle.world_core.proofs.talking.take_all.Goals as goal
 

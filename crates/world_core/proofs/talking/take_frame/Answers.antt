@@ -3,7 +3,6 @@ use Rattle.world_core.specs.Conversation.{TakesFrame}
 use Rattle.world_core.specs.FaultAnswers.{IsFaultAnswer}
 use Rattle.world_core.specs.Inputs.{IsInput}
 use Rattle.world_core.specs.Nodes.{answers_of}
-use Rattle.world_core.specs.declared.talking.Input.TheVariants.{Command, Fault}
 use Rattle.world_core.specs.declared.turn.Turn.TheVariants.{Got}
 use Rattle.world_core.proofs.TurnLemmas.{at_error, frame_answered, frame_broken}
 use Rattle.world_core.proofs.talking.take_frame.Goals as goal

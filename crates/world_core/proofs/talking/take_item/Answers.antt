@@ -1,7 +1,6 @@
-use Rattle.std.proofs.Common.{◌≡◌, ℕ, List, subst, sym, ap, ◌∙◌}
-use Rattle.imap_lex.specs.declared.item.Item.{Item}
+use Rattle.std.proofs.Common.{◌≡◌, subst, sym, ap, ◌∙◌}
 use Rattle.imap_lex.specs.declared.item.Item.TheVariants.{Frame, Refused}
-use Rattle.world_core.proofs.TurnLemmas.{ItemTaken, ItemStopped, ready_taken, ready_stopped, refused_taken, refused_stopped}
+use Rattle.world_core.proofs.TurnLemmas.{ItemTaken, ItemStopped, ready_taken, ready_stopped, refused_taken}
 use Rattle.world_core.proofs.talking.take_item.Goals as goal
 
 pub returns-in-Ready-clause-ok : goal.returns-in-Ready-clause-ok

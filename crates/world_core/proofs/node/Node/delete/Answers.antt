@@ -1,4 +1,4 @@
-use Rattle.std.proofs.Common.{◌≡◌, List, subst, sym, ◌∙◌, true≢false}
+use Rattle.std.proofs.Common.{List, subst, sym, ◌∙◌, true≢false}
 use Rattle.crdt_ops.specs.Sound.{AreCovered}
 use Rattle.crdt_ops.specs.declared.kind.Kind.TheVariants.{Delete}
 use Rattle.tags_clocks.specs.declared.id.OpId.{OpId}
