@@ -10,6 +10,8 @@ mod fixtures;
 #[cfg(test)]
 mod folders;
 #[cfg(test)]
+mod issuing;
+#[cfg(test)]
 mod laws;
 #[cfg(test)]
 mod operations;
