@@ -87,10 +87,15 @@ pub fn empty(alloc: Global) -> Mailboxes
 
 /// What the folders and subscriptions tell, as the lines of a dump.
 pub fn told(alloc: Global, state: &Mailboxes) -> Result<Vec<u8>, AllocError> {
-    let mut text = told_folders(alloc, &state.first)?;
-    let names = state.second.names(alloc)?;
+    told_of(alloc, &state.first, &state.second)
+}
+
+/// What these folders and these subscriptions tell, as the lines of a dump.
+pub fn told_of(alloc: Global, folders: &Folders, subs: &Subs) -> Result<Vec<u8>, AllocError> {
+    let mut text = told_folders(alloc, folders)?;
+    let names = subs.names(alloc)?;
     for name in &names {
-        tell_subscription(alloc, &state.second, name, &mut text)?;
+        tell_subscription(alloc, subs, name, &mut text)?;
     }
     Ok(text)
 }
