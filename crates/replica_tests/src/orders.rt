@@ -62,6 +62,49 @@ const TWO_FOLDERS: Set = Set {
     told: "folder INBOX 7:1\nmessage 5:1 (\\Flagged) \"01-Jan-1970 00:00:00 +0000\" =m\nmessage 6:1 (\\Seen) \"01-Jan-1970 00:00:00 +0000\" =m\nfolder a 2:1\n",
 };
 
+/// All concurrent: two deletes of one folder, which saw unlike parts of it, a create of its name, a store of one of its messages
+/// and an expunge of the other, and an unsubscribe.
+const DELETED_TWICE: Set = Set {
+    base: &[
+        "1:1 - create p",
+        "1:2 1=1 append p (\\Seen) \"17-Jul-1996 02:44:25 -0700\" =first",
+        "1:3 1=2 append p () \"01-Jan-1970 00:00:00 +0000\" =second",
+        "1:4 1=3 subscribe p",
+    ],
+    lines: &[
+        "2:1 1=4 delete p 1:1,1:2,1:3",
+        "3:1 1=2 delete p 1:1,1:2",
+        "4:1 1=4 store p (\\Flagged) 1:2 1:2",
+        "5:1 - create p",
+        "6:1 1=4 unsubscribe p 1:4",
+        "7:1 1=3 expunge p 1:3",
+    ],
+    before: &[],
+    causal: 720,
+    told: "folder INBOX -\nfolder p 5:1,7:1\nmessage 4:1 (\\Flagged) \"17-Jul-1996 02:44:25 -0700\" =first\n",
+};
+
+/// All concurrent, behind operations of two replicas: an append and a create make one folder, a store and an expunge meet at a
+/// message whose flags were stored before, a subscribe and an unsubscribe at one name.
+const MADE_TWICE: Set = Set {
+    base: &[
+        "1:1 - append INBOX (\\Seen) \"01-Jan-1970 00:00:00 +0000\" =a",
+        "2:1 - subscribe s",
+        "1:2 1=1,2=1 store INBOX (\\Deleted) 1:1 1:1",
+    ],
+    lines: &[
+        "3:1 1=2,2=1 store INBOX (zed) 1:2 1:1",
+        "4:1 1=2,2=1 expunge INBOX 1:2",
+        "5:1 2=1 unsubscribe s 2:1",
+        "6:1 2=1 subscribe s",
+        "7:1 1=1 append q (\\Flagged) \"17-Jul-1996 02:44:25 -0700\" =b",
+        "8:1 - create q",
+    ],
+    before: &[],
+    causal: 720,
+    told: "folder INBOX 4:1\nmessage 3:1 (zed) \"01-Jan-1970 00:00:00 +0000\" =a\nfolder q 8:1\nmessage 7:1 (\\Flagged) \"17-Jul-1996 02:44:25 -0700\" =b\nsubscribed s 6:1\n",
+};
+
 /// A delete saw a message whose flags another replica changes meanwhile.
 const DELETE_AND_STORE: Set = Set {
     base: &[],
@@ -110,7 +153,7 @@ const TWO_DELETES: Set = Set {
     told: "folder INBOX -\nfolder b 1:2\nsubscribed a 5:1\n",
 };
 
-/// Each behind the other.
+/// Each behind the other: one causal order, and all others hold up to five.
 const ONE_AFTER_ANOTHER: Set = Set {
     base: &[],
     lines: &[
@@ -143,7 +186,7 @@ const ONE_AFTER_ANOTHER: Set = Set {
 };
 
 /// Sets in which all are concurrent.
-const CONCURRENT: &[Set] = &[ONE_FOLDER, TWO_FOLDERS];
+const CONCURRENT: &[Set] = &[ONE_FOLDER, TWO_FOLDERS, DELETED_TWICE, MADE_TWICE];
 
 /// Sets in which some are causes of others.
 const WITH_CAUSES: &[Set] = &[
