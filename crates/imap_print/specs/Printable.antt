@@ -116,8 +116,9 @@ IsCode (code.CopyUid uidvalidity source copies) = IsSmall uidvalidity × IsSet s
 IsCode (code.Modified refused) = IsSet refused
 IsCode code.ExpungeIssued = Unit {0}
 
--- An answer that can stand in the protocol: its tag is a tag, its keywords are atoms, its names are folded, no set that it has
--- to name is empty, and its numbers have the bits that they are kept in (RFC 9051, section 9).
+-- An answer that has a text of its own: its tag is a tag, its keywords are atoms, its names are folded, no set that it has to
+-- name is empty, and its numbers have the bits that they are kept in (RFC 9051, section 9). What the protocol says besides, as
+-- that no message has the number 0, is not asked here.
 abbrev pub IsPrintable : Answer → Type 0
 IsPrintable (answer.Greeting login) = Unit {0}
 IsPrintable (answer.Continue awaited) = Unit {0}
