@@ -2,30 +2,30 @@ use Rattle.std.proofs.Common.{◌≡◌, ℕ, suc, ◌+◌, ◌%◌, ◌<◌, �
 use Rattle.std.proofs.lemmas.Bool.{ne_eqb}
 use Rattle.std.proofs.lemmas.Fmt.{decimal_by_steps}
 use Rattle.std.specs.Fmt.{decimal}
-use Rattle.imap_print.specs.declared.answer.Answer.{Answer}
-use Rattle.imap_print.specs.declared.answer.Answer.TheVariants as answer
-use Rattle.imap_print.specs.declared.codes.Code.{Code}
-use Rattle.imap_print.specs.declared.codes.Code.TheVariants as code
-use Rattle.imap_print.specs.declared.codes.Notice.{Notice}
-use Rattle.imap_print.specs.declared.codes.Notice.TheVariants as notice
-use Rattle.imap_print.specs.declared.mailbox.MailboxState.{MailboxState}
-use Rattle.imap_print.specs.declared.mailbox.MailboxState.TheVariants as state
-use Rattle.imap_print.specs.declared.mailbox.SearchResults.{SearchResults}
-use Rattle.imap_print.specs.declared.mailbox.StatusItems.{StatusItems}
-use Rattle.imap_print.specs.declared.fetched.FetchItems.{FetchItems}
+use Rattle.imap_answers.specs.declared.answer.Answer.{Answer}
+use Rattle.imap_answers.specs.declared.answer.Answer.TheVariants as answer
+use Rattle.imap_answers.specs.declared.codes.Code.{Code}
+use Rattle.imap_answers.specs.declared.codes.Code.TheVariants as code
+use Rattle.imap_answers.specs.declared.codes.Notice.{Notice}
+use Rattle.imap_answers.specs.declared.codes.Notice.TheVariants as notice
+use Rattle.imap_answers.specs.declared.mailbox.MailboxState.{MailboxState}
+use Rattle.imap_answers.specs.declared.mailbox.MailboxState.TheVariants as state
+use Rattle.imap_answers.specs.declared.mailbox.SearchResults.{SearchResults}
+use Rattle.imap_answers.specs.declared.mailbox.StatusItems.{StatusItems}
+use Rattle.imap_answers.specs.declared.fetched.FetchItems.{FetchItems}
 use Rattle.imap_print.specs.declared.scan.Class.TheVariants.{Tag}
-use Rattle.imap_print.specs.declared.words.Login.{Login}
-use Rattle.imap_print.specs.declared.words.Login.TheVariants as login
-use Rattle.imap_print.specs.declared.words.Continuation.{Continuation}
-use Rattle.imap_print.specs.declared.words.Continuation.TheVariants as continuation
-use Rattle.imap_print.specs.declared.words.Enabled.{Enabled}
-use Rattle.imap_print.specs.declared.words.Enabled.TheVariants as enabled
-use Rattle.imap_print.specs.declared.words.ByeReason.{ByeReason}
-use Rattle.imap_print.specs.declared.words.ByeReason.TheVariants as bye
-use Rattle.imap_print.specs.declared.words.Refusal.{Refusal}
-use Rattle.imap_print.specs.declared.words.Refusal.TheVariants as refusal
-use Rattle.imap_print.specs.declared.words.CommandWord.{CommandWord}
-use Rattle.imap_print.specs.declared.words.CommandWord.TheVariants as command
+use Rattle.imap_answers.specs.declared.words.Login.{Login}
+use Rattle.imap_answers.specs.declared.words.Login.TheVariants as login
+use Rattle.imap_answers.specs.declared.words.Continuation.{Continuation}
+use Rattle.imap_answers.specs.declared.words.Continuation.TheVariants as continuation
+use Rattle.imap_answers.specs.declared.words.Enabled.{Enabled}
+use Rattle.imap_answers.specs.declared.words.Enabled.TheVariants as enabled
+use Rattle.imap_answers.specs.declared.words.ByeReason.{ByeReason}
+use Rattle.imap_answers.specs.declared.words.ByeReason.TheVariants as bye
+use Rattle.imap_answers.specs.declared.words.Refusal.{Refusal}
+use Rattle.imap_answers.specs.declared.words.Refusal.TheVariants as refusal
+use Rattle.imap_answers.specs.declared.words.CommandWord.{CommandWord}
+use Rattle.imap_answers.specs.declared.words.CommandWord.TheVariants as command
 use Rattle.imap_print.specs.Appending.{spaced}
 use Rattle.imap_print.specs.Printable.{AreFetchItems, AreResults, AreStatusItems, IsCode, IsFolded, IsNotice, IsPrintable, IsSet, IsSmall, IsTag, Where}
 use Rattle.imap_print.specs.Printed.{answer_text, attributes_text, code_before, code_text, fetch_texts, notice_text, permanent_text, printed, results_text, sets_text, status_texts, uid_mark}
@@ -33,7 +33,7 @@ use Rattle.imap_print.specs.Reading.{◌>>=◌, after, is_in, is_tag_octet, numb
 use Rattle.imap_print.specs.ReadingAnswers.{answer_at, appended_at, behind, code_at, code_before_at, code_or, coded_at, completed_at, copied_at, fetch_at, line_at, list_at, notice_at, numbered_at, permanent_at, search_at, search_from, star_at, status_at, status_items_at, tagged_at, tell_at, untagged_at, worded_at}
 use Rattle.imap_print.specs.Strings.{crlf, name_text, separated, set_text}
 use Rattle.imap_print.specs.Tables.{commands}
-use Rattle.imap_print.specs.Words.{bye_text, command_text, continuation_text, enabled_text, greeting_text, refusal_text}
+use Rattle.imap_answers.specs.Words.{bye_text, command_text, continuation_text, enabled_text, greeting_text, refusal_text}
 use Rattle.imap_print.proofs.Again.{name-again, number-again, set-again, small-again, span-again, word_parts}
 use Rattle.imap_print.proofs.AgainLists.{flags-again, permanent-again}
 use Rattle.imap_print.proofs.AgainItems.{bracket_ends, fetch-items-again, not_by_uid, results-again, space_ends, status-items-again}

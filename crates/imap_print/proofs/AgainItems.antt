@@ -17,10 +17,10 @@ use Rattle.imap_print.specs.Printed.{all_text, body_text, date_item, fetch_texts
 use Rattle.imap_print.specs.Reading.{◌>>=◌, Listed, after, counted, field_at, is_in, item_at, lead, literal_at, number_from, small, span, with_elements, within}
 use Rattle.imap_print.specs.ReadingAnswers.{all_or, bodies_at, bodies_on, body_at, date_at, date_or, fetch_items_at, fields_at, fields_on, flags_or, modseq_or, origin_or, results_at, section_at, small_option, status_items_at}
 use Rattle.imap_print.specs.Strings.{field_text, item, labelled, literal_text, separated, set_text}
-use Rattle.imap_print.specs.declared.fetched.FetchItems.{FetchItems}
-use Rattle.imap_print.specs.declared.fetched.SectionData.{SectionData}
-use Rattle.imap_print.specs.declared.mailbox.SearchResults.{SearchResults}
-use Rattle.imap_print.specs.declared.mailbox.StatusItems.{StatusItems}
+use Rattle.imap_answers.specs.declared.fetched.FetchItems.{FetchItems}
+use Rattle.imap_answers.specs.declared.fetched.SectionData.{SectionData}
+use Rattle.imap_answers.specs.declared.mailbox.SearchResults.{SearchResults}
+use Rattle.imap_answers.specs.declared.mailbox.StatusItems.{StatusItems}
 use Rattle.imap_print.specs.declared.scan.Class.TheVariants.{Astring}
 use Rattle.imap_print.proofs.Again.{EndsSet, after-apart, apart, apart-more, counted-again, field-again, field-filled, field_apart, literal-again, not_begun, number-again, set-again, small-again, spaced-front}
 use Rattle.imap_print.proofs.AgainLists.{flags-again, item-again, lead-again, lead-open, lead-parts, not_first, still_first}

@@ -5,7 +5,7 @@ use Rattle.imap_types.specs.declared.number_set.Run.{Run}
 use Rattle.imap_print.specs.declared.scan.Class.TheVariants.{Atom}
 use Rattle.imap_print.specs.declared.fault.ReadFault.{ReadFault}
 use Rattle.imap_print.specs.declared.fault.ReadFault.TheVariants.{NoMemory, NotPrinted}
-use Rattle.imap_print.specs.declared.fetched.SectionData.{SectionData}
+use Rattle.imap_answers.specs.declared.fetched.SectionData.{SectionData}
 use Rattle.imap_print.specs.ReadingAnswers.{bodies_at, bodies_on, body_at, fields_at, fields_on, next_field_at}
 use Rattle.imap_print.specs.Reading.{◌>>=◌, Fails, after, counted, is_in, lead, run_at, runs_at, runs_on, span, with_elements, words_at, words_on}
 

@@ -5,4 +5,3 @@ pub mod Reading
 pub mod ReadingAnswers
 pub mod Strings
 pub mod Tables
-pub mod Words

@@ -7,16 +7,16 @@ use Rattle.imap_types.specs.Numbers.{AreRisingFrom, greatest}
 use Rattle.imap_types.specs.declared.flags.Flags.{Flags as FlagSet}
 use Rattle.imap_types.specs.declared.section.Section.{Section}
 use Rattle.imap_types.specs.declared.section.Section.TheVariants as section
-use Rattle.imap_print.specs.declared.answer.Answer.{Answer}
-use Rattle.imap_print.specs.declared.answer.Answer.TheVariants as answer
-use Rattle.imap_print.specs.declared.codes.Code.{Code}
-use Rattle.imap_print.specs.declared.codes.Code.TheVariants as code
-use Rattle.imap_print.specs.declared.codes.Notice.{Notice}
-use Rattle.imap_print.specs.declared.codes.Notice.TheVariants as notice
-use Rattle.imap_print.specs.declared.fetched.FetchItems.{FetchItems}
-use Rattle.imap_print.specs.declared.fetched.SectionData.{SectionData}
-use Rattle.imap_print.specs.declared.mailbox.SearchResults.{SearchResults}
-use Rattle.imap_print.specs.declared.mailbox.StatusItems.{StatusItems}
+use Rattle.imap_answers.specs.declared.answer.Answer.{Answer}
+use Rattle.imap_answers.specs.declared.answer.Answer.TheVariants as answer
+use Rattle.imap_answers.specs.declared.codes.Code.{Code}
+use Rattle.imap_answers.specs.declared.codes.Code.TheVariants as code
+use Rattle.imap_answers.specs.declared.codes.Notice.{Notice}
+use Rattle.imap_answers.specs.declared.codes.Notice.TheVariants as notice
+use Rattle.imap_answers.specs.declared.fetched.FetchItems.{FetchItems}
+use Rattle.imap_answers.specs.declared.fetched.SectionData.{SectionData}
+use Rattle.imap_answers.specs.declared.mailbox.SearchResults.{SearchResults}
+use Rattle.imap_answers.specs.declared.mailbox.StatusItems.{StatusItems}
 use Rattle.imap_print.specs.Reading.{is_tag_octet}
 
 -- A fact holds of each element.

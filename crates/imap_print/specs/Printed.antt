@@ -4,21 +4,21 @@ use Rattle.imap_types.specs.declared.date_time.DateTime.{DateTime}
 use Rattle.imap_types.specs.declared.flags.Flags.{Flags as FlagSet}
 use Rattle.imap_types.specs.declared.section.Section.{Section}
 use Rattle.imap_types.specs.declared.section.Section.TheVariants as section
-use Rattle.imap_print.specs.declared.answer.Answer.{Answer}
-use Rattle.imap_print.specs.declared.answer.Answer.TheVariants as answer
-use Rattle.imap_print.specs.declared.codes.Code.{Code}
-use Rattle.imap_print.specs.declared.codes.Code.TheVariants as code
-use Rattle.imap_print.specs.declared.codes.Notice.{Notice}
-use Rattle.imap_print.specs.declared.codes.Notice.TheVariants as notice
-use Rattle.imap_print.specs.declared.words.CommandWord.{CommandWord}
-use Rattle.imap_print.specs.declared.fetched.FetchItems.{FetchItems}
-use Rattle.imap_print.specs.declared.fetched.SectionData.{SectionData}
-use Rattle.imap_print.specs.declared.mailbox.MailboxState.{MailboxState}
-use Rattle.imap_print.specs.declared.mailbox.MailboxState.TheVariants as state
-use Rattle.imap_print.specs.declared.mailbox.SearchResults.{SearchResults}
-use Rattle.imap_print.specs.declared.mailbox.StatusItems.{StatusItems}
+use Rattle.imap_answers.specs.declared.answer.Answer.{Answer}
+use Rattle.imap_answers.specs.declared.answer.Answer.TheVariants as answer
+use Rattle.imap_answers.specs.declared.codes.Code.{Code}
+use Rattle.imap_answers.specs.declared.codes.Code.TheVariants as code
+use Rattle.imap_answers.specs.declared.codes.Notice.{Notice}
+use Rattle.imap_answers.specs.declared.codes.Notice.TheVariants as notice
+use Rattle.imap_answers.specs.declared.words.CommandWord.{CommandWord}
+use Rattle.imap_answers.specs.declared.fetched.FetchItems.{FetchItems}
+use Rattle.imap_answers.specs.declared.fetched.SectionData.{SectionData}
+use Rattle.imap_answers.specs.declared.mailbox.MailboxState.{MailboxState}
+use Rattle.imap_answers.specs.declared.mailbox.MailboxState.TheVariants as state
+use Rattle.imap_answers.specs.declared.mailbox.SearchResults.{SearchResults}
+use Rattle.imap_answers.specs.declared.mailbox.StatusItems.{StatusItems}
 use Rattle.imap_print.specs.Strings.{crlf, field_text, item, labelled, literal_text, name_text, separated, set_text}
-use Rattle.imap_print.specs.Words.{bye_text, command_text, continuation_text, enabled_text, greeting_text, refusal_text}
+use Rattle.imap_answers.specs.Words.{bye_text, command_text, continuation_text, enabled_text, greeting_text, refusal_text}
 
 -- Flags in parentheses, with spaces (32) between them (RFC 9051, section 9, flag-list).
 abbrev pub flags_text : FlagSet → List ℕ

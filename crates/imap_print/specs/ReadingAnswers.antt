@@ -4,22 +4,22 @@ use Rattle.imap_types.specs.Keywords.{are_keywords}
 use Rattle.imap_types.specs.declared.flags.Flags.{Flags as FlagSet}
 use Rattle.imap_types.specs.declared.section.Section.{Section}
 use Rattle.imap_types.specs.declared.section.Section.TheVariants as section
-use Rattle.imap_print.specs.declared.answer.Answer.{Answer}
-use Rattle.imap_print.specs.declared.answer.Answer.TheVariants as answer
-use Rattle.imap_print.specs.declared.codes.Code.{Code}
-use Rattle.imap_print.specs.declared.codes.Code.TheVariants as code
-use Rattle.imap_print.specs.declared.codes.Notice.{Notice}
-use Rattle.imap_print.specs.declared.codes.Notice.TheVariants as notice
-use Rattle.imap_print.specs.declared.fetched.FetchItems.{FetchItems}
-use Rattle.imap_print.specs.declared.fetched.SectionData.{SectionData}
-use Rattle.imap_print.specs.declared.mailbox.SearchResults.{SearchResults}
-use Rattle.imap_print.specs.declared.mailbox.StatusItems.{StatusItems}
+use Rattle.imap_answers.specs.declared.answer.Answer.{Answer}
+use Rattle.imap_answers.specs.declared.answer.Answer.TheVariants as answer
+use Rattle.imap_answers.specs.declared.codes.Code.{Code}
+use Rattle.imap_answers.specs.declared.codes.Code.TheVariants as code
+use Rattle.imap_answers.specs.declared.codes.Notice.{Notice}
+use Rattle.imap_answers.specs.declared.codes.Notice.TheVariants as notice
+use Rattle.imap_answers.specs.declared.fetched.FetchItems.{FetchItems}
+use Rattle.imap_answers.specs.declared.fetched.SectionData.{SectionData}
+use Rattle.imap_answers.specs.declared.mailbox.SearchResults.{SearchResults}
+use Rattle.imap_answers.specs.declared.mailbox.StatusItems.{StatusItems}
 use Rattle.imap_print.specs.declared.scan.Class.TheVariants.{Tag}
 use Rattle.imap_print.specs.Reading.{◌>>=◌, Listed, after, counted, field_at, flag_at, is_in, item_at, lead, literal_at, number_from, or_else, set_at, small, span, string_at, with_elements, within, word_at, words_at}
 use Rattle.imap_print.specs.Printed.{attributes_text}
 use Rattle.imap_print.specs.Strings.{crlf}
 use Rattle.imap_print.specs.Tables.{all_attributes, bye_reasons, commands, continuations, enabled_words, logins, refusals}
-use Rattle.imap_print.specs.Words.{bye_text, command_text, continuation_text, enabled_text, greeting_text, refusal_text}
+use Rattle.imap_answers.specs.Words.{bye_text, command_text, continuation_text, enabled_text, greeting_text, refusal_text}
 
 -- The flags, and whether there are none.
 unfoldable pub flags_from : List ℕ → Option (Listed FlagSet)

@@ -1,17 +1,17 @@
 use Rattle.std.specs.Prelude.{true, false, List, [], ◌∷◌}
-use Rattle.imap_print.specs.declared.words.Login.{Login}
-use Rattle.imap_print.specs.declared.words.Login.TheVariants as login
-use Rattle.imap_print.specs.declared.words.Continuation.{Continuation}
-use Rattle.imap_print.specs.declared.words.Continuation.TheVariants as continuation
-use Rattle.imap_print.specs.declared.words.Enabled.{Enabled}
-use Rattle.imap_print.specs.declared.words.Enabled.TheVariants as enabled
-use Rattle.imap_print.specs.declared.words.ByeReason.{ByeReason}
-use Rattle.imap_print.specs.declared.words.ByeReason.TheVariants as bye
-use Rattle.imap_print.specs.declared.words.Refusal.{Refusal}
-use Rattle.imap_print.specs.declared.words.Refusal.TheVariants as refusal
-use Rattle.imap_print.specs.declared.words.CommandWord.{CommandWord}
-use Rattle.imap_print.specs.declared.words.CommandWord.TheVariants as command
-use Rattle.imap_print.specs.declared.mailbox.MailboxState.TheVariants as state
+use Rattle.imap_answers.specs.declared.words.Login.{Login}
+use Rattle.imap_answers.specs.declared.words.Login.TheVariants as login
+use Rattle.imap_answers.specs.declared.words.Continuation.{Continuation}
+use Rattle.imap_answers.specs.declared.words.Continuation.TheVariants as continuation
+use Rattle.imap_answers.specs.declared.words.Enabled.{Enabled}
+use Rattle.imap_answers.specs.declared.words.Enabled.TheVariants as enabled
+use Rattle.imap_answers.specs.declared.words.ByeReason.{ByeReason}
+use Rattle.imap_answers.specs.declared.words.ByeReason.TheVariants as bye
+use Rattle.imap_answers.specs.declared.words.Refusal.{Refusal}
+use Rattle.imap_answers.specs.declared.words.Refusal.TheVariants as refusal
+use Rattle.imap_answers.specs.declared.words.CommandWord.{CommandWord}
+use Rattle.imap_answers.specs.declared.words.CommandWord.TheVariants as command
+use Rattle.imap_answers.specs.declared.mailbox.MailboxState.TheVariants as state
 use Rattle.imap_print.specs.declared.tables.Attributes.{Attributes}
 
 -- The values that a reader tries, in this order: of two whose texts begin alike, the longer first.

@@ -6,9 +6,8 @@ ghost use Rattle.imap_print.specs.Reading.{Gives, after, flag_at, item_at, lead}
 ghost use Rattle.imap_print.specs.ReadingAnswers.{bodies_at, body_at, date_at, date_or, fetch_items_at, fields_at, flags_at, flags_from, flags_or, modseq_or, next_field_at, origin_or, permanent_at, permanent_from, section_at, small_option, status_items_at};
 
 use crate::fault::ReadFault;
-use crate::fetched::{FetchItems, SectionData, Sections};
-use crate::mailbox::StatusItems;
 use crate::scan::{counted, expect, field, lead, literal, number, skip, small, words};
+use imap_answers::{FetchItems, SectionData, Sections, StatusItems};
 use imap_types::{DateTime, FieldNames, Flags, Keywords, Octets, Section};
 use std::alloc::Global;
 

@@ -7,10 +7,9 @@ ghost use Rattle.imap_print.specs.Appending.{Appends, Extends, Lists};
 ghost use Rattle.imap_print.specs.Printed.{body_text, date_item, fetch_texts, flags_item, modseq_item, status_texts};
 ghost use Rattle.imap_print.specs.Strings.{item};
 
-use crate::fetched::{FetchItems, SectionData};
-use crate::mailbox::StatusItems;
 use crate::parts::{push_body, push_date, push_flags, push_modseq};
 use crate::strings::{push_label, push_text};
+use imap_answers::{FetchItems, SectionData, StatusItems};
 use imap_types::{DateTime, Flags, Octets};
 use std::alloc::AllocError;
 

@@ -6,13 +6,11 @@ ghost use Rattle.imap_print.specs.Appending.{Appends, Extends};
 ghost use Rattle.imap_print.specs.Printed.{all_text, appended_text, attributes_text, body_text, code_before, code_text, copied_text, flags_text, notice_text, origin_text, permanent_text, results_text, section_text, sets_text};
 ghost use Rattle.imap_print.specs.Strings.{field_text, separated};
 
-use crate::codes::{Code, Notice};
-use crate::fetched::SectionData;
 use crate::lists::{push_flag_texts, push_flags_and_any, wide};
-use crate::mailbox::{MailboxState, SearchResults};
 use crate::strings::{
     push_field, push_label, push_labelled, push_literal, push_number, push_set, push_text,
 };
+use imap_answers::{Code, MailboxState, Notice, SearchResults, SectionData};
 use imap_types::{DateTime, FieldNames, Flags, NumberSet, Octets, Section};
 use std::alloc::AllocError;
 

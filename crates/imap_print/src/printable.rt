@@ -8,11 +8,8 @@ ghost use Rattle.imap_types.specs.Numbers.{AreRisingFrom, greatest};
 ghost use Rattle.imap_print.specs.Printable.{AreFetchItems, AreFlags, AreResults, AreStatusItems, Each, IsAtom, IsCode, IsFolded, IsNotice, IsPart, IsPrintable, IsSection, IsSet, IsSmall, IsTag, IsWide, Where};
 ghost use Rattle.imap_print.specs.Reading.{is_in};
 
-use crate::answer::Answer;
-use crate::codes::{Code, Notice};
-use crate::fetched::{FetchItems, SectionData};
-use crate::mailbox::{SearchResults, StatusItems};
 use crate::scan::Class;
+use imap_answers::{Answer, Code, FetchItems, Notice, SearchResults, SectionData, StatusItems};
 use imap_types::{DateTime, Flags, Name, NumberSet, Octets, Section};
 
 /// Whether an answer can be printed: its tag is a tag, its keywords are atoms, its name is folded, and no set that it has

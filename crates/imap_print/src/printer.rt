@@ -2,14 +2,12 @@ ghost use Rattle.std.specs.Prelude.{◌≡◌, ◌++◌, codes, decimal, OnErr, 
 ghost use Rattle.imap_print.specs.Appending.{Appends, Extends};
 ghost use Rattle.imap_print.specs.Printed.{answer_text, completed_text, fetch_text, list_text, printed, search_text, status_text, uid_mark};
 
-use crate::answer::Answer;
-use crate::codes::Code;
-use crate::fetched::FetchItems;
 use crate::lists::{push_fetch_items, push_status_items};
-use crate::mailbox::{MailboxState, SearchResults, StatusItems};
 use crate::parts::{attributes, push_code_before, push_flags, push_notice, push_results};
 use crate::strings::{push_label, push_name, push_text};
-use crate::words::CommandWord;
+use imap_answers::{
+    Answer, Code, CommandWord, FetchItems, MailboxState, SearchResults, StatusItems,
+};
 use imap_types::{Name, Octets};
 use std::alloc::AllocError;
 

@@ -4,16 +4,14 @@ ghost use Rattle.std.specs.Prelude.{codes};
 ghost use Rattle.imap_print.specs.Reading.{Gives, after};
 ghost use Rattle.imap_print.specs.ReadingAnswers.{all_or, answer_at, appended_at, code_at, code_before_at, coded_at, completed_at, copied_at, fetch_at, line_at, list_at, notice_at, results_at, search_at, search_from, star_at, status_at, tagged_at, tell_at, untagged_at, worded_at};
 
-use crate::answer::Answer;
-use crate::codes::{Code, Notice};
 use crate::fault::ReadFault;
 use crate::items::{fetch_items, flags, item, narrow, permanent_flags, status_items};
-use crate::mailbox::SearchResults;
 use crate::scan::{Class, expect, number, set, skip, small, span, string};
 use crate::tables::{
     attributes_word, bye_word, command_word, continuation_word, enabled_word, login_word,
     refusal_word,
 };
+use imap_answers::{Answer, Code, Notice, SearchResults};
 use imap_types::{Name, NumberSet, Octets};
 use std::alloc::Global;
 

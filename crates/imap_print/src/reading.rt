@@ -1,14 +1,14 @@
 ghost use Rattle.std.specs.Prelude.{◌≡◌, ◌++◌, List, ℕ, drop, length, IfOk, IfSome};
 ghost use Rattle.imap_print.specs.Printable.{IsPrintable};
 ghost use Rattle.imap_print.specs.Printed.{printed};
-ghost use Rattle.imap_print.specs.declared.answer.Answer.{Answer as AnAnswer};
+ghost use Rattle.imap_answers.specs.declared.answer.Answer.{Answer as AnAnswer};
 
-use crate::answer::Answer;
 use crate::fault::ReadFault;
 use crate::printable::is_printable;
 use crate::printer::print;
 use crate::readers::line;
 use crate::scan::skip;
+use imap_answers::Answer;
 use std::alloc::{AllocError, Global};
 
 /// The answer whose text begins these octets, with the length of its text; `None` only where no answer's text begins

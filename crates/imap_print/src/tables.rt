@@ -4,12 +4,11 @@ ghost use Rattle.std.specs.Prelude.{◌≡◌, ℕ, List, option_map};
 ghost use Rattle.imap_print.specs.Printed.{attributes_text};
 ghost use Rattle.imap_print.specs.Reading.{word_at};
 ghost use Rattle.imap_print.specs.Tables.{all_attributes, bye_reasons, commands, continuations, enabled_words, logins, refusals};
-ghost use Rattle.imap_print.specs.Words.{bye_text, command_text, continuation_text, enabled_text, greeting_text, refusal_text};
+ghost use Rattle.imap_answers.specs.Words.{bye_text, command_text, continuation_text, enabled_text, greeting_text, refusal_text};
 
-use crate::mailbox::MailboxState;
 use crate::parts::attributes;
 use crate::scan::skip;
-use crate::words::{ByeReason, CommandWord, Continuation, Enabled, Login, Refusal};
+use imap_answers::{ByeReason, CommandWord, Continuation, Enabled, Login, MailboxState, Refusal};
 
 /// A value that stands for one fixed text.
 pub trait Word: Copy {

@@ -1,8 +1,8 @@
 use Rattle.std.specs.Prelude.{ℕ, Option, Some, None}
 use Rattle.mail_script.specs.declared.outcome.OutcomeLine.{OutcomeLine}
 use Rattle.mail_script.specs.declared.outcome.OutcomeLine.TheVariants as lines
-use Rattle.mail_tool.specs.declared.ending.ReplayEnd.{ReplayEnd}
-use Rattle.mail_tool.specs.declared.ending.ReplayEnd.TheVariants.{Done, BadScript, ReadFailed, WriteFailed, NoMemory}
+use Rattle.mail_replay.specs.declared.ending.ReplayEnd.{ReplayEnd}
+use Rattle.mail_replay.specs.declared.ending.ReplayEnd.TheVariants.{Done, BadScript, ReadFailed, WriteFailed, NoMemory}
 
 -- The program's status: 0 where every line was served, else 3.
 abbrev pub status_of : ReplayEnd → ℕ

@@ -1,7 +1,1 @@
-pub mod Deliveries
 pub mod Endings
-pub mod Faults
-pub mod Lines
-pub mod Replays
-pub mod Stage
-pub mod Transcript

@@ -1,27 +1,13 @@
-//! How a replay ends, and what the program says of it.
+//! What the program says of how a replay ended.
 
 ghost use Rattle.std.specs.Prelude.{◌≡◌, IfOk};
 ghost use Rattle.mail_script.specs.Outcomes.{outcome_line};
 ghost use Rattle.mail_tool.specs.Endings.{last_line_of, status_of};
 
+use mail_replay::ReplayEnd;
 use mail_script::{OutcomeLine, write_outcome};
 use std::alloc::{AllocError, Global};
 use std::io::Write;
-
-/// How the replay of a script ends. What was printed before stays.
-#[derive(Clone, Copy, Debug, PartialEq, Eq)]
-pub enum ReplayEnd {
-    /// Every line was served.
-    Done,
-    /// This line, counted from 1, says nothing that can be served where it stands.
-    BadScript { line: u64 },
-    /// The script could not be read to its end.
-    ReadFailed,
-    /// What was printed could not be written.
-    WriteFailed,
-    /// There was no memory.
-    NoMemory,
-}
 
 /// The status with which the program ends: 0 where every line was served, else 3.
 pub fn status(end: ReplayEnd) -> u8

@@ -2,15 +2,10 @@
 #![tactic(auto)]
 
 mod arguments;
-mod deliveries;
 mod ending;
 mod program;
-mod replay;
-mod serve;
-mod stage;
 #[cfg(test)]
 mod tests;
-mod transcript;
 
 use std::process::ExitCode;
 

@@ -1,10 +1,10 @@
 //! The program's way from its command line to its status.
 
 use crate::arguments::{Request, read_words};
-use crate::ending::{ReplayEnd, tell};
-use crate::replay::replay;
+use crate::ending::tell;
 use clap::Error;
 use clap::error::ErrorKind;
+use mail_replay::{ReplayEnd, replay};
 use std::io::{BufWriter, Read};
 use std::rt::{Env, Files};
 use std::{env, fs, io};

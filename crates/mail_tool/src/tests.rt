@@ -7,8 +7,7 @@ mod many;
 mod rows;
 mod words;
 
-use crate::ending::ReplayEnd;
-use crate::replay::replay;
+use mail_replay::{ReplayEnd, replay};
 use std::alloc::{AllocError, Global};
 
 /// How the replay of this script ends, and what it prints.

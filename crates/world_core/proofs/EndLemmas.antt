@@ -6,7 +6,7 @@ use Rattle.imap_lex.specs.declared.fault.Fault.TheVariants.{LineTooLong, Literal
 use Rattle.imap_lex.specs.declared.item.Item.{Item}
 use Rattle.imap_lex.specs.declared.limits.Limits.{Limits}
 use Rattle.imap_lex.proofs.FrameLemmas.{given_by_fault}
-use Rattle.imap_print.specs.declared.answer.Answer.{Answer}
+use Rattle.imap_answers.specs.declared.answer.Answer.{Answer}
 use Rattle.world_core.specs.Conversation.{BreaksOff, Converses, sent, turns_of}
 use Rattle.world_core.specs.Nodes.{IsGoing, NodeState, closed}
 use Rattle.world_core.specs.Streams.{ConversesAmid, TalksAmid, TalksOn}

@@ -4,7 +4,7 @@ use Rattle.imap_grammar.specs.Faults.{HasTag, NamesCommand}
 use Rattle.imap_grammar.specs.declared.command.Tagged.{Tagged}
 use Rattle.imap_grammar.specs.declared.fault.ParseFault.{ParseFault}
 use Rattle.imap_grammar.specs.declared.fault.ParseFault.TheVariants as faults
-use Rattle.imap_print.specs.declared.answer.Answer.{Answer}
+use Rattle.imap_answers.specs.declared.answer.Answer.{Answer}
 use Rattle.world_core.specs.FaultAnswers.{HasUnknownWord, IsFaultAnswer, IsReason, IsUnspelled}
 use Rattle.world_core.specs.Inputs.{AnswersFault, reason_for}
 

@@ -2,9 +2,9 @@ use Rattle.std.proofs.Common.{◌≡◌, inl, inr, ℕ, zero, suc, List, [], ◌
 use Rattle.imap_lex.specs.declared.item.Item.{Item}
 use Rattle.imap_lex.specs.declared.item.Item.TheVariants.{Ready, Frame, Refused}
 use Rattle.std.proofs.lemmas.Result.{on_ok_weaker, on_err_weaker}
-use Rattle.imap_print.specs.declared.answer.Answer.{Answer}
-use Rattle.imap_print.specs.declared.answer.Answer.TheVariants.{Continue}
-use Rattle.imap_print.specs.declared.words.Continuation.TheVariants as continuations
+use Rattle.imap_answers.specs.declared.answer.Answer.{Answer}
+use Rattle.imap_answers.specs.declared.answer.Answer.TheVariants.{Continue}
+use Rattle.imap_answers.specs.declared.words.Continuation.TheVariants as continuations
 use Rattle.world_core.specs.FaultAnswers.{IsLiteralAnswer}
 use Rattle.world_core.specs.Conversation.{BreaksOff, Converses, IsFront, StopsAt, Takes, TakesFrame, got, sent, sent_one, turns_of}
 use Rattle.world_core.specs.Nodes.{HasLoggedOut, IsGoing, NodeState, closed}

@@ -4,9 +4,9 @@ use Rattle.imap_grammar.specs.declared.command.Tagged.{Tagged}
 use Rattle.imap_lex.specs.declared.item.Item.{Item}
 use Rattle.imap_lex.specs.declared.item.Item.TheVariants.{Ready, Frame, Refused}
 use Rattle.imap_print.specs.Printed.{printed}
-use Rattle.imap_print.specs.declared.answer.Answer.{Answer}
-use Rattle.imap_print.specs.declared.answer.Answer.TheVariants.{Continue}
-use Rattle.imap_print.specs.declared.words.Continuation.TheVariants as continuations
+use Rattle.imap_answers.specs.declared.answer.Answer.{Answer}
+use Rattle.imap_answers.specs.declared.answer.Answer.TheVariants.{Continue}
+use Rattle.imap_answers.specs.declared.words.Continuation.TheVariants as continuations
 use Rattle.world_core.specs.FaultAnswers.{IsFaultAnswer, IsLiteralAnswer}
 use Rattle.world_core.specs.Nodes.{NodeState, IsGoing, HasLoggedOut, answers_of, closed}
 use Rattle.world_core.specs.Responses.{Responds}

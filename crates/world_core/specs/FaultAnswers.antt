@@ -2,10 +2,10 @@ use Rattle.std.specs.Prelude.{◌≡◌, ◌⊎◌, ℕ, List}
 use Rattle.imap_grammar.specs.Commands.{IsSpelled}
 use Rattle.imap_grammar.specs.Faults.{HasTag, IsTagged, NamesCommand}
 use Rattle.imap_grammar.specs.declared.command.Tagged.{Tagged}
-use Rattle.imap_print.specs.declared.answer.Answer.{Answer}
-use Rattle.imap_print.specs.declared.answer.Answer.TheVariants as answers
-use Rattle.imap_print.specs.declared.words.Refusal.{Refusal}
-use Rattle.imap_print.specs.declared.words.Refusal.TheVariants.{UnknownCommand, BadSyntax, NotInProfile, NoMemory, LiteralTooLong}
+use Rattle.imap_answers.specs.declared.answer.Answer.{Answer}
+use Rattle.imap_answers.specs.declared.answer.Answer.TheVariants as answers
+use Rattle.imap_answers.specs.declared.words.Refusal.{Refusal}
+use Rattle.imap_answers.specs.declared.words.Refusal.TheVariants.{UnknownCommand, BadSyntax, NotInProfile, NoMemory, LiteralTooLong}
 
 -- The frame spells no command.
 abbrev pub IsUnspelled : List ℕ → Type 0

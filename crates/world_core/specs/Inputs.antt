@@ -3,10 +3,10 @@ use Rattle.imap_grammar.specs.Commands.{IsSpelled}
 use Rattle.imap_grammar.specs.Faults.{HasTag, IsTagged}
 use Rattle.imap_grammar.specs.declared.fault.ParseFault.{ParseFault}
 use Rattle.imap_grammar.specs.declared.fault.ParseFault.TheVariants as faults
-use Rattle.imap_print.specs.declared.answer.Answer.{Answer}
-use Rattle.imap_print.specs.declared.answer.Answer.TheVariants as answers
-use Rattle.imap_print.specs.declared.words.Refusal.{Refusal}
-use Rattle.imap_print.specs.declared.words.Refusal.TheVariants as refusals
+use Rattle.imap_answers.specs.declared.answer.Answer.{Answer}
+use Rattle.imap_answers.specs.declared.answer.Answer.TheVariants as answers
+use Rattle.imap_answers.specs.declared.words.Refusal.{Refusal}
+use Rattle.imap_answers.specs.declared.words.Refusal.TheVariants as refusals
 use Rattle.world_core.specs.FaultAnswers.{IsFaultAnswer}
 use Rattle.world_core.specs.declared.talking.Input.{Input}
 use Rattle.world_core.specs.declared.talking.Input.TheVariants.{Command, Fault}

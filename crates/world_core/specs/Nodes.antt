@@ -1,7 +1,7 @@
 use Rattle.std.specs.Prelude.{◌≡◌, ℕ, List, [], ◌∷◌, Some, None}
 use Rattle.crdt_ops.specs.declared.op.Op.{Op}
-use Rattle.imap_print.specs.declared.answer.Answer.{Answer}
-use Rattle.imap_print.specs.declared.answer.Answer.TheVariants as answers
+use Rattle.imap_answers.specs.declared.answer.Answer.{Answer}
+use Rattle.imap_answers.specs.declared.answer.Answer.TheVariants as answers
 use Rattle.world_core.specs.Sessions.{Places, session_at, with_session}
 use Rattle.world_core.specs.declared.sessions.SessionState.TheVariants.{Authenticated, LoggedOut}
 use Rattle.world_core.specs.declared.reply.Reply.{Reply}

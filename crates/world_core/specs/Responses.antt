@@ -7,15 +7,15 @@ use Rattle.crdt_ops.specs.Sets.{delete_set_of, folders_of}
 use Rattle.imap_grammar.specs.declared.command.Command.{Command}
 use Rattle.imap_grammar.specs.declared.command.Command.TheVariants.{Noop, Logout, Create, Delete, ListNames}
 use Rattle.imap_grammar.specs.declared.command.Tagged.{Tagged}
-use Rattle.imap_print.specs.declared.answer.Answer.{Answer}
-use Rattle.imap_print.specs.declared.answer.Answer.TheVariants.{Bye, Completed, List as Listed}
-use Rattle.imap_print.specs.declared.mailbox.MailboxState.{MailboxState}
-use Rattle.imap_print.specs.declared.mailbox.MailboxState.TheVariants.{There, NoSelect}
-use Rattle.imap_print.specs.declared.words.ByeReason.TheVariants.{LoggingOut}
-use Rattle.imap_print.specs.declared.words.CommandWord.{CommandWord}
-use Rattle.imap_print.specs.declared.words.CommandWord.TheVariants as words
-use Rattle.imap_print.specs.declared.words.Refusal.{Refusal}
-use Rattle.imap_print.specs.declared.words.Refusal.TheVariants.{NoSuchMailbox, MailboxExists, NameNotAllowed, InboxStays, NotInProfile, NumberUsedUp, NoMemory, NotNow}
+use Rattle.imap_answers.specs.declared.answer.Answer.{Answer}
+use Rattle.imap_answers.specs.declared.answer.Answer.TheVariants.{Bye, Completed, List as Listed}
+use Rattle.imap_answers.specs.declared.mailbox.MailboxState.{MailboxState}
+use Rattle.imap_answers.specs.declared.mailbox.MailboxState.TheVariants.{There, NoSelect}
+use Rattle.imap_answers.specs.declared.words.ByeReason.TheVariants.{LoggingOut}
+use Rattle.imap_answers.specs.declared.words.CommandWord.{CommandWord}
+use Rattle.imap_answers.specs.declared.words.CommandWord.TheVariants as words
+use Rattle.imap_answers.specs.declared.words.Refusal.{Refusal}
+use Rattle.imap_answers.specs.declared.words.Refusal.TheVariants.{NoSuchMailbox, MailboxExists, NameNotAllowed, InboxStays, NotInProfile, NumberUsedUp, NoMemory, NotNow}
 use Rattle.imap_query.specs.Listing.{Lists}
 use Rattle.imap_query.specs.declared.listing.ListEntry.{ListEntry}
 use Rattle.imap_types.specs.Names.{IsLawfulName, folded_name, inbox}

@@ -2,7 +2,7 @@ use Rattle.std.specs.Prelude.{◌≡◌, ◌≢◌, ◌⊎◌, ℕ, zero, suc, L
 use Rattle.causal_inbox.specs.declared.answers.Arrival.{Arrival}
 use Rattle.crdt_ops.specs.declared.op.Op.{Op}
 use Rattle.imap_grammar.specs.declared.command.Tagged.{Tagged}
-use Rattle.imap_print.specs.declared.answer.Answer.{Answer}
+use Rattle.imap_answers.specs.declared.answer.Answer.{Answer}
 use Rattle.imap_lex.specs.Reading.{Progress, goes_on}
 use Rattle.imap_lex.specs.declared.fault.Fault.{Fault}
 use Rattle.imap_lex.specs.declared.item.Item.{Item}

@@ -3,9 +3,9 @@ use Rattle.imap_lex.specs.Reading.{Cut, IsPrefix, Progress}
 use Rattle.imap_lex.specs.declared.fault.Fault.{Fault}
 use Rattle.imap_lex.specs.declared.fault.Fault.TheVariants.{LineTooLong, LiteralTooLong, NulByte, NoMemory, Failed}
 use Rattle.imap_lex.specs.declared.item.Item.{Item}
-use Rattle.imap_print.specs.declared.answer.Answer.{Answer}
-use Rattle.imap_print.specs.declared.answer.Answer.TheVariants.{Bye}
-use Rattle.imap_print.specs.declared.words.ByeReason.TheVariants as reasons
+use Rattle.imap_answers.specs.declared.answer.Answer.{Answer}
+use Rattle.imap_answers.specs.declared.answer.Answer.TheVariants.{Bye}
+use Rattle.imap_answers.specs.declared.words.ByeReason.TheVariants as reasons
 use Rattle.world_core.specs.Conversation.{BreaksOff, Converses, sent}
 use Rattle.world_core.specs.Nodes.{IsGoing, NodeState, closed}
 use Rattle.world_core.specs.declared.turn.TalkFaultKind.{TalkFaultKind}

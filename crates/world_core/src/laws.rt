@@ -7,7 +7,7 @@ ghost use Rattle.imap_lex.specs.Reading.{Progress as Begun, goes_on, joined, sta
 ghost use Rattle.imap_lex.specs.declared.fault.Fault.{Fault as Why};
 ghost use Rattle.imap_lex.specs.declared.item.Item.{Item as Given};
 ghost use Rattle.imap_lex.specs.declared.limits.Limits.{Limits as Bounds};
-ghost use Rattle.imap_print.specs.declared.answer.Answer.{Answer as OneAnswer};
+ghost use Rattle.imap_answers.specs.declared.answer.Answer.{Answer as OneAnswer};
 ghost use Rattle.world_core.specs.Conversation.{Converses, sent};
 ghost use Rattle.world_core.specs.Dumps.{IsDump};
 ghost use Rattle.world_core.specs.Nodes.{IsGoing, NodeState, closed};

@@ -4,7 +4,7 @@ ghost use Rattle.std.specs.Prelude.{false, ◌≡◌, ◌≢◌, ◌⊎◌, ◌�
 ghost use Rattle.causal_inbox.specs.Seen.{IsClockOf, held_limit, uncovered};
 ghost use Rattle.crdt_ops.specs.declared.op.Op.{Op as Operation};
 ghost use Rattle.imap_grammar.specs.declared.command.Command.TheVariants.{Create, Delete, ListNames, Logout};
-ghost use Rattle.imap_print.specs.declared.words.Refusal.TheVariants.{NoMemory};
+ghost use Rattle.imap_answers.specs.declared.words.Refusal.TheVariants.{NoMemory};
 ghost use Rattle.imap_types.specs.Names.{inbox};
 ghost use Rattle.world_core.specs.Operations.{CanIssue};
 ghost use Rattle.world_core.specs.Responses.{ListsAnswers, Replies, RepliesChange, completed, created_name, list_answer, without_last_separator};

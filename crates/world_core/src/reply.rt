@@ -15,7 +15,7 @@ pub struct Answers {
 
 impl Model for Answers {
     ghost use Rattle.std.specs.Prelude.{List};
-    ghost use Rattle.imap_print.specs.declared.answer.Answer.{Answer};
+    ghost use Rattle.imap_answers.specs.declared.answer.Answer.{Answer};
 
     ghost Value = { List Answer };
 

@@ -6,7 +6,7 @@ ghost use Rattle.imap_print.specs.Printed.{printed};
 ghost use Rattle.world_core.specs.Conversation.{BreaksOff, Converses, IsFront, StopsAt, Takes, TakesFrame, got, sent, sent_one, turns_of};
 ghost use Rattle.world_core.specs.Nodes.{HasLoggedOut, IsGoing, NodeState, answers_of, closed};
 ghost use Rattle.world_core.specs.declared.turn.Turn.{Turn as OneTurn};
-ghost use Rattle.imap_print.specs.declared.answer.Answer.{Answer as OneAnswer};
+ghost use Rattle.imap_answers.specs.declared.answer.Answer.{Answer as OneAnswer};
 ghost use Rattle.imap_lex.specs.declared.item.Item.TheVariants.{Frame as FrameItem, Refused as RefusedItem};
 ghost use Rattle.world_core.specs.FaultAnswers.{IsFaultAnswer, IsLiteralAnswer};
 ghost use Rattle.world_core.specs.Inputs.{AnswersFault, IsInput, reason_for};

@@ -1,6 +1,6 @@
 use super::replayed;
-use crate::ending::ReplayEnd;
 use imap_types::{Escape, write_escaped};
+use mail_replay::ReplayEnd;
 use std::alloc::{AllocError, Global};
 use std::str;
 use std::test::Fail;

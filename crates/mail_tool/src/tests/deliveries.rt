@@ -1,5 +1,5 @@
 use super::{joined, replayed};
-use crate::ending::ReplayEnd;
+use mail_replay::ReplayEnd;
 use std::alloc::{AllocError, Global};
 use std::str;
 use std::test::Fail;

@@ -1,6 +1,6 @@
 use super::rows::{FIRST_RUN, FIRST_RUN_PRINTS};
-use crate::ending::{ReplayEnd, tell};
-use crate::replay::{MAX_READS, replay};
+use crate::ending::tell;
+use mail_replay::{MAX_READS, ReplayEnd, replay};
 use std::io::{ErrorKind, Read, Write};
 use std::test::Fail;
 use std::{io, str};

@@ -1,6 +1,6 @@
 use super::replayed;
 use super::rows::{FIRST_RUN, FIRST_RUN_PRINTS};
-use crate::ending::ReplayEnd;
+use mail_replay::ReplayEnd;
 use std::alloc::{AllocError, Global};
 use std::str;
 use std::test::Fail;

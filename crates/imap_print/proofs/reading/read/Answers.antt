@@ -2,7 +2,7 @@ use Rattle.std.proofs.Common.{◌≡◌, ◌++◌, true, None, Some, length, IfO
 use Rattle.imap_print.specs.Printable.{IsPrintable}
 use Rattle.imap_print.specs.Printed.{printed}
 use Rattle.imap_print.specs.ReadingAnswers.{line_at}
-use Rattle.imap_print.specs.declared.answer.Answer.{Answer}
+use Rattle.imap_answers.specs.declared.answer.Answer.{Answer}
 use Rattle.imap_print.proofs.AgainAnswers.{line-again}
 use Rattle.imap_print.proofs.ReadingLemmas.{none_some, some_pair}
 use Rattle.imap_print.proofs.reading.read.Goals as goal

@@ -1,6 +1,6 @@
 use Rattle.std.proofs.Common.{◌≡◌, List, [], ◌∷◌, ◌++◌, ap, subst, ◌∙◌, refl}
 use Rattle.crdt_ops.specs.declared.op.Op.{Op}
-use Rattle.imap_print.specs.declared.answer.Answer.{Answer}
+use Rattle.imap_answers.specs.declared.answer.Answer.{Answer}
 use Rattle.world_core.specs.Nodes.{NodeState}
 use Rattle.world_core.specs.Operations.{IsNext}
 use Rattle.world_core.specs.Responses.{Issues, completed}

@@ -1,0 +1,6 @@
+pub mod Deliveries
+pub mod Faults
+pub mod Lines
+pub mod Replays
+pub mod Stage
+pub mod Transcript
