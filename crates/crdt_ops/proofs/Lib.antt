@@ -3,7 +3,6 @@ pub mod TextLemmas
 pub mod Members
 pub mod SetLemmas
 pub mod Presence
-pub mod FieldLemmas
 pub mod PartLemmas
 pub mod ListLemmas
 pub mod FlagLemmas

@@ -1,5 +1,5 @@
-use Rattle.crdt_ops.proofs.FieldLemmas.{parsed_text, utf8_number}
-use Rattle.crdt_ops.proofs.fields.parsed.Goals as goal
+use Rattle.text_fields.proofs.FieldLemmas.{parsed_text, utf8_number}
+use Rattle.text_fields.proofs.reading.parsed.Goals as goal
 
 pub returns-in_default : goal.returns-in_default
 returns-in_default c = absurd (c.in_default.ensures.cases.0 (utf8_number c.args.digits.now c.requires))

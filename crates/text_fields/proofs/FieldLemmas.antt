@@ -1,6 +1,6 @@
 use Rattle.std.proofs.Common.{◌≡◌, ◌≢◌, ◌++◌, ◌^◌, ◌<◌, ◌≤◌, ◌⊎◌, inl, inr, ℕ, zero, suc, Bool, true, false, not, cond, ◌&&◌, eqb, eqb-true, eq-eqb, leb, le-leb, leb-true, List, [], ◌∷◌, Option, Some, None, Result, Ok, Err, refl, sym, ap, ◌∙◌, subst, arith, rules, length, get_or}
-use Rattle.std.proofs.lemmas.Bool.{and_parts, and_from, cases_Bool, eqb-false, ne_eqb}
-use Rattle.std.proofs.lemmas.Bool.Decides.{nat_tests}
+use Rattle.std.proofs.lemmas.Bool.{and_parts, and_from, cases_Bool, eqb-false, false≢true, ne_eqb}
+use Rattle.std.proofs.lemmas.List.Folds.{list_all-append}
 use Rattle.std.proofs.lemmas.Fmt.{IsAscii-from_digits, decimal-digits_value, digits_decimal, digits_value-decimal, first_decimal, decimal_nonempty, decimal_digit}
 use Rattle.std.proofs.lemmas.Str.{IsUtf8-from_ascii}
 use Rattle.std.proofs.lemmas.Str.Parse.{IsNumeralModel, numerals_by_value, parse_digits}
@@ -11,7 +11,9 @@ use Rattle.std.specs.Option.{SomeIff}
 use Rattle.std.specs.Result.{OkIff, result_ok}
 use Rattle.std.specs.Str.{IsUtf8}
 use Rattle.std.specs.Str.Parse.{ParsesUnsigned, digits_value}
-use Rattle.crdt_ops.specs.Reading.{◌>>=◌, cut_at, has_no_leading_zero, in_front, number_at, positive}
+use Rattle.text_fields.specs.Reading.{◌>>=◌, cut_at, has_no_leading_zero, id_at, in_front, number_at, pair_at, positive, replica_at}
+use Rattle.text_fields.specs.Fields.{IsEntry, IsId, IsNumber, IsReplica, entry_text, id_text}
+use Rattle.tags_clocks.specs.declared.id.OpId.{OpId}
 
 -- texts of decimal digits
 pub digits_model : IsNumeralModel (λ ds. list_all is_ascii_digit ds ≡ true) (digits_value 10)
@@ -134,18 +136,6 @@ all_of p q h [] a = refl
 all_of p q h (octet ∷ octets) a =
     let s = and_parts (p octet) (list_all p octets) a in and_from _ _ (h octet s.0) (all_of p q h octets s.1)
 
-digit_no_space : (octet : ℕ) → is_ascii_digit octet ≡ true → not (eqb octet 32) ≡ true
-digit_no_space octet h = grind (arith, nat_tests)
-
-digit_no_colon : (octet : ℕ) → is_ascii_digit octet ≡ true → not (eqb octet 58) ≡ true
-digit_no_colon octet h = grind (arith, nat_tests)
-
-pub decimal_no_space : (n : ℕ) → n < 2 ^ 64 → list_all (λ octet. not (eqb octet 32)) (decimal n) ≡ true
-decimal_no_space n l = all_of is_ascii_digit (λ octet. not (eqb octet 32)) digit_no_space (decimal n) (digits_decimal digits_model n l)
-
-pub decimal_no_colon : (n : ℕ) → n < 2 ^ 64 → list_all (λ octet. not (eqb octet 58)) (decimal n) ≡ true
-decimal_no_colon n l = all_of is_ascii_digit (λ octet. not (eqb octet 58)) digit_no_colon (decimal n) (digits_decimal digits_model n l)
-
 -- numbers from 1 on
 pub positive_takes : (n m : ℕ) → positive n ≡ Some m → (0 < n) × (n ≡ m)
 positive_takes n m h =
@@ -156,3 +146,87 @@ positive_takes n m h =
 
 pub positive_again : (n : ℕ) → 0 < n → positive n ≡ Some n
 positive_again n h = let f : eqb n 0 ≡ false = ne_eqb n 0 (omega arith) in rw f refl
+
+-- ---- octets that a text lacks
+
+abbrev pub lacks : ℕ → List ℕ → Bool
+lacks mark text = list_all (λ octet. not (eqb octet mark)) text
+
+pub both : (p : ℕ → Bool) (xs ys : List ℕ) → list_all p xs ≡ true → list_all p ys ≡ true → list_all p (xs ++ ys) ≡ true
+both p xs ys h k = list_all-append p xs ys ∙ and_from (list_all p xs) (list_all p ys) h k
+
+pub digit_apart : (mark octet : ℕ) → is_ascii_digit mark ≡ false → is_ascii_digit octet ≡ true → not (eqb octet mark) ≡ true
+digit_apart mark octet h k =
+    elim (cases_Bool (eqb octet mark)) [
+      | inl t ↦ absurd (let e : is_ascii_digit octet ≡ false = ap is_ascii_digit (eqb-true octet mark t) ∙ h in let z : false ≡ true = sym e ∙ k in false≢true z)
+      | inr f ↦ ap not f
+    ]
+
+pub decimal_lacks : (mark n : ℕ) → is_ascii_digit mark ≡ false → n < 2 ^ 64 → lacks mark (decimal n) ≡ true
+decimal_lacks mark n h l = all_of is_ascii_digit (λ octet. not (eqb octet mark)) (λ octet k. digit_apart mark octet h k) (decimal n) (digits_decimal digits_model n l)
+
+pub id_lacks : (mark : ℕ) (id : OpId) → is_ascii_digit mark ≡ false → not (eqb 58 mark) ≡ true → IsId id → lacks mark (id_text id) ≡ true
+id_lacks mark id h k w =
+    both (λ octet. not (eqb octet mark)) (decimal id.replica) (58 ∷ decimal id.number) (decimal_lacks mark id.replica h (omega arith))
+    (and_from (not (eqb 58 mark)) (lacks mark (decimal id.number)) k (decimal_lacks mark id.number h (omega arith)))
+
+pub entry_lacks : (mark : ℕ) (entry : ℕ × ℕ) → is_ascii_digit mark ≡ false → not (eqb 61 mark) ≡ true → IsEntry entry → lacks mark (entry_text entry) ≡ true
+entry_lacks mark entry h k w =
+    both (λ octet. not (eqb octet mark)) (decimal entry.0) (61 ∷ decimal entry.1) (decimal_lacks mark entry.0 h (omega arith))
+    (and_from (not (eqb 61 mark)) (lacks mark (decimal entry.1)) k (decimal_lacks mark entry.1 h (omega arith)))
+
+-- ---- replicas, ids and entries
+
+pub replica_takes : (text : List ℕ) (replica : ℕ) → replica_at text ≡ Some replica → IsReplica replica × (text ≡ decimal replica)
+unfolding replica_at
+replica_takes text replica h =
+    let n = bind_some (number_at 65535 text) positive replica h in
+    let p = positive_takes n.0 replica n.2 in
+    let t = number_takes 65535 n.0 text (omega arith) n.1 in
+    let small : n.0 ≤ 65535 = t.0 in
+    let low : 0 < n.0 = p.0 in
+    let same : n.0 ≡ replica = p.1 in
+    ((omega arith, omega arith), t.1 ∙ ap decimal same)
+
+pub replica_again : (replica : ℕ) → IsReplica replica → replica_at (decimal replica) ≡ Some replica
+unfolding replica_at
+replica_again replica r = bound (number_at 65535 (decimal replica)) positive replica (number_again 65535 replica (omega arith) r.1) ∙ positive_again replica r.0
+
+pub pair_takes : (mark : ℕ) (text : List ℕ) (pair : ℕ × ℕ) → pair_at mark text ≡ Some pair → IsEntry pair × (text ≡ decimal pair.0 ++ mark ∷ decimal pair.1)
+unfolding pair_at
+pair_takes mark text pair h =
+    let c = bind_some (cut_at mark text) _ pair h in
+    let r = bind_some (replica_at c.0.0) _ pair c.2 in
+    let s = bind_some (number_at 4294967295 c.0.1) _ pair r.2 in
+    let n = bind_some (positive s.0) _ pair s.2 in
+    let e : ◌≡◌ {A = ℕ × ℕ} (r.0, n.0) pair = let k = n.2 in cc in
+    let b = positive_takes s.0 n.0 n.1 in
+    let t = replica_takes c.0.0 r.0 r.1 in
+    let u = number_takes 4294967295 s.0 c.0.1 (omega arith) s.1 in
+    let second : s.0 ≡ n.0 = b.1 in
+    let low' : 0 < s.0 = b.0 in
+    let high' : s.0 ≤ 4294967295 = u.0 in
+    subst (λ (pair : ℕ × ℕ). IsEntry pair × (text ≡ decimal pair.0 ++ mark ∷ decimal pair.1)) e (
+      (t.0, (omega arith, omega arith)),
+      cut_takes mark text c.0 c.1 ∙ (λ i. t.1 i ++ mark ∷ (u.1 ∙ ap decimal second) i),
+    )
+
+pub pair_again : (mark replica number : ℕ) → is_ascii_digit mark ≡ false → IsReplica replica → IsNumber number → pair_at mark (decimal replica ++ mark ∷ decimal number) ≡ Some (replica, number)
+unfolding pair_at
+pair_again mark replica number h r n =
+    bound (cut_at mark (decimal replica ++ mark ∷ decimal number)) _ (decimal replica, decimal number) (cut_again mark (decimal replica) (decimal number) (decimal_lacks mark replica h (omega arith)))
+    ∙ bound (replica_at (decimal replica)) _ replica (replica_again replica r)
+    ∙ bound (number_at 4294967295 (decimal number)) _ number (number_again 4294967295 number (omega arith) n.1)
+    ∙ bound (positive number) _ number (positive_again number n.0)
+
+pub id_takes : (text : List ℕ) (id : OpId) → id_at text ≡ Some id → IsId id × (text ≡ id_text id)
+unfolding id_at
+id_takes text id h =
+    let p = bind_some (pair_at 58 text) _ id h in
+    let e : ◌≡◌ {A = OpId} (record { replica = p.0.0; number = p.0.1 }) id = let k = p.2 in cc in
+    let t = pair_takes 58 text p.0 p.1 in
+    subst (λ (id : OpId). IsId id × (text ≡ id_text id)) e t
+
+pub id_again : (id : OpId) → IsId id → id_at (id_text id) ≡ Some id
+unfolding id_at
+id_again id w = bound (pair_at 58 (id_text id)) _ (id.replica, id.number) (pair_again 58 id.replica id.number refl w.0 w.1)
