@@ -1,21 +1,20 @@
-use Rattle.std.proofs.Common.{◌≡◌, inl, inr, ℕ, ◌<◌, ◌≤◌, ◌^◌, ◌/◌, ◌%◌, Bool, true, false, not, cond, ◌&&◌, eqb, eqb-true, List, [], ◌∷◌, ◌++◌, map, Option, Some, None, length, refl, sym, ap, ◌∙◌, subst, arith, codes}
+use Rattle.std.proofs.Common.{◌≡◌, inl, inr, ℕ, ◌<◌, ◌/◌, ◌%◌, true, false, not, cond, ◌&&◌, eqb, List, [], ◌∷◌, ◌++◌, map, Option, Some, None, length, refl, sym, ap, ◌∙◌, subst, arith, codes}
 use Rattle.std.specs.Char.{is_ascii_digit}
 use Rattle.std.specs.Fmt.{decimal}
 use Rattle.std.specs.List.{flat_map, list_all}
 use Rattle.std.specs.Str.{bytes_eq}
-use Rattle.std.proofs.lemmas.Bool.{and_parts, and_from, cases_Bool, false≢true}
+use Rattle.std.proofs.lemmas.Bool.{and_parts, and_from, cases_Bool}
 use Rattle.std.proofs.lemmas.Bool.Decides.{nat_tests}
 use Rattle.std.proofs.lemmas.Fmt.{decimal_nonempty, digits_decimal}
-use Rattle.std.proofs.lemmas.List.Folds.{list_all-append}
 use Rattle.std.proofs.lemmas.Slice.Eq.{bytes_eq-Decides}
 use Rattle.imap_types.specs.declared.escape.Escape.TheVariants.{Field}
 use Rattle.imap_types.specs.Escape.{escaped, escaped_octet, hex_digit, is_plain}
 use Rattle.tags_clocks.specs.declared.id.OpId.{OpId}
 use Rattle.tags_clocks.specs.Clock.{IsClock}
-use Rattle.crdt_ops.specs.Form.{AreIds, Each, IsEntry, IsId, IsNumber, IsReplica}
-use Rattle.crdt_ops.specs.Reading.{◌>>=◌, all_read, ascending, behind_all, clock_at, clock_from, cut_at, id_at, ids_at, is_ascending, is_clock_from, number_at, pair_at, parts_at, positive}
+use Rattle.crdt_ops.specs.Form.{AreIds, Each, IsEntry, IsId}
+use Rattle.crdt_ops.specs.Reading.{◌>>=◌, all_read, ascending, behind_all, clock_at, clock_from, id_at, ids_at, is_ascending, is_clock_from, pair_at, parts_at}
 use Rattle.crdt_ops.specs.Text.{clock_text, entry_text, id_text, ids_text, joined, listed, name_text}
-use Rattle.text_fields.proofs.FieldLemmas.{both, decimal_lacks, entry_lacks, id_again, id_lacks, id_takes, lacks, pair_again, pair_takes, all_of, bind_some, bound, chosen, cut_again, cut_takes, digits_model, number_again, number_takes, positive_again, positive_takes, some_of}
+use Rattle.text_fields.proofs.FieldLemmas.{both, entry_lacks, id_again, id_lacks, id_takes, lacks, pair_again, pair_takes, bind_some, bound, chosen, digits_model, some_of}
 use Rattle.crdt_ops.proofs.PartLemmas.{ascending_is, ascending_some, clock_is, clock_some, joined_parts, parts_joined, some_part}
 
 -- ---- octets that a text lacks

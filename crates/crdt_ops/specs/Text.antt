@@ -1,6 +1,5 @@
 use Rattle.std.specs.Prelude.{◌≡◌, Bool, true, false, map, ℕ, List, [], ◌∷◌, ◌++◌, codes}
 use Rattle.std.specs.List.{flat_map}
-use Rattle.std.specs.Fmt.{decimal}
 use Rattle.imap_types.specs.declared.flags.Flags.{Flags}
 use Rattle.imap_types.specs.declared.escape.Escape.TheVariants.{Field, Text}
 use Rattle.imap_types.specs.Escape.{escaped}
