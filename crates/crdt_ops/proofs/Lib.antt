@@ -7,3 +7,4 @@ pub mod PartLemmas
 pub mod ListLemmas
 pub mod FlagLemmas
 pub mod ReadLemmas
+pub mod MeaningLemmas
