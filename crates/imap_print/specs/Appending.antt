@@ -1,5 +1,5 @@
 use Rattle.std.specs.Prelude.{◌≡◌, ℕ, Bool, true, false, ◌&&◌, List, [], ◌∷◌, ◌++◌, flat_map}
-use Rattle.imap_print.specs.Strings.{separated}
+use Rattle.imap_answers.specs.Strings.{separated}
 
 -- A text was put behind what was there.
 abbrev pub Appends : List ℕ → List ℕ → List ℕ → Type 0

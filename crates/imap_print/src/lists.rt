@@ -4,8 +4,8 @@
 ghost use Rattle.std.specs.Prelude.{◌≡◌, ◌++◌, [], ◌∷◌, codes, map, true, if◌then◌else◌, IfOk, OnOk};
 ghost use Rattle.imap_types.specs.Flags.{flag_texts, where_there};
 ghost use Rattle.imap_print.specs.Appending.{Appends, Extends, Lists};
-ghost use Rattle.imap_print.specs.Printed.{body_text, date_item, fetch_texts, flags_item, modseq_item, status_texts};
-ghost use Rattle.imap_print.specs.Strings.{item};
+ghost use Rattle.imap_answers.specs.Printed.{body_text, date_item, fetch_texts, flags_item, modseq_item, status_texts};
+ghost use Rattle.imap_answers.specs.Strings.{item};
 
 use crate::parts::{push_body, push_date, push_flags, push_modseq};
 use crate::strings::{push_label, push_text};

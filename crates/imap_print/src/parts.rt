@@ -3,14 +3,14 @@
 
 ghost use Rattle.std.specs.Prelude.{◌≡◌, ◌++◌, codes, decimal, map, OnOk};
 ghost use Rattle.imap_print.specs.Appending.{Appends, Extends};
-ghost use Rattle.imap_print.specs.Printed.{all_text, appended_text, attributes_text, body_text, code_before, code_text, copied_text, flags_text, notice_text, origin_text, permanent_text, results_text, section_text, sets_text};
-ghost use Rattle.imap_print.specs.Strings.{field_text, separated};
+ghost use Rattle.imap_answers.specs.Printed.{all_text, appended_text, body_text, code_before, code_text, copied_text, flags_text, notice_text, origin_text, permanent_text, results_text, section_text, sets_text};
+ghost use Rattle.imap_answers.specs.Strings.{field_text, separated};
 
 use crate::lists::{push_flag_texts, push_flags_and_any, wide};
 use crate::strings::{
     push_field, push_label, push_labelled, push_literal, push_number, push_set, push_text,
 };
-use imap_answers::{Code, MailboxState, Notice, SearchResults, SectionData};
+use imap_answers::{Code, Notice, SearchResults, SectionData};
 use imap_types::{DateTime, FieldNames, Flags, NumberSet, Octets, Section};
 use std::alloc::AllocError;
 
@@ -54,20 +54,6 @@ fn push_permanent_flags(flags: &Option<Flags>, out: &mut Vec<u8>) -> Result<(), 
             let _ = push_flags_and_any(flags, out)?;
             push_text(b")", out)
         }
-    }
-}
-
-/// The attributes of a name in LIST (RFC 9051, section 7.3.1).
-pub fn attributes(state: MailboxState, subscribed: bool) -> &'static [u8]
-    ensures { result.now ≡ attributes_text state subscribed }
-{
-    match (state, subscribed) {
-        (MailboxState::There, false) => b"()",
-        (MailboxState::There, true) => b"(\\Subscribed)",
-        (MailboxState::NoSelect, false) => b"(\\Noselect)",
-        (MailboxState::NoSelect, true) => b"(\\Noselect \\Subscribed)",
-        (MailboxState::NonExistent, false) => b"(\\NonExistent)",
-        (MailboxState::NonExistent, true) => b"(\\NonExistent \\Subscribed)",
     }
 }
 

@@ -1,9 +1,9 @@
 ghost use Rattle.std.specs.Prelude.{◌≡◌, ◌++◌, codes, decimal, OnErr, OnOk};
 ghost use Rattle.imap_print.specs.Appending.{Appends, Extends};
-ghost use Rattle.imap_print.specs.Printed.{answer_text, completed_text, fetch_text, list_text, printed, search_text, status_text, uid_mark};
+ghost use Rattle.imap_answers.specs.Printed.{answer_text, completed_text, fetch_text, list_text, printed, search_text, status_text, uid_mark};
 
 use crate::lists::{push_fetch_items, push_status_items};
-use crate::parts::{attributes, push_code_before, push_flags, push_notice, push_results};
+use crate::parts::{push_code_before, push_flags, push_notice, push_results};
 use crate::strings::{push_label, push_name, push_text};
 use imap_answers::{
     Answer, Code, CommandWord, FetchItems, MailboxState, SearchResults, StatusItems,
@@ -33,7 +33,7 @@ fn push_line(answer: &Answer, out: &mut Vec<u8>) -> Result<(), AllocError>
     push_text(b"\r\n", out)
 }
 
-#[tactic(auto, unfolding(crate::specs::Printed::answer_text))]
+#[tactic(auto, unfolding(imap_answers::specs::Printed::answer_text))]
 fn push_answer(answer: &Answer, out: &mut Vec<u8>) -> Result<(), AllocError>
     ensures ok { OnOk result (Appends out.old.items out.new.items (answer_text answer.now)) }
     ensures kept { Extends out.old.items out.new.items }
@@ -94,7 +94,7 @@ fn push_list(
     ensures kept { Extends out.old.items out.new.items }
 {
     push_text(b"* LIST ", out)?;
-    push_text(attributes(state, subscribed), out)?;
+    push_text(state.attributes(subscribed), out)?;
     push_text(b" \"/\" ", out)?;
     push_name(name, out)?;
     Ok(())

@@ -3,10 +3,11 @@
 
 ghost use Rattle.std.specs.Prelude.{◌≡◌, ◌++◌, [], ◌∷◌, codes, decimal, flat_map, map, OnOk};
 ghost use Rattle.std.specs.List.{list_all, list_any};
+ghost use Rattle.imap_types.specs.Keywords.{is_astring_octet};
 ghost use Rattle.imap_print.specs.Appending.{Appends, Extends};
-ghost use Rattle.imap_print.specs.Strings.{escaped_octet, field_text, has_line_octet, is_astring_octet, is_plain, labelled, literal_text, name_text, quoted_text, run_text, separated, set_text};
+ghost use Rattle.imap_answers.specs.Strings.{escaped_octet, field_text, has_line_octet, is_plain, labelled, literal_text, name_text, quoted_text, run_text, separated, set_text};
 
-use imap_types::{Name, NumberSet, Run, is_atom_octet};
+use imap_types::{Name, NumberSet, Run, is_astring_octet};
 use itoa::Buffer;
 use std::alloc::AllocError;
 
@@ -160,13 +161,6 @@ fn has_astring_octets(string: &[u8]) -> bool
     ensures { result ≡ list_all is_astring_octet string.now }
 {
     string.iter().all(|octet| is_astring_octet(*octet))
-}
-
-/// Whether an octet may stand in an unquoted string (RFC 9051, section 9, ASTRING-CHAR).
-pub fn is_astring_octet(octet: u8) -> bool
-    ensures { result ≡ is_astring_octet octet }
-{
-    is_atom_octet(octet) || octet == b']'
 }
 
 fn has_line_octet(string: &[u8]) -> bool

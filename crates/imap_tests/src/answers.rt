@@ -6,7 +6,8 @@ mod no_answers;
 mod searches;
 mod words;
 
-use imap_print::{Answer, print, read};
+use imap_print::{Answer, print};
+use imap_read::read;
 use imap_types::{Flags, Name, NumberSet, Octets};
 use std::alloc::{AllocError, Global};
 use std::process::Abort;

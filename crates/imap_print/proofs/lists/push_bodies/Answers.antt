@@ -1,4 +1,4 @@
-use Rattle.imap_print.specs.Printed.{body_text}
+use Rattle.imap_answers.specs.Printed.{body_text}
 use Rattle.imap_print.proofs.ListsLemmas.{listed, lists_more}
 use Rattle.imap_print.proofs.lists.push_bodies.Goals as goal
 

@@ -1,6 +1,6 @@
 use Rattle.std.proofs.Common.{◌++◌, codes}
-use Rattle.imap_print.specs.Printed.{origin_text, section_text}
-use Rattle.imap_print.specs.Strings.{literal_text}
+use Rattle.imap_answers.specs.Printed.{origin_text, section_text}
+use Rattle.imap_answers.specs.Strings.{literal_text}
 use Rattle.imap_print.proofs.ListsLemmas.{behind, further}
 use Rattle.imap_print.proofs.parts.push_body.Goals as goal
 

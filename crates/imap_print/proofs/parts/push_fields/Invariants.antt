@@ -1,5 +1,5 @@
 use Rattle.std.proofs.Common.{◌≡◌, ◌∷◌, ◌++◌, take, flat_map, map}
-use Rattle.imap_print.specs.Strings.{field_text}
+use Rattle.imap_answers.specs.Strings.{field_text}
 use Rattle.imap_print.proofs.parts.push_fields.Given as goal
 
 abbrev pub invariant-loop-name : goal.invariant-loop-name

@@ -1,5 +1,5 @@
 use Rattle.std.proofs.Common.{◌++◌, codes}
-use Rattle.imap_print.specs.Printed.{permanent_text}
+use Rattle.imap_answers.specs.Printed.{permanent_text}
 use Rattle.imap_print.proofs.ListsLemmas.{behind}
 use Rattle.imap_print.proofs.parts.push_permanent.Goals as goal
 

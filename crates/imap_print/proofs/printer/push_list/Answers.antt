@@ -1,6 +1,6 @@
 use Rattle.std.proofs.Common.{◌++◌, codes}
-use Rattle.imap_print.specs.Printed.{attributes_text}
-use Rattle.imap_print.specs.Strings.{name_text}
+use Rattle.imap_answers.specs.Words.{attributes_text}
+use Rattle.imap_answers.specs.Strings.{name_text}
 use Rattle.imap_print.proofs.ListsLemmas.{behind}
 use Rattle.imap_print.proofs.printer.push_list.Goals as goal
 

@@ -1,5 +1,5 @@
 use Rattle.std.proofs.Common.{◌++◌, codes}
-use Rattle.imap_print.specs.Printed.{results_text, uid_mark}
+use Rattle.imap_answers.specs.Printed.{results_text, uid_mark}
 use Rattle.imap_print.proofs.ListsLemmas.{behind}
 use Rattle.imap_print.proofs.printer.push_search.Goals as goal
 

@@ -1,6 +1,6 @@
 use Rattle.std.proofs.Common.{◌++◌, codes}
-use Rattle.imap_print.specs.Printed.{status_texts}
-use Rattle.imap_print.specs.Strings.{name_text, separated}
+use Rattle.imap_answers.specs.Printed.{status_texts}
+use Rattle.imap_answers.specs.Strings.{name_text, separated}
 use Rattle.imap_print.proofs.ListsLemmas.{behind, further}
 use Rattle.imap_print.proofs.printer.push_status.Goals as goal
 

@@ -1,5 +1,5 @@
 use Rattle.std.proofs.Common.{◌≡◌, ◌∷◌, ◌++◌, take, flat_map, map}
-use Rattle.imap_print.specs.Strings.{run_text}
+use Rattle.imap_answers.specs.Strings.{run_text}
 use Rattle.imap_print.proofs.strings.push_runs.Given as goal
 
 abbrev pub invariant-loop-run : goal.invariant-loop-run
