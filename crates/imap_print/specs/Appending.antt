@@ -5,10 +5,6 @@ use Rattle.imap_answers.specs.Strings.{separated}
 abbrev pub Appends : List ℕ → List ℕ → List ℕ → Type 0
 Appends old new text = new ≡ old ++ text
 
--- What was there still begins what is there.
-abbrev pub Extends : List ℕ → List ℕ → Type 0
-Extends old new = (more : List ℕ) × (new ≡ old ++ more)
-
 -- Whether there are no texts.
 abbrev pub has_none : List (List ℕ) → Bool
 has_none [] = true
