@@ -2,7 +2,8 @@
 
 use crate::answers::put_answer;
 use crate::words::Words;
-use imap_print::{Answer, print, read};
+use imap_print::{Answer, print};
+use imap_read::read;
 use std::alloc::{AllocError, Global};
 
 /// The answer that a text is. Where the text isn't the one text of that answer, what is amiss follows.

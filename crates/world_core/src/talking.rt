@@ -2,7 +2,7 @@ ghost use Rattle.std.specs.Prelude.{◌≡◌, ◌++◌, ◌⊎◌, ◌∷◌, [
 ghost use Rattle.imap_grammar.specs.Commands.{IsSpelled};
 ghost use Rattle.imap_grammar.specs.Faults.{HasTag, IsTagged};
 ghost use Rattle.imap_lex.specs.Reading.{goes_on};
-ghost use Rattle.imap_print.specs.Printed.{printed};
+ghost use Rattle.imap_answers.specs.Printed.{printed};
 ghost use Rattle.world_core.specs.Conversation.{BreaksOff, Converses, IsFront, StopsAt, Takes, TakesFrame, got, sent, sent_one, turns_of};
 ghost use Rattle.world_core.specs.Nodes.{HasLoggedOut, IsGoing, NodeState, answers_of, closed};
 ghost use Rattle.world_core.specs.declared.turn.Turn.{Turn as OneTurn};

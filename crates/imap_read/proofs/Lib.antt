@@ -1,0 +1,5 @@
+pub mod ReadingLemmas
+pub mod Again
+pub mod AgainLists
+pub mod AgainItems
+pub mod AgainAnswers
