@@ -5,7 +5,7 @@ ghost use Rattle.imap_grammar.specs.Strings.{is_in, is_pattern_octet};
 use imap_types::{is_astring_octet, is_atom_octet};
 
 /// The classes of octets that stand for themselves (RFC 9051, section 9).
-#[derive(Clone, Copy, Debug, PartialEq, Eq)]
+#[derive(Clone, Copy)]
 pub enum Class {
     Tag,
     Atom,

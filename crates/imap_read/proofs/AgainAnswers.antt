@@ -83,15 +83,15 @@ notice-again : (n : Notice) (rest : List ℕ) → IsNotice n → notice_at (noti
 unfolding notice_at
 notice-again notice.Closed rest h = refl
 notice-again (notice.UidValidity v) rest h =
-    let wide : v < 2 ^ 64 = omega arith in
-    ap (within (λ n. notice.UidValidity (small n))) (coded-again v rest wide) ∙ ap (λ k. Some (notice.UidValidity k, rest)) (small-again v h)
+    let wide : v < 2 ^ 64 = omega (arith, h.1) in
+    ap (within (λ n. notice.UidValidity (small n))) (coded-again v rest wide) ∙ ap (λ k. Some (notice.UidValidity k, rest)) (small-again v h.1)
 notice-again (notice.UidNext v) rest h =
-    let wide : v < 2 ^ 64 = omega arith in
-    ap (within (λ n. notice.UidNext (small n))) (coded-again v rest wide) ∙ ap (λ k. Some (notice.UidNext k, rest)) (small-again v h)
+    let wide : v < 2 ^ 64 = omega (arith, h.1) in
+    ap (within (λ n. notice.UidNext (small n))) (coded-again v rest wide) ∙ ap (λ k. Some (notice.UidNext k, rest)) (small-again v h.1)
 notice-again (notice.PermanentFlags flags) rest h =
     ap permanent_notice_at (append_assoc (permanent_text flags) (93 ∷ []) rest) ∙ permanent-notice-again flags rest h
-notice-again (notice.HighestModSeq m) rest h = ap (within (λ n. notice.HighestModSeq n)) (coded-again m rest h)
-notice-again (notice.CopyUid u s c) rest h = ap (within (λ x. notice.CopyUid x.0 x.1 x.2)) (copied-again u s c rest h.0 h.1 h.2)
+notice-again (notice.HighestModSeq m) rest h = ap (within (λ n. notice.HighestModSeq n)) (coded-again m rest h.1)
+notice-again (notice.CopyUid u s c) rest h = ap (within (λ x. notice.CopyUid x.0 x.1 x.2)) (copied-again u s c rest h.validity.1 h.sources h.copied)
 
 -- the code of a tagged OK
 appended-again : (u n : ℕ) (rest : List ℕ) → IsSmall u → IsSmall n → appended_at ((decimal u ++ (32 ∷ []) ++ decimal n ++ (93 ∷ [])) ++ rest) ≡ Some ((u, n), rest)
@@ -113,8 +113,8 @@ code-again : (c : Code) (rest : List ℕ) → IsCode c → code_at (code_text c 
 unfolding code_at
 code-again code.ReadWrite rest h = refl
 code-again code.ReadOnly rest h = refl
-code-again (code.AppendUid u n) rest h = ap (within (λ a. code.AppendUid a.0 a.1)) (appended-again u n rest h.0 h.1)
-code-again (code.CopyUid u s c) rest h = ap (within (λ x. code.CopyUid x.0 x.1 x.2)) (copied-again u s c rest h.0 h.1 h.2)
+code-again (code.AppendUid u n) rest h = ap (within (λ a. code.AppendUid a.0 a.1)) (appended-again u n rest h.0.1 h.1.1)
+code-again (code.CopyUid u s c) rest h = ap (within (λ x. code.CopyUid x.0 x.1 x.2)) (copied-again u s c rest h.validity.1 h.sources h.copied)
 code-again (code.Modified refused) rest h =
     ap modified_at (append_assoc (set_text refused) (93 ∷ []) rest) ∙ modified-again refused rest h
 code-again code.ExpungeIssued rest h = refl
@@ -392,7 +392,7 @@ answer-again (answer.Flags flags) rest h = ap (within (λ f. answer.Flags f)) (f
 answer-again (answer.Exists count) rest h =
     ap (λ (x : List ℕ). answer_at (42 ∷ 32 ∷ x)) (append_assoc (decimal count) (codes " EXISTS") (13 ∷ 10 ∷ rest)) ∙ exists-again count (13 ∷ 10 ∷ rest) h
 answer-again (answer.Expunge number) rest h =
-    ap (λ (x : List ℕ). answer_at (42 ∷ 32 ∷ x)) (append_assoc (decimal number) (codes " EXPUNGE") (13 ∷ 10 ∷ rest)) ∙ expunge-again number (13 ∷ 10 ∷ rest) h
+    ap (λ (x : List ℕ). answer_at (42 ∷ 32 ∷ x)) (append_assoc (decimal number) (codes " EXPUNGE") (13 ∷ 10 ∷ rest)) ∙ expunge-again number (13 ∷ 10 ∷ rest) h.1
 answer-again (answer.List name st sub) rest h =
     let whole : (attributes_text st sub ++ codes " \"/\" " ++ name_text name) ++ (13 ∷ 10 ∷ rest) ≡ attributes_text st sub ++ (codes " \"/\" " ++ (name_text name ++ (13 ∷ 10 ∷ rest))) =
     append_assoc (attributes_text st sub ++ codes " \"/\" ") (name_text name) (13 ∷ 10 ∷ rest) ∙ append_assoc (attributes_text st sub) (codes " \"/\" ") (name_text name ++ (13 ∷ 10 ∷ rest)) in
@@ -413,7 +413,7 @@ answer-again (answer.Fetch number items) rest h =
     let texts = separated 32 (fetch_texts items) in
     let whole : (decimal number ++ codes " FETCH (" ++ texts ++ codes ")") ++ (13 ∷ 10 ∷ rest) ≡ decimal number ++ (codes " FETCH (" ++ (texts ++ (41 ∷ 13 ∷ 10 ∷ rest))) =
     append_assoc (decimal number ++ codes " FETCH (" ++ texts) (codes ")") (13 ∷ 10 ∷ rest) ∙ append_assoc (decimal number ++ codes " FETCH (") texts (41 ∷ 13 ∷ 10 ∷ rest) ∙ append_assoc (decimal number) (codes " FETCH (") (texts ++ (41 ∷ 13 ∷ 10 ∷ rest)) in
-    ap (λ (x : List ℕ). answer_at (42 ∷ 32 ∷ x)) whole ∙ fetch-again number items (13 ∷ 10 ∷ rest) h.0 h.1
+    ap (λ (x : List ℕ). answer_at (42 ∷ 32 ∷ x)) whole ∙ fetch-again number items (13 ∷ 10 ∷ rest) h.0.1 h.1
 answer-again (answer.Bye reason) rest h = bye-again reason rest
 answer-again answer.NoTag rest h = refl
 answer-again answer.LiteralTooLong rest h = refl

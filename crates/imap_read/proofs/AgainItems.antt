@@ -12,7 +12,7 @@ use Rattle.imap_types.specs.declared.section.Section.{Section}
 use Rattle.imap_types.specs.declared.section.Section.TheVariants as section
 use Rattle.imap_types.proofs.DateTimeLemmas.{test_from_date_time}
 use Rattle.imap_print.specs.Appending.{has_none, spaced}
-use Rattle.imap_answers.specs.Printable.{AreFetchItems, AreFlags, AreHits, AreResults, AreStatusItems, Each, IsPart, IsSection, IsSmall, IsWide, Where}
+use Rattle.imap_answers.specs.Printable.{AreFetchItems, AreFlags, AreHits, AreResults, AreStatusItems, Each, IsModSeq, IsNonzero, IsPart, IsSection, IsSmall, IsWide, Where}
 use Rattle.imap_answers.specs.Printed.{all_text, body_text, date_item, fetch_texts, flags_item, flags_text, modseq_item, origin_text, results_text, section_text, status_texts}
 use Rattle.imap_read.specs.Reading.{◌>>=◌, Listed, after, counted, field_at, is_in, item_at, lead, literal_at, number_from, small, span, with_elements, within}
 use Rattle.imap_read.specs.ReadingAnswers.{all_or, bodies_at, bodies_on, body_at, data_at, date_at, date_or, fetch_items_at, fields_at, fields_on, flags_or, modseq_or, origin_or, results_at, section_at, small_option, status_items_at}
@@ -32,6 +32,14 @@ append_none (x ∷ xs) = ap (λ ys. x ∷ ys) (append_none xs)
 widened : (n : Option ℕ) → Where IsSmall n → Where IsWide n
 widened None h = tt
 widened (Some n) h = omega arith
+
+unzeroed : (n : Option ℕ) → Where IsNonzero n → Where IsSmall n
+unzeroed None h = tt
+unzeroed (Some n) h = h.1
+
+modseq_wide : (n : Option ℕ) → Where IsModSeq n → Where IsWide n
+modseq_wide None h = tt
+modseq_wide (Some n) h = h.1
 
 small_same : (n : Option ℕ) → Where IsSmall n → small_option n ≡ n
 small_same None h = refl
@@ -81,14 +89,14 @@ status-items-again items rest h =
     let l5 : list_all (apart (codes "DELETED ")) r5 ≡ true = apart_item (codes "DELETED ") (codes "SIZE ") items.size r6 refl (apart_item (codes "DELETED ") (codes "HIGHESTMODSEQ ") items.highest_modseq [] refl refl) in
     let l6 : list_all (apart (codes "SIZE ")) r6 ≡ true = apart_item (codes "SIZE ") (codes "HIGHESTMODSEQ ") items.highest_modseq [] refl refl in
     let p1 = ap (λ (ts : List (List ℕ)). item_at true (codes "MESSAGES ") (spaced true ts ++ end)) nested ∙ item-again true (codes "MESSAGES ") items.messages r1 end (widened items.messages h.messages) l1 (closes true 77 (codes "ESSAGES ") rest refl) (λ n. refl) in
-    let p2 = ap (λ (x : Listed (Option ℕ)). item_at x.1 (codes "UIDNEXT ") x.2) p1 ∙ item-again f1 (codes "UIDNEXT ") items.uidnext r2 end (widened items.uidnext h.uidnext) l2 (closes f1 85 (codes "IDNEXT ") rest refl) (λ n. refl) in
-    let p3 = ap (λ (x : Listed (Option ℕ)). item_at x.1 (codes "UIDVALIDITY ") x.2) p2 ∙ item-again f2 (codes "UIDVALIDITY ") items.uidvalidity r3 end (widened items.uidvalidity h.uidvalidity) l3 (closes f2 85 (codes "IDVALIDITY ") rest refl) (λ n. refl) in
+    let p2 = ap (λ (x : Listed (Option ℕ)). item_at x.1 (codes "UIDNEXT ") x.2) p1 ∙ item-again f1 (codes "UIDNEXT ") items.uidnext r2 end (widened items.uidnext (unzeroed items.uidnext h.uidnext)) l2 (closes f1 85 (codes "IDNEXT ") rest refl) (λ n. refl) in
+    let p3 = ap (λ (x : Listed (Option ℕ)). item_at x.1 (codes "UIDVALIDITY ") x.2) p2 ∙ item-again f2 (codes "UIDVALIDITY ") items.uidvalidity r3 end (widened items.uidvalidity (unzeroed items.uidvalidity h.uidvalidity)) l3 (closes f2 85 (codes "IDVALIDITY ") rest refl) (λ n. refl) in
     let p4 = ap (λ (x : Listed (Option ℕ)). item_at x.1 (codes "UNSEEN ") x.2) p3 ∙ item-again f3 (codes "UNSEEN ") items.unseen r4 end (widened items.unseen h.unseen) l4 (closes f3 85 (codes "NSEEN ") rest refl) (λ n. refl) in
     let p5 = ap (λ (x : Listed (Option ℕ)). item_at x.1 (codes "DELETED ") x.2) p4 ∙ item-again f4 (codes "DELETED ") items.deleted r5 end (widened items.deleted h.deleted) l5 (closes f4 68 (codes "ELETED ") rest refl) (λ n. refl) in
     let p6 = ap (λ (x : Listed (Option ℕ)). item_at x.1 (codes "SIZE ") x.2) p5 ∙ item-again f5 (codes "SIZE ") items.size r6 end h.size l6 (closes f5 83 (codes "IZE ") rest refl) (λ n. refl) in
-    let p7 = ap (λ (x : Listed (Option ℕ)). item_at x.1 (codes "HIGHESTMODSEQ ") x.2) p6 ∙ item-again f6 (codes "HIGHESTMODSEQ ") items.highest_modseq [] end h.highest_modseq refl (closes f6 72 (codes "IGHESTMODSEQ ") rest refl) (λ n. refl) in
+    let p7 = ap (λ (x : Listed (Option ℕ)). item_at x.1 (codes "HIGHESTMODSEQ ") x.2) p6 ∙ item-again f6 (codes "HIGHESTMODSEQ ") items.highest_modseq [] end (modseq_wide items.highest_modseq h.highest_modseq) refl (closes f6 72 (codes "IGHESTMODSEQ ") rest refl) (λ n. refl) in
     let done : (g : Bool) → spaced g [] ++ end ≡ end = λ g. nothing_left g end in
-    (λ k. (record { messages = (ap (λ (x : Listed (Option ℕ)). small_option x.0) p1 ∙ small_same items.messages h.messages) k; uidnext = (ap (λ (x : Listed (Option ℕ)). small_option x.0) p2 ∙ small_same items.uidnext h.uidnext) k; uidvalidity = (ap (λ (x : Listed (Option ℕ)). small_option x.0) p3 ∙ small_same items.uidvalidity h.uidvalidity) k; unseen = (ap (λ (x : Listed (Option ℕ)). small_option x.0) p4 ∙ small_same items.unseen h.unseen) k; deleted = (ap (λ (x : Listed (Option ℕ)). small_option x.0) p5 ∙ small_same items.deleted h.deleted) k; size = (p6 k).0; highest_modseq = (p7 k).0 }, (ap (λ (x : Listed (Option ℕ)). x.2) p7 ∙ done (f6 && has_none a7)) k))
+    (λ k. (record { messages = (ap (λ (x : Listed (Option ℕ)). small_option x.0) p1 ∙ small_same items.messages h.messages) k; uidnext = (ap (λ (x : Listed (Option ℕ)). small_option x.0) p2 ∙ small_same items.uidnext (unzeroed items.uidnext h.uidnext)) k; uidvalidity = (ap (λ (x : Listed (Option ℕ)). small_option x.0) p3 ∙ small_same items.uidvalidity (unzeroed items.uidvalidity h.uidvalidity)) k; unseen = (ap (λ (x : Listed (Option ℕ)). small_option x.0) p4 ∙ small_same items.unseen h.unseen) k; deleted = (ap (λ (x : Listed (Option ℕ)). small_option x.0) p5 ∙ small_same items.deleted h.deleted) k; size = (p6 k).0; highest_modseq = (p7 k).0 }, (ap (λ (x : Listed (Option ℕ)). x.2) p7 ∙ done (f6 && has_none a7)) k))
 
 -- texts with octets on a list take as many octets as there are texts
 lead_fits : (f : Bool) (t rest : List ℕ) → 0 < length t → suc (length rest) ≤ length (lead f t ++ rest)
@@ -139,8 +147,8 @@ unfolding section_at
 section-again section.Whole rest h = refl
 section-again section.Header rest h = refl
 section-again section.Text rest h = refl
-section-again (section.Fields names) rest h = ap (within (λ n. section.Fields n)) (fields_listed names (93 ∷ rest) h)
-section-again (section.FieldsNot names) rest h = ap (within (λ n. section.FieldsNot n)) (fields_listed names (93 ∷ rest) h)
+section-again (section.Fields names) rest h = ap (within (λ n. section.Fields n)) (fields_listed names (93 ∷ rest) h.1)
+section-again (section.FieldsNot names) rest h = ap (within (λ n. section.FieldsNot n)) (fields_listed names (93 ∷ rest) h.1)
 
 -- where a partial begins
 origin-again : (origin : Option ℕ) (rest : List ℕ) → Where IsSmall origin → origin_or (after (codes "<") (origin_text origin ++ (32 ∷ rest))) (origin_text origin ++ (32 ∷ rest)) ≡ Some (origin, 32 ∷ rest)
@@ -282,11 +290,11 @@ fetch-items-again items rest h =
     let l3 : list_all (apart (codes "INTERNALDATE ")) r3 ≡ true = apart_item (codes "INTERNALDATE ") (codes "RFC822.SIZE ") items.size r4 refl (apart_modseq (codes "INTERNALDATE ") items.modseq a6 (λ x. refl) (apart_bodies (codes "INTERNALDATE ") items.sections (λ x. refl))) in
     let l4 : list_all (apart (codes "RFC822.SIZE ")) r4 ≡ true = apart_modseq (codes "RFC822.SIZE ") items.modseq a6 (λ x. refl) (apart_bodies (codes "RFC822.SIZE ") items.sections (λ x. refl)) in
     let l5 : list_all (apart (codes "MODSEQ (")) a6 ≡ true = apart_bodies (codes "MODSEQ (") items.sections (λ x. refl) in
-    let p1 = ap (λ (ts : List (List ℕ)). item_at true (codes "UID ") (spaced true ts ++ end)) nested ∙ item-again true (codes "UID ") items.uid r1 end (widened items.uid h.uid) l1 (closes true 85 (codes "ID ") rest refl) (λ n. refl) in
+    let p1 = ap (λ (ts : List (List ℕ)). item_at true (codes "UID ") (spaced true ts ++ end)) nested ∙ item-again true (codes "UID ") items.uid r1 end (widened items.uid (unzeroed items.uid h.uid)) l1 (closes true 85 (codes "ID ") rest refl) (λ n. refl) in
     let p2 = flags-item-again f1 items.flags r2 end h.flags l2 (closes f1 70 (codes "LAGS ") rest refl) in
     let p3 = date-item-again f2 items.date r3 end h.date l3 (closes f2 73 (codes "NTERNALDATE ") rest refl) in
     let p4 = item-again f3 (codes "RFC822.SIZE ") items.size r4 end h.size l4 (closes f3 82 (codes "FC822.SIZE ") rest refl) (λ n. refl) in
-    let p5 = modseq-item-again f4 items.modseq a6 end h.modseq l5 (closes f4 77 (codes "ODSEQ (") rest refl) in
+    let p5 = modseq-item-again f4 items.modseq a6 end (modseq_wide items.modseq h.modseq) l5 (closes f4 77 (codes "ODSEQ (") rest refl) in
     let bytes5 = spaced f5 a6 ++ end in
     let fits : length items.sections < length bytes5 + 1 = omega (arith, texts_fit f5 a6 end (bodies_filled items.sections), length-map items.sections body_text) in
     let p6 = bodies-again (length bytes5 + 1) f5 items.sections rest h.sections fits in
@@ -313,7 +321,7 @@ fetch-items-again items rest h =
     ∙ ap (λ o. o >>= λ modseq. bodies_at (length modseq.2 + 1) modseq.1 modseq.2 >>= λ parts.
     Some (record { uid = small_option items.uid; flags = items.flags; date = items.date; size = items.size; modseq = modseq.0; sections = parts.0 }, parts.1)) p5
     ∙ ap (λ o. o >>= λ parts. Some (record { uid = small_option items.uid; flags = items.flags; date = items.date; size = items.size; modseq = items.modseq; sections = parts.0 }, parts.1)) p6
-    ∙ ap (λ u. Some (record { uid = u; flags = items.flags; date = items.date; size = items.size; modseq = items.modseq; sections = items.sections }, end)) (small_same items.uid h.uid)
+    ∙ ap (λ u. Some (record { uid = u; flags = items.flags; date = items.date; size = items.size; modseq = items.modseq; sections = items.sections }, end)) (small_same items.uid (unzeroed items.uid h.uid))
 
 -- the end of a line ends a set of numbers, and so does a space or a bracket
 line_ends : (rest : List ℕ) → EndsSet (13 ∷ rest)
@@ -413,13 +421,13 @@ results-again results rest h =
     let l2 : list_all (apart (codes "MAX ")) r2 ≡ true = apart_all (codes "MAX ") results.all r3 (λ x. refl) (apart_item (codes "MAX ") (codes "COUNT ") results.count r4 refl (apart_item (codes "MAX ") (codes "MODSEQ ") results.modseq [] refl refl)) in
     let l3 : list_all (apart (codes "ALL ")) r3 ≡ true = apart_item (codes "ALL ") (codes "COUNT ") results.count r4 refl (apart_item (codes "ALL ") (codes "MODSEQ ") results.modseq [] refl refl) in
     let l4 : list_all (apart (codes "COUNT ")) r4 ≡ true = apart_item (codes "COUNT ") (codes "MODSEQ ") results.modseq [] refl refl in
-    let p1 = ap (λ (x : List ℕ). item_at false (codes "MIN ") (x ++ end)) (results_listed results) ∙ item-again false (codes "MIN ") results.min r1 end (widened results.min h.min) l1 refl (λ n. refl) in
-    let p2 = ap (λ (x : Listed (Option ℕ)). item_at false (codes "MAX ") x.2) p1 ∙ item-again false (codes "MAX ") results.max r2 end (widened results.max h.max) l2 refl (λ n. refl) in
+    let p1 = ap (λ (x : List ℕ). item_at false (codes "MIN ") (x ++ end)) (results_listed results) ∙ item-again false (codes "MIN ") results.min r1 end (widened results.min (unzeroed results.min h.min)) l1 refl (λ n. refl) in
+    let p2 = ap (λ (x : Listed (Option ℕ)). item_at false (codes "MAX ") x.2) p1 ∙ item-again false (codes "MAX ") results.max r2 end (widened results.max (unzeroed results.max h.max)) l2 refl (λ n. refl) in
     let p3 = all-again results.all r3 rest h.all l3 in
     let p4 = item-again false (codes "COUNT ") results.count r4 end (widened results.count h.count) l4 refl (λ n. refl) in
-    let p5 = ap (λ (x : Listed (Option ℕ)). item_at false (codes "MODSEQ ") x.2) p4 ∙ item-again false (codes "MODSEQ ") results.modseq [] end h.modseq refl refl (λ n. refl) in
+    let p5 = ap (λ (x : Listed (Option ℕ)). item_at false (codes "MODSEQ ") x.2) p4 ∙ item-again false (codes "MODSEQ ") results.modseq [] end (modseq_wide results.modseq h.modseq) refl refl (λ n. refl) in
     (λ k. all_or (after (codes " ALL ") (p2 k).2) (p2 k).2 >>= λ all.
     Some (record { min = small_option (p1 k).0; max = small_option (p2 k).0; all = all.0; count = small_option (item_at false (codes "COUNT ") all.1).0; modseq = (item_at false (codes "MODSEQ ") (item_at false (codes "COUNT ") all.1).2).0 }, (item_at false (codes "MODSEQ ") (item_at false (codes "COUNT ") all.1).2).2))
     ∙ ap (λ o. o >>= λ all.
     Some (record { min = small_option results.min; max = small_option results.max; all = all.0; count = small_option (item_at false (codes "COUNT ") all.1).0; modseq = (item_at false (codes "MODSEQ ") (item_at false (codes "COUNT ") all.1).2).0 }, (item_at false (codes "MODSEQ ") (item_at false (codes "COUNT ") all.1).2).2)) p3
-    ∙ (λ k. Some (record { min = small_same results.min h.min k; max = small_same results.max h.max k; all = results.all; count = (ap (λ (x : Listed (Option ℕ)). small_option x.0) p4 ∙ small_same results.count h.count) k; modseq = (p5 k).0 }, (p5 k).2))
+    ∙ (λ k. Some (record { min = small_same results.min (unzeroed results.min h.min) k; max = small_same results.max (unzeroed results.max h.max) k; all = results.all; count = (ap (λ (x : Listed (Option ℕ)). small_option x.0) p4 ∙ small_same results.count h.count) k; modseq = (p5 k).0 }, (p5 k).2))

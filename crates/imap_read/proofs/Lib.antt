@@ -1,4 +1,5 @@
 pub mod ReadingLemmas
+pub mod CountLemmas
 pub mod Again
 pub mod AgainLists
 pub mod AgainItems

@@ -1,19 +1,19 @@
-//! Whether an answer can stand in the protocol (RFC 9051, section 9). Of what the types of the program let through, a tag,
-//! keywords, names and sets have to be tested; the functions without a result say what every value of a type keeps.
+//! Whether an answer may be sent (RFC 9051, section 9). Of what the types of the program let through, tags, keywords, names, sets,
+//! numbers from 1 on and what may not be empty have to be tested; the functions without a result say what every value of a
+//! type keeps.
 
-ghost use Rattle.std.specs.Prelude.{◌≡◌, ◌↔◌, not, ◌&&◌, ◌==◌, length, IsTrue};
+ghost use Rattle.std.specs.Prelude.{◌≡◌, ◌↔◌, ◌+◌, ◌-◌, ◌^◌, min, not, ◌&&◌, ◌==◌, length, map, suc, sum, IsTrue};
 ghost use Rattle.std.specs.List.{list_all};
 ghost use Rattle.imap_types.specs.DateTimes.{IsDateTime};
-ghost use Rattle.imap_types.specs.Numbers.{AreRisingFrom, greatest};
-ghost use Rattle.imap_answers.specs.Printable.{AreFetchItems, AreFlags, AreResults, AreStatusItems, Each, IsAtom, IsCode, IsFolded, IsNotice, IsPart, IsPrintable, IsSection, IsSet, IsSmall, IsTag, IsWide, Where};
+ghost use Rattle.imap_types.specs.Numbers.{AreRisingFrom, greatest, numbers_in};
+ghost use Rattle.imap_answers.specs.Printable.{AreFetchItems, AreFieldNames, AreFlags, AreResults, AreStatusItems, Each, IsAtom, IsCode, IsCopied, IsFolded, IsModSeq, IsNonzero, IsNotice, IsPart, IsPrintable, IsSection, IsSet, IsSmall, IsTag, IsWide, Where, tells_of_mailbox, tells_of_message};
 ghost use Rattle.imap_read.specs.Reading.{is_in};
 
 use crate::scan::Class;
 use imap_answers::{Answer, Code, FetchItems, Notice, SearchResults, SectionData, StatusItems};
-use imap_types::{DateTime, Flags, Name, NumberSet, Octets, Section};
+use imap_types::{DateTime, Flags, Name, NumberSet, Octets, Run, Section};
 
-/// Whether an answer can be printed: its tag is a tag, its keywords are atoms, its name is folded, and no set that it has
-/// to name is empty.
+/// Whether an answer may be sent.
 pub fn is_printable(answer: &Answer) -> bool
     ensures { IsTrue result ↔ IsPrintable answer.now }
 {
@@ -23,24 +23,12 @@ pub fn is_printable(answer: &Answer) -> bool
             small_fits(*count);
             true
         }
-        Answer::Expunge { number } => {
-            small_fits(*number);
-            true
-        }
+        Answer::Expunge { number } => is_nonzero(*number),
         Answer::List { name, .. } => is_folded(name),
         Answer::Tell { notice } => is_notice(notice),
-        Answer::Status { name, items } => {
-            status_items_fit(items);
-            is_folded(name)
-        }
-        Answer::Search { tag, results, .. } => {
-            results_fit(results);
-            is_tag(tag)
-        }
-        Answer::Fetch { number, items } => {
-            small_fits(*number);
-            are_fetch_items(items)
-        }
+        Answer::Status { name, items } => is_folded(name) && are_status_items(items),
+        Answer::Search { tag, results, .. } => is_tag(tag) && are_results(results),
+        Answer::Fetch { number, items } => is_nonzero(*number) && are_fetch_items(items),
         Answer::Completed { tag, code, .. } => is_tag(tag) && is_code_if_any(code),
         Answer::Refused { tag, .. } => is_tag(tag),
         _ => true,
@@ -51,27 +39,15 @@ fn is_notice(notice: &Notice) -> bool
     ensures { IsTrue result ↔ IsNotice notice.now }
 {
     match notice {
-        Notice::UidValidity { value } => {
-            small_fits(*value);
-            true
-        }
-        Notice::UidNext { uid } => {
-            small_fits(*uid);
-            true
-        }
+        Notice::UidValidity { value } => is_nonzero(*value),
+        Notice::UidNext { uid } => is_nonzero(*uid),
         Notice::PermanentFlags { flags } => are_flags_if_any(flags),
-        Notice::HighestModSeq { modseq } => {
-            wide_fits(*modseq);
-            true
-        }
+        Notice::HighestModSeq { modseq } => is_modseq(*modseq),
         Notice::CopyUid {
             uidvalidity,
             source,
             copies,
-        } => {
-            small_fits(*uidvalidity);
-            is_set(source) && is_set(copies)
-        }
+        } => is_copied(*uidvalidity, source, copies),
         _ => true,
     }
 }
@@ -89,33 +65,133 @@ fn is_code(code: &Code) -> bool
     ensures { IsTrue result ↔ IsCode code.now }
 {
     match code {
-        Code::AppendUid { uidvalidity, uid } => {
-            small_fits(*uidvalidity);
-            small_fits(*uid);
-            true
-        }
+        Code::AppendUid { uidvalidity, uid } => is_nonzero(*uidvalidity) && is_nonzero(*uid),
         Code::CopyUid {
             uidvalidity,
             source,
             copies,
-        } => {
-            small_fits(*uidvalidity);
-            is_set(source) && is_set(copies)
-        }
+        } => is_copied(*uidvalidity, source, copies),
         Code::Modified { refused } => is_set(refused),
         _ => true,
     }
 }
 
+/// Whether a UIDVALIDITY stands before two sets of one size that aren't empty.
+fn is_copied(uidvalidity: u32, source: &NumberSet, copies: &NumberSet) -> bool
+    ensures { IsTrue result ↔ IsCopied uidvalidity source.now copies.now }
+{
+    if !is_nonzero(uidvalidity) {
+        return false;
+    }
+    if !is_set(source) {
+        return false;
+    }
+    if !is_set(copies) {
+        return false;
+    }
+    count(source) == count(copies)
+}
+
+/// How many numbers a set has.
+fn count(set: &NumberSet) -> u64
+    ensures { result ≡ length set.now }
+{
+    set_fits(set);
+    count_in(set.runs())
+}
+
+/// How many numbers runs have, or the greatest `u64` where they are more.
+fn count_in(runs: &[Run]) -> u64
+    ensures { result ≡ min (length (numbers_in runs.now)) (2 ^ 64 - 1) }
+{
+    let mut count: u64 = 0;
+    for run in runs {
+        count = count.saturating_add(size(run));
+    }
+    count
+}
+
+/// How many numbers a run has.
+fn size(run: &Run) -> u64
+    ensures { result ≡ suc (run.now.last - run.now.first) }
+{
+    u64::from(run.last.saturating_sub(run.first)) + 1
+}
+
+fn are_status_items(items: &StatusItems) -> bool
+    ensures { IsTrue result ↔ AreStatusItems items.now }
+{
+    small_fits_if_any(items.messages);
+    small_fits_if_any(items.unseen);
+    small_fits_if_any(items.deleted);
+    wide_fits_if_any(items.size);
+    if !is_nonzero_if_any(items.uidnext) {
+        return false;
+    }
+    if !is_nonzero_if_any(items.uidvalidity) {
+        return false;
+    }
+    if !is_modseq_if_any(items.highest_modseq) {
+        return false;
+    }
+    tells_of_mailbox(items)
+}
+
+fn tells_of_mailbox(items: &StatusItems) -> bool
+    ensures { result ≡ tells_of_mailbox items.now }
+{
+    items.messages.is_some()
+        || items.uidnext.is_some()
+        || items.uidvalidity.is_some()
+        || items.unseen.is_some()
+        || items.deleted.is_some()
+        || items.size.is_some()
+        || items.highest_modseq.is_some()
+}
+
+fn are_results(results: &SearchResults) -> bool
+    ensures { IsTrue result ↔ AreResults results.now }
+{
+    set_fits(&results.all);
+    small_fits_if_any(results.count);
+    if !is_nonzero_if_any(results.min) {
+        return false;
+    }
+    if !is_nonzero_if_any(results.max) {
+        return false;
+    }
+    is_modseq_if_any(results.modseq)
+}
+
 fn are_fetch_items(items: &FetchItems) -> bool
     ensures { IsTrue result ↔ AreFetchItems items.now }
 {
-    small_fits_if_any(items.uid);
     date_fits(&items.date);
     wide_fits_if_any(items.size);
-    wide_fits_if_any(items.modseq);
-    parts_fit(items.sections.parts());
-    are_flags_if_any(&items.flags)
+    if !is_nonzero_if_any(items.uid) {
+        return false;
+    }
+    if !is_modseq_if_any(items.modseq) {
+        return false;
+    }
+    if !are_flags_if_any(&items.flags) {
+        return false;
+    }
+    if !are_parts(items.sections.parts()) {
+        return false;
+    }
+    tells_of_message(items)
+}
+
+fn tells_of_message(items: &FetchItems) -> bool
+    ensures { result ≡ tells_of_message items.now }
+{
+    items.uid.is_some()
+        || items.flags.is_some()
+        || items.date.is_some()
+        || items.size.is_some()
+        || items.modseq.is_some()
+        || !items.sections.parts().is_empty()
 }
 
 fn are_flags_if_any(flags: &Option<Flags>) -> bool
@@ -197,28 +273,6 @@ fn set_fits(set: &NumberSet)
     let _greatest = set.greatest();
 }
 
-fn results_fit(results: &SearchResults)
-    ensures { AreResults results.now }
-{
-    small_fits_if_any(results.min);
-    small_fits_if_any(results.max);
-    set_fits(&results.all);
-    small_fits_if_any(results.count);
-    wide_fits_if_any(results.modseq);
-}
-
-fn status_items_fit(items: &StatusItems)
-    ensures { AreStatusItems items.now }
-{
-    small_fits_if_any(items.messages);
-    small_fits_if_any(items.uidnext);
-    small_fits_if_any(items.uidvalidity);
-    small_fits_if_any(items.unseen);
-    small_fits_if_any(items.deleted);
-    wide_fits_if_any(items.size);
-    wide_fits_if_any(items.highest_modseq);
-}
-
 fn date_fits(date: &Option<DateTime>)
     ensures { Where IsDateTime date.now }
 {
@@ -227,30 +281,40 @@ fn date_fits(date: &Option<DateTime>)
     }
 }
 
-fn parts_fit(parts: &[SectionData])
-    ensures { Each IsPart parts.now }
+fn are_parts(parts: &[SectionData]) -> bool
+    ensures { IsTrue result ↔ Each IsPart parts.now }
 {
     for part in parts {
-        part_fits(part);
+        if !is_part(part) {
+            return false;
+        }
     }
+    true
 }
 
-fn part_fits(part: &SectionData)
-    ensures { IsPart part.now }
+fn is_part(part: &SectionData) -> bool
+    ensures { IsTrue result ↔ IsPart part.now }
 {
-    section_fits(&part.section);
     small_fits_if_any(part.origin);
     octets_fit(&part.octets);
+    is_section(&part.section)
 }
 
-fn section_fits(section: &Section)
-    ensures { IsSection section.now }
+fn is_section(section: &Section) -> bool
+    ensures { IsTrue result ↔ IsSection section.now }
 {
     match section {
-        Section::Fields { names } => names_fit(names.names()),
-        Section::FieldsNot { names } => names_fit(names.names()),
-        _ => {}
+        Section::Fields { names } => are_field_names(names.names()),
+        Section::FieldsNot { names } => are_field_names(names.names()),
+        _ => true,
     }
+}
+
+fn are_field_names(names: &[Octets]) -> bool
+    ensures { IsTrue result ↔ AreFieldNames names.now }
+{
+    names_fit(names);
+    !names.is_empty()
 }
 
 fn names_fit(names: &[Octets])
@@ -267,16 +331,44 @@ fn octets_fit(octets: &Octets)
     let _count = octets.as_bytes().len();
 }
 
+/// From 1 on.
+fn is_nonzero(number: u32) -> bool
+    ensures { IsTrue result ↔ IsNonzero number }
+{
+    number != 0
+}
+
+fn is_nonzero_if_any(number: Option<u32>) -> bool
+    ensures { IsTrue result ↔ Where IsNonzero number }
+{
+    match number {
+        None => true,
+        Some(number) => is_nonzero(number),
+    }
+}
+
+/// From 1 on.
+fn is_modseq(modseq: u64) -> bool
+    ensures { IsTrue result ↔ IsModSeq modseq }
+{
+    modseq != 0
+}
+
+fn is_modseq_if_any(modseq: Option<u64>) -> bool
+    ensures { IsTrue result ↔ Where IsModSeq modseq }
+{
+    match modseq {
+        None => true,
+        Some(modseq) => is_modseq(modseq),
+    }
+}
+
 fn small_fits(number: u32)
     ensures { IsSmall number }
 {}
 
 fn small_fits_if_any(number: Option<u32>)
     ensures { Where IsSmall number }
-{}
-
-fn wide_fits(number: u64)
-    ensures { IsWide number }
 {}
 
 fn wide_fits_if_any(number: Option<u64>)

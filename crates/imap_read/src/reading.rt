@@ -26,6 +26,7 @@ pub fn read(alloc: Global, text: &[u8]) -> Result<Option<(Answer, usize)>, Alloc
         Err(ReadFault::NotPrinted) => Ok(None),
         Ok((answer, _)) => {
             if !is_printable(&answer) {
+                drop(answer);
                 return Ok(None);
             }
             printed_so(alloc, answer, text)
