@@ -1,9 +1,7 @@
-//! Tests of the texts: framing, grammar, printing and mail texts.
+//! Tests of the texts that are no cases of `imap_cases`: what a frame hands over, and laws that can be called.
 #![tactic(auto)]
 
 #[cfg(test)]
-mod answers;
+mod frames;
 #[cfg(test)]
-mod framing;
-#[cfg(test)]
-mod grammar;
+mod laws;

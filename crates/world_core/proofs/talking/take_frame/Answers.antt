@@ -23,7 +23,7 @@ pub returns-in-Command-clause-err : goal.returns-in-Command-clause-err
 returns-in-Command-clause-err c =
     let spelled = subst (IsInput c.args.octets.now) c.in-Command.is (c.in_ok-input.ensures {u = tt}) in
     let reply = c.command-reply.result in
-    let taken : TakesFrame c.args.node.now c.args.session c.args.octets.now (answers_of reply) c.command-reply.new.self = inl (c.in-Command.tagged, reply, spelled, c.command-reply.ensures, refl) in
+    let taken : TakesFrame c.args.node.now c.args.session c.args.octets.now (answers_of reply) c.command-reply.new.self = inl (c.in-Command.tagged, reply, spelled, c.command-reply.ensures.responds, refl) in
     frame_broken c.args.session c.args.octets.now _ _ _ (c.in_ok-show.ensures {u = tt}).ok c.args.node.now c.command-reply.new.self _ c.send_reply.result taken c.send_reply.ensures.err
 
 pub returns-in_err-show-clause-err : goal.returns-in_err-show-clause-err

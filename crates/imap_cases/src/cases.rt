@@ -1,0 +1,72 @@
+//! The lines of cases.
+
+use crate::repeats::{written_out, written_short};
+use crate::words::Words;
+use crate::{frames, made, round_trips, streams};
+use imap_lex::Limits;
+use imap_types::{Escape, EscapeFault, read_escaped, write_escaped};
+use std::alloc::{AllocError, Global};
+
+/// The line with its LF. In a case, `KIND INPUT => ANSWER`, the answer is what the code answers now; comments, which begin with
+/// `#`, and empty lines are as they were.
+pub fn answered(alloc: Global, line: &str) -> Result<Vec<u8>, AllocError> {
+    let mut words = Words::new(alloc);
+    if line.is_empty() || line.starts_with('#') {
+        words.put(line.as_bytes());
+    } else {
+        put_case(alloc, &mut words, line);
+    }
+    words.put(b"\n");
+    words.finish()
+}
+
+fn put_case(alloc: Global, words: &mut Words, line: &str) {
+    match line.split_once(" => ") {
+        Some((case, _)) => {
+            words.put(case.as_bytes());
+            words.put(b" => ");
+            let (kind, input) = case.split_once(' ').unwrap_or((case, ""));
+            words.put_result(answer_to(alloc, kind, input));
+        }
+        None => {
+            words.put(line.as_bytes());
+            words.put(b" => no case");
+        }
+    }
+}
+
+/// What the code answers, in the escape.
+fn answer_to(alloc: Global, kind: &str, input: &str) -> Result<Vec<u8>, AllocError> {
+    let text = written_out(alloc, input)?;
+    match read_escaped(alloc, Escape::Text, &text) {
+        Ok(octets) => {
+            let mut words = Words::new(alloc);
+            put_answer(alloc, &mut words, kind, octets.as_bytes());
+            escaped(alloc, &words.finish()?)
+        }
+        Err(EscapeFault::NotEscaped) => b"not in the escape".to_vec(alloc),
+        Err(EscapeFault::NoMemory) => Err(AllocError),
+    }
+}
+
+fn escaped(alloc: Global, octets: &[u8]) -> Result<Vec<u8>, AllocError> {
+    let mut text = Vec::new(alloc);
+    write_escaped(Escape::Text, octets, &mut text)?;
+    written_short(alloc, &text)
+}
+
+fn put_answer(alloc: Global, words: &mut Words, kind: &str, input: &[u8]) {
+    match kind {
+        "command" => frames::put_command(alloc, words, input),
+        "damaged" => frames::put_damaged(alloc, words, input),
+        "tag" => frames::put_tag(words, input),
+        "idle" => frames::put_idle(words, input),
+        "stream" => streams::put_stream(alloc, words, Limits::STANDARD, input),
+        "narrow" => streams::put_stream(alloc, words, streams::NARROW, input),
+        "answer" => round_trips::put_read(alloc, words, input),
+        "mailbox" => made::put_mailbox(alloc, words, input),
+        "flags" => made::put_flags(alloc, words, input),
+        "numbers" => made::put_numbers(alloc, words, input),
+        _ => words.put(b"no such kind"),
+    }
+}

@@ -1,0 +1,116 @@
+//! Answers read and printed.
+
+use crate::answers::put_answer;
+use crate::words::Words;
+use imap_print::{Answer, print};
+use imap_read::read;
+use std::alloc::{AllocError, Global};
+
+/// The answer that a text is. Where the text isn't the one text of that answer, what is amiss follows.
+pub fn put_read(alloc: Global, words: &mut Words, text: &[u8]) {
+    match read(alloc, text) {
+        Ok(Some((answer, length))) => {
+            put_answer(words, &answer);
+            put_amiss(alloc, words, &answer, length, text);
+            drop(answer);
+        }
+        Ok(None) => words.put(b"none"),
+        Err(AllocError) => words.give_up(),
+    }
+}
+
+fn put_amiss(alloc: Global, words: &mut Words, answer: &Answer, length: usize, text: &[u8]) {
+    match amiss(alloc, answer, length, text) {
+        Ok(what) => words.put(what),
+        Err(AllocError) => words.give_up(),
+    }
+}
+
+/// What is amiss: the text is put behind what is there where the answer is printed, it is read as the answer whatever
+/// follows it, and no front of it is read. A copy is the same answer.
+fn amiss(
+    alloc: Global,
+    answer: &Answer,
+    length: usize,
+    text: &[u8],
+) -> Result<&'static [u8], AllocError> {
+    if length != text.len() {
+        return Ok(b", and more follows");
+    }
+    if !is_printed(alloc, answer, text)? {
+        return Ok(b", printed otherwise");
+    }
+    if !is_copied(alloc, answer)? {
+        return Ok(b", copied otherwise");
+    }
+    if !is_read_before_all(alloc, answer, text)? {
+        return Ok(b", read otherwise where more follows");
+    }
+    if is_front_read(alloc, text)? {
+        return Ok(b", and a front is read");
+    }
+    Ok(b"")
+}
+
+fn is_printed(alloc: Global, answer: &Answer, text: &[u8]) -> Result<bool, AllocError> {
+    let mut out = b"+ idling\r\n".to_vec(alloc)?;
+    print(answer, &mut out)?;
+    Ok(out.strip_prefix(b"+ idling\r\n") == Some(text))
+}
+
+fn is_copied(alloc: Global, answer: &Answer) -> Result<bool, AllocError> {
+    let copy = answer.copy(alloc)?;
+    let is_same = copy.same(answer);
+    drop(copy);
+    Ok(is_same)
+}
+
+fn is_read_before_all(alloc: Global, answer: &Answer, text: &[u8]) -> Result<bool, AllocError> {
+    for more in [b"".as_slice(), b"\r\n", b" ok\r\n", b"1", b")\r\n", text] {
+        if !is_read_before(alloc, answer, text, more)? {
+            return Ok(false);
+        }
+    }
+    Ok(true)
+}
+
+fn is_read_before(
+    alloc: Global,
+    answer: &Answer,
+    text: &[u8],
+    more: &[u8],
+) -> Result<bool, AllocError> {
+    let mut input = text.to_vec(alloc)?;
+    input.extend_from_slice(more)?;
+    match read(alloc, &input)? {
+        Some((found, length)) => {
+            let is_same = found.same(answer) && length == text.len();
+            drop(found);
+            Ok(is_same)
+        }
+        None => Ok(false),
+    }
+}
+
+/// How many fronts of a text are read at most: the longest.
+const FRONTS: usize = 500;
+
+fn is_front_read(alloc: Global, text: &[u8]) -> Result<bool, AllocError> {
+    for length in text.len().saturating_sub(FRONTS)..text.len() {
+        let (front, _) = text.split_at(length);
+        if is_read(alloc, front)? {
+            return Ok(true);
+        }
+    }
+    Ok(false)
+}
+
+fn is_read(alloc: Global, text: &[u8]) -> Result<bool, AllocError> {
+    match read(alloc, text)? {
+        Some((answer, _)) => {
+            drop(answer);
+            Ok(true)
+        }
+        None => Ok(false),
+    }
+}

@@ -1,0 +1,160 @@
+//! How the framer cuts streams into commands.
+
+use crate::words::Words;
+use imap_lex::{FrameFault, Framer, Item, Limits};
+use std::alloc::{AllocError, Global};
+
+/// Limits at which short streams are too long.
+pub const NARROW: Limits = Limits {
+    line: 9,
+    literals: 4,
+};
+
+/// In pieces of how many octets streams come, besides octet by octet.
+const SIZES: [usize; 5] = [2, 3, 100, 1_000, 2_000_000];
+
+/// Streams of so many octets come also in two pieces, in every way.
+const SHORT: usize = 100;
+
+/// What a stream gives octet by octet: `(ready)`, `(frame OCTETS)`, `(refused OCTETS)`, and the first fault with what the
+/// framer answers to one octet more. Where another cutting gives something else that follows.
+pub fn put_stream(alloc: Global, words: &mut Words, limits: Limits, stream: &[u8]) {
+    match in_pieces(alloc, limits, b"", stream, 1) {
+        Ok(given) => {
+            words.put(&given);
+            put_other_cuts(alloc, words, limits, stream, &given);
+        }
+        Err(AllocError) => words.give_up(),
+    }
+}
+
+fn put_other_cuts(alloc: Global, words: &mut Words, limits: Limits, stream: &[u8], given: &[u8]) {
+    match other_size(alloc, limits, stream, given) {
+        Ok(None) => {}
+        Ok(Some(size)) => words.put_number(b", otherwise in pieces of ", size as u64),
+        Err(AllocError) => words.give_up(),
+    }
+    match other_cut(alloc, limits, stream, given) {
+        Ok(None) => {}
+        Ok(Some(first)) => words.put_number(b", otherwise when cut behind ", first as u64),
+        Err(AllocError) => words.give_up(),
+    }
+}
+
+/// The first size of pieces in which the stream gives something else.
+fn other_size(
+    alloc: Global,
+    limits: Limits,
+    stream: &[u8],
+    given: &[u8],
+) -> Result<Option<usize>, AllocError> {
+    for size in SIZES {
+        if in_pieces(alloc, limits, b"", stream, size)?.as_slice() != given {
+            return Ok(Some(size));
+        }
+    }
+    Ok(None)
+}
+
+/// The first place where the stream can be cut in two so that it gives something else.
+fn other_cut(
+    alloc: Global,
+    limits: Limits,
+    stream: &[u8],
+    given: &[u8],
+) -> Result<Option<usize>, AllocError> {
+    for first in 0..stream.len().min(SHORT) {
+        let (front, back) = stream.split_at(first);
+        if in_pieces(alloc, limits, front, back, SHORT)?.as_slice() != given {
+            return Ok(Some(first));
+        }
+    }
+    Ok(None)
+}
+
+/// What a stream gives, its front in one piece and the rest in pieces of this size.
+fn in_pieces(
+    alloc: Global,
+    limits: Limits,
+    front: &[u8],
+    rest: &[u8],
+    size: usize,
+) -> Result<Vec<u8>, AllocError> {
+    let mut framing = Framing::new(alloc, limits);
+    framing.feed(front);
+    for piece in rest.chunks(size.max(1)) {
+        framing.feed(piece);
+    }
+    framing.finish()
+}
+
+/// A framer and what it gave.
+#[derive(Drop)]
+struct Framing {
+    alloc: Global,
+    framer: Framer,
+    words: Words,
+    has_failed: bool,
+}
+
+impl Framing {
+    fn new(alloc: Global, limits: Limits) -> Framing {
+        Framing {
+            alloc,
+            framer: Framer::new(alloc, limits),
+            words: Words::new(alloc),
+            has_failed: false,
+        }
+    }
+
+    fn finish(self) -> Result<Vec<u8>, AllocError> {
+        self.words.finish()
+    }
+
+    /// Feeds one piece, and one octet more behind a fault.
+    fn feed(&mut self, piece: &[u8]) {
+        if self.has_failed {
+            return;
+        }
+        self.feed_any(piece);
+        if self.has_failed {
+            self.feed_any(b"\n");
+        }
+    }
+
+    fn feed_any(&mut self, piece: &[u8]) {
+        match self.framer.feed(self.alloc, piece) {
+            Ok(items) => put_items(&mut self.words, &items),
+            Err(fault) => {
+                self.has_failed = true;
+                put_fault(&mut self.words, &fault);
+            }
+        }
+    }
+}
+
+fn put_fault(words: &mut Words, fault: &FrameFault) {
+    put_items(words, &fault.items);
+    words.put_name(b"(", &fault.why);
+    words.put(b")");
+}
+
+fn put_items(words: &mut Words, items: &[Item]) {
+    for item in items {
+        put_item(words, item);
+    }
+}
+
+fn put_item(words: &mut Words, item: &Item) {
+    match item {
+        Item::Ready => words.put(b"(ready)"),
+        Item::Frame(frame) => put_octets(words, b"(frame ", frame.bytes()),
+        Item::Refused(front) => put_octets(words, b"(refused ", front.bytes()),
+    }
+}
+
+fn put_octets(words: &mut Words, word: &[u8], octets: &[u8]) {
+    words.put(word);
+    words.put(octets);
+    words.put(b")");
+}

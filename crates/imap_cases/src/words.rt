@@ -1,0 +1,104 @@
+//! Texts under way.
+
+use std::alloc::{AllocError, Global};
+use std::fmt::Debug;
+
+/// A text that grows at its end. Once memory ran out it isn't whole, and can't be had any more.
+#[derive(Drop)]
+pub struct Words {
+    alloc: Global,
+    octets: Vec<u8>,
+    is_whole: bool,
+}
+
+impl Words {
+    /// The empty text.
+    pub fn new(alloc: Global) -> Words {
+        Words {
+            alloc,
+            octets: Vec::new(alloc),
+            is_whole: true,
+        }
+    }
+
+    /// The text; `Err` where there was no memory for it.
+    pub fn finish(self) -> Result<Vec<u8>, AllocError> {
+        if self.is_whole {
+            Ok(self.octets)
+        } else {
+            Err(AllocError)
+        }
+    }
+
+    /// Puts octets behind the text.
+    pub fn put(&mut self, octets: &[u8]) {
+        if self.octets.extend_from_slice(octets).is_err() {
+            self.is_whole = false;
+        }
+    }
+
+    /// Puts a word where something holds.
+    pub fn put_if(&mut self, holds: bool, word: &[u8]) {
+        if holds {
+            self.put(word);
+        }
+    }
+
+    /// Puts a word, and octets between `<` and `>`.
+    pub fn put_text(&mut self, word: &[u8], octets: &[u8]) {
+        self.put(word);
+        self.put(b"<");
+        self.put(octets);
+        self.put(b">");
+    }
+
+    /// Puts a word, and a number in decimal.
+    pub fn put_number(&mut self, word: &[u8], number: u64) {
+        self.put(word);
+        match number.to_string(self.alloc) {
+            Ok(digits) => self.put(digits.as_bytes()),
+            Err(AllocError) => self.give_up(),
+        }
+    }
+
+    /// Puts a word and a number, where there is one.
+    pub fn put_optional(&mut self, word: &[u8], number: Option<u64>) {
+        if let Some(number) = number {
+            self.put_number(word, number);
+        }
+    }
+
+    /// Puts a word, and a value by its name in the code.
+    pub fn put_name<T: Debug>(&mut self, word: &[u8], value: &T) {
+        self.put(word);
+        match format!(in self.alloc; "{value:?}") {
+            Ok(name) => self.put(name.as_bytes()),
+            Err(AllocError) => self.give_up(),
+        }
+    }
+
+    /// Puts a word, and a value by its name in the code, in lower case.
+    pub fn put_lowered<T: Debug>(&mut self, word: &[u8], value: &T) {
+        self.put(word);
+        match format!(in self.alloc; "{value:?}") {
+            Ok(mut name) => {
+                name.make_ascii_lowercase();
+                self.put(name.as_bytes());
+            }
+            Err(AllocError) => self.give_up(),
+        }
+    }
+
+    /// Puts what there was memory for.
+    pub fn put_result(&mut self, made: Result<Vec<u8>, AllocError>) {
+        match made {
+            Ok(octets) => self.put(&octets),
+            Err(AllocError) => self.give_up(),
+        }
+    }
+
+    /// There was no memory for what comes next.
+    pub fn give_up(&mut self) {
+        self.is_whole = false;
+    }
+}
