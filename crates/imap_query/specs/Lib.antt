@@ -5,3 +5,8 @@ pub mod Rows
 pub mod Simpler
 pub mod Messages
 pub mod Status
+pub mod Hits
+pub mod Keys
+pub mod Runs
+pub mod Search
+pub mod Tests
