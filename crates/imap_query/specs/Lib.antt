@@ -10,3 +10,5 @@ pub mod Keys
 pub mod Runs
 pub mod Search
 pub mod Tests
+pub mod Fetching
+pub mod Naming

@@ -2,18 +2,22 @@
 //! what SEARCH finds in it, from the rows of its listing.
 #![tactic(auto)]
 
+mod fetching;
 mod keys;
 mod laws;
 mod listing;
 mod mailbox_status;
 mod messages;
+mod naming;
 mod pattern;
 mod searching;
 mod shown;
 
+pub use fetching::{FetchMode, fetch};
 pub use laws::{one_key, spelled_steps_are_a_key};
 pub use listing::{ListEntry, list, one_list};
 pub use mailbox_status::{Marks, status};
+pub use naming::{ListMode, list_names};
 pub use pattern::matches;
 pub use searching::{Hit, search};
 pub use shown::Shown;
