@@ -5,7 +5,9 @@ use Rattle.std.proofs.lemmas.List.{take_more, take_rest}
 use Rattle.std.proofs.Common.{length-append}
 use Rattle.merge_laws.specs.Orders.{IsIn, HasId, fold_of}
 use Rattle.merge_laws.proofs.Lists.{in_parts, id_in_parts}
+use Rattle.merge_laws.specs.Orders.{IsCausal}
 use Rattle.tags_clocks.specs.declared.id.OpId.{OpId}
+use Rattle.causal_inbox.specs.Kept.{IsReadied, Past}
 
 pub take_next : {X : Type 0} (xs : List X) (i : ℕ) (x : X) → i < length xs → x ≡ get_or xs i x → take (i + 1) xs ≡ take i xs ++ x ∷ []
 take_next xs i x l is = take_more xs i x l ∙ ap (λ y. take i xs ++ y ∷ []) (sym is)
@@ -50,3 +52,9 @@ back_slice xs ys all n e l =
 pub more_folded : {V O : Type 0} (effect : V → O → V) (first old new : V) (os ops all part : List O) → all ≡ os ++ ops → part ≡ ops → old ≡ fold_of effect first os → new ≡ fold_of effect old part → new ≡ fold_of effect first all
 more_folded effect first old new os ops all part e p m n =
     n ∙ ap (fold_of effect old) p ∙ ap (λ v. fold_of effect v ops) m ∙ sym (ap (fold_of effect first) e ∙ fold_append effect first os ops)
+
+-- the follower was made ready, told of the parts of a past
+pub readied : {S R F O : Type 0} (is_prepared : R → List O → Type 0) (is_ready : F → List O → List O → Type 0) (id : O → OpId) (clock : O → List (ℕ × ℕ)) (own now : Past S R F O) → own ≡ now → (ops : List O) → IsReadied is_prepared is_ready id clock now.applied now.room ops → IsCausal id clock (own.applied ++ ops) → is_ready own.room.follower own.applied ops
+readied is_prepared is_ready id clock own now e ops r d =
+    let w : IsReadied is_prepared is_ready id clock own.applied own.room ops = subst (λ (p : Past _ _ _ _). IsReadied is_prepared is_ready id clock p.applied p.room ops) (sym e) r in
+    w.ready d

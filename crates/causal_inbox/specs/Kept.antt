@@ -17,9 +17,9 @@ pub record Kept (S R F O : Type 0) : Type 0 where
   pub room : Room R F
 
 -- The operations can be applied behind the list, in this order, with no more memory.
-pub record IsReadied {R F O : Type 0} (is_prepared : R → List O → Type 0) (is_ready : F → List O → Type 0) (id : O → OpId) (clock : O → List (ℕ × ℕ)) (applied : List O) (room : Room R F) (ops : List O) : Type 0 where
+pub record IsReadied {R F O : Type 0} (is_prepared : R → List O → Type 0) (is_ready : F → List O → List O → Type 0) (id : O → OpId) (clock : O → List (ℕ × ℕ)) (applied : List O) (room : Room R F) (ops : List O) : Type 0 where
   pub prepared : is_prepared room.value ops
-  pub ready : is_ready room.follower ops
+  pub ready : IsCausal id clock (applied ++ ops) → is_ready room.follower applied ops
   pub next : IsCausal id clock (applied ++ ops) → IsClockOf id (applied ++ ops) room.clock
   pub count : length ops ≤ room.count
 

@@ -86,12 +86,13 @@ impl<R: Replicated, F: Follower<R>> History<R, F> {
         &self.follower
     }
 
-    /// Makes room for these operations. A used-up counter is found before any memory is asked for.
+    /// Makes room for these operations. A used-up counter is found before any memory is asked for, where the list stays
+    /// causal with them.
     pub fn ready(&mut self, alloc: Global, ops: &[R::Op]) -> Result<(), NotReady>
         ensures start { self.new.start ≡ self.old.start }
         ensures applied { self.new.applied ≡ self.old.applied }
         ensures ready { OnOk result (IsReadied R.is_prepared F.is_ready R.Op.id R.Op.clock self.new.applied self.new.room ops.now) }
-        ensures exhausted { (result ≡ Err UsedUp) ↔ F.exhausts self.old.start self.old.applied ops.now }
+        ensures exhausted { IsCausal R.Op.id R.Op.clock (self.old.applied ++ ops.now) → (result ≡ Err UsedUp) ↔ F.exhausts self.old.start self.old.applied ops.now }
     {
         self.follower.ready(alloc, &self.value, ops)?;
         if let Err(_) = self.value.prepare(alloc, ops) {
@@ -141,10 +142,10 @@ impl<R: Replicated, F: Follower<R>> History<R, F> {
 /// Applies and notes operations that were prepared, in their order.
 fn apply_all<R: Replicated, F: Follower<R>>(value: &mut R, follower: &mut F, ops: &[R::Op])
     requires prepared { R.is_prepared value.old ops.now }
-    requires ready { F.is_ready follower.old ops.now }
+    requires ready { (list : List R.Op) × (F.follows follower.old list) × (F.is_ready follower.old list ops.now) × (IsCausal R.Op.id R.Op.clock (list ++ ops.now)) × (R.meaning value.old ≡ fold_of R.effect R.initial list) }
     ensures meaning { R.meaning value.new ≡ fold_of R.effect (R.meaning value.old) ops.now }
     ensures start { F.start follower.new ≡ F.start follower.old }
-    ensures follows { (list : List R.Op) → F.follows follower.old list → R.meaning value.old ≡ fold_of R.effect R.initial list → F.follows follower.new (list ++ ops.now) }
+    ensures follows { (list : List R.Op) → F.follows follower.old list → F.is_ready follower.old list ops.now → IsCausal R.Op.id R.Op.clock (list ++ ops.now) → R.meaning value.old ≡ fold_of R.effect R.initial list → F.follows follower.new (list ++ ops.now) }
     ensures sound { AreSound R.Op.is_sound ops.now }
 {
     for op in ops {

@@ -120,12 +120,12 @@ impl<R: Replicated, F: Follower<R>> Inbox<R, F> {
         uncovered_in(alloc, clock, self.op_list())
     }
 
-    /// Makes room for issuing these operations. It answers Exhausted exactly where the follower does so of them; an error
-    /// leaves what was received as it was.
+    /// Makes room for issuing these operations. Where the list stays causal with them, it answers Exhausted exactly where the
+    /// follower does so of them; an error leaves what was received as it was.
     pub fn ready(&mut self, alloc: Global, ops: &[R::Op]) -> Result<(), IssueFault>
         ensures same { self.new.seen ≡ self.old.seen }
         ensures ready { OnOk result (IsReadied R.is_prepared F.is_ready R.Op.id R.Op.clock self.new.seen.applied self.new.room ops.now) }
-        ensures exhausted { (result ≡ Err UsedUp) ↔ F.exhausts self.old.seen.start self.old.seen.applied ops.now }
+        ensures exhausted { IsCausal R.Op.id R.Op.clock (self.old.seen.applied ++ ops.now) → (result ≡ Err UsedUp) ↔ F.exhausts self.old.seen.start self.old.seen.applied ops.now }
     {
         match self.history.ready(alloc, ops) {
             Ok(()) => Ok(()),
@@ -266,6 +266,7 @@ impl<R: Replicated, F: Follower<R>> Inbox<R, F> {
         ensures exhausted { (result ≡ Err UsedUpThere) ↔ F.exhausts self.old.seen.start self.old.seen.applied (op ∷ []) }
         ensures err { OnErr result (self.new.seen ≡ self.old.seen) }
     {
+        let _applied = self.op_list();
         let op = ready_for(alloc, &mut self.history, &mut self.held, op)?;
         self.history.append(op);
         Ok(())
@@ -329,7 +330,7 @@ fn ready_for<R: Replicated, F: Follower<R>>(
     ensures applied { history.new.applied ≡ history.old.applied }
     ensures given { IfOk result (λ given. given ≡ op) }
     ensures ready { OnOk result (IsReadied R.is_prepared F.is_ready R.Op.id R.Op.clock history.new.applied history.new.room (op ∷ [])) }
-    ensures exhausted { (result ≡ Err UsedUpThere) ↔ F.exhausts history.old.start history.old.applied (op ∷ []) }
+    ensures exhausted { IsCausal R.Op.id R.Op.clock (history.old.applied ++ op ∷ []) → (result ≡ Err UsedUpThere) ↔ F.exhausts history.old.start history.old.applied (op ∷ []) }
 {
     let at = held.len();
     held.push_reserved(op);

@@ -17,9 +17,10 @@ use Rattle.tags_clocks.specs.declared.id.OpId.{OpId}
 use Rattle.crdt_ops.specs.Form.{HasWords, IsId, is_word}
 use Rattle.crdt_ops.specs.Reading.{◌>>=◌, after, are_keywords, cut_at, date_at, flags_at, flags_of, id_at, message_at, name_at, named_at, version_at, without_flag, words_of}
 use Rattle.crdt_ops.specs.Text.{flags_text, id_text, joined, letter_text, name_text}
-use Rattle.crdt_ops.proofs.FieldLemmas.{all_of, bind_some, bound, chosen, cut_again, cut_takes, some_of}
-use Rattle.crdt_ops.proofs.PartLemmas.{are_by, joined_parts, keywords_are, lacks, parts_joined}
-use Rattle.crdt_ops.proofs.ListLemmas.{id_again, id_lacks, id_takes, joined_lacks, name_lacks}
+use Rattle.text_fields.proofs.FieldLemmas.{lacks, all_of, bind_some, bound, chosen, cut_again, cut_takes, some_of}
+use Rattle.crdt_ops.proofs.PartLemmas.{are_by, joined_parts, keywords_are, parts_joined}
+use Rattle.text_fields.proofs.FieldLemmas.{id_again, id_lacks, id_takes}
+use Rattle.crdt_ops.proofs.ListLemmas.{joined_lacks, name_lacks}
 
 -- ---- flags
 

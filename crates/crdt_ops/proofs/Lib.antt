@@ -3,8 +3,8 @@ pub mod TextLemmas
 pub mod Members
 pub mod SetLemmas
 pub mod Presence
-pub mod FieldLemmas
 pub mod PartLemmas
 pub mod ListLemmas
 pub mod FlagLemmas
 pub mod ReadLemmas
+pub mod MeaningLemmas

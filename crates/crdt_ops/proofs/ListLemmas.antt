@@ -1,47 +1,23 @@
-use Rattle.std.proofs.Common.{◌≡◌, inl, inr, ℕ, ◌<◌, ◌≤◌, ◌^◌, ◌/◌, ◌%◌, Bool, true, false, not, cond, ◌&&◌, eqb, eqb-true, List, [], ◌∷◌, ◌++◌, map, Option, Some, None, length, refl, sym, ap, ◌∙◌, subst, arith, codes}
+use Rattle.std.proofs.Common.{◌≡◌, inl, inr, ℕ, ◌<◌, ◌/◌, ◌%◌, true, false, not, cond, ◌&&◌, eqb, List, [], ◌∷◌, ◌++◌, map, Option, Some, None, length, refl, sym, ap, ◌∙◌, subst, arith, codes}
 use Rattle.std.specs.Char.{is_ascii_digit}
 use Rattle.std.specs.Fmt.{decimal}
 use Rattle.std.specs.List.{flat_map, list_all}
 use Rattle.std.specs.Str.{bytes_eq}
-use Rattle.std.proofs.lemmas.Bool.{and_parts, and_from, cases_Bool, false≢true}
+use Rattle.std.proofs.lemmas.Bool.{and_parts, and_from, cases_Bool}
 use Rattle.std.proofs.lemmas.Bool.Decides.{nat_tests}
 use Rattle.std.proofs.lemmas.Fmt.{decimal_nonempty, digits_decimal}
-use Rattle.std.proofs.lemmas.List.Folds.{list_all-append}
 use Rattle.std.proofs.lemmas.Slice.Eq.{bytes_eq-Decides}
 use Rattle.imap_types.specs.declared.escape.Escape.TheVariants.{Field}
 use Rattle.imap_types.specs.Escape.{escaped, escaped_octet, hex_digit, is_plain}
 use Rattle.tags_clocks.specs.declared.id.OpId.{OpId}
 use Rattle.tags_clocks.specs.Clock.{IsClock}
-use Rattle.crdt_ops.specs.Form.{AreIds, Each, IsEntry, IsId, IsNumber, IsReplica}
-use Rattle.crdt_ops.specs.Reading.{◌>>=◌, all_read, ascending, behind_all, clock_at, clock_from, cut_at, id_at, ids_at, is_ascending, is_clock_from, number_at, pair_at, parts_at, positive}
+use Rattle.crdt_ops.specs.Form.{AreIds, Each, IsEntry, IsId}
+use Rattle.crdt_ops.specs.Reading.{◌>>=◌, all_read, ascending, behind_all, clock_at, clock_from, id_at, ids_at, is_ascending, is_clock_from, pair_at, parts_at}
 use Rattle.crdt_ops.specs.Text.{clock_text, entry_text, id_text, ids_text, joined, listed, name_text}
-use Rattle.crdt_ops.proofs.FieldLemmas.{all_of, bind_some, bound, chosen, cut_again, cut_takes, digits_model, number_again, number_takes, positive_again, positive_takes, some_of}
-use Rattle.crdt_ops.proofs.PartLemmas.{ascending_is, ascending_some, clock_is, clock_some, joined_parts, lacks, parts_joined, some_part}
+use Rattle.text_fields.proofs.FieldLemmas.{both, entry_lacks, id_again, id_lacks, id_takes, lacks, pair_again, pair_takes, bind_some, bound, chosen, digits_model, some_of}
+use Rattle.crdt_ops.proofs.PartLemmas.{ascending_is, ascending_some, clock_is, clock_some, joined_parts, parts_joined, some_part}
 
 -- ---- octets that a text lacks
-
-pub both : (p : ℕ → Bool) (xs ys : List ℕ) → list_all p xs ≡ true → list_all p ys ≡ true → list_all p (xs ++ ys) ≡ true
-both p xs ys h k = list_all-append p xs ys ∙ and_from (list_all p xs) (list_all p ys) h k
-
-pub digit_apart : (mark octet : ℕ) → is_ascii_digit mark ≡ false → is_ascii_digit octet ≡ true → not (eqb octet mark) ≡ true
-digit_apart mark octet h k =
-    elim (cases_Bool (eqb octet mark)) [
-      | inl t ↦ absurd (let e : is_ascii_digit octet ≡ false = ap is_ascii_digit (eqb-true octet mark t) ∙ h in let z : false ≡ true = sym e ∙ k in false≢true z)
-      | inr f ↦ ap not f
-    ]
-
-pub decimal_lacks : (mark n : ℕ) → is_ascii_digit mark ≡ false → n < 2 ^ 64 → lacks mark (decimal n) ≡ true
-decimal_lacks mark n h l = all_of is_ascii_digit (λ octet. not (eqb octet mark)) (λ octet k. digit_apart mark octet h k) (decimal n) (digits_decimal digits_model n l)
-
-pub id_lacks : (mark : ℕ) (id : OpId) → is_ascii_digit mark ≡ false → not (eqb 58 mark) ≡ true → IsId id → lacks mark (id_text id) ≡ true
-id_lacks mark id h k w =
-    both (λ octet. not (eqb octet mark)) (decimal id.replica) (58 ∷ decimal id.number) (decimal_lacks mark id.replica h (omega arith))
-    (and_from (not (eqb 58 mark)) (lacks mark (decimal id.number)) k (decimal_lacks mark id.number h (omega arith)))
-
-pub entry_lacks : (mark : ℕ) (entry : ℕ × ℕ) → is_ascii_digit mark ≡ false → not (eqb 61 mark) ≡ true → IsEntry entry → lacks mark (entry_text entry) ≡ true
-entry_lacks mark entry h k w =
-    both (λ octet. not (eqb octet mark)) (decimal entry.0) (61 ∷ decimal entry.1) (decimal_lacks mark entry.0 h (omega arith))
-    (and_from (not (eqb 61 mark)) (lacks mark (decimal entry.1)) k (decimal_lacks mark entry.1 h (omega arith)))
 
 pub flat_lacks : (mark separator : ℕ) (fields : List (List ℕ)) → not (eqb separator mark) ≡ true → list_all (lacks mark) fields ≡ true → lacks mark (flat_map (λ next. separator ∷ next) fields) ≡ true
 flat_lacks mark separator [] h k = refl
@@ -78,51 +54,6 @@ name_lacks [] = refl
 name_lacks (b ∷ name) = both (λ octet. not (eqb octet 32)) (escaped_octet Field b) (escaped Field name) (octet_apart b) (name_lacks name)
 
 -- ---- ids and clocks
-
-pub pair_takes : (mark : ℕ) (text : List ℕ) (pair : ℕ × ℕ) → pair_at mark text ≡ Some pair → IsEntry pair × (text ≡ decimal pair.0 ++ mark ∷ decimal pair.1)
-unfolding pair_at
-pair_takes mark text pair h =
-    let c = bind_some (cut_at mark text) _ pair h in
-    let f = bind_some (number_at 65535 c.0.0) _ pair c.2 in
-    let r = bind_some (positive f.0) _ pair f.2 in
-    let s = bind_some (number_at 4294967295 c.0.1) _ pair r.2 in
-    let n = bind_some (positive s.0) _ pair s.2 in
-    let e : ◌≡◌ {A = ℕ × ℕ} (r.0, n.0) pair = let k = n.2 in cc in
-    let a = positive_takes f.0 r.0 r.1 in
-    let b = positive_takes s.0 n.0 n.1 in
-    let t = number_takes 65535 f.0 c.0.0 (omega arith) f.1 in
-    let u = number_takes 4294967295 s.0 c.0.1 (omega arith) s.1 in
-    let first : f.0 ≡ r.0 = a.1 in
-    let second : s.0 ≡ n.0 = b.1 in
-    let low : 0 < f.0 = a.0 in
-    let low' : 0 < s.0 = b.0 in
-    let high : f.0 ≤ 65535 = t.0 in
-    let high' : s.0 ≤ 4294967295 = u.0 in
-    subst (λ (pair : ℕ × ℕ). IsEntry pair × (text ≡ decimal pair.0 ++ mark ∷ decimal pair.1)) e (
-      ((omega arith, omega arith), (omega arith, omega arith)),
-      cut_takes mark text c.0 c.1 ∙ (λ i. (t.1 ∙ ap decimal first) i ++ mark ∷ (u.1 ∙ ap decimal second) i),
-    )
-
-pub pair_again : (mark replica number : ℕ) → is_ascii_digit mark ≡ false → IsReplica replica → IsNumber number → pair_at mark (decimal replica ++ mark ∷ decimal number) ≡ Some (replica, number)
-unfolding pair_at
-pair_again mark replica number h r n =
-    bound (cut_at mark (decimal replica ++ mark ∷ decimal number)) _ (decimal replica, decimal number) (cut_again mark (decimal replica) (decimal number) (decimal_lacks mark replica h (omega arith)))
-    ∙ bound (number_at 65535 (decimal replica)) _ replica (number_again 65535 replica (omega arith) r.1)
-    ∙ bound (positive replica) _ replica (positive_again replica r.0)
-    ∙ bound (number_at 4294967295 (decimal number)) _ number (number_again 4294967295 number (omega arith) n.1)
-    ∙ bound (positive number) _ number (positive_again number n.0)
-
-pub id_takes : (text : List ℕ) (id : OpId) → id_at text ≡ Some id → IsId id × (text ≡ id_text id)
-unfolding id_at
-id_takes text id h =
-    let p = bind_some (pair_at 58 text) _ id h in
-    let e : ◌≡◌ {A = OpId} (record { replica = p.0.0; number = p.0.1 }) id = let k = p.2 in cc in
-    let t = pair_takes 58 text p.0 p.1 in
-    subst (λ (id : OpId). IsId id × (text ≡ id_text id)) e t
-
-pub id_again : (id : OpId) → IsId id → id_at (id_text id) ≡ Some id
-unfolding id_at
-id_again id w = bound (pair_at 58 (id_text id)) _ (id.replica, id.number) (pair_again 58 id.replica id.number refl w.0 w.1)
 
 pub behind_some : {X : Type 0} (front : List X) (r : Option (List X)) (xs : List X) → behind_all front r ≡ Some xs → (ys : List X) × (r ≡ Some ys) × (xs ≡ front ++ ys)
 behind_some front None xs h = absurd cc

@@ -16,7 +16,7 @@ use Rattle.crdt_ops.specs.Form.{is_word}
 use Rattle.crdt_ops.specs.Order.{IsAscending, StandsBefore, id_order}
 use Rattle.crdt_ops.specs.Reading.{are_ascending, are_keywords, ascending, clock_from, comes_first, cut_at, in_front, is_ascending, is_clock_from, parts_at, stands_first}
 use Rattle.crdt_ops.specs.Text.{joined}
-use Rattle.crdt_ops.proofs.FieldLemmas.{front_some}
+use Rattle.text_fields.proofs.FieldLemmas.{front_some, lacks}
 
 -- ---- parts between separators
 
@@ -101,10 +101,6 @@ joined_parts separator (octet ∷ octets) =
           rw t (open_joined separator (parts_at separator octets) (some_part separator octets) ∙ (λ i. sym e i ∷ joined_parts separator octets i))
       | inr f ↦ rw f (onto_joined separator octet (parts_at separator octets) ∙ ap (λ (xs : List ℕ). octet ∷ xs) (joined_parts separator octets))
     ]
-
--- a text has no such octet
-abbrev pub lacks : ℕ → List ℕ → Bool
-lacks mark octets = list_all (λ octet. not (eqb octet mark)) octets
 
 not_true : (b : Bool) → not b ≡ true → b ≡ false
 not_true true h = absurd cc

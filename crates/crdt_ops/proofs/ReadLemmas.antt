@@ -11,8 +11,9 @@ use Rattle.crdt_ops.specs.declared.fault.OpFault.TheVariants.{NotTheForm, NoMemo
 use Rattle.crdt_ops.specs.Form.{HasFields, HasParts, IsDated, IsSpelled}
 use Rattle.crdt_ops.specs.Reading.{◌>>=◌, GivesAt, append_at, clock_at, create_at, cut_at, delete_at, expunge_at, id_at, ids_at, kind_at, kind_by, message_at, name_at, named_at, op_at, store_at, subscribe_at, unsubscribe_at, verb_at, version_at}
 use Rattle.crdt_ops.specs.Text.{clock_text, flags_text, id_text, ids_text, kind_text, letter_text, name_text, op_text}
-use Rattle.crdt_ops.proofs.FieldLemmas.{bind_some, bound, chosen, cut_again, cut_takes}
-use Rattle.crdt_ops.proofs.ListLemmas.{clock_again, clock_lacks, clock_takes, id_again, id_lacks, id_takes, ids_again, ids_takes}
+use Rattle.text_fields.proofs.FieldLemmas.{bind_some, bound, chosen, cut_again, cut_takes}
+use Rattle.text_fields.proofs.FieldLemmas.{id_again, id_lacks, id_takes}
+use Rattle.crdt_ops.proofs.ListLemmas.{clock_again, clock_lacks, clock_takes, ids_again, ids_takes}
 use Rattle.crdt_ops.proofs.FlagLemmas.{message_again, message_takes, name_again, name_takes, named_again, named_takes, version_again, version_takes}
 
 -- ---- what an operation does

@@ -1,4 +1,4 @@
-use Rattle.std.specs.Prelude.{◌≡◌, ℕ, ◌<◌, ◌≤◌, Bool, not, ◌&&◌, ◌==◌, List, [], ◌∷◌, length, IsTrue}
+use Rattle.std.specs.Prelude.{◌≡◌, ℕ, Bool, not, ◌&&◌, ◌==◌, List, [], ◌∷◌, length, IsTrue}
 use Rattle.std.specs.List.{list_all}
 use Rattle.imap_types.specs.declared.flags.Flags.{Flags}
 use Rattle.imap_types.specs.DateTimes.{IsDateTime}
@@ -11,24 +11,9 @@ use Rattle.crdt_ops.specs.declared.kind.Kind.TheVariants.{Create, Delete, Append
 use Rattle.crdt_ops.specs.declared.op.Op.{Op}
 use Rattle.crdt_ops.specs.Order.{IsAscending, id_order}
 use Rattle.crdt_ops.specs.Text.{op_text}
+pub use Rattle.text_fields.specs.Fields.{IsEntry, IsId, IsNumber, IsReplica}
 
 -- Which operations have a text: their octets, numbers and lists are in range. Whether they are sound is another matter.
-
--- A replica's number.
-abbrev pub IsReplica : ℕ → Type 0
-IsReplica replica = (0 < replica) × (replica ≤ 65535)
-
--- The number of an operation among its replica's.
-abbrev pub IsNumber : ℕ → Type 0
-IsNumber number = (0 < number) × (number ≤ 4294967295)
-
--- An id that can be written.
-abbrev pub IsId : OpId → Type 0
-IsId id = IsReplica id.replica × IsNumber id.number
-
--- An entry of a clock that can be written.
-abbrev pub IsEntry : ℕ × ℕ → Type 0
-IsEntry entry = IsReplica entry.0 × IsNumber entry.1
 
 -- Each element has a property.
 abbrev pub Each : {X : Type 0} → (X → Type 0) → List X → Type 0

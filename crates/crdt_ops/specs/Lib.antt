@@ -8,3 +8,4 @@ pub mod TagLaws
 pub mod Form
 pub mod Reading
 pub mod Faults
+pub mod Meanings

@@ -1,9 +1,7 @@
-use Rattle.std.specs.Prelude.{◌≡◌, ℕ, ◌+◌, Bool, true, false, not, ◌&&◌, ◌==◌, nat_le, nat_lt, List, [], ◌∷◌, ◌++◌, Option, Some, None, Result, Ok, Err, codes, option_and_then, if◌then◌else◌, length, take, drop}
-use Rattle.std.specs.Char.{is_ascii_digit}
+use Rattle.std.specs.Prelude.{◌≡◌, ℕ, ◌+◌, Bool, true, false, ◌&&◌, ◌==◌, nat_le, nat_lt, List, [], ◌∷◌, ◌++◌, Option, Some, None, Result, Ok, Err, codes, if◌then◌else◌, length, take, drop}
 use Rattle.std.specs.List.{list_all, slice_split}
 use Rattle.std.specs.Ordering.{is_lt}
 use Rattle.std.specs.Str.{bytes_eq}
-use Rattle.std.specs.Str.Parse.{digits_value}
 use Rattle.imap_types.specs.Ascending.{compared}
 use Rattle.imap_types.specs.declared.escape.Escape.TheVariants.{Field, Text}
 use Rattle.imap_types.specs.declared.flags.Flags.{Flags}
@@ -18,14 +16,10 @@ use Rattle.crdt_ops.specs.declared.verb.Verb.TheVariants.{Create as CreateWord, 
 use Rattle.crdt_ops.specs.declared.fault.OpFault.{OpFault}
 use Rattle.crdt_ops.specs.declared.fault.OpFault.TheVariants.{NotTheForm, NoMemory}
 use Rattle.crdt_ops.specs.Form.{is_word}
+pub use Rattle.text_fields.specs.Reading.{◌>>=◌, cut_at, id_at, in_front, pair_at}
 use Rattle.crdt_ops.specs.Order.{id_order}
 
 -- How the readers take a line apart. Which texts spell an operation is told by `IsSpelled`, and the laws join the two.
-
-infixl 10 ◌>>=◌
--- What follows a reading, where there is one.
-abbrev pub ◌>>=◌ : {A B : Type 0} → Option A → (A → Option B) → Option B
-read >>= next = option_and_then next read
 
 -- A fault other than for memory says that nothing could be read.
 abbrev pub Fails : {Y : Type 0} → OpFault → Option Y → Type 0
@@ -47,16 +41,6 @@ abbrev pub GivesAt : {Y : Type 0} → (Y → Type 0) → Result Y OpFault → Op
 GivesAt P (Ok y) read = (read ≡ Some y) × P y
 GivesAt P (Err e) read = FailsAt P e read
 
--- Octets in front of the first part of a cut.
-abbrev pub in_front : List ℕ → Option (List ℕ × List ℕ) → Option (List ℕ × List ℕ)
-in_front front None = None
-in_front front (Some cut) = Some (front ++ cut.0, cut.1)
-
--- What stands before the first separator, and what behind it.
-abbrev pub cut_at : ℕ → List ℕ → Option (List ℕ × List ℕ)
-cut_at separator [] = None
-cut_at separator (octet ∷ octets) = if octet == separator then Some ([], octets) else in_front (octet ∷ []) (cut_at separator octets)
-
 -- The parts between separators.
 abbrev pub parts_at : ℕ → List ℕ → List (List ℕ)
 parts_at separator text = slice_split (λ octet. octet == separator) text
@@ -75,36 +59,6 @@ behind_all front (Some xs) = Some (front ++ xs)
 abbrev pub all_read : {X : Type 0} → (List ℕ → Option X) → List (List ℕ) → Option (List X)
 all_read read [] = Some []
 all_read read (part ∷ parts) = read part >>= (λ x. behind_all (x ∷ []) (all_read read parts))
-
--- Whether a text has a first octet, which is no zero (48) with more behind it.
-abbrev pub has_no_leading_zero : List ℕ → Bool
-has_no_leading_zero [] = false
-has_no_leading_zero (digit ∷ []) = true
-has_no_leading_zero (digit ∷ next ∷ digits) = not (digit == 48)
-
--- The number up to the limit that the digits write without a leading zero.
-unfoldable pub number_at : ℕ → List ℕ → Option ℕ
-number_at limit text = if (has_no_leading_zero text && list_all is_ascii_digit text) && nat_le (digits_value 10 text) limit then Some (digits_value 10 text) else None
-
--- A number from 1 on.
-abbrev pub positive : ℕ → Option ℕ
-positive number = if number == 0 then None else Some number
-
--- The replica and the number on either side of a mark.
-unfoldable pub pair_at : ℕ → List ℕ → Option (ℕ × ℕ)
-pair_at mark text = do
-  parts ← cut_at mark text
-  first ← number_at 65535 parts.0
-  replica ← positive first
-  second ← number_at 4294967295 parts.1
-  number ← positive second
-  Some (replica, number)
-
--- The id that a field names.
-unfoldable pub id_at : List ℕ → Option OpId
-id_at text = do
-  pair ← pair_at 58 text
-  Some (record { replica = pair.0; number = pair.1 })
 
 -- Whether each id stands before the next.
 abbrev pub stands_first : OpId → List OpId → Bool

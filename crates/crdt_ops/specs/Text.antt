@@ -1,6 +1,5 @@
 use Rattle.std.specs.Prelude.{◌≡◌, Bool, true, false, map, ℕ, List, [], ◌∷◌, ◌++◌, codes}
 use Rattle.std.specs.List.{flat_map}
-use Rattle.std.specs.Fmt.{decimal}
 use Rattle.imap_types.specs.declared.flags.Flags.{Flags}
 use Rattle.imap_types.specs.declared.escape.Escape.TheVariants.{Field, Text}
 use Rattle.imap_types.specs.Escape.{escaped}
@@ -9,6 +8,7 @@ use Rattle.tags_clocks.specs.declared.id.OpId.{OpId}
 use Rattle.crdt_ops.specs.declared.kind.Kind.{Kind}
 use Rattle.crdt_ops.specs.declared.kind.Kind.TheVariants.{Create, Delete, Append, Expunge, Store, Subscribe, Unsubscribe}
 use Rattle.crdt_ops.specs.declared.op.Op.{Op}
+pub use Rattle.text_fields.specs.Fields.{entry_text, id_text}
 
 -- Fields with this octet between each two.
 abbrev pub joined : ℕ → List (List ℕ) → List ℕ
@@ -20,17 +20,9 @@ abbrev pub listed : List (List ℕ) → List ℕ
 listed [] = codes "-"
 listed (field ∷ fields) = joined 44 (field ∷ fields)
 
--- An id: the replica, `:` (58), the number.
-abbrev pub id_text : OpId → List ℕ
-id_text id = decimal id.replica ++ 58 ∷ decimal id.number
-
 -- Ids joined by commas, or `-`.
 abbrev pub ids_text : List OpId → List ℕ
 ids_text ids = listed (map id_text ids)
-
--- An entry of a clock: the replica, `=` (61), the number.
-abbrev pub entry_text : ℕ × ℕ → List ℕ
-entry_text entry = decimal entry.0 ++ 61 ∷ decimal entry.1
 
 -- A clock: its entries joined by commas, or `-`.
 abbrev pub clock_text : List (ℕ × ℕ) → List ℕ

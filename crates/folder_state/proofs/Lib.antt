@@ -1,3 +1,4 @@
 pub mod EntryLemmas
 pub mod SetLemmas
 pub mod ToldLemmas
+pub mod LaterLemmas

@@ -68,7 +68,7 @@ carried : MessageEntry → Body
 carried entry = record { flags = entry.flags; origin = entry.origin }
 
 -- something is carried where an entry has this folder and id
-body_at : (messages : List MessageEntry) (n : List ℕ) (i : OpId) → IsSome (body_in messages n i) ↔ ((entry : MessageEntry) × IsIn entry messages × (is_at n i entry.folder entry.id ≡ true))
+pub body_at : (messages : List MessageEntry) (n : List ℕ) (i : OpId) → IsSome (body_in messages n i) ↔ ((entry : MessageEntry) × IsIn entry messages × (is_at n i entry.folder entry.id ≡ true))
 unfolding carried
 body_at messages n i =
     let at = given_in (λ (entry : MessageEntry). cond (is_at n i entry.folder entry.id) (Some (carried entry)) None) messages in (

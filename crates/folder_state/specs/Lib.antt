@@ -3,3 +3,4 @@ pub mod Contents
 pub mod Entries
 pub mod Tables
 pub mod Laws
+pub mod Later

@@ -1,6 +1,7 @@
 //! The replicated folders.
 
 use crate::changes::{forget_removed_messages, forget_removed_tags, keep_added};
+use crate::later::{has_folder_after, has_message_at, message_after};
 use crate::lookups::{all_ids, folder_names, has_folder, message_ids, tag_ids};
 use crate::reading::messages_at;
 use crate::tables::{FolderEntry, LetterEntry, MessageEntry};
@@ -9,6 +10,7 @@ use imap_types::Name;
 use merge_laws::Replicated;
 use std::alloc::{AllocError, Global};
 use std::collections::VecDeque;
+use tags_clocks::OpId;
 
 /// Folders with their messages, changed by operations in any causal order.
 #[derive(Drop)]
@@ -22,7 +24,11 @@ pub struct Folders {
 impl Folders {
     ghost use Rattle.std.specs.Prelude.{◌≡◌, ◌↔◌, List, IfOk, IsTrue, true};
     ghost use Rattle.imap_types.specs.Ascending.{compared};
-    ghost use Rattle.merge_laws.specs.Orders.{IsIn};
+    ghost use Rattle.std.specs.Prelude.{◌++◌};
+    ghost use Rattle.merge_laws.specs.Orders.{AreSound, IsCausal, IsIn};
+    ghost use Rattle.crdt_ops.specs.Sound.{IsSound};
+    ghost use Rattle.crdt_ops.specs.Tags.{MessageTag, is_present};
+    ghost use Rattle.folder_state.specs.Later.{after, has_body};
     ghost use Rattle.crdt_ops.specs.declared.op.Op.{Op as Operation};
     ghost use Rattle.crdt_ops.specs.Order.{IsListOf, id_order};
     ghost use Rattle.crdt_ops.specs.Sets.{delete_set_of, folder_tags_of, folders_of, messages_of};
@@ -47,6 +53,24 @@ impl Folders {
         ensures set { (ops : List Operation) → IsMadeBy (contents_of self.now) ops → IsTrue result ↔ IsIn name.now (folders_of ops) }
     {
         has_folder(&self.tags, &self.messages, name)
+    }
+
+    /// Whether this folder will be there after these operations, applied in this order. Takes no memory; its cost grows as the
+    /// operations times the tags and operations together.
+    pub fn exists_after(&self, name: &Name, ops: &[SoundOp]) -> bool
+        ensures contents { IsTrue result ↔ IsFolder (after (contents_of self.now) ops.now) name.now }
+        ensures set { (list : List Operation) → IsMadeBy (contents_of self.now) list → AreSound IsSound (list ++ ops.now) → IsCausal (λ (o : Operation). o.id) (λ o. o.clock) (list ++ ops.now) → IsTrue result ↔ IsIn name.now (folders_of (list ++ ops.now)) }
+    {
+        has_folder_after(&self.tags, &self.messages, name, ops)
+    }
+
+    /// Whether the folder will have the message tag with this id after these operations, applied in this order. Takes no
+    /// memory.
+    pub fn has_message_after(&self, folder: &Name, id: &OpId, ops: &[SoundOp]) -> bool
+        ensures contents { result ≡ has_body (after (contents_of self.now) ops.now) folder.now id.now }
+        ensures set { (list : List Operation) → IsMadeBy (contents_of self.now) list → AreSound IsSound (list ++ ops.now) → IsCausal (λ (o : Operation). o.id) (λ o. o.clock) (list ++ ops.now) → result ≡ is_present (list ++ ops.now) (MessageTag folder.now id.now) }
+    {
+        message_after(ops, folder, id, has_message_at(&self.messages, folder, id))
     }
 
     /// The names of the folders that are there, ascending by octets, INBOX among them; `Err` where there is no memory for

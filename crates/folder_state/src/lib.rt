@@ -6,6 +6,7 @@
 
 mod changes;
 mod folders;
+mod later;
 mod laws;
 mod lookups;
 mod reading;

@@ -1,1 +1,4 @@
+pub mod Printable
+pub mod Printed
+pub mod Strings
 pub mod Words

@@ -1,4 +1,4 @@
-use Rattle.std.specs.Prelude.{ℕ, List, codes}
+use Rattle.std.specs.Prelude.{ℕ, Bool, true, false, List, codes}
 use Rattle.imap_answers.specs.declared.words.Login.{Login}
 use Rattle.imap_answers.specs.declared.words.Login.TheVariants as login
 use Rattle.imap_answers.specs.declared.words.Continuation.{Continuation}
@@ -11,6 +11,8 @@ use Rattle.imap_answers.specs.declared.words.Refusal.{Refusal}
 use Rattle.imap_answers.specs.declared.words.Refusal.TheVariants as refusal
 use Rattle.imap_answers.specs.declared.words.CommandWord.{CommandWord}
 use Rattle.imap_answers.specs.declared.words.CommandWord.TheVariants as command
+use Rattle.imap_answers.specs.declared.mailbox.MailboxState.{MailboxState}
+use Rattle.imap_answers.specs.declared.mailbox.MailboxState.TheVariants as state
 
 -- The greetings (RFC 9051, sections 7.1.1 and 7.1.4).
 abbrev pub greeting_text : Login → List ℕ
@@ -93,3 +95,12 @@ command_text command.UidSearch = codes "UID SEARCH"
 command_text command.UidCopy = codes "UID COPY"
 command_text command.UidMove = codes "UID MOVE"
 command_text command.UidExpunge = codes "UID EXPUNGE"
+
+-- The attributes of a name in LIST (RFC 9051, section 7.3.1).
+abbrev pub attributes_text : MailboxState → Bool → List ℕ
+attributes_text state.There false = codes "()"
+attributes_text state.There true = codes "(\\Subscribed)"
+attributes_text state.NoSelect false = codes "(\\Noselect)"
+attributes_text state.NoSelect true = codes "(\\Noselect \\Subscribed)"
+attributes_text state.NonExistent false = codes "(\\NonExistent)"
+attributes_text state.NonExistent true = codes "(\\NonExistent \\Subscribed)"

@@ -16,6 +16,25 @@ pub enum MailboxState {
     NonExistent,
 }
 
+impl MailboxState {
+    ghost use Rattle.std.specs.Prelude.{◌≡◌};
+    ghost use Rattle.imap_answers.specs.Words.{attributes_text};
+
+    /// The attributes in LIST of a name in this state that is subscribed or isn't.
+    pub fn attributes(self, subscribed: bool) -> &'static [u8]
+        ensures { result.now ≡ attributes_text self subscribed }
+    {
+        match (self, subscribed) {
+            (MailboxState::There, false) => b"()",
+            (MailboxState::There, true) => b"(\\Subscribed)",
+            (MailboxState::NoSelect, false) => b"(\\Noselect)",
+            (MailboxState::NoSelect, true) => b"(\\Noselect \\Subscribed)",
+            (MailboxState::NonExistent, false) => b"(\\NonExistent)",
+            (MailboxState::NonExistent, true) => b"(\\NonExistent \\Subscribed)",
+        }
+    }
+}
+
 /// What STATUS tells, of what was asked (RFC 9051, section 7.3.3; RFC 7162, section 3.1.7).
 #[derive(Clone, Copy, Debug, PartialEq, Eq)]
 pub struct StatusItems {

@@ -2,7 +2,8 @@
 
 use crate::answers::put_answer;
 use crate::words::Words;
-use imap_print::{Answer, MailboxState, print, read};
+use imap_print::{Answer, MailboxState, print};
+use imap_read::read;
 use imap_types::Name;
 use std::alloc::{AllocError, Global};
 

@@ -5,32 +5,13 @@ use Rattle.std.proofs.lemmas.Bool.Decides.{nat_tests}
 use Rattle.std.proofs.lemmas.Int.{ints}
 use Rattle.std.proofs.lemmas.List.{take_at, drop_at, take-append-drop}
 use Rattle.jiff.specs.Words.{IsDate, days_in_month}
-use Rattle.imap_types.specs.DateTimes.{HasPicture, HasTime, IsDateTime, date_time_picture, day_at, is_digit, is_pictured, month_at, two_digits, year_at}
-use Rattle.imap_grammar.specs.Dates.{date_time, fits, is_date, is_date_time, is_time, zeroed}
+use Rattle.imap_types.specs.DateTimeTests.{is_date_time}
+use Rattle.imap_types.specs.DateTimes.{IsDateTime, is_digit}
+use Rattle.imap_types.proofs.DateTimeLemmas.{date_time_from_test, test_from_date_time}
+use Rattle.imap_grammar.specs.Dates.{date_time, is_date, zeroed}
 use Rattle.imap_grammar.specs.CommandReading.{date_time_at}
 use Rattle.imap_grammar.specs.Strings.{begins}
 use Rattle.imap_grammar.proofs.Fronts.{Front, Reads, chosen, guarded, some_is}
-
-fits_place : (mark octet : ℕ) (marks octets : List ℕ) → is_pictured mark octet ≡ true → ((k : ℕ) → k < length marks → IsTrue (is_pictured (get_or marks k 0) (get_or octets k 0))) → (k : ℕ) → k < length (mark ∷ marks) → IsTrue (is_pictured (get_or (mark ∷ marks) k 0) (get_or (octet ∷ octets) k 0))
-fits_place mark octet marks octets e h zero l = e
-fits_place mark octet marks octets e h (suc k) l = h k (omega arith)
-
-fits_from : (marks octets : List ℕ) → fits marks octets ≡ true → HasPicture marks octets
-fits_from [] [] h = (refl, λ k l. absurd (omega arith))
-fits_from [] (octet ∷ octets) h = cc
-fits_from (mark ∷ marks) [] h = cc
-fits_from (mark ∷ marks) (octet ∷ octets) h =
-    let p = and_parts (is_pictured mark octet) (fits marks octets) h in
-    let r = fits_from marks octets p.1 in
-    (ap suc r.0, fits_place mark octet marks octets p.0 r.1)
-
-fits_to : (marks octets : List ℕ) → HasPicture marks octets → fits marks octets ≡ true
-fits_to [] [] h = refl
-fits_to [] (octet ∷ octets) h = absurd (let e : length (octet ∷ octets) ≡ 0 = h.0 in omega arith)
-fits_to (mark ∷ marks) [] h = absurd (let e : 0 ≡ length (mark ∷ marks) = h.0 in omega arith)
-fits_to (mark ∷ marks) (octet ∷ octets) h =
-    let e : length (octet ∷ octets) ≡ length (mark ∷ marks) = h.0 in
-    and_from _ _ (h.1 0 (omega arith)) (fits_to marks octets (omega arith, λ k l. h.1 (suc k) (omega arith)))
 
 not_above : (limit n : ℕ) → not (nat_lt limit n) ≡ true → n ≤ limit
 not_above limit n h = grind (arith, nat_tests)
@@ -60,48 +41,18 @@ date_to y m d h =
     let last : d ≤ days_in_month (pos y) m = let k = h.2.1 in omega (arith, ints) in
     and_from _ _ (above_not 9999 y year) (and_from _ _ (above_not m 1 low) (and_from _ _ (above_not 12 m high) (and_from _ _ (above_not d 1 first) (above_not (days_in_month (pos y) m) d last))))
 
-time_from : (text : List ℕ) → is_time text ≡ true → HasTime text
-time_from text h =
-    let a = and_parts _ _ h in
-    let b = and_parts _ _ a.1 in
-    let c = and_parts _ _ b.1 in
-    let e = and_parts _ _ c.1 in
-    record {
-      hour = not_above 23 (two_digits text 13) a.0;
-      minute = not_above 59 (two_digits text 16) b.0;
-      second = not_above 60 (two_digits text 19) c.0;
-      zone_hour = not_above 23 (two_digits text 23) e.0;
-      zone_minute = not_above 59 (two_digits text 25) e.1;
-    }
-
-time_to : (text : List ℕ) → HasTime text → is_time text ≡ true
-time_to text h =
-    and_from _ _ (above_not 23 (two_digits text 13) h.hour) (and_from _ _ (above_not 59 (two_digits text 16) h.minute) (and_from _ _ (above_not 60 (two_digits text 19) h.second)
-    (and_from _ _ (above_not 23 (two_digits text 23) h.zone_hour) (above_not 59 (two_digits text 25) h.zone_minute))))
-
-pub date_time_from : (text : List ℕ) → is_date_time text ≡ true → IsDateTime text
-unfolding is_date_time
-date_time_from text h =
-    let a = and_parts (fits date_time_picture text) (is_date (year_at text) (month_at text) (day_at text) && is_time text) h in
-    let b = and_parts (is_date (year_at text) (month_at text) (day_at text)) (is_time text) a.1 in
-    record { form = fits_from date_time_picture text a.0; date = date_from (year_at text) (month_at text) (day_at text) b.0; time = time_from text b.1 }
-
-pub date_time_to : (text : List ℕ) → IsDateTime text → is_date_time text ≡ true
-unfolding is_date_time
-date_time_to text h = and_from _ _ (fits_to date_time_picture text h.form) (and_from _ _ (date_to (year_at text) (month_at text) (day_at text) h.date) (time_to text h.time))
-
 -- what the code makes of 28 octets
 pub date_made : (octets made : List ℕ) → 28 ≤ length octets → IsDateTime (zeroed (take 28 octets)) → made ≡ zeroed (take 28 octets) → date_time_at octets ≡ Some (made, drop 28 octets)
 date_made octets made l h e =
     ap (λ b. cond b None (cond (is_date_time (zeroed (take 28 octets))) (Some (zeroed (take 28 octets), drop 28 octets)) None)) (le-ltb _ _ l)
-    ∙ ap (λ b. cond b (Some (zeroed (take 28 octets), drop 28 octets)) None) (date_time_to (zeroed (take 28 octets)) h)
+    ∙ ap (λ b. cond b (Some (zeroed (take 28 octets), drop 28 octets)) None) (test_from_date_time (zeroed (take 28 octets)) h)
     ∙ ap (λ v. Some (v, drop 28 octets)) (sym e)
 
 pub date_none : (octets : List ℕ) → 28 ≤ length octets → (IsDateTime (zeroed (take 28 octets)) → ⊥) → date_time_at octets ≡ None
 date_none octets l h =
     ap (λ b. cond b None (cond (is_date_time (zeroed (take 28 octets))) (Some (zeroed (take 28 octets), drop 28 octets)) None)) (le-ltb _ _ l)
     ∙ elim (cases_Bool (is_date_time (zeroed (take 28 octets)))) [
-      | inl t ↦ absurd (h (date_time_from (zeroed (take 28 octets)) t))
+      | inl t ↦ absurd (h (date_time_from_test (zeroed (take 28 octets)) t))
       | inr f ↦ ap (λ b. cond b (Some (zeroed (take 28 octets), drop 28 octets)) None) f
     ]
 
@@ -125,7 +76,7 @@ date_takes octets x h =
     let g = guarded (nat_lt (length octets) 28) (cond (is_date_time (zeroed (take 28 octets))) (Some (zeroed (take 28 octets), drop 28 octets)) None) x h in
     elim (chosen (is_date_time (zeroed (take 28 octets))) (Some (zeroed (take 28 octets), drop 28 octets)) None (Some x) g.1) [
       | inl t ↦
-          let d = date_time_from (zeroed (take 28 octets)) t.0 in
+          let d = date_time_from_test (zeroed (take 28 octets)) t.0 in
           subst (λ (y : List ℕ × List ℕ). Front (date_time y.0) octets y.1) (some_is (zeroed (take 28 octets), drop 28 octets) x t.1)
           (take 28 octets, (d, zero_cases (take 28 octets) d), sym (take-append-drop 28 octets))
       | inr n ↦ absurd cc

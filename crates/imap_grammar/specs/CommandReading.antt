@@ -1,7 +1,9 @@
+-- The parser's own steps for commands. Which frame means which command, `IsSpelled` of Commands says; `parse` is held to that.
 use Rattle.std.specs.Prelude.{◌≡◌, ℕ, Bool, true, false, ◌==◌, nat_lt, List, [], ◌∷◌, codes, length, take, drop, Option, Some, None, Result, Err, if◌then◌else◌}
 use Rattle.imap_types.specs.declared.sequence_set.SequenceRange.{SequenceRange}
 use Rattle.imap_types.specs.declared.flags.Flags.{Flags}
-use Rattle.imap_grammar.specs.Dates.{is_date_time, zeroed}
+use Rattle.imap_types.specs.DateTimeTests.{is_date_time}
+use Rattle.imap_grammar.specs.Dates.{zeroed}
 use Rattle.imap_grammar.specs.MessageFlags.{flags_given}
 use Rattle.imap_grammar.specs.declared.fetch.FetchItem.{FetchItem}
 use Rattle.imap_grammar.specs.declared.store.StoreAction.{StoreAction}

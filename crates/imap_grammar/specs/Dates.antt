@@ -1,6 +1,6 @@
-use Rattle.std.specs.Prelude.{◌≡◌, ◌⊎◌, ℕ, ◌≤◌, Bool, true, false, not, ◌&&◌, ◌==◌, nat_lt, List, [], ◌∷◌, length, pos, if◌then◌else◌}
+use Rattle.std.specs.Prelude.{codes, ◌≡◌, ◌⊎◌, ℕ, ◌≤◌, Bool, true, false, not, ◌&&◌, ◌==◌, nat_lt, List, [], ◌∷◌, length, pos, if◌then◌else◌}
 use Rattle.jiff.specs.Words.{IsDate, days_in_month}
-use Rattle.imap_types.specs.DateTimes.{IsDateTime, date_time_picture, day_at, is_pictured, month_at, month_of, two_digits, year_at}
+use Rattle.imap_types.specs.DateTimes.{IsDateTime, month_of}
 use Rattle.imap_types.specs.declared.day.Day.{Day}
 use Rattle.imap_grammar.specs.Languages.{◌⌢◌, exactly}
 use Rattle.imap_grammar.specs.Strings.{number_to}
@@ -28,11 +28,11 @@ year_number = digits_to 4 4 9999
 
 -- One `-`.
 abbrev pub hyphen : List ℕ → Type 0
-hyphen = exactly (45 ∷ [])
+hyphen = exactly (codes "-")
 
 -- One `"` (RFC 9051, section 9, DQUOTE).
 abbrev pub quote : List ℕ → Type 0
-quote = exactly (34 ∷ [])
+quote = exactly (codes "\"")
 
 -- A day that the calendar has, as `d-Mon-yyyy` (RFC 9051, section 9, date-text).
 abbrev pub date_text : Day → List ℕ → Type 0
@@ -43,25 +43,10 @@ date_text this text =
 abbrev pub date : Day → List ℕ → Type 0
 date this text = date_text this text ⊎ (quote ⌢ date_text this ⌢ quote) text
 
--- ---- The same as tests, for reading.
-
-abbrev pub fits : List ℕ → List ℕ → Bool
-fits [] [] = true
-fits [] (octet ∷ octets) = false
-fits (mark ∷ marks) [] = false
-fits (mark ∷ marks) (octet ∷ octets) = is_pictured mark octet && fits marks octets
-
+-- Whether the calendar has a day, as a test.
 abbrev pub is_date : ℕ → ℕ → ℕ → Bool
 is_date year month day =
     not (nat_lt 9999 year) && (not (nat_lt month 1) && (not (nat_lt 12 month) && (not (nat_lt day 1) && not (nat_lt (days_in_month (pos year) month) day))))
-
-abbrev pub is_time : List ℕ → Bool
-is_time text =
-    not (nat_lt 23 (two_digits text 13)) && (not (nat_lt 59 (two_digits text 16)) && (not (nat_lt 60 (two_digits text 19))
-    && (not (nat_lt 23 (two_digits text 23)) && not (nat_lt 59 (two_digits text 25)))))
-
-unfoldable pub is_date_time : List ℕ → Bool
-is_date_time text = fits date_time_picture text && (is_date (year_at text) (month_at text) (day_at text) && is_time text)
 
 -- A zero for a space behind the first octet.
 abbrev pub zeroed : List ℕ → List ℕ

@@ -26,7 +26,7 @@ section (FieldsNot names) = word (section_word sections.FieldsNot) ⌢ field_nam
 -- `<start.count>` or nothing (RFC 9051, section 9, partial).
 abbrev pub partial : Option Partial → List ℕ → Type 0
 partial None = nothing
-partial (Some this) = exactly (60 ∷ []) ⌢ number_to 4294967295 this.start ⌢ exactly (46 ∷ []) ⌢ nz this.count ⌢ exactly (62 ∷ [])
+partial (Some this) = exactly (codes "<") ⌢ number_to 4294967295 this.start ⌢ exactly (codes ".") ⌢ nz this.count ⌢ exactly (codes ">")
 
 -- The word of each item.
 abbrev pub body_word : Bool → FetchWord
@@ -48,7 +48,7 @@ item_behind items.InternalDate = nothing
 item_behind items.Size = nothing
 item_behind items.Uid = nothing
 item_behind items.ModSeq = nothing
-item_behind (items.Body peek this_section this_partial) = (exactly (91 ∷ []) ⌢ section this_section ⌢ exactly (93 ∷ [])) ⌢ partial this_partial
+item_behind (items.Body peek this_section this_partial) = (exactly (codes "[") ⌢ section this_section ⌢ exactly (codes "]")) ⌢ partial this_partial
 
 -- What FETCH asks (RFC 9051, section 9, fetch-att).
 abbrev pub fetch_item : FetchItem → List ℕ → Type 0

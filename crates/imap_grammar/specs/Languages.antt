@@ -1,4 +1,4 @@
-use Rattle.std.specs.Prelude.{◌≡◌, ℕ, List, [], ◌∷◌, ◌++◌, Option, Some, None}
+use Rattle.std.specs.Prelude.{codes, ◌≡◌, ℕ, List, [], ◌∷◌, ◌++◌, Option, Some, None}
 use Rattle.imap_types.specs.Keywords.{lowered}
 
 infixr 7 ◌⌢◌
@@ -16,11 +16,11 @@ nothing = exactly []
 
 -- One space (RFC 9051, section 9, SP).
 abbrev pub sp : List ℕ → Type 0
-sp = exactly (32 ∷ [])
+sp = exactly (codes " ")
 
 -- The end of a line (RFC 9051, section 9, CRLF).
 abbrev pub crlf : List ℕ → Type 0
-crlf = exactly (13 ∷ 10 ∷ [])
+crlf = exactly (codes "\r\n")
 
 -- A word without ASCII case (RFC 9051, section 9, note 1).
 abbrev pub word : List ℕ → List ℕ → Type 0
@@ -32,7 +32,7 @@ never text = ⊥
 
 -- A text between parentheses.
 abbrev pub in_parens : (List ℕ → Type 0) → List ℕ → Type 0
-in_parens P = exactly (40 ∷ []) ⌢ P ⌢ exactly (41 ∷ [])
+in_parens P = exactly (codes "(") ⌢ P ⌢ exactly (codes ")")
 
 -- A value behind a space, or nothing.
 abbrev pub optional : {A : Type 0} → (A → List ℕ → Type 0) → Option A → List ℕ → Type 0

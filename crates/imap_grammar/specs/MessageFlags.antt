@@ -1,4 +1,4 @@
-use Rattle.std.specs.Prelude.{◌≡◌, ◌⊎◌, ℕ, true, false, List, [], ◌∷◌, Option, Some, None}
+use Rattle.std.specs.Prelude.{codes, ◌≡◌, ◌⊎◌, ℕ, true, false, List, [], ◌∷◌, Option, Some, None}
 use Rattle.imap_types.specs.Keywords.{lowered, with_text}
 use Rattle.imap_types.specs.declared.flags.Flags.{Flags}
 use Rattle.imap_grammar.specs.Languages.{◌⌢◌, exactly, sp, word, in_parens, listed, maybe_listed, optional}
@@ -11,7 +11,7 @@ use Rattle.imap_grammar.specs.declared.flags.SystemFlag.TheVariants.{Answered, F
 
 -- A flag: `\` and the word of a system flag, or a keyword (RFC 9051, section 9, flag).
 abbrev pub flag : Flag → List ℕ → Type 0
-flag (System known) = exactly (92 ∷ []) ⌢ word (system_word known)
+flag (System known) = exactly (codes "\\") ⌢ word (system_word known)
 flag (Keyword keyword) = run Atom keyword
 
 -- No flags.

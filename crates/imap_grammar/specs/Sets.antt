@@ -1,4 +1,4 @@
-use Rattle.std.specs.Prelude.{◌≡◌, ◌⊎◌, ℕ, List, [], ◌∷◌}
+use Rattle.std.specs.Prelude.{codes, ◌≡◌, ◌⊎◌, ℕ, List, [], ◌∷◌}
 use Rattle.imap_types.specs.declared.sequence_set.SequenceBound.{SequenceBound}
 use Rattle.imap_types.specs.declared.sequence_set.SequenceBound.TheVariants.{Number, Greatest}
 use Rattle.imap_types.specs.declared.sequence_set.SequenceRange.{SequenceRange}
@@ -8,14 +8,14 @@ use Rattle.imap_grammar.specs.Strings.{nz}
 -- A number, or `*` (RFC 9051, section 9, seq-number).
 abbrev pub bound : SequenceBound → List ℕ → Type 0
 bound (Number value) = nz value
-bound Greatest = exactly (42 ∷ [])
+bound Greatest = exactly (codes "*")
 
 -- Two bounds with `:` between, or one that stands for both (RFC 9051, section 9, seq-range).
 abbrev pub range : SequenceRange → List ℕ → Type 0
 range this text =
-    (bound this.first ⌢ exactly (58 ∷ []) ⌢ bound this.last) text
+    (bound this.first ⌢ exactly (codes ":") ⌢ bound this.last) text
     ⊎ (bound this.first text × (this.first ≡ this.last))
 
 -- One or more ranges with commas between (RFC 9051, section 9, sequence-set).
 abbrev pub sequence_set : List SequenceRange → List ℕ → Type 0
-sequence_set = listed (exactly (44 ∷ [])) range
+sequence_set = listed (exactly (codes ",")) range

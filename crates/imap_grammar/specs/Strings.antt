@@ -1,24 +1,19 @@
-use Rattle.std.specs.Prelude.{◌≤◌, false, ◌≡◌, ◌≢◌, ◌⊎◌, ℕ, ◌+◌, ◌-◌, ◌*◌, Bool, not, ◌&&◌, ◌||◌, ◌==◌, List, [], ◌∷◌, ◌++◌, length, IsTrue, if◌then◌else◌}
+use Rattle.std.specs.Prelude.{codes, ◌≤◌, false, ◌≡◌, ◌≢◌, ◌⊎◌, ℕ, ◌+◌, ◌-◌, ◌*◌, Bool, not, ◌&&◌, ◌||◌, ◌==◌, List, [], ◌∷◌, ◌++◌, length, IsTrue, if◌then◌else◌}
 use Rattle.std.specs.List.{list_all}
 use Rattle.imap_types.specs.DateTimes.{is_digit}
-use Rattle.imap_types.specs.Keywords.{is_atom_octet}
+use Rattle.imap_types.specs.Keywords.{is_astring_octet, is_atom_octet, is_tag_octet}
 use Rattle.imap_types.specs.Names.{folded_name}
 use Rattle.imap_grammar.specs.Languages.{◌⌢◌, exactly, nothing}
 use Rattle.imap_grammar.specs.declared.class.Class.{Class}
 use Rattle.imap_grammar.specs.declared.class.Class.TheVariants.{Tag, Atom, Astring, Pattern, Digit, Item}
 
--- Whether an octet may stand in an astring without quotes: an atom octet or `]` (RFC 9051, section 9, ASTRING-CHAR).
-abbrev pub is_astring_octet : ℕ → Bool
-is_astring_octet octet = is_atom_octet octet || (octet == 93)
-
 -- Whether an octet may stand in a pattern without quotes: an astring octet, `%` or `*` (RFC 9051, section 9, list-char).
 abbrev pub is_pattern_octet : ℕ → Bool
 is_pattern_octet octet = is_astring_octet octet || (octet == 37) || (octet == 42)
 
--- The octets of each class. A tag has astring octets other than `+` (RFC 9051, section 9, tag), the words of arguments have
--- atom octets other than `[`.
+-- The octets of each class. The words of arguments have atom octets other than `[`.
 abbrev pub is_in : Class → ℕ → Bool
-is_in Tag octet = is_astring_octet octet && not (octet == 43)
+is_in Tag octet = is_tag_octet octet
 is_in Atom octet = is_atom_octet octet
 is_in Astring octet = is_astring_octet octet
 is_in Pattern octet = is_pattern_octet octet
@@ -40,7 +35,7 @@ is_quotable octet = not ((octet == 0) || (octet == 13) || (octet == 10))
 
 -- A quoted string (RFC 9051, section 9, quoted).
 abbrev pub quoted : List ℕ → List ℕ → Type 0
-quoted value text = IsTrue (list_all is_quotable value) × (text ≡ 34 ∷ (escaped value ++ 34 ∷ []))
+quoted value text = IsTrue (list_all is_quotable value) × (text ≡ codes "\"" ++ (escaped value ++ codes "\""))
 
 -- The number that decimal digits write, behind a number so far.
 abbrev pub number_of : ℕ → List ℕ → ℕ
@@ -53,11 +48,11 @@ number value text = (digits : List ℕ) × run Digit digits text × (number_of 0
 
 -- A `+` (43) or nothing.
 abbrev pub optional_plus : List ℕ → Type 0
-optional_plus text = exactly (43 ∷ []) text ⊎ nothing text
+optional_plus text = exactly (codes "+") text ⊎ nothing text
 
 -- A literal: `{n}` or `{n+}`, CRLF and n octets (RFC 9051, section 9, literal).
 abbrev pub literal : List ℕ → List ℕ → Type 0
-literal value = exactly (123 ∷ []) ⌢ number (length value) ⌢ optional_plus ⌢ exactly (125 ∷ 13 ∷ 10 ∷ []) ⌢ exactly value
+literal value = exactly (codes "{") ⌢ number (length value) ⌢ optional_plus ⌢ exactly (codes "}\r\n") ⌢ exactly value
 
 -- Octets of a class as they stand, or a string in either form.
 abbrev pub text_of : Class → List ℕ → List ℕ → Type 0

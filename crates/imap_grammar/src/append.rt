@@ -1,6 +1,6 @@
 ghost use Rattle.std.specs.Prelude.{◌≡◌, length};
 ghost use Rattle.imap_grammar.specs.Dates.{zeroed};
-ghost use Rattle.imap_grammar.specs.Reading.{Gives};
+ghost use Rattle.imap_grammar.specs.Reading.{Gives, both, spaced};
 ghost use Rattle.imap_grammar.specs.CommandReading.{append_at, append_date_at, append_flags_at, date_time_at, literal_text_at};
 
 use crate::command::Command;
@@ -17,18 +17,49 @@ pub fn append(alloc: Global, octets: &[u8]) -> Result<(Command, &[u8]), ParseFau
     ensures { Gives (λ x. (x.0, x.1.now)) result (append_at octets.now) }
 {
     let (name, rest) = mailbox(alloc, space(octets)?)?;
-    let (flags, rest) = append_flags(alloc, rest)?;
-    let (date, rest) = append_date(rest)?;
+    match message(alloc, rest) {
+        Err(fault) => {
+            drop(name);
+            Err(fault)
+        }
+        Ok(((flags, (date, text)), rest)) => {
+            let command = Command::Append {
+                name,
+                flags,
+                date,
+                text,
+            };
+            Ok((command, rest))
+        }
+    }
+}
+
+/// The message: its flags, its date and its text.
+fn message(
+    alloc: Global,
+    octets: &[u8],
+) -> Result<((Flags, (Option<DateTime>, Octets)), &[u8]), ParseFault>
+    ensures { Gives (λ x. (x.0, x.1.now)) result (both append_flags_at (both append_date_at (spaced literal_text_at)) octets.now) }
+{
+    let (flags, rest) = append_flags(alloc, octets)?;
+    match dated_text(alloc, rest) {
+        Err(fault) => {
+            drop(flags);
+            Err(fault)
+        }
+        Ok((dated, rest)) => Ok(((flags, dated), rest)),
+    }
+}
+
+fn dated_text(
+    alloc: Global,
+    octets: &[u8],
+) -> Result<((Option<DateTime>, Octets), &[u8]), ParseFault>
+    ensures { Gives (λ x. (x.0, x.1.now)) result (both append_date_at (spaced literal_text_at) octets.now) }
+{
+    let (date, rest) = append_date(octets)?;
     let (text, rest) = literal_text(alloc, space(rest)?)?;
-    Ok((
-        Command::Append {
-            name,
-            flags,
-            date,
-            text,
-        },
-        rest,
-    ))
+    Ok(((date, text), rest))
 }
 
 /// ` (flag flag ..)`, or nothing for no flags.

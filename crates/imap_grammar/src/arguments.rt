@@ -1,7 +1,7 @@
 ghost use Rattle.std.specs.Prelude.{◌≡◌};
-ghost use Rattle.imap_grammar.specs.Reading.{Gives, named_at};
+ghost use Rattle.imap_grammar.specs.Reading.{Gives, listed_at, named_at, parens_at, spaced};
 ghost use Rattle.imap_grammar.specs.CommandReading.{arguments_at, condstore_at, copy_at, create_at, delete_at, enable_at, examine_at, login_at, move_at, select_at, status_at, subscribe_at, uid_arguments_at, uid_at, uid_expunge_at, unsubscribe_at};
-ghost use Rattle.imap_grammar.specs.Words.{command_word, uid_words};
+ghost use Rattle.imap_grammar.specs.Words.{command_word, status_items, status_word, uid_words};
 
 use crate::append::append;
 use crate::class::Class;
@@ -15,7 +15,7 @@ use crate::modifier::modifier_word;
 use crate::scan::{skip, space};
 use crate::searching::search;
 use crate::sets::set;
-use crate::status::StatusItems;
+use crate::status::{StatusItem, StatusItems};
 use crate::store::store;
 use crate::text::{mailbox, plain, text};
 use crate::word::{CommandWord, named};
@@ -161,16 +161,26 @@ fn status(alloc: Global, octets: &[u8]) -> Result<(Command, &[u8]), ParseFault>
     ensures { Gives (λ x. (x.0, x.1.now)) result (status_at octets.now) }
 {
     let (name, rest) = mailbox(alloc, space(octets)?)?;
-    let rest = skip(space(rest)?, b"(")?;
+    match status_items(alloc, rest) {
+        Err(fault) => {
+            drop(name);
+            Err(fault)
+        }
+        Ok((items, rest)) => {
+            let items = Many::new(items);
+            Ok((Command::Status { name, items }, rest))
+        }
+    }
+}
+
+/// ` (item item ..)`.
+fn status_items(alloc: Global, octets: &[u8]) -> Result<(Vec<StatusItem>, &[u8]), ParseFault>
+    ensures { Gives (λ x. (x.0.items, x.1.now)) result (spaced (parens_at (listed_at 32 (named_at status_word status_items))) octets.now) }
+{
+    let rest = skip(space(octets)?, b"(")?;
     let (items, rest) = listed::<StatusItems>(alloc, b' ', rest)?;
     let rest = skip(rest, b")")?;
-    Ok((
-        Command::Status {
-            name,
-            items: Many::new(items),
-        },
-        rest,
-    ))
+    Ok((items, rest))
 }
 
 fn copy(alloc: Global, by_uid: bool, octets: &[u8]) -> Result<(Command, &[u8]), ParseFault>

@@ -1,11 +1,11 @@
 ghost use Rattle.std.specs.Prelude.{◌≡◌};
 ghost use Rattle.imap_types.specs.DateTimes.{is_digit};
-ghost use Rattle.imap_grammar.specs.Strings.{is_astring_octet, is_in, is_pattern_octet};
+ghost use Rattle.imap_grammar.specs.Strings.{is_in, is_pattern_octet};
 
-use imap_types::is_atom_octet;
+use imap_types::{is_astring_octet, is_atom_octet};
 
 /// The classes of octets that stand for themselves (RFC 9051, section 9).
-#[derive(Clone, Copy, Debug, PartialEq, Eq)]
+#[derive(Clone, Copy)]
 pub enum Class {
     Tag,
     Atom,
@@ -28,10 +28,4 @@ pub fn is_in(class: Class, octet: u8) -> bool
         Class::Item => is_atom_octet(octet) && octet != b'[',
         Class::Digit => octet >= b'0' && octet <= b'9',
     }
-}
-
-fn is_astring_octet(octet: u8) -> bool
-    ensures { result ≡ is_astring_octet octet }
-{
-    is_atom_octet(octet) || octet == b']'
 }

@@ -44,7 +44,7 @@ pub struct Partial {
     pub count: u32,
 }
 
-#[derive(Clone, Copy, Debug, PartialEq, Eq)]
+#[derive(Clone, Copy)]
 enum FetchWord {
     Flags,
     InternalDate,
@@ -83,7 +83,7 @@ impl Word for FetchWord {
     }
 }
 
-#[derive(Clone, Copy, Debug, PartialEq, Eq)]
+#[derive(Clone, Copy)]
 enum SectionWord {
     Header,
     Text,

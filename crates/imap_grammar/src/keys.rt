@@ -3,6 +3,7 @@ ghost use Rattle.imap_grammar.specs.KeyReading.{below_at, keys_at, leaf_at, leve
 ghost use Rattle.imap_grammar.specs.KeyWords.{key_word, key_words};
 ghost use Rattle.imap_grammar.specs.Reading.{Gives, named_at, next_at, number_at};
 ghost use Rattle.imap_grammar.specs.declared.fault.ParseFault.TheVariants.{BadSyntax, NotInProfile};
+ghost use Rattle.imap_grammar.specs.declared.search.KeyWord.TheVariants as key;
 ghost use Rattle.imap_grammar.specs.declared.search.SearchStep.TheVariants.{And, Or, Test};
 
 use crate::class::{Class, is_in};
@@ -276,42 +277,74 @@ fn leaf(alloc: Global, word: KeyWord, octets: &[u8]) -> Result<(SearchTest, &[u8
     match word {
         KeyWord::All => Ok((SearchTest::All, octets)),
         KeyWord::System { flag, is_set } => Ok((SearchTest::System { flag, is_set }, octets)),
-        KeyWord::Keyword { is_set } => {
-            let (keyword, rest) = plain(alloc, Class::Atom, space(octets)?)?;
-            Ok((SearchTest::Keyword { keyword, is_set }, rest))
-        }
-        KeyWord::Place { place } => {
-            let (text, rest) = text(alloc, Class::Astring, space(octets)?)?;
-            Ok((SearchTest::Holds { place, text }, rest))
-        }
-        KeyWord::Header => {
-            let (name, rest) = text(alloc, Class::Astring, space(octets)?)?;
-            let (text, rest) = text(alloc, Class::Astring, space(rest)?)?;
-            Ok((SearchTest::Header { name, text }, rest))
-        }
-        KeyWord::Dated { order } => {
-            let (day, rest) = date(space(octets)?)?;
-            Ok((SearchTest::Dated { order, day }, rest))
-        }
-        KeyWord::Larger => {
-            let (octets, rest) = number(space(octets)?, GREATEST)?;
-            Ok((SearchTest::Larger { octets }, rest))
-        }
-        KeyWord::Smaller => {
-            let (octets, rest) = number(space(octets)?, GREATEST)?;
-            Ok((SearchTest::Smaller { octets }, rest))
-        }
-        KeyWord::ModSeq => {
-            let (value, rest) = modseq(space(octets)?)?;
-            Ok((SearchTest::ModSeq { value }, rest))
-        }
-        KeyWord::Uid => {
-            let (uids, rest) = set(alloc, space(octets)?)?;
-            Ok((SearchTest::Uids { uids }, rest))
-        }
+        KeyWord::Keyword { is_set } => keyword(alloc, is_set, octets),
+        KeyWord::Place { place } => held(alloc, place, octets),
+        KeyWord::Header => header(alloc, octets),
+        KeyWord::Dated { order } => dated(order, octets),
+        KeyWord::Larger => larger(octets),
+        KeyWord::Smaller => smaller(octets),
+        KeyWord::ModSeq => since(octets),
+        KeyWord::Uid => uids(alloc, octets),
         KeyWord::Not => Err(ParseFault::BadSyntax),
         KeyWord::Or => Err(ParseFault::BadSyntax),
     }
+}
+
+fn keyword(alloc: Global, is_set: bool, octets: &[u8]) -> Result<(SearchTest, &[u8]), ParseFault>
+    ensures { Gives (λ x. (x.0, x.1.now)) result (leaf_at (key.Keyword is_set) octets.now) }
+{
+    let (keyword, rest) = plain(alloc, Class::Atom, space(octets)?)?;
+    Ok((SearchTest::Keyword { keyword, is_set }, rest))
+}
+
+fn held(alloc: Global, place: TextPlace, octets: &[u8]) -> Result<(SearchTest, &[u8]), ParseFault>
+    ensures { Gives (λ x. (x.0, x.1.now)) result (leaf_at (key.Place place) octets.now) }
+{
+    let (text, rest) = text(alloc, Class::Astring, space(octets)?)?;
+    Ok((SearchTest::Holds { place, text }, rest))
+}
+
+fn header(alloc: Global, octets: &[u8]) -> Result<(SearchTest, &[u8]), ParseFault>
+    ensures { Gives (λ x. (x.0, x.1.now)) result (leaf_at key.Header octets.now) }
+{
+    let (name, rest) = text(alloc, Class::Astring, space(octets)?)?;
+    let (text, rest) = text(alloc, Class::Astring, space(rest)?)?;
+    Ok((SearchTest::Header { name, text }, rest))
+}
+
+fn dated(order: DayOrder, octets: &[u8]) -> Result<(SearchTest, &[u8]), ParseFault>
+    ensures { Gives (λ x. (x.0, x.1.now)) result (leaf_at (key.Dated order) octets.now) }
+{
+    let (day, rest) = date(space(octets)?)?;
+    Ok((SearchTest::Dated { order, day }, rest))
+}
+
+fn larger(octets: &[u8]) -> Result<(SearchTest, &[u8]), ParseFault>
+    ensures { Gives (λ x. (x.0, x.1.now)) result (leaf_at key.Larger octets.now) }
+{
+    let (octets, rest) = number(space(octets)?, GREATEST)?;
+    Ok((SearchTest::Larger { octets }, rest))
+}
+
+fn smaller(octets: &[u8]) -> Result<(SearchTest, &[u8]), ParseFault>
+    ensures { Gives (λ x. (x.0, x.1.now)) result (leaf_at key.Smaller octets.now) }
+{
+    let (octets, rest) = number(space(octets)?, GREATEST)?;
+    Ok((SearchTest::Smaller { octets }, rest))
+}
+
+fn since(octets: &[u8]) -> Result<(SearchTest, &[u8]), ParseFault>
+    ensures { Gives (λ x. (x.0, x.1.now)) result (leaf_at key.ModSeq octets.now) }
+{
+    let (value, rest) = modseq(space(octets)?)?;
+    Ok((SearchTest::ModSeq { value }, rest))
+}
+
+fn uids(alloc: Global, octets: &[u8]) -> Result<(SearchTest, &[u8]), ParseFault>
+    ensures { Gives (λ x. (x.0, x.1.now)) result (leaf_at key.Uid octets.now) }
+{
+    let (uids, rest) = set(alloc, space(octets)?)?;
+    Ok((SearchTest::Uids { uids }, rest))
 }
 
 /// A mod-sequence. An entry's name in front of it (RFC 7162, section 3.1.5) is a form that this server leaves out.

@@ -55,11 +55,9 @@ fn answered(alloc: Global, frame: &[u8]) -> Result<Tagged, ParseFault>
     let Some(word) = find_command(letters) else {
         return Err(ParseFault::UnknownCommand);
     };
+    let tag = Octets::copied_from(alloc, tag)?;
     let command = ended(alloc, word, rest)?;
-    Ok(Tagged {
-        tag: Octets::copied_from(alloc, tag)?,
-        command,
-    })
+    Ok(Tagged { tag, command })
 }
 
 fn tagged(frame: &[u8]) -> Option<(&[u8], &[u8])>
@@ -86,6 +84,7 @@ fn ended(alloc: Global, word: CommandWord, octets: &[u8]) -> Result<Command, Par
 {
     let (command, rest) = arguments(alloc, word, octets)?;
     if rest != b"\r\n".as_slice() {
+        drop(command);
         return Err(trailing(word, rest));
     }
     Ok(command)

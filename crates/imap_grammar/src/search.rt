@@ -95,7 +95,7 @@ pub enum SearchStep {
 }
 
 /// The words that begin keys.
-#[derive(Clone, Copy, Debug, PartialEq, Eq)]
+#[derive(Clone, Copy)]
 pub enum KeyWord {
     All,
     System { flag: SystemFlag, is_set: bool },

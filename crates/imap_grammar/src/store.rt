@@ -1,5 +1,5 @@
-ghost use Rattle.std.specs.Prelude.{◌≡◌};
-ghost use Rattle.imap_grammar.specs.Reading.{Gives, named_at};
+ghost use Rattle.std.specs.Prelude.{◌≡◌, codes};
+ghost use Rattle.imap_grammar.specs.Reading.{Gives, both, modifier_at, named_at, spaced, stored_at};
 ghost use Rattle.imap_grammar.specs.CommandReading.{store_at};
 ghost use Rattle.imap_grammar.specs.Words.{store_actions, store_word};
 
@@ -10,6 +10,7 @@ use crate::modifier::unchanged_since;
 use crate::scan::space;
 use crate::sets::set;
 use crate::word::{Word, named};
+use imap_types::Flags;
 use std::alloc::Global;
 
 /// What STORE does with its flags (RFC 9051, section 6.4.6).
@@ -95,19 +96,35 @@ pub fn store(alloc: Global, by_uid: bool, octets: &[u8]) -> Result<(Command, &[u
     ensures { Gives (λ x. (x.0, x.1.now)) result (store_at by_uid octets.now) }
 {
     let (messages, rest) = set(alloc, space(octets)?)?;
-    let (unchanged_since, rest) = unchanged_since(rest)?;
+    match change(alloc, rest) {
+        Err(fault) => {
+            drop(messages);
+            Err(fault)
+        }
+        Ok(((unchanged_since, (action, flags)), rest)) => {
+            let command = Command::Store {
+                by_uid,
+                messages,
+                unchanged_since,
+                action,
+                flags,
+            };
+            Ok((command, rest))
+        }
+    }
+}
+
+/// The change of each message.
+fn change(
+    alloc: Global,
+    octets: &[u8],
+) -> Result<((Option<u64>, (StoreAction, Flags)), &[u8]), ParseFault>
+    ensures { Gives (λ x. (x.0, x.1.now)) result (both (modifier_at (codes "UNCHANGEDSINCE")) (spaced (both (named_at store_word store_actions) (spaced stored_at))) octets.now) }
+{
+    let (unchanged_since, rest) = unchanged_since(octets)?;
     let (action, rest) = store_action(space(rest)?)?;
     let (flags, rest) = stored(alloc, space(rest)?)?;
-    Ok((
-        Command::Store {
-            by_uid,
-            messages,
-            unchanged_since,
-            action,
-            flags,
-        },
-        rest,
-    ))
+    Ok(((unchanged_since, (action, flags)), rest))
 }
 
 fn store_action(octets: &[u8]) -> Result<(StoreAction, &[u8]), ParseFault>

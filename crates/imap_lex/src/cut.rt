@@ -11,7 +11,7 @@ use crate::progress::Progress;
 use std::alloc::Global;
 
 /// Takes a piece of the stream, and appends the items that it completes. Behind an `Err` the items before the fault are
-/// there (with `NoMemory` the last may be missing), and the progress is of no further use.
+/// there (with `NoMemory` some of them), and the progress is of no further use.
 pub(crate) fn cut_into(
     alloc: Global,
     limits: Limits,

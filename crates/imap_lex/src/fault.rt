@@ -29,7 +29,8 @@ pub enum Fault {
 /// A fault, with the items that came before it in the same piece of input.
 #[derive(Drop, Debug)]
 pub struct FrameFault {
-    /// The items before the fault. With `NoMemory` the last of them may be missing.
+    /// The items before the fault. With `NoMemory` some of the first ones that the piece completes: memory may run out at any of its
+    /// octets.
     pub items: Vec<Item>,
     /// Which fault.
     pub why: Fault,

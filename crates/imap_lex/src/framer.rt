@@ -46,7 +46,8 @@ impl Framer {
     ///
     /// The first octet that makes a fault decides: a NUL (`NulByte`), the first octet outside literals past the limit
     /// (`LineTooLong`), the LF behind a mark `{n+}` that passes the limit of literals (`LiteralTooLong`). Where memory runs
-    /// out, it is `NoMemory`. Each of them comes with the items before it, and every later call answers `Failed`.
+    /// out, it is `NoMemory`. Each of them comes with the items before it (`NoMemory` with some of the first that the piece
+    /// completes), and every later call answers `Failed`.
     pub fn feed(&mut self, alloc: Global, piece: &[u8]) -> Result<Vec<Item>, FrameFault>
         ensures limits { self.new.limits ≡ self.old.limits }
         ensures ok { IfOk result (λ items. goes_on self.old.limits self.old.state piece.now ≡ (items.items, self.new.state)) }

@@ -1,6 +1,1 @@
 pub mod ListsLemmas
-pub mod ReadingLemmas
-pub mod Again
-pub mod AgainLists
-pub mod AgainItems
-pub mod AgainAnswers

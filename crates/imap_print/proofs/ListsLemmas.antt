@@ -1,7 +1,7 @@
 use Rattle.std.proofs.Common.{◌≡◌, ℕ, ◌+◌, ◌<◌, Bool, true, false, ◌&&◌, cond, List, [], ◌∷◌, ◌++◌, length, map, take, get_or, refl, ap, sym, subst, ◌∙◌, append_assoc}
 use Rattle.std.proofs.lemmas.List.{map-append, take_more}
 use Rattle.std.proofs.lemmas.Grind.{flat_map-append}
-use Rattle.imap_print.specs.Appending.{Appends, Extends, Lists, has_none, spaced}
+use Rattle.imap_print.specs.Appending.{Appends, Lists, has_none, spaced}
 
 append_none : {X : Type 0} (xs : List X) → xs ++ [] ≡ xs
 append_none [] = refl
@@ -29,10 +29,6 @@ goes_on f g h xs ys a b c p q = record {
 pub begins : (f : Bool) (a : List ℕ) → Lists f [] a a f
 begins true a = record { still_is = refl; text = sym (append_none a) }
 begins false a = record { still_is = refl; text = sym (append_none a) }
-
--- what was kept is still kept
-pub further : (a b c : List ℕ) → Extends a b → Extends b c → Extends a c
-further a b c p q = (p.0 ++ q.0, q.1 ∙ ap (λ zs. zs ++ q.0) p.1 ∙ append_assoc a p.0 q.0)
 
 -- one text behind another
 pub behind : (a b c x y : List ℕ) → Appends a b x → Appends b c y → Appends a c (x ++ y)

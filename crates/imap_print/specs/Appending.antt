@@ -1,13 +1,9 @@
 use Rattle.std.specs.Prelude.{◌≡◌, ℕ, Bool, true, false, ◌&&◌, List, [], ◌∷◌, ◌++◌, flat_map}
-use Rattle.imap_print.specs.Strings.{separated}
+use Rattle.imap_answers.specs.Strings.{separated}
 
 -- A text was put behind what was there.
 abbrev pub Appends : List ℕ → List ℕ → List ℕ → Type 0
 Appends old new text = new ≡ old ++ text
-
--- What was there still begins what is there.
-abbrev pub Extends : List ℕ → List ℕ → Type 0
-Extends old new = (more : List ℕ) × (new ≡ old ++ more)
 
 -- Whether there are no texts.
 abbrev pub has_none : List (List ℕ) → Bool

@@ -3,9 +3,9 @@
 
 ghost use Rattle.std.specs.Prelude.{◌≡◌, ◌++◌, [], ◌∷◌, codes, map, true, if◌then◌else◌, IfOk, OnOk};
 ghost use Rattle.imap_types.specs.Flags.{flag_texts, where_there};
-ghost use Rattle.imap_print.specs.Appending.{Appends, Extends, Lists};
-ghost use Rattle.imap_print.specs.Printed.{body_text, date_item, fetch_texts, flags_item, modseq_item, status_texts};
-ghost use Rattle.imap_print.specs.Strings.{item};
+ghost use Rattle.imap_print.specs.Appending.{Appends, Lists};
+ghost use Rattle.imap_answers.specs.Printed.{body_text, date_item, fetch_texts, flags_item, modseq_item, status_texts};
+ghost use Rattle.imap_answers.specs.Strings.{item};
 
 use crate::parts::{push_body, push_date, push_flags, push_modseq};
 use crate::strings::{push_label, push_text};
@@ -14,8 +14,7 @@ use imap_types::{DateTime, Flags, Octets};
 use std::alloc::AllocError;
 
 fn push_space(is_first: bool, out: &mut Vec<u8>) -> Result<(), AllocError>
-    ensures ok { OnOk result (Appends out.old.items out.new.items (if is_first then [] else codes " ")) }
-    ensures kept { Extends out.old.items out.new.items }
+    ensures { OnOk result (Appends out.old.items out.new.items (if is_first then [] else codes " ")) }
 {
     if is_first {
         return Ok(());
@@ -24,8 +23,7 @@ fn push_space(is_first: bool, out: &mut Vec<u8>) -> Result<(), AllocError>
 }
 
 fn push_word(is_first: bool, text: &[u8], out: &mut Vec<u8>) -> Result<bool, AllocError>
-    ensures ok { IfOk result (λ still. Lists is_first (text.now ∷ []) out.old.items out.new.items still) }
-    ensures kept { Extends out.old.items out.new.items }
+    ensures { IfOk result (λ still. Lists is_first (text.now ∷ []) out.old.items out.new.items still) }
 {
     push_space(is_first, out)?;
     push_text(text, out)?;
@@ -38,8 +36,7 @@ fn push_item(
     number: Option<u64>,
     out: &mut Vec<u8>,
 ) -> Result<bool, AllocError>
-    ensures ok { IfOk result (λ still. Lists is_first (item label.now number) out.old.items out.new.items still) }
-    ensures kept { Extends out.old.items out.new.items }
+    ensures { IfOk result (λ still. Lists is_first (item label.now number) out.old.items out.new.items still) }
 {
     match number {
         None => Ok(is_first),
@@ -57,8 +54,7 @@ fn push_flag(
     text: &[u8],
     out: &mut Vec<u8>,
 ) -> Result<bool, AllocError>
-    ensures ok { IfOk result (λ still. Lists is_first (where_there is_there text.now) out.old.items out.new.items still) }
-    ensures kept { Extends out.old.items out.new.items }
+    ensures { IfOk result (λ still. Lists is_first (where_there is_there text.now) out.old.items out.new.items still) }
 {
     if is_there {
         push_word(is_first, text, out)
@@ -68,8 +64,7 @@ fn push_flag(
 }
 
 fn push_keywords(is_first: bool, keywords: &[Octets], out: &mut Vec<u8>) -> Result<bool, AllocError>
-    ensures ok { IfOk result (λ still. Lists is_first keywords.now out.old.items out.new.items still) }
-    ensures kept { Extends out.old.items out.new.items }
+    ensures { IfOk result (λ still. Lists is_first keywords.now out.old.items out.new.items still) }
 {
     let mut still = is_first;
     for keyword in keywords {
@@ -80,8 +75,7 @@ fn push_keywords(is_first: bool, keywords: &[Octets], out: &mut Vec<u8>) -> Resu
 
 /// The flags of a list in their order; tells whether there are none.
 pub fn push_flag_texts(flags: &Flags, out: &mut Vec<u8>) -> Result<bool, AllocError>
-    ensures ok { IfOk result (λ still. Lists true (flag_texts flags.now) out.old.items out.new.items still) }
-    ensures kept { Extends out.old.items out.new.items }
+    ensures { IfOk result (λ still. Lists true (flag_texts flags.now) out.old.items out.new.items still) }
 {
     let still = push_flag(true, flags.answered, b"\\Answered", out)?;
     let still = push_flag(still, flags.flagged, b"\\Flagged", out)?;
@@ -94,8 +88,7 @@ pub fn push_flag_texts(flags: &Flags, out: &mut Vec<u8>) -> Result<bool, AllocEr
 
 /// The flags of a list, and behind them that of any new keyword.
 pub fn push_flags_and_any(flags: &Flags, out: &mut Vec<u8>) -> Result<bool, AllocError>
-    ensures ok { IfOk result (λ still. Lists true (flag_texts flags.now ++ codes "\\*" ∷ []) out.old.items out.new.items still) }
-    ensures kept { Extends out.old.items out.new.items }
+    ensures { IfOk result (λ still. Lists true (flag_texts flags.now ++ codes "\\*" ∷ []) out.old.items out.new.items still) }
 {
     let still = push_flag_texts(flags, out)?;
     let still = push_word(still, b"\\*", out)?;
@@ -104,8 +97,7 @@ pub fn push_flags_and_any(flags: &Flags, out: &mut Vec<u8>) -> Result<bool, Allo
 
 /// What STATUS tells (RFC 9051, section 7.3.3).
 pub fn push_status_items(items: &StatusItems, out: &mut Vec<u8>) -> Result<bool, AllocError>
-    ensures ok { IfOk result (λ still. Lists true (status_texts items.now) out.old.items out.new.items still) }
-    ensures kept { Extends out.old.items out.new.items }
+    ensures { IfOk result (λ still. Lists true (status_texts items.now) out.old.items out.new.items still) }
 {
     let still = push_item(true, b"MESSAGES ", wide(items.messages), out)?;
     let still = push_item(still, b"UIDNEXT ", wide(items.uidnext), out)?;
@@ -119,8 +111,7 @@ pub fn push_status_items(items: &StatusItems, out: &mut Vec<u8>) -> Result<bool,
 
 /// What FETCH tells (RFC 9051, section 7.5.2).
 pub fn push_fetch_items(items: &FetchItems, out: &mut Vec<u8>) -> Result<bool, AllocError>
-    ensures ok { IfOk result (λ still. Lists true (fetch_texts items.now) out.old.items out.new.items still) }
-    ensures kept { Extends out.old.items out.new.items }
+    ensures { IfOk result (λ still. Lists true (fetch_texts items.now) out.old.items out.new.items still) }
 {
     let still = push_item(true, b"UID ", wide(items.uid), out)?;
     let still = push_flags_item(still, &items.flags, out)?;
@@ -136,8 +127,7 @@ fn push_flags_item(
     flags: &Option<Flags>,
     out: &mut Vec<u8>,
 ) -> Result<bool, AllocError>
-    ensures ok { IfOk result (λ still. Lists is_first (flags_item flags.now) out.old.items out.new.items still) }
-    ensures kept { Extends out.old.items out.new.items }
+    ensures { IfOk result (λ still. Lists is_first (flags_item flags.now) out.old.items out.new.items still) }
 {
     match flags {
         None => Ok(is_first),
@@ -154,8 +144,7 @@ fn push_date_item(
     date: &Option<DateTime>,
     out: &mut Vec<u8>,
 ) -> Result<bool, AllocError>
-    ensures ok { IfOk result (λ still. Lists is_first (date_item date.now) out.old.items out.new.items still) }
-    ensures kept { Extends out.old.items out.new.items }
+    ensures { IfOk result (λ still. Lists is_first (date_item date.now) out.old.items out.new.items still) }
 {
     match date {
         None => Ok(is_first),
@@ -172,8 +161,7 @@ fn push_modseq_item(
     modseq: Option<u64>,
     out: &mut Vec<u8>,
 ) -> Result<bool, AllocError>
-    ensures ok { IfOk result (λ still. Lists is_first (modseq_item modseq) out.old.items out.new.items still) }
-    ensures kept { Extends out.old.items out.new.items }
+    ensures { IfOk result (λ still. Lists is_first (modseq_item modseq) out.old.items out.new.items still) }
 {
     match modseq {
         None => Ok(is_first),
@@ -186,8 +174,7 @@ fn push_modseq_item(
 }
 
 fn push_bodies(is_first: bool, parts: &[SectionData], out: &mut Vec<u8>) -> Result<bool, AllocError>
-    ensures ok { IfOk result (λ still. Lists is_first (map body_text parts.now) out.old.items out.new.items still) }
-    ensures kept { Extends out.old.items out.new.items }
+    ensures { IfOk result (λ still. Lists is_first (map body_text parts.now) out.old.items out.new.items still) }
 {
     let mut still = is_first;
     for part in parts {

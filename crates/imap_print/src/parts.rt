@@ -2,30 +2,29 @@
 //! beginning of it.
 
 ghost use Rattle.std.specs.Prelude.{◌≡◌, ◌++◌, codes, decimal, map, OnOk};
-ghost use Rattle.imap_print.specs.Appending.{Appends, Extends};
-ghost use Rattle.imap_print.specs.Printed.{all_text, appended_text, attributes_text, body_text, code_before, code_text, copied_text, flags_text, notice_text, origin_text, permanent_text, results_text, section_text, sets_text};
-ghost use Rattle.imap_print.specs.Strings.{field_text, separated};
+ghost use Rattle.imap_print.specs.Appending.{Appends};
+ghost use Rattle.imap_answers.specs.Printed.{all_text, appended_text, body_text, code_before, code_text, copied_text, flags_text, notice_text, origin_text, permanent_text, results_text, section_text, sets_text};
+ghost use Rattle.imap_answers.specs.Strings.{field_text, separated, set_text};
 
 use crate::lists::{push_flag_texts, push_flags_and_any, wide};
 use crate::strings::{
-    push_field, push_label, push_labelled, push_literal, push_number, push_set, push_text,
+    Writer, push_field, push_label, push_labelled, push_literal, push_number, push_separated,
+    push_set, push_text,
 };
-use imap_answers::{Code, MailboxState, Notice, SearchResults, SectionData};
+use imap_answers::{Code, Notice, SearchResults, SectionData};
 use imap_types::{DateTime, FieldNames, Flags, NumberSet, Octets, Section};
 use std::alloc::AllocError;
 
 /// A label, and flags in parentheses (RFC 9051, section 9, flag-list).
 pub fn push_flags(label: &[u8], flags: &Flags, out: &mut Vec<u8>) -> Result<(), AllocError>
-    ensures ok { OnOk result (Appends out.old.items out.new.items (label.now ++ flags_text flags.now)) }
-    ensures kept { Extends out.old.items out.new.items }
+    ensures { OnOk result (Appends out.old.items out.new.items (label.now ++ flags_text flags.now)) }
 {
     push_text(label, out)?;
     push_flag_list(flags, out)
 }
 
 fn push_flag_list(flags: &Flags, out: &mut Vec<u8>) -> Result<(), AllocError>
-    ensures ok { OnOk result (Appends out.old.items out.new.items (flags_text flags.now)) }
-    ensures kept { Extends out.old.items out.new.items }
+    ensures { OnOk result (Appends out.old.items out.new.items (flags_text flags.now)) }
 {
     push_text(b"(", out)?;
     let _ = push_flag_texts(flags, out)?;
@@ -33,8 +32,7 @@ fn push_flag_list(flags: &Flags, out: &mut Vec<u8>) -> Result<(), AllocError>
 }
 
 fn push_permanent(flags: &Option<Flags>, out: &mut Vec<u8>) -> Result<(), AllocError>
-    ensures ok { OnOk result (Appends out.old.items out.new.items (codes "[PERMANENTFLAGS " ++ permanent_text flags.now ++ codes "]")) }
-    ensures kept { Extends out.old.items out.new.items }
+    ensures { OnOk result (Appends out.old.items out.new.items (codes "[PERMANENTFLAGS " ++ permanent_text flags.now ++ codes "]")) }
 {
     push_text(b"[PERMANENTFLAGS ", out)?;
     push_permanent_flags(flags, out)?;
@@ -44,8 +42,7 @@ fn push_permanent(flags: &Option<Flags>, out: &mut Vec<u8>) -> Result<(), AllocE
 
 /// The flags that can be changed for good (RFC 9051, section 7.1).
 fn push_permanent_flags(flags: &Option<Flags>, out: &mut Vec<u8>) -> Result<(), AllocError>
-    ensures ok { OnOk result (Appends out.old.items out.new.items (permanent_text flags.now)) }
-    ensures kept { Extends out.old.items out.new.items }
+    ensures { OnOk result (Appends out.old.items out.new.items (permanent_text flags.now)) }
 {
     match flags {
         None => push_text(b"()", out),
@@ -57,24 +54,9 @@ fn push_permanent_flags(flags: &Option<Flags>, out: &mut Vec<u8>) -> Result<(), 
     }
 }
 
-/// The attributes of a name in LIST (RFC 9051, section 7.3.1).
-pub fn attributes(state: MailboxState, subscribed: bool) -> &'static [u8]
-    ensures { result.now ≡ attributes_text state subscribed }
-{
-    match (state, subscribed) {
-        (MailboxState::There, false) => b"()",
-        (MailboxState::There, true) => b"(\\Subscribed)",
-        (MailboxState::NoSelect, false) => b"(\\Noselect)",
-        (MailboxState::NoSelect, true) => b"(\\Noselect \\Subscribed)",
-        (MailboxState::NonExistent, false) => b"(\\NonExistent)",
-        (MailboxState::NonExistent, true) => b"(\\NonExistent \\Subscribed)",
-    }
-}
-
 /// What an untagged OK tells (RFC 9051, section 7.1).
 pub fn push_notice(notice: &Notice, out: &mut Vec<u8>) -> Result<(), AllocError>
-    ensures ok { OnOk result (Appends out.old.items out.new.items (notice_text notice.now)) }
-    ensures kept { Extends out.old.items out.new.items }
+    ensures { OnOk result (Appends out.old.items out.new.items (notice_text notice.now)) }
 {
     match notice {
         Notice::Closed => push_text(b"[CLOSED]", out),
@@ -91,8 +73,7 @@ pub fn push_notice(notice: &Notice, out: &mut Vec<u8>) -> Result<(), AllocError>
 }
 
 fn push_code(label: &[u8], number: u64, out: &mut Vec<u8>) -> Result<(), AllocError>
-    ensures ok { OnOk result (Appends out.old.items out.new.items (label.now ++ decimal number ++ codes "]")) }
-    ensures kept { Extends out.old.items out.new.items }
+    ensures { OnOk result (Appends out.old.items out.new.items (label.now ++ decimal number ++ codes "]")) }
 {
     push_label(label, number, out)?;
     push_text(b"]", out)
@@ -104,8 +85,7 @@ fn push_copied(
     copies: &NumberSet,
     out: &mut Vec<u8>,
 ) -> Result<(), AllocError>
-    ensures ok { OnOk result (Appends out.old.items out.new.items (copied_text uidvalidity source.now copies.now)) }
-    ensures kept { Extends out.old.items out.new.items }
+    ensures { OnOk result (Appends out.old.items out.new.items (copied_text uidvalidity source.now copies.now)) }
 {
     push_label(b"[COPYUID ", u64::from(uidvalidity), out)?;
     push_text(b" ", out)?;
@@ -115,8 +95,7 @@ fn push_copied(
 }
 
 fn push_sets(source: &NumberSet, copies: &NumberSet, out: &mut Vec<u8>) -> Result<(), AllocError>
-    ensures ok { OnOk result (Appends out.old.items out.new.items (sets_text source.now copies.now)) }
-    ensures kept { Extends out.old.items out.new.items }
+    ensures { OnOk result (Appends out.old.items out.new.items (sets_text source.now copies.now)) }
 {
     push_set(source, out)?;
     push_text(b" ", out)?;
@@ -125,8 +104,7 @@ fn push_sets(source: &NumberSet, copies: &NumberSet, out: &mut Vec<u8>) -> Resul
 
 /// The code of a tagged OK with a space behind it, where there is one (RFC 9051, section 7.1).
 pub fn push_code_before(code: &Option<Code>, out: &mut Vec<u8>) -> Result<(), AllocError>
-    ensures ok { OnOk result (Appends out.old.items out.new.items (code_before code.now)) }
-    ensures kept { Extends out.old.items out.new.items }
+    ensures { OnOk result (Appends out.old.items out.new.items (code_before code.now)) }
 {
     match code {
         None => Ok(()),
@@ -138,8 +116,7 @@ pub fn push_code_before(code: &Option<Code>, out: &mut Vec<u8>) -> Result<(), Al
 }
 
 fn push_tagged_code(code: &Code, out: &mut Vec<u8>) -> Result<(), AllocError>
-    ensures ok { OnOk result (Appends out.old.items out.new.items (code_text code.now)) }
-    ensures kept { Extends out.old.items out.new.items }
+    ensures { OnOk result (Appends out.old.items out.new.items (code_text code.now)) }
 {
     match code {
         Code::ReadWrite => push_text(b"[READ-WRITE]", out),
@@ -150,18 +127,21 @@ fn push_tagged_code(code: &Code, out: &mut Vec<u8>) -> Result<(), AllocError>
             source,
             copies,
         } => push_copied(*uidvalidity, source, copies, out),
-        Code::Modified { refused } => {
-            push_text(b"[MODIFIED ", out)?;
-            push_set(refused, out)?;
-            push_text(b"]", out)
-        }
+        Code::Modified { refused } => push_modified(refused, out),
         Code::ExpungeIssued => push_text(b"[EXPUNGEISSUED]", out),
     }
 }
 
+fn push_modified(refused: &NumberSet, out: &mut Vec<u8>) -> Result<(), AllocError>
+    ensures { OnOk result (Appends out.old.items out.new.items (codes "[MODIFIED " ++ set_text refused.now ++ codes "]")) }
+{
+    push_text(b"[MODIFIED ", out)?;
+    push_set(refused, out)?;
+    push_text(b"]", out)
+}
+
 fn push_appended(uidvalidity: u32, uid: u32, out: &mut Vec<u8>) -> Result<(), AllocError>
-    ensures ok { OnOk result (Appends out.old.items out.new.items (appended_text uidvalidity uid)) }
-    ensures kept { Extends out.old.items out.new.items }
+    ensures { OnOk result (Appends out.old.items out.new.items (appended_text uidvalidity uid)) }
 {
     push_label(b"[APPENDUID ", u64::from(uidvalidity), out)?;
     push_text(b" ", out)?;
@@ -172,8 +152,7 @@ fn push_appended(uidvalidity: u32, uid: u32, out: &mut Vec<u8>) -> Result<(), Al
 
 /// What a search found (RFC 9051, section 7.3.4).
 pub fn push_results(results: &SearchResults, out: &mut Vec<u8>) -> Result<(), AllocError>
-    ensures ok { OnOk result (Appends out.old.items out.new.items (results_text results.now)) }
-    ensures kept { Extends out.old.items out.new.items }
+    ensures { OnOk result (Appends out.old.items out.new.items (results_text results.now)) }
 {
     push_labelled(b" MIN ", wide(results.min), out)?;
     push_labelled(b" MAX ", wide(results.max), out)?;
@@ -184,8 +163,7 @@ pub fn push_results(results: &SearchResults, out: &mut Vec<u8>) -> Result<(), Al
 }
 
 fn push_all(hits: &NumberSet, out: &mut Vec<u8>) -> Result<(), AllocError>
-    ensures ok { OnOk result (Appends out.old.items out.new.items (all_text hits.now)) }
-    ensures kept { Extends out.old.items out.new.items }
+    ensures { OnOk result (Appends out.old.items out.new.items (all_text hits.now)) }
 {
     if hits.is_empty() {
         return Ok(());
@@ -196,8 +174,7 @@ fn push_all(hits: &NumberSet, out: &mut Vec<u8>) -> Result<(), AllocError>
 
 /// A mod-sequence in FETCH (RFC 7162, section 3.1.4.1).
 pub fn push_modseq(modseq: u64, out: &mut Vec<u8>) -> Result<(), AllocError>
-    ensures ok { OnOk result (Appends out.old.items out.new.items (codes "MODSEQ (" ++ decimal modseq ++ codes ")")) }
-    ensures kept { Extends out.old.items out.new.items }
+    ensures { OnOk result (Appends out.old.items out.new.items (codes "MODSEQ (" ++ decimal modseq ++ codes ")")) }
 {
     push_label(b"MODSEQ (", modseq, out)?;
     push_text(b")", out)
@@ -205,8 +182,7 @@ pub fn push_modseq(modseq: u64, out: &mut Vec<u8>) -> Result<(), AllocError>
 
 /// A date in FETCH (RFC 9051, section 7.5.2).
 pub fn push_date(date: &DateTime, out: &mut Vec<u8>) -> Result<(), AllocError>
-    ensures ok { OnOk result (Appends out.old.items out.new.items (codes "INTERNALDATE " ++ date.now)) }
-    ensures kept { Extends out.old.items out.new.items }
+    ensures { OnOk result (Appends out.old.items out.new.items (codes "INTERNALDATE " ++ date.now)) }
 {
     push_text(b"INTERNALDATE ", out)?;
     push_text(date.as_bytes(), out)?;
@@ -215,8 +191,7 @@ pub fn push_date(date: &DateTime, out: &mut Vec<u8>) -> Result<(), AllocError>
 
 /// A part of a message with its octets (RFC 9051, section 7.5.2).
 pub fn push_body(part: &SectionData, out: &mut Vec<u8>) -> Result<(), AllocError>
-    ensures ok { OnOk result (Appends out.old.items out.new.items (body_text part.now)) }
-    ensures kept { Extends out.old.items out.new.items }
+    ensures { OnOk result (Appends out.old.items out.new.items (body_text part.now)) }
 {
     push_text(b"BODY[", out)?;
     push_section(&part.section, out)?;
@@ -228,8 +203,7 @@ pub fn push_body(part: &SectionData, out: &mut Vec<u8>) -> Result<(), AllocError
 }
 
 fn push_section(section: &Section, out: &mut Vec<u8>) -> Result<(), AllocError>
-    ensures ok { OnOk result (Appends out.old.items out.new.items (section_text section.now)) }
-    ensures kept { Extends out.old.items out.new.items }
+    ensures { OnOk result (Appends out.old.items out.new.items (section_text section.now)) }
 {
     match section {
         Section::Whole => Ok(()),
@@ -240,32 +214,31 @@ fn push_section(section: &Section, out: &mut Vec<u8>) -> Result<(), AllocError>
     }
 }
 
+/// Writes names of header fields.
+struct Fields;
+
+impl Writer for Fields {
+    type Value = Octets;
+
+    ghost use Rattle.imap_answers.specs.Strings.{field_text};
+
+    ghost text_of = { field_text };
+
+    fn push(value: &Octets, out: &mut Vec<u8>) -> Result<(), AllocError> {
+        push_field(value.as_bytes(), out)
+    }
+}
+
 fn push_named(label: &[u8], names: &FieldNames, out: &mut Vec<u8>) -> Result<(), AllocError>
-    ensures ok { OnOk result (Appends out.old.items out.new.items (label.now ++ separated 32 (map field_text names.now) ++ codes ")")) }
-    ensures kept { Extends out.old.items out.new.items }
+    ensures { OnOk result (Appends out.old.items out.new.items (label.now ++ separated 32 (map field_text names.now) ++ codes ")")) }
 {
     push_text(label, out)?;
-    push_fields(names.names(), out)?;
+    push_separated::<Fields>(b' ', names.names(), out)?;
     push_text(b")", out)
 }
 
-fn push_fields(names: &[Octets], out: &mut Vec<u8>) -> Result<(), AllocError>
-    ensures ok { OnOk result (Appends out.old.items out.new.items (separated 32 (map field_text names.now))) }
-    ensures kept { Extends out.old.items out.new.items }
-{
-    if let [first, rest @ ..] = names {
-        push_field(first.as_bytes(), out)?;
-        for name in rest {
-            push_text(b" ", out)?;
-            push_field(name.as_bytes(), out)?;
-        }
-    }
-    Ok(())
-}
-
 fn push_origin(origin: Option<u32>, out: &mut Vec<u8>) -> Result<(), AllocError>
-    ensures ok { OnOk result (Appends out.old.items out.new.items (origin_text origin)) }
-    ensures kept { Extends out.old.items out.new.items }
+    ensures { OnOk result (Appends out.old.items out.new.items (origin_text origin)) }
 {
     match origin {
         None => Ok(()),

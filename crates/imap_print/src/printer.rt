@@ -1,12 +1,14 @@
 ghost use Rattle.std.specs.Prelude.{◌≡◌, ◌++◌, codes, decimal, OnErr, OnOk};
-ghost use Rattle.imap_print.specs.Appending.{Appends, Extends};
-ghost use Rattle.imap_print.specs.Printed.{answer_text, completed_text, fetch_text, list_text, printed, search_text, status_text, uid_mark};
+ghost use Rattle.imap_print.specs.Appending.{Appends};
+ghost use Rattle.imap_answers.specs.Words.{refusal_text};
+ghost use Rattle.imap_answers.specs.Printed.{answer_text, completed_text, fetch_text, list_text, notice_text, printed, search_text, status_text, uid_mark};
 
 use crate::lists::{push_fetch_items, push_status_items};
-use crate::parts::{attributes, push_code_before, push_flags, push_notice, push_results};
+use crate::parts::{push_code_before, push_flags, push_notice, push_results};
 use crate::strings::{push_label, push_name, push_text};
 use imap_answers::{
-    Answer, Code, CommandWord, FetchItems, MailboxState, SearchResults, StatusItems,
+    Answer, Code, CommandWord, FetchItems, MailboxState, Notice, Refusal, SearchResults,
+    StatusItems,
 };
 use imap_types::{Name, Octets};
 use std::alloc::AllocError;
@@ -17,26 +19,21 @@ pub fn print(answer: &Answer, out: &mut Vec<u8>) -> Result<(), AllocError>
     ensures ok { OnOk result (out.new.items ≡ out.old.items ++ printed answer.now) }
     ensures err { OnErr result (out.new.items ≡ out.old.items) }
 {
-    let start = out.len();
-    if let Err(error) = push_line(answer, out) {
-        out.truncate(start);
-        return Err(error);
-    }
-    Ok(())
+    let mut line = Vec::new(*out.allocator());
+    push_line(answer, &mut line)?;
+    out.extend_from_slice(&line)
 }
 
 fn push_line(answer: &Answer, out: &mut Vec<u8>) -> Result<(), AllocError>
-    ensures ok { OnOk result (Appends out.old.items out.new.items (printed answer.now)) }
-    ensures kept { Extends out.old.items out.new.items }
+    ensures { OnOk result (Appends out.old.items out.new.items (printed answer.now)) }
 {
     push_answer(answer, out)?;
     push_text(b"\r\n", out)
 }
 
-#[tactic(auto, unfolding(crate::specs::Printed::answer_text))]
+#[tactic(auto, unfolding(imap_answers::specs::Printed::answer_text))]
 fn push_answer(answer: &Answer, out: &mut Vec<u8>) -> Result<(), AllocError>
-    ensures ok { OnOk result (Appends out.old.items out.new.items (answer_text answer.now)) }
-    ensures kept { Extends out.old.items out.new.items }
+    ensures { OnOk result (Appends out.old.items out.new.items (answer_text answer.now)) }
 {
     match answer {
         Answer::Greeting { login } => push_text(login.text(), out),
@@ -52,11 +49,7 @@ fn push_answer(answer: &Answer, out: &mut Vec<u8>) -> Result<(), AllocError>
             state,
             subscribed,
         } => push_list(name, *state, *subscribed, out),
-        Answer::Tell { notice } => {
-            push_text(b"* OK ", out)?;
-            push_notice(notice, out)?;
-            push_text(b" ok", out)
-        }
+        Answer::Tell { notice } => push_told(notice, out),
         Answer::Status { name, items } => push_status(name, items, out),
         Answer::Search {
             tag,
@@ -68,17 +61,28 @@ fn push_answer(answer: &Answer, out: &mut Vec<u8>) -> Result<(), AllocError>
         Answer::NoTag => push_text(b"* BAD no tag", out),
         Answer::LiteralTooLong => push_text(b"* NO [LIMIT] literal too long", out),
         Answer::Completed { tag, code, command } => push_completed(tag, code, *command, out),
-        Answer::Refused { tag, reason } => {
-            push_text(tag.as_bytes(), out)?;
-            push_text(b" ", out)?;
-            push_text(reason.text(), out)
-        }
+        Answer::Refused { tag, reason } => push_refused(tag, *reason, out),
     }
 }
 
+fn push_told(notice: &Notice, out: &mut Vec<u8>) -> Result<(), AllocError>
+    ensures { OnOk result (Appends out.old.items out.new.items (codes "* OK " ++ notice_text notice.now ++ codes " ok")) }
+{
+    push_text(b"* OK ", out)?;
+    push_notice(notice, out)?;
+    push_text(b" ok", out)
+}
+
+fn push_refused(tag: &Octets, reason: Refusal, out: &mut Vec<u8>) -> Result<(), AllocError>
+    ensures { OnOk result (Appends out.old.items out.new.items (tag.now ++ codes " " ++ refusal_text reason)) }
+{
+    push_text(tag.as_bytes(), out)?;
+    push_text(b" ", out)?;
+    push_text(reason.text(), out)
+}
+
 fn push_numbered(number: u32, word: &[u8], out: &mut Vec<u8>) -> Result<(), AllocError>
-    ensures ok { OnOk result (Appends out.old.items out.new.items (codes "* " ++ decimal number ++ word.now)) }
-    ensures kept { Extends out.old.items out.new.items }
+    ensures { OnOk result (Appends out.old.items out.new.items (codes "* " ++ decimal number ++ word.now)) }
 {
     push_label(b"* ", u64::from(number), out)?;
     push_text(word, out)
@@ -90,19 +94,17 @@ fn push_list(
     subscribed: bool,
     out: &mut Vec<u8>,
 ) -> Result<(), AllocError>
-    ensures ok { OnOk result (Appends out.old.items out.new.items (list_text name.now state subscribed)) }
-    ensures kept { Extends out.old.items out.new.items }
+    ensures { OnOk result (Appends out.old.items out.new.items (list_text name.now state subscribed)) }
 {
     push_text(b"* LIST ", out)?;
-    push_text(attributes(state, subscribed), out)?;
+    push_text(state.attributes(subscribed), out)?;
     push_text(b" \"/\" ", out)?;
     push_name(name, out)?;
     Ok(())
 }
 
 fn push_status(name: &Name, items: &StatusItems, out: &mut Vec<u8>) -> Result<(), AllocError>
-    ensures ok { OnOk result (Appends out.old.items out.new.items (status_text name.now items.now)) }
-    ensures kept { Extends out.old.items out.new.items }
+    ensures { OnOk result (Appends out.old.items out.new.items (status_text name.now items.now)) }
 {
     push_text(b"* STATUS ", out)?;
     push_name(name, out)?;
@@ -118,8 +120,7 @@ fn push_search(
     results: &SearchResults,
     out: &mut Vec<u8>,
 ) -> Result<(), AllocError>
-    ensures ok { OnOk result (Appends out.old.items out.new.items (search_text tag.now by_uid results.now)) }
-    ensures kept { Extends out.old.items out.new.items }
+    ensures { OnOk result (Appends out.old.items out.new.items (search_text tag.now by_uid results.now)) }
 {
     push_text(b"* ESEARCH (TAG \"", out)?;
     push_text(tag.as_bytes(), out)?;
@@ -136,8 +137,7 @@ fn uid_mark(by_uid: bool) -> &'static [u8]
 }
 
 fn push_fetch(number: u32, items: &FetchItems, out: &mut Vec<u8>) -> Result<(), AllocError>
-    ensures ok { OnOk result (Appends out.old.items out.new.items (fetch_text number items.now)) }
-    ensures kept { Extends out.old.items out.new.items }
+    ensures { OnOk result (Appends out.old.items out.new.items (fetch_text number items.now)) }
 {
     push_numbered(number, b" FETCH (", out)?;
     let _ = push_fetch_items(items, out)?;
@@ -151,8 +151,7 @@ fn push_completed(
     command: CommandWord,
     out: &mut Vec<u8>,
 ) -> Result<(), AllocError>
-    ensures ok { OnOk result (Appends out.old.items out.new.items (completed_text tag.now code.now command)) }
-    ensures kept { Extends out.old.items out.new.items }
+    ensures { OnOk result (Appends out.old.items out.new.items (completed_text tag.now code.now command)) }
 {
     push_text(tag.as_bytes(), out)?;
     push_text(b" OK ", out)?;

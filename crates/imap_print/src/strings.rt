@@ -3,24 +3,23 @@
 
 ghost use Rattle.std.specs.Prelude.{◌≡◌, ◌++◌, [], ◌∷◌, codes, decimal, flat_map, map, OnOk};
 ghost use Rattle.std.specs.List.{list_all, list_any};
-ghost use Rattle.imap_print.specs.Appending.{Appends, Extends};
-ghost use Rattle.imap_print.specs.Strings.{escaped_octet, field_text, has_line_octet, is_astring_octet, is_plain, labelled, literal_text, name_text, quoted_text, run_text, separated, set_text};
+ghost use Rattle.imap_types.specs.Keywords.{is_astring_octet};
+ghost use Rattle.imap_print.specs.Appending.{Appends};
+ghost use Rattle.imap_answers.specs.Strings.{escaped_octet, field_text, has_line_octet, is_plain, labelled, literal_text, name_text, quoted_text, run_text, separated, set_text};
 
-use imap_types::{Name, NumberSet, Run, is_atom_octet};
+use imap_types::{Name, NumberSet, Run, is_astring_octet};
 use itoa::Buffer;
 use std::alloc::AllocError;
 
 pub fn push_text(text: &[u8], out: &mut Vec<u8>) -> Result<(), AllocError>
-    ensures ok { OnOk result (Appends out.old.items out.new.items text.now) }
-    ensures kept { Extends out.old.items out.new.items }
+    ensures { OnOk result (Appends out.old.items out.new.items text.now) }
 {
     out.extend_from_slice(text)
 }
 
 /// Decimal digits without leading zeros.
 pub fn push_number(number: u64, out: &mut Vec<u8>) -> Result<(), AllocError>
-    ensures ok { OnOk result (Appends out.old.items out.new.items (decimal number)) }
-    ensures kept { Extends out.old.items out.new.items }
+    ensures { OnOk result (Appends out.old.items out.new.items (decimal number)) }
 {
     let mut buffer = Buffer::new();
     push_text(buffer.format(number).as_bytes(), out)
@@ -28,8 +27,7 @@ pub fn push_number(number: u64, out: &mut Vec<u8>) -> Result<(), AllocError>
 
 /// A label and a number.
 pub fn push_label(label: &[u8], number: u64, out: &mut Vec<u8>) -> Result<(), AllocError>
-    ensures ok { OnOk result (Appends out.old.items out.new.items (label.now ++ decimal number)) }
-    ensures kept { Extends out.old.items out.new.items }
+    ensures { OnOk result (Appends out.old.items out.new.items (label.now ++ decimal number)) }
 {
     push_text(label, out)?;
     push_number(number, out)
@@ -37,8 +35,7 @@ pub fn push_label(label: &[u8], number: u64, out: &mut Vec<u8>) -> Result<(), Al
 
 /// A label and its number, where there is one.
 pub fn push_labelled(label: &[u8], number: Option<u64>, out: &mut Vec<u8>) -> Result<(), AllocError>
-    ensures ok { OnOk result (Appends out.old.items out.new.items (labelled label.now number)) }
-    ensures kept { Extends out.old.items out.new.items }
+    ensures { OnOk result (Appends out.old.items out.new.items (labelled label.now number)) }
 {
     match number {
         None => Ok(()),
@@ -48,8 +45,7 @@ pub fn push_labelled(label: &[u8], number: Option<u64>, out: &mut Vec<u8>) -> Re
 
 /// A mailbox name (RFC 9051, section 9, mailbox).
 pub fn push_name(name: &Name, out: &mut Vec<u8>) -> Result<(), AllocError>
-    ensures ok { OnOk result (Appends out.old.items out.new.items (name_text name.now)) }
-    ensures kept { Extends out.old.items out.new.items }
+    ensures { OnOk result (Appends out.old.items out.new.items (name_text name.now)) }
 {
     if name.is_inbox() {
         push_text(b"INBOX", out)
@@ -62,8 +58,7 @@ pub fn push_name(name: &Name, out: &mut Vec<u8>) -> Result<(), AllocError>
 
 /// The name of a header field (RFC 9051, section 9, header-fld-name).
 pub fn push_field(name: &[u8], out: &mut Vec<u8>) -> Result<(), AllocError>
-    ensures ok { OnOk result (Appends out.old.items out.new.items (field_text name.now)) }
-    ensures kept { Extends out.old.items out.new.items }
+    ensures { OnOk result (Appends out.old.items out.new.items (field_text name.now)) }
 {
     if is_plain(name) {
         push_text(name, out)
@@ -76,8 +71,7 @@ pub fn push_field(name: &[u8], out: &mut Vec<u8>) -> Result<(), AllocError>
 
 /// A counted literal (RFC 9051, section 9, literal).
 pub fn push_literal(string: &[u8], out: &mut Vec<u8>) -> Result<(), AllocError>
-    ensures ok { OnOk result (Appends out.old.items out.new.items (literal_text string.now)) }
-    ensures kept { Extends out.old.items out.new.items }
+    ensures { OnOk result (Appends out.old.items out.new.items (literal_text string.now)) }
 {
     push_text(b"{", out)?;
     push_number(string.len() as u64, out)?;
@@ -86,8 +80,7 @@ pub fn push_literal(string: &[u8], out: &mut Vec<u8>) -> Result<(), AllocError>
 }
 
 fn push_quoted(string: &[u8], out: &mut Vec<u8>) -> Result<(), AllocError>
-    ensures ok { OnOk result (Appends out.old.items out.new.items (quoted_text string.now)) }
-    ensures kept { Extends out.old.items out.new.items }
+    ensures { OnOk result (Appends out.old.items out.new.items (quoted_text string.now)) }
 {
     push_text(b"\"", out)?;
     push_escaped(string, out)?;
@@ -95,8 +88,7 @@ fn push_quoted(string: &[u8], out: &mut Vec<u8>) -> Result<(), AllocError>
 }
 
 fn push_escaped(string: &[u8], out: &mut Vec<u8>) -> Result<(), AllocError>
-    ensures ok { OnOk result (Appends out.old.items out.new.items (flat_map escaped_octet string.now)) }
-    ensures kept { Extends out.old.items out.new.items }
+    ensures { OnOk result (Appends out.old.items out.new.items (flat_map escaped_octet string.now)) }
 {
     for octet in string {
         push_escaped_octet(*octet, out)?;
@@ -105,8 +97,7 @@ fn push_escaped(string: &[u8], out: &mut Vec<u8>) -> Result<(), AllocError>
 }
 
 fn push_escaped_octet(octet: u8, out: &mut Vec<u8>) -> Result<(), AllocError>
-    ensures ok { OnOk result (Appends out.old.items out.new.items (escaped_octet octet)) }
-    ensures kept { Extends out.old.items out.new.items }
+    ensures { OnOk result (Appends out.old.items out.new.items (escaped_octet octet)) }
 {
     if octet == b'"' || octet == b'\\' {
         push_text(&[b'\\', octet], out)
@@ -115,31 +106,74 @@ fn push_escaped_octet(octet: u8, out: &mut Vec<u8>) -> Result<(), AllocError>
     }
 }
 
-/// Numbers as runs (RFC 9051, section 9, sequence-set).
-pub fn push_set(set: &NumberSet, out: &mut Vec<u8>) -> Result<(), AllocError>
-    ensures ok { OnOk result (Appends out.old.items out.new.items (set_text set.now)) }
-    ensures kept { Extends out.old.items out.new.items }
-{
-    push_runs(set.runs(), out)
+/// What writes the text of one value.
+pub trait Writer {
+    type Value;
+
+    ghost use Rattle.std.specs.Prelude.{ℕ, List, OnOk};
+    ghost use Rattle.imap_print.specs.Appending.{Appends};
+
+    ghost text_of: { Self.Value → List ℕ };
+
+    /// Puts the text of a value behind what is there.
+    fn push(value: &Self::Value, out: &mut Vec<u8>) -> Result<(), AllocError>
+        ensures { OnOk result (Appends out.old.items out.new.items (text_of value.now)) };
 }
 
-fn push_runs(runs: &[Run], out: &mut Vec<u8>) -> Result<(), AllocError>
-    ensures ok { OnOk result (Appends out.old.items out.new.items (separated 44 (map run_text runs.now))) }
-    ensures kept { Extends out.old.items out.new.items }
+/// The texts of values, with an octet between any two.
+pub fn push_separated<W: Writer>(
+    between: u8,
+    values: &[W::Value],
+    out: &mut Vec<u8>,
+) -> Result<(), AllocError>
+    ensures { OnOk result (Appends out.old.items out.new.items (separated between (map W.text_of values.now))) }
 {
-    if let [first, rest @ ..] = runs {
-        push_run(*first, out)?;
-        for run in rest {
-            push_text(b",", out)?;
-            push_run(*run, out)?;
-        }
+    if let [first, rest @ ..] = values {
+        W::push(first, out)?;
+        push_behind::<W>(between, rest, out)?;
     }
     Ok(())
 }
 
+/// The texts of values, with an octet before each.
+fn push_behind<W: Writer>(
+    between: u8,
+    values: &[W::Value],
+    out: &mut Vec<u8>,
+) -> Result<(), AllocError>
+    ensures { OnOk result (Appends out.old.items out.new.items (flat_map (λ next. between ∷ next) (map W.text_of values.now))) }
+{
+    for value in values {
+        push_text(&[between], out)?;
+        W::push(value, out)?;
+    }
+    Ok(())
+}
+
+/// Writes runs of numbers.
+struct Runs;
+
+impl Writer for Runs {
+    type Value = Run;
+
+    ghost use Rattle.imap_answers.specs.Strings.{run_text};
+
+    ghost text_of = { run_text };
+
+    fn push(value: &Run, out: &mut Vec<u8>) -> Result<(), AllocError> {
+        push_run(*value, out)
+    }
+}
+
+/// Numbers as runs (RFC 9051, section 9, sequence-set).
+pub fn push_set(set: &NumberSet, out: &mut Vec<u8>) -> Result<(), AllocError>
+    ensures { OnOk result (Appends out.old.items out.new.items (set_text set.now)) }
+{
+    push_separated::<Runs>(b',', set.runs(), out)
+}
+
 fn push_run(run: Run, out: &mut Vec<u8>) -> Result<(), AllocError>
-    ensures ok { OnOk result (Appends out.old.items out.new.items (run_text run)) }
-    ensures kept { Extends out.old.items out.new.items }
+    ensures { OnOk result (Appends out.old.items out.new.items (run_text run)) }
 {
     if run.first == run.last {
         return push_number(u64::from(run.first), out);
@@ -160,13 +194,6 @@ fn has_astring_octets(string: &[u8]) -> bool
     ensures { result ≡ list_all is_astring_octet string.now }
 {
     string.iter().all(|octet| is_astring_octet(*octet))
-}
-
-/// Whether an octet may stand in an unquoted string (RFC 9051, section 9, ASTRING-CHAR).
-pub fn is_astring_octet(octet: u8) -> bool
-    ensures { result ≡ is_astring_octet octet }
-{
-    is_atom_octet(octet) || octet == b']'
 }
 
 fn has_line_octet(string: &[u8]) -> bool

@@ -2,3 +2,4 @@ pub mod RowLemmas
 pub mod MatchLemmas
 pub mod PlacingLemmas
 pub mod ListingLemmas
+pub mod SimplerLemmas

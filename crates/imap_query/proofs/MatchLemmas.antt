@@ -27,7 +27,7 @@ joined true b h k = k
 joined false b h k = cc
 
 -- which octet a wildcard is
-which : (octet : ℕ) → is_wildcard octet ≡ true → (octet ≡ 42) ⊎ (octet ≡ 37)
+pub which : (octet : ℕ) → is_wildcard octet ≡ true → (octet ≡ 42) ⊎ (octet ≡ 37)
 which octet w = elim (or_cases (octet == 42) (octet == 37) w) [ inl a ↦ inl ((Decides-eqb octet 42).0 a) | inr b ↦ inr ((Decides-eqb octet 37).0 b) ]
 
 no_star : (octet : ℕ) → is_wildcard octet ≡ false → (octet ≢ 42) × (octet ≢ 37)

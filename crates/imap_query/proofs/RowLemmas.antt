@@ -1,6 +1,7 @@
-use Rattle.std.proofs.Common.{◌≡◌, ℕ, suc, ◌-◌, ◌<◌, ◌==◌, ◌⊎◌, inl, inr, Bool, true, false, ◌&&◌, ◌||◌, cond, List, [], ◌∷◌, length, get_or, sym, refl, ap, ◌∙◌, arith}
+use Rattle.std.proofs.Common.{◌≡◌, ℕ, suc, ◌-◌, ◌<◌, ◌==◌, ◌⊎◌, inl, inr, Bool, true, false, not, ◌&&◌, ◌||◌, cond, List, [], ◌∷◌, length, get_or, sym, refl, ap, ◌∙◌, arith}
 use Rattle.std.proofs.Math.ListN.{replicate}
-use Rattle.imap_query.specs.Rows.{after_octet, after_wildcard, answer_after, cell, cells, is_match, is_wildcard, last_of, may_hold}
+use Rattle.std.specs.List.{list_all}
+use Rattle.imap_query.specs.Rows.{after_octet, after_wildcard, answer_after, cell, cells, is_match, is_unset, is_wildcard, last_of, may_hold}
 
 -- a choice whose test is known
 pub chosen_true : {A : Type 0} (test : Bool) (x y : A) → test ≡ true → cond test x y ≡ x
@@ -156,6 +157,18 @@ reaches_all accepts (letter ∷ name) = ap (λ q. accepts (letter ∷ name) || q
 -- read from its beginning, the pattern answers as the test does
 pub answer_is : (pattern name : List ℕ) (row : List Bool) → row ≡ replicate (length name) false → length row ≡ length name → answer_after pattern true row name ≡ is_match pattern name
 answer_is pattern name row e n = answer_reaches pattern true row name n ∙ ap (reaches (is_match pattern) true name) e ∙ reaches_all (is_match pattern) name
+
+reaches_unset : (accepts : List ℕ → Bool) (name : List ℕ) (row : List Bool) → list_all not row ≡ true → reaches accepts false name row ≡ false
+unfolding reaches
+reaches_unset accepts [] row h = refl
+reaches_unset accepts (letter ∷ name) [] h = refl
+reaches_unset accepts (letter ∷ name) (true ∷ row) h = absurd cc
+reaches_unset accepts (letter ∷ name) (false ∷ row) h = reaches_unset accepts name row h
+
+-- where no front is matched, no more is
+pub unset_never : (pattern name : List ℕ) (first : Bool) (row : List Bool) → is_unset first row ≡ true → length row ≡ length name → answer_after pattern first row name ≡ false
+unset_never pattern name true row h n = absurd cc
+unset_never pattern name false row h n = answer_reaches pattern false row name n ∙ reaches_unset (is_match pattern) name row h
 
 -- the last of the answers, by its place
 pub last_at : (first : Bool) (row : List Bool) (d : Bool) → 0 < length row → get_or row (length row - 1) d ≡ last_of first row

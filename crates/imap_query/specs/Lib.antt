@@ -2,3 +2,4 @@ pub mod Listing
 pub mod Patterns
 pub mod Placing
 pub mod Rows
+pub mod Simpler

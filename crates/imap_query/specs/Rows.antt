@@ -1,5 +1,6 @@
 -- What the code computes, row by row; proofs/RowLemmas and proofs/MatchLemmas tie it to Patterns.
 use Rattle.std.specs.Prelude.{ℕ, Bool, true, false, not, ◌&&◌, ◌||◌, ◌==◌, List, [], ◌∷◌, if◌then◌else◌}
+use Rattle.std.specs.List.{list_all}
 use Rattle.imap_query.specs.Patterns.{pattern_for}
 use Rattle.imap_types.specs.Names.{folded_name}
 
@@ -52,3 +53,7 @@ abbrev pub answer_after : List ℕ → Bool → List Bool → List ℕ → Bool
 answer_after [] first row name = last_of first row
 answer_after (octet ∷ pattern) first row name =
     answer_after pattern (is_wildcard octet && first) (cells octet first (is_wildcard octet && first) row name) name
+
+-- Whether none of the answers is yes.
+abbrev pub is_unset : Bool → List Bool → Bool
+is_unset first row = not first && list_all not row

@@ -4,7 +4,7 @@ ghost use Rattle.imap_query.specs.Listing.{Lists};
 ghost use Rattle.imap_query.specs.Placing.{ends_in_percent, found, found_levels, is_among, levels_from, placed, placed_all, shown_among, shown_level, shown_mailboxes};
 ghost use Rattle.imap_query.specs.declared.listing.ListEntry.{ListEntry as Shown};
 
-use crate::pattern::is_shown;
+use crate::pattern::{Pattern, is_shown};
 use imap_types::Name;
 use std::alloc::{AllocError, Global};
 use std::cmp::Ordering;
@@ -21,8 +21,8 @@ pub struct ListEntry {
 /// The names that LIST shows of the folders, ascending by octets, none twice (RFC 9051, section 6.3.9). An empty
 /// pattern shows the empty name alone, else reference and pattern are joined. `Err` where there is no memory for it.
 ///
-/// Each folder, and each of its levels where the pattern ends in `%`, is matched in the product of the pattern's
-/// and its length, and compared with the folders and with the entries so far.
+/// The pattern is read once; each folder, and each of its levels where the pattern ends in `%`, is then matched in the
+/// square of its length at most, and compared with the folders and with the entries so far.
 pub fn list(
     alloc: Global,
     reference: &[u8],
@@ -59,6 +59,7 @@ fn root(alloc: Global) -> Result<Vec<ListEntry>, AllocError>
 fn listed(alloc: Global, pattern: &[u8], folders: &[Name]) -> Result<Vec<ListEntry>, AllocError>
     ensures { IfOk result (λ entries. entries.items ≡ placed_all (found pattern.now folders.now) []) }
 {
+    let pattern = &Pattern::new(alloc, pattern)?;
     let mut entries = Vec::new(alloc);
     place_mailboxes(alloc, pattern, folders, &mut entries)?;
     place_levels(alloc, pattern, folders, &mut entries)?;
@@ -76,7 +77,7 @@ fn ends_in_percent(pattern: &[u8]) -> bool
 
 fn place_mailboxes(
     alloc: Global,
-    pattern: &[u8],
+    pattern: &Pattern,
     folders: &[Name],
     entries: &mut Vec<ListEntry>,
 ) -> Result<(), AllocError>
@@ -99,13 +100,13 @@ fn place_mailboxes(
 
 fn place_levels(
     alloc: Global,
-    pattern: &[u8],
+    pattern: &Pattern,
     folders: &[Name],
     entries: &mut Vec<ListEntry>,
 ) -> Result<(), AllocError>
     ensures { OnOk result (entries.new.items ≡ placed_all (found_levels pattern.now folders.now) entries.old.items) }
 {
-    if !ends_in_percent(pattern) {
+    if !ends_in_percent(pattern.written()) {
         return Ok(());
     }
     for folder in folders {
@@ -116,7 +117,7 @@ fn place_levels(
 
 fn place_levels_of(
     alloc: Global,
-    pattern: &[u8],
+    pattern: &Pattern,
     folders: &[Name],
     folder: &[u8],
     entries: &mut Vec<ListEntry>,
@@ -133,7 +134,7 @@ fn place_levels_of(
 
 fn place_level(
     alloc: Global,
-    pattern: &[u8],
+    pattern: &Pattern,
     folders: &[Name],
     upper: &[u8],
     entries: &mut Vec<ListEntry>,

@@ -1,43 +1,165 @@
-ghost use Rattle.std.specs.Prelude.{◌≡◌, ◌&&◌, ◌↔◌, IfOk, IsTrue, length};
+ghost use Rattle.std.specs.Prelude.{◌≡◌, ◌&&◌, ◌↔◌, IfOk, IsTrue, OnOk, length, map, not};
+ghost use Rattle.std.specs.List.{list_all};
+ghost use Rattle.std.specs.Char.{to_ascii_uppercase};
 ghost use Rattle.imap_query.specs.Patterns.{Matches};
-ghost use Rattle.imap_query.specs.Rows.{answer_after, cell, cells, is_match, is_shown, is_wildcard, last_of, may_hold};
+ghost use Rattle.imap_query.specs.Rows.{answer_after, cell, cells, is_match, is_shown, is_unset, is_wildcard, last_of, may_hold};
+ghost use Rattle.imap_query.specs.Simpler.{Adds, AreAlike, IsAlike, ends_wild};
 
 use imap_types::Name;
 use std::alloc::{AllocError, Global};
+use std::marker::Model;
 
 /// Whether a pattern matches a name, octet by octet: `*` stands for any octets, `%` for any but `/`
-/// (RFC 9051, section 6.3.9). Time grows with the product of both lengths, memory with the name's; `Err` where
-/// there is no memory for it.
+/// (RFC 9051, section 6.3.9). Time grows with the product of both lengths at most, memory with the name's; `Err`
+/// where there is no memory for it.
 pub fn matches(alloc: Global, pattern: &[u8], name: &[u8]) -> Result<bool, AllocError>
     ensures { IfOk result (λ yes. IsTrue yes ↔ Matches pattern.now name.now) }
 {
     is_match(alloc, pattern, name)
 }
 
-/// Whether a pattern matches a name, INBOX without case; `Err` where there is no memory for it.
-pub(crate) fn is_shown(alloc: Global, pattern: &[u8], name: &Name) -> Result<bool, AllocError>
+/// A pattern made ready for many names, with neighbouring wildcards taken together. Contracts see it as it was
+/// written.
+#[derive(Drop)]
+pub(crate) struct Pattern {
+    written: Vec<u8>,
+    /// What matches the same names.
+    plain: Vec<u8>,
+    /// What matches the same names as the pattern in capitals.
+    capitals: Vec<u8>,
+}
+
+impl Model for Pattern {
+    ghost use Rattle.std.specs.Prelude.{ℕ, List};
+    ghost use Rattle.imap_query.specs.Simpler.{AreAlike};
+
+    ghost Value = { List ℕ };
+
+    ghost view = { λ p. p.written.items };
+
+    ghost invariant = { λ p. AreAlike p.written.items p.plain.items p.capitals.items };
+}
+
+impl Pattern {
+    ghost use Rattle.std.specs.Prelude.{◌≡◌, IfOk};
+
+    /// This pattern; `Err` where there is no memory for it.
+    pub(crate) fn new(alloc: Global, pattern: &[u8]) -> Result<Pattern, AllocError>
+        ensures { IfOk result (λ made. made ≡ pattern.now) }
+    {
+        let written = pattern.to_vec(alloc)?;
+        let plain = simpler(alloc, pattern)?;
+        let capitals = in_capitals(alloc, pattern)?;
+        Ok(Pattern {
+            written,
+            plain,
+            capitals,
+        })
+    }
+
+    /// The pattern as it was written.
+    pub(crate) fn written(&self) -> &[u8]
+        ensures { result.now ≡ self.now }
+    {
+        &self.written
+    }
+}
+
+/// Whether a pattern matches a name, INBOX without case. Each octet of the pattern that is no wildcard takes one of the
+/// name's, and reading ends where none is left: time grows with the square of the name's length at most. `Err` where
+/// there is no memory for the answers.
+pub(crate) fn is_shown(alloc: Global, pattern: &Pattern, name: &Name) -> Result<bool, AllocError>
     ensures { IfOk result (λ yes. yes ≡ is_shown pattern.now name.now) }
 {
     if !name.is_inbox() {
-        return is_match(alloc, pattern, name.as_bytes());
+        return is_match(alloc, &pattern.plain, name.as_bytes());
     }
+    is_match(alloc, &pattern.capitals, b"INBOX")
+}
+
+fn in_capitals(alloc: Global, pattern: &[u8]) -> Result<Vec<u8>, AllocError>
+    ensures { IfOk result (λ made. IsAlike (map to_ascii_uppercase pattern.now) made.items) }
+{
     let mut capitals = pattern.to_vec(alloc)?;
     capitals.make_ascii_uppercase();
-    is_match(alloc, &capitals, b"INBOX")
+    simpler(alloc, &capitals)
+}
+
+/// A pattern that matches the same names, where no two wildcards are neighbours.
+fn simpler(alloc: Global, pattern: &[u8]) -> Result<Vec<u8>, AllocError>
+    ensures { IfOk result (λ made. IsAlike pattern.now made.items) }
+{
+    let mut made = Vec::new(alloc);
+    for octet in pattern {
+        add(&mut made, *octet)?;
+    }
+    Ok(made)
+}
+
+/// Adds an octet: `*` takes the place of a wildcard before it, and `%` is left out behind one.
+fn add(made: &mut Vec<u8>, octet: u8) -> Result<(), AllocError>
+    ensures { OnOk result (Adds octet made.old.items made.new.items) }
+{
+    if !are_wildcards(made, octet) {
+        made.push(octet)?;
+        return Ok(());
+    }
+    if octet == b'*' {
+        let last = made.len() - 1;
+        made[last] = b'*';
+    }
+    Ok(())
+}
+
+/// Whether this octet and the last of those are wildcards.
+fn are_wildcards(made: &[u8], octet: u8) -> bool
+    ensures { result ≡ (ends_wild made.now && is_wildcard octet) }
+{
+    ends_wild(made) && is_wildcard(octet)
+}
+
+fn ends_wild(made: &[u8]) -> bool
+    ensures { result ≡ ends_wild made.now }
+{
+    match made {
+        [] => false,
+        [.., last] => is_wildcard(*last),
+    }
 }
 
 /// Reads the pattern once, and keeps for each front of the name whether what was read matches it: `first` for the
-/// empty front, `row` for the longer ones.
+/// empty front, `row` for the longer ones. Where it matches none, no more is read.
 fn is_match(alloc: Global, pattern: &[u8], name: &[u8]) -> Result<bool, AllocError>
     ensures { IfOk result (λ yes. yes ≡ is_match pattern.now name.now) }
 {
     let mut first = true;
     let mut row = vec![in alloc; false; name.len()]?;
     for octet in pattern {
+        if is_unset(first, &row) {
+            return Ok(false);
+        }
         advance(*octet, first, &mut row, name);
         first = is_wildcard(*octet) && first;
     }
     Ok(last_of(first, &row))
+}
+
+/// Whether what was read matches no front.
+fn is_unset(first: bool, row: &[bool]) -> bool
+    ensures { result ≡ is_unset first row.now }
+{
+    !first && are_unset(row)
+}
+
+fn are_unset(row: &[bool]) -> bool
+    ensures { result ≡ list_all not row.now }
+{
+    for here in row {
+        if *here {
+            return false;
+        }
+    }
+    true
 }
 
 fn advance(octet: u8, first: bool, row: &mut [bool], name: &[u8])

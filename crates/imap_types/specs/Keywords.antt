@@ -43,6 +43,14 @@ is_atom_octet octet =
     not (nat_lt octet 33) && nat_lt octet 127
     && not ((octet == 40) || (octet == 41) || (octet == 123) || (octet == 37) || (octet == 42) || (octet == 34) || (octet == 92) || (octet == 93))
 
+-- An octet of an unquoted string: of an atom, or `]` (RFC 9051, section 9, ASTRING-CHAR).
+abbrev pub is_astring_octet : ℕ → Bool
+is_astring_octet octet = is_atom_octet octet || (octet == 93)
+
+-- An octet of a tag: of an unquoted string, but no `+` (43) (RFC 9051, section 9, tag).
+abbrev pub is_tag_octet : ℕ → Bool
+is_tag_octet octet = is_astring_octet octet && not (octet == 43)
+
 -- Whether a message may bear a keyword: 1 to 64 atom octets (the bound is this project's own).
 abbrev pub is_lawful_keyword : List ℕ → Bool
 is_lawful_keyword keyword = not (length keyword == 0) && not (nat_lt 64 (length keyword)) && list_all is_atom_octet keyword

@@ -1,6 +1,6 @@
 ghost use Rattle.std.specs.Prelude.{◌≡◌, ◌↔◌, ◌≤◌, ◌==◌, [], length, if◌then◌else◌, IfErr, IfOk, IsTrue, OnErr, OnOk};
 ghost use Rattle.std.specs.List.{insert, list_all};
-ghost use Rattle.imap_types.specs.Keywords.{are_ascending, are_keywords, has_keyword, is_atom_octet, is_lawful_keyword, is_lowered, lowered, with_text};
+ghost use Rattle.imap_types.specs.Keywords.{are_ascending, are_keywords, has_keyword, is_astring_octet, is_atom_octet, is_lawful_keyword, is_lowered, lowered, with_text};
 
 use crate::Octets;
 use std::alloc::{AllocError, Global};
@@ -191,6 +191,13 @@ pub fn is_atom_octet(octet: u8) -> bool
         _ => false,
     };
     octet >= 33 && octet < 127 && !is_special
+}
+
+/// Whether an octet may stand in an unquoted string (RFC 9051, section 9, ASTRING-CHAR).
+pub fn is_astring_octet(octet: u8) -> bool
+    ensures { result ≡ is_astring_octet octet }
+{
+    is_atom_octet(octet) || octet == b']'
 }
 
 /// Whether they are in lower case and ascending, none twice.

@@ -20,7 +20,9 @@ pub use date_time::{DATE_TIME_OCTETS, DateTime};
 pub use day::Day;
 pub use escape::{Escape, EscapeFault, read_escaped, write_escaped};
 pub use flags::{Flags, MAX_KEYWORDS};
-pub use keywords::{Keywords, MAX_KEYWORD_OCTETS, is_atom_octet, is_lawful_keyword};
+pub use keywords::{
+    Keywords, MAX_KEYWORD_OCTETS, is_astring_octet, is_atom_octet, is_lawful_keyword,
+};
 pub use moment::{LAST_MOMENT, Moment};
 pub use name::Name;
 pub use number_set::{NumberSet, Run};

@@ -3,7 +3,7 @@ use Rattle.crdt_ops.specs.Form.{IsSpelled}
 use Rattle.crdt_ops.specs.declared.op.Op.{Op}
 use Rattle.imap_lex.specs.Reading.{goes_on, start}
 use Rattle.imap_lex.specs.declared.fault.Fault.TheVariants as faults
-use Rattle.imap_print.specs.Printed.{printed}
+use Rattle.imap_answers.specs.Printed.{printed}
 use Rattle.imap_answers.specs.declared.answer.Answer.{Answer}
 use Rattle.imap_answers.specs.declared.answer.Answer.TheVariants.{Greeting, Bye}
 use Rattle.imap_answers.specs.declared.words.ByeReason.TheVariants.{TooManySessions}

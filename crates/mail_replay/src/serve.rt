@@ -1,7 +1,7 @@
 //! What each line of a script does.
 
 ghost use Rattle.std.specs.Prelude.{◌≡◌, ◌⊎◌, ◌++◌, ◌∷◌, [], ℕ, List, None, Some, Err, IfOk, IfErr, IsTrue, IsSome, IsNone, ◌↔◌, OnOk, OnErr, codes, take};
-ghost use Rattle.imap_print.specs.Printed.{printed as text_of};
+ghost use Rattle.imap_answers.specs.Printed.{printed as text_of};
 ghost use Rattle.imap_answers.specs.declared.answer.Answer.{Answer as OneAnswer};
 ghost use Rattle.imap_answers.specs.declared.answer.Answer.TheVariants.{Bye, Greeting};
 ghost use Rattle.imap_answers.specs.declared.words.ByeReason.TheVariants.{TooManySessions as FullReplica};

@@ -1,194 +1,21 @@
-use Rattle.std.proofs.Common.{◌≡◌, ◌≢◌, ◌++◌, ◌^◌, ◌<◌, ◌≤◌, ◌⊎◌, inl, inr, ℕ, zero, suc, Bool, true, false, not, cond, ◌&&◌, eqb, eqb-true, eq-eqb, leb, le-leb, leb-true, List, [], ◌∷◌, Option, Some, None, Result, Ok, Err, refl, sym, ap, ◌∙◌, subst, arith, rules, IsTrue, length, get_or}
-use Rattle.std.proofs.lemmas.Bool.{and_parts, and_from, cases_Bool, eqb-false, ne_eqb}
+use Rattle.std.proofs.Common.{◌≡◌, ◌++◌, inl, inr, ℕ, true, not, eqb, List, ◌∷◌, Some, None, refl, sym, ap, ◌∙◌, subst, arith, IsTrue}
+use Rattle.std.proofs.lemmas.Bool.{and_parts}
 use Rattle.std.proofs.lemmas.Bool.Decides.{nat_tests}
-use Rattle.std.proofs.lemmas.Fmt.{IsAscii-from_digits, decimal-digits_value, digits_decimal, digits_value-decimal, first_decimal, decimal_nonempty, decimal_digit}
-use Rattle.std.proofs.lemmas.List.Folds.{list_all-append}
-use Rattle.std.proofs.lemmas.Str.{IsUtf8-from_ascii}
-use Rattle.std.proofs.lemmas.Str.Parse.{IsNumeralModel, numerals_by_value, parse_digits}
-use Rattle.std.specs.Char.{is_ascii_digit, is_ascii_alphanumeric}
+use Rattle.std.specs.Char.{is_ascii_alphanumeric}
 use Rattle.std.specs.Fmt.{decimal}
 use Rattle.std.specs.List.{list_all}
-use Rattle.std.specs.Option.{SomeIff}
-use Rattle.std.specs.Result.{OkIff, result_ok}
-use Rattle.std.specs.Str.{IsUtf8}
-use Rattle.std.specs.Str.Parse.{ParsesUnsigned, digits_value}
-use Rattle.tags_clocks.specs.declared.id.OpId.{OpId}
 use Rattle.imap_types.specs.Escape.{AreOctets, escaped, unescaped}
 use Rattle.imap_types.specs.declared.escape.Escape.TheVariants.{Text}
 use Rattle.imap_types.proofs.EscapeLemmas.{unescaped_again, unescaped_takes}
-use Rattle.mail_script.specs.Fields.{IsMoment, IsOpNumber, IsReplica, id_text, is_session_name}
-use Rattle.mail_script.specs.Reading.{◌>>=◌, cut_at, has_no_leading_zero, id_at, in_front, moment_at, number_at, positive, replica_at, session_at, spoken_at}
-
--- texts of decimal digits
-pub digits_model : IsNumeralModel (λ ds. list_all is_ascii_digit ds ≡ true) (digits_value 10)
-digits_model = numerals_by_value (λ ds. list_all is_ascii_digit ds ≡ true) (search rules)
-
-pub utf8_digits : (ds : List ℕ) → list_all is_ascii_digit ds ≡ true → IsUtf8 ds
-utf8_digits ds h = IsUtf8-from_ascii ds (IsAscii-from_digits ds (digits_model.to ds h))
-
-pub some_digit : (ds : List ℕ) → has_no_leading_zero ds ≡ true → 0 < length ds
-some_digit [] h = absurd (let k : false ≡ true = h in cc)
-some_digit (d ∷ ds) h = omega arith
-
-ok_part : {E : Type 0} (r : Result ℕ E) (len value : ℕ) → 0 < len → OkIff r ((0 < len) × (value < 2 ^ 64)) value → SomeIff (result_ok r) (value < 2 ^ 64) value
-ok_part (Ok n) len value l h = (h.0.1, h.1)
-ok_part (Err e) len value l h = λ k. h (l, k)
-
-pub parsed_digits : {E : Type 0} (ds : List ℕ) (r : Result ℕ E) → has_no_leading_zero ds ≡ true → list_all is_ascii_digit ds ≡ true → ParsesUnsigned 64 10 ds r → SomeIff (result_ok r) (digits_value 10 ds < 2 ^ 64) (digits_value 10 ds)
-parsed_digits ds r z d h = ok_part r (length ds) (digits_value 10 ds) (some_digit ds z) (parse_digits digits_model 64 ds r h d)
-
--- digits without a leading zero are the text of their number
-one_digit : (ds : List ℕ) → has_no_leading_zero ds ≡ true → get_or ds 0 0 ≡ 48 → length ds ≡ 1
-one_digit [] h k = absurd (let e : false ≡ true = h in cc)
-one_digit (d ∷ []) h k = refl
-one_digit (d ∷ e ∷ ds) h k = absurd (let t : eqb d 48 ≡ true = eq-eqb d 48 k in let n : false ≡ true = rw t at h in cc)
-
-no_zero_before : (ds : List ℕ) → 0 < length ds → (get_or ds 0 0 ≡ 48 → length ds ≡ 1) → has_no_leading_zero ds ≡ true
-no_zero_before [] l h = absurd (omega arith)
-no_zero_before (d ∷ []) l h = refl
-no_zero_before (d ∷ e ∷ ds) l h =
-    elim (cases_Bool (eqb d 48)) [
-      | inl t ↦ absurd (let n : suc (suc (length ds)) ≡ 1 = h (eqb-true d 48 t) in omega arith)
-      | inr f ↦ rw f refl
-    ]
-
-some_of : {A : Type 0} (b : Bool) (x y : A) → ◌≡◌ {A = Option A} (cond b (Some x) None) (Some y) → (b ≡ true) × (x ≡ y)
-some_of true x y h = (refl, cc)
-some_of false x y h = absurd cc
-
-pub number_takes : (limit n : ℕ) (text : List ℕ) → limit < 2 ^ 64 → number_at limit text ≡ Some n → (n ≤ limit) × (text ≡ decimal n)
-unfolding number_at
-number_takes limit n text l h =
-    let s = some_of _ (digits_value 10 text) n h in
-    let p = and_parts _ _ s.0 in
-    let q = and_parts _ _ p.0 in
-    let le : digits_value 10 text ≤ limit = leb-true _ _ p.1 in
-    let value : digits_value 10 text ≡ n = s.1 in (
-      omega arith,
-      sym (decimal-digits_value digits_model text q.1 (some_digit text q.0) (one_digit text q.0) (omega arith)) ∙ ap decimal value,
-    )
-
-decimal_start : (n : ℕ) → n < 2 ^ 64 → get_or (decimal n) 0 0 ≡ 48 → length (decimal n) ≡ 1
-decimal_start zero l h = ap length (decimal_digit 0 (omega arith))
-decimal_start (suc n) l h = absurd (let f = first_decimal (suc n) (omega arith) l in omega arith)
-
-pub number_again : (limit n : ℕ) → limit < 2 ^ 64 → n ≤ limit → number_at limit (decimal n) ≡ Some n
-unfolding number_at
-number_again limit n l h =
-    let small : n < 2 ^ 64 = omega arith in
-    let value : digits_value 10 (decimal n) ≡ n = digits_value-decimal digits_model n small in
-    let digits : list_all is_ascii_digit (decimal n) ≡ true = digits_decimal digits_model n small in
-    let start : has_no_leading_zero (decimal n) ≡ true = no_zero_before (decimal n) (decimal_nonempty n small) (decimal_start n small) in
-    let within : leb (digits_value 10 (decimal n)) limit ≡ true = le-leb _ _ (omega arith) in
-    let all = and_from _ _ (and_from _ _ start digits) within in
-    rw all (ap (λ (m : ℕ). Some m) value)
-
-pub parsed_text : {E : Type 0} (ds text : List ℕ) (r : Result ℕ E) (o : Option ℕ) → (has_no_leading_zero ds && list_all is_ascii_digit ds) ≡ true → text ≡ ds → ParsesUnsigned 64 10 text r → o ≡ result_ok r → SomeIff o (digits_value 10 ds < 2 ^ 64) (digits_value 10 ds)
-parsed_text ds text r o p t h e =
-    let q = and_parts (has_no_leading_zero ds) (list_all is_ascii_digit ds) p in
-    subst (λ (o : Option ℕ). SomeIff o (digits_value 10 ds < 2 ^ 64) (digits_value 10 ds)) (sym e)
-    (parsed_digits ds r q.0 q.1 (subst (λ (t : List ℕ). ParsesUnsigned 64 10 t r) t h))
-
-pub utf8_number : (ds : List ℕ) → (has_no_leading_zero ds && list_all is_ascii_digit ds) ≡ true → IsUtf8 ds
-utf8_number ds p = utf8_digits ds (and_parts (has_no_leading_zero ds) (list_all is_ascii_digit ds) p).1
-
--- steps that may fail
-pub bind_some : {A B : Type 0} (r : Option A) (f : A → Option B) (y : B) → (r >>= f) ≡ Some y → (x : A) × (r ≡ Some x) × (f x ≡ Some y)
-bind_some None f y h = absurd cc
-bind_some (Some x) f y h = (x, refl, h)
-
-pub bound : {A B : Type 0} (r : Option A) (f : A → Option B) (x : A) → r ≡ Some x → (r >>= f) ≡ f x
-bound r f x h = ap (λ o. o >>= f) h
-
-pub front_some : (front : List ℕ) (r : Option (List ℕ × List ℕ)) (x : List ℕ × List ℕ) → in_front front r ≡ Some x → (y : List ℕ × List ℕ) × (r ≡ Some y) × (x.0 ≡ front ++ y.0) × (x.1 ≡ y.1)
-front_some front None x h = absurd cc
-front_some front (Some y) x h =
-    let e : ◌≡◌ {A = List ℕ × List ℕ} (front ++ y.0, y.1) x = cc in (y, refl, sym (ap (λ z. z.0) e), sym (ap (λ z. z.1) e))
-
-pub chosen : {A : Type 0} (b : Bool) (x y z : A) → cond b x y ≡ z → ((b ≡ true) × (x ≡ z)) ⊎ ((b ≡ false) × (y ≡ z))
-chosen true x y z h = inl (refl, h)
-chosen false x y z h = inr (refl, h)
-
-not_true : (b : Bool) → not b ≡ true → b ≡ false
-not_true true h = absurd cc
-not_true false h = refl
-
--- what is cut is joined by the separator
-pub cut_takes : (separator : ℕ) (text : List ℕ) (parts : List ℕ × List ℕ) → cut_at separator text ≡ Some parts → text ≡ parts.0 ++ separator ∷ parts.1
-cut_takes separator [] parts h = absurd cc
-cut_takes separator (octet ∷ octets) parts h =
-    elim (chosen (eqb octet separator) (Some ([], octets)) (in_front (octet ∷ []) (cut_at separator octets)) (Some parts) h) [
-      | inl t ↦
-          let e : ◌≡◌ {A = List ℕ × List ℕ} ([], octets) parts = let k = t.1 in cc in
-          let s : octet ≡ separator = eqb-true octet separator t.0 in
-          (λ i. s i ∷ octets) ∙ ap (λ (z : List ℕ × List ℕ). z.0 ++ separator ∷ z.1) e
-      | inr f ↦
-          let y = front_some (octet ∷ []) (cut_at separator octets) parts f.1 in
-          ap (λ (t : List ℕ). octet ∷ t) (cut_takes separator octets y.0 y.1) ∙ sym (λ i. y.2 i ++ separator ∷ y.3 i)
-    ]
-
--- what is joined so is cut at the first separator
-pub cut_again : (separator : ℕ) (front back : List ℕ) → list_all (λ octet. not (eqb octet separator)) front ≡ true → cut_at separator (front ++ separator ∷ back) ≡ Some (front, back)
-cut_again separator [] back h = let t : eqb separator separator ≡ true = eq-eqb separator separator refl in rw t refl
-cut_again separator (octet ∷ front) back h =
-    let p = and_parts (not (eqb octet separator)) (list_all (λ octet. not (eqb octet separator)) front) h in
-    let f : eqb octet separator ≡ false = not_true _ p.0 in
-    rw f (ap (in_front (octet ∷ [])) (cut_again separator front back p.1))
-
-pub all_of : (p q : ℕ → Bool) → ((octet : ℕ) → p octet ≡ true → q octet ≡ true) → (octets : List ℕ) → list_all p octets ≡ true → list_all q octets ≡ true
-all_of p q h [] a = refl
-all_of p q h (octet ∷ octets) a =
-    let s = and_parts (p octet) (list_all p octets) a in and_from _ _ (h octet s.0) (all_of p q h octets s.1)
-
-digit_no_space : (octet : ℕ) → is_ascii_digit octet ≡ true → not (eqb octet 32) ≡ true
-digit_no_space octet h = grind (arith, nat_tests)
-
-digit_no_colon : (octet : ℕ) → is_ascii_digit octet ≡ true → not (eqb octet 58) ≡ true
-digit_no_colon octet h = grind (arith, nat_tests)
+use Rattle.text_fields.proofs.FieldLemmas.{all_of, bind_some, bound, chosen, cut_again, cut_takes, number_again, number_takes}
+use Rattle.mail_script.specs.Fields.{IsMoment, is_session_name}
+use Rattle.mail_script.specs.Reading.{cut_at, moment_at, session_at, spoken_at}
 
 letter_no_space : (octet : ℕ) → is_ascii_alphanumeric octet ≡ true → not (eqb octet 32) ≡ true
 letter_no_space octet h = grind (arith, nat_tests)
 
-pub decimal_no_space : (n : ℕ) → n < 2 ^ 64 → list_all (λ octet. not (eqb octet 32)) (decimal n) ≡ true
-decimal_no_space n l = all_of is_ascii_digit (λ octet. not (eqb octet 32)) digit_no_space (decimal n) (digits_decimal digits_model n l)
-
-pub decimal_no_colon : (n : ℕ) → n < 2 ^ 64 → list_all (λ octet. not (eqb octet 58)) (decimal n) ≡ true
-decimal_no_colon n l = all_of is_ascii_digit (λ octet. not (eqb octet 58)) digit_no_colon (decimal n) (digits_decimal digits_model n l)
-
 pub session_no_space : (name : List ℕ) → is_session_name name ≡ true → list_all (λ octet. not (eqb octet 32)) name ≡ true
 session_no_space name h = all_of is_ascii_alphanumeric (λ octet. not (eqb octet 32)) letter_no_space name (and_parts _ _ h).1
-
-pub id_no_space : (id : OpId) → IsReplica id.replica → IsOpNumber id.number → list_all (λ octet. not (eqb octet 32)) (id_text id) ≡ true
-id_no_space id r n =
-    list_all-append (λ octet. not (eqb octet 32)) (decimal id.replica) (58 ∷ decimal id.number)
-    ∙ and_from _ _ (decimal_no_space id.replica (omega arith)) (decimal_no_space id.number (omega arith))
-
--- numbers from 1 on
-positive_takes : (n m : ℕ) → positive n ≡ Some m → (0 < n) × (n ≡ m)
-positive_takes n m h =
-    elim (chosen (eqb n 0) None (Some n) (Some m) h) [
-      | inl t ↦ absurd (let k = t.1 in cc)
-      | inr f ↦ let ne : n ≢ 0 = eqb-false n 0 f.0 in (omega arith, (let k = f.1 in cc))
-    ]
-
-positive_again : (n : ℕ) → 0 < n → positive n ≡ Some n
-positive_again n h = let f : eqb n 0 ≡ false = ne_eqb n 0 (omega arith) in rw f refl
-
--- each field
-pub replica_takes : (text : List ℕ) (replica : ℕ) → replica_at text ≡ Some replica → IsReplica replica × (text ≡ decimal replica)
-unfolding replica_at
-replica_takes text replica h =
-    let n = bind_some (number_at 65535 text) positive replica h in
-    let p = positive_takes n.0 replica n.2 in
-    let t = number_takes 65535 n.0 text (omega arith) n.1 in
-    let small : n.0 ≤ 65535 = t.0 in
-    let low : 0 < n.0 = p.0 in
-    let same : n.0 ≡ replica = p.1 in
-    ((omega arith, omega arith), t.1 ∙ ap decimal same)
-
-pub replica_again : (replica : ℕ) → IsReplica replica → replica_at (decimal replica) ≡ Some replica
-unfolding replica_at
-replica_again replica r = bound (number_at 65535 (decimal replica)) positive replica (number_again 65535 replica (omega arith) r.1) ∙ positive_again replica r.0
 
 pub moment_takes : (text : List ℕ) (moment : ℕ) → moment_at text ≡ Some moment → IsMoment moment × (text ≡ decimal moment)
 unfolding moment_at
@@ -209,34 +36,6 @@ session_takes text name h =
 pub session_again : (name : List ℕ) → IsTrue (is_session_name name) → session_at name ≡ Some name
 unfolding session_at
 session_again name h = rw h refl
-
-pub id_takes : (text : List ℕ) (id : OpId) → id_at text ≡ Some id → IsReplica id.replica × IsOpNumber id.number × (text ≡ id_text id)
-unfolding id_at
-id_takes text id h =
-    let c = bind_some (cut_at 58 text) _ id h in
-    let r = bind_some (replica_at c.0.0) _ id c.2 in
-    let n = bind_some (number_at 4294967295 c.0.1) _ id r.2 in
-    let p = bind_some (positive n.0) _ id n.2 in
-    let e : ◌≡◌ {A = OpId} (record { replica = r.0; number = p.0 }) id = let k = p.2 in cc in
-    let a = positive_takes n.0 p.0 p.1 in
-    let t = number_takes 4294967295 n.0 c.0.1 (omega arith) n.1 in
-    let u = replica_takes c.0.0 r.0 r.1 in
-    let low : 0 < n.0 = a.0 in
-    let same : n.0 ≡ p.0 = a.1 in
-    let high : n.0 ≤ 4294967295 = t.0 in
-    subst (λ (id : OpId). IsReplica id.replica × IsOpNumber id.number × (text ≡ id_text id)) e (
-      u.0,
-      (omega arith, omega arith),
-      cut_takes 58 text c.0 c.1 ∙ (λ i. u.1 i ++ 58 ∷ (t.1 ∙ ap decimal same) i),
-    )
-
-pub id_again : (id : OpId) → IsReplica id.replica → IsOpNumber id.number → id_at (id_text id) ≡ Some id
-unfolding id_at
-id_again id r n =
-    bound (cut_at 58 (id_text id)) _ (decimal id.replica, decimal id.number) (cut_again 58 (decimal id.replica) (decimal id.number) (decimal_no_colon id.replica (omega arith)))
-    ∙ bound (replica_at (decimal id.replica)) _ id.replica (replica_again id.replica r)
-    ∙ bound (number_at 4294967295 (decimal id.number)) _ id.number (number_again 4294967295 id.number (omega arith) n.1)
-    ∙ bound (positive id.number) _ id.number (positive_again id.number n.0)
 
 pub spoken_takes : (text : List ℕ) (spoken : List ℕ × List ℕ) → spoken_at text ≡ Some spoken → IsTrue (is_session_name spoken.0) × AreOctets spoken.1 × (text ≡ spoken.0 ++ 32 ∷ escaped Text spoken.1)
 unfolding spoken_at

@@ -4,7 +4,7 @@ use Rattle.std.proofs.Math.Seq.{drop-append_seam, take-append_seam}
 use Rattle.std.proofs.lemmas.List.{length-take-le, drop-drop, take-append-drop}
 use Rattle.mail_script.specs.Lines.{IsSearched, line_begun, lines_of}
 use Rattle.mail_script.specs.Reading.{cut_at, in_front}
-use Rattle.mail_script.proofs.FieldLemmas.{chosen, cut_takes, front_some}
+use Rattle.text_fields.proofs.FieldLemmas.{chosen, cut_takes, front_some}
 
 -- a cut stays where more comes behind
 pub lines_next : (text line rest more : List ℕ) → cut_at 10 text ≡ Some (line, rest) → lines_of (text ++ more) ≡ line ∷ lines_of (rest ++ more)

@@ -5,7 +5,7 @@ use Rattle.std.specs.Str.{bytes_eq}
 use Rattle.tags_clocks.specs.declared.id.OpId.{OpId}
 use Rattle.imap_types.specs.Escape.{AreOctets, escaped}
 use Rattle.imap_types.specs.declared.escape.Escape.TheVariants.{Text}
-use Rattle.mail_script.specs.Fields.{IsOpNumber, IsReplica, id_text, is_session_name}
+use Rattle.mail_script.specs.Fields.{IsNumber, IsReplica, id_text, is_session_name}
 use Rattle.mail_script.specs.Reading.{◌>>=◌, Gives, cut_at, deliver_at, fields_at, forge_at, id_at, keyword_at, line_at, moment_at, open_at, replica_at, session_at, spoken_at, words_at}
 use Rattle.mail_script.specs.Script.{Says}
 use Rattle.mail_script.specs.declared.script.Keyword.{Keyword}
@@ -14,7 +14,8 @@ use Rattle.mail_script.specs.declared.script.LineFault.{LineFault}
 use Rattle.mail_script.specs.declared.script.LineFault.TheVariants.{NotALine, NoMemory}
 use Rattle.mail_script.specs.declared.script.ScriptLine.{ScriptLine}
 use Rattle.mail_script.specs.declared.script.ScriptLine.TheVariants.{Blank, Node, Now, Open, Line, Send, Close, Show, Deliver, Forge, Drain}
-use Rattle.mail_script.proofs.FieldLemmas.{bind_some, bound, chosen, cut_again, cut_takes, decimal_no_space, id_again, id_no_space, id_takes, moment_again, moment_takes, replica_again, replica_takes, session_again, session_takes, spoken_again, spoken_takes}
+use Rattle.text_fields.proofs.FieldLemmas.{bind_some, bound, chosen, cut_again, cut_takes, decimal_lacks, id_again, id_lacks, id_takes, replica_again, replica_takes}
+use Rattle.mail_script.proofs.FieldLemmas.{moment_again, moment_takes, session_again, session_takes, spoken_again, spoken_takes}
 use Rattle.std.specs.Prelude.{codes}
 
 -- how each word is spelled
@@ -100,8 +101,8 @@ deliver_takes fields said h =
     let e : Deliver n.0 r.0 ≡ said = let k = r.2 in cc in
     let t = id_takes c.0.0 n.0 n.1 in
     let u = replica_takes c.0.1 r.0 r.1 in
-    let text : fields ≡ id_text n.0 ++ 32 ∷ decimal r.0 = cut_takes 32 fields c.0 c.1 ∙ (λ i. t.2 i ++ 32 ∷ u.1 i) in
-    subst (Says (codes "deliver " ++ fields)) e (t.0, t.1, u.0, ap (λ (t : List ℕ). codes "deliver " ++ t) text)
+    let text : fields ≡ id_text n.0 ++ 32 ∷ decimal r.0 = cut_takes 32 fields c.0 c.1 ∙ (λ i. t.1 i ++ 32 ∷ u.1 i) in
+    subst (Says (codes "deliver " ++ fields)) e (t.0.0, t.0.1, u.0, ap (λ (t : List ℕ). codes "deliver " ++ t) text)
 
 forge_takes : (fields : List ℕ) (said : ScriptLine) → forge_at fields ≡ Some said → Says (codes "forge " ++ fields) said
 unfolding forge_at
@@ -193,21 +194,21 @@ read_of keyword line fields said e h = ap line_at e ∙ read_on keyword fields �
 open_again : (r : ℕ) (session : List ℕ) → IsReplica r → IsTrue (is_session_name session) → open_at (decimal r ++ 32 ∷ session) ≡ Some (Open r session)
 unfolding open_at
 open_again r session i s =
-    bound (cut_at 32 (decimal r ++ 32 ∷ session)) _ (decimal r, session) (cut_again 32 (decimal r) session (decimal_no_space r (omega arith)))
+    bound (cut_at 32 (decimal r ++ 32 ∷ session)) _ (decimal r, session) (cut_again 32 (decimal r) session (decimal_lacks 32 r refl (omega arith)))
     ∙ bound (replica_at (decimal r)) _ r (replica_again r i)
     ∙ bound (session_at session) _ session (session_again session s)
 
-deliver_again : (id : OpId) (r : ℕ) → IsReplica id.replica → IsOpNumber id.number → IsReplica r → deliver_at (id_text id ++ 32 ∷ decimal r) ≡ Some (Deliver id r)
+deliver_again : (id : OpId) (r : ℕ) → IsReplica id.replica → IsNumber id.number → IsReplica r → deliver_at (id_text id ++ 32 ∷ decimal r) ≡ Some (Deliver id r)
 unfolding deliver_at
 deliver_again id r i n s =
-    bound (cut_at 32 (id_text id ++ 32 ∷ decimal r)) _ (id_text id, decimal r) (cut_again 32 (id_text id) (decimal r) (id_no_space id i n))
-    ∙ bound (id_at (id_text id)) _ id (id_again id i n)
+    bound (cut_at 32 (id_text id ++ 32 ∷ decimal r)) _ (id_text id, decimal r) (cut_again 32 (id_text id) (decimal r) (id_lacks 32 id refl refl (i, n)))
+    ∙ bound (id_at (id_text id)) _ id (id_again id (i, n))
     ∙ bound (replica_at (decimal r)) _ r (replica_again r s)
 
 forge_again : (r : ℕ) (operation : List ℕ) → IsReplica r → forge_at (decimal r ++ 32 ∷ operation) ≡ Some (Forge r operation)
 unfolding forge_at
 forge_again r operation i =
-    bound (cut_at 32 (decimal r ++ 32 ∷ operation)) _ (decimal r, operation) (cut_again 32 (decimal r) operation (decimal_no_space r (omega arith)))
+    bound (cut_at 32 (decimal r ++ 32 ∷ operation)) _ (decimal r, operation) (cut_again 32 (decimal r) operation (decimal_lacks 32 r refl (omega arith)))
     ∙ bound (replica_at (decimal r)) _ r (replica_again r i)
 
 -- what a line says is read of it

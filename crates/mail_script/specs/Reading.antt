@@ -1,12 +1,9 @@
-use Rattle.std.specs.Prelude.{◌≡◌, ℕ, Bool, true, false, not, ◌&&◌, ◌==◌, nat_le, List, [], ◌∷◌, ◌++◌, Option, Some, None, Result, Ok, Err, codes, option_and_then, if◌then◌else◌}
-use Rattle.std.specs.Char.{is_ascii_digit}
-use Rattle.std.specs.List.{list_all}
+use Rattle.std.specs.Prelude.{◌≡◌, ℕ, ◌==◌, List, [], ◌∷◌, Option, Some, None, Result, Ok, Err, codes, if◌then◌else◌}
 use Rattle.std.specs.Str.{bytes_eq}
-use Rattle.std.specs.Str.Parse.{digits_value}
-use Rattle.tags_clocks.specs.declared.id.OpId.{OpId}
 use Rattle.imap_types.specs.Escape.{unescaped}
 use Rattle.imap_types.specs.declared.escape.Escape.TheVariants.{Text}
 use Rattle.mail_script.specs.Fields.{is_session_name}
+pub use Rattle.text_fields.specs.Reading.{◌>>=◌, cut_at, id_at, in_front, number_at, replica_at}
 use Rattle.mail_script.specs.declared.script.Keyword.{Keyword}
 use Rattle.mail_script.specs.declared.script.Keyword.TheVariants.{Node as NodeWord, Now as NowWord, Open as OpenWord, Line as LineWord, Send as SendWord, Close as CloseWord, Show as ShowWord, Deliver as DeliverWord, Forge as ForgeWord, Drain as DrainWord}
 use Rattle.mail_script.specs.declared.script.LineFault.{LineFault}
@@ -15,11 +12,6 @@ use Rattle.mail_script.specs.declared.script.ScriptLine.{ScriptLine}
 use Rattle.mail_script.specs.declared.script.ScriptLine.TheVariants.{Blank, Node, Now, Open, Line, Send, Close, Show, Deliver, Forge, Drain}
 
 -- How the readers below take a line apart. What a line says is told by `Says`, and the laws join the two.
-
-infixl 10 ◌>>=◌
--- What follows a reading, where there is one.
-abbrev pub ◌>>=◌ : {A B : Type 0} → Option A → (A → Option B) → Option B
-read >>= next = option_and_then next read
 
 -- A fault other than for memory says that nothing could be read.
 abbrev pub Fails : {Y : Type 0} → LineFault → Option Y → Type 0
@@ -31,48 +23,9 @@ abbrev pub Gives : {X Y : Type 0} → (X → Y) → Result X LineFault → Optio
 Gives view (Ok x) read = read ≡ Some (view x)
 Gives view (Err e) read = Fails e read
 
--- Octets in front of the first part of a cut.
-abbrev pub in_front : List ℕ → Option (List ℕ × List ℕ) → Option (List ℕ × List ℕ)
-in_front front None = None
-in_front front (Some cut) = Some (front ++ cut.0, cut.1)
-
--- What stands before the first separator, and what behind it.
-abbrev pub cut_at : ℕ → List ℕ → Option (List ℕ × List ℕ)
-cut_at separator [] = None
-cut_at separator (octet ∷ octets) = if octet == separator then Some ([], octets) else in_front (octet ∷ []) (cut_at separator octets)
-
--- Whether a text has a first octet, which is no zero (48) with more behind it.
-abbrev pub has_no_leading_zero : List ℕ → Bool
-has_no_leading_zero [] = false
-has_no_leading_zero (digit ∷ []) = true
-has_no_leading_zero (digit ∷ next ∷ digits) = not (digit == 48)
-
--- The number up to the limit that the digits write without a leading zero.
-unfoldable pub number_at : ℕ → List ℕ → Option ℕ
-number_at limit text = if (has_no_leading_zero text && list_all is_ascii_digit text) && nat_le (digits_value 10 text) limit then Some (digits_value 10 text) else None
-
--- A number from 1 on.
-abbrev pub positive : ℕ → Option ℕ
-positive number = if number == 0 then None else Some number
-
--- The replica that a field names.
-unfoldable pub replica_at : List ℕ → Option ℕ
-replica_at text = do
-  number ← number_at 65535 text
-  positive number
-
 -- The moment that a field tells.
 unfoldable pub moment_at : List ℕ → Option ℕ
 moment_at text = number_at 253402300799 text
-
--- The id that a field names.
-unfoldable pub id_at : List ℕ → Option OpId
-id_at text = do
-  parts ← cut_at 58 text
-  replica ← replica_at parts.0
-  count ← number_at 4294967295 parts.1
-  number ← positive count
-  Some (record { replica = replica; number = number })
 
 -- The session that a field names.
 unfoldable pub session_at : List ℕ → Option (List ℕ)

@@ -2,7 +2,7 @@ use Rattle.std.specs.Prelude.{◌≡◌, ℕ, ◌⊎◌, ◌++◌, List, [], ◌
 use Rattle.std.specs.Fmt.{decimal}
 use Rattle.imap_types.specs.Escape.{AreOctets, escaped}
 use Rattle.imap_types.specs.declared.escape.Escape.TheVariants.{Text}
-use Rattle.mail_script.specs.Fields.{IsMoment, IsOpNumber, IsReplica, id_text, is_session_name}
+use Rattle.mail_script.specs.Fields.{IsMoment, IsNumber, IsReplica, id_text, is_session_name}
 use Rattle.mail_script.specs.declared.script.ScriptLine.{ScriptLine}
 use Rattle.mail_script.specs.declared.script.ScriptLine.TheVariants.{Blank, Node, Now, Open, Line, Send, Close, Show, Deliver, Forge, Drain}
 
@@ -17,6 +17,6 @@ Says line (Line session text) = IsTrue (is_session_name session) × AreOctets te
 Says line (Send session text) = IsTrue (is_session_name session) × AreOctets text × (line ≡ codes "send " ++ (session ++ 32 ∷ escaped Text text))
 Says line (Close session) = IsTrue (is_session_name session) × (line ≡ codes "close " ++ session)
 Says line (Show replica) = IsReplica replica × (line ≡ codes "show " ++ decimal replica)
-Says line (Deliver id replica) = IsReplica id.replica × IsOpNumber id.number × IsReplica replica × (line ≡ codes "deliver " ++ (id_text id ++ 32 ∷ decimal replica))
+Says line (Deliver id replica) = IsReplica id.replica × IsNumber id.number × IsReplica replica × (line ≡ codes "deliver " ++ (id_text id ++ 32 ∷ decimal replica))
 Says line (Forge replica operation) = IsReplica replica × (line ≡ codes "forge " ++ (decimal replica ++ 32 ∷ operation))
 Says line (Drain replica) = IsReplica replica × (line ≡ codes "drain " ++ decimal replica)

@@ -4,10 +4,10 @@ ghost use Rattle.std.specs.Prelude.{◌≡◌, ◌≢◌, ◌++◌, ℕ, List, [
 ghost use Rattle.mail_script.specs.Lines.{lines_of};
 ghost use Rattle.mail_script.specs.Reading.{cut_at};
 
-use crate::fields::split;
 use imap_types::Octets;
 use std::alloc::{AllocError, Global};
 use std::marker::Model;
+use text_fields::split;
 
 /// What came of a script and wasn't yet taken as lines. Each line ends with LF; the last may lack its own.
 #[derive(Drop)]

@@ -5,9 +5,9 @@ ghost use Rattle.std.specs.Fmt.{decimal};
 ghost use Rattle.mail_script.specs.Fields.{id_text};
 ghost use Rattle.mail_script.specs.Outcomes.{outcome_line, outcome_text, applied_text, delivery_text, result_text, rule_text, stalled_text};
 
-use itoa::Buffer;
 use std::alloc::AllocError;
 use tags_clocks::{OpId, ReplicaId};
+use text_fields::{push_id, push_number};
 
 /// What came of a delivery. A count is of the operations that it applied; `stalled` says that a ripe operation stays held.
 #[derive(Clone, Copy, Debug, PartialEq, Eq)]
@@ -189,23 +189,6 @@ fn push_result(delivery: DeliveryResult, out: &mut Vec<u8>) -> Result<(), AllocE
         DeliveryResult::Exhausted => push(b"Exhausted", out),
         DeliveryResult::NoMemory => push(b"NoMemory", out),
     }
-}
-
-fn push_id(id: OpId, out: &mut Vec<u8>) -> Result<(), AllocError>
-    ensures ok { OnOk result (out.new.items ≡ out.old.items ++ id_text id) }
-    ensures kept { (more : List ℕ) × (out.new.items ≡ out.old.items ++ more) }
-{
-    push_number(u64::from(id.replica.get()), out)?;
-    push(b":", out)?;
-    push_number(u64::from(id.number.get()), out)
-}
-
-fn push_number(number: u64, out: &mut Vec<u8>) -> Result<(), AllocError>
-    ensures ok { OnOk result (out.new.items ≡ out.old.items ++ decimal number) }
-    ensures kept { (more : List ℕ) × (out.new.items ≡ out.old.items ++ more) }
-{
-    let mut buffer = Buffer::new();
-    push(buffer.format(number).as_bytes(), out)
 }
 
 fn push(octets: &[u8], out: &mut Vec<u8>) -> Result<(), AllocError>

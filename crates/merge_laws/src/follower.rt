@@ -1,7 +1,7 @@
 //! What keeps account of the operations that were applied.
 
 ghost use Rattle.std.specs.Prelude.{◌≡◌, ◌↔◌, List, [], ◌∷◌, ◌++◌, OnOk, Err};
-ghost use Rattle.merge_laws.specs.Orders.{fold_of};
+ghost use Rattle.merge_laws.specs.Orders.{IsCausal, fold_of};
 ghost use Rattle.merge_laws.specs.declared.follower.NotReady.TheVariants.{Exhausted as UsedUp};
 
 use crate::replicated::Replicated;
@@ -31,30 +31,31 @@ pub trait Follower<R: Replicated> {
     /// It stands for this list of noted operations.
     ghost follows: { Self → List R.Op → Type 0 };
 
-    /// It can note these operations in this order with no more memory.
-    ghost is_ready: { Self → List R.Op → Type 0 };
+    /// It stands for the first list, and can note the second behind it, in this order, with no more memory.
+    ghost is_ready: { Self → List R.Op → List R.Op → Type 0 };
 
     /// After the first list, noting the second would need a number that a counter doesn't have.
     ghost exhausts: { Self.Start → List R.Op → List R.Op → Type 0 };
 
-    /// Makes room for noting these operations, in this order. It answers Exhausted exactly where a counter has no number
-    /// left for one of them. An error leaves all that it says as it was.
+    /// Makes room for noting these operations, in this order, with the value to which the list led. Where the list stays
+    /// causal with them, it answers Exhausted exactly where a counter has no number left for one of them. An error leaves
+    /// all that it says as it was.
     fn ready(&mut self, alloc: Global, value: &R, ops: &[R::Op]) -> Result<(), NotReady>
         ensures start { start self.new ≡ start self.old }
         ensures follows { (list : List R.Op) → follows self.old list → follows self.new list }
-        ensures ready { OnOk result (is_ready self.new ops.now) }
-        ensures exhausted { (list : List R.Op) → follows self.old list → R.meaning value.now ≡ fold_of R.effect R.initial list → ((result ≡ Err UsedUp) ↔ exhausts (start self.old) list ops.now) };
+        ensures ready { OnOk result ((list : List R.Op) → follows self.old list → IsCausal R.Op.id R.Op.clock (list ++ ops.now) → R.meaning value.now ≡ fold_of R.effect R.initial list → is_ready self.new list ops.now) }
+        ensures exhausted { (list : List R.Op) → follows self.old list → IsCausal R.Op.id R.Op.clock (list ++ ops.now) → R.meaning value.now ≡ fold_of R.effect R.initial list → ((result ≡ Err UsedUp) ↔ exhausts (start self.old) list ops.now) };
 
     /// Notes an operation that it was made ready for, with the value as applying left it; takes no memory, and it stays
     /// ready for those behind.
     fn note(&mut self, value: &R, op: &R::Op)
-        requires { is_ready self.old (op.now ∷ []) }
+        requires { (list : List R.Op) × (follows self.old list) × (is_ready self.old list (op.now ∷ [])) × (IsCausal R.Op.id R.Op.clock (list ++ op.now ∷ [])) × (R.meaning value.now ≡ fold_of R.effect R.initial (list ++ op.now ∷ [])) }
         ensures start { start self.new ≡ start self.old }
-        ensures follows { (list : List R.Op) → follows self.old list → R.meaning value.now ≡ fold_of R.effect R.initial (list ++ op.now ∷ []) → follows self.new (list ++ op.now ∷ []) }
-        ensures others { (rest : List R.Op) → is_ready self.old (op.now ∷ rest) → is_ready self.new rest };
+        ensures follows { (list : List R.Op) → follows self.old list → is_ready self.old list (op.now ∷ []) → IsCausal R.Op.id R.Op.clock (list ++ op.now ∷ []) → R.meaning value.now ≡ fold_of R.effect R.initial (list ++ op.now ∷ []) → follows self.new (list ++ op.now ∷ []) }
+        ensures others { (list rest : List R.Op) → follows self.old list → is_ready self.old list (op.now ∷ rest) → IsCausal R.Op.id R.Op.clock (list ++ op.now ∷ []) → R.meaning value.now ≡ fold_of R.effect R.initial (list ++ op.now ∷ []) → is_ready self.new (list ++ op.now ∷ []) rest };
 
     /// What is ready for some operations is ready for the first of them.
-    ghost first: { (x : Self) (o : R.Op) (os : List R.Op) → is_ready x (o ∷ os) → is_ready x (o ∷ []) };
+    ghost first: { (x : Self) (list : List R.Op) (o : R.Op) (os : List R.Op) → is_ready x list (o ∷ os) → is_ready x list (o ∷ []) };
 }
 
 /// A follower that is always ready and notes nothing.
@@ -68,11 +69,11 @@ impl<R: Replicated> Follower<R> for Unfollowed {
 
     ghost follows = { λ _ _. Unit {0} };
 
-    ghost is_ready = { λ _ _. Unit {0} };
+    ghost is_ready = { λ _ _ _. Unit {0} };
 
     ghost exhausts = { λ _ _ _. ⊥ };
 
-    ghost first = { λ _ _ _ _. tt };
+    ghost first = { λ _ _ _ _ _. tt };
 
     fn ready(&mut self, _alloc: Global, _value: &R, _ops: &[R::Op]) -> Result<(), NotReady> {
         Ok(())

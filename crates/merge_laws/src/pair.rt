@@ -55,11 +55,11 @@ impl<A: Replicated, B: Replicated<Op = A::Op>, F: Follower<A>> Follower<Pair<A, 
 
     ghost follows = { λ x list. F.follows x.follower list };
 
-    ghost is_ready = { λ x ops. F.is_ready x.follower ops };
+    ghost is_ready = { λ x list ops. F.is_ready x.follower list ops };
 
     ghost exhausts = { F.exhausts };
 
-    ghost first = { λ x o os h. F.first x.follower o os h };
+    ghost first = { λ x list o os h. F.first x.follower list o os h };
 
     fn ready(&mut self, alloc: Global, value: &Pair<A, B>, ops: &[A::Op]) -> Result<(), NotReady> {
         self.follower.ready(alloc, &value.first, ops)

@@ -79,11 +79,11 @@ impl<R: Replicated> Follower<R> for Hesitant {
 
     ghost follows = { λ _ _. Unit {0} };
 
-    ghost is_ready = { λ _ _. Unit {0} };
+    ghost is_ready = { λ _ _ _. Unit {0} };
 
     ghost exhausts = { λ _ _ _. ⊥ };
 
-    ghost first = { λ _ _ _ _. tt };
+    ghost first = { λ _ _ _ _ _. tt };
 
     fn ready(&mut self, _alloc: Global, _value: &R, _ops: &[R::Op]) -> Result<(), NotReady> {
         if is_refused(&mut self.before) {
@@ -109,11 +109,11 @@ impl<R: Replicated> Follower<R> for Counted {
 
     ghost follows = { λ x list. x.noted ≡ length list };
 
-    ghost is_ready = { λ x ops. x.noted + length ops ≤ x.limit };
+    ghost is_ready = { λ x list ops. x.noted + length ops ≤ x.limit };
 
     ghost exhausts = { λ limit list ops. limit < length list + length ops };
 
-    ghost first = { λ x o os h. first_fits x.noted (length os) x.limit h };
+    ghost first = { λ x list o os h. first_fits x.noted (length os) x.limit h };
 
     fn ready(&mut self, _alloc: Global, _value: &R, ops: &[R::Op]) -> Result<(), NotReady> {
         match self.limit.checked_sub(self.noted) {

@@ -9,12 +9,12 @@ use Rattle.imap_lex.proofs.FrameLemmas.{given_by_fault}
 use Rattle.imap_answers.specs.declared.answer.Answer.{Answer}
 use Rattle.world_core.specs.Conversation.{BreaksOff, Converses, sent, turns_of}
 use Rattle.world_core.specs.Nodes.{IsGoing, NodeState, closed}
-use Rattle.world_core.specs.Streams.{ConversesAmid, TalksAmid, TalksOn}
+use Rattle.world_core.specs.Streams.{ConversesAmid, Piece, TalksAmid, TalksOn, octets_in, stretches}
 use Rattle.world_core.specs.Talks.{EndsTalk, goodbye_of, goodbyes}
 use Rattle.world_core.specs.declared.turn.TalkFaultKind.{TalkFaultKind}
 use Rattle.world_core.specs.declared.turn.TalkFaultKind.TheVariants as kinds
 use Rattle.world_core.specs.declared.turn.Turn.{Turn}
-use Rattle.world_core.proofs.AmidLemmas.{amid_of, amid_on, talks_amid_joined}
+use Rattle.world_core.proofs.AmidLemmas.{piece_at, state_to_end, talks_amid, talks_amid_to_end}
 use Rattle.world_core.proofs.StreamLemmas.{converses_on, items_joined, state_joined, talks_on_joined}
 use Rattle.world_core.proofs.TalkLemmas.{closed_stops}
 
@@ -117,26 +117,25 @@ module _ (old mid new : NodeState) (session : ℕ) (limits : Limits) (state betw
   ends_on (kinds.Framing LiteralTooLong) t e = ends_told LiteralTooLong t e
   ends_on (kinds.Framing NulByte) t e = ends_told NulByte t e
 
-  -- the same, with deliveries between the pieces
-  pub ends_amid : (why : Fault) (bye : Answer) → goodbye_of why ≡ Some bye → TalksAmid old session limits state pieces turns mid between → EndsTalk (kinds.Framing why) mid session between (goes_on limits between piece) more new
-      → ((goes_on limits state (joined pieces ++ piece)).1 ≡ Err why)
-      × ((before : List Turn) × (last : NodeState) × ConversesAmid old session (goes_on limits state (joined pieces ++ piece)).0 before last × IsGoing last session
-      × (turns ++ more ≡ before ++ sent (bye ∷ [])) × (new ≡ closed last session))
-  ends_amid why bye b t f =
-      let e = told why bye mid session between (goes_on limits between piece) more new b f in
-      let before = talks_amid_joined old mid session limits state between pieces turns t in
-      let later = amid_of mid e.1 session (goes_on limits between piece).0 e.2 e.3 in (
-        cut_state before.1 ∙ e.0,
-        (
-          turns ++ e.2,
-          e.1,
-          subst (λ (items : List Item). ConversesAmid old session items (turns ++ e.2) e.1) (sym (cut_items before.1))
-              (amid_on old mid e.1 session (goes_on limits state (joined pieces)).0 (goes_on limits between piece).0 turns e.2 going before.0 later),
-          e.4,
-          behind turns more e.2 why e.5 ∙ ap (λ told. (turns ++ e.2) ++ sent (option_to_list told)) b,
-          e.6,
-        ),
-      )
+-- a fault that is told, with deliveries between the pieces
+pub ends_amid : (old mid new : NodeState) (session : ℕ) (limits : Limits) (state between : Result Progress Fault) (pieces : List Piece) (octets : List ℕ) (turns more : List Turn) (why : Fault) (bye : Answer)
+    → goodbye_of why ≡ Some bye → TalksAmid old session limits state pieces turns mid between → EndsTalk (kinds.Framing why) mid session between (goes_on limits between octets) more new
+    → ((goes_on limits state (octets_in (pieces ++ piece_at mid octets ∷ []))).1 ≡ Err why)
+    × ((before : List Turn) × (last : NodeState) × ConversesAmid old session (stretches limits state (pieces ++ piece_at mid octets ∷ [])) before last × IsGoing last session
+    × (turns ++ more ≡ before ++ sent (bye ∷ [])) × (new ≡ closed last session))
+ends_amid old mid new session limits state between pieces octets turns more why bye b t f =
+    let e = told why bye mid session between (goes_on limits between octets) more new b f in
+    let before = talks_amid old mid session limits state between pieces turns t in (
+      state_to_end limits state between mid pieces octets before.1 ∙ e.0,
+      (
+        turns ++ e.2,
+        e.1,
+        talks_amid_to_end old mid e.1 session limits state between pieces octets turns e.2 t e.3,
+        e.4,
+        behind turns more e.2 why e.5 ∙ ap (λ told. (turns ++ e.2) ++ sent (option_to_list told)) b,
+        e.6,
+      ),
+    )
 
 -- a stream that fails at an octet
 pub frames_end : (old mid new : NodeState) (session : ℕ) (limits : Limits) (between : Result Progress Fault) (pieces : List (List ℕ)) (piece : List ℕ) (turns more : List Turn) (items : List Item) (why : Fault) (bye : Answer)

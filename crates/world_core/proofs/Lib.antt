@@ -6,3 +6,4 @@ pub mod FaultLemmas
 pub mod StreamLemmas
 pub mod TalkLemmas
 pub mod TurnLemmas
+pub mod ReplyLemmas

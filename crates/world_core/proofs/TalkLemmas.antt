@@ -1,4 +1,4 @@
-use Rattle.std.proofs.Common.{◌≡◌, inl, inr, ℕ, ◌-◌, zero, suc, List, [], ◌∷◌, ◌++◌, get_or, set, ap, refl, sym, ◌∙◌, subst, append-nil, Option, None, Some, Result}
+use Rattle.std.proofs.Common.{◌≡◌, inl, inr, ℕ, ◌-◌, zero, suc, Bool, true, false, cond, eqb, List, [], ◌∷◌, ◌++◌, get_or, set, ap, refl, sym, ◌∙◌, subst, append-nil, Option, None, Some, Result}
 use Rattle.imap_lex.specs.Reading.{Cut, FaultsNow, IsPrefix, Progress}
 use Rattle.imap_lex.specs.declared.fault.Fault.{Fault}
 use Rattle.imap_lex.specs.declared.fault.Fault.TheVariants.{LineTooLong, LiteralTooLong, NulByte, NoMemory, Failed}
@@ -21,7 +21,12 @@ vacated (place ∷ places) (suc i) = vacated places i
 
 -- a closed session doesn't go on
 pub closed_stops : (node : NodeState) (session : ℕ) → IsGoing (closed node session) session → ⊥
-closed_stops node session h = let e : ◌≡◌ {A = Option SessionState} None (Some Authenticated) = sym (vacated node.sessions (session - 1)) ∙ h in cc
+closed_stops node session h =
+    let e : ◌≡◌ {A = Option SessionState} None (Some Authenticated) = sym (either (eqb session 0) (vacated node.sessions (session - 1))) ∙ h in cc
+  where
+    either : (b : Bool) → {o : Option SessionState} → o ≡ None → cond b None o ≡ None
+    either true e = refl
+    either false e = e
 
 -- what the framer gave in front of a fault begins what the octets give
 pub given_in_front : (why : Fault) (items : List Item) (old new : Result Progress Fault) (cut : Cut) → FaultsNow why items old new cut → IsPrefix items cut.0

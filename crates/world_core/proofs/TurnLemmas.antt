@@ -7,7 +7,10 @@ use Rattle.imap_answers.specs.declared.answer.Answer.TheVariants.{Continue}
 use Rattle.imap_answers.specs.declared.words.Continuation.TheVariants as continuations
 use Rattle.world_core.specs.FaultAnswers.{IsLiteralAnswer}
 use Rattle.world_core.specs.Conversation.{BreaksOff, Converses, IsFront, StopsAt, Takes, TakesFrame, got, sent, sent_one, turns_of}
+use Rattle.world_core.specs.Inputs.{Handles, IsInput}
 use Rattle.world_core.specs.Nodes.{HasLoggedOut, IsGoing, NodeState, closed}
+use Rattle.world_core.specs.declared.talking.Input.{Input}
+use Rattle.world_core.specs.declared.talking.Input.TheVariants.{Command, Fault}
 use Rattle.world_core.specs.declared.turn.Turn.{Turn}
 use Rattle.world_core.specs.declared.turn.Turn.TheVariants.{Got}
 
@@ -22,22 +25,38 @@ pub at_error : {T E : Type 0} (r : Result T E) (P : Type 0) → P → OnErr r P
 at_error (Ok x) P p = tt
 at_error (Err e) P p = p
 
-module _ (session : ℕ) (octets : List ℕ) (before mid after : List Turn) (shown : mid ≡ before ++ Got octets ∷ []) (old : NodeState) where
+-- what is carried out of a frame is what the node makes of it
+handled : (old : NodeState) (session : ℕ) (octets : List ℕ) (input : Input) (given : List Answer) (new : NodeState) → IsInput octets input → Handles old session input given new → TakesFrame old session octets given new
+handled old session octets (Command tagged) given new i h = inl (tagged, h.0, i, h.1, h.2)
+handled old session octets (Fault answer) given new i h = inr (answer, i, h.0, h.1)
+
+module _ (session : ℕ) (octets : List ℕ) (before mid after : List Turn) (shown : mid ≡ before ++ Got octets ∷ []) (old new : NodeState) (input : Input) (is : IsInput octets input) where
   -- all answers to a frame behind what came of it
-  pub frame_answered : {T E : Type 0} (new : NodeState) (given : List Answer) (r : Result T E) → TakesFrame old session octets given new → OnOk r (after ≡ mid ++ sent given) → OnOk r ((told : List Answer) × TakesFrame old session octets told new × (after ≡ before ++ turns_of (Frame octets) told))
-  frame_answered new given (Err e) t o = tt
-  frame_answered new given (Ok x) t o = (given, t, o ∙ ap (λ turns. turns ++ sent given) shown ∙ append_assoc before (Got octets ∷ []) (sent given))
+  pub frame_answered : {T E : Type 0} (r : Result T E) → OnOk r ((given : List Answer) × Handles old session input given new × (after ≡ mid ++ sent given))
+      → OnOk r ((told : List Answer) × TakesFrame old session octets told new × (after ≡ before ++ turns_of (Frame octets) told))
+  frame_answered (Err e) o = tt
+  frame_answered (Ok x) o =
+      (o.0, handled old session octets input o.0 new is o.1, o.2 ∙ ap (λ turns. turns ++ sent o.0) shown ∙ append_assoc before (Got octets ∷ []) (sent o.0))
 
   -- some answers to a frame behind what came of it
-  pub frame_broken : {T E : Type 0} (new : NodeState) (given : List Answer) (r : Result T E) → TakesFrame old session octets given new
-      → OnErr r ((front : List Turn) × (after ≡ mid ++ front) × IsFront front (sent given))
+  pub frame_broken : {T E : Type 0} (r : Result T E) → OnErr r ((given : List Answer) × (front : List Turn) × Handles old session input given new × (after ≡ mid ++ front) × IsFront front (sent given))
       → OnErr r ((more : List Turn) × (after ≡ before ++ more) × StopsAt old session (Frame octets) more new)
-  frame_broken new given (Ok x) t o = tt
-  frame_broken new given (Err e) t o = (
-    Got octets ∷ o.0,
-    o.1 ∙ ap (λ turns. turns ++ o.0) shown ∙ append_assoc before (Got octets ∷ []) o.0,
-    inr (given, t, (o.2.0, ap (λ turns. Got octets ∷ turns) o.2.1)),
+  frame_broken (Ok x) o = tt
+  frame_broken (Err e) o = (
+    Got octets ∷ o.1,
+    o.3 ∙ ap (λ turns. turns ++ o.1) shown ∙ append_assoc before (Got octets ∷ []) o.1,
+    inr (o.0, handled old session octets input o.0 new is o.2, (o.4.0, ap (λ turns. Got octets ∷ turns) o.4.1)),
   )
+
+module _ {T E : Type 0} (r : Result T E) (session : ℕ) (before after : List Turn) (old new : NodeState) (input : Input) (given : List Answer) (h : Handles old session input given new) where
+  -- all answers that were to be given
+  pub input_answered : OnOk r (after ≡ before ++ sent given) → OnOk r ((told : List Answer) × Handles old session input told new × (after ≡ before ++ sent told))
+  input_answered o = on_ok_weaker r (λ e. (given, h, e)) o
+
+  -- some of them
+  pub input_broken : OnErr r ((front : List Turn) × (after ≡ before ++ front) × IsFront front (sent given))
+      → OnErr r ((told : List Answer) × (front : List Turn) × Handles old session input told new × (after ≡ before ++ front) × IsFront front (sent told))
+  input_broken o = on_err_weaker r (λ f. (given, f.0, h, f.1, f.2)) o
 
 -- A conversation that is under way: what is still to be taken leads to what all items lead to.
 pub record Underway (start : NodeState) (session : ℕ) (items : List Item) (before : List Turn) (node : NodeState) (left : List Item) (turns : List Turn) : Type 0 where

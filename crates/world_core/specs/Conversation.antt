@@ -3,7 +3,7 @@ use Rattle.imap_grammar.specs.Commands.{IsSpelled}
 use Rattle.imap_grammar.specs.declared.command.Tagged.{Tagged}
 use Rattle.imap_lex.specs.declared.item.Item.{Item}
 use Rattle.imap_lex.specs.declared.item.Item.TheVariants.{Ready, Frame, Refused}
-use Rattle.imap_print.specs.Printed.{printed}
+use Rattle.imap_answers.specs.Printed.{printed}
 use Rattle.imap_answers.specs.declared.answer.Answer.{Answer}
 use Rattle.imap_answers.specs.declared.answer.Answer.TheVariants.{Continue}
 use Rattle.imap_answers.specs.declared.words.Continuation.TheVariants as continuations

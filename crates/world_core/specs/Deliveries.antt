@@ -1,6 +1,6 @@
 use Rattle.std.specs.Prelude.{◌≡◌, ℕ, List}
 use Rattle.causal_inbox.specs.Delivery.{Arrives, Refuses}
-use Rattle.causal_inbox.specs.Seen.{AreReleased, IsStalled, Seen}
+use Rattle.causal_inbox.specs.Seen.{AreReleased, IsLawful, IsStalled, Seen}
 use Rattle.causal_inbox.specs.declared.answers.Arrival.{Arrival}
 use Rattle.causal_inbox.specs.declared.answers.DeliverFault.{DeliverFault}
 use Rattle.crdt_ops.specs.declared.op.Op.{Op}
@@ -13,6 +13,11 @@ received applied held = record { start = tt; applied = applied; held = held }
 -- No number is ever used up by applying operations.
 abbrev pub never_used_up : Unit {0} → List Op → List Op → Type 0
 never_used_up start applied ops = ⊥
+
+-- What holds of a node whatever came: the operations applied are a causal list, no id stands both among them and among those
+-- held, an id determines the operation, and those held ascend by their ids and are no more than the limit.
+abbrev pub IsOrderly : NodeState → Type 0
+IsOrderly node = IsLawful (λ (o : Op). o.id) (λ o. o.clock) (received node.applied node.held)
 
 -- A delivered operation comes to what was received so far, and this was received then.
 abbrev pub ArrivesAt : List Op → List Op → Op → Arrival → List Op → List Op → Type 0

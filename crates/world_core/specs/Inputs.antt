@@ -1,4 +1,4 @@
-use Rattle.std.specs.Prelude.{◌≡◌, ◌⊎◌, ℕ, List}
+use Rattle.std.specs.Prelude.{◌≡◌, ◌⊎◌, ℕ, List, [], ◌∷◌}
 use Rattle.imap_grammar.specs.Commands.{IsSpelled}
 use Rattle.imap_grammar.specs.Faults.{HasTag, IsTagged}
 use Rattle.imap_grammar.specs.declared.fault.ParseFault.{ParseFault}
@@ -8,6 +8,9 @@ use Rattle.imap_answers.specs.declared.answer.Answer.TheVariants as answers
 use Rattle.imap_answers.specs.declared.words.Refusal.{Refusal}
 use Rattle.imap_answers.specs.declared.words.Refusal.TheVariants as refusals
 use Rattle.world_core.specs.FaultAnswers.{IsFaultAnswer}
+use Rattle.world_core.specs.Nodes.{NodeState, answers_of}
+use Rattle.world_core.specs.Responses.{Responds}
+use Rattle.world_core.specs.declared.reply.Reply.{Reply}
 use Rattle.world_core.specs.declared.talking.Input.{Input}
 use Rattle.world_core.specs.declared.talking.Input.TheVariants.{Command, Fault}
 
@@ -15,6 +18,11 @@ use Rattle.world_core.specs.declared.talking.Input.TheVariants.{Command, Fault}
 abbrev pub IsInput : List ℕ → Input → Type 0
 IsInput octets (Command tagged) = IsSpelled tagged octets
 IsInput octets (Fault answer) = IsFaultAnswer octets answer
+
+-- The node carries out what a frame is to it, and gives these answers.
+abbrev pub Handles : NodeState → ℕ → Input → List Answer → NodeState → Type 0
+Handles old session (Command tagged) given new = (reply : Reply) × Responds old session tagged reply new × (given ≡ answers_of reply)
+Handles old session (Fault answer) given new = (given ≡ answer ∷ []) × (new ≡ old)
 
 -- The reason that a fault of the parser gives for a frame with a tag.
 abbrev pub reason_for : ParseFault → Refusal

@@ -31,3 +31,8 @@ closed node session = record node { sessions = with_session node.sessions sessio
 abbrev pub answers_of : Reply → List Answer
 answers_of (Done given issued) = given
 answers_of (Refused tag reason) = answers.Refused tag reason ∷ []
+
+-- The operations that a reply issues, in the order of their numbers.
+abbrev pub issued_of : Reply → List Op
+issued_of (Done given issued) = issued
+issued_of (Refused tag reason) = []

@@ -3,7 +3,7 @@ use Rattle.causal_inbox.specs.Seen.{IsClockOf}
 use Rattle.crdt_ops.specs.declared.kind.Kind.{Kind}
 use Rattle.crdt_ops.specs.declared.op.Op.{Op}
 use Rattle.crdt_ops.specs.Sets.{folders_of}
-use Rattle.crdt_ops.specs.Sound.{CoversNamed, HasLawfulFlags, IsDeleteOfInbox}
+use Rattle.crdt_ops.specs.Sound.{CoversNamed, HasLawfulFlags, IsDeleteOfInbox, IsSound}
 use Rattle.crdt_ops.specs.Tags.{name_of}
 use Rattle.imap_types.specs.Names.{IsLawfulName}
 use Rattle.merge_laws.specs.Orders.{HasId, IsIn}
@@ -32,3 +32,9 @@ pub record CanIssue (applied : List Op) (kind : Kind) : Type 0 where
   pub flags : HasLawfulFlags kind
   pub inbox_stays : ¬ IsDeleteOfInbox kind
   pub covered : (clock : List (ℕ × ℕ)) → IsClockOf (λ (o : Op). o.id) applied clock → CoversNamed clock kind
+
+-- An operation that a replica issues behind these is sound, bears the replica's name, and has an id that none of them has.
+pub record IsFresh (replica : ℕ) (applied : List Op) (op : Op) : Type 0 where
+  pub sound : IsSound op
+  pub own : op.id.replica ≡ replica
+  pub fresh : ¬ HasId (λ (o : Op). o.id) applied op.id

@@ -1,19 +1,20 @@
 use Rattle.std.specs.Prelude.{◌≡◌, ◌≢◌, ◌⊎◌, ℕ, zero, suc, List, [], ◌∷◌, ◌++◌, Result}
+use Rattle.std.specs.List.{flat_map}
 use Rattle.causal_inbox.specs.declared.answers.Arrival.{Arrival}
 use Rattle.crdt_ops.specs.declared.op.Op.{Op}
 use Rattle.imap_grammar.specs.declared.command.Tagged.{Tagged}
-use Rattle.imap_answers.specs.declared.answer.Answer.{Answer}
-use Rattle.imap_lex.specs.Reading.{Progress, goes_on}
+use Rattle.imap_lex.specs.Reading.{Cut, Progress, goes_on, joined}
 use Rattle.imap_lex.specs.declared.fault.Fault.{Fault}
 use Rattle.imap_lex.specs.declared.item.Item.{Item}
 use Rattle.imap_lex.specs.declared.limits.Limits.{Limits}
-use Rattle.world_core.specs.Conversation.{Takes, turns_of}
+use Rattle.world_core.specs.Conversation.{Converses}
 use Rattle.world_core.specs.Deliveries.{Delivers, Drains}
-use Rattle.world_core.specs.Nodes.{HasLoggedOut, IsGoing, NodeState, closed}
+use Rattle.world_core.specs.Nodes.{IsGoing, NodeState, closed}
 use Rattle.world_core.specs.Responses.{Responds}
-use Rattle.world_core.specs.Sessions.{Opens}
-use Rattle.world_core.specs.Talks.{Talks}
+use Rattle.world_core.specs.Sessions.{IsOpen, Opens}
+use Rattle.world_core.specs.Talks.{EndsTalk, Talks}
 use Rattle.world_core.specs.declared.reply.Reply.{Reply}
+use Rattle.world_core.specs.declared.turn.TalkFaultKind.{TalkFaultKind}
 use Rattle.world_core.specs.declared.turn.Turn.{Turn}
 
 -- What calls of talk made of a session, one for each of these pieces of input, where the session went on behind each.
@@ -24,15 +25,54 @@ TalksOn old session limits state (piece ∷ pieces) turns new end =
     × Talks old session (goes_on limits state piece) first mid between × IsGoing mid session
     × ((rest : List Turn) × (turns ≡ first ++ rest) × TalksOn mid session limits between pieces rest new end)
 
+-- Calls of `talk` over a session, one for each of these pieces of input: the node and the framer before the first, the turns that
+-- they gave together, and the node and the framer behind the last.
+pub record Run (P : Type 0) : Type 0 where
+  pub session : ℕ
+  pub limits : Limits
+  pub old : NodeState
+  pub before : Result Progress Fault
+  pub pieces : List P
+  pub turns : List Turn
+  pub new : NodeState
+  pub after : Result Progress Fault
+
+-- The session went on behind each of the calls.
+abbrev pub IsRun : Run (List ℕ) → Type 0
+IsRun run = TalksOn run.old run.session run.limits run.before run.pieces run.turns run.new run.after
+
+-- One more call of `talk`: its octets, its turns, and the node and the framer afterwards.
+pub record Call : Type 0 where
+  pub octets : List ℕ
+  pub turns : List Turn
+  pub new : NodeState
+  pub after : Result Progress Fault
+
+-- The call behind a run, which may end the session by a LOGOUT.
+abbrev pub IsCallBehind : {P : Type 0} → Run P → Call → Type 0
+IsCallBehind run call = IsGoing run.new run.session × Talks run.new run.session (goes_on run.limits run.after call.octets) call.turns call.new call.after
+
+-- The call behind a run, which ends the connection so.
+abbrev pub EndsBehind : {P : Type 0} → TalkFaultKind → Run P → Call → Type 0
+EndsBehind why run call = IsGoing run.new run.session × EndsTalk why run.new run.session run.after (goes_on run.limits run.after call.octets) call.turns call.new
+
+-- What the octets of all pieces of a run give, and those of a call behind it.
+abbrev pub cut_of : Run (List ℕ) → Cut
+cut_of run = goes_on run.limits run.before (joined run.pieces)
+
+abbrev pub cut_with : Run (List ℕ) → Call → Cut
+cut_with run call = goes_on run.limits run.before (joined run.pieces ++ call.octets)
+
 -- ---- with deliveries and other sessions between
 
--- Another session at the node is opened, takes a command, or is closed.
+-- Another session at the node is opened; or one that is open takes a command, or is closed.
 abbrev pub OtherMoves : ℕ → NodeState → NodeState → Type 0
 OtherMoves session old new =
     (other : ℕ) × (other ≢ session)
     × ((Opens old.sessions other new.sessions × (new ≡ record old { sessions = new.sessions }))
-    ⊎ (((tagged : Tagged) × (reply : Reply) × Responds old other tagged reply new)
-    ⊎ (new ≡ closed old other)))
+    ⊎ (IsOpen old.sessions other
+    × (((tagged : Tagged) × (reply : Reply) × Responds old other tagged reply new)
+    ⊎ (new ≡ closed old other))))
 
 -- What comes to a node beside this session: it is handed an operation of another replica, or goes on with those that it
 -- holds, or another session moves.
@@ -48,20 +88,53 @@ MovesTimes session (suc n) old new = (mid : NodeState) × Moves session old mid 
 abbrev pub Meanwhile : ℕ → NodeState → NodeState → Type 0
 Meanwhile session old new = (n : ℕ) × MovesTimes session n old new
 
--- What calls of talk made of a session, one for each of these pieces of input, where operations of other replicas and other
+-- A piece of input, and the node to which it comes.
+pub record Piece : Type 0 where
+  pub node : NodeState
+  pub octets : List ℕ
+
+-- The octets of all pieces.
+abbrev pub octets_in : List Piece → List ℕ
+octets_in pieces = flat_map (λ (piece : Piece). piece.octets) pieces
+
+-- What calls of `talk` made of a session, one for each of these pieces of input, where operations of other replicas and other
 -- sessions came to the node before each, and the session went on behind each.
-abbrev pub TalksAmid : NodeState → ℕ → Limits → Result Progress Fault → List (List ℕ) → List Turn → NodeState → Result Progress Fault → Type 0
+abbrev pub TalksAmid : NodeState → ℕ → Limits → Result Progress Fault → List Piece → List Turn → NodeState → Result Progress Fault → Type 0
 TalksAmid old session limits state [] turns new end = (turns ≡ []) × Meanwhile session old new × (end ≡ state)
 TalksAmid old session limits state (piece ∷ pieces) turns new end =
-    (told : NodeState) × (first : List Turn) × (mid : NodeState) × (between : Result Progress Fault)
-    × Meanwhile session old told × Talks told session (goes_on limits state piece) first mid between × IsGoing mid session
+    (first : List Turn) × (mid : NodeState) × (between : Result Progress Fault)
+    × Meanwhile session old piece.node × Talks piece.node session (goes_on limits state piece.octets) first mid between × IsGoing mid session
     × ((rest : List Turn) × (turns ≡ first ++ rest) × TalksAmid mid session limits between pieces rest new end)
 
--- The turns of a conversation over these items, where operations of other replicas and other sessions come to the node
--- before each: each item is answered by what was applied until then.
-abbrev pub ConversesAmid : NodeState → ℕ → List Item → List Turn → NodeState → Type 0
+-- The same, of a run.
+abbrev pub IsRunAmid : Run Piece → Type 0
+IsRunAmid run = TalksAmid run.old run.session run.limits run.before run.pieces run.turns run.new run.after
+
+-- The pieces of a run and of a call behind it.
+abbrev pub pieces_with : Run Piece → Call → List Piece
+pieces_with run call = run.pieces ++ record { node = run.new; octets = call.octets } ∷ []
+
+-- Items, and the node to which the piece came that completes them.
+pub record Stretch : Type 0 where
+  pub node : NodeState
+  pub items : List Item
+
+-- The items that each of these pieces completes.
+abbrev pub stretches : Limits → Result Progress Fault → List Piece → List Stretch
+stretches limits state [] = []
+stretches limits state (piece ∷ pieces) =
+    record { node = piece.node; items = (goes_on limits state piece.octets).0 } ∷ stretches limits (goes_on limits state piece.octets).1 pieces
+
+-- All the items.
+abbrev pub items_in : List Stretch → List Item
+items_in given = flat_map (λ (stretch : Stretch). stretch.items) given
+
+-- The turns of a conversation over these items, where operations of other replicas and other sessions came to the node between
+-- the pieces that complete them, and nothing within a piece: the items of a piece are answered from the node to which it came, one
+-- after another, up to a LOGOUT answered OK, behind which the rest is dropped.
+abbrev pub ConversesAmid : NodeState → ℕ → List Stretch → List Turn → NodeState → Type 0
 ConversesAmid old session [] turns new = (turns ≡ []) × Meanwhile session old new
-ConversesAmid old session (item ∷ items) turns new =
-    (told : NodeState) × (given : List Answer) × (mid : NodeState) × Meanwhile session old told × Takes told session item given mid
-    × ((IsGoing mid session × ((rest : List Turn) × (turns ≡ turns_of item given ++ rest) × ConversesAmid mid session items rest new))
-    ⊎ (HasLoggedOut mid session × (turns ≡ turns_of item given) × (new ≡ closed mid session)))
+ConversesAmid old session (stretch ∷ given) turns new =
+    (first : List Turn) × (mid : NodeState) × Meanwhile session old stretch.node × Converses stretch.node session stretch.items first mid
+    × ((IsGoing mid session × ((rest : List Turn) × (turns ≡ first ++ rest) × ConversesAmid mid session given rest new))
+    ⊎ ((¬ IsGoing mid session) × (turns ≡ first) × (new ≡ mid)))

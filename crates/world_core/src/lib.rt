@@ -12,8 +12,8 @@ mod turn;
 
 pub use dump::write_dump;
 pub use laws::{
-    commands_are_answered, faults_end_the_stream, one_dump, others_come_between,
-    pieces_are_one_stream,
+    answers_are_printable, commands_are_answered, faults_end_the_stream, issued_are_sound_and_new,
+    one_dump, others_come_between, pieces_are_one_stream,
 };
 pub use node::Node;
 pub use reply::{Answers, Issued, Reply};

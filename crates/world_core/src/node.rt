@@ -40,8 +40,11 @@ impl Model for Node {
 }
 
 impl Node {
-    ghost use Rattle.world_core.specs.Deliveries.{Delivers, Drains, HoldsRipe, IsRefusedAt};
-    ghost use Rattle.world_core.specs.Nodes.{IsGoing, closed};
+    ghost use Rattle.crdt_ops.specs.Sound.{IsSound};
+    ghost use Rattle.merge_laws.specs.Orders.{AreSound, IsIn};
+    ghost use Rattle.world_core.specs.Deliveries.{Delivers, Drains, HoldsRipe, IsOrderly, IsRefusedAt};
+    ghost use Rattle.world_core.specs.Nodes.{IsGoing, closed, issued_of};
+    ghost use Rattle.world_core.specs.Operations.{IsFresh};
     ghost use Rattle.world_core.specs.Responses.{Responds};
     ghost use Rattle.world_core.specs.Sessions.{IsOpen, Opens, session_at};
     ghost use Rattle.world_core.specs.declared.sessions.OpenFault.TheVariants.{TooManySessions};
@@ -113,16 +116,20 @@ impl Node {
         self.replica.drain(alloc)
     }
 
-    /// The operations applied, in their order.
+    /// The operations applied, in their order, which is causal. They are sound, and none has the id of one that is held.
     pub fn op_list(&self) -> &[SoundOp]
-        ensures { result.now ≡ self.now.applied }
+        ensures applied { result.now ≡ self.now.applied }
+        ensures orderly { IsOrderly self.now }
+        ensures sound { AreSound IsSound self.now.applied }
     {
         self.replica.applied()
     }
 
-    /// The operations held until their causes come, by ascending ids.
+    /// The operations held until their causes come, by ascending ids. They are sound.
     pub fn held(&self) -> &[SoundOp]
-        ensures { result.now ≡ self.now.held }
+        ensures held { result.now ≡ self.now.held }
+        ensures orderly { IsOrderly self.now }
+        ensures sound { AreSound IsSound self.now.held }
     {
         self.replica.held()
     }
@@ -148,7 +155,8 @@ impl Node {
         &self.replica
     }
 
-    /// Carries out a command of an open session, whole, or refuses it and changes nothing.
+    /// Carries out a command of an open session, whole, or refuses it and changes nothing. What it issues is sound and has new
+    /// ids.
     pub fn command(
         &mut self,
         alloc: Global,
@@ -156,6 +164,14 @@ impl Node {
         _moment: Moment,
         tagged: Tagged,
     ) -> Reply
+        requires { IsOpen self.old.sessions session }
+        ensures responds { Responds self.old session tagged result self.new }
+        ensures fresh { (op : Operation) → IsIn op (issued_of result) → IsFresh self.old.replica self.old.applied op }
+    {
+        self.reply_to(alloc, session, tagged)
+    }
+
+    fn reply_to(&mut self, alloc: Global, session: SessionNo, tagged: Tagged) -> Reply
         requires { IsOpen self.old.sessions session }
         ensures { Responds self.old session tagged result self.new }
     {

@@ -1,7 +1,7 @@
 //! A replica without its sessions: the operations that it received, and what they lead to.
 
 ghost use Rattle.std.specs.Prelude.{◌≡◌, ◌↔◌, ◌≤◌, ◌++◌, ◌∷◌, [], IfOk, OnOk, OnErr, IsTrue, Err, MatchResult};
-ghost use Rattle.causal_inbox.specs.Seen.{AreKept, IsClockOf, held_limit, uncovered};
+ghost use Rattle.causal_inbox.specs.Seen.{AreKept, IsClockOf, IsLawful, held_limit, uncovered};
 ghost use Rattle.crdt_ops.specs.Sets.{delete_set_of, folder_tags_of, folders_of, messages_of, subscribed_of, subscription_tags_of};
 ghost use Rattle.crdt_ops.specs.declared.op.Op.{Op as Operation};
 ghost use Rattle.folder_state.specs.Contents.{IsMadeBy};
@@ -11,8 +11,8 @@ ghost use Rattle.subs_state.specs.Table.{subscriptions_of};
 ghost use Rattle.crdt_ops.specs.Sound.{CoversNamed, HasLawfulFlags, IsDeleteOfInbox, IsSound};
 ghost use Rattle.crdt_ops.specs.Tags.{name_of};
 ghost use Rattle.imap_types.specs.Names.{IsLawfulName};
-ghost use Rattle.merge_laws.specs.Orders.{AreSound, IsCausal};
-ghost use Rattle.world_core.specs.Deliveries.{ArrivesAt, HoldsRipe, IsRefusedAt, Releases};
+ghost use Rattle.merge_laws.specs.Orders.{AreSound};
+ghost use Rattle.world_core.specs.Deliveries.{ArrivesAt, HoldsRipe, IsRefusedAt, Releases, received};
 ghost use Rattle.world_core.specs.Operations.{CanIssue, IsNext, IsThere, IsUsedUp};
 
 use causal_inbox::{DeliverFault, Delivered, Drained, Inbox};
@@ -70,7 +70,7 @@ impl Replica {
     /// The operations applied, in their order, which is causal.
     pub fn applied(&self) -> &[SoundOp]
         ensures applied { result.now ≡ self.now.applied }
-        ensures causal { IsCausal (λ (o : Operation). o.id) (λ (o : Operation). o.clock) self.now.applied }
+        ensures lawful { IsLawful (λ (o : Operation). o.id) (λ (o : Operation). o.clock) (received self.now.applied self.now.held) }
         ensures sound { AreSound IsSound self.now.applied }
     {
         self.inbox.op_list()
@@ -158,8 +158,11 @@ impl Replica {
 
     /// The operations held, by ascending ids.
     pub fn held(&self) -> &[SoundOp]
-        ensures { result.now ≡ self.now.held }
+        ensures held { result.now ≡ self.now.held }
+        ensures lawful { IsLawful (λ (o : Operation). o.id) (λ (o : Operation). o.clock) (received self.now.applied self.now.held) }
+        ensures sound { AreSound IsSound self.now.held }
     {
+        let _list = self.inbox.op_list();
         self.inbox.held()
     }
 

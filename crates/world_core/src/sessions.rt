@@ -1,4 +1,5 @@
 ghost use Rattle.std.specs.Prelude.{◌≡◌, ◌≢◌, ◌+◌, ◌-◌, ◌<◌, ◌≤◌, ◌↔◌, [], ℕ, IsTrue, IsNone, IsSome, None, Some, Err, IfOk, IfErr, OnOk, OnErr, SomeIff, length, max, ◌==◌, if◌then◌else◌, slice_index_or, slice_set};
+ghost use Rattle.world_core.specs.Sessions.{IsOpen, session_at};
 ghost use Rattle.world_core.specs.declared.sessions.OpenFault.TheVariants.{NoMemory, TooManySessions};
 ghost use Rattle.world_core.specs.declared.sessions.SessionState.TheVariants.{Authenticated};
 
@@ -89,7 +90,7 @@ impl Model for Sessions {
 }
 
 impl Sessions {
-    ghost use Rattle.world_core.specs.Sessions.{IsOpen, Opens, session_at, with_session};
+    ghost use Rattle.world_core.specs.Sessions.{Opens, with_session};
 
     /// No session.
     pub fn new(alloc: Global) -> Sessions
@@ -131,7 +132,7 @@ impl Sessions {
 }
 
 fn session_in(places: &[Option<SessionState>], session: SessionNo) -> Option<SessionState>
-    ensures { result ≡ slice_index_or places.now (session - 1) None }
+    ensures { result ≡ session_at places.now session }
 {
     match places.get(session.get() - 1) {
         Some(place) => *place,
@@ -176,7 +177,7 @@ fn open_in(places: &mut Vec<Option<SessionState>>, vacant: usize) -> Result<Sess
 }
 
 fn set_in(places: &mut Vec<Option<SessionState>>, session: SessionNo, state: Option<SessionState>)
-    requires { IsSome (slice_index_or places.old.items (session - 1) None) }
+    requires { IsOpen places.old.items session }
     ensures { places.new.items ≡ slice_set places.old.items (session - 1) state }
 {
     let place = session.get() - 1;

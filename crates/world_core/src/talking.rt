@@ -2,14 +2,14 @@ ghost use Rattle.std.specs.Prelude.{◌≡◌, ◌++◌, ◌⊎◌, ◌∷◌, [
 ghost use Rattle.imap_grammar.specs.Commands.{IsSpelled};
 ghost use Rattle.imap_grammar.specs.Faults.{HasTag, IsTagged};
 ghost use Rattle.imap_lex.specs.Reading.{goes_on};
-ghost use Rattle.imap_print.specs.Printed.{printed};
+ghost use Rattle.imap_answers.specs.Printed.{printed};
 ghost use Rattle.world_core.specs.Conversation.{BreaksOff, Converses, IsFront, StopsAt, Takes, TakesFrame, got, sent, sent_one, turns_of};
 ghost use Rattle.world_core.specs.Nodes.{HasLoggedOut, IsGoing, NodeState, answers_of, closed};
 ghost use Rattle.world_core.specs.declared.turn.Turn.{Turn as OneTurn};
 ghost use Rattle.imap_answers.specs.declared.answer.Answer.{Answer as OneAnswer};
 ghost use Rattle.imap_lex.specs.declared.item.Item.TheVariants.{Frame as FrameItem, Refused as RefusedItem};
 ghost use Rattle.world_core.specs.FaultAnswers.{IsFaultAnswer, IsLiteralAnswer};
-ghost use Rattle.world_core.specs.Inputs.{AnswersFault, IsInput, reason_for};
+ghost use Rattle.world_core.specs.Inputs.{AnswersFault, Handles, IsInput, reason_for};
 ghost use Rattle.world_core.specs.Talks.{EndsTalk, SaysGoodbye, Talks, goodbye_of};
 ghost use Rattle.world_core.specs.declared.turn.Turn.TheVariants.{Got as GotTurn};
 ghost use Rattle.imap_lex.specs.declared.fault.Fault.{Fault as Why};
@@ -138,8 +138,25 @@ fn take_frame(
     ensures err { OnErr result ((more : List OneTurn) × (turns.new.items ≡ turns.old.items ++ more) × StopsAt node.old session (FrameItem octets.now) more node.new) }
     ensures open { IsGoing node.new session ⊎ HasLoggedOut node.new session }
 {
-    let input = input_of(alloc, octets)?;
     show(alloc, turns, octets)?;
+    let input = input_of(alloc, octets)?;
+    take_input(alloc, node, session, moment, input, turns)
+}
+
+/// Carries out what a frame is to the node, and adds the answers.
+fn take_input(
+    alloc: Global,
+    node: &mut Node,
+    session: SessionNo,
+    moment: Moment,
+    input: Input,
+    turns: &mut Vec<Turn>,
+) -> Result<(), AllocError>
+    requires { IsGoing node.old session }
+    ensures ok { OnOk result ((given : List OneAnswer) × Handles node.old session input given node.new × (turns.new.items ≡ turns.old.items ++ sent given)) }
+    ensures err { OnErr result ((given : List OneAnswer) × (front : List OneTurn) × Handles node.old session input given node.new × (turns.new.items ≡ turns.old.items ++ front) × IsFront front (sent given)) }
+    ensures open { IsGoing node.new session ⊎ HasLoggedOut node.new session }
+{
     match input {
         Input::Fault(answer) => send_all(alloc, turns, &[answer]),
         Input::Command(tagged) => {
@@ -155,8 +172,23 @@ fn refuse_literal(alloc: Global, octets: &[u8], turns: &mut Vec<Turn>) -> Result
     ensures err { OnErr result ((more : List OneTurn) × (turns.new.items ≡ turns.old.items ++ more) × IsFront more (got (RefusedItem octets.now))) }
 {
     let answer = literal_answer(alloc, octets)?;
+    let told = show_refused(alloc, octets, &answer, turns);
+    drop(answer);
+    told
+}
+
+/// Shows the front that is refused, and adds the answer to it.
+fn show_refused(
+    alloc: Global,
+    octets: &[u8],
+    answer: &Answer,
+    turns: &mut Vec<Turn>,
+) -> Result<(), AllocError>
+    ensures ok { OnOk result (turns.new.items ≡ turns.old.items ++ turns_of (RefusedItem octets.now) (answer.now ∷ [])) }
+    ensures err { OnErr result ((more : List OneTurn) × (turns.new.items ≡ turns.old.items ++ more) × IsFront more (got (RefusedItem octets.now))) }
+{
     show(alloc, turns, octets)?;
-    send(alloc, turns, &answer)
+    send(alloc, turns, answer)
 }
 
 /// Takes one item: shows what came of the client, and adds the answers.
@@ -274,7 +306,9 @@ fn say_goodbye(alloc: Global, why: Fault, turns: &mut Vec<Turn>) -> TalkFaultKin
     let Some(answer) = goodbye(why) else {
         return TalkFaultKind::Framing(why);
     };
-    match send(alloc, turns, &answer) {
+    let sent = send(alloc, turns, &answer);
+    drop(answer);
+    match sent {
         Ok(()) => TalkFaultKind::Framing(why),
         Err(_) => TalkFaultKind::NoMemory,
     }

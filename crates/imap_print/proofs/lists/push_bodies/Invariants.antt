@@ -1,6 +1,6 @@
 use Rattle.std.proofs.Common.{take, map}
 use Rattle.imap_print.specs.Appending.{Lists}
-use Rattle.imap_print.specs.Printed.{body_text}
+use Rattle.imap_answers.specs.Printed.{body_text}
 use Rattle.imap_print.proofs.lists.push_bodies.Given as goal
 
 abbrev pub invariant-loop-part : goal.invariant-loop-part

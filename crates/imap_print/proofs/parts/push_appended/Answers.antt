@@ -2,10 +2,10 @@ use Rattle.std.proofs.Common.{◌++◌, codes, decimal}
 use Rattle.imap_print.proofs.ListsLemmas.{behind}
 use Rattle.imap_print.proofs.parts.push_appended.Goals as goal
 
-pub returns-clause-ok : goal.returns-clause-ok
-returns-clause-ok c =
-    let h0 = rw c.from.ensures at c.in_ok-push_label.ensures.ok in
-    let h2 = rw c.from-2.ensures at c.in_ok-push_number.ensures.ok in
-    let second = behind c.args.out.now.items _ _ ((codes "[APPENDUID " ++ decimal c.args.uidvalidity)) (codes " ") h0 c.in_ok-push_text.ensures.ok in
+pub returns : goal.returns
+returns c =
+    let h0 = rw c.from.ensures at c.in_ok-push_label.ensures in
+    let h2 = rw c.from-2.ensures at c.in_ok-push_number.ensures in
+    let second = behind c.args.out.now.items _ _ ((codes "[APPENDUID " ++ decimal c.args.uidvalidity)) (codes " ") h0 c.in_ok-push_text.ensures in
     let third = behind c.args.out.now.items _ _ ((codes "[APPENDUID " ++ decimal c.args.uidvalidity) ++ codes " ") (decimal c.args.uid) second h2 in
-    behind c.args.out.now.items _ _ ((codes "[APPENDUID " ++ decimal c.args.uidvalidity) ++ codes " " ++ decimal c.args.uid) (codes "]") third c.in_ok-push_text-2.ensures.ok
+    behind c.args.out.now.items _ _ ((codes "[APPENDUID " ++ decimal c.args.uidvalidity) ++ codes " " ++ decimal c.args.uid) (codes "]") third c.in_ok-push_text-2.ensures

@@ -13,7 +13,7 @@ returns-clause-ok c =
     let written = c.in_ok-text.ensures {u = tt} in
     let dump : IsDump (record { replica = replica.replica; applied = replica.applied; held = node.held; sessions = node.sessions }) text =
     lists_applied (record { replica = replica.replica; applied = replica.applied; held = node.held; sessions = node.sessions }) c.applied-ops.result.now clock c.entries-entries.result.now text
-    c.applied-ops.ensures.causal c.applied-ops.ensures.sound
+    c.applied-ops.ensures.lawful.causal c.applied-ops.ensures.sound
     c.entries-entries.ensures.is_clock c.clock.ensures.counts c.applied-ops.ensures.applied c.entries-entries.ensures.entries written in (
       text,
       subst (λ (r : ℕ). IsDump (record { replica = r; applied = node.applied; held = node.held; sessions = node.sessions }) text) c.replica-replica.ensures.0

@@ -1,5 +1,7 @@
-use Rattle.std.proofs.Common.{◌≡◌, ◌≤◌, [], ◌∷◌, ◌++◌, length, sym, subst, ap, ◌∙◌}
-use Rattle.merge_laws.specs.Orders.{IsIn, HasId, AreSound}
+use Rattle.std.proofs.Common.{Err, ◌↔◌, rules, ◌≡◌, ◌≤◌, [], ◌∷◌, ◌++◌, length, sym, subst, ap, ◌∙◌}
+use Rattle.merge_laws.specs.declared.follower.NotReady.TheVariants.{Exhausted as UsedUpThere}
+use Rattle.merge_laws.specs.Orders.{IsIn, HasId, AreSound, IsCausal, IsRipe}
+use Rattle.merge_laws.proofs.Causal.{causal_more}
 use Rattle.merge_laws.proofs.Lists.{id_of_element}
 use Rattle.causal_inbox.specs.Seen.{AreAscending, held_limit}
 use Rattle.causal_inbox.proofs.Received.{kept_apart, only_id}
@@ -22,3 +24,25 @@ invariant_of-self-2 g c =
       limited = subst (λ xs. length xs ≤ held_limit) (sym r.held) h.limited;
       place = r.place;
     }
+
+pub returns-in_err-op-clause-exhausted : goal.returns-in_err-op-clause-exhausted
+returns-in_err-op-clause-exhausted g c =
+    let o = g.R.Op.Caused in
+    let h = c.self.inside.history.applied in
+    let applied : h ≡ c.args.self.now.seen.applied = ap (λ k. k.seen.applied) c.self.view_is in
+    let d : IsCausal o.id o.clock (h ++ c.args.op ∷ []) = causal_more o.id o.clock h c.args.op (subst (IsCausal o.id o.clock) (sym applied) c.op_list-applied.ensures.lawful.causal) (subst (λ xs. IsRipe o.id o.clock xs c.args.op) (sym applied) c.requires.ripe) in
+    let x = g.F.Follower.exhausts in
+    let op = c.args.op in
+    let e : (c.ready_for.result ≡ Err UsedUpThere) ↔ x c.args.self.now.seen.start c.args.self.now.seen.applied (op ∷ []) = subst (λ s. (c.ready_for.result ≡ Err UsedUpThere) ↔ x s.seen.start s.seen.applied (op ∷ [])) c.self.view_is (c.ready_for.ensures.exhausted d) in
+    search (rules, e)
+
+pub returns-clause-exhausted : goal.returns-clause-exhausted
+returns-clause-exhausted g c =
+    let o = g.R.Op.Caused in
+    let h = c.self.inside.history.applied in
+    let applied : h ≡ c.args.self.now.seen.applied = ap (λ k. k.seen.applied) c.self.view_is in
+    let d : IsCausal o.id o.clock (h ++ c.args.op ∷ []) = causal_more o.id o.clock h c.args.op (subst (IsCausal o.id o.clock) (sym applied) c.op_list-applied.ensures.lawful.causal) (subst (λ xs. IsRipe o.id o.clock xs c.args.op) (sym applied) c.requires.ripe) in
+    let x = g.F.Follower.exhausts in
+    let op = c.args.op in
+    let e : (c.ready_for.result ≡ Err UsedUpThere) ↔ x c.args.self.now.seen.start c.args.self.now.seen.applied (op ∷ []) = subst (λ s. (c.ready_for.result ≡ Err UsedUpThere) ↔ x s.seen.start s.seen.applied (op ∷ [])) c.self.view_is (c.ready_for.ensures.exhausted d) in
+    (λ k. absurd cc, λ y. let z = e.1 y in let w = c.in_ok-op.was in absurd cc)

@@ -1,0 +1,17 @@
+use Rattle.std.proofs.Common.{◌&&◌, sym, ap, ◌∙◌}
+use Rattle.std.specs.List.{list_any}
+use Rattle.std.specs.Str.{bytes_eq}
+use Rattle.crdt_ops.specs.declared.kind.Kind.{Kind}
+use Rattle.crdt_ops.specs.Tags.{FolderTag, removed_by, same_tag}
+use Rattle.crdt_ops.specs.TagLaws.{delete_removes_folder_tags, unsubscribe_keeps_folder_tags}
+use Rattle.folder_state.specs.Keys.{is_among}
+use Rattle.folder_state.proofs.later.removes_tag.Goals as goal
+
+pub returns-in-Delete : goal.returns-in-Delete
+returns-in-Delete c =
+    c.is_among.ensures ∙ ap (λ ids. is_among c.args.folder.now c.args.id c.in-Delete.own ids) c.as_slice.ensures.ids
+    ∙ sym (ap (λ (kind : Kind). list_any (same_tag (FolderTag c.args.folder.now c.args.id)) (removed_by kind)) c.in-Delete.is ∙ delete_removes_folder_tags c.args.folder.now c.in-Delete.own c.args.id c.in-Delete.seen)
+
+pub returns-in-Unsubscribe : goal.returns-in-Unsubscribe
+returns-in-Unsubscribe c =
+    sym (ap (λ (kind : Kind). list_any (same_tag (FolderTag c.args.folder.now c.args.id)) (removed_by kind)) c.in-Unsubscribe.is ∙ unsubscribe_keeps_folder_tags c.args.folder.now c.in-Unsubscribe.name c.args.id c.in-Unsubscribe.seen)

@@ -1,0 +1,173 @@
+use Rattle.std.specs.Prelude.{◌≡◌, ℕ, ◌<◌, ◌^◌, Bool, not, ◌&&◌, ◌||◌, ◌==◌, is_some, List, [], ◌∷◌, length, Option, Some, None, IsTrue}
+use Rattle.std.specs.List.{list_all}
+use Rattle.imap_types.specs.DateTimes.{IsDateTime}
+use Rattle.imap_types.specs.Keywords.{AreKeywords, is_atom_octet, is_tag_octet}
+use Rattle.imap_types.specs.Names.{folded_name}
+use Rattle.imap_types.specs.Numbers.{AreRisingFrom, greatest}
+use Rattle.imap_types.specs.declared.flags.Flags.{Flags as FlagSet}
+use Rattle.imap_types.specs.declared.section.Section.{Section}
+use Rattle.imap_types.specs.declared.section.Section.TheVariants as section
+use Rattle.imap_answers.specs.declared.answer.Answer.{Answer}
+use Rattle.imap_answers.specs.declared.answer.Answer.TheVariants as answer
+use Rattle.imap_answers.specs.declared.codes.Code.{Code}
+use Rattle.imap_answers.specs.declared.codes.Code.TheVariants as code
+use Rattle.imap_answers.specs.declared.codes.Notice.{Notice}
+use Rattle.imap_answers.specs.declared.codes.Notice.TheVariants as notice
+use Rattle.imap_answers.specs.declared.fetched.FetchItems.{FetchItems}
+use Rattle.imap_answers.specs.declared.fetched.SectionData.{SectionData}
+use Rattle.imap_answers.specs.declared.mailbox.SearchResults.{SearchResults}
+use Rattle.imap_answers.specs.declared.mailbox.StatusItems.{StatusItems}
+
+-- A fact holds of each element.
+abbrev pub Each : {X : Type 0} → (X → Type 0) → List X → Type 0
+Each P [] = Unit {0}
+Each P (x ∷ xs) = P x × Each P xs
+
+-- A fact holds of what is there.
+abbrev pub Where : {X : Type 0} → (X → Type 0) → Option X → Type 0
+Where P None = Unit {0}
+Where P (Some x) = P x
+
+-- A number of 32 bits, as message numbers and UIDs are, and one of 64 bits (RFC 9051, section 9, number and number64).
+abbrev pub IsSmall : ℕ → Type 0
+IsSmall n = n < 2 ^ 32
+
+abbrev pub IsWide : ℕ → Type 0
+IsWide n = n < 2 ^ 64
+
+-- A number from 1 on in 32 bits, as message numbers, UIDs and UIDVALIDITY are (RFC 9051, section 9, nz-number).
+abbrev pub IsNonzero : ℕ → Type 0
+IsNonzero n = (0 < n) × IsSmall n
+
+-- A mod-sequence, from 1 on (RFC 7162, section 7, mod-sequence-value).
+abbrev pub IsModSeq : ℕ → Type 0
+IsModSeq modseq = (0 < modseq) × IsWide modseq
+
+-- A tag (RFC 9051, section 9, tag).
+abbrev pub IsTag : List ℕ → Type 0
+IsTag tag = IsTrue (not (length tag == 0) && list_all is_tag_octet tag)
+
+-- An atom (RFC 9051, section 9, atom).
+abbrev pub IsAtom : List ℕ → Type 0
+IsAtom word = IsTrue (not (length word == 0) && list_all is_atom_octet word)
+
+-- A set of numbers that isn't empty (RFC 9051, section 9, sequence-set).
+pub record IsSet (numbers : List ℕ) : Type 0 where
+  pub filled : 0 < length numbers
+  pub rising : AreRisingFrom 1 numbers
+  pub small : IsSmall (greatest numbers)
+
+-- Flags whose keywords are atoms in their one spelling (RFC 9051, section 9, flag-keyword).
+abbrev pub AreFlags : FlagSet → Type 0
+AreFlags flags = AreKeywords flags.keywords × Each IsAtom flags.keywords
+
+-- A name with INBOX in capitals (RFC 9051, section 5.1).
+abbrev pub IsFolded : List ℕ → Type 0
+IsFolded name = folded_name name ≡ name
+
+-- One name of a header field or more, of lengths that can be counted (RFC 9051, section 9, header-list).
+abbrev pub AreFieldNames : List (List ℕ) → Type 0
+AreFieldNames names = (0 < length names) × Each (λ name. IsWide (length name)) names
+
+-- A section (RFC 9051, section 9, section-spec).
+abbrev pub IsSection : Section → Type 0
+IsSection section.Whole = Unit {0}
+IsSection section.Header = Unit {0}
+IsSection section.Text = Unit {0}
+IsSection (section.Fields names) = AreFieldNames names
+IsSection (section.FieldsNot names) = AreFieldNames names
+
+pub record IsPart (part : SectionData) : Type 0 where
+  pub section : IsSection part.section
+  pub origin : Where IsSmall part.origin
+  pub octets : IsWide (length part.octets)
+
+-- Whether anything is told of a message.
+abbrev pub tells_of_message : FetchItems → Bool
+tells_of_message items =
+    is_some items.uid || is_some items.flags || is_some items.date || is_some items.size || is_some items.modseq || not (length items.sections == 0)
+
+-- What FETCH tells: one thing at least (RFC 9051, section 9, msg-att).
+pub record AreFetchItems (items : FetchItems) : Type 0 where
+  pub some : IsTrue (tells_of_message items)
+  pub uid : Where IsNonzero items.uid
+  pub flags : Where AreFlags items.flags
+  pub date : Where IsDateTime items.date
+  pub size : Where IsWide items.size
+  pub modseq : Where IsModSeq items.modseq
+  pub sections : Each IsPart items.sections
+
+-- Whether anything is told of a mailbox.
+abbrev pub tells_of_mailbox : StatusItems → Bool
+tells_of_mailbox items =
+    is_some items.messages || is_some items.uidnext || is_some items.uidvalidity || is_some items.unseen || is_some items.deleted || is_some items.size || is_some items.highest_modseq
+
+-- What STATUS tells: one thing at least (RFC 9051, section 9, mailbox-data).
+pub record AreStatusItems (items : StatusItems) : Type 0 where
+  pub some : IsTrue (tells_of_mailbox items)
+  pub messages : Where IsSmall items.messages
+  pub uidnext : Where IsNonzero items.uidnext
+  pub uidvalidity : Where IsNonzero items.uidvalidity
+  pub unseen : Where IsSmall items.unseen
+  pub deleted : Where IsSmall items.deleted
+  pub size : Where IsWide items.size
+  pub highest_modseq : Where IsModSeq items.highest_modseq
+
+-- All hits, none or a set.
+abbrev pub AreHits : List ℕ → Type 0
+AreHits [] = Unit {0}
+AreHits (hit ∷ hits) = IsSet (hit ∷ hits)
+
+pub record AreResults (results : SearchResults) : Type 0 where
+  pub min : Where IsNonzero results.min
+  pub max : Where IsNonzero results.max
+  pub all : AreHits results.all
+  pub count : Where IsSmall results.count
+  pub modseq : Where IsModSeq results.modseq
+
+-- A UIDVALIDITY, and as many UIDs before copying as behind it (RFC 9051, section 7.1, COPYUID).
+pub record IsCopied (uidvalidity : ℕ) (source copies : List ℕ) : Type 0 where
+  pub validity : IsNonzero uidvalidity
+  pub sources : IsSet source
+  pub copied : IsSet copies
+  pub alike : length source ≡ length copies
+
+abbrev pub IsNotice : Notice → Type 0
+IsNotice notice.Closed = Unit {0}
+IsNotice (notice.UidValidity value) = IsNonzero value
+IsNotice (notice.UidNext uid) = IsNonzero uid
+IsNotice (notice.PermanentFlags flags) = Where AreFlags flags
+IsNotice (notice.HighestModSeq modseq) = IsModSeq modseq
+IsNotice (notice.CopyUid uidvalidity source copies) = IsCopied uidvalidity source copies
+
+abbrev pub IsCode : Code → Type 0
+IsCode code.ReadWrite = Unit {0}
+IsCode code.ReadOnly = Unit {0}
+IsCode (code.AppendUid uidvalidity uid) = IsNonzero uidvalidity × IsNonzero uid
+IsCode (code.CopyUid uidvalidity source copies) = IsCopied uidvalidity source copies
+IsCode (code.Modified refused) = IsSet refused
+IsCode code.ExpungeIssued = Unit {0}
+
+-- An answer that may be sent (RFC 9051, section 9; RFC 7162, section 7): its tag is a tag, its keywords are atoms, its names are
+-- folded, no set that it has to name is empty, it tells one thing at least where it tells things of a message or a mailbox, its
+-- header fields are one at least, message numbers, UIDs, UIDVALIDITY and mod-sequences are from 1 on, as many UIDs were copied as
+-- there are copies, and its numbers have the bits that they are kept in.
+abbrev pub IsPrintable : Answer → Type 0
+IsPrintable (answer.Greeting login) = Unit {0}
+IsPrintable (answer.Continue awaited) = Unit {0}
+IsPrintable answer.Capability = Unit {0}
+IsPrintable (answer.Enabled extensions) = Unit {0}
+IsPrintable answer.Namespace = Unit {0}
+IsPrintable (answer.Flags flags) = AreFlags flags
+IsPrintable (answer.Exists count) = IsSmall count
+IsPrintable (answer.Expunge number) = IsNonzero number
+IsPrintable (answer.List name state subscribed) = IsFolded name
+IsPrintable (answer.Tell notice) = IsNotice notice
+IsPrintable (answer.Status name items) = IsFolded name × AreStatusItems items
+IsPrintable (answer.Search tag by_uid results) = IsTag tag × AreResults results
+IsPrintable (answer.Fetch number items) = IsNonzero number × AreFetchItems items
+IsPrintable (answer.Bye reason) = Unit {0}
+IsPrintable answer.NoTag = Unit {0}
+IsPrintable answer.LiteralTooLong = Unit {0}
+IsPrintable (answer.Completed tag code command) = IsTag tag × Where IsCode code
+IsPrintable (answer.Refused tag reason) = IsTag tag

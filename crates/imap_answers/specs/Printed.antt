@@ -1,0 +1,179 @@
+use Rattle.std.specs.Prelude.{ℕ, Bool, true, false, List, [], ◌∷◌, ◌++◌, map, codes, decimal, Option, Some, None}
+use Rattle.imap_types.specs.Flags.{flag_texts}
+use Rattle.imap_types.specs.declared.date_time.DateTime.{DateTime}
+use Rattle.imap_types.specs.declared.flags.Flags.{Flags as FlagSet}
+use Rattle.imap_types.specs.declared.section.Section.{Section}
+use Rattle.imap_types.specs.declared.section.Section.TheVariants as section
+use Rattle.imap_answers.specs.declared.answer.Answer.{Answer}
+use Rattle.imap_answers.specs.declared.answer.Answer.TheVariants as answer
+use Rattle.imap_answers.specs.declared.codes.Code.{Code}
+use Rattle.imap_answers.specs.declared.codes.Code.TheVariants as code
+use Rattle.imap_answers.specs.declared.codes.Notice.{Notice}
+use Rattle.imap_answers.specs.declared.codes.Notice.TheVariants as notice
+use Rattle.imap_answers.specs.declared.words.CommandWord.{CommandWord}
+use Rattle.imap_answers.specs.declared.fetched.FetchItems.{FetchItems}
+use Rattle.imap_answers.specs.declared.fetched.SectionData.{SectionData}
+use Rattle.imap_answers.specs.declared.mailbox.MailboxState.{MailboxState}
+use Rattle.imap_answers.specs.declared.mailbox.SearchResults.{SearchResults}
+use Rattle.imap_answers.specs.declared.mailbox.StatusItems.{StatusItems}
+use Rattle.imap_answers.specs.Strings.{crlf, field_text, item, labelled, literal_text, name_text, separated, set_text}
+use Rattle.imap_answers.specs.Words.{attributes_text, bye_text, command_text, continuation_text, enabled_text, greeting_text, refusal_text}
+
+-- Flags in parentheses, with spaces (32) between them (RFC 9051, section 9, flag-list).
+abbrev pub flags_text : FlagSet → List ℕ
+flags_text flags = codes "(" ++ separated 32 (flag_texts flags) ++ codes ")"
+
+-- The flags that can be changed for good: these and any new keyword, or none (RFC 9051, section 7.1).
+abbrev pub permanent_text : Option FlagSet → List ℕ
+permanent_text None = codes "()"
+permanent_text (Some flags) = codes "(" ++ separated 32 (flag_texts flags ++ codes "\\*" ∷ []) ++ codes ")"
+
+-- The UIDs before and after copying.
+abbrev pub sets_text : List ℕ → List ℕ → List ℕ
+sets_text source copies = set_text source ++ codes " " ++ set_text copies
+
+-- A UIDVALIDITY, and the UIDs before and after copying (RFC 9051, section 7.1, COPYUID).
+abbrev pub copied_text : ℕ → List ℕ → List ℕ → List ℕ
+copied_text uidvalidity source copies = codes "[COPYUID " ++ decimal uidvalidity ++ codes " " ++ sets_text source copies ++ codes "]"
+
+-- The code of an untagged OK (RFC 9051, section 7.1; RFC 7162, section 3.1.2.1).
+abbrev pub notice_text : Notice → List ℕ
+notice_text notice.Closed = codes "[CLOSED]"
+notice_text (notice.UidValidity value) = codes "[UIDVALIDITY " ++ decimal value ++ codes "]"
+notice_text (notice.UidNext uid) = codes "[UIDNEXT " ++ decimal uid ++ codes "]"
+notice_text (notice.PermanentFlags flags) = codes "[PERMANENTFLAGS " ++ permanent_text flags ++ codes "]"
+notice_text (notice.HighestModSeq modseq) = codes "[HIGHESTMODSEQ " ++ decimal modseq ++ codes "]"
+notice_text (notice.CopyUid uidvalidity source copies) = copied_text uidvalidity source copies
+
+-- A UIDVALIDITY, and the UID of what was appended (RFC 9051, section 7.1, APPENDUID).
+abbrev pub appended_text : ℕ → ℕ → List ℕ
+appended_text uidvalidity uid = codes "[APPENDUID " ++ decimal uidvalidity ++ codes " " ++ decimal uid ++ codes "]"
+
+-- The code of a tagged OK (RFC 9051, section 7.1; RFC 7162, section 3.1.3).
+abbrev pub code_text : Code → List ℕ
+code_text code.ReadWrite = codes "[READ-WRITE]"
+code_text code.ReadOnly = codes "[READ-ONLY]"
+code_text (code.AppendUid uidvalidity uid) = appended_text uidvalidity uid
+code_text (code.CopyUid uidvalidity source copies) = copied_text uidvalidity source copies
+code_text (code.Modified refused) = codes "[MODIFIED " ++ set_text refused ++ codes "]"
+code_text code.ExpungeIssued = codes "[EXPUNGEISSUED]"
+
+-- The same with a space behind it, and nothing where there is none.
+abbrev pub code_before : Option Code → List ℕ
+code_before None = []
+code_before (Some code) = code_text code ++ codes " "
+
+-- What STATUS tells, each number behind its word (RFC 9051, section 7.3.3).
+abbrev pub status_texts : StatusItems → List (List ℕ)
+status_texts items =
+    item (codes "MESSAGES ") items.messages
+    ++ item (codes "UIDNEXT ") items.uidnext
+    ++ item (codes "UIDVALIDITY ") items.uidvalidity
+    ++ item (codes "UNSEEN ") items.unseen
+    ++ item (codes "DELETED ") items.deleted
+    ++ item (codes "SIZE ") items.size
+    ++ item (codes "HIGHESTMODSEQ ") items.highest_modseq
+
+-- All hits, where there are any (RFC 9051, section 7.3.4).
+abbrev pub all_text : List ℕ → List ℕ
+all_text [] = []
+all_text (hit ∷ hits) = codes " ALL " ++ set_text (hit ∷ hits)
+
+-- What a search found (RFC 9051, section 7.3.4; RFC 7162, section 3.1.10).
+abbrev pub results_text : SearchResults → List ℕ
+results_text results =
+    labelled (codes " MIN ") results.min
+    ++ labelled (codes " MAX ") results.max
+    ++ all_text results.all
+    ++ labelled (codes " COUNT ") results.count
+    ++ labelled (codes " MODSEQ ") results.modseq
+
+-- A part of a message, as it was asked (RFC 9051, section 9, section-spec).
+abbrev pub section_text : Section → List ℕ
+section_text section.Whole = []
+section_text section.Header = codes "HEADER"
+section_text section.Text = codes "TEXT"
+section_text (section.Fields names) = codes "HEADER.FIELDS (" ++ separated 32 (map field_text names) ++ codes ")"
+section_text (section.FieldsNot names) = codes "HEADER.FIELDS.NOT (" ++ separated 32 (map field_text names) ++ codes ")"
+
+-- Where a partial begins.
+abbrev pub origin_text : Option ℕ → List ℕ
+origin_text None = []
+origin_text (Some origin) = codes "<" ++ decimal origin ++ codes ">"
+
+-- A part of a message with its octets (RFC 9051, section 7.5.2).
+abbrev pub body_text : SectionData → List ℕ
+body_text part = codes "BODY[" ++ section_text part.section ++ codes "]" ++ origin_text part.origin ++ codes " " ++ literal_text part.octets
+
+-- The flags of a message, its date and its mod-sequence, each where it is told (RFC 9051, section 7.5.2; RFC 7162, section 3.1.4.1).
+abbrev pub flags_item : Option FlagSet → List (List ℕ)
+flags_item None = []
+flags_item (Some flags) = (codes "FLAGS " ++ flags_text flags) ∷ []
+
+abbrev pub date_item : Option DateTime → List (List ℕ)
+date_item None = []
+date_item (Some date) = (codes "INTERNALDATE " ++ date) ∷ []
+
+abbrev pub modseq_item : Option ℕ → List (List ℕ)
+modseq_item None = []
+modseq_item (Some modseq) = (codes "MODSEQ (" ++ decimal modseq ++ codes ")") ∷ []
+
+-- What FETCH tells of a message (RFC 9051, section 7.5.2).
+abbrev pub fetch_texts : FetchItems → List (List ℕ)
+fetch_texts items =
+    item (codes "UID ") items.uid
+    ++ flags_item items.flags
+    ++ date_item items.date
+    ++ item (codes "RFC822.SIZE ") items.size
+    ++ modseq_item items.modseq
+    ++ map body_text items.sections
+
+-- A name in LIST (RFC 9051, section 7.3.1).
+abbrev pub list_text : List ℕ → MailboxState → Bool → List ℕ
+list_text name state subscribed = codes "* LIST " ++ attributes_text state subscribed ++ codes " \"/\" " ++ name_text name
+
+-- A mailbox in STATUS (RFC 9051, section 7.3.3).
+abbrev pub status_text : List ℕ → StatusItems → List ℕ
+status_text name items = codes "* STATUS " ++ name_text name ++ codes " (" ++ separated 32 (status_texts items) ++ codes ")"
+
+-- The end of the tag in ESEARCH, and whether it tells UIDs (RFC 9051, section 7.3.4).
+abbrev pub uid_mark : Bool → List ℕ
+uid_mark true = codes "\") UID"
+uid_mark false = codes "\")"
+
+-- A search's hits (RFC 9051, section 7.3.4).
+abbrev pub search_text : List ℕ → Bool → SearchResults → List ℕ
+search_text tag by_uid results = codes "* ESEARCH (TAG \"" ++ tag ++ uid_mark by_uid ++ results_text results
+
+-- A message in FETCH (RFC 9051, section 7.5.2).
+abbrev pub fetch_text : ℕ → FetchItems → List ℕ
+fetch_text number items = codes "* " ++ decimal number ++ codes " FETCH (" ++ separated 32 (fetch_texts items) ++ codes ")"
+
+-- The tagged line of a command that is done (RFC 9051, section 7.1.1).
+abbrev pub completed_text : List ℕ → Option Code → CommandWord → List ℕ
+completed_text tag code command = tag ++ codes " OK " ++ code_before code ++ command_text command ++ codes " completed"
+
+-- An answer without its line end.
+unfoldable pub answer_text : Answer → List ℕ
+answer_text (answer.Greeting login) = greeting_text login
+answer_text (answer.Continue awaited) = continuation_text awaited
+answer_text answer.Capability = codes "* CAPABILITY IMAP4rev2 IDLE CONDSTORE"
+answer_text (answer.Enabled extensions) = enabled_text extensions
+answer_text answer.Namespace = codes "* NAMESPACE ((\"\" \"/\")) NIL NIL"
+answer_text (answer.Flags flags) = codes "* FLAGS " ++ flags_text flags
+answer_text (answer.Exists count) = codes "* " ++ decimal count ++ codes " EXISTS"
+answer_text (answer.Expunge number) = codes "* " ++ decimal number ++ codes " EXPUNGE"
+answer_text (answer.List name state subscribed) = list_text name state subscribed
+answer_text (answer.Tell notice) = codes "* OK " ++ notice_text notice ++ codes " ok"
+answer_text (answer.Status name items) = status_text name items
+answer_text (answer.Search tag by_uid results) = search_text tag by_uid results
+answer_text (answer.Fetch number items) = fetch_text number items
+answer_text (answer.Bye reason) = bye_text reason
+answer_text answer.NoTag = codes "* BAD no tag"
+answer_text answer.LiteralTooLong = codes "* NO [LIMIT] literal too long"
+answer_text (answer.Completed tag code command) = completed_text tag code command
+answer_text (answer.Refused tag reason) = tag ++ codes " " ++ refusal_text reason
+
+-- The one text of an answer (RFC 9051, section 7; the words behind codes are this project's own).
+abbrev pub printed : Answer → List ℕ
+printed answer = answer_text answer ++ crlf

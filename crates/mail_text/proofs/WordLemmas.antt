@@ -1,0 +1,172 @@
+use Rattle.std.proofs.Common.{◌≡◌, ℕ, zero, suc, ◌+◌, ◌<◌, ◌≤◌, ◌++◌, ◌&&◌, ◌||◌, Bool, true, false, List, [], ◌∷◌, length, take, drop, ◌-◌, ◌==◌, ap, sym, ◌∙◌, arith, refl, append_assoc, inl, inr}
+use Rattle.std.proofs.lemmas.Bool.{cases_Bool, eqb-true}
+use Rattle.std.proofs.lemmas.List.{length-append}
+use Rattle.std.specs.List.{concat, list_any}
+use Rattle.memchr.specs.Find.{Nowhere, Passes, is_byte}
+use Rattle.mail_text.specs.Cuts.{GoesOn, HasGoneOn, IsFirstField, going_on, gone_on}
+use Rattle.mail_text.specs.Fields.{field_lines, fields_in, goes_on, is_blank, is_named}
+use Rattle.mail_text.specs.Lines.{in_first, is_crlf, is_empty_line, lines_of}
+use Rattle.mail_text.specs.Places.{any_field_holds, behind_colon, field_holds, holds}
+
+-- the first line begins as the text does
+record StartsWith (octet : ℕ) (lines : List (List ℕ)) : Type 0 where
+  more : List ℕ
+  others : List (List ℕ)
+  are : lines ≡ (octet ∷ more) ∷ others
+
+joined_start : (a : ℕ) (lines : List (List ℕ)) → StartsWith a (in_first a lines)
+joined_start a [] = record { more = []; others = []; are = refl }
+joined_start a (line ∷ lines) = record { more = line; others = lines; are = refl }
+
+starts_with : (a : ℕ) (rest : List ℕ) → StartsWith a (lines_of (a ∷ rest))
+starts_with a [] = record { more = []; others = []; are = refl }
+starts_with a (b ∷ rest) =
+    elim (cases_Bool (is_crlf a b)) [
+      | inl t ↦ record { more = b ∷ []; others = lines_of rest; are = rw t refl }
+      | inr f ↦ let s = joined_start a (lines_of (b ∷ rest)) in record { more = s.more; others = s.others; are = rw f s.are }
+    ]
+
+-- a blank begins no empty line
+blank_line : (octet : ℕ) (more : List ℕ) → is_blank octet ≡ true → is_empty_line (octet ∷ more) ≡ false
+blank_line octet more h =
+    elim (cases_Bool (octet == 32)) [
+      | inl t ↦ rw (eqb-true octet 32 t) refl
+      | inr f ↦ let t : (octet == 9) ≡ true = (λ i. sym f i || (octet == 9)) ∙ h in rw (eqb-true octet 9 t) refl
+    ]
+
+first_or : List ℕ → List (List ℕ) → List ℕ
+first_or other [] = other
+first_or other (line ∷ lines) = line
+
+nil_behind : (xs : List ℕ) → xs ++ [] ≡ xs
+nil_behind [] = refl
+nil_behind (x ∷ xs) = ap (λ ys. x ∷ ys) (nil_behind xs)
+
+pub begins_going : (text : List ℕ) → GoesOn text text
+begins_going text = record { front = []; split = refl; lines = refl; others = refl }
+
+-- a line that goes on
+pub goes : (text rest line tail : List ℕ) → GoesOn text rest → lines_of rest ≡ line ∷ lines_of tail → line ++ tail ≡ rest → goes_on rest ≡ true → GoesOn text tail
+unfolding first_or
+goes text [] line tail g e p h = absurd cc
+goes text (a ∷ rest) line tail g e p h =
+    let s = starts_with a rest in
+    let l : line ≡ a ∷ s.more = ap (first_or []) (sym e ∙ s.are) in
+    let n : is_empty_line line ≡ false = ap is_empty_line l ∙ blank_line a s.more h in
+    let o : goes_on line ≡ true = ap goes_on l ∙ h in
+    let f : field_lines (lines_of (a ∷ rest)) ≡ line ∷ field_lines (lines_of tail) = ap field_lines e ∙ rw n refl in
+    let c : concat (going_on (field_lines (lines_of (a ∷ rest)))) ≡ line ++ concat (going_on (field_lines (lines_of tail))) = ap (λ ls. concat (going_on ls)) f ∙ rw o refl in
+    let k : gone_on (field_lines (lines_of (a ∷ rest))) ≡ gone_on (field_lines (lines_of tail)) = ap gone_on f ∙ rw o refl in
+    record {
+      front = g.front ++ line;
+      split = g.split ∙ ap (λ xs. g.front ++ xs) (sym p) ∙ sym (append_assoc g.front line tail);
+      lines = g.lines ∙ ap (λ xs. g.front ++ xs) c ∙ sym (append_assoc g.front line (concat (going_on (field_lines (lines_of tail)))));
+      others = g.others ∙ k;
+    }
+
+-- and one that doesn't
+record NoneGoing (rest : List ℕ) : Type 0 where
+  going : going_on (field_lines (lines_of rest)) ≡ []
+  gone : gone_on (field_lines (lines_of rest)) ≡ field_lines (lines_of rest)
+
+none_going : (rest : List ℕ) → goes_on rest ≡ false → NoneGoing rest
+none_going [] h = record { going = refl; gone = refl }
+none_going (a ∷ rest) h =
+    let s = starts_with a rest in
+    elim (cases_Bool (is_empty_line (a ∷ s.more))) [
+      | inl t ↦
+          let f : field_lines (lines_of (a ∷ rest)) ≡ [] = ap field_lines s.are ∙ rw t refl in
+          record { going = ap going_on f; gone = ap gone_on f ∙ sym f }
+      | inr u ↦
+          let f : field_lines (lines_of (a ∷ rest)) ≡ (a ∷ s.more) ∷ field_lines s.others = ap field_lines s.are ∙ rw u refl in
+          record { going = ap going_on f ∙ rw h refl; gone = ap gone_on f ∙ rw h refl ∙ sym f }
+    ]
+
+pub stops : (text rest : List ℕ) → GoesOn text rest → goes_on rest ≡ false → HasGoneOn text rest
+stops text rest g h =
+    let n = none_going rest h in
+    record {
+      split = g.split ∙ ap (λ xs. xs ++ rest) (sym (g.lines ∙ ap (λ ls. g.front ++ concat ls) n.going ∙ nil_behind g.front));
+      others = g.others ∙ n.gone;
+    }
+
+pub all_gone : (text rest : List ℕ) → GoesOn text rest → length rest < 1 → HasGoneOn text rest
+all_gone text [] g l = stops text [] g refl
+all_gone text (x ∷ rest) g l = absurd (omega arith)
+
+-- the first field: a line with those that go on
+split_fields : (line : List ℕ) (lines : List (List ℕ)) → fields_in (line ∷ lines) ≡ (line ∷ going_on lines) ∷ fields_in (gone_on lines)
+split_fields line [] = refl
+split_fields line (next ∷ lines) =
+    elim (cases_Bool (goes_on next)) [
+      | inl t ↦ rw t (ap (in_first line) (split_fields next lines))
+      | inr f ↦ rw f refl
+    ]
+
+take_front : (xs ys : List ℕ) → take (length (xs ++ ys) - length ys) (xs ++ ys) ≡ xs
+take_front [] [] = refl
+take_front [] (y ∷ ys) = let e : suc (length ys) - suc (length ys) ≡ 0 = omega arith in rw e refl
+take_front (x ∷ xs) ys =
+    let l = length-append xs ys in
+    let e : suc (length (xs ++ ys)) - length ys ≡ suc (length (xs ++ ys) - length ys) = omega (arith, l) in
+    rw e (ap (λ zs. x ∷ zs) (take_front xs ys))
+
+cut_front : (xs ys text field : List ℕ) → text ≡ xs ++ ys → field ≡ take (length text - length ys) text → xs ≡ field
+cut_front xs ys text field e f = sym (f ∙ ap (λ zs. take (length zs - length ys) zs) e ∙ take_front xs ys)
+
+pub is_first : (text line tail field rest : List ℕ) → lines_of text ≡ line ∷ lines_of tail → line ++ tail ≡ text → length tail < length text → is_empty_line line ≡ false
+    → HasGoneOn tail rest → length rest ≤ length tail → field ≡ take (length text - length rest) text → IsFirstField text line field rest
+is_first text line tail field rest e p s f g w t =
+    let more = going_on (field_lines (lines_of tail)) in
+    record {
+      more = more;
+      fields = ap (λ ls. fields_in (field_lines ls)) e ∙ rw f (split_fields line (field_lines (lines_of tail)) ∙ ap (λ ls. (line ∷ more) ∷ fields_in ls) g.others);
+      joined = cut_front (line ++ concat more) rest text field (sym p ∙ ap (λ xs. line ++ xs) g.split ∙ sym (append_assoc line (concat more) rest)) t;
+      shorter = omega arith;
+    }
+
+pub no_field : (text line tail : List ℕ) → lines_of text ≡ line ∷ lines_of tail → is_empty_line line ≡ true → fields_in (field_lines (lines_of text)) ≡ []
+no_field text line tail e t = ap (λ ls. fields_in (field_lines ls)) e ∙ rw t refl
+
+pub no_text : (text : List ℕ) → length text ≡ 0 → fields_in (field_lines (lines_of text)) ≡ []
+no_text [] l = refl
+no_text (x ∷ text) l = absurd (omega arith)
+
+-- one field further
+pub passes : (name word text line octets rest : List ℕ) (is : Bool) → IsFirstField text line octets rest → is ≡ (is_named (name ∷ []) line && holds word (behind_colon octets))
+    → any_field_holds name word text ≡ (is || any_field_holds name word rest)
+passes name word text line octets rest is f e =
+    ap (list_any (field_holds name word)) f.fields
+    ∙ (λ i. (is_named (name ∷ []) line && holds word (behind_colon (f.joined i))) || any_field_holds name word rest)
+    ∙ ap (λ b. b || any_field_holds name word rest) (sym e)
+
+pub none_holds : (name word text : List ℕ) → fields_in (field_lines (lines_of text)) ≡ [] → any_field_holds name word text ≡ false
+none_holds name word text e = ap (list_any (field_holds name word)) e
+
+pub no_more : (name word text : List ℕ) → length text < 1 → any_field_holds name word text ≡ false
+no_more name word [] l = refl
+no_more name word (x ∷ text) l = absurd (omega arith)
+
+-- what is behind the first colon
+pub behind_at : (octets : List ℕ) (k : ℕ) → k < length octets → Passes (is_byte 58) octets k → Nowhere (Passes (is_byte 58) octets) 0 k → behind_colon octets ≡ drop (k + 1) octets
+behind_at [] k l p n = absurd (omega arith)
+behind_at (a ∷ octets) zero l p n = rw p refl
+behind_at (a ∷ octets) (suc k) l p n =
+    elim (cases_Bool (is_byte 58 a)) [
+      | inl t ↦ absurd (n 0 (omega arith) (omega arith) t)
+      | inr f ↦
+          let e : suc k + 1 ≡ suc (k + 1) = omega arith in
+          rw (f, e) (behind_at octets k (omega arith) p (λ j m o q. n (suc j) (omega arith) (omega arith) q))
+    ]
+
+pub behind_none : (octets : List ℕ) → Nowhere (Passes (is_byte 58) octets) 0 (length octets) → behind_colon octets ≡ []
+behind_none [] n = refl
+behind_none (a ∷ octets) n =
+    elim (cases_Bool (is_byte 58 a)) [
+      | inl t ↦ absurd (n 0 (omega arith) (omega arith) t)
+      | inr f ↦ rw f (behind_none octets (λ j m o q. n (suc j) (omega arith) (omega arith) q))
+    ]
+
+pub drop_all : (xs : List ℕ) → drop (length xs) xs ≡ []
+drop_all [] = refl
+drop_all (x ∷ xs) = drop_all xs

@@ -1,0 +1,8 @@
+use Rattle.std.proofs.Common.{◌∙◌}
+use Rattle.mail_text.proofs.PlaceLemmas.{was_found}
+use Rattle.mail_text.proofs.places.contains_nocase.Goals as goal
+
+pub returns : goal.returns
+returns c =
+    c.is_some.ensures ∙ was_found c.args.text.now c.args.word.now _ _ c.find.result
+    (c.deref.ensures.value ∙ c.in_ok-text.ensures.ok) (c.deref-2.ensures.value ∙ c.in_ok-word.ensures.ok) c.find.ensures

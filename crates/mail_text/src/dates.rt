@@ -1,0 +1,124 @@
+ghost use Rattle.std.specs.Prelude.{◌≡◌, ◌↔◌, ◌+◌, ◌/◌, ◌%◌, ◌<◌, ◌≤◌, IsTrue, pos, unsigned_abs};
+ghost use Rattle.jiff.specs.Words.{epoch_day};
+ghost use Rattle.imap_types.specs.DateTimes.{IsDateTime};
+ghost use Rattle.mail_text.specs.Civil.{IsCivil, month_name, utc_text};
+
+use imap_types::{DATE_TIME_OCTETS, DateTime, Moment};
+use jiff::ToSpan;
+use jiff::civil::{Date, date};
+
+/// The seconds of a day.
+const DAY: u64 = 86_400;
+
+/// A moment's date-time in UTC (RFC 9051, section 9, date-time).
+pub fn civil(moment: Moment) -> DateTime
+    ensures { IsCivil moment result }
+{
+    let seconds = moment.seconds();
+    let day = day_after_epoch((seconds / DAY) as u32);
+    match DateTime::new(utc_octets(day, (seconds % DAY) as u32)) {
+        Some(date) => date,
+        None => unreachable!(),
+    }
+}
+
+/// Whether octets are a date-time with its quotes and a digit first (RFC 9051, section 9, date-time).
+pub fn date_ok(octets: &[u8]) -> bool
+    ensures { IsTrue result ↔ IsDateTime octets.now }
+{
+    if octets.len() != DATE_TIME_OCTETS {
+        return false;
+    }
+    let mut text = [0; 28];
+    text.copy_from_slice(octets);
+    DateTime::new(text).is_some()
+}
+
+/// The day so many days after the first of 1970.
+fn day_after_epoch(days: u32) -> Date
+    requires { days ≤ 2_932_896 }
+    ensures { epoch_day result ≡ pos days }
+{
+    match date(1970, 1, 1).checked_add(i64::from(days).days()) {
+        Ok(day) => day,
+        Err(_) => unreachable!(),
+    }
+}
+
+/// The octets of a day's date-time in UTC, so many seconds after its midnight.
+fn utc_octets(day: Date, seconds: u32) -> [u8; 28]
+    requires { seconds < 86_400 }
+    ensures { result ≡ utc_text (unsigned_abs day.year) day.month day.day seconds }
+{
+    let year = u32::from(day.year().unsigned_abs());
+    let month = month_name(day.month() as u8);
+    let date = day.day() as u32;
+    let hour = seconds / 3_600;
+    let minute = seconds % 3_600 / 60;
+    let second = seconds % 60;
+    [
+        b'"',
+        tens(date),
+        ones(date),
+        b'-',
+        month[0],
+        month[1],
+        month[2],
+        b'-',
+        tens(year / 100),
+        ones(year / 100),
+        tens(year % 100),
+        ones(year % 100),
+        b' ',
+        tens(hour),
+        ones(hour),
+        b':',
+        tens(minute),
+        ones(minute),
+        b':',
+        tens(second),
+        ones(second),
+        b' ',
+        b'+',
+        b'0',
+        b'0',
+        b'0',
+        b'0',
+        b'"',
+    ]
+}
+
+/// The three letters that name a month.
+fn month_name(month: u8) -> [u8; 3]
+    ensures { result ≡ month_name month }
+{
+    match month {
+        1 => *b"Jan",
+        2 => *b"Feb",
+        3 => *b"Mar",
+        4 => *b"Apr",
+        5 => *b"May",
+        6 => *b"Jun",
+        7 => *b"Jul",
+        8 => *b"Aug",
+        9 => *b"Sep",
+        10 => *b"Oct",
+        11 => *b"Nov",
+        _ => *b"Dec",
+    }
+}
+
+/// The first digit of a number below 100.
+fn tens(number: u32) -> u8
+    requires { number < 100 }
+    ensures { result ≡ 48 + number / 10 }
+{
+    b'0' + (number / 10) as u8
+}
+
+/// The last digit of a number.
+fn ones(number: u32) -> u8
+    ensures { result ≡ 48 + number % 10 }
+{
+    b'0' + (number % 10) as u8
+}

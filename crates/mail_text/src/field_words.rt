@@ -1,0 +1,116 @@
+ghost use Rattle.std.specs.Prelude.{◌≡◌, ◌≤◌, ◌&&◌, [], ◌∷◌, length, IfOk, MatchOption};
+ghost use Rattle.mail_text.specs.Cuts.{HasGoneOn, IsFirstField};
+ghost use Rattle.mail_text.specs.Fields.{field_lines, fields_in, is_named};
+ghost use Rattle.mail_text.specs.Lines.{lines_of};
+ghost use Rattle.mail_text.specs.Places.{any_field_holds, behind_colon, holds};
+
+use crate::header_fields::{before_colon, goes_on, trimmed};
+use crate::lines::{first_line, is_empty_line};
+use crate::places::contains_nocase;
+use memchr::memchr;
+use std::alloc::{AllocError, Global};
+
+/// A header field.
+#[derive(Clone, Copy)]
+struct Field<'a> {
+    /// Its first line.
+    line: &'a [u8],
+    /// All its octets, line ends included.
+    octets: &'a [u8],
+    /// What follows it in the text.
+    rest: &'a [u8],
+}
+
+/// Whether a word stands in a header field of this name, behind its first colon, in any case of ASCII letters
+/// (RFC 9051, section 6.4.4, HEADER). An empty word stands in each field. Time is linear in the text's length; `Err`
+/// where there is no memory for a field in lower case.
+pub fn field_contains_nocase(
+    alloc: Global,
+    text: &[u8],
+    name: &[u8],
+    word: &[u8],
+) -> Result<bool, AllocError>
+    ensures { IfOk result (λ is. is ≡ any_field_holds name.now word.now text.now) }
+{
+    let mut rest = text;
+    for _ in 0..text.len() {
+        match first_field(rest) {
+            None => return Ok(false),
+            Some(field) => {
+                if holds(alloc, field.line, field.octets, name, word)? {
+                    return Ok(true);
+                }
+                rest = field.rest;
+            }
+        }
+    }
+    Ok(false)
+}
+
+/// Whether a field of this first line and these octets has this name and holds a word.
+fn holds(
+    alloc: Global,
+    line: &[u8],
+    octets: &[u8],
+    name: &[u8],
+    word: &[u8],
+) -> Result<bool, AllocError>
+    ensures { IfOk result (λ is. is ≡ (is_named (name.now ∷ []) line.now && holds word.now (behind_colon octets.now))) }
+{
+    if !is_called(line, name) {
+        return Ok(false);
+    }
+    contains_nocase(alloc, behind_colon(octets), word)
+}
+
+/// The first field of a text that begins within a header; `None` where the header has no more.
+fn first_field(text: &[u8]) -> Option<Field<'_>>
+    ensures { MatchOption result (fields_in (field_lines (lines_of text.now)) ≡ []) (λ field. IsFirstField text.now field.line.now field.octets.now field.rest.now) }
+{
+    if text.is_empty() {
+        return None;
+    }
+    let (line, tail) = first_line(text);
+    if is_empty_line(line) {
+        return None;
+    }
+    let rest = behind_lines(tail);
+    let (octets, _) = text.split_at(text.len() - rest.len());
+    Some(Field { line, octets, rest })
+}
+
+/// What follows the lines that go on with the field before them.
+fn behind_lines(text: &[u8]) -> &[u8]
+    ensures cut { HasGoneOn text.now result.now }
+    ensures within { length result.now ≤ length text.now }
+{
+    let mut rest = text;
+    for _ in 0..text.len() {
+        if !goes_on(rest) {
+            return rest;
+        }
+        let (_, tail) = first_line(rest);
+        rest = tail;
+    }
+    rest
+}
+
+/// Whether a line begins a field of this name.
+fn is_called(line: &[u8], name: &[u8]) -> bool
+    ensures { result ≡ is_named (name.now ∷ []) line.now }
+{
+    match before_colon(line) {
+        None => false,
+        Some(front) => name.eq_ignore_ascii_case(trimmed(front)),
+    }
+}
+
+/// What follows the first colon.
+fn behind_colon(octets: &[u8]) -> &[u8]
+    ensures { result.now ≡ behind_colon octets.now }
+{
+    match memchr(b':', octets) {
+        Some(place) => octets.split_at(place + 1).1,
+        None => octets.split_at(octets.len()).1,
+    }
+}

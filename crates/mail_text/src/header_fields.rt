@@ -1,0 +1,146 @@
+ghost use Rattle.std.specs.Prelude.{◌≡◌, ◌≢◌, true, false, ◌++◌, [], OnOk, IfOk};
+ghost use Rattle.std.specs.Option.{option_map};
+ghost use Rattle.imap_types.specs.Keywords.{has_keyword};
+ghost use Rattle.mail_text.specs.Fields.{asks, before_colon, fields_of, goes_on, is_among, is_blank, is_named, trimmed};
+ghost use Rattle.mail_text.specs.Kept.{taken, takes};
+
+use crate::lines::{first_line, is_empty_line};
+use imap_types::Octets;
+use memchr::memchr;
+use std::alloc::{AllocError, Global};
+
+/// The header fields of these names with the lines that continue them, in the order of the text, and then the empty
+/// line where there is one (RFC 9051, section 6.4.5.1, HEADER.FIELDS). Time is linear in the text's length for each
+/// name; `Err` where there is no memory for them.
+pub fn fields(alloc: Global, text: &[u8], names: &[Octets]) -> Result<Vec<u8>, AllocError>
+    ensures { IfOk result (λ kept. kept.items ≡ fields_of true names.now text.now) }
+{
+    chosen(alloc, text, names, true)
+}
+
+/// The header fields of all other names, and lines without a name, as [`fields`] gives those of these names
+/// (RFC 9051, section 6.4.5.1, HEADER.FIELDS.NOT).
+pub fn other_fields(alloc: Global, text: &[u8], names: &[Octets]) -> Result<Vec<u8>, AllocError>
+    ensures { IfOk result (λ kept. kept.items ≡ fields_of false names.now text.now) }
+{
+    chosen(alloc, text, names, false)
+}
+
+/// The header fields of these names, where `named`, or all others.
+fn chosen(alloc: Global, text: &[u8], names: &[Octets], named: bool) -> Result<Vec<u8>, AllocError>
+    ensures { IfOk result (λ kept. kept.items ≡ fields_of named names.now text.now) }
+{
+    let mut found = Vec::new(alloc);
+    if text.is_empty() {
+        return Ok(found);
+    }
+    let (line, _) = first_line(text);
+    let mut keep = asks(line, names, named);
+    let mut rest = text;
+    for _ in 0..text.len() {
+        if rest.is_empty() {
+            return Ok(found);
+        }
+        let (line, tail) = first_line(rest);
+        if is_empty_line(line) {
+            found.extend_from_slice(line)?;
+            return Ok(found);
+        }
+        keep = takes(line, keep, names, named);
+        push_taken(&mut found, keep, line)?;
+        rest = tail;
+    }
+    Ok(found)
+}
+
+fn push_taken(found: &mut Vec<u8>, keep: bool, line: &[u8]) -> Result<(), AllocError>
+    ensures { OnOk result (found.new.items ≡ found.old.items ++ taken keep line.now) }
+{
+    if keep {
+        found.extend_from_slice(line)?;
+    }
+    Ok(())
+}
+
+/// Whether a line is kept.
+fn takes(line: &[u8], keep: bool, names: &[Octets], named: bool) -> bool
+    ensures { result ≡ takes (asks named names.now) keep line.now }
+{
+    if goes_on(line) {
+        keep
+    } else {
+        asks(line, names, named)
+    }
+}
+
+/// Whether a line goes on with the field before it.
+pub fn goes_on(line: &[u8]) -> bool
+    ensures { result ≡ goes_on line.now }
+{
+    match line {
+        [] => false,
+        [first, ..] => is_blank(*first),
+    }
+}
+
+fn is_blank(octet: u8) -> bool
+    ensures { result ≡ is_blank octet }
+{
+    octet == b' ' || octet == b'\t'
+}
+
+/// Whether a line begins a field that is asked for.
+fn asks(line: &[u8], names: &[Octets], named: bool) -> bool
+    ensures { result ≡ asks named names.now line.now }
+{
+    let is = is_named(line, names);
+    if named { is } else { !is }
+}
+
+fn is_named(line: &[u8], names: &[Octets]) -> bool
+    ensures { result ≡ is_named names.now line.now }
+{
+    match before_colon(line) {
+        None => false,
+        Some(name) => is_among(trimmed(name), names),
+    }
+}
+
+pub fn before_colon(line: &[u8]) -> Option<&[u8]>
+    ensures { option_map (λ name. name.now) result ≡ before_colon line.now }
+{
+    match memchr(b':', line) {
+        Some(place) => Some(&line[..place]),
+        None => None,
+    }
+}
+
+/// A text without the blanks at its end.
+pub fn trimmed(text: &[u8]) -> &[u8]
+    ensures { result.now ≡ trimmed text.now }
+{
+    let mut rest = text;
+    for _ in 0..text.len() {
+        match rest {
+            [] => return rest,
+            [front @ .., last] => {
+                if !is_blank(*last) {
+                    return rest;
+                }
+                rest = front;
+            }
+        }
+    }
+    rest
+}
+
+fn is_among(name: &[u8], names: &[Octets]) -> bool
+    ensures { result ≡ has_keyword name.now names.now }
+{
+    for other in names {
+        if other.as_bytes().eq_ignore_ascii_case(name) {
+            return true;
+        }
+    }
+    false
+}

@@ -1,0 +1,279 @@
+//! What a sync sends, and the view behind it.
+
+ghost use Rattle.std.specs.Prelude.{◌≡◌, ◌≤◌, ◌+◌, ◌<◌, ◌^◌, ◌++◌, ◌∷◌, [], ℕ, length, take, drop, IfOk, OnOk, None, Some};
+ghost use Rattle.mail_listing.specs.Listing.{AreRisingRows, beyond, listed};
+ghost use Rattle.session_view.specs.Views.{AreRising, entries_of, same_flags};
+ghost use Rattle.session_view.specs.Sync.{announced, arrivals, change, change_of, changes, expunges, kept_in, kept_of, loss, losses, staying, sync_answers, synced};
+
+use crate::entry::{Entry, SyncKind, count_of, last_uid};
+use imap_answers::{Answer, FetchItems, Sections};
+use imap_types::Flags;
+use mail_listing::{Row, Rows};
+use std::alloc::{AllocError, Global};
+
+/// What a sync comes to.
+#[derive(Drop)]
+pub struct SyncOutcome {
+    /// The messages behind it.
+    pub entries: Vec<Entry>,
+    /// What it sends.
+    pub answers: Vec<Answer>,
+}
+
+/// The view behind a sync with this listing, and what the sync sends: EXPUNGE for each message that is gone, from the greatest number
+/// down (in a full sync alone), EXISTS if messages came, then FETCH for each message whose flags differ, with its mod-sequence where that
+/// is asked (RFC 7162, section 3.2). It looks each message of the view up in the listing, three times at most. `Err` where there is no memory.
+pub fn synced(
+    alloc: Global,
+    kind: SyncKind,
+    modseq: bool,
+    rows: &Rows<'_>,
+    view: &[Entry],
+) -> Result<SyncOutcome, AllocError>
+    requires { AreRising 1 view.now }
+    ensures entries { IfOk result (λ s. s.entries.items ≡ synced kind rows.now view.now) }
+    ensures rising { IfOk result (λ s. AreRising 1 s.entries.items) }
+    ensures answers { IfOk result (λ s. s.answers.items ≡ sync_answers kind modseq rows.now view.now) }
+{
+    let _count = count_of(view);
+    let mut answers = Vec::new(alloc);
+    push_losses(kind, rows, view, &mut answers)?;
+    let entries = brought_up(alloc, kind, rows, view, &mut answers)?;
+    push_changes(alloc, kind, modseq, rows, view, &mut answers)?;
+    Ok(SyncOutcome { entries, answers })
+}
+
+/// The view behind a sync, and EXISTS if messages came.
+fn brought_up(
+    alloc: Global,
+    kind: SyncKind,
+    rows: &Rows<'_>,
+    view: &[Entry],
+    answers: &mut Vec<Answer>,
+) -> Result<Vec<Entry>, AllocError>
+    requires { AreRising 1 view.now }
+    ensures entries { IfOk result (λ entries. entries.items ≡ synced kind rows.now view.now) }
+    ensures rising { IfOk result (λ entries. AreRising 1 entries.items) }
+    ensures answers { OnOk result (answers.new.items ≡ answers.old.items ++ arrivals rows.now (staying kind rows.now view.now)) }
+{
+    let _count = rows.count();
+    let mut entries = kept(alloc, kind, rows, view)?;
+    let before = count_of(entries.as_slice());
+    let last = last_uid(entries.as_slice());
+    push_new(alloc, last, rows, &mut entries)?;
+    push_exists(before, count_of(entries.as_slice()), answers)?;
+    Ok(entries)
+}
+
+/// What a sync sends of messages that are gone.
+fn push_losses(
+    kind: SyncKind,
+    rows: &Rows<'_>,
+    view: &[Entry],
+    answers: &mut Vec<Answer>,
+) -> Result<(), AllocError>
+    requires { length view.now < 2 ^ 32 }
+    ensures { OnOk result (answers.new.items ≡ answers.old.items ++ losses kind rows.now view.now) }
+{
+    match kind {
+        SyncKind::Full => push_expunges(rows, view, answers),
+        SyncKind::Partial => Ok(()),
+    }
+}
+
+/// EXPUNGE for each message that is gone, from the greatest number down.
+fn push_expunges(
+    rows: &Rows<'_>,
+    view: &[Entry],
+    answers: &mut Vec<Answer>,
+) -> Result<(), AllocError>
+    requires { length view.now < 2 ^ 32 }
+    ensures { OnOk result (answers.new.items ≡ answers.old.items ++ expunges rows.now 1 view.now) }
+{
+    for i in (0..view.len()).rev() {
+        push_loss(rows, i as u32 + 1, &view[i], answers)?;
+    }
+    Ok(())
+}
+
+/// EXPUNGE of the message with this number, if it is gone.
+fn push_loss(
+    rows: &Rows<'_>,
+    number: u32,
+    entry: &Entry,
+    answers: &mut Vec<Answer>,
+) -> Result<(), AllocError>
+    ensures { OnOk result (answers.new.items ≡ answers.old.items ++ loss rows.now number entry.now) }
+{
+    if let None = rows.row_of(entry.uid) {
+        answers.push(Answer::Expunge { number })?;
+    }
+    Ok(())
+}
+
+/// EXISTS, if there are more messages now than before.
+fn push_exists(before: u32, now: u32, answers: &mut Vec<Answer>) -> Result<(), AllocError>
+    ensures { OnOk result (answers.new.items ≡ answers.old.items ++ announced before now) }
+{
+    if before < now {
+        answers.push(Answer::Exists { count: now })?;
+    }
+    Ok(())
+}
+
+/// FETCH for each message that stays and whose flags differ.
+fn push_changes(
+    alloc: Global,
+    kind: SyncKind,
+    modseq: bool,
+    rows: &Rows<'_>,
+    view: &[Entry],
+    answers: &mut Vec<Answer>,
+) -> Result<(), AllocError>
+    requires { length view.now < 2 ^ 32 }
+    ensures { OnOk result (answers.new.items ≡ answers.old.items ++ changes modseq rows.now 1 (staying kind rows.now view.now)) }
+{
+    let mut number = 0;
+    for entry in view {
+        match rows.row_of(entry.uid) {
+            Some(row) => {
+                number += 1;
+                push_change(alloc, modseq, number, entry, &row, answers)?;
+            }
+            None => {
+                if kind == SyncKind::Partial {
+                    number += 1;
+                }
+            }
+        }
+    }
+    Ok(())
+}
+
+/// FETCH of the message's flags, where they differ.
+fn push_change(
+    alloc: Global,
+    modseq: bool,
+    number: u32,
+    entry: &Entry,
+    row: &Row<'_>,
+    answers: &mut Vec<Answer>,
+) -> Result<(), AllocError>
+    ensures { OnOk result (answers.new.items ≡ answers.old.items ++ change modseq number entry.now (Some (listed row.now))) }
+{
+    if !are_same(&entry.flags, row.flags) {
+        answers.push(change_of(alloc, modseq, number, row)?)?;
+    }
+    Ok(())
+}
+
+/// FETCH of a message's UID and flags, and of its mod-sequence where that is asked.
+fn change_of(alloc: Global, modseq: bool, number: u32, row: &Row<'_>) -> Result<Answer, AllocError>
+    ensures { IfOk result (λ answer. answer ≡ change_of modseq number (listed row.now)) }
+{
+    Ok(Answer::Fetch {
+        number,
+        items: FetchItems {
+            uid: Some(row.uid),
+            flags: Some(row.flags.copy(alloc)?),
+            date: None,
+            size: None,
+            modseq: if modseq { Some(row.modseq) } else { None },
+            sections: Sections::new(Vec::new(alloc)),
+        },
+    })
+}
+
+/// Whether both are the same flags.
+fn are_same(flags: &Flags, others: &Flags) -> bool
+    ensures { result ≡ same_flags flags.now others.now }
+{
+    flags.same(others)
+}
+
+/// The messages that stay, with the listing's flags.
+fn kept(
+    alloc: Global,
+    kind: SyncKind,
+    rows: &Rows<'_>,
+    view: &[Entry],
+) -> Result<Vec<Entry>, AllocError>
+    ensures { IfOk result (λ kept. kept.items ≡ kept_in kind rows.now view.now) }
+{
+    let mut kept = Vec::new(alloc);
+    for entry in view {
+        push_kept(alloc, kind, rows, entry, &mut kept)?;
+    }
+    Ok(kept)
+}
+
+/// Puts a message behind those that are there, if it stays.
+fn push_kept(
+    alloc: Global,
+    kind: SyncKind,
+    rows: &Rows<'_>,
+    entry: &Entry,
+    kept: &mut Vec<Entry>,
+) -> Result<(), AllocError>
+    ensures { OnOk result (kept.new.items ≡ kept.old.items ++ kept_of kind rows.now entry.now) }
+{
+    match rows.row_of(entry.uid) {
+        Some(row) => {
+            kept.push(Entry {
+                uid: entry.uid,
+                flags: row.flags.copy(alloc)?,
+            })?;
+        }
+        None => {
+            if kind == SyncKind::Partial {
+                kept.push(entry.copy(alloc)?)?;
+            }
+        }
+    }
+    Ok(())
+}
+
+/// Puts the listing's messages with UIDs above this one behind those that are there.
+fn push_new(
+    alloc: Global,
+    uid: u32,
+    rows: &Rows<'_>,
+    entries: &mut Vec<Entry>,
+) -> Result<(), AllocError>
+    ensures { OnOk result (entries.new.items ≡ entries.old.items ++ entries_of (beyond uid rows.now)) }
+{
+    let count = rows.count();
+    push_rows(alloc, rows, rows.place_beyond(uid), count, entries)?;
+    Ok(())
+}
+
+/// Puts so many of the listing's messages from this place on, or as many as there are, behind those that are there.
+pub fn push_rows(
+    alloc: Global,
+    rows: &Rows<'_>,
+    start: usize,
+    count: u32,
+    entries: &mut Vec<Entry>,
+) -> Result<(), AllocError>
+    requires { start < 2 ^ 32 }
+    ensures { OnOk result (entries.new.items ≡ entries.old.items ++ entries_of (take count (drop start rows.now))) }
+{
+    for step in 0..count as usize {
+        match rows.row_at(start + step) {
+            Some(row) => push_row(alloc, row, entries)?,
+            None => return Ok(()),
+        }
+    }
+    Ok(())
+}
+
+/// Puts a message behind those that are there.
+fn push_row(alloc: Global, row: Row<'_>, entries: &mut Vec<Entry>) -> Result<(), AllocError>
+    ensures { OnOk result (entries.new.items ≡ entries.old.items ++ entries_of (listed row.entry ∷ [])) }
+{
+    entries.push(Entry {
+        uid: row.uid,
+        flags: row.flags.copy(alloc)?,
+    })?;
+    Ok(())
+}

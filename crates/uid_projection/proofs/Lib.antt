@@ -1,0 +1,15 @@
+pub mod HistoryLemmas
+pub mod Steps
+pub mod Presence
+pub mod Entries
+pub mod ChartSteps
+pub mod ChartOf
+pub mod Lasting
+pub mod Listed
+pub mod Keeping
+pub mod Arms
+pub mod Tables
+pub mod Numbers
+pub mod RowLemmas
+pub mod Asked
+pub mod ExhaustedLemmas
