@@ -3,3 +3,4 @@ pub mod MatchLemmas
 pub mod PlacingLemmas
 pub mod ListingLemmas
 pub mod SimplerLemmas
+pub mod CountLemmas

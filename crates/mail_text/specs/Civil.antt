@@ -1,4 +1,6 @@
 use Rattle.std.specs.Prelude.{◌≡◌, ℕ, ◌+◌, ◌/◌, ◌%◌, ◌==◌, List, [], ◌∷◌, ◌++◌, codes, pos, unsigned_abs, if◌then◌else◌}
+use Rattle.imap_types.specs.DateTimes.{day_at, month_at, year_at}
+use Rattle.imap_types.specs.declared.day.Day.{Day}
 use Rattle.jiff.specs.Words.{epoch_day}
 use Rattle.jiff.specs.Types.{Date}
 
@@ -33,3 +35,7 @@ pub record IsCivil (moment : ℕ) (text : List ℕ) : Type 0 where
   pub day : Date
   pub counted : epoch_day day ≡ pos (moment / 86400)
   pub spelled : text ≡ utc_text (unsigned_abs day.year) day.month day.day (moment % 86400)
+
+-- The day of a date-time as it is written, whatever its zone.
+abbrev pub written_day : List ℕ → Day
+written_day text = record { year = year_at text; month = month_at text; day = day_at text }

@@ -1,9 +1,9 @@
-ghost use Rattle.std.specs.Prelude.{◌≡◌, ◌↔◌, ◌+◌, ◌/◌, ◌%◌, ◌<◌, ◌≤◌, IsTrue, pos, unsigned_abs};
+ghost use Rattle.std.specs.Prelude.{◌≡◌, ◌↔◌, ◌+◌, ◌/◌, ◌%◌, ◌<◌, ◌≤◌, IsTrue, length, pos, slice_index, unsigned_abs};
 ghost use Rattle.jiff.specs.Words.{epoch_day};
-ghost use Rattle.imap_types.specs.DateTimes.{IsDateTime};
-ghost use Rattle.mail_text.specs.Civil.{IsCivil, month_name, utc_text};
+ghost use Rattle.imap_types.specs.DateTimes.{IsDateTime, is_digit, two_digits};
+ghost use Rattle.mail_text.specs.Civil.{IsCivil, month_name, utc_text, written_day};
 
-use imap_types::{DATE_TIME_OCTETS, DateTime, Moment};
+use imap_types::{DATE_TIME_OCTETS, DateTime, Day, Moment};
 use jiff::ToSpan;
 use jiff::civil::{Date, date};
 
@@ -32,6 +32,29 @@ pub fn date_ok(octets: &[u8]) -> bool
     let mut text = [0; 28];
     text.copy_from_slice(octets);
     DateTime::new(text).is_some()
+}
+
+/// The day of a date-time as it is written, whatever its zone.
+pub fn written_day(date: &DateTime) -> Day
+    ensures { result ≡ written_day date.now }
+{
+    let octets = date.as_bytes();
+    let year = u16::from(two_digits(octets, 8)) * 100 + u16::from(two_digits(octets, 10));
+    match Day::named(year, &octets[4..7], two_digits(octets, 1)) {
+        Some(day) => day,
+        None => unreachable!(),
+    }
+}
+
+/// The number that the two digits at a place of a date-time write.
+fn two_digits(octets: &[u8], place: usize) -> u8
+    requires within { place + 1 < length octets.now }
+    requires tens { IsTrue (is_digit (slice_index octets.now place)) }
+    requires ones { IsTrue (is_digit (slice_index octets.now (place + 1))) }
+    ensures value { result ≡ two_digits octets.now place }
+    ensures bound { result < 100 }
+{
+    (octets[place] - b'0') * 10 + (octets[place + 1] - b'0')
 }
 
 /// The day so many days after the first of 1970.

@@ -9,7 +9,7 @@ mod lines;
 mod parts;
 mod places;
 
-pub use dates::{civil, date_ok};
+pub use dates::{civil, date_ok, written_day};
 pub use field_words::field_contains_nocase;
 pub use header_fields::{fields, other_fields};
 pub use parts::{body, header, partial};

@@ -1,9 +1,29 @@
-use super::rows::{FIRST_RUN, FIRST_RUN_PRINTS};
 use crate::ending::tell;
 use mail_replay::{MAX_READS, ReplayEnd, replay};
+use std::alloc::Global;
+use std::io;
 use std::io::{ErrorKind, Read, Write};
-use std::test::Fail;
-use std::{io, str};
+
+const FIRST_RUN: &str = r#"node 1
+open 1 x
+line x a1 CREATE work
+line x a2 LIST "" *
+show 1
+"#;
+
+const FIRST_RUN_PRINTS: &str = r#"x S: * PREAUTH [CAPABILITY IMAP4rev2 IDLE CONDSTORE] ready
+x C: a1 CREATE work
+x S: a1 OK CREATE completed
+x C: a2 LIST "" *
+x S: * LIST () "/" INBOX
+x S: * LIST () "/" work
+x S: a2 OK LIST completed
+dump 1
+op 1:1 - create work
+folder INBOX -
+folder work 1:1
+end
+"#;
 
 /// Gives one octet a read, and an error of this kind in place of one.
 #[derive(Drop)]
@@ -77,95 +97,110 @@ impl Write for Narrow {
     }
 }
 
-#[test]
-fn tells_of_readers_that_fail(rt: HostRuntime) -> Result<(), Fail> {
-    let alloc = rt.alloc();
-    for (before, fault, end, lines) in [
-        (0, ErrorKind::Other, ReplayEnd::ReadFailed, 0),
-        (7, ErrorKind::Other, ReplayEnd::ReadFailed, 0),
-        (15, ErrorKind::Other, ReplayEnd::ReadFailed, 0),
-        (16, ErrorKind::Other, ReplayEnd::ReadFailed, 1),
-        (38, ErrorKind::Other, ReplayEnd::ReadFailed, 3),
-        (45, ErrorKind::OutOfMemory, ReplayEnd::ReadFailed, 3),
-        (65, ErrorKind::Other, ReplayEnd::ReadFailed, 12),
-        (38, ErrorKind::Interrupted, ReplayEnd::Done, 12),
-    ] {
-        let mut reader = Drips {
-            octets: FIRST_RUN.as_bytes(),
-            before,
-            fault: Some(fault),
-        };
-        let mut printed = Vec::new(alloc);
-        let ended = replay(alloc, &mut reader, &mut printed);
-        assert_eq!(rt; ended, end, "before {before}");
-        let text = str::from_utf8(&printed)?;
-        assert!(rt; FIRST_RUN_PRINTS.starts_with(text), "before {before}");
-        assert_eq!(rt; text.lines().count(), lines, "before {before}");
+/// A reader that fails behind so many octets of the first run, and how many lines are then printed.
+#[derive(Clone, Copy)]
+struct Failing {
+    before: usize,
+    fault: ErrorKind,
+    end: ReplayEnd,
+    lines: usize,
+}
+
+const fn row(before: usize, fault: ErrorKind, end: ReplayEnd, lines: usize) -> Failing {
+    Failing {
+        before,
+        fault,
+        end,
+        lines,
     }
-    Ok(())
+}
+
+fn first_wrong_reader(alloc: Global) -> Option<usize> {
+    let readers = [
+        row(0, ErrorKind::Other, ReplayEnd::ReadFailed, 0),
+        row(7, ErrorKind::Other, ReplayEnd::ReadFailed, 0),
+        row(15, ErrorKind::Other, ReplayEnd::ReadFailed, 0),
+        row(16, ErrorKind::Other, ReplayEnd::ReadFailed, 1),
+        row(38, ErrorKind::Other, ReplayEnd::ReadFailed, 3),
+        row(45, ErrorKind::OutOfMemory, ReplayEnd::ReadFailed, 3),
+        row(65, ErrorKind::Other, ReplayEnd::ReadFailed, 12),
+        row(38, ErrorKind::Interrupted, ReplayEnd::Done, 12),
+    ];
+    readers.iter().position(|reader| !is_told(alloc, *reader))
+}
+
+fn is_told(alloc: Global, failing: Failing) -> bool {
+    let mut reader = Drips {
+        octets: FIRST_RUN.as_bytes(),
+        before: failing.before,
+        fault: Some(failing.fault),
+    };
+    let mut printed = Vec::new(alloc);
+    let end = replay(alloc, &mut reader, &mut printed);
+    let lines = printed.iter().filter(|octet| **octet == b'\n').count();
+    end == failing.end
+        && lines == failing.lines
+        && FIRST_RUN_PRINTS.as_bytes().starts_with(&printed)
 }
 
 #[test]
-fn reads_no_more_than_its_limit(rt: HostRuntime) -> Result<(), Fail> {
+fn tells_of_readers_that_fail(rt: HostRuntime) {
+    assert_eq!(rt; first_wrong_reader(rt.alloc()), None);
+}
+
+fn ends_at_the_limit(alloc: Global) -> bool {
     let mut reader = Endless { reads: 0 };
-    let mut printed: Vec<u8> = Vec::new(rt.alloc());
-    let ended = replay(rt.alloc(), &mut reader, &mut printed);
-    assert_eq!(rt; ended, ReplayEnd::ReadFailed);
-    assert_eq!(rt; reader.reads, MAX_READS);
-    assert_eq!(rt; reader.reads, 16_777_216);
-    assert!(rt; printed.is_empty());
-    Ok(())
+    let mut printed: Vec<u8> = Vec::new(alloc);
+    let end = replay(alloc, &mut reader, &mut printed);
+    end == ReplayEnd::ReadFailed && reader.reads == MAX_READS && printed.is_empty()
 }
 
 #[test]
-fn tells_of_writers_that_fail(rt: HostRuntime) -> Result<(), Fail> {
-    let alloc = rt.alloc();
-    let whole = FIRST_RUN_PRINTS.len();
-    for room in 0..=whole {
-        let mut reader = FIRST_RUN.as_bytes();
-        let mut writer = Narrow {
-            taken: Vec::new(alloc),
-            room,
-            flushes: true,
-        };
-        let ended = replay(alloc, &mut reader, &mut writer);
-        let expected = if room < whole {
-            ReplayEnd::WriteFailed
-        } else {
-            ReplayEnd::Done
-        };
-        assert_eq!(rt; ended, expected, "room for {room}");
-        assert!(rt;
-            FIRST_RUN_PRINTS.as_bytes().starts_with(&writer.taken),
-            "room for {room}"
-        );
-        assert_eq!(rt; writer.taken.len(), room);
-    }
+fn reads_no_more_than_its_limit(rt: HostRuntime) {
+    assert!(rt; ends_at_the_limit(rt.alloc()) && MAX_READS == 16_777_216);
+}
+
+/// How the first run ends at a writer, whether what it took is a beginning of what the run prints, and how long that is.
+fn written(alloc: Global, room: usize, flushes: bool) -> (ReplayEnd, bool, usize) {
     let mut reader = FIRST_RUN.as_bytes();
     let mut writer = Narrow {
         taken: Vec::new(alloc),
-        room: 1_000,
-        flushes: false,
+        room,
+        flushes,
     };
-    assert_eq!(rt;
-        replay(alloc, &mut reader, &mut writer),
-        ReplayEnd::WriteFailed
-    );
-    Ok(())
+    let end = replay(alloc, &mut reader, &mut writer);
+    let begins = FIRST_RUN_PRINTS.as_bytes().starts_with(&writer.taken);
+    (end, begins, writer.taken.len())
+}
+
+/// The first number of octets for which the first run ends otherwise than it should at a writer that takes no more.
+fn first_wrong_room(alloc: Global) -> Option<usize> {
+    (0..FIRST_RUN_PRINTS.len())
+        .find(|room| written(alloc, *room, true) != (ReplayEnd::WriteFailed, true, *room))
 }
 
 #[test]
-fn tells_the_end(rt: HostRuntime) -> Result<(), Fail> {
-    for (end, line, status) in [
-        (ReplayEnd::Done, "", 0),
-        (ReplayEnd::BadScript { line: 2 }, "bad script: line 2\n", 3),
-        (ReplayEnd::ReadFailed, "cannot read\n", 3),
-        (ReplayEnd::WriteFailed, "", 3),
-        (ReplayEnd::NoMemory, "no memory\n", 3),
-    ] {
-        let mut printed = Vec::new(rt.alloc());
-        assert_eq!(rt; tell(rt.alloc(), end, &mut printed), status);
-        assert_eq!(rt; str::from_utf8(&printed)?, line);
-    }
-    Ok(())
+fn tells_of_writers_that_fail(rt: HostRuntime) {
+    assert_eq!(rt; first_wrong_room(rt.alloc()), None);
+    let whole = FIRST_RUN_PRINTS.len();
+    assert_eq!(rt; written(rt.alloc(), whole, true), (ReplayEnd::Done, true, whole));
+    assert_eq!(rt; written(rt.alloc(), 1_000, false).0, ReplayEnd::WriteFailed);
+}
+
+fn tells(alloc: Global, end: ReplayEnd, line: &str, status: u8) -> bool {
+    let mut printed = Vec::new(alloc);
+    tell(alloc, end, &mut printed) == status && printed.as_slice() == line.as_bytes()
+}
+
+fn tells_each_end(alloc: Global) -> bool {
+    tells(alloc, ReplayEnd::Done, "", 0)
+        && tells(alloc, ReplayEnd::BadScript { line: 2 }, "bad script: line 2\n", 3)
+        && tells(alloc, ReplayEnd::ReadFailed, "cannot read\n", 3)
+        && tells(alloc, ReplayEnd::WriteFailed, "", 3)
+        && tells(alloc, ReplayEnd::NoMemory, "no memory\n", 3)
+}
+
+#[test]
+fn tells_the_end(rt: HostRuntime) {
+    assert!(rt; tells_each_end(rt.alloc()));
 }

@@ -1,7 +1,6 @@
 use crate::arguments::{Request, read_words};
 use clap::error::ErrorKind;
 use std::alloc::{AllocError, Global};
-use std::test::Fail;
 
 fn owned(alloc: Global, words: &[&str]) -> Result<Vec<String>, AllocError> {
     let mut owned = Vec::new(alloc);
@@ -11,32 +10,41 @@ fn owned(alloc: Global, words: &[&str]) -> Result<Vec<String>, AllocError> {
     Ok(owned)
 }
 
+/// Whether these words ask for the replay of this file.
+fn asks_for(alloc: Global, words: &[&str], file: Option<&str>) -> bool {
+    let Ok(words) = owned(alloc, words) else {
+        return false;
+    };
+    match read_words(alloc, &words) {
+        Ok(request) => request == Request::Replay { file },
+        Err(_) => false,
+    }
+}
+
+/// Whether these words are refused for this, with status 2.
+fn are_refused(alloc: Global, words: &[&str], why: ErrorKind) -> bool {
+    let Ok(words) = owned(alloc, words) else {
+        return false;
+    };
+    match read_words(alloc, &words) {
+        Ok(_) => false,
+        Err(fault) => fault.kind() == why && fault.exit_code() == 2,
+    }
+}
+
+fn reads_each_line(alloc: Global) -> bool {
+    asks_for(alloc, &["mail_tool", "replay"], None)
+        && asks_for(alloc, &["mail_tool", "replay", "a file"], Some("a file"))
+        && are_refused(alloc, &["mail_tool"], ErrorKind::MissingSubcommand)
+        && are_refused(alloc, &["mail_tool", "audit"], ErrorKind::InvalidSubcommand)
+        && are_refused(
+            alloc,
+            &["mail_tool", "replay", "a", "b"],
+            ErrorKind::UnknownArgument,
+        )
+}
+
 #[test]
-fn reads_the_command_line(rt: HostRuntime) -> Result<(), Fail> {
-    let alloc = rt.alloc();
-    let words = owned(alloc, &["mail_tool", "replay"])?;
-    assert!(rt; read_words(alloc, &words)? == Request::Replay { file: None });
-    let words = owned(alloc, &["mail_tool", "replay", "a file"])?;
-    assert!(rt;
-        read_words(alloc, &words)?
-            == Request::Replay {
-                file: Some("a file")
-            }
-    );
-    let words = owned(alloc, &["mail_tool"])?;
-    let Err(fault) = read_words(alloc, &words) else {
-        return Err(Fail::from("a request for nothing"));
-    };
-    assert!(rt; fault.kind() == ErrorKind::MissingSubcommand && fault.exit_code() == 2);
-    let words = owned(alloc, &["mail_tool", "audit"])?;
-    let Err(fault) = read_words(alloc, &words) else {
-        return Err(Fail::from("an audit"));
-    };
-    assert!(rt; fault.kind() == ErrorKind::InvalidSubcommand && fault.exit_code() == 2);
-    let words = owned(alloc, &["mail_tool", "replay", "a", "b"])?;
-    let Err(fault) = read_words(alloc, &words) else {
-        return Err(Fail::from("two files"));
-    };
-    assert!(rt; fault.kind() == ErrorKind::UnknownArgument && fault.exit_code() == 2);
-    Ok(())
+fn reads_the_command_line(rt: HostRuntime) {
+    assert!(rt; reads_each_line(rt.alloc()));
 }

@@ -1,0 +1,101 @@
+ghost use Rattle.std.specs.Prelude.{◌≡◌, ◌≤◌, true, false, length, map, min};
+ghost use Rattle.std.specs.List.{filter, slice_get, sum_by};
+ghost use Rattle.std.specs.Option.{option_to_list};
+ghost use Rattle.imap_query.specs.Messages.{is_flagged};
+ghost use Rattle.imap_query.specs.Status.{is_asked, size_of, status_of};
+
+use crate::messages::is_flagged;
+use imap_answers::StatusItems;
+use imap_grammar::{StatusItem, SystemFlag};
+use mail_listing::Rows;
+
+/// What a mailbox counts on, beside its listing.
+#[derive(Clone, Copy, Debug, PartialEq, Eq)]
+pub struct Marks {
+    pub uidvalidity: u32,
+    /// The UID that the next message takes.
+    pub uidnext: u32,
+    /// RFC 7162, section 3.1.2.1.
+    pub highest_modseq: u64,
+}
+
+/// What STATUS tells of a mailbox, each item that was asked once (RFC 9051, section 6.3.11; RFC 7162, section 3.1.7).
+/// The octets of all messages stop at the greatest `u64`. Time is linear in the listing.
+pub fn status(rows: &Rows<'_>, items: &[StatusItem], marks: Marks) -> StatusItems
+    ensures { result ≡ status_of items.now marks rows.now }
+{
+    StatusItems {
+        messages: is_asked(items, StatusItem::Messages).then_some(rows.count()),
+        uidnext: is_asked(items, StatusItem::UidNext).then_some(marks.uidnext),
+        uidvalidity: is_asked(items, StatusItem::UidValidity).then_some(marks.uidvalidity),
+        unseen: is_asked(items, StatusItem::Unseen).then_some(count(rows, SystemFlag::Seen, false)),
+        deleted: is_asked(items, StatusItem::Deleted).then_some(count(
+            rows,
+            SystemFlag::Deleted,
+            true,
+        )),
+        size: is_asked(items, StatusItem::Size).then_some(size(rows)),
+        highest_modseq: is_asked(items, StatusItem::HighestModSeq).then_some(marks.highest_modseq),
+    }
+}
+
+/// Whether an item is among those asked.
+fn is_asked(items: &[StatusItem], item: StatusItem) -> bool
+    ensures { result ≡ is_asked item items.now }
+{
+    for other in items {
+        if *other == item {
+            return true;
+        }
+    }
+    false
+}
+
+/// How many messages have a flag, or lack it.
+fn count(rows: &Rows<'_>, flag: SystemFlag, is_set: bool) -> u32
+    ensures { result ≡ length (filter (is_flagged flag is_set) rows.now) }
+{
+    let mut count = 0;
+    for place in 0..rows.count() {
+        count += counted(rows, place, flag, is_set);
+    }
+    count
+}
+
+/// One where the message at this place has the flag, or lacks it.
+fn counted(rows: &Rows<'_>, place: u32, flag: SystemFlag, is_set: bool) -> u32
+    ensures counted { result ≡ length (filter (is_flagged flag is_set) (option_to_list (slice_get rows.now place))) }
+    ensures bound { result ≤ 1 }
+{
+    match rows.row_at(place as usize) {
+        None => 0,
+        Some(row) => {
+            if is_flagged(row.flags, flag, is_set) {
+                1
+            } else {
+                0
+            }
+        }
+    }
+}
+
+/// The octets of all messages, or the greatest number.
+fn size(rows: &Rows<'_>) -> u64
+    ensures { result ≡ min (sum_by size_of rows.now) 18446744073709551615 }
+{
+    let mut size = 0u64;
+    for place in 0..rows.count() {
+        size = size.saturating_add(octets(rows, place));
+    }
+    size
+}
+
+/// The octets of the message at this place.
+fn octets(rows: &Rows<'_>, place: u32) -> u64
+    ensures { result ≡ sum_by size_of (option_to_list (slice_get rows.now place)) }
+{
+    match rows.row_at(place as usize) {
+        None => 0,
+        Some(row) => row.text.len() as u64,
+    }
+}

@@ -1,0 +1,112 @@
+//! The lines of a row that say what is done with its script, and those that add to it what a line of text can't show.
+
+use crate::page::Page;
+use imap_types::{Escape, Octets, read_escaped};
+use std::alloc::Global;
+
+/// What is done with the script of a row.
+#[derive(Clone, Copy)]
+pub enum Way<'a> {
+    /// It is replayed, and all that is printed is told.
+    Whole,
+    /// It is replayed, and so many of the last lines are told.
+    Last(usize),
+    /// It is replayed, and it is told how many lines are this one.
+    Count(&'a str),
+    /// It is replayed also where it ends early, and with octets replaced.
+    Damage,
+    /// It is replayed with octets, given in the escape, sent to a session in all ways of cutting them.
+    Pieces { session: &'a str, text: &'a str },
+    /// It is replayed with each of the lines that follow behind it, and also with this one behind that.
+    Each(&'a str),
+}
+
+/// The way that a directive names, if it names one.
+pub fn way_of<'a>(word: &str, rest: &'a str) -> Option<Way<'a>> {
+    match word {
+        "last" => last_of(rest),
+        "count" => Some(Way::Count(rest)),
+        "damage" => Some(Way::Damage),
+        "pieces" => pieces_of(rest),
+        "each" => Some(Way::Each(rest)),
+        _ => None,
+    }
+}
+
+fn last_of<'a>(number: &'a str) -> Option<Way<'a>> {
+    match number.parse::<usize>() {
+        Ok(last) => Some(Way::Last(last)),
+        Err(_) => None,
+    }
+}
+
+fn pieces_of<'a>(rest: &'a str) -> Option<Way<'a>> {
+    let (session, text) = rest.split_once(' ')?;
+    Some(Way::Pieces { session, text })
+}
+
+/// Adds what a directive stands for to a script; whether it is one that does.
+pub fn build(word: &str, rest: &str, script: &mut Page) -> bool {
+    let Some(pattern) = pattern_of(rest) else {
+        return false;
+    };
+    match word {
+        "fill" => fill(&pattern, script),
+        "repeat" => repeat(&pattern, script),
+        _ => false,
+    }
+}
+
+/// The octets that a text in the escape stands for, if it is one.
+pub fn octets_of(alloc: Global, text: &str) -> Option<Octets> {
+    read_escaped(alloc, Escape::Text, text.as_bytes()).ok()
+}
+
+/// Two words and a line with a gap in it.
+#[derive(Clone, Copy)]
+struct Pattern<'a> {
+    first: &'a str,
+    second: &'a str,
+    front: &'a str,
+    back: &'a str,
+}
+
+fn pattern_of<'a>(rest: &'a str) -> Option<Pattern<'a>> {
+    let (first, rest) = rest.split_once(' ')?;
+    let (second, line) = rest.split_once(' ')?;
+    let (front, back) = line.split_once("{}")?;
+    Some(Pattern {
+        first,
+        second,
+        front,
+        back,
+    })
+}
+
+/// Adds the line, with so many of a text in its gap.
+fn fill(pattern: &Pattern, script: &mut Page) -> bool {
+    let Ok(count) = pattern.first.parse::<u32>() else {
+        return false;
+    };
+    script.put_text(pattern.front);
+    for _ in 0..count {
+        script.put_text(pattern.second);
+    }
+    script.put_text(pattern.back);
+    script.put_text("\n");
+    true
+}
+
+/// Adds the line once for each number, which stands in its gap.
+fn repeat(pattern: &Pattern, script: &mut Page) -> bool {
+    let (Ok(first), Ok(last)) = (pattern.first.parse::<u32>(), pattern.second.parse::<u32>()) else {
+        return false;
+    };
+    for number in first..=last {
+        script.put_text(pattern.front);
+        script.put_number(number as usize);
+        script.put_text(pattern.back);
+        script.put_text("\n");
+    }
+    true
+}

@@ -1,0 +1,94 @@
+//! Rows, line by line.
+
+use crate::cases::try_case;
+use crate::cuts::{tell_damage, tell_pieces};
+use crate::directives::{Way, build, octets_of, way_of};
+use crate::page::Page;
+use crate::replays::play_script;
+use std::alloc::Global;
+
+/// Plays the rows of a text, each behind a line `== TITLE`; what stands before the first is left out.
+pub fn play(alloc: Global, text: &str) -> Page {
+    let mut page = Page::new(alloc);
+    for row in text.split("\n== ").skip(1) {
+        play_row(alloc, row, &mut page);
+    }
+    page
+}
+
+/// A row as far as it was read.
+#[derive(Drop)]
+struct Row<'a> {
+    script: Page,
+    way: Way<'a>,
+}
+
+fn play_row(alloc: Global, text: &str, page: &mut Page) {
+    let (title, lines) = text.split_once('\n').unwrap_or((text, ""));
+    page.put_text("== ");
+    page.put_text(title);
+    page.put_text("\n");
+    let mut row = Row {
+        script: Page::new(alloc),
+        way: Way::Whole,
+    };
+    for line in lines.split_terminator('\n') {
+        take_line(alloc, line, &mut row, page);
+    }
+    end_row(alloc, row.script.so_far(), row.way, page);
+}
+
+/// Takes a line of a row: a directive, a comment in front of the script, or what belongs to the script.
+fn take_line<'a>(alloc: Global, line: &'a str, row: &mut Row<'a>, page: &mut Page) {
+    if let Some(directive) = line.strip_prefix("% ") {
+        let (word, rest) = directive.split_once(' ').unwrap_or((directive, ""));
+        if !obey(alloc, word, rest, row, page) {
+            page.put_text("-- no directive: ");
+            page.put_text(directive);
+            page.put_text("\n");
+        }
+    } else if !(line.starts_with('#') && row.script.so_far().is_empty()) {
+        take_octets(alloc, line.as_bytes(), b"\n", row, page);
+    }
+}
+
+/// Does what a directive says; whether it is one.
+fn obey<'a>(alloc: Global, word: &str, rest: &'a str, row: &mut Row<'a>, page: &mut Page) -> bool {
+    if word == "octets" {
+        let Some(octets) = octets_of(alloc, rest) else {
+            return false;
+        };
+        take_octets(alloc, octets.as_bytes(), b"", row, page);
+        return true;
+    }
+    let Some(way) = way_of(word, rest) else {
+        return build(word, rest, &mut row.script);
+    };
+    if let Way::Each(_) = way {
+        play_script(alloc, row.script.so_far()).tell(page);
+    }
+    row.way = way;
+    true
+}
+
+/// Takes a case, where the row is one of cases, else octets of the script, with their end.
+fn take_octets(alloc: Global, octets: &[u8], end: &[u8], row: &mut Row, page: &mut Page) {
+    if let Way::Each(then) = row.way {
+        try_case(alloc, row.script.so_far(), octets, then, page);
+    } else {
+        row.script.put(octets);
+        row.script.put(end);
+    }
+}
+
+/// Does with a row's script what is to be done with it.
+fn end_row(alloc: Global, script: &[u8], way: Way, page: &mut Page) {
+    match way {
+        Way::Whole => play_script(alloc, script).tell(page),
+        Way::Last(last) => play_script(alloc, script).tell_last(last, page),
+        Way::Count(line) => play_script(alloc, script).tell_count(line, page),
+        Way::Damage => tell_damage(alloc, script, page),
+        Way::Pieces { session, text } => tell_pieces(alloc, script, session, text, page),
+        Way::Each(_) => {}
+    }
+}

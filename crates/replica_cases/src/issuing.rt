@@ -1,0 +1,80 @@
+//! A replica's own operations.
+
+ghost use Rattle.std.specs.Prelude.{◌≡◌, ◌∷◌, [], IfOk};
+ghost use Rattle.causal_inbox.specs.Seen.{IsIssued};
+ghost use Rattle.crdt_ops.specs.declared.op.Op.{Op as Operation};
+
+use crate::answer::Answer;
+use crate::fields::{cut, name, replica};
+use crate::stage::Node;
+use crate::trouble::Trouble;
+use crdt_ops::{Kind, Op, SoundOp, check};
+use imap_types::Name;
+use std::alloc::Global;
+use tags_clocks::{OpId, ReplicaId};
+
+/// `issue R NAME`: the operation by which the replica, which the inbox is then taken to be of, creates the folder. It is
+/// issued behind all that was applied.
+pub fn tell_issue(inbox: &mut Node, fields: &str, answer: &mut Answer) -> Result<(), Trouble> {
+    let (issuer, folder) = cut(fields)?;
+    let id = next_id(inbox, replica(issuer)?)?;
+    let op = next_create(answer.alloc(), inbox, id, name(answer.alloc(), folder)?)?;
+    issue(inbox, op, answer);
+    Ok(())
+}
+
+/// The id of this replica's next operation behind those that were applied.
+fn next_id(inbox: &Node, replica: ReplicaId) -> Result<OpId, Trouble> {
+    match inbox.clock().get(replica).checked_add(1) {
+        Some(count) => OpId::new(replica, count).ok_or(Trouble::NotACase),
+        None => Err(Trouble::NotACase),
+    }
+}
+
+/// The next operation of this replica, which creates this folder.
+fn next_create(alloc: Global, inbox: &Node, id: OpId, folder: Name) -> Result<SoundOp, Trouble>
+    ensures { IfOk result (λ op. IsIssued (λ (o : Operation). o.id) (λ o. o.clock) inbox.now.seen.applied op) }
+{
+    let clock = inbox.clock().copy(alloc)?;
+    let kind = Kind::Create { folder };
+    match check(Op { id, clock, kind }) {
+        Ok(op) => Ok(op),
+        Err((op, _)) => {
+            drop(op);
+            Err(Trouble::NotACase)
+        }
+    }
+}
+
+/// Issues the operation, and tells it.
+fn issue(inbox: &mut Node, op: SoundOp, answer: &mut Answer)
+    requires { IsIssued (λ (o : Operation). o.id) (λ o. o.clock) inbox.old.seen.applied op }
+{
+    answer.op(&op);
+    match listed(answer.alloc(), op) {
+        Ok(ops) => issue_listed(inbox, ops, answer),
+        Err(trouble) => answer.fail(trouble),
+    }
+}
+
+fn listed(alloc: Global, op: SoundOp) -> Result<Vec<SoundOp>, Trouble>
+    ensures { IfOk result (λ ops. ops.items ≡ op ∷ []) }
+{
+    let Ok(mut ops) = Vec::with_capacity(alloc, 1) else {
+        drop(op);
+        return Err(Trouble::NoMemory);
+    };
+    ops.push_reserved(op);
+    Ok(ops)
+}
+
+fn issue_listed(inbox: &mut Node, ops: Vec<SoundOp>, answer: &mut Answer)
+    requires { (op : Operation) × (ops.items ≡ op ∷ []) × IsIssued (λ (o : Operation). o.id) (λ o. o.clock) inbox.old.seen.applied op }
+{
+    if inbox.ready(answer.alloc(), &ops).is_ok() {
+        inbox.issue(ops);
+    } else {
+        drop(ops);
+        answer.fail(Trouble::NoMemory);
+    }
+}

@@ -1,0 +1,86 @@
+//! Texts that are cut off or have another octet somewhere.
+
+use crate::answer::Answer;
+use crate::operations::{Finding, found};
+use std::alloc::{AllocError, Global};
+
+/// How many texts were found to be what.
+#[derive(Clone, Copy)]
+pub struct Findings {
+    refused: u64,
+    sound: u64,
+    unsound: u64,
+    changed: u64,
+}
+
+impl Findings {
+    fn none() -> Findings {
+        Findings {
+            refused: 0,
+            sound: 0,
+            unsound: 0,
+            changed: 0,
+        }
+    }
+
+    fn note(&mut self, finding: Finding) {
+        match finding {
+            Finding::NotTheForm => self.refused = self.refused.saturating_add(1),
+            Finding::Sound => self.sound = self.sound.saturating_add(1),
+            Finding::Unsound(_) => self.unsound = self.unsound.saturating_add(1),
+            Finding::Changed => self.changed = self.changed.saturating_add(1),
+        }
+    }
+}
+
+/// Tells how many texts were found to be what.
+pub fn tell_findings(findings: Findings, answer: &mut Answer) {
+    answer.number(findings.refused);
+    answer.word("refused,");
+    answer.number(findings.sound);
+    answer.word("sound,");
+    answer.number(findings.unsound);
+    answer.word("unsound,");
+    answer.number(findings.changed);
+    answer.word("changed");
+}
+
+/// What the fronts of a text are that are shorter.
+pub fn of_cuts(alloc: Global, text: &[u8]) -> Findings {
+    let mut findings = Findings::none();
+    for length in 0..text.len() {
+        findings.note(found(alloc, &text[..length]));
+    }
+    findings
+}
+
+/// What a text is with each of these octets in each place.
+pub fn of_octets(alloc: Global, text: &[u8], octets: &[u8]) -> Findings {
+    let mut findings = Findings::none();
+    for octet in octets {
+        note_octet(alloc, text, *octet, &mut findings);
+    }
+    findings
+}
+
+fn note_octet(alloc: Global, text: &[u8], octet: u8, findings: &mut Findings) {
+    for at in 0..text.len() {
+        findings.note(found_with(alloc, text, at, octet));
+    }
+}
+
+/// What the text is with this octet at this place.
+fn found_with(alloc: Global, text: &[u8], at: usize, octet: u8) -> Finding {
+    match replaced(alloc, text, at, octet) {
+        Ok(other) => found(alloc, &other),
+        Err(AllocError) => Finding::Changed,
+    }
+}
+
+fn replaced(alloc: Global, text: &[u8], at: usize, octet: u8) -> Result<Vec<u8>, AllocError> {
+    let mut other = text.to_vec(alloc)?;
+    if let Some(place) = other.get_mut(at) {
+        *place = octet;
+    }
+    Ok(other)
+}

@@ -1,0 +1,157 @@
+//! The texts of operations: what is read, which of it is sound, and how it is written again.
+
+use crate::trouble::Trouble;
+use crdt_ops::{Op, OpFault, SoundOp, Unsound, check, read_op, write_op};
+use merge_laws::Caused;
+use std::alloc::{AllocError, Global};
+
+/// What is found of a text.
+#[derive(Clone, Copy)]
+pub enum Finding {
+    /// It spells no operation.
+    NotTheForm,
+    /// It spells one that isn't sound, and this is the first fault.
+    Unsound(Unsound),
+    /// It spells a sound one, which is written as this very text.
+    Sound,
+    /// It spells one that isn't given back as it was read, or is written or copied as another, or there is no memory to see.
+    Changed,
+}
+
+/// The word for a finding.
+pub fn finding_word(finding: Finding) -> &'static str {
+    match finding {
+        Finding::NotTheForm => "no operation",
+        Finding::Unsound(fault) => fault_word(fault),
+        Finding::Sound => "sound",
+        Finding::Changed => "changed",
+    }
+}
+
+fn fault_word(fault: Unsound) -> &'static str {
+    match fault {
+        Unsound::OwnClockEntry => "OwnClockEntry",
+        Unsound::UncoveredId => "UncoveredId",
+        Unsound::UnlawfulName => "UnlawfulName",
+        Unsound::UnlawfulFlags => "UnlawfulFlags",
+        Unsound::DeleteOfInbox => "DeleteOfInbox",
+    }
+}
+
+/// The sound operation that a text spells.
+pub fn operation(alloc: Global, line: &str) -> Result<SoundOp, Trouble> {
+    match read_op(alloc, line.as_bytes()) {
+        Ok(op) => sound(op),
+        Err(OpFault::NotTheForm) => Err(Trouble::NotACase),
+        Err(OpFault::NoMemory) => Err(Trouble::NoMemory),
+    }
+}
+
+fn sound(op: Op) -> Result<SoundOp, Trouble> {
+    match check(op) {
+        Ok(sound) => Ok(sound),
+        Err((op, _)) => {
+            drop(op);
+            Err(Trouble::NotACase)
+        }
+    }
+}
+
+/// What is found of a text.
+pub fn found(alloc: Global, text: &[u8]) -> Finding {
+    match read_op(alloc, text) {
+        Ok(op) => found_in(alloc, op, text),
+        Err(OpFault::NotTheForm) => Finding::NotTheForm,
+        Err(OpFault::NoMemory) => Finding::Changed,
+    }
+}
+
+fn found_in(alloc: Global, op: Op, text: &[u8]) -> Finding {
+    match check(op) {
+        Ok(sound) => {
+            let finding = found_sound(alloc, &sound, text);
+            drop(sound);
+            finding
+        }
+        Err((op, fault)) => {
+            let is_spelled = is_spelled(alloc, &op, text);
+            drop(op);
+            if is_spelled {
+                Finding::Unsound(fault)
+            } else {
+                Finding::Changed
+            }
+        }
+    }
+}
+
+fn found_sound(alloc: Global, op: &SoundOp, text: &[u8]) -> Finding {
+    if is_spelled(alloc, op.op(), text) && is_written(alloc, op, text) && is_copied(alloc, op) {
+        Finding::Sound
+    } else {
+        Finding::Changed
+    }
+}
+
+/// Whether the operation is what the text spells, read again.
+fn is_spelled(alloc: Global, op: &Op, text: &[u8]) -> bool {
+    match read_op(alloc, text) {
+        Ok(again) => {
+            let same = op.same(&again);
+            drop(again);
+            same
+        }
+        Err(_) => false,
+    }
+}
+
+/// Whether the operation is written as this text, behind another one.
+fn is_written(alloc: Global, op: &SoundOp, text: &[u8]) -> bool {
+    match written(alloc, op) {
+        Ok(again) => again.strip_prefix(b"front ") == Some(text),
+        Err(AllocError) => false,
+    }
+}
+
+fn written(alloc: Global, op: &SoundOp) -> Result<Vec<u8>, AllocError> {
+    let mut text = Vec::new(alloc);
+    text.extend_from_slice(b"front ")?;
+    write_op(alloc, op, &mut text)?;
+    Ok(text)
+}
+
+/// Whether copies of the operation and of its parts are the same.
+fn is_copied(alloc: Global, op: &SoundOp) -> bool {
+    match op.copy(alloc) {
+        Ok(copied) => {
+            let same = copied.same(op);
+            let inner = copied.into_op();
+            let inner_same = inner.same(op.op()) && has_copied_parts(alloc, &inner);
+            drop(inner);
+            same && inner_same
+        }
+        Err(AllocError) => false,
+    }
+}
+
+fn has_copied_parts(alloc: Global, op: &Op) -> bool {
+    match op.copy(alloc) {
+        Ok(copied) => {
+            let same = copied.same(op) && has_copied_kind(alloc, &copied);
+            drop(copied);
+            same
+        }
+        Err(AllocError) => false,
+    }
+}
+
+fn has_copied_kind(alloc: Global, op: &Op) -> bool {
+    match op.kind.copy(alloc) {
+        Ok(copied) => {
+            let same = copied.same(&op.kind);
+            drop(copied);
+            same
+        }
+        Err(AllocError) => false,
+    }
+}

@@ -1,0 +1,280 @@
+//! Operations that are delivered in each order.
+
+use crate::answer::Answer;
+use crate::dump::tell_state;
+use crate::given::Given;
+use crate::permutations::{comes_early, is_causal, order, orders_of};
+use crate::stage::{Node, deliver, node};
+use crate::trouble::Trouble;
+use causal_inbox::{Arrival, DeliverFault, Delivered};
+use crdt_ops::SoundOp;
+use merge_laws::Caused;
+use std::alloc::{AllocError, Global};
+
+/// The most operations that are delivered in each order.
+const MOST: usize = 7;
+
+/// How the orders ended that were tried.
+#[derive(Clone, Copy)]
+struct Tried {
+    /// So many were tried.
+    all: usize,
+    /// In so many of them each operation comes behind its causes.
+    causal: usize,
+    /// The number of the first that went wrong.
+    wrong: Option<usize>,
+}
+
+impl Tried {
+    fn none() -> Tried {
+        Tried {
+            all: 0,
+            causal: 0,
+            wrong: None,
+        }
+    }
+
+    fn note(&mut self, is_causal: bool, is_right: bool) {
+        if !is_right && self.wrong.is_none() {
+            self.wrong = Some(self.all);
+        }
+        if is_causal {
+            self.causal = self.causal.saturating_add(1);
+        }
+        self.all = self.all.saturating_add(1);
+    }
+}
+
+/// `orders`: delivers the operations in each order, each twice in a row, and all and then all again, and in the causal orders
+/// each once; tells how many orders there are, whether all answered and ended as they must, and what they lead to.
+pub fn tell_orders(given: &Given, answer: &mut Answer) {
+    if given.any.len() > MOST {
+        answer.fail(Trouble::NotACase);
+        return;
+    }
+    match end_of(answer.alloc(), given) {
+        Some(end) => tell_all(given, &end, answer),
+        None => answer.fail(Trouble::NoMemory),
+    }
+}
+
+fn tell_all(given: &Given, end: &[u8], answer: &mut Answer) {
+    let tried = try_all(answer.alloc(), given, end);
+    answer.number(tried.all as u64);
+    answer.word("orders,");
+    answer.number(tried.causal as u64);
+    answer.word("causal,");
+    tell_wrong(tried.wrong, answer);
+    answer.push(end);
+}
+
+fn tell_wrong(wrong: Option<usize>, answer: &mut Answer) {
+    match wrong {
+        None => answer.word("all end alike"),
+        Some(number) => {
+            answer.word("but not the one of the number");
+            answer.number(number as u64);
+        }
+    }
+}
+
+/// What an inbox tells that got the operations as they are given; `None` where there is no memory.
+fn end_of(alloc: Global, given: &Given) -> Option<Vec<u8>> {
+    match replica(alloc, given) {
+        Some(mut inbox) => {
+            deliver_all(alloc, &mut inbox, &given.any);
+            Some(told(alloc, &inbox))
+        }
+        None => None,
+    }
+}
+
+fn told(alloc: Global, inbox: &Node) -> Vec<u8> {
+    let mut answer = Answer::new(alloc);
+    tell_state(inbox.value(), &mut answer);
+    answer.into_text()
+}
+
+/// An inbox that got the operations that come first; `None` where there is no memory.
+fn replica(alloc: Global, given: &Given) -> Option<Node> {
+    match node(alloc) {
+        Ok(mut inbox) => {
+            deliver_all(alloc, &mut inbox, &given.first);
+            Some(inbox)
+        }
+        Err(AllocError) => None,
+    }
+}
+
+fn deliver_all(alloc: Global, inbox: &mut Node, ops: &[SoundOp]) {
+    for op in ops {
+        delivered(alloc, inbox, op);
+    }
+}
+
+/// Delivers a copy of the operation; `None` is a refusal, or an operation that stalls.
+fn delivered(alloc: Global, inbox: &mut Node, op: &SoundOp) -> Option<Arrival> {
+    match op.copy(alloc) {
+        Ok(copied) => arrival(deliver(alloc, inbox, copied)),
+        Err(AllocError) => None,
+    }
+}
+
+fn arrival(answer: Result<Delivered, DeliverFault>) -> Option<Arrival> {
+    match answer {
+        Ok(
+            Delivered {
+                arrival,
+                stalled: false,
+            },
+        ) => Some(arrival),
+        _ => None,
+    }
+}
+
+/// Delivers a copy of the operation at this place.
+fn delivered_at(alloc: Global, inbox: &mut Node, given: &Given, at: usize) -> Option<Arrival> {
+    match given.any.get(at) {
+        Some(op) => delivered(alloc, inbox, op),
+        None => None,
+    }
+}
+
+fn try_all(alloc: Global, given: &Given, end: &[u8]) -> Tried {
+    let mut tried = Tried::none();
+    for number in 0..orders_of(given.any.len()) {
+        try_one(alloc, given, number, end, &mut tried);
+    }
+    tried
+}
+
+fn try_one(alloc: Global, given: &Given, number: usize, end: &[u8], tried: &mut Tried) {
+    match order(alloc, number, given.any.len()) {
+        Ok(order) => {
+            let is_causal = is_causal(&given.causes, &order);
+            tried.note(is_causal, ends_alike(alloc, given, &order, is_causal, end));
+        }
+        Err(AllocError) => tried.note(false, false),
+    }
+}
+
+/// Whether all goes as it must in this order.
+fn ends_alike(alloc: Global, given: &Given, order: &[usize], is_causal: bool, end: &[u8]) -> bool {
+    if !is_so(alloc, given, order, Way::EachTwice, end) {
+        return false;
+    }
+    if !is_so(alloc, given, order, Way::AllTwice, end) {
+        return false;
+    }
+    !is_causal || is_so(alloc, given, order, Way::AsTheyCome, end)
+}
+
+/// How often operations are delivered.
+#[derive(Clone, Copy)]
+enum Way {
+    /// Each twice in a row.
+    EachTwice,
+    /// All, and then all again.
+    AllTwice,
+    /// Each once, behind its causes.
+    AsTheyCome,
+}
+
+/// Whether an inbox that got the operations that come first answers the others as it must, and ends so.
+fn is_so(alloc: Global, given: &Given, order: &[usize], way: Way, end: &[u8]) -> bool {
+    match replica(alloc, given) {
+        Some(mut inbox) => {
+            let is_answered = is_answered(alloc, &mut inbox, given, order, way);
+            is_answered && all_applied(alloc, given, &inbox, end)
+        }
+        None => false,
+    }
+}
+
+fn is_answered(alloc: Global, inbox: &mut Node, given: &Given, order: &[usize], way: Way) -> bool {
+    match way {
+        Way::EachTwice => each_twice(alloc, inbox, given, order),
+        Way::AllTwice => all_twice(alloc, inbox, given, order),
+        Way::AsTheyCome => as_they_come(alloc, inbox, given, order),
+    }
+}
+
+/// Each operation twice in a row: an early one is held, and the second is a repeat.
+fn each_twice(alloc: Global, inbox: &mut Node, given: &Given, order: &[usize]) -> bool {
+    for at in order {
+        if !is_repeated(alloc, inbox, given, order, *at) {
+            return false;
+        }
+    }
+    true
+}
+
+fn is_repeated(alloc: Global, inbox: &mut Node, given: &Given, order: &[usize], at: usize) -> bool {
+    let arrival = delivered_at(alloc, inbox, given, at);
+    let again = delivered_at(alloc, inbox, given, at);
+    let is_held = arrival == Some(Arrival::Held);
+    is_held == comes_early(&given.causes, order, at) && again == Some(Arrival::Repeat)
+}
+
+/// All operations and then all again: the first time so many are applied as there are, and then none.
+fn all_twice(alloc: Global, inbox: &mut Node, given: &Given, order: &[usize]) -> bool {
+    let once = applied_in_round(alloc, inbox, given, order);
+    let again = applied_in_round(alloc, inbox, given, order);
+    once == order.len() && again == 0
+}
+
+/// The number of operations applied as each of them is delivered.
+fn applied_in_round(alloc: Global, inbox: &mut Node, given: &Given, order: &[usize]) -> usize {
+    let mut applied: usize = 0;
+    for at in order {
+        if let Some(Arrival::Applied(count)) = delivered_at(alloc, inbox, given, *at) {
+            applied = applied.saturating_add(count);
+        }
+    }
+    applied
+}
+
+/// In a causal order each operation is applied as it comes, and they are listed so.
+fn as_they_come(alloc: Global, inbox: &mut Node, given: &Given, order: &[usize]) -> bool {
+    for at in order {
+        if delivered_at(alloc, inbox, given, *at) != Some(Arrival::Applied(1)) {
+            return false;
+        }
+    }
+    are_listed(given, order, inbox.op_list())
+}
+
+/// Whether the list is of those that come first, and then of the others in this order.
+fn are_listed(given: &Given, order: &[usize], list: &[SoundOp]) -> bool {
+    for (at, op) in list.iter().enumerate() {
+        if !is_listed(given, order, at, op) {
+            return false;
+        }
+    }
+    true
+}
+
+fn is_listed(given: &Given, order: &[usize], at: usize, op: &SoundOp) -> bool {
+    match listed_at(given, order, at) {
+        Some(other) => op.same(other),
+        None => false,
+    }
+}
+
+/// The operation that must stand at this place of the list.
+fn listed_at<'a>(given: &'a Given, order: &[usize], at: usize) -> Option<&'a SoundOp> {
+    match at.checked_sub(given.first.len()) {
+        None => given.first.get(at),
+        Some(place) => given.any.get(*order.get(place)?),
+    }
+}
+
+/// Whether all operations were applied, none is held, and the inbox tells this.
+fn all_applied(alloc: Global, given: &Given, inbox: &Node, end: &[u8]) -> bool {
+    let count = inbox.op_list().len().checked_sub(given.first.len());
+    if count != Some(given.any.len()) || !inbox.held().is_empty() {
+        return false;
+    }
+    let text = told(alloc, inbox);
+    text.as_slice() == end
+}

@@ -1,0 +1,199 @@
+//! Lines of the input: what is asked in each, and where its answer goes.
+
+use crate::answer::Answer;
+use crate::clocks::{ClockWord, answer_clock};
+use crate::fields::{cut, octets};
+use crate::given::{Given, add_any, add_first, tell_pairs, tell_replay};
+use crate::inboxes::{InboxWord, answer_inbox};
+use crate::mutations::{of_cuts, of_octets, tell_findings};
+use crate::operations::{finding_word, found};
+use crate::orders::tell_orders;
+use crate::sets::{SetWord, answer_set};
+use crate::stage::Stage;
+use crate::trouble::Trouble;
+use imap_types::Escape;
+use std::alloc::{AllocError, Global};
+use std::mem;
+
+/// What is asked of texts.
+#[derive(Clone, Copy)]
+enum TextWord {
+    /// `op LINE`: what the line is.
+    Op,
+    /// `octets TEXT`: what the line is that this spells in the escape.
+    Octets,
+    /// `cuts LINE`: what its fronts are.
+    Cuts,
+    /// `replaced OCTETS LINE`: what it is with another octet somewhere.
+    Replaced,
+}
+
+/// What is asked of the operations that the case gave.
+#[derive(Clone, Copy)]
+enum GivenWord {
+    /// `pairs`: which are the same.
+    Pairs,
+    /// `replay`: what they lead to, in their order.
+    Replay,
+    /// `orders`: what they lead to, in each order.
+    Orders,
+}
+
+/// What the first word of a line asks.
+#[derive(Clone, Copy)]
+enum Word {
+    Text(TextWord),
+    Clock(ClockWord),
+    Set(SetWord),
+    Inbox(InboxWord),
+    Given(GivenWord),
+}
+
+const WORDS: &[(&str, Word)] = &[
+    ("op", Word::Text(TextWord::Op)),
+    ("octets", Word::Text(TextWord::Octets)),
+    ("cuts", Word::Text(TextWord::Cuts)),
+    ("replaced", Word::Text(TextWord::Replaced)),
+    ("id", Word::Clock(ClockWord::Id)),
+    ("clock", Word::Clock(ClockWord::Clock)),
+    ("number", Word::Clock(ClockWord::Number)),
+    ("covers", Word::Clock(ClockWord::Covers)),
+    ("compare", Word::Clock(ClockWord::Compare)),
+    ("join", Word::Clock(ClockWord::Join)),
+    ("push", Word::Clock(ClockWord::Push)),
+    ("ids", Word::Set(SetWord::Ids)),
+    ("contains", Word::Set(SetWord::Contains)),
+    ("names", Word::Set(SetWord::Names)),
+    ("deliver", Word::Inbox(InboxWord::Deliver)),
+    ("drain", Word::Inbox(InboxWord::Drain)),
+    ("issue", Word::Inbox(InboxWord::Issue)),
+    ("show", Word::Inbox(InboxWord::Show)),
+    ("list", Word::Inbox(InboxWord::List)),
+    ("since", Word::Inbox(InboxWord::Since)),
+    ("told", Word::Inbox(InboxWord::Told)),
+    ("folder", Word::Inbox(InboxWord::Folder)),
+    ("pairs", Word::Given(GivenWord::Pairs)),
+    ("replay", Word::Given(GivenWord::Replay)),
+    ("orders", Word::Given(GivenWord::Orders)),
+];
+
+fn word_of(text: &str) -> Result<Word, Trouble> {
+    for (name, word) in WORDS {
+        if *name == text {
+            return Ok(*word);
+        }
+    }
+    Err(Trouble::NotACase)
+}
+
+/// What a line makes the program print: the line with its answer in place of the one that stands there. An error says that
+/// there is no memory.
+pub fn serve(alloc: Global, stage: &mut Stage, line: &str) -> Result<Vec<u8>, AllocError> {
+    let mut answer = Answer::new(alloc);
+    serve_line(stage, line, &mut answer);
+    match answer.trouble() {
+        Some(Trouble::NoMemory) => return Err(AllocError),
+        Some(Trouble::NotACase) => answer.push(b" => no case\n"),
+        None => {}
+    }
+    Ok(answer.into_text())
+}
+
+fn serve_line(stage: &mut Stage, line: &str, answer: &mut Answer) {
+    if line.starts_with("  ") {
+        return;
+    }
+    let asked = asked(line);
+    answer.push(asked.as_bytes());
+    match obey(stage, asked, answer) {
+        Ok(()) => answer.push(b"\n"),
+        Err(trouble) => answer.fail(trouble),
+    }
+}
+
+/// What stands in front of the answer; the whole of a comment.
+fn asked(line: &str) -> &str {
+    if line.starts_with('#') {
+        return line;
+    }
+    match line.rsplit_once(" =>") {
+        Some((asked, _)) => asked,
+        None => line,
+    }
+}
+
+/// Passes over a comment, begins a case, takes an operation that is given, or answers what is asked.
+fn obey(stage: &mut Stage, asked: &str, answer: &mut Answer) -> Result<(), Trouble> {
+    let (word, fields) = asked.split_once(' ').unwrap_or((asked, ""));
+    match word {
+        "" | "#" => Ok(()),
+        "==" => restart(stage, answer.alloc()),
+        "given" => add_first(answer.alloc(), &mut stage.given, fields),
+        "any" => add_any(answer.alloc(), &mut stage.given, fields),
+        _ => answer_word(stage, word_of(word)?, fields, answer),
+    }
+}
+
+fn restart(stage: &mut Stage, alloc: Global) -> Result<(), Trouble> {
+    match Stage::new(alloc) {
+        Ok(fresh) => {
+            drop(mem::replace(stage, fresh));
+            Ok(())
+        }
+        Err(AllocError) => Err(Trouble::NoMemory),
+    }
+}
+
+fn answer_word(
+    stage: &mut Stage,
+    word: Word,
+    fields: &str,
+    answer: &mut Answer,
+) -> Result<(), Trouble> {
+    answer.word("=>");
+    match word {
+        Word::Text(word) => answer_text(word, fields, answer),
+        Word::Clock(word) => answer_clock(word, fields, answer),
+        Word::Set(word) => answer_set(word, fields, answer),
+        Word::Inbox(word) => answer_inbox(&mut stage.inbox, word, fields, answer),
+        Word::Given(word) => {
+            answer_given(&stage.given, word, answer);
+            Ok(())
+        }
+    }
+}
+
+fn answer_text(word: TextWord, fields: &str, answer: &mut Answer) -> Result<(), Trouble> {
+    match word {
+        TextWord::Op => tell_found(fields.as_bytes(), answer),
+        TextWord::Cuts => tell_findings(of_cuts(answer.alloc(), fields.as_bytes()), answer),
+        TextWord::Octets => tell_spelled(fields, answer)?,
+        TextWord::Replaced => tell_replaced(cut(fields)?, answer)?,
+    }
+    Ok(())
+}
+
+fn tell_found(text: &[u8], answer: &mut Answer) {
+    answer.word(finding_word(found(answer.alloc(), text)));
+}
+
+fn tell_spelled(fields: &str, answer: &mut Answer) -> Result<(), Trouble> {
+    let octets = octets(answer.alloc(), Escape::Text, fields)?;
+    tell_found(octets.as_bytes(), answer);
+    Ok(())
+}
+
+fn tell_replaced((field, line): (&str, &str), answer: &mut Answer) -> Result<(), Trouble> {
+    let octets = octets(answer.alloc(), Escape::Field, field)?;
+    let findings = of_octets(answer.alloc(), line.as_bytes(), octets.as_bytes());
+    tell_findings(findings, answer);
+    Ok(())
+}
+
+fn answer_given(given: &Given, word: GivenWord, answer: &mut Answer) {
+    match word {
+        GivenWord::Pairs => tell_pairs(given, answer),
+        GivenWord::Replay => tell_replay(given, answer),
+        GivenWord::Orders => tell_orders(given, answer),
+    }
+}
