@@ -34,7 +34,7 @@ impl Given {
 
 /// `given LINE`: adds an operation that comes first.
 pub fn add_first(alloc: Global, given: &mut Given, line: &str) -> Result<(), Trouble> {
-    add(&mut given.first, operation(alloc, line)?)
+    add(alloc, &mut given.first, line)
 }
 
 /// `any CAUSES LINE`: adds an operation that comes in each order, and says which of those before it, counted from 1, are its
@@ -44,14 +44,13 @@ pub fn add_any(alloc: Global, given: &mut Given, fields: &str) -> Result<(), Tro
     if places != "-" {
         add_causes(&mut given.causes, places, given.any.len())?;
     }
-    add(&mut given.any, operation(alloc, line)?)
+    add(alloc, &mut given.any, line)
 }
 
-fn add(ops: &mut Vec<SoundOp>, op: SoundOp) -> Result<(), Trouble> {
-    match ops.push(op) {
-        Ok(()) => Ok(()),
-        Err(_) => Err(Trouble::NoMemory),
-    }
+fn add(alloc: Global, ops: &mut Vec<SoundOp>, line: &str) -> Result<(), Trouble> {
+    ops.reserve(1)?;
+    ops.push_reserved(operation(alloc, line)?);
+    Ok(())
 }
 
 fn add_causes(causes: &mut Vec<(usize, usize)>, places: &str, at: usize) -> Result<(), Trouble> {

@@ -93,7 +93,7 @@ pub fn serve(alloc: Global, stage: &mut Stage, line: &str) -> Result<Vec<u8>, Al
     serve_line(stage, line, &mut answer);
     match answer.trouble() {
         Some(Trouble::NoMemory) => return Err(AllocError),
-        Some(Trouble::NotACase) => answer.push(b" => no case\n"),
+        Some(Trouble::NotACase) => answer.push(b" no case\n"),
         None => {}
     }
     Ok(answer.into_text())
@@ -130,7 +130,7 @@ fn obey(stage: &mut Stage, asked: &str, answer: &mut Answer) -> Result<(), Troub
         "==" => restart(stage, answer.alloc()),
         "given" => add_first(answer.alloc(), &mut stage.given, fields),
         "any" => add_any(answer.alloc(), &mut stage.given, fields),
-        _ => answer_word(stage, word_of(word)?, fields, answer),
+        _ => answer_word(stage, word, fields, answer),
     }
 }
 
@@ -146,12 +146,12 @@ fn restart(stage: &mut Stage, alloc: Global) -> Result<(), Trouble> {
 
 fn answer_word(
     stage: &mut Stage,
-    word: Word,
+    word: &str,
     fields: &str,
     answer: &mut Answer,
 ) -> Result<(), Trouble> {
     answer.word("=>");
-    match word {
+    match word_of(word)? {
         Word::Text(word) => answer_text(word, fields, answer),
         Word::Clock(word) => answer_clock(word, fields, answer),
         Word::Set(word) => answer_set(word, fields, answer),
