@@ -80,16 +80,16 @@ fn replayed(alloc: Global, ops: &[SoundOp]) -> Result<Mailboxes, AllocError> {
     replay(alloc, empty(alloc), ops)
 }
 
-/// `pairs`: how many operations come first, and whether each is the same as itself and no other; else the places of two where
-/// that isn't so.
+/// `pairs`: how many operations come first, and whether each is the same as itself and no other; else the places, counted from
+/// 1, of two where that isn't so.
 pub fn tell_pairs(given: &Given, answer: &mut Answer) {
     answer.number(given.first.len() as u64);
     match odd_pair(&given.first) {
         None => answer.word("operations, each the same as itself alone"),
         Some((first, second)) => {
             answer.word("operations, but not");
-            answer.number(first as u64);
-            answer.number(second as u64);
+            answer.number((first as u64).saturating_add(1));
+            answer.number((second as u64).saturating_add(1));
         }
     }
 }

@@ -2,7 +2,7 @@
 
 use crate::fixtures::{Mailboxes, Trouble, empty, operations};
 use crate::telling::told_of;
-use causal_inbox::{Inbox, IssueFault};
+use causal_inbox::Inbox;
 use merge_laws::{Follower, NotReady, OnFirst, Replicated, Unfollowed};
 use std::alloc::{AllocError, Global};
 use std::test::Fail;
@@ -63,25 +63,27 @@ fn node(alloc: Global) -> Result<Node, AllocError> {
     Inbox::new(alloc, empty(alloc), follower())
 }
 
-/// What an inbox answers that is to issue two operations, and how many it then has.
-fn ready_to_issue(alloc: Global) -> Result<(Result<(), IssueFault>, usize), Trouble> {
+/// Whether an inbox is ready to issue two operations, and applies none of them then.
+fn is_ready_to_issue(alloc: Global) -> Result<bool, Trouble> {
     let mut inbox = node(alloc)?;
-    let answer = ready_in(alloc, &mut inbox);
-    let count = inbox.op_list().len();
+    let is_ready = is_ready_in(alloc, &mut inbox);
+    let is_empty = inbox.op_list().is_empty();
     drop(inbox);
-    Ok((answer?, count))
+    match is_ready {
+        Ok(is_ready) => Ok(is_ready && is_empty),
+        Err(trouble) => Err(trouble),
+    }
 }
 
-fn ready_in(alloc: Global, inbox: &mut Node) -> Result<Result<(), IssueFault>, Trouble> {
+fn is_ready_in(alloc: Global, inbox: &mut Node) -> Result<bool, Trouble> {
     let ops = operations(alloc, &["4:1 - create d", "4:2 4=1 create e"])?;
     let answer = inbox.ready(alloc, &ops);
     drop(ops);
-    Ok(answer)
+    Ok(answer.is_ok())
 }
 
 #[test]
 fn an_inbox_is_ready_to_issue(rt: HostRuntime) -> Result<(), Fail> {
-    let (answer, count) = ready_to_issue(rt.alloc())?;
-    assert!(rt; answer == Ok(()) && count == 0);
+    assert!(rt; is_ready_to_issue(rt.alloc())?);
     Ok(())
 }

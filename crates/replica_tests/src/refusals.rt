@@ -188,7 +188,10 @@ fn is_counted_so(alloc: Global, limit: usize, answers: &str) -> Result<bool, Tro
     let is_answered = answers_so(alloc, &mut inbox, USED_UP, answers);
     let noted = inbox.follower().noted;
     drop(inbox);
-    Ok(is_answered? && noted == limit)
+    match is_answered {
+        Ok(is_answered) => Ok(is_answered && noted == limit),
+        Err(trouble) => Err(trouble),
+    }
 }
 
 fn first_wrong_count(alloc: Global) -> Result<Option<usize>, Trouble> {
