@@ -102,7 +102,7 @@ abbrev pub tells_of_mailbox : StatusItems → Bool
 tells_of_mailbox items =
     is_some items.messages || is_some items.uidnext || is_some items.uidvalidity || is_some items.unseen || is_some items.deleted || is_some items.size || is_some items.highest_modseq
 
--- What STATUS tells: one thing at least (RFC 9051, section 9, mailbox-data).
+-- What STATUS tells: one thing at least, as each STATUS asks for one (RFC 9051, section 6.3.11).
 pub record AreStatusItems (items : StatusItems) : Type 0 where
   pub some : IsTrue (tells_of_mailbox items)
   pub messages : Where IsSmall items.messages
