@@ -2,7 +2,7 @@
 
 use crate::repeats::{written_out, written_short};
 use crate::words::Words;
-use crate::{frames, made, round_trips, streams};
+use crate::{frames, numbers, round_trips, streams};
 use imap_lex::Limits;
 use imap_types::{Escape, EscapeFault, read_escaped, write_escaped};
 use std::alloc::{AllocError, Global};
@@ -12,41 +12,36 @@ use std::alloc::{AllocError, Global};
 pub fn answered(alloc: Global, line: &str) -> Result<Vec<u8>, AllocError> {
     let mut words = Words::new(alloc);
     if line.is_empty() || line.starts_with('#') {
-        words.put(line.as_bytes());
+        words.put(line);
     } else {
-        put_case(alloc, &mut words, line);
+        let (case, _) = line.split_once(" => ").unwrap_or((line, ""));
+        put_case(alloc, &mut words, case);
     }
-    words.put(b"\n");
+    words.put("\n");
     words.finish()
 }
 
-fn put_case(alloc: Global, words: &mut Words, line: &str) {
-    match line.split_once(" => ") {
-        Some((case, _)) => {
-            words.put(case.as_bytes());
-            words.put(b" => ");
-            let (kind, input) = case.split_once(' ').unwrap_or((case, ""));
-            words.put_result(answer_to(alloc, kind, input));
-        }
-        None => {
-            words.put(line.as_bytes());
-            words.put(b" => no case");
-        }
-    }
+fn put_case(alloc: Global, words: &mut Words, case: &str) {
+    let (kind, input) = case.split_once(' ').unwrap_or((case, ""));
+    words.put(case);
+    words.put(" => ");
+    words.put_result(answer_to(alloc, kind, input));
 }
 
 /// What the code answers, in the escape.
 fn answer_to(alloc: Global, kind: &str, input: &str) -> Result<Vec<u8>, AllocError> {
     let text = written_out(alloc, input)?;
     match read_escaped(alloc, Escape::Text, &text) {
-        Ok(octets) => {
-            let mut words = Words::new(alloc);
-            put_answer(alloc, &mut words, kind, octets.as_bytes());
-            escaped(alloc, &words.finish()?)
-        }
+        Ok(octets) => answer_in_escape(alloc, kind, octets.as_bytes()),
         Err(EscapeFault::NotEscaped) => b"not in the escape".to_vec(alloc),
         Err(EscapeFault::NoMemory) => Err(AllocError),
     }
+}
+
+fn answer_in_escape(alloc: Global, kind: &str, input: &[u8]) -> Result<Vec<u8>, AllocError> {
+    let mut words = Words::new(alloc);
+    put_answer(alloc, &mut words, kind, input);
+    escaped(alloc, &words.finish()?)
 }
 
 fn escaped(alloc: Global, octets: &[u8]) -> Result<Vec<u8>, AllocError> {
@@ -64,9 +59,8 @@ fn put_answer(alloc: Global, words: &mut Words, kind: &str, input: &[u8]) {
         "stream" => streams::put_stream(alloc, words, Limits::STANDARD, input),
         "narrow" => streams::put_stream(alloc, words, streams::NARROW, input),
         "answer" => round_trips::put_read(alloc, words, input),
-        "mailbox" => made::put_mailbox(alloc, words, input),
-        "flags" => made::put_flags(alloc, words, input),
-        "numbers" => made::put_numbers(alloc, words, input),
-        _ => words.put(b"no such kind"),
+        "mailbox" => round_trips::put_mailbox(alloc, words, input),
+        "numbers" => numbers::put_set(alloc, words, input),
+        _ => words.put("no such kind"),
     }
 }

@@ -9,25 +9,25 @@ use std::fmt::Debug;
 
 /// The tag and the command.
 pub fn put_tagged(words: &mut Words, tagged: &Tagged) {
-    words.put(tagged.tag.as_bytes());
-    words.put(b" ");
+    words.put_octets(tagged.tag.as_bytes());
+    words.put(" ");
     put_command(words, &tagged.command);
 }
 
 fn put_command(words: &mut Words, command: &Command) {
     match command {
-        Command::Capability => words.put(b"capability"),
-        Command::Noop => words.put(b"noop"),
-        Command::Logout => words.put(b"logout"),
-        Command::Namespace => words.put(b"namespace"),
-        Command::Idle => words.put(b"idle"),
-        Command::Close => words.put(b"close"),
-        Command::Unselect => words.put(b"unselect"),
-        Command::Expunge => words.put(b"expunge"),
-        Command::Create { name } => words.put_text(b"create ", name.as_bytes()),
-        Command::Delete { name } => words.put_text(b"delete ", name.as_bytes()),
-        Command::Subscribe { name } => words.put_text(b"subscribe ", name.as_bytes()),
-        Command::Unsubscribe { name } => words.put_text(b"unsubscribe ", name.as_bytes()),
+        Command::Capability => words.put("capability"),
+        Command::Noop => words.put("noop"),
+        Command::Logout => words.put("logout"),
+        Command::Namespace => words.put("namespace"),
+        Command::Idle => words.put("idle"),
+        Command::Close => words.put("close"),
+        Command::Unselect => words.put("unselect"),
+        Command::Expunge => words.put("expunge"),
+        Command::Create { name } => words.put_text("create ", name.as_bytes()),
+        Command::Delete { name } => words.put_text("delete ", name.as_bytes()),
+        Command::Subscribe { name } => words.put_text("subscribe ", name.as_bytes()),
+        Command::Unsubscribe { name } => words.put_text("unsubscribe ", name.as_bytes()),
         _ => put_longer(words, command),
     }
 }
@@ -35,35 +35,41 @@ fn put_command(words: &mut Words, command: &Command) {
 fn put_longer(words: &mut Words, command: &Command) {
     match command {
         Command::Login { user, password } => {
-            words.put_text(b"login ", user.as_bytes());
-            words.put_text(b" ", password.as_bytes());
+            words.put_text("login ", user.as_bytes());
+            words.put_text(" ", password.as_bytes());
         }
         Command::Enable { names } => {
-            words.put(b"enable");
+            words.put("enable");
             put_texts(words, names.as_slice());
         }
         Command::Select { name, condstore } => {
-            words.put_text(b"select ", name.as_bytes());
-            words.put_if(*condstore, b" condstore");
+            words.put_text("select ", name.as_bytes());
+            words.put_if(*condstore, " condstore");
         }
         Command::Examine { name, condstore } => {
-            words.put_text(b"examine ", name.as_bytes());
-            words.put_if(*condstore, b" condstore");
+            words.put_text("examine ", name.as_bytes());
+            words.put_if(*condstore, " condstore");
         }
+        Command::Status { name, items } => {
+            words.put_text("status ", name.as_bytes());
+            put_each(words, items.as_slice());
+        }
+        _ => put_longest(words, command),
+    }
+}
+
+fn put_longest(words: &mut Words, command: &Command) {
+    match command {
         Command::ListNames {
             subscribed_only,
             reference,
             pattern,
             return_subscribed,
         } => {
-            words.put_text(b"list ", reference.as_bytes());
-            words.put_text(b" ", pattern.as_bytes());
-            words.put_if(*subscribed_only, b" subscribed-only");
-            words.put_if(*return_subscribed, b" return-subscribed");
-        }
-        Command::Status { name, items } => {
-            words.put_text(b"status ", name.as_bytes());
-            put_each(words, items.as_slice());
+            words.put_text("list ", reference.as_bytes());
+            words.put_text(" ", pattern.as_bytes());
+            words.put_if(*subscribed_only, " subscribed-only");
+            words.put_if(*return_subscribed, " return-subscribed");
         }
         Command::Append {
             name,
@@ -71,11 +77,11 @@ fn put_longer(words: &mut Words, command: &Command) {
             date,
             text,
         } => {
-            words.put_text(b"append ", name.as_bytes());
-            words.put(b" ");
+            words.put_text("append ", name.as_bytes());
+            words.put(" ");
             put_flags(words, flags);
             put_date(words, date);
-            words.put_text(b" text ", text.as_bytes());
+            words.put_text(" text ", text.as_bytes());
         }
         _ => put_of_messages(words, command),
     }
@@ -83,30 +89,36 @@ fn put_longer(words: &mut Words, command: &Command) {
 
 fn put_of_messages(words: &mut Words, command: &Command) {
     match command {
-        Command::UidExpunge { uids } => put_messages(words, true, b"expunge", uids),
+        Command::UidExpunge { uids } => put_messages(words, true, "expunge", uids),
         Command::Copy {
             by_uid,
             messages,
             name,
         } => {
-            put_messages(words, *by_uid, b"copy", messages);
-            words.put_text(b" ", name.as_bytes());
+            put_messages(words, *by_uid, "copy", messages);
+            words.put_text(" ", name.as_bytes());
         }
         Command::Move {
             by_uid,
             messages,
             name,
         } => {
-            put_messages(words, *by_uid, b"move", messages);
-            words.put_text(b" ", name.as_bytes());
+            put_messages(words, *by_uid, "move", messages);
+            words.put_text(" ", name.as_bytes());
         }
+        _ => put_of_more(words, command),
+    }
+}
+
+fn put_of_more(words: &mut Words, command: &Command) {
+    match command {
         Command::Search {
             by_uid,
             options,
             steps,
         } => {
-            words.put_if(*by_uid, b"uid-");
-            words.put(b"search");
+            words.put_if(*by_uid, "uid-");
+            words.put("search");
             put_each(words, options.as_slice());
             put_steps(words, steps.as_slice());
         }
@@ -116,9 +128,9 @@ fn put_of_messages(words: &mut Words, command: &Command) {
             items,
             changed_since,
         } => {
-            put_messages(words, *by_uid, b"fetch", messages);
+            put_messages(words, *by_uid, "fetch", messages);
             put_items(words, items.as_slice());
-            words.put_optional(b" since ", *changed_since);
+            words.put_optional(" since ", *changed_since);
         }
         Command::Store {
             by_uid,
@@ -127,35 +139,32 @@ fn put_of_messages(words: &mut Words, command: &Command) {
             action,
             flags,
         } => {
-            put_messages(words, *by_uid, b"store", messages);
-            words.put_optional(b" unless-since ", *unchanged_since);
+            put_messages(words, *by_uid, "store", messages);
+            words.put_optional(" unless-since ", *unchanged_since);
             put_action(words, *action);
             put_flags(words, flags);
         }
-        _ => words.put(b"no command of these"),
+        _ => words.put("no command of these"),
     }
 }
 
 /// Each by its name in lower case, behind a space.
 fn put_each<T: Debug>(words: &mut Words, values: &[T]) {
     for value in values {
-        words.put_lowered(b" ", value);
+        words.put_lowered(" ", value);
     }
 }
 
 fn put_date(words: &mut Words, date: &Option<DateTime>) {
     match date {
-        Some(date) => {
-            words.put(b" date ");
-            words.put(date.as_bytes());
-        }
-        None => words.put(b" no-date"),
+        Some(date) => words.put_after(" date ", date.as_bytes()),
+        None => words.put(" no-date"),
     }
 }
 
 /// A word, with `uid-` in front where the set has UIDs, and the set's ranges.
-fn put_messages(words: &mut Words, by_uid: bool, word: &[u8], messages: &SequenceSet) {
-    words.put_if(by_uid, b"uid-");
+fn put_messages(words: &mut Words, by_uid: bool, word: &str, messages: &SequenceSet) {
+    words.put_if(by_uid, "uid-");
     words.put(word);
     put_set(words, messages);
 }
@@ -163,25 +172,22 @@ fn put_messages(words: &mut Words, by_uid: bool, word: &[u8], messages: &Sequenc
 /// Each range behind a space.
 pub fn put_set(words: &mut Words, set: &SequenceSet) {
     for range in set.ranges() {
-        put_bound(words, b" ", range.first);
-        put_bound(words, b":", range.last);
+        put_bound(words, " ", range.first);
+        put_bound(words, ":", range.last);
     }
 }
 
-fn put_bound(words: &mut Words, word: &[u8], bound: SequenceBound) {
+fn put_bound(words: &mut Words, word: &str, bound: SequenceBound) {
     match bound {
         SequenceBound::Number(number) => words.put_number(word, number.into()),
-        SequenceBound::Greatest => {
-            words.put(word);
-            words.put(b"*");
-        }
+        SequenceBound::Greatest => words.put_after(word, b"*"),
     }
 }
 
 fn put_action(words: &mut Words, action: StoreAction) {
-    words.put_lowered(b" ", &action.mode);
-    words.put_if(action.silent, b" silently");
-    words.put(b" ");
+    words.put_lowered(" ", &action.mode);
+    words.put_if(action.silent, " silently");
+    words.put(" ");
 }
 
 fn put_items(words: &mut Words, items: &[FetchItem]) {
@@ -192,22 +198,22 @@ fn put_items(words: &mut Words, items: &[FetchItem]) {
 
 fn put_item(words: &mut Words, item: &FetchItem) {
     match item {
-        FetchItem::Flags => words.put(b" flags"),
-        FetchItem::InternalDate => words.put(b" internaldate"),
-        FetchItem::Size => words.put(b" size"),
-        FetchItem::Uid => words.put(b" uid"),
-        FetchItem::ModSeq => words.put(b" modseq"),
+        FetchItem::Flags => words.put(" flags"),
+        FetchItem::InternalDate => words.put(" internaldate"),
+        FetchItem::Size => words.put(" size"),
+        FetchItem::Uid => words.put(" uid"),
+        FetchItem::ModSeq => words.put(" modseq"),
         FetchItem::Body {
             peek,
             section,
             partial,
         } => {
-            words.put(b" ");
-            words.put_if(*peek, b"peek-");
+            words.put(" ");
+            words.put_if(*peek, "peek-");
             put_section(words, section);
             if let Some(partial) = partial {
-                words.put_number(b" from ", partial.start.into());
-                words.put_number(b" at-most ", partial.count.into());
+                words.put_number(" from ", partial.start.into());
+                words.put_number(" at-most ", partial.count.into());
             }
         }
     }

@@ -25,21 +25,21 @@ fn put_parsed(alloc: Global, words: &mut Words, frame: &[u8]) {
             put_tagged(words, &tagged);
             drop(tagged);
         }
-        Err(fault) => words.put_name(b"", &fault),
+        Err(fault) => words.put_name("", &fault),
     }
 }
 
 /// The tag with which a frame begins.
 pub fn put_tag(words: &mut Words, frame: &[u8]) {
     match tag_of(frame) {
-        Some(tag) => words.put_text(b"", tag),
-        None => words.put(b"none"),
+        Some(tag) => words.put_text("", tag),
+        None => words.put("none"),
     }
 }
 
 /// Whether a frame ends IDLE.
 pub fn put_idle(words: &mut Words, frame: &[u8]) {
-    words.put_lowered(b"", &idle_line(frame));
+    words.put_lowered("", &idle_line(frame));
 }
 
 /// Octets that damage a frame.
@@ -48,8 +48,8 @@ const DAMAGES: [u8; 5] = [0, 10, 32, 126, 255];
 /// Whether each front of a frame, and the frame with each octet damaged in each way, is answered.
 pub fn put_damaged(alloc: Global, words: &mut Words, frame: &[u8]) {
     match first_unanswered(alloc, frame) {
-        Ok(None) => words.put(b"answered"),
-        Ok(Some(place)) => words.put_number(b"not answered: damaged at ", place as u64),
+        Ok(None) => words.put("answered"),
+        Ok(Some(place)) => words.put_number("not answered: damaged at ", place as u64),
         Err(AllocError) => words.give_up(),
     }
 }

@@ -1,7 +1,7 @@
 //! Reads cases from its standard input, and prints each with what the code answers: where all is right, what it was given.
 //!
-//! A line is a case, `KIND INPUT => ANSWER`. The head of the file `stdin` beside this folder says which kinds there are, and
-//! how inputs and answers are written.
+//! A line is a case, `KIND INPUT => ANSWER`. The head of the crate's file `stdin` says which kinds there are, and how inputs
+//! and answers are written.
 #![tactic(auto)]
 
 mod answers;
@@ -9,20 +9,23 @@ mod cases;
 mod commands;
 mod frames;
 mod keys;
-mod made;
+mod numbers;
 mod parts;
 mod repeats;
 mod round_trips;
 mod streams;
 mod words;
 
-use std::io::{self, BufRead, BufReader, BufWriter, Write};
+use std::io::{self, Write};
 
 fn main(rt: HostRuntime) -> io::Result<()> {
-    let mut writer = BufWriter::new(rt.alloc(), io::writer(&rt))?;
-    for line in BufReader::new(rt.alloc(), rt.reader())?.lines(rt.alloc()) {
-        let answered = cases::answered(rt.alloc(), line?.as_str())?;
-        writer.write_all(&answered)?;
+    for line in rt.lines(rt.alloc()) {
+        print_answered(&rt, line?.as_str())?;
     }
-    writer.flush()
+    Ok(())
+}
+
+fn print_answered(rt: &(impl Print + AllocGlobal), line: &str) -> io::Result<()> {
+    let answered = cases::answered(rt.alloc(), line)?;
+    io::writer(rt).write_all(&answered)
 }

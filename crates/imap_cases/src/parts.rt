@@ -6,31 +6,31 @@ use imap_types::{Flags, Octets, Section};
 /// Each behind a space, between `<` and `>`.
 pub fn put_texts(words: &mut Words, texts: &[Octets]) {
     for octets in texts {
-        words.put_text(b" ", octets.as_bytes());
+        words.put_text(" ", octets.as_bytes());
     }
 }
 
 pub fn put_flags(words: &mut Words, flags: &Flags) {
-    words.put(b"flags");
-    words.put_if(flags.answered, b" \\Answered");
-    words.put_if(flags.flagged, b" \\Flagged");
-    words.put_if(flags.deleted, b" \\Deleted");
-    words.put_if(flags.seen, b" \\Seen");
-    words.put_if(flags.draft, b" \\Draft");
+    words.put("flags");
+    words.put_if(flags.answered, " \\Answered");
+    words.put_if(flags.flagged, " \\Flagged");
+    words.put_if(flags.deleted, " \\Deleted");
+    words.put_if(flags.seen, " \\Seen");
+    words.put_if(flags.draft, " \\Draft");
     put_texts(words, flags.keywords.as_slice());
 }
 
 pub fn put_section(words: &mut Words, section: &Section) {
     match section {
-        Section::Whole => words.put(b"whole"),
-        Section::Header => words.put(b"header"),
-        Section::Text => words.put(b"text"),
+        Section::Whole => words.put("whole"),
+        Section::Header => words.put("header"),
+        Section::Text => words.put("text"),
         Section::Fields { names } => {
-            words.put(b"fields");
+            words.put("fields");
             put_texts(words, names.names());
         }
         Section::FieldsNot { names } => {
-            words.put(b"fields-not");
+            words.put("fields-not");
             put_texts(words, names.names());
         }
     }

@@ -13,38 +13,29 @@ const LONGEST: usize = 16;
 /// The text with all that is written short written out.
 pub fn written_out(alloc: Global, text: &str) -> Result<Vec<u8>, AllocError> {
     let mut words = Words::new(alloc);
-    for (place, piece) in text.split("~<").enumerate() {
-        if place == 0 {
-            words.put(piece.as_bytes());
-        } else {
-            put_piece(&mut words, piece);
-        }
+    let mut pieces = text.split("~<");
+    if let Some(front) = pieces.next() {
+        words.put(front);
+    }
+    for piece in pieces {
+        put_piece(&mut words, piece);
     }
     words.finish()
 }
 
-/// Puts what stands behind `~<`: where it is `COUNT TEXT~>REST` the text so often, and the rest.
+/// Puts what stands behind `~<`: of `COUNT TEXT~>REST` the text so often, and the rest.
 fn put_piece(words: &mut Words, piece: &str) {
-    match repeated(piece) {
-        Some((count, text, rest)) => {
-            put_times(words, count, text);
-            words.put(rest);
-        }
-        None => {
-            words.put(b"~<");
-            words.put(piece.as_bytes());
-        }
-    }
+    let (group, rest) = piece.split_once("~>").unwrap_or((piece, ""));
+    put_group(words, group);
+    words.put(rest);
 }
 
-fn repeated(piece: &str) -> Option<(u32, &[u8], &[u8])> {
-    let (group, rest) = piece.split_once("~>")?;
-    let (count, text) = group.split_once(' ')?;
-    let count = count.parse::<u32>().ok()?;
-    Some((count, text.as_bytes(), rest.as_bytes()))
+fn put_group(words: &mut Words, group: &str) {
+    let (count, text) = group.split_once(' ').unwrap_or((group, ""));
+    put_times(words, count.parse::<u32>().unwrap_or(0), text);
 }
 
-fn put_times(words: &mut Words, count: u32, text: &[u8]) {
+fn put_times(words: &mut Words, count: u32, text: &str) {
     for _ in 0..count {
         words.put(text);
     }
@@ -73,20 +64,21 @@ fn put_front(words: &mut Words, rest: &[u8]) -> usize {
         }
     }
     let (first, _) = rest.split_at(rest.len().min(1));
-    words.put(first);
+    words.put_octets(first);
     1
 }
 
 fn put_short(words: &mut Words, text: &[u8], count: usize) {
-    words.put_number(b"~<", count as u64);
-    words.put(b" ");
-    words.put(text);
-    words.put(b"~>");
+    words.put_number("~<", count as u64);
+    words.put_after(" ", text);
+    words.put("~>");
 }
 
 /// How often a text of this length comes at the front.
 fn times(rest: &[u8], text: &[u8], length: usize) -> usize
     requires { 0 < length }
 {
-    rest.chunks(length).take_while(|piece| *piece == text).count()
+    rest.chunks(length)
+        .take_while(|piece| *piece == text)
+        .count()
 }

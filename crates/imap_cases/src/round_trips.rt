@@ -2,8 +2,9 @@
 
 use crate::answers::put_answer;
 use crate::words::Words;
-use imap_print::{Answer, print};
+use imap_print::{Answer, MailboxState, print};
 use imap_read::read;
+use imap_types::Name;
 use std::alloc::{AllocError, Global};
 
 /// The answer that a text is. Where the text isn't the one text of that answer, what is amiss follows.
@@ -14,7 +15,7 @@ pub fn put_read(alloc: Global, words: &mut Words, text: &[u8]) {
             put_amiss(alloc, words, &answer, length, text);
             drop(answer);
         }
-        Ok(None) => words.put(b"none"),
+        Ok(None) => words.put("none"),
         Err(AllocError) => words.give_up(),
     }
 }
@@ -33,23 +34,23 @@ fn amiss(
     answer: &Answer,
     length: usize,
     text: &[u8],
-) -> Result<&'static [u8], AllocError> {
+) -> Result<&'static str, AllocError> {
     if length != text.len() {
-        return Ok(b", and more follows");
+        return Ok(", and more follows");
     }
     if !is_printed(alloc, answer, text)? {
-        return Ok(b", printed otherwise");
+        return Ok(", printed otherwise");
     }
     if !is_copied(alloc, answer)? {
-        return Ok(b", copied otherwise");
+        return Ok(", copied otherwise");
     }
     if !is_read_before_all(alloc, answer, text)? {
-        return Ok(b", read otherwise where more follows");
+        return Ok(", read otherwise where more follows");
     }
     if is_front_read(alloc, text)? {
-        return Ok(b", and a front is read");
+        return Ok(", and a front is read");
     }
-    Ok(b"")
+    Ok("")
 }
 
 fn is_printed(alloc: Global, answer: &Answer, text: &[u8]) -> Result<bool, AllocError> {
@@ -98,19 +99,31 @@ const FRONTS: usize = 500;
 fn is_front_read(alloc: Global, text: &[u8]) -> Result<bool, AllocError> {
     for length in text.len().saturating_sub(FRONTS)..text.len() {
         let (front, _) = text.split_at(length);
-        if is_read(alloc, front)? {
+        if read(alloc, front)?.is_some() {
             return Ok(true);
         }
     }
     Ok(false)
 }
 
-fn is_read(alloc: Global, text: &[u8]) -> Result<bool, AllocError> {
-    match read(alloc, text)? {
-        Some((answer, _)) => {
-            drop(answer);
-            Ok(true)
-        }
-        None => Ok(false),
-    }
+/// A mailbox of this name in LIST, as it is printed.
+pub fn put_mailbox(alloc: Global, words: &mut Words, name: &[u8]) {
+    words.put_result(mailbox(alloc, name));
+}
+
+fn mailbox(alloc: Global, name: &[u8]) -> Result<Vec<u8>, AllocError> {
+    let answer = Answer::List {
+        name: Name::copied_from(alloc, name)?,
+        state: MailboxState::There,
+        subscribed: false,
+    };
+    let text = printed(alloc, &answer);
+    drop(answer);
+    text
+}
+
+fn printed(alloc: Global, answer: &Answer) -> Result<Vec<u8>, AllocError> {
+    let mut text = Vec::new(alloc);
+    print(answer, &mut text)?;
+    Ok(text)
 }

@@ -21,7 +21,7 @@ const SHORT: usize = 100;
 pub fn put_stream(alloc: Global, words: &mut Words, limits: Limits, stream: &[u8]) {
     match in_pieces(alloc, limits, b"", stream, 1) {
         Ok(given) => {
-            words.put(&given);
+            words.put_octets(&given);
             put_other_cuts(alloc, words, limits, stream, &given);
         }
         Err(AllocError) => words.give_up(),
@@ -31,12 +31,12 @@ pub fn put_stream(alloc: Global, words: &mut Words, limits: Limits, stream: &[u8
 fn put_other_cuts(alloc: Global, words: &mut Words, limits: Limits, stream: &[u8], given: &[u8]) {
     match other_size(alloc, limits, stream, given) {
         Ok(None) => {}
-        Ok(Some(size)) => words.put_number(b", otherwise in pieces of ", size as u64),
+        Ok(Some(size)) => words.put_number(", otherwise in pieces of ", size as u64),
         Err(AllocError) => words.give_up(),
     }
     match other_cut(alloc, limits, stream, given) {
         Ok(None) => {}
-        Ok(Some(first)) => words.put_number(b", otherwise when cut behind ", first as u64),
+        Ok(Some(first)) => words.put_number(", otherwise when cut behind ", first as u64),
         Err(AllocError) => words.give_up(),
     }
 }
@@ -135,8 +135,8 @@ impl Framing {
 
 fn put_fault(words: &mut Words, fault: &FrameFault) {
     put_items(words, &fault.items);
-    words.put_name(b"(", &fault.why);
-    words.put(b")");
+    words.put_name("(", &fault.why);
+    words.put(")");
 }
 
 fn put_items(words: &mut Words, items: &[Item]) {
@@ -147,14 +147,13 @@ fn put_items(words: &mut Words, items: &[Item]) {
 
 fn put_item(words: &mut Words, item: &Item) {
     match item {
-        Item::Ready => words.put(b"(ready)"),
-        Item::Frame(frame) => put_octets(words, b"(frame ", frame.bytes()),
-        Item::Refused(front) => put_octets(words, b"(refused ", front.bytes()),
+        Item::Ready => words.put("(ready)"),
+        Item::Frame(frame) => put_octets(words, "(frame ", frame.bytes()),
+        Item::Refused(front) => put_octets(words, "(refused ", front.bytes()),
     }
 }
 
-fn put_octets(words: &mut Words, word: &[u8], octets: &[u8]) {
-    words.put(word);
-    words.put(octets);
-    words.put(b")");
+fn put_octets(words: &mut Words, word: &str, octets: &[u8]) {
+    words.put_after(word, octets);
+    words.put(")");
 }

@@ -30,60 +30,70 @@ impl Words {
         }
     }
 
+    /// Puts a word behind the text.
+    pub fn put(&mut self, word: &str) {
+        self.put_octets(word.as_bytes());
+    }
+
     /// Puts octets behind the text.
-    pub fn put(&mut self, octets: &[u8]) {
+    pub fn put_octets(&mut self, octets: &[u8]) {
         if self.octets.extend_from_slice(octets).is_err() {
             self.is_whole = false;
         }
     }
 
     /// Puts a word where something holds.
-    pub fn put_if(&mut self, holds: bool, word: &[u8]) {
+    pub fn put_if(&mut self, holds: bool, word: &str) {
         if holds {
             self.put(word);
         }
     }
 
-    /// Puts a word, and octets between `<` and `>`.
-    pub fn put_text(&mut self, word: &[u8], octets: &[u8]) {
+    /// Puts a word, and octets.
+    pub fn put_after(&mut self, word: &str, octets: &[u8]) {
         self.put(word);
-        self.put(b"<");
-        self.put(octets);
-        self.put(b">");
+        self.put_octets(octets);
+    }
+
+    /// Puts a word, and octets between `<` and `>`.
+    pub fn put_text(&mut self, word: &str, octets: &[u8]) {
+        self.put(word);
+        self.put_after("<", octets);
+        self.put(">");
     }
 
     /// Puts a word, and a number in decimal.
-    pub fn put_number(&mut self, word: &[u8], number: u64) {
+    pub fn put_number(&mut self, word: &str, number: u64) {
         self.put(word);
         match number.to_string(self.alloc) {
-            Ok(digits) => self.put(digits.as_bytes()),
+            Ok(digits) => self.put(&digits),
             Err(AllocError) => self.give_up(),
         }
     }
 
     /// Puts a word and a number, where there is one.
-    pub fn put_optional(&mut self, word: &[u8], number: Option<u64>) {
+    pub fn put_optional(&mut self, word: &str, number: Option<u64>) {
         if let Some(number) = number {
             self.put_number(word, number);
         }
     }
 
     /// Puts a word, and a value by its name in the code.
-    pub fn put_name<T: Debug>(&mut self, word: &[u8], value: &T) {
+    pub fn put_name<T: Debug>(&mut self, word: &str, value: &T) {
         self.put(word);
         match format!(in self.alloc; "{value:?}") {
-            Ok(name) => self.put(name.as_bytes()),
+            Ok(name) => self.put(&name),
             Err(AllocError) => self.give_up(),
         }
     }
 
-    /// Puts a word, and a value by its name in the code, in lower case.
-    pub fn put_lowered<T: Debug>(&mut self, word: &[u8], value: &T) {
+    /// Puts a word, and a value by its name in the code in lower case.
+    pub fn put_lowered<T: Debug>(&mut self, word: &str, value: &T) {
         self.put(word);
         match format!(in self.alloc; "{value:?}") {
             Ok(mut name) => {
                 name.make_ascii_lowercase();
-                self.put(name.as_bytes());
+                self.put(&name);
             }
             Err(AllocError) => self.give_up(),
         }
@@ -92,7 +102,7 @@ impl Words {
     /// Puts what there was memory for.
     pub fn put_result(&mut self, made: Result<Vec<u8>, AllocError>) {
         match made {
-            Ok(octets) => self.put(&octets),
+            Ok(octets) => self.put_octets(&octets),
             Err(AllocError) => self.give_up(),
         }
     }

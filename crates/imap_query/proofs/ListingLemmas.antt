@@ -63,10 +63,10 @@ ends_gives : (pattern : List ℕ) → EndsInPercent pattern → ends_in_percent 
 ends_gives pattern h = ap ends_in_percent h.1 ∙ ends_at h.0
 
 -- the entries of mailboxes
-abbrev IsMailboxOf : List ℕ → List (List ℕ) → ListEntry → Type 0
+abbrev pub IsMailboxOf : List ℕ → List (List ℕ) → ListEntry → Type 0
 IsMailboxOf pattern folders entry = IsMatched pattern entry.name × (entry.is_mailbox ≡ true) × IsIn entry.name folders
 
-mailboxes_take : (pattern : List ℕ) (folders : List (List ℕ)) (x : ListEntry) → IsIn x (shown_mailboxes pattern folders) → IsMailboxOf pattern folders x
+pub mailboxes_take : (pattern : List ℕ) (folders : List (List ℕ)) (x : ListEntry) → IsIn x (shown_mailboxes pattern folders) → IsMailboxOf pattern folders x
 mailboxes_take pattern [] x h = absurd h
 mailboxes_take pattern (folder ∷ folders) x h =
     elim (either_way (is_shown pattern folder)) [
@@ -81,7 +81,7 @@ mailboxes_take pattern (folder ∷ folders) x h =
       | inr f ↦ let more = mailboxes_take pattern folders x (subst (IsIn x) (chosen_false (is_shown pattern folder) _ _ f) h) in (more.0, more.1, inr more.2)
     ]
 
-mailboxes_give : (pattern : List ℕ) (folders : List (List ℕ)) (x : ListEntry) → IsMatched pattern x.name → x.is_mailbox ≡ true → IsIn x.name folders → IsIn x (shown_mailboxes pattern folders)
+pub mailboxes_give : (pattern : List ℕ) (folders : List (List ℕ)) (x : ListEntry) → IsMatched pattern x.name → x.is_mailbox ≡ true → IsIn x.name folders → IsIn x (shown_mailboxes pattern folders)
 mailboxes_give pattern [] x m b i = absurd i
 mailboxes_give pattern (folder ∷ folders) x m b i =
     elim i [

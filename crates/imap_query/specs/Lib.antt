@@ -5,3 +5,10 @@ pub mod Rows
 pub mod Simpler
 pub mod Messages
 pub mod Status
+pub mod Hits
+pub mod Keys
+pub mod Runs
+pub mod Search
+pub mod Tests
+pub mod Fetching
+pub mod Naming

@@ -75,7 +75,7 @@ fn ends_in_percent(pattern: &[u8]) -> bool
     }
 }
 
-fn place_mailboxes(
+pub(crate) fn place_mailboxes(
     alloc: Global,
     pattern: &Pattern,
     folders: &[Name],
@@ -157,7 +157,7 @@ fn place_level(
     Ok(())
 }
 
-fn is_among(folders: &[Name], name: &[u8]) -> bool
+pub(crate) fn is_among(folders: &[Name], name: &[u8]) -> bool
     ensures { result ≡ is_among folders.now name.now }
 {
     for folder in folders {

@@ -13,7 +13,7 @@ nothing_more r why P old new p kept e = ([], p, subst (λ s. OnErr s (new ≡ ol
 
 -- the turns of a conversation that was had to its end
 pub whole_talk : (old : NodeState) (connection : Connection) (octets : List ℕ) (turns : List Turn) (new : NodeState) (left : Option Connection) → TalksOn old connection octets turns new left → HasTurns old connection octets turns
-whole_talk old connection octets turns new (Some left) h = inl (new, left.framer.state, h.2)
+whole_talk old connection octets turns new (Some left) h = inl (new, left.framer.state, h.3)
 whole_talk old connection octets turns new None h = elim h [ inl t ↦ inl (new, t.1.0, t.1.1) | inr t ↦ inr (t.0, new, t.2) ]
 
 -- what a line says is printed in part

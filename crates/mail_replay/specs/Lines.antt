@@ -1,4 +1,4 @@
-use Rattle.std.specs.Prelude.{◌≡◌, ◌≢◌, ◌⊎◌, ℕ, ◌++◌, List, [], ◌∷◌, Option, Some, None, IsSome, IsNone, Ok, drop, length, slice_get, slice_set, take}
+use Rattle.std.specs.Prelude.{◌≡◌, ◌≢◌, ◌⊎◌, ℕ, ◌<◌, ◌≤◌, ◌++◌, List, [], ◌∷◌, Option, Some, None, IsSome, IsNone, Ok, drop, length, slice_get, slice_set, take}
 use Rattle.crdt_ops.specs.Form.{IsSpelled}
 use Rattle.crdt_ops.specs.declared.op.Op.{Op}
 use Rattle.imap_lex.specs.Reading.{goes_on, start}
@@ -21,7 +21,7 @@ use Rattle.mail_replay.specs.declared.stage.Replica.{Replica}
 use Rattle.mail_replay.specs.declared.stage.Session.{Session}
 use Rattle.world_core.specs.Dumps.{IsDump}
 use Rattle.world_core.specs.Nodes.{IsGoing, NodeState, closed}
-use Rattle.world_core.specs.Sessions.{Opens}
+use Rattle.world_core.specs.Sessions.{IsOpen, Opens}
 use Rattle.world_core.specs.Talks.{EndsTalk, Talks}
 use Rattle.world_core.specs.declared.turn.TalkFaultKind.{TalkFaultKind}
 use Rattle.world_core.specs.declared.turn.TalkFaultKind.TheVariants.{Framing, NoMemory}
@@ -35,22 +35,23 @@ crlf = 13 ∷ 10 ∷ []
 abbrev pub new_replica : ℕ → Replica
 new_replica name = record { name = name; node = record { replica = name; applied = []; held = []; sessions = [] }; issued = [] }
 
--- A replica opens a session and greets, or says that it has no room for one more. The session has ended then.
+-- A replica opens a session and greets; or, where 1,024 are open, it says that it has no room for one more, and the session
+-- has ended.
 abbrev pub Begins : NodeState → Answer → NodeState → Option Connection → Type 0
 Begins old answer new (Some connection) =
     Opens old.sessions connection.number new.sessions × (new ≡ record old { sessions = new.sessions })
     × (connection.framer ≡ record { limits = record { line = 8192; literals = 1048576 }; state = Ok start }) × (answer ≡ Greeting Given)
-Begins old answer new None = (new ≡ old) × (answer ≡ Bye TooManySessions)
+Begins old answer new None = ((n : ℕ) → 0 < n → n ≤ 1024 → IsOpen old.sessions n) × (new ≡ old) × (answer ≡ Bye TooManySessions)
 
 -- A conversation ends for a fault of framing, and not for want of memory.
 abbrev pub IsFramingEnd : TalkFaultKind → Type 0
 IsFramingEnd why = (why ≢ Framing faults.NoMemory) × (why ≢ NoMemory)
 
--- What octets make of a connection: the turns of its conversation, and the connection as it goes on; none where a LOGOUT
--- was answered OK or the octets can't be framed.
+-- What octets make of a connection: the turns of its conversation, and the connection as it goes on, whose framer keeps its
+-- limits; none where a LOGOUT was answered OK or the octets can't be framed.
 abbrev pub TalksOn : NodeState → Connection → List ℕ → List Turn → NodeState → Option Connection → Type 0
 TalksOn old connection octets turns new (Some left) =
-    (left.number ≡ connection.number) × IsGoing new left.number
+    (left.number ≡ connection.number) × (left.framer.limits ≡ connection.framer.limits) × IsGoing new left.number
     × Talks old connection.number (goes_on connection.framer.limits connection.framer.state octets) turns new left.framer.state
 TalksOn old connection octets turns new None =
     ((IsGoing new connection.number → ⊥) × ((state : _) × Talks old connection.number (goes_on connection.framer.limits connection.framer.state octets) turns new state))

@@ -27,7 +27,7 @@ pub fn way_of<'a>(word: &str, rest: &'a str) -> Option<Way<'a>> {
         "last" => last_of(rest),
         "count" => Some(Way::Count(rest)),
         "damage" => Some(Way::Damage),
-        "pieces" => pieces_of(rest),
+        "pieces" => Some(pieces_of(rest)),
         "each" => Some(Way::Each(rest)),
         _ => None,
     }
@@ -40,9 +40,14 @@ fn last_of<'a>(number: &'a str) -> Option<Way<'a>> {
     }
 }
 
-fn pieces_of<'a>(rest: &'a str) -> Option<Way<'a>> {
-    let (session, text) = rest.split_once(' ')?;
-    Some(Way::Pieces { session, text })
+fn pieces_of<'a>(rest: &'a str) -> Way<'a> {
+    let (session, text) = cut(rest, ' ');
+    Way::Pieces { session, text }
+}
+
+/// What stands before the first of these marks and behind it; without one the whole text and nothing.
+pub fn cut<'a>(text: &'a str, mark: char) -> (&'a str, &'a str) {
+    text.split_once(mark).unwrap_or((text, ""))
 }
 
 /// Adds what a directive stands for to a script; whether it is one that does.
@@ -72,8 +77,8 @@ struct Pattern<'a> {
 }
 
 fn pattern_of<'a>(rest: &'a str) -> Option<Pattern<'a>> {
-    let (first, rest) = rest.split_once(' ')?;
-    let (second, line) = rest.split_once(' ')?;
+    let (first, rest) = cut(rest, ' ');
+    let (second, line) = cut(rest, ' ');
     let (front, back) = line.split_once("{}")?;
     Some(Pattern {
         first,

@@ -2,7 +2,7 @@
 
 use crate::cases::try_case;
 use crate::cuts::{tell_damage, tell_pieces};
-use crate::directives::{Way, build, octets_of, way_of};
+use crate::directives::{Way, build, cut, octets_of, way_of};
 use crate::page::Page;
 use crate::replays::play_script;
 use std::alloc::Global;
@@ -24,7 +24,7 @@ struct Row<'a> {
 }
 
 fn play_row(alloc: Global, text: &str, page: &mut Page) {
-    let (title, lines) = text.split_once('\n').unwrap_or((text, ""));
+    let (title, lines) = cut(text, '\n');
     page.put_text("== ");
     page.put_text(title);
     page.put_text("\n");
@@ -41,7 +41,7 @@ fn play_row(alloc: Global, text: &str, page: &mut Page) {
 /// Takes a line of a row: a directive, a comment in front of the script, or what belongs to the script.
 fn take_line<'a>(alloc: Global, line: &'a str, row: &mut Row<'a>, page: &mut Page) {
     if let Some(directive) = line.strip_prefix("% ") {
-        let (word, rest) = directive.split_once(' ').unwrap_or((directive, ""));
+        let (word, rest) = cut(directive, ' ');
         if !obey(alloc, word, rest, row, page) {
             page.put_text("-- no directive: ");
             page.put_text(directive);

@@ -1,7 +1,7 @@
 //! The program's command line.
 
 use clap::{Arg, Command, Error};
-use std::alloc::Global;
+use std::alloc::{AllocError, Global};
 
 /// What the command line asks for.
 #[derive(Clone, Copy, Debug, PartialEq, Eq)]
@@ -12,17 +12,21 @@ pub enum Request<'a> {
 
 /// Reads the words of a command line, the program's name first.
 pub fn read_words<'a>(alloc: Global, words: &'a [String]) -> Result<Request<'a>, Error> {
-    let file = Arg::new(alloc, "FILE").help("The script; the standard input without it");
-    let replay = Command::new(alloc, "replay")
-        .about("Run a replay script")
-        .arg(file)?;
-    let command = Command::new(alloc, "mail_tool")
-        .subcommand_required(true)
-        .subcommand(replay)?;
-    let matches = command.try_get_matches_from(words)?;
+    let matches = described(alloc)?.try_get_matches_from(words)?;
     let file = match matches.subcommand() {
         Some((_, replay)) => replay.get_str("FILE"),
         None => None,
     };
     Ok(Request::Replay { file })
+}
+
+/// The words that the program knows.
+fn described<'a>(alloc: Global) -> Result<Command<'a>, AllocError> {
+    let file = Arg::new(alloc, "FILE").help("The script; the standard input without it");
+    let replay = Command::new(alloc, "replay")
+        .about("Run a replay script")
+        .arg(file)?;
+    Command::new(alloc, "mail_tool")
+        .subcommand_required(true)
+        .subcommand(replay)
 }

@@ -34,7 +34,7 @@ impl Given {
 
 /// `given LINE`: adds an operation that comes first.
 pub fn add_first(alloc: Global, given: &mut Given, line: &str) -> Result<(), Trouble> {
-    add(&mut given.first, operation(alloc, line)?)
+    add(alloc, &mut given.first, line)
 }
 
 /// `any CAUSES LINE`: adds an operation that comes in each order, and says which of those before it, counted from 1, are its
@@ -44,14 +44,13 @@ pub fn add_any(alloc: Global, given: &mut Given, fields: &str) -> Result<(), Tro
     if places != "-" {
         add_causes(&mut given.causes, places, given.any.len())?;
     }
-    add(&mut given.any, operation(alloc, line)?)
+    add(alloc, &mut given.any, line)
 }
 
-fn add(ops: &mut Vec<SoundOp>, op: SoundOp) -> Result<(), Trouble> {
-    match ops.push(op) {
-        Ok(()) => Ok(()),
-        Err(_) => Err(Trouble::NoMemory),
-    }
+fn add(alloc: Global, ops: &mut Vec<SoundOp>, line: &str) -> Result<(), Trouble> {
+    ops.reserve(1)?;
+    ops.push_reserved(operation(alloc, line)?);
+    Ok(())
 }
 
 fn add_causes(causes: &mut Vec<(usize, usize)>, places: &str, at: usize) -> Result<(), Trouble> {
@@ -81,16 +80,16 @@ fn replayed(alloc: Global, ops: &[SoundOp]) -> Result<Mailboxes, AllocError> {
     replay(alloc, empty(alloc), ops)
 }
 
-/// `pairs`: how many operations come first, and whether each is the same as itself and no other; else the places of two where
-/// that isn't so.
+/// `pairs`: how many operations come first, and whether each is the same as itself and no other; else the places, counted from
+/// 1, of two where that isn't so.
 pub fn tell_pairs(given: &Given, answer: &mut Answer) {
     answer.number(given.first.len() as u64);
     match odd_pair(&given.first) {
         None => answer.word("operations, each the same as itself alone"),
         Some((first, second)) => {
             answer.word("operations, but not");
-            answer.number(first as u64);
-            answer.number(second as u64);
+            answer.number((first as u64).saturating_add(1));
+            answer.number((second as u64).saturating_add(1));
         }
     }
 }

@@ -64,17 +64,31 @@ fn tell_all(given: &Given, end: &[u8], answer: &mut Answer) {
     answer.word("orders,");
     answer.number(tried.causal as u64);
     answer.word("causal,");
-    tell_wrong(tried.wrong, answer);
+    tell_wrong(tried.wrong, given.any.len(), answer);
     answer.push(end);
 }
 
-fn tell_wrong(wrong: Option<usize>, answer: &mut Answer) {
+fn tell_wrong(wrong: Option<usize>, count: usize, answer: &mut Answer) {
     match wrong {
         None => answer.word("all end alike"),
         Some(number) => {
-            answer.word("but not the one of the number");
-            answer.number(number as u64);
+            answer.word("but not");
+            tell_order(number, count, answer);
         }
+    }
+}
+
+/// The places of an order, counted from 1.
+fn tell_order(number: usize, count: usize, answer: &mut Answer) {
+    match order(answer.alloc(), number, count) {
+        Ok(order) => tell_places(&order, answer),
+        Err(AllocError) => answer.fail(Trouble::NoMemory),
+    }
+}
+
+fn tell_places(order: &[usize], answer: &mut Answer) {
+    for place in order {
+        answer.number((*place as u64).saturating_add(1));
     }
 }
 

@@ -90,24 +90,24 @@ fn word_of(text: &str) -> Result<Word, Trouble> {
 /// there is no memory.
 pub fn serve(alloc: Global, stage: &mut Stage, line: &str) -> Result<Vec<u8>, AllocError> {
     let mut answer = Answer::new(alloc);
-    serve_line(stage, line, &mut answer);
-    match answer.trouble() {
-        Some(Trouble::NoMemory) => return Err(AllocError),
-        Some(Trouble::NotACase) => answer.push(b" => no case\n"),
-        None => {}
+    if !line.starts_with("  ") {
+        serve_line(stage, line, &mut answer);
     }
-    Ok(answer.into_text())
+    match answer.trouble() {
+        Some(Trouble::NoMemory) => Err(AllocError),
+        _ => Ok(answer.into_text()),
+    }
 }
 
 fn serve_line(stage: &mut Stage, line: &str, answer: &mut Answer) {
-    if line.starts_with("  ") {
-        return;
-    }
     let asked = asked(line);
     answer.push(asked.as_bytes());
-    match obey(stage, asked, answer) {
-        Ok(()) => answer.push(b"\n"),
-        Err(trouble) => answer.fail(trouble),
+    if let Err(trouble) = obey(stage, asked, answer) {
+        answer.fail(trouble);
+    }
+    match answer.trouble() {
+        None => answer.push(b"\n"),
+        Some(_) => answer.push(b" no case\n"),
     }
 }
 
@@ -130,7 +130,7 @@ fn obey(stage: &mut Stage, asked: &str, answer: &mut Answer) -> Result<(), Troub
         "==" => restart(stage, answer.alloc()),
         "given" => add_first(answer.alloc(), &mut stage.given, fields),
         "any" => add_any(answer.alloc(), &mut stage.given, fields),
-        _ => answer_word(stage, word_of(word)?, fields, answer),
+        _ => answer_word(stage, word, fields, answer),
     }
 }
 
@@ -146,12 +146,12 @@ fn restart(stage: &mut Stage, alloc: Global) -> Result<(), Trouble> {
 
 fn answer_word(
     stage: &mut Stage,
-    word: Word,
+    word: &str,
     fields: &str,
     answer: &mut Answer,
 ) -> Result<(), Trouble> {
     answer.word("=>");
-    match word {
+    match word_of(word)? {
         Word::Text(word) => answer_text(word, fields, answer),
         Word::Clock(word) => answer_clock(word, fields, answer),
         Word::Set(word) => answer_set(word, fields, answer),

@@ -1,23 +1,18 @@
-//! Tests of operations and their texts, of clocks, of folders and subscriptions, and of the causal inbox.
+//! Tests of operations, folders, subscriptions and the causal inbox that are no cases of texts: values and followers that refuse,
+//! and laws that are called.
 #![tactic(auto)]
 
 #[cfg(test)]
 mod calls;
 #[cfg(test)]
-mod clocks;
-#[cfg(test)]
 mod fixtures;
-#[cfg(test)]
-mod folders;
-#[cfg(test)]
-mod issuing;
 #[cfg(test)]
 mod laws;
 #[cfg(test)]
-mod operations;
-#[cfg(test)]
-mod orders;
-#[cfg(test)]
 mod refusals;
 #[cfg(test)]
-mod texts;
+mod reluctant;
+#[cfg(test)]
+mod retries;
+#[cfg(test)]
+mod telling;

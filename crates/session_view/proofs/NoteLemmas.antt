@@ -1,12 +1,11 @@
-use Rattle.std.proofs.Common.{◌≡◌, ◌⊎◌, inl, inr, ℕ, ◌+◌, Bool, true, false, List, [], ◌∷◌, ◌++◌, refl, ap, ◌∙◌, Some, if◌then◌else◌}
+use Rattle.std.proofs.Common.{◌≡◌, ◌⊎◌, inl, inr, ℕ, ◌+◌, Bool, true, List, [], ◌∷◌, ◌++◌, refl, ap, ◌∙◌, if◌then◌else◌}
 use Rattle.std.specs.List.{filter}
 use Rattle.std.proofs.lemmas.Bool.{cases_Bool}
 use Rattle.imap_answers.specs.declared.answer.Answer.{Answer}
 use Rattle.mail_listing.specs.Listed.{Listed}
-use Rattle.mail_listing.specs.Listing.{AreRisingRows, beyond, row_of}
+use Rattle.mail_listing.specs.Listing.{row_of}
 use Rattle.session_view.specs.Notes.{Covers, IsSame, changes_by, expunges_by, is_named, sync_answers_by}
-use Rattle.session_view.specs.Sync.{arrivals, change, changes, expunges, is_there, loss, staying, sync_answers}
-use Rattle.session_view.specs.Views.{same_flags}
+use Rattle.session_view.specs.Sync.{arrivals, change, changes, expunges, is_there, loss, sync_answers}
 use Rattle.session_view.specs.declared.entry.Entry.{Entry}
 use Rattle.session_view.specs.declared.entry.SyncKind.{SyncKind}
 use Rattle.session_view.specs.declared.entry.SyncKind.TheVariants.{Full, Partial}

@@ -1,4 +1,4 @@
-use Rattle.std.proofs.Common.{◌≡◌, ◌⊎◌, inl, inr, ℕ, zero, suc, ◌+◌, ◌<◌, ◌≤◌, true, false, List, [], ◌∷◌, ◌++◌, length, take, append_assoc, ◌-◌, Option, None, Some, get_or, set, refl, sym, ap, ◌∙◌, arith, eq-eqb}
+use Rattle.std.proofs.Common.{◌≡◌, ◌⊎◌, inl, inr, ℕ, zero, suc, ◌+◌, ◌<◌, ◌≤◌, List, [], ◌∷◌, ◌++◌, length, take, append_assoc, ◌-◌, Option, None, Some, get_or, set, refl, ap, ◌∙◌, arith}
 use Rattle.std.specs.Prelude.{nat_eq, nat_lt}
 use Rattle.std.specs.List.{remove}
 use Rattle.std.proofs.lemmas.Bool.{cases_Bool}
@@ -6,7 +6,7 @@ use Rattle.std.proofs.lemmas.Bool.Decides.{nat_tests}
 use Rattle.imap_types.specs.declared.flags.Flags.{Flags}
 use Rattle.imap_answers.specs.declared.answer.Answer.{Answer}
 use Rattle.mail_listing.specs.Listed.{Listed}
-use Rattle.mail_listing.specs.Listing.{AreRisingRows, beyond, row_of}
+use Rattle.mail_listing.specs.Listing.{AreRisingRows, beyond}
 use Rattle.imap_answers.specs.declared.answer.Answer.TheVariants.{Expunge, Exists, Fetch}
 use Rattle.session_view.specs.Replay.{after_answer, after_answers, after_silent, arrived, fetched, flagged, replayed, without}
 use Rattle.session_view.specs.declared.replaying.Silent.{Silent}

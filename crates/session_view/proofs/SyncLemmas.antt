@@ -1,20 +1,19 @@
-use Rattle.std.proofs.Common.{◌≡◌, ◌≢◌, ◌↔◌, IsTrue, inl, inr, ◌⊎◌, ℕ, zero, suc, ◌+◌, ◌-◌, ◌<◌, ◌≤◌, Bool, true, false, not, ◌&&◌, List, [], ◌∷◌, ◌++◌, length, get_or, map, take, refl, sym, ap, ◌∙◌, subst, append_assoc, append-nil, arith, length-append, Option, Some, None, eq-eqb}
+use Rattle.std.proofs.Common.{◌≡◌, ◌≢◌, ◌↔◌, IsTrue, inl, inr, ◌⊎◌, ℕ, zero, suc, ◌+◌, ◌-◌, ◌<◌, ◌≤◌, Bool, true, false, ◌&&◌, List, [], ◌∷◌, ◌++◌, length, map, take, refl, sym, ap, ◌∙◌, subst, append_assoc, append-nil, arith, length-append, Option, Some, None, eq-eqb}
 use Rattle.std.specs.Prelude.{bytes_eq, nat_eq, nat_lt}
 use Rattle.std.specs.Cmp.Lexicographic.{pointwise}
-use Rattle.std.specs.List.{filter, list_any, slice_get}
+use Rattle.std.specs.List.{filter, slice_get}
 use Rattle.std.proofs.Math.Seq.{take-length}
-use Rattle.std.proofs.lemmas.Bool.{cases_Bool, cases_lt, and_parts}
+use Rattle.std.proofs.lemmas.Bool.{cases_Bool, cases_lt}
 use Rattle.std.proofs.lemmas.Bool.Decides.{nat_tests}
-use Rattle.std.proofs.lemmas.Grind.{common_steps}
 use Rattle.std.proofs.lemmas.Slice.Eq.{slice_eq-Decides, bytes_eq-Decides}
 use Rattle.imap_answers.specs.declared.answer.Answer.{Answer}
 use Rattle.mail_listing.specs.Listed.{Listed}
 use Rattle.mail_listing.specs.Listing.{AreRisingRows, beyond, row_of}
-use Rattle.imap_answers.specs.declared.answer.Answer.TheVariants.{Expunge, Exists, Fetch}
+use Rattle.imap_answers.specs.declared.answer.Answer.TheVariants.{Expunge}
 use Rattle.imap_types.specs.declared.flags.Flags.{Flags}
 use Rattle.session_view.specs.Views.{AreRising, Knows, entries_of, entry_of, has_uid, last_from, last_uid, same_bool, same_flags}
-use Rattle.session_view.specs.Replay.{after_answer, after_answers, arrived, flagged, without}
-use Rattle.session_view.specs.Sync.{announced, arrivals, change, change_of, changes, expunges, is_there, kept_in, losses, refreshed, refreshed_by, staying, sync_answers, synced}
+use Rattle.session_view.specs.Replay.{after_answer, after_answers, flagged, without}
+use Rattle.session_view.specs.Sync.{announced, arrivals, change, changes, expunges, is_there, kept_in, refreshed, refreshed_by, staying, sync_answers, synced}
 use Rattle.session_view.specs.declared.entry.Entry.{Entry}
 use Rattle.session_view.specs.declared.entry.SyncKind.{SyncKind}
 use Rattle.session_view.specs.declared.entry.SyncKind.TheVariants.{Full, Partial}

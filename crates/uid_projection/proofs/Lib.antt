@@ -12,4 +12,5 @@ pub mod Tables
 pub mod Numbers
 pub mod RowLemmas
 pub mod Asked
-pub mod ExhaustedLemmas
+pub mod Coming
+pub mod Noted

@@ -20,8 +20,8 @@ use Rattle.imap_grammar.specs.declared.class.Class.TheVariants as classes
 use Rattle.imap_grammar.specs.declared.command.Command.{Command}
 use Rattle.imap_grammar.specs.declared.command.Command.TheVariants as commands
 use Rattle.imap_grammar.specs.declared.command.Tagged.{Tagged}
-use Rattle.imap_print.specs.Printable.{Each, IsFolded, IsPrintable, IsTag}
-use Rattle.imap_print.specs.Reading.{is_tag_octet}
+use Rattle.imap_answers.specs.Printable.{Each, IsFolded, IsPrintable, IsTag}
+use Rattle.imap_types.specs.Keywords.{is_tag_octet}
 use Rattle.imap_query.specs.Listing.{Lists}
 use Rattle.imap_query.specs.Patterns as patterns
 use Rattle.imap_query.specs.declared.listing.ListEntry.{ListEntry}

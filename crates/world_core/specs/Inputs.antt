@@ -14,6 +14,8 @@ use Rattle.world_core.specs.declared.reply.Reply.{Reply}
 use Rattle.world_core.specs.declared.talking.Input.{Input}
 use Rattle.world_core.specs.declared.talking.Input.TheVariants.{Command, Fault}
 
+-- The steps in which the code takes a frame. `Conversation` says what the node makes of one.
+
 -- What a frame is to a node: the command that it spells, or the answer to its fault.
 abbrev pub IsInput : List ℕ → Input → Type 0
 IsInput octets (Command tagged) = IsSpelled tagged octets

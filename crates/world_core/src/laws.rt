@@ -12,7 +12,7 @@ ghost use Rattle.imap_lex.specs.declared.fault.Fault.{Fault as Why};
 ghost use Rattle.imap_lex.specs.declared.item.Item.{Item as Given};
 ghost use Rattle.imap_lex.specs.declared.limits.Limits.{Limits as Bounds};
 ghost use Rattle.imap_answers.specs.declared.answer.Answer.{Answer as OneAnswer};
-ghost use Rattle.imap_print.specs.Printable.{Each, IsPrintable};
+ghost use Rattle.imap_answers.specs.Printable.{Each, IsPrintable};
 ghost use Rattle.merge_laws.specs.Orders.{AreSound, IsIn};
 ghost use Rattle.world_core.specs.Conversation.{Converses, sent};
 ghost use Rattle.world_core.specs.Dumps.{IsDump};

@@ -19,7 +19,6 @@ use imap_grammar::{Command, Tagged};
 use imap_print::{Answer, ByeReason, CommandWord, MailboxState, Refusal};
 use imap_query::{ListEntry, list};
 use imap_types::{Moment, Name, Octets};
-use merge_laws::Caused;
 use std::alloc::{AllocError, Global};
 use std::marker::Model;
 use tags_clocks::{Clock, ReplicaId};
@@ -302,28 +301,20 @@ impl Node {
         requires { CanIssue self.old.applied kind }
         ensures { RepliesChange self.old tag word kind result self.new }
     {
-        let (Ok(mut answers), Ok(mut issued)) = (
-            Vec::with_capacity(alloc, 1),
-            Vec::with_capacity(alloc, 1),
-        ) else {
+        let Ok(mut answers) = Vec::with_capacity(alloc, 1) else {
+            drop(kind);
             return refused(tag, Refusal::NoMemory);
         };
-        let op = match self.replica.next_op(alloc, kind) {
-            Ok(op) => op,
-            Err(IssueFault::NumberUsedUp) => return refused(tag, Refusal::NumberUsedUp),
-            Err(IssueFault::NoMemory) => return refused(tag, Refusal::NoMemory),
-        };
-        let Ok(copy) = op.copy(alloc) else {
-            return refused(tag, Refusal::NoMemory);
-        };
-        if let Err(_) = self.replica.issue(alloc, op) {
-            return refused(tag, Refusal::NoMemory);
-        }
-        issued.push_reserved(copy);
-        answers.push_reserved(completed(tag, word));
-        Reply::Done {
-            answers: Answers::new(answers),
-            issued: Issued::new(issued),
+        match self.replica.issue_one(alloc, kind) {
+            Ok(issued) => {
+                answers.push_reserved(completed(tag, word));
+                Reply::Done {
+                    answers: Answers::new(answers),
+                    issued: Issued::new(issued),
+                }
+            }
+            Err(IssueFault::NumberUsedUp) => refused(tag, Refusal::NumberUsedUp),
+            Err(IssueFault::NoMemory) => refused(tag, Refusal::NoMemory),
         }
     }
 }

@@ -19,7 +19,7 @@ use causal_inbox::{DeliverFault, Delivered, Drained, Inbox};
 use crdt_ops::{Ids, Kind, Message, Op, SoundOp, check};
 use folder_state::Folders;
 use imap_types::Name;
-use merge_laws::{Pair, Unfollowed};
+use merge_laws::{Caused, Pair, Unfollowed};
 use std::alloc::{AllocError, Global};
 use std::marker::Model;
 use subs_state::Subs;
@@ -135,6 +135,44 @@ impl Replica {
         Ok(())
     }
 
+    /// Issues the replica's next operation, which is to do this, and gives a copy of it alone. An error leaves the replica as it
+    /// was.
+    pub fn issue_one(&mut self, alloc: Global, kind: Kind) -> Result<Vec<SoundOp>, IssueFault>
+        requires { CanIssue self.old.applied kind }
+        ensures ok { IfOk result (λ ops. (op : Operation) × (ops.items ≡ op ∷ []) × IsNext self.old.replica self.old.applied op × (op.kind ≡ kind)) }
+        ensures applied { IfOk result (λ ops. self.new.applied ≡ self.old.applied ++ ops.items) }
+        ensures held { IfOk result (λ ops. AreKept (λ (o : Operation). o.id) ops.items self.old.held self.new.held) }
+        ensures replica { self.new.replica ≡ self.old.replica }
+        ensures used_up { result ≡ Err IssueFault.NumberUsedUp → IsUsedUp self.old.replica self.old.applied }
+        ensures err { OnErr result (self.new ≡ self.old) }
+    {
+        match self.next_op(alloc, kind) {
+            Ok(op) => self.issue_copied(alloc, op),
+            Err(why) => Err(why),
+        }
+    }
+
+    /// Issues the replica's next operation, and gives a copy of it alone. An error leaves the replica as it was.
+    fn issue_copied(&mut self, alloc: Global, op: SoundOp) -> Result<Vec<SoundOp>, IssueFault>
+        requires { IsNext self.old.replica self.old.applied op }
+        ensures ok { IfOk result (λ ops. ops.items ≡ op ∷ []) }
+        ensures applied { OnOk result (self.new.applied ≡ self.old.applied ++ op ∷ []) }
+        ensures held { OnOk result (AreKept (λ (o : Operation). o.id) (op ∷ []) self.old.held self.new.held) }
+        ensures replica { self.new.replica ≡ self.old.replica }
+        ensures memory { result ≡ Err IssueFault.NumberUsedUp → ⊥ }
+        ensures err { OnErr result (self.new ≡ self.old) }
+    {
+        let Ok(issued) = copied_alone(alloc, &op) else {
+            drop(op);
+            return Err(IssueFault::NoMemory);
+        };
+        if let Err(_) = self.issue(alloc, op) {
+            drop(issued);
+            return Err(IssueFault::NoMemory);
+        }
+        Ok(issued)
+    }
+
     /// Receives an operation: applies it and those that waited for it, or holds it where it is early. An error leaves the
     /// replica as it was.
     pub fn deliver(&mut self, alloc: Global, op: SoundOp) -> Result<Delivered, DeliverFault>
@@ -239,4 +277,13 @@ impl Replica {
         let _list = self.inbox.op_list();
         &self.inbox.value().second
     }
+}
+
+/// A copy of an operation, alone.
+fn copied_alone(alloc: Global, op: &SoundOp) -> Result<Vec<SoundOp>, AllocError>
+    ensures { IfOk result (λ ops. ops.items ≡ op.now ∷ []) }
+{
+    let mut ops = Vec::with_capacity(alloc, 1)?;
+    ops.push_reserved(op.copy(alloc)?);
+    Ok(ops)
 }

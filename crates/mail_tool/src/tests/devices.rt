@@ -175,15 +175,18 @@ fn written(alloc: Global, room: usize, flushes: bool) -> (ReplayEnd, bool, usize
 
 /// The first number of octets for which the first run ends otherwise than it should at a writer that takes no more.
 fn first_wrong_room(alloc: Global) -> Option<usize> {
-    (0..FIRST_RUN_PRINTS.len())
-        .find(|room| written(alloc, *room, true) != (ReplayEnd::WriteFailed, true, *room))
+    (0..FIRST_RUN_PRINTS.len()).find(|room| written(alloc, *room, true)
+        != (ReplayEnd::WriteFailed, true, *room))
 }
 
 #[test]
 fn tells_of_writers_that_fail(rt: HostRuntime) {
     assert_eq!(rt; first_wrong_room(rt.alloc()), None);
     let whole = FIRST_RUN_PRINTS.len();
-    assert_eq!(rt; written(rt.alloc(), whole, true), (ReplayEnd::Done, true, whole));
+    assert_eq!(rt;
+        written(rt.alloc(), whole, true),
+        (ReplayEnd::Done, true, whole)
+    );
     assert_eq!(rt; written(rt.alloc(), 1_000, false).0, ReplayEnd::WriteFailed);
 }
 
@@ -194,7 +197,12 @@ fn tells(alloc: Global, end: ReplayEnd, line: &str, status: u8) -> bool {
 
 fn tells_each_end(alloc: Global) -> bool {
     tells(alloc, ReplayEnd::Done, "", 0)
-        && tells(alloc, ReplayEnd::BadScript { line: 2 }, "bad script: line 2\n", 3)
+        && tells(
+            alloc,
+            ReplayEnd::BadScript { line: 2 },
+            "bad script: line 2\n",
+            3,
+        )
         && tells(alloc, ReplayEnd::ReadFailed, "cannot read\n", 3)
         && tells(alloc, ReplayEnd::WriteFailed, "", 3)
         && tells(alloc, ReplayEnd::NoMemory, "no memory\n", 3)

@@ -20,12 +20,17 @@ const LATE: usize = 2_000;
 /// The lines, in which `#` stands for a turn, `@` for the one before it, `^` for the one behind it, which is the number of
 /// the operation that the turn issues, `!` for the replica and `?` for the one that issued what is delivered.
 const OPEN: &str = "node !\nopen ! s!\n";
+
 const CREATE: &str = "line s! a CREATE f!x#\n";
+
 const DELETE: &str = "line s! a DELETE f!x@\n";
+
 const DELIVER: &str = "deliver ?:^ !\n";
+
 const SHOW: &str = "show !\n";
-const FIRST_FORGED: &str =
-    "forge ! 9:1 - append f1x0 () \"01-Jan-1970 00:00:00 +0000\" =x\n";
+
+const FIRST_FORGED: &str = "forge ! 9:1 - append f1x0 () \"01-Jan-1970 00:00:00 +0000\" =x\n";
+
 const FORGED: [&str; 7] = [
     "forge ! 9:^ 9=# append f1x# () \"01-Jan-1970 00:00:00 +0000\" =x\n",
     "forge ! 9:^ 9=# store f1x@ (\\Seen) 9:# 9:#\n",

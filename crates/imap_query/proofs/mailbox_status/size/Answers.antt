@@ -1,4 +1,4 @@
-use Rattle.std.proofs.Common.{◌∙◌, ◌+◌, ap, arith, drop, map, sym}
+use Rattle.std.proofs.Common.{◌∙◌, ◌+◌, ap, arith, drop, sym}
 use Rattle.std.specs.List.{sum_by}
 use Rattle.imap_query.specs.Status.{size_of}
 use Rattle.imap_query.proofs.CountLemmas.{drop_past, min_below, min_end, min_step, summed_from}

@@ -1,4 +1,4 @@
-use Rattle.std.proofs.Common.{◌≡◌, ◌+◌, ◌≤◌, drop, map}
+use Rattle.std.proofs.Common.{◌≡◌, ◌+◌, ◌≤◌, drop}
 use Rattle.std.specs.List.{sum_by}
 use Rattle.std.specs.Prelude.{min}
 use Rattle.imap_query.specs.Status.{size_of}

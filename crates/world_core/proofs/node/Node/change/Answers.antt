@@ -1,4 +1,5 @@
 use Rattle.std.proofs.Common.{◌≡◌, List, [], ◌∷◌, ◌++◌, ap, subst, ◌∙◌, refl}
+use Rattle.causal_inbox.specs.Seen.{AreKept}
 use Rattle.crdt_ops.specs.declared.op.Op.{Op}
 use Rattle.imap_answers.specs.declared.answer.Answer.{Answer}
 use Rattle.world_core.specs.Nodes.{NodeState}
@@ -6,19 +7,24 @@ use Rattle.world_core.specs.Operations.{IsNext}
 use Rattle.world_core.specs.Responses.{Issues, completed}
 use Rattle.world_core.proofs.node.Node.change.Goals as goal
 
-pub returns : goal.returns
-returns c =
-    let op = c.in-Ok.op in
-    let issued : c.new-2.result ≡ op ∷ [] =
-    c.new-2.ensures ∙ c.push_reserved.ensures.items ∙ ap (λ (os : List Op). os ++ c.in-Ok-copy.copy ∷ []) (c.in-Ok-Ok.ensures' {u = tt}).items ∙ ap (λ (o : Op). o ∷ []) (c.in-Ok-copy.ensures {u = tt}) in
+pub returns-in-Ok-issue_one : goal.returns-in-Ok-issue_one
+returns-in-Ok-issue_one c =
+    let told = c.in-Ok-issue_one.ensures {u = tt} in
+    let op = told.ok.0 in
+    let old = c.self.inside.replica in
+    let new = c.issue_one.new.self in
     let given : c.new.result ≡ completed c.args.tag c.args.word ∷ [] =
-    c.new.ensures ∙ c.push_reserved-2.ensures.items ∙ ap (λ (as' : List Answer). as' ++ c.completed.result ∷ []) (c.in-Ok-Ok.ensures {u = tt}).items ∙ ap (λ (a : Answer). a ∷ []) c.completed.ensures in
-    let told = c.in_default-issue.ensures {u = tt} in (
+    c.new.ensures ∙ c.push_reserved.ensures.items ∙ ap (λ (as' : List Answer). as' ++ c.completed.result ∷ []) (c.in-Ok.ensures {u = tt}).items ∙ ap (λ (a : Answer). a ∷ []) c.completed.ensures in (
       op,
-      subst (λ (n : NodeState). IsNext n.replica n.applied op) c.self.view_is (c.in-Ok.ensures {u = tt}).ok,
-      (c.in-Ok.ensures {u = tt}).kind,
-      issued,
+      subst (λ (n : NodeState). IsNext n.replica n.applied op) c.self.view_is told.ok.2,
+      told.ok.3,
+      c.new-in-Ok-issue_one.ensures ∙ told.ok.1,
       given,
-      subst (λ (n : NodeState). Issues n (op ∷ []) (record { replica = c.issue.new.self.replica; applied = c.issue.new.self.applied; held = c.issue.new.self.held; sessions = c.self.inside.sessions })) c.self.view_is
-          (record { replica = told.replica; applied = told.applied; held = told.held; sessions = refl }),
+      subst (λ (n : NodeState). Issues n (op ∷ []) (record { replica = new.replica; applied = new.applied; held = new.held; sessions = c.self.inside.sessions })) c.self.view_is
+          (record {
+            replica = told.replica;
+            applied = told.applied ∙ ap (λ (os : List Op). old.applied ++ os) told.ok.1;
+            held = subst (λ (os : List Op). AreKept (λ (o : Op). o.id) os old.held new.held) told.ok.1 told.held;
+            sessions = refl;
+          }),
     )

@@ -1,0 +1,82 @@
+use Rattle.std.proofs.Common.{◌≡◌, Bool, List, [], ◌∷◌, ◌++◌, ap, sym, ◌∙◌, refl, append_assoc, ℕ, zero, suc, ◌≤◌, length, drop, reverse, false, arith}
+use Rattle.std.proofs.lemmas.List.{reverse-append}
+use Rattle.imap_grammar.specs.declared.search.SearchStep.{SearchStep}
+use Rattle.imap_grammar.specs.declared.search.SearchStep.TheVariants.{Not, Or, And}
+use Rattle.imap_grammar.specs.declared.search.SearchTest.{SearchTest}
+use Rattle.imap_query.specs.Keys.{Key, Asks, Lacks, Either, Both, hits, steps_of}
+use Rattle.imap_query.specs.Runs.{run, built}
+
+-- where the steps of one key, of another and a last one stand in front
+three : (these those : List SearchStep) (last : SearchStep) (rest : List SearchStep) → (these ++ those ++ last ∷ []) ++ rest ≡ these ++ (those ++ (last ∷ rest))
+three these those last rest = append_assoc (these ++ those) (last ∷ []) rest ∙ append_assoc these those (last ∷ rest)
+
+-- a key's steps push whether it hits
+pub run-key : (holds : SearchTest → Bool) (key : Key) (rest : List SearchStep) (results : List Bool) → run holds (steps_of key ++ rest) results ≡ run holds rest (hits holds key ∷ results)
+run-key holds (Asks test) rest results = refl
+run-key holds (Lacks key) rest results =
+    ap (λ xs. run holds xs results) (append_assoc (steps_of key) (Not ∷ []) rest) ∙ run-key holds key (Not ∷ rest) results
+run-key holds (Either this that) rest results =
+    ap (λ xs. run holds xs results) (three (steps_of this) (steps_of that) Or rest)
+    ∙ run-key holds this (steps_of that ++ (Or ∷ rest)) results
+    ∙ run-key holds that (Or ∷ rest) (hits holds this ∷ results)
+run-key holds (Both this that) rest results =
+    ap (λ xs. run holds xs results) (three (steps_of this) (steps_of that) And rest)
+    ∙ run-key holds this (steps_of that ++ (And ∷ rest)) results
+    ∙ run-key holds that (And ∷ rest) (hits holds this ∷ results)
+
+nil_behind : {A : Type 0} (xs : List A) → xs ++ [] ≡ xs
+nil_behind [] = refl
+nil_behind (x ∷ xs) = ap (λ ys. x ∷ ys) (nil_behind xs)
+
+pub run-all : (holds : SearchTest → Bool) (key : Key) → run holds (steps_of key) [] ≡ hits holds key ∷ []
+run-all holds key = ap (λ xs. run holds xs []) (sym (nil_behind (steps_of key))) ∙ run-key holds key [] []
+
+-- and the key itself, where keys are pushed
+pub built-key : (key : Key) (rest : List SearchStep) (keys : List Key) → built (steps_of key ++ rest) keys ≡ built rest (key ∷ keys)
+built-key (Asks test) rest keys = refl
+built-key (Lacks key) rest keys =
+    ap (λ xs. built xs keys) (append_assoc (steps_of key) (Not ∷ []) rest) ∙ built-key key (Not ∷ rest) keys
+built-key (Either this that) rest keys =
+    ap (λ xs. built xs keys) (three (steps_of this) (steps_of that) Or rest)
+    ∙ built-key this (steps_of that ++ (Or ∷ rest)) keys
+    ∙ built-key that (Or ∷ rest) (this ∷ keys)
+built-key (Both this that) rest keys =
+    ap (λ xs. built xs keys) (three (steps_of this) (steps_of that) And rest)
+    ∙ built-key this (steps_of that ++ (And ∷ rest)) keys
+    ∙ built-key that (And ∷ rest) (this ∷ keys)
+
+first_or : Key → List Key → Key
+first_or other [] = other
+first_or other (key ∷ keys) = key
+
+-- so steps are those of one key at most
+pub one_key : (a b : Key) → steps_of a ≡ steps_of b → a ≡ b
+unfolding first_or
+one_key a b e =
+    let ea : built (steps_of a) [] ≡ a ∷ [] = ap (λ xs. built xs []) (sym (nil_behind (steps_of a))) ∙ built-key a [] [] in
+    let eb : built (steps_of b) [] ≡ b ∷ [] = ap (λ xs. built xs []) (sym (nil_behind (steps_of b))) ∙ built-key b [] [] in
+    ap (first_or a) (sym ea ∙ ap (λ xs. built xs []) e ∙ eb)
+
+-- the end of the steps
+drop-past : {A : Type 0} (n : ℕ) (xs : List A) → length xs ≤ n → drop n xs ≡ []
+drop-past zero [] l = refl
+drop-past (suc n) [] l = refl
+drop-past zero (x ∷ xs) l = absurd (omega arith)
+drop-past (suc n) (x ∷ xs) l = drop-past n xs (omega arith)
+
+results-are : (holds : SearchTest → Bool) (key : Key) (steps : List SearchStep) (n : ℕ) (items : List Bool) → length steps ≤ n → run holds (drop n steps) (reverse items) ≡ run holds steps [] → steps ≡ steps_of key → reverse items ≡ hits holds key ∷ []
+results-are holds key steps n items l i e = ap (λ xs. run holds xs (reverse items)) (sym (drop-past n steps l)) ∙ i ∙ ap (λ xs. run holds xs []) e ∙ run-all holds key
+
+first_result : Bool → List Bool → Bool
+first_result other [] = other
+first_result other (b ∷ bs) = b
+
+pub last_result : (holds : SearchTest → Bool) (key : Key) (steps : List SearchStep) (n : ℕ) (items rest : List Bool) (last : Bool) → length steps ≤ n → run holds (drop n steps) (reverse items) ≡ run holds steps [] → items ≡ rest ++ last ∷ [] → steps ≡ steps_of key → last ≡ hits holds key
+unfolding first_result
+last_result holds key steps n items rest last l i p e =
+    let r : reverse items ≡ last ∷ reverse rest = ap reverse p ∙ reverse-append rest (last ∷ []) in
+    ap (first_result false) (sym r ∙ results-are holds key steps n items l i e)
+
+pub some_result : (holds : SearchTest → Bool) (key : Key) (steps : List SearchStep) (n : ℕ) (items : List Bool) → length steps ≤ n → run holds (drop n steps) (reverse items) ≡ run holds steps [] → length items ≡ 0 → steps ≡ steps_of key → false ≡ hits holds key
+some_result holds key steps n [] l i z e = let r = results-are holds key steps n [] l i e in cc
+some_result holds key steps n (x ∷ items) l i z e = absurd (omega arith)

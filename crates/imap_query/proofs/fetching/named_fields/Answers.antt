@@ -1,0 +1,10 @@
+use Rattle.std.proofs.Common.{◌∙◌, ap}
+use Rattle.std.proofs.lemmas.Result.{IfOk-weaker}
+use Rattle.imap_query.specs.Fetching.{cut}
+use Rattle.imap_query.proofs.fetching.named_fields.Goals as goal
+
+pub returns : goal.returns
+returns c =
+    IfOk-weaker c.copied_from.result _ _
+    (λ octets h. h ∙ c.cut.ensures ∙ ap (cut c.args.partial) (c.deref.ensures.value ∙ c.in_ok-chosen.ensures))
+    c.copied_from.ensures

@@ -1,0 +1,121 @@
+use Rattle.std.specs.Prelude.{ℕ, Bool, true, false, not, ◌&&◌, ◌||◌, ◌==◌, nat_lt, is_some, List, [], ◌∷◌, length, flat_map, Option, Some, None, if◌then◌else◌}
+use Rattle.std.specs.List.{list_any}
+use Rattle.imap_answers.specs.declared.answer.Answer.{Answer}
+use Rattle.imap_answers.specs.declared.answer.Answer.TheVariants.{Fetch}
+use Rattle.imap_answers.specs.declared.fetched.FetchItems.{FetchItems}
+use Rattle.imap_answers.specs.declared.fetched.SectionData.{SectionData}
+use Rattle.imap_grammar.specs.declared.fetch.FetchItem.{FetchItem}
+use Rattle.imap_grammar.specs.declared.fetch.FetchItem.TheVariants as item
+use Rattle.imap_grammar.specs.declared.fetch.Partial.{Partial}
+use Rattle.imap_types.specs.declared.section.Section.{Section}
+use Rattle.imap_types.specs.declared.section.Section.TheVariants as section
+use Rattle.mail_listing.specs.Listed.{Listed}
+use Rattle.mail_listing.specs.Listing.{row_of}
+use Rattle.mail_text.specs.Fields.{fields_of}
+use Rattle.mail_text.specs.Parts.{body_of, header_of, partial_of}
+use Rattle.imap_query.specs.declared.fetching.FetchMode.{FetchMode}
+use Rattle.imap_query.specs.declared.fetching.Part.{Part}
+use Rattle.imap_query.specs.declared.fetching.Part.TheVariants as part
+use Rattle.imap_query.specs.declared.shown.Shown.{Shown}
+
+-- What an item asks.
+abbrev pub part_of : FetchItem → Part
+part_of item.Uid = part.Uid
+part_of item.Flags = part.Flags
+part_of item.InternalDate = part.Date
+part_of item.Size = part.Size
+part_of item.ModSeq = part.ModSeq
+part_of (item.Body peek section partial) = part.Section
+
+-- The place of a part among those that FETCH knows.
+abbrev pub part_number : Part → ℕ
+part_number part.Uid = 0
+part_number part.Flags = 1
+part_number part.Date = 2
+part_number part.Size = 3
+part_number part.ModSeq = 4
+part_number part.Section = 5
+
+-- Whether a part is asked.
+abbrev pub asks : Part → List FetchItem → Bool
+asks part items = list_any (λ item. part_number (part_of item) == part_number part) items
+
+-- Whether an item sets `\Seen`: a section without PEEK (RFC 9051, section 6.4.5.1).
+abbrev pub sets_seen : FetchItem → Bool
+sets_seen item.Uid = false
+sets_seen item.Flags = false
+sets_seen item.InternalDate = false
+sets_seen item.Size = false
+sets_seen item.ModSeq = false
+sets_seen (item.Body peek section partial) = not peek
+
+-- Whether FETCH sets `\Seen` on a message that was so before.
+abbrev pub is_marked : List FetchItem → FetchMode → Listed → Bool
+is_marked items mode old = mode.writable && (not old.flags.seen && list_any sets_seen items)
+
+-- Whether flags are told: where they are asked, or where `\Seen` is set (RFC 9051, section 6.4.5.1).
+abbrev pub tells_flags : List FetchItem → FetchMode → Listed → Bool
+tells_flags items mode old = asks part.Flags items || is_marked items mode old
+
+-- Whether the mod-sequence is told: where it is asked, by CHANGEDSINCE too, or with flags where CONDSTORE is on (RFC 7162, section 3.1).
+abbrev pub tells_modseq : List FetchItem → FetchMode → Bool → Bool
+tells_modseq items mode with_flags = asks part.ModSeq items || (is_some mode.changed_since || (mode.condstore && with_flags))
+
+abbrev pub where_told : {A : Type 0} → Bool → A → Option A
+where_told told value = if told then Some value else None
+
+-- The octets of a section (RFC 9051, section 6.4.5.1).
+abbrev pub section_of : Section → List ℕ → List ℕ
+section_of section.Whole text = text
+section_of section.Header text = header_of text
+section_of section.Text text = body_of text
+section_of (section.Fields names) text = fields_of true names text
+section_of (section.FieldsNot names) text = fields_of false names text
+
+-- Those of them that a partial asks, and where these begin.
+abbrev pub cut : Option Partial → List ℕ → List ℕ
+cut None octets = octets
+cut (Some range) octets = partial_of range.start range.count octets
+
+abbrev pub origin_of : Option Partial → Option ℕ
+origin_of None = None
+origin_of (Some range) = Some range.start
+
+-- What is told of a section that an item asks.
+abbrev pub section_part : List ℕ → FetchItem → List SectionData
+section_part text item.Uid = []
+section_part text item.Flags = []
+section_part text item.InternalDate = []
+section_part text item.Size = []
+section_part text item.ModSeq = []
+section_part text (item.Body peek section partial) = record { section = section; origin = origin_of partial; octets = cut partial (section_of section text) } ∷ []
+
+-- The sections that are asked, in order.
+abbrev pub are_sections : List ℕ → List FetchItem → List SectionData
+are_sections text items = flat_map (section_part text) items
+
+-- What is told of a message that was `old` before the command and is `row` after it.
+abbrev pub items_of : List FetchItem → FetchMode → Listed → Listed → FetchItems
+items_of items mode old row = record {
+  uid = where_told (mode.by_uid || asks part.Uid items) row.uid;
+  flags = where_told (tells_flags items mode old) row.flags;
+  date = where_told (asks part.Date items) row.date;
+  size = where_told (asks part.Size items) (length row.text);
+  modseq = where_told (tells_modseq items mode (tells_flags items mode old)) row.modseq;
+  sections = are_sections row.text items;
+}
+
+-- Whether a message that was so before the command changed since (RFC 7162, section 3.1.4.1).
+abbrev pub is_kept : Option ℕ → Listed → Bool
+is_kept None old = true
+is_kept (Some modseq) old = nat_lt modseq old.modseq
+
+-- What FETCH tells of one message that a view shows: nothing where it is gone.
+abbrev pub answer_of : List FetchItem → FetchMode → Shown → Option Listed → Option Listed → List Answer
+answer_of items mode shown None row = []
+answer_of items mode shown (Some old) None = []
+answer_of items mode shown (Some old) (Some row) = if is_kept mode.changed_since old then Fetch shown.number (items_of items mode old row) ∷ [] else []
+
+-- What FETCH tells of the named messages, from the listings before and after the command (RFC 9051, section 6.4.5).
+abbrev pub fetch_answers : List FetchItem → FetchMode → List Listed → List Listed → List Shown → List Answer
+fetch_answers items mode before after named = flat_map (λ shown. answer_of items mode shown (row_of shown.uid before) (row_of shown.uid after)) named

@@ -1,0 +1,38 @@
+use Rattle.std.specs.Prelude.{Bool, not, ◌&&◌, ◌||◌, List, [], ◌∷◌}
+use Rattle.imap_grammar.specs.declared.search.SearchStep.{SearchStep}
+use Rattle.imap_grammar.specs.declared.search.SearchStep.TheVariants.{Test, Not, Or, And}
+use Rattle.imap_grammar.specs.declared.search.SearchTest.{SearchTest}
+use Rattle.imap_query.specs.Keys.{Key, Asks, Lacks, Either, Both}
+
+-- What a step makes of the results so far, the last of them first.
+abbrev pub after_step : (SearchTest → Bool) → SearchStep → List Bool → List Bool
+after_step holds (Test test) results = holds test ∷ results
+after_step holds Not [] = []
+after_step holds Not (a ∷ results) = not a ∷ results
+after_step holds Or [] = []
+after_step holds Or (b ∷ []) = []
+after_step holds Or (b ∷ a ∷ results) = (a || b) ∷ results
+after_step holds And [] = []
+after_step holds And (b ∷ []) = []
+after_step holds And (b ∷ a ∷ results) = (a && b) ∷ results
+
+-- What steps make of them.
+abbrev pub run : (SearchTest → Bool) → List SearchStep → List Bool → List Bool
+run holds [] results = results
+run holds (step ∷ steps) results = run holds steps (after_step holds step results)
+
+-- The same with keys in place of results.
+abbrev pub built_step : SearchStep → List Key → List Key
+built_step (Test test) keys = Asks test ∷ keys
+built_step Not [] = []
+built_step Not (a ∷ keys) = Lacks a ∷ keys
+built_step Or [] = []
+built_step Or (b ∷ []) = []
+built_step Or (b ∷ a ∷ keys) = Either a b ∷ keys
+built_step And [] = []
+built_step And (b ∷ []) = []
+built_step And (b ∷ a ∷ keys) = Both a b ∷ keys
+
+abbrev pub built : List SearchStep → List Key → List Key
+built [] keys = keys
+built (step ∷ steps) keys = built steps (built_step step keys)

@@ -1,0 +1,119 @@
+use Rattle.std.specs.Prelude.{ℕ, Bool, true, false, not, ◌&&◌, ◌||◌, ◌==◌, List, [], ◌∷◌, length, map, flat_map, Option, Some, None, if◌then◌else◌}
+use Rattle.std.specs.List.{list_any}
+use Rattle.imap_types.specs.Numbers.{greatest}
+use Rattle.imap_answers.specs.declared.mailbox.SearchResults.{SearchResults}
+use Rattle.imap_grammar.specs.declared.search.SearchOption.{SearchOption}
+use Rattle.imap_grammar.specs.declared.search.SearchOption.TheVariants.{Min, Max, All, Count}
+use Rattle.imap_grammar.specs.declared.search.SearchTest.{SearchTest}
+use Rattle.imap_grammar.specs.declared.search.SearchTest.TheVariants as tests
+use Rattle.mail_listing.specs.Listed.{Listed}
+use Rattle.mail_listing.specs.Listing.{row_of}
+use Rattle.imap_query.specs.Keys.{Asks, Both, Either, Key, Lacks, hits}
+use Rattle.imap_query.specs.Tests.{is_so}
+use Rattle.imap_query.specs.declared.searching.Hit.{Hit}
+use Rattle.imap_query.specs.declared.shown.Shown.{Shown}
+
+-- The last message that a view shows.
+abbrev pub last_shown : List Shown → Shown
+last_shown [] = record { number = 0; uid = 0 }
+last_shown (shown ∷ []) = shown
+last_shown (shown ∷ next ∷ view) = last_shown (next ∷ view)
+
+-- The number by which a search names a message.
+abbrev pub name_of : Bool → Shown → ℕ
+name_of by_uid shown = if by_uid then shown.uid else shown.number
+
+-- What a message tells that hits.
+abbrev pub hit_by : Bool → Key → Shown → Shown → Listed → List Hit
+hit_by by_uid key last shown row =
+    if hits (is_so last shown row) key then record { number = name_of by_uid shown; modseq = row.modseq } ∷ [] else []
+
+-- The same of a message that may be gone: such a one never hits.
+abbrev pub hit_of : Bool → Key → Shown → Shown → Option Listed → List Hit
+hit_of by_uid key last shown None = []
+hit_of by_uid key last shown (Some row) = hit_by by_uid key last shown row
+
+-- The messages of a listing that a view shows and that hit, in the view's order.
+abbrev pub hits_among : Bool → Key → Shown → List Listed → List Shown → List Hit
+hits_among by_uid key last rows view = flat_map (λ shown. hit_of by_uid key last shown (row_of shown.uid rows)) view
+
+abbrev pub hits_in : Bool → Key → List Listed → List Shown → List Hit
+hits_in by_uid key rows view = hits_among by_uid key (last_shown view) rows view
+
+-- Whether a key names a mod-sequence, wherever it stands (RFC 7162, section 3.1.5).
+abbrev pub names_modseq : SearchTest → Bool
+names_modseq (tests.ModSeq value) = true
+names_modseq tests.All = false
+names_modseq (tests.System flag is_set) = false
+names_modseq (tests.Keyword keyword is_set) = false
+names_modseq (tests.Holds place word) = false
+names_modseq (tests.Header name word) = false
+names_modseq (tests.Dated order day) = false
+names_modseq (tests.Larger octets) = false
+names_modseq (tests.Smaller octets) = false
+names_modseq (tests.Uids uids) = false
+names_modseq (tests.Numbers numbers) = false
+
+abbrev pub asks_modseq : Key → Bool
+asks_modseq (Asks test) = names_modseq test
+asks_modseq (Lacks key) = asks_modseq key
+asks_modseq (Either this that) = asks_modseq this || asks_modseq that
+asks_modseq (Both this that) = asks_modseq this || asks_modseq that
+
+-- The place of an option among those that SEARCH knows.
+abbrev pub option_number : SearchOption → ℕ
+option_number Min = 0
+option_number Max = 1
+option_number All = 2
+option_number Count = 3
+
+abbrev pub wants : SearchOption → List SearchOption → Bool
+wants option options = list_any (λ other. option_number other == option_number option) options
+
+-- Whether all hits are asked: by ALL, or by no option at all (RFC 9051, section 6.4.4).
+abbrev pub wants_all : List SearchOption → Bool
+wants_all options = (length options == 0) || wants All options
+
+-- Whether there are options, and each is MIN or MAX.
+abbrev pub wants_ends : List SearchOption → Bool
+wants_ends options = not (wants_all options) && not (wants Count options)
+
+-- The first and the last hit.
+abbrev pub first_hit : List Hit → Option Hit
+first_hit [] = None
+first_hit (hit ∷ hits) = Some hit
+
+abbrev pub last_hit : List Hit → Option Hit
+last_hit [] = None
+last_hit (hit ∷ []) = Some hit
+last_hit (hit ∷ next ∷ hits) = last_hit (next ∷ hits)
+
+abbrev pub number_in : Option Hit → Option ℕ
+number_in None = None
+number_in (Some hit) = Some hit.number
+
+-- The mod-sequence of a hit, 0 of none.
+abbrev pub modseq_in : Option Hit → ℕ
+modseq_in None = 0
+modseq_in (Some hit) = hit.modseq
+
+abbrev pub where_wanted : {A : Type 0} → Bool → Option A → Option A
+where_wanted wanted found = if wanted then found else None
+
+-- The greatest mod-sequence of the hits named: of the first and the last as far as they are asked, where nothing else is, and of all hits
+-- else (RFC 7162, section 3.1.5).
+abbrev pub told_modseq : List SearchOption → List Hit → ℕ
+told_modseq options hits =
+    if wants_ends options
+    then greatest (modseq_in (where_wanted (wants Min options) (first_hit hits)) ∷ modseq_in (where_wanted (wants Max options) (last_hit hits)) ∷ [])
+    else greatest (map (λ hit. hit.modseq) hits)
+
+-- What SEARCH tells of hits, which ascend: without any only how many there are (RFC 9051, section 6.4.4; RFC 7162, section 3.1.5).
+abbrev pub results_of : List SearchOption → Bool → List Hit → SearchResults
+results_of options with_modseq hits = record {
+  min = where_wanted (wants Min options) (number_in (first_hit hits));
+  max = where_wanted (wants Max options) (number_in (last_hit hits));
+  all = if wants_all options then map (λ hit. hit.number) hits else [];
+  count = where_wanted (wants Count options) (Some (length hits));
+  modseq = where_wanted (with_modseq && not (length hits == 0)) (Some (told_modseq options hits));
+}

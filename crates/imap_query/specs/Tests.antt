@@ -1,0 +1,65 @@
+use Rattle.std.specs.Prelude.{ℕ, ◌+◌, ◌*◌, Bool, true, ◌&&◌, nat_le, nat_lt, ◌==◌, min, max, List, length, codes}
+use Rattle.std.specs.List.{list_any}
+use Rattle.imap_types.specs.Keywords.{has_keyword}
+use Rattle.imap_types.specs.declared.day.Day.{Day}
+use Rattle.imap_types.specs.declared.sequence_set.SequenceBound.{SequenceBound}
+use Rattle.imap_types.specs.declared.sequence_set.SequenceBound.TheVariants.{Number, Greatest}
+use Rattle.imap_types.specs.declared.sequence_set.SequenceRange.{SequenceRange}
+use Rattle.imap_grammar.specs.declared.search.DayOrder.{DayOrder}
+use Rattle.imap_grammar.specs.declared.search.DayOrder.TheVariants.{Before, On, Since}
+use Rattle.imap_grammar.specs.declared.search.SearchTest.{SearchTest}
+use Rattle.imap_grammar.specs.declared.search.SearchTest.TheVariants as tests
+use Rattle.imap_grammar.specs.declared.search.TextPlace.{TextPlace}
+use Rattle.imap_grammar.specs.declared.search.TextPlace.TheVariants as places
+use Rattle.mail_listing.specs.Listed.{Listed}
+use Rattle.mail_text.specs.Civil.{written_day}
+use Rattle.mail_text.specs.Parts.{body_of}
+use Rattle.mail_text.specs.Places.{any_field_holds, holds}
+use Rattle.imap_query.specs.Messages.{has_flag, is_as}
+use Rattle.imap_query.specs.declared.shown.Shown.{Shown}
+
+-- Whether a text holds a word in a place (RFC 9051, section 6.4.4).
+abbrev pub holds_in : TextPlace → List ℕ → List ℕ → Bool
+holds_in places.Bcc word text = any_field_holds (codes "Bcc") word text
+holds_in places.Cc word text = any_field_holds (codes "Cc") word text
+holds_in places.From word text = any_field_holds (codes "From") word text
+holds_in places.Subject word text = any_field_holds (codes "Subject") word text
+holds_in places.To word text = any_field_holds (codes "To") word text
+holds_in places.Body word text = holds word (body_of text)
+holds_in places.Text word text = holds word text
+
+-- Days in the order of the calendar.
+abbrev pub rank : Day → ℕ
+rank day = (day.year * 100 + day.month) * 100 + day.day
+
+-- Whether a date-time's day, as it is written, stands so to a day.
+abbrev pub is_dated : DayOrder → Day → List ℕ → Bool
+is_dated Before day date = nat_lt (rank (written_day date)) (rank day)
+is_dated On day date = rank (written_day date) == rank day
+is_dated Since day date = nat_le (rank day) (rank (written_day date))
+
+-- Whether a set names a number, where this is the greatest (RFC 9051, section 9, sequence-set).
+abbrev pub bound_of : ℕ → SequenceBound → ℕ
+bound_of top (Number n) = n
+bound_of top Greatest = top
+
+abbrev pub range_names : ℕ → ℕ → SequenceRange → Bool
+range_names top n range =
+    nat_le (min (bound_of top range.first) (bound_of top range.last)) n && nat_le n (max (bound_of top range.first) (bound_of top range.last))
+
+abbrev pub set_names : ℕ → List SequenceRange → ℕ → Bool
+set_names top set n = list_any (range_names top n) set
+
+-- Whether a test holds of a message that a view shows, of which this is the last (RFC 9051, section 6.4.4; RFC 7162, section 3.1.5).
+abbrev pub is_so : Shown → Shown → Listed → SearchTest → Bool
+is_so last shown row tests.All = true
+is_so last shown row (tests.System flag is_set) = is_as is_set (has_flag flag row.flags)
+is_so last shown row (tests.Keyword keyword is_set) = is_as is_set (has_keyword keyword row.flags.keywords)
+is_so last shown row (tests.Holds place word) = holds_in place word row.text
+is_so last shown row (tests.Header name word) = any_field_holds name word row.text
+is_so last shown row (tests.Dated order day) = is_dated order day row.date
+is_so last shown row (tests.Larger octets) = nat_lt octets (length row.text)
+is_so last shown row (tests.Smaller octets) = nat_lt (length row.text) octets
+is_so last shown row (tests.ModSeq value) = nat_le value row.modseq
+is_so last shown row (tests.Uids uids) = set_names last.uid uids row.uid
+is_so last shown row (tests.Numbers numbers) = set_names last.number numbers shown.number

@@ -1,0 +1,310 @@
+ghost use Rattle.std.specs.Prelude.{◌≡◌, ◌||◌, ◌++◌, ◌∷◌, [], true, false, IfOk, OnOk};
+ghost use Rattle.imap_answers.specs.declared.answer.Answer.TheVariants.{Fetch};
+ghost use Rattle.std.specs.List.{list_any};
+ghost use Rattle.imap_query.specs.Fetching.{answer_of, are_sections, asks, cut, fetch_answers, is_kept, is_marked, items_of, origin_of, part_of, section_of, section_part, sets_seen, tells_flags, tells_modseq, where_told};
+ghost use Rattle.imap_query.specs.declared.fetching.Part.TheVariants as part;
+ghost use Rattle.mail_listing.specs.Listing.{listed, row_of};
+ghost use Rattle.mail_text.specs.Fields.{fields_of};
+
+use crate::shown::Shown;
+use imap_answers::{Answer, FetchItems, SectionData, Sections};
+use imap_grammar::{FetchItem, Partial};
+use imap_types::{DateTime, Flags, Octets, Section};
+use mail_listing::{Row, Rows};
+use mail_text::{body, fields, header, other_fields, partial};
+use std::alloc::{AllocError, Global};
+
+/// How FETCH asks (RFC 9051, section 6.4.5; RFC 7162, section 3.1.4).
+#[derive(Clone, Copy, Debug, PartialEq, Eq)]
+pub struct FetchMode {
+    /// Whether messages are named by UIDs, which are then told.
+    pub by_uid: bool,
+    /// Whether mod-sequences are told with flags (RFC 7162, section 3.1).
+    pub condstore: bool,
+    /// Whether the mailbox is read-write, so that a section that is read sets `\Seen`.
+    pub writable: bool,
+    /// Only messages of mod-sequences above this one.
+    pub changed_since: Option<u64>,
+}
+
+/// What FETCH asks, but for the sections.
+#[derive(Clone, Copy, Debug, PartialEq, Eq)]
+enum Part {
+    Uid,
+    Flags,
+    Date,
+    Size,
+    ModSeq,
+    Section,
+}
+
+/// What FETCH tells of the named messages, in their order, where the listing before the command has them: as they are
+/// after it (RFC 9051, section 6.4.5; RFC 7162, section 3.1.4). A section costs a look at the text up to its end, and a
+/// copy of what is told of it. `Err` where there is no memory for it.
+pub fn fetch(
+    alloc: Global,
+    named: &[Shown],
+    before: &Rows<'_>,
+    after: &Rows<'_>,
+    items: &[FetchItem],
+    mode: FetchMode,
+) -> Result<Vec<Answer>, AllocError>
+    ensures { IfOk result (λ answers. answers.items ≡ fetch_answers items.now mode before.now after.now named.now) }
+{
+    let mut answers = Vec::new(alloc);
+    for shown in named {
+        push_answer(alloc, before, after, items, mode, *shown, &mut answers)?;
+    }
+    Ok(answers)
+}
+
+/// Adds what is told of one message.
+fn push_answer(
+    alloc: Global,
+    before: &Rows<'_>,
+    after: &Rows<'_>,
+    items: &[FetchItem],
+    mode: FetchMode,
+    shown: Shown,
+    answers: &mut Vec<Answer>,
+) -> Result<(), AllocError>
+    ensures { OnOk result (answers.new.items ≡ answers.old.items ++ answer_of items.now mode shown (row_of shown.uid before.now) (row_of shown.uid after.now)) }
+{
+    match before.row_of(shown.uid) {
+        None => Ok(()),
+        Some(old) => match after.row_of(shown.uid) {
+            None => Ok(()),
+            Some(row) => {
+                if !is_kept(mode.changed_since, &old) {
+                    return Ok(());
+                }
+                let told = items_of(alloc, items, mode, &old, &row)?;
+                push_fetch(answers, shown.number, told)
+            }
+        },
+    }
+}
+
+fn push_fetch(answers: &mut Vec<Answer>, number: u32, items: FetchItems) -> Result<(), AllocError>
+    ensures { OnOk result (answers.new.items ≡ answers.old.items ++ Fetch number items ∷ []) }
+{
+    answers.push(Answer::Fetch { number, items })?;
+    Ok(())
+}
+
+/// Whether a message changed since.
+fn is_kept(changed_since: Option<u64>, old: &Row<'_>) -> bool
+    ensures { result ≡ is_kept changed_since (listed old.now) }
+{
+    match changed_since {
+        None => true,
+        Some(modseq) => old.modseq > modseq,
+    }
+}
+
+/// What is told of a message that was `old` and is `row`.
+fn items_of(
+    alloc: Global,
+    items: &[FetchItem],
+    mode: FetchMode,
+    old: &Row<'_>,
+    row: &Row<'_>,
+) -> Result<FetchItems, AllocError>
+    ensures { IfOk result (λ told. told ≡ items_of items.now mode (listed old.now) (listed row.now)) }
+{
+    let sections = sections(alloc, row.text, items)?;
+    let tells_flags = tells_flags(items, mode, old);
+    let flags = flags_where(alloc, tells_flags, row.flags)?;
+    Ok(FetchItems {
+        uid: tells_uid(items, mode).then_some(row.uid),
+        flags,
+        date: date_where(asks(items, Part::Date), row.date),
+        size: asks(items, Part::Size).then_some(row.text.len() as u64),
+        modseq: tells_modseq(items, mode, tells_flags).then_some(row.modseq),
+        sections,
+    })
+}
+
+fn tells_uid(items: &[FetchItem], mode: FetchMode) -> bool
+    ensures { result ≡ (mode.by_uid || asks part.Uid items.now) }
+{
+    mode.by_uid || asks(items, Part::Uid)
+}
+
+fn date_where(told: bool, date: &DateTime) -> Option<DateTime>
+    ensures { result ≡ where_told told date.now }
+{
+    if told { Some(date.copy()) } else { None }
+}
+
+fn flags_where(alloc: Global, told: bool, flags: &Flags) -> Result<Option<Flags>, AllocError>
+    ensures { IfOk result (λ copied. copied ≡ where_told told flags.now) }
+{
+    if !told {
+        return Ok(None);
+    }
+    Ok(Some(flags.copy(alloc)?))
+}
+
+/// Whether flags are told: where they are asked, or where reading a section sets `\Seen`.
+fn tells_flags(items: &[FetchItem], mode: FetchMode, old: &Row<'_>) -> bool
+    ensures { result ≡ tells_flags items.now mode (listed old.now) }
+{
+    asks(items, Part::Flags) || is_marked(items, mode, old)
+}
+
+/// Whether reading a section sets `\Seen`.
+fn is_marked(items: &[FetchItem], mode: FetchMode, old: &Row<'_>) -> bool
+    ensures { result ≡ is_marked items.now mode (listed old.now) }
+{
+    mode.writable && !old.flags.seen && set_seen(items)
+}
+
+fn set_seen(items: &[FetchItem]) -> bool
+    ensures { result ≡ list_any sets_seen items.now }
+{
+    for item in items {
+        if sets_seen(item) {
+            return true;
+        }
+    }
+    false
+}
+
+fn sets_seen(item: &FetchItem) -> bool
+    ensures { result ≡ sets_seen item.now }
+{
+    match item {
+        FetchItem::Body { peek, .. } => !*peek,
+        _ => false,
+    }
+}
+
+fn tells_modseq(items: &[FetchItem], mode: FetchMode, tells_flags: bool) -> bool
+    ensures { result ≡ tells_modseq items.now mode tells_flags }
+{
+    asks(items, Part::ModSeq) || mode.changed_since.is_some() || (mode.condstore && tells_flags)
+}
+
+fn asks(items: &[FetchItem], part: Part) -> bool
+    ensures { result ≡ asks part items.now }
+{
+    for item in items {
+        if part_of(item) == part {
+            return true;
+        }
+    }
+    false
+}
+
+fn part_of(item: &FetchItem) -> Part
+    ensures { result ≡ part_of item.now }
+{
+    match item {
+        FetchItem::Uid => Part::Uid,
+        FetchItem::Flags => Part::Flags,
+        FetchItem::InternalDate => Part::Date,
+        FetchItem::Size => Part::Size,
+        FetchItem::ModSeq => Part::ModSeq,
+        FetchItem::Body { .. } => Part::Section,
+    }
+}
+
+/// The sections that are asked, in order.
+fn sections(alloc: Global, text: &[u8], items: &[FetchItem]) -> Result<Sections, AllocError>
+    ensures { IfOk result (λ sections. sections ≡ are_sections text.now items.now) }
+{
+    let mut found = Vec::new(alloc);
+    for item in items {
+        push_section(alloc, text, item, &mut found)?;
+    }
+    Ok(Sections::new(found))
+}
+
+fn push_section(
+    alloc: Global,
+    text: &[u8],
+    item: &FetchItem,
+    found: &mut Vec<SectionData>,
+) -> Result<(), AllocError>
+    ensures { OnOk result (found.new.items ≡ found.old.items ++ section_part text.now item.now) }
+{
+    match item {
+        FetchItem::Body {
+            section,
+            partial,
+            ..
+        } => {
+            let octets = section_of(alloc, section, *partial, text)?;
+            let section = section.copy(alloc)?;
+            let origin = origin_of(*partial);
+            found.push(SectionData {
+                section,
+                origin,
+                octets,
+            })?;
+            Ok(())
+        }
+        _ => Ok(()),
+    }
+}
+
+/// The octets that are told of a section.
+fn section_of(
+    alloc: Global,
+    section: &Section,
+    partial: Option<Partial>,
+    text: &[u8],
+) -> Result<Octets, AllocError>
+    ensures { IfOk result (λ octets. octets ≡ cut partial (section_of section.now text.now)) }
+{
+    match section {
+        Section::Whole => Octets::copied_from(alloc, cut(text, partial)),
+        Section::Header => Octets::copied_from(alloc, cut(header(text), partial)),
+        Section::Text => Octets::copied_from(alloc, cut(body(text), partial)),
+        Section::Fields { names } => named_fields(alloc, names.names(), partial, text),
+        Section::FieldsNot { names } => unnamed_fields(alloc, names.names(), partial, text),
+    }
+}
+
+fn named_fields(
+    alloc: Global,
+    names: &[Octets],
+    partial: Option<Partial>,
+    text: &[u8],
+) -> Result<Octets, AllocError>
+    ensures { IfOk result (λ octets. octets ≡ cut partial (fields_of true names.now text.now)) }
+{
+    let chosen = fields(alloc, text, names)?;
+    Octets::copied_from(alloc, cut(&chosen, partial))
+}
+
+fn unnamed_fields(
+    alloc: Global,
+    names: &[Octets],
+    partial: Option<Partial>,
+    text: &[u8],
+) -> Result<Octets, AllocError>
+    ensures { IfOk result (λ octets. octets ≡ cut partial (fields_of false names.now text.now)) }
+{
+    let chosen = other_fields(alloc, text, names)?;
+    Octets::copied_from(alloc, cut(&chosen, partial))
+}
+
+fn cut(octets: &[u8], range: Option<Partial>) -> &[u8]
+    ensures { result.now ≡ cut range octets.now }
+{
+    match range {
+        None => octets,
+        Some(range) => partial(octets, range.start, range.count),
+    }
+}
+
+fn origin_of(range: Option<Partial>) -> Option<u32>
+    ensures { result ≡ origin_of range }
+{
+    match range {
+        None => None,
+        Some(range) => Some(range.start),
+    }
+}

@@ -1,0 +1,171 @@
+//! Whether a message hits what SEARCH asks (RFC 9051, section 6.4.4).
+
+ghost use Rattle.std.specs.Prelude.{◌≡◌, reverse, IfOk, OnOk};
+ghost use Rattle.imap_query.specs.Keys.{Key, hits, steps_of};
+ghost use Rattle.imap_query.specs.Runs.{after_step};
+ghost use Rattle.imap_query.specs.Tests.{bound_of, holds_in, is_dated, is_so, range_names, rank, set_names};
+ghost use Rattle.mail_listing.specs.Listing.{listed};
+
+use crate::messages::{is_as, is_flagged};
+use crate::shown::Shown;
+use imap_grammar::{DayOrder, SearchStep, SearchTest, TextPlace};
+use imap_types::{DateTime, Day, SequenceBound, SequenceRange};
+use mail_listing::Row;
+use mail_text::{body, contains_nocase, field_contains_nocase, written_day};
+use std::alloc::{AllocError, Global};
+
+/// Whether a message hits, which a view shows here and of which `last` is the last shown.
+pub(crate) fn hits(
+    alloc: Global,
+    last: Shown,
+    shown: Shown,
+    row: &Row<'_>,
+    steps: &[SearchStep],
+) -> Result<bool, AllocError>
+    ensures { IfOk result (λ is. (key : Key) → steps.now ≡ steps_of key → is ≡ hits (is_so last shown (listed row.now)) key) }
+{
+    let mut results: Vec<bool> = Vec::new(alloc);
+    for step in steps {
+        take_step(alloc, last, shown, row, step, &mut results)?;
+    }
+    match results.pop() {
+        Some(result) => Ok(result),
+        None => Ok(false),
+    }
+}
+
+/// What a step makes of the results so far.
+fn take_step(
+    alloc: Global,
+    last: Shown,
+    shown: Shown,
+    row: &Row<'_>,
+    step: &SearchStep,
+    results: &mut Vec<bool>,
+) -> Result<(), AllocError>
+    ensures { OnOk result (reverse results.new.items ≡ after_step (is_so last shown (listed row.now)) step.now (reverse results.old.items)) }
+{
+    match step {
+        SearchStep::Test(test) => {
+            let is = is_so(alloc, last, shown, row, test)?;
+            results.push(is)?;
+        }
+        SearchStep::Not => {
+            if let Some(result) = results.pop() {
+                results.push(!result)?;
+            }
+        }
+        SearchStep::Or => {
+            if let Some(that) = results.pop() {
+                if let Some(this) = results.pop() {
+                    results.push(this | that)?;
+                }
+            }
+        }
+        SearchStep::And => {
+            if let Some(that) = results.pop() {
+                if let Some(this) = results.pop() {
+                    results.push(this & that)?;
+                }
+            }
+        }
+    }
+    Ok(())
+}
+
+/// Whether a test holds of a message. Time is linear in the text for what looks at texts.
+fn is_so(
+    alloc: Global,
+    last: Shown,
+    shown: Shown,
+    row: &Row<'_>,
+    test: &SearchTest,
+) -> Result<bool, AllocError>
+    ensures { IfOk result (λ is. is ≡ is_so last shown (listed row.now) test.now) }
+{
+    match test {
+        SearchTest::All => Ok(true),
+        SearchTest::System { flag, is_set } => Ok(is_flagged(row.flags, *flag, *is_set)),
+        SearchTest::Keyword { keyword, is_set } => Ok(is_as(
+            *is_set,
+            row.flags.keywords.contains(keyword.as_bytes()),
+        )),
+        SearchTest::Holds { place, text } => holds_in(alloc, *place, text.as_bytes(), row.text),
+        SearchTest::Header { name, text } => {
+            field_contains_nocase(alloc, row.text, name.as_bytes(), text.as_bytes())
+        }
+        SearchTest::Dated { order, day } => Ok(is_dated(*order, *day, row.date)),
+        SearchTest::Larger { octets } => Ok((row.text.len() as u64) > *octets),
+        SearchTest::Smaller { octets } => Ok((row.text.len() as u64) < *octets),
+        SearchTest::ModSeq { value } => Ok(row.modseq >= *value),
+        SearchTest::Uids { uids } => Ok(set_names(last.uid, uids.ranges(), row.uid)),
+        SearchTest::Numbers { numbers } => Ok(set_names(
+            last.number,
+            numbers.ranges(),
+            shown.number,
+        )),
+    }
+}
+
+/// Whether a set names a number, where `*` is the number `top`.
+fn set_names(top: u32, set: &[SequenceRange], number: u32) -> bool
+    ensures { result ≡ set_names top set.now number }
+{
+    for range in set {
+        if range_names(top, number, range) {
+            return true;
+        }
+    }
+    false
+}
+
+fn range_names(top: u32, number: u32, range: &SequenceRange) -> bool
+    ensures { result ≡ range_names top number range.now }
+{
+    let first = bound_of(top, range.first);
+    let last = bound_of(top, range.last);
+    first.min(last) <= number && number <= first.max(last)
+}
+
+fn bound_of(top: u32, bound: SequenceBound) -> u32
+    ensures { result ≡ bound_of top bound }
+{
+    match bound {
+        SequenceBound::Number(number) => number,
+        SequenceBound::Greatest => top,
+    }
+}
+
+/// Whether a text holds a word in a place.
+fn holds_in(alloc: Global, place: TextPlace, word: &[u8], text: &[u8]) -> Result<bool, AllocError>
+    ensures { IfOk result (λ is. is ≡ holds_in place word.now text.now) }
+{
+    match place {
+        TextPlace::Bcc => field_contains_nocase(alloc, text, b"Bcc", word),
+        TextPlace::Cc => field_contains_nocase(alloc, text, b"Cc", word),
+        TextPlace::From => field_contains_nocase(alloc, text, b"From", word),
+        TextPlace::Subject => field_contains_nocase(alloc, text, b"Subject", word),
+        TextPlace::To => field_contains_nocase(alloc, text, b"To", word),
+        TextPlace::Body => contains_nocase(alloc, body(text), word),
+        TextPlace::Text => contains_nocase(alloc, text, word),
+    }
+}
+
+/// Whether a date-time's day, as it is written, stands so to a day.
+fn is_dated(order: DayOrder, day: Day, date: &DateTime) -> bool
+    ensures { result ≡ is_dated order day date.now }
+{
+    let written = rank(written_day(date));
+    match order {
+        DayOrder::Before => written < rank(day),
+        DayOrder::On => written == rank(day),
+        DayOrder::Since => written >= rank(day),
+    }
+}
+
+/// A number for a day, in the order of the calendar.
+fn rank(day: Day) -> u32
+    ensures { result ≡ rank day }
+{
+    (u32::from(day.year) * 100 + u32::from(day.month)) * 100 + u32::from(day.day)
+}

@@ -1,0 +1,289 @@
+ghost use Rattle.std.specs.Prelude.{◌≡◌, ◌==◌, ◌&&◌, ◌++◌, [], length, map, not, Some, IfOk, OnOk, if◌then◌else◌};
+ghost use Rattle.std.specs.List.{list_any};
+ghost use Rattle.imap_types.specs.Numbers.{AreRisingFrom, greatest};
+ghost use Rattle.imap_query.specs.Hits.{MayAdd, last_number, step_names_modseq};
+ghost use Rattle.imap_query.specs.Keys.{Key, steps_of};
+ghost use Rattle.imap_query.specs.Search.{asks_modseq, first_hit, hit_of, hits_in, last_hit, last_shown, modseq_in, name_of, number_in, results_of, told_modseq, wants, wants_all, wants_ends, where_wanted};
+ghost use Rattle.mail_listing.specs.Listing.{row_of};
+
+use crate::keys::hits;
+use crate::shown::Shown;
+use imap_answers::SearchResults;
+use imap_grammar::{SearchOption, SearchStep, SearchTest};
+use imap_types::NumberSet;
+use mail_listing::Rows;
+use std::alloc::{AllocError, Global};
+
+/// A message that hits.
+#[derive(Clone, Copy, Debug, PartialEq, Eq)]
+pub struct Hit {
+    /// Its message number, or its UID.
+    pub number: u32,
+    pub modseq: u64,
+}
+
+/// What SEARCH tells of the messages that a view shows and that the listing has (RFC 9051, section 6.4.4; RFC 7162,
+/// section 3.1.5): by UIDs or by message numbers. The steps are a key's; sets in keys name what the view shows. Each key
+/// costs one look at each message: its text's length for a key on texts. `Err` where there is no memory for it.
+pub fn search(
+    alloc: Global,
+    view: &[Shown],
+    rows: &Rows<'_>,
+    by_uid: bool,
+    steps: &[SearchStep],
+    options: &[SearchOption],
+) -> Result<SearchResults, AllocError>
+    requires { AreRisingFrom 1 (map (name_of by_uid) view.now) }
+    ensures { IfOk result (λ results. (key : Key) → steps.now ≡ steps_of key → results ≡ results_of options.now (asks_modseq key) (hits_in by_uid key rows.now view.now)) }
+{
+    let hits = hits_in(alloc, view, rows, by_uid, steps)?;
+    results(alloc, &hits, options, asks_modseq(steps))
+}
+
+/// The messages that hit, in the view's order.
+fn hits_in(
+    alloc: Global,
+    view: &[Shown],
+    rows: &Rows<'_>,
+    by_uid: bool,
+    steps: &[SearchStep],
+) -> Result<Vec<Hit>, AllocError>
+    requires { AreRisingFrom 1 (map (name_of by_uid) view.now) }
+    ensures hits { IfOk result (λ hits. (key : Key) → steps.now ≡ steps_of key → hits.items ≡ hits_in by_uid key rows.now view.now) }
+    ensures rising { IfOk result (λ hits. AreRisingFrom 1 (map (λ hit. hit.number) hits.items)) }
+{
+    let last = last_shown(view);
+    let mut hits = Vec::new(alloc);
+    for shown in view {
+        push_hit(alloc, rows, by_uid, steps, last, *shown, &mut hits)?;
+    }
+    Ok(hits)
+}
+
+/// The last message that a view shows.
+fn last_shown(view: &[Shown]) -> Shown
+    ensures { result ≡ last_shown view.now }
+{
+    match view {
+        [] => Shown { number: 0, uid: 0 },
+        [.., last] => *last,
+    }
+}
+
+/// Adds a message that is there and hits.
+fn push_hit(
+    alloc: Global,
+    rows: &Rows<'_>,
+    by_uid: bool,
+    steps: &[SearchStep],
+    last: Shown,
+    shown: Shown,
+    found: &mut Vec<Hit>,
+) -> Result<(), AllocError>
+    ensures hits { OnOk result ((key : Key) → steps.now ≡ steps_of key → found.new.items ≡ found.old.items ++ hit_of by_uid key last shown (row_of shown.uid rows.now)) }
+    ensures numbers { OnOk result (MayAdd (name_of by_uid shown) (map (λ hit. hit.number) found.old.items) (map (λ hit. hit.number) found.new.items)) }
+{
+    match rows.row_of(shown.uid) {
+        None => Ok(()),
+        Some(row) => {
+            if !hits(alloc, last, shown, &row, steps)? {
+                return Ok(());
+            }
+            found.push(Hit {
+                number: name_of(by_uid, shown),
+                modseq: row.modseq,
+            })?;
+            Ok(())
+        }
+    }
+}
+
+/// The number by which a search names a message.
+fn name_of(by_uid: bool, shown: Shown) -> u32
+    ensures { result ≡ name_of by_uid shown }
+{
+    if by_uid { shown.uid } else { shown.number }
+}
+
+/// Whether a key names a mod-sequence.
+fn asks_modseq(steps: &[SearchStep]) -> bool
+    ensures { result ≡ list_any step_names_modseq steps.now }
+{
+    for step in steps {
+        if names_modseq(step) {
+            return true;
+        }
+    }
+    false
+}
+
+fn names_modseq(step: &SearchStep) -> bool
+    ensures { result ≡ step_names_modseq step.now }
+{
+    match step {
+        SearchStep::Test(SearchTest::ModSeq { .. }) => true,
+        _ => false,
+    }
+}
+
+/// What is told of hits.
+fn results(
+    alloc: Global,
+    hits: &[Hit],
+    options: &[SearchOption],
+    with_modseq: bool,
+) -> Result<SearchResults, AllocError>
+    requires { AreRisingFrom 1 (map (λ hit. hit.number) hits.now) }
+    ensures { IfOk result (λ results. results ≡ results_of options.now with_modseq hits.now) }
+{
+    let all = all_numbers(alloc, hits, wants_all(options))?;
+    Ok(SearchResults {
+        min: wanted_number(wants(options, SearchOption::Min), first_hit(hits)),
+        max: wanted_number(wants(options, SearchOption::Max), last_hit(hits)),
+        all,
+        count: wants(options, SearchOption::Count).then_some(count_of(hits)),
+        modseq: is_told(with_modseq, hits).then_some(told_modseq(options, hits)),
+    })
+}
+
+/// The numbers of the hits where all are asked.
+fn all_numbers(alloc: Global, hits: &[Hit], is_asked: bool) -> Result<NumberSet, AllocError>
+    requires { AreRisingFrom 1 (map (λ hit. hit.number) hits.now) }
+    ensures { IfOk result (λ numbers. numbers ≡ (if is_asked then map (λ hit. hit.number) hits.now else [])) }
+{
+    if !is_asked {
+        return Ok(NumberSet::new(alloc));
+    }
+    numbers(alloc, hits)
+}
+
+fn numbers(alloc: Global, hits: &[Hit]) -> Result<NumberSet, AllocError>
+    requires { AreRisingFrom 1 (map (λ hit. hit.number) hits.now) }
+    ensures { IfOk result (λ numbers. numbers ≡ map (λ hit. hit.number) hits.now) }
+{
+    let mut numbers = NumberSet::new(alloc);
+    for hit in hits {
+        numbers.push(hit.number)?;
+    }
+    Ok(numbers)
+}
+
+/// Whether a mod-sequence is told.
+fn is_told(with_modseq: bool, hits: &[Hit]) -> bool
+    ensures { result ≡ (with_modseq && not (length hits.now == 0)) }
+{
+    with_modseq && !hits.is_empty()
+}
+
+fn first_hit(hits: &[Hit]) -> Option<Hit>
+    ensures { result ≡ first_hit hits.now }
+{
+    match hits {
+        [] => None,
+        [first, ..] => Some(*first),
+    }
+}
+
+fn last_hit(hits: &[Hit]) -> Option<Hit>
+    ensures { result ≡ last_hit hits.now }
+{
+    match hits {
+        [] => None,
+        [.., last] => Some(*last),
+    }
+}
+
+/// The number of a hit, where it is wanted.
+fn wanted_number(is_wanted: bool, hit: Option<Hit>) -> Option<u32>
+    ensures { result ≡ where_wanted is_wanted (number_in hit) }
+{
+    if !is_wanted {
+        return None;
+    }
+    match hit {
+        None => None,
+        Some(hit) => Some(hit.number),
+    }
+}
+
+/// The mod-sequence of a hit, where it is wanted, and else 0.
+fn wanted_modseq(is_wanted: bool, hit: Option<Hit>) -> u64
+    ensures { result ≡ modseq_in (where_wanted is_wanted hit) }
+{
+    if !is_wanted {
+        return 0;
+    }
+    match hit {
+        None => 0,
+        Some(hit) => hit.modseq,
+    }
+}
+
+/// How many hits there are.
+fn count_of(hits: &[Hit]) -> u32
+    requires { AreRisingFrom 1 (map (λ hit. hit.number) hits.now) }
+    ensures { result ≡ length hits.now }
+{
+    let _last = last_number(hits);
+    match u32::try_from(hits.len()) {
+        Ok(count) => count,
+        Err(_) => unreachable!(),
+    }
+}
+
+/// The last number, 0 where there is none.
+fn last_number(hits: &[Hit]) -> u32
+    ensures { result ≡ last_number 0 hits.now }
+{
+    match hits {
+        [] => 0,
+        [.., last] => last.number,
+    }
+}
+
+/// The greatest mod-sequence that is told of hits.
+fn told_modseq(options: &[SearchOption], hits: &[Hit]) -> u64
+    ensures { result ≡ told_modseq options.now hits.now }
+{
+    if !wants_ends(options) {
+        return greatest_modseq(hits);
+    }
+    let first = wanted_modseq(wants(options, SearchOption::Min), first_hit(hits));
+    let last = wanted_modseq(wants(options, SearchOption::Max), last_hit(hits));
+    first.max(last)
+}
+
+fn greatest_modseq(hits: &[Hit]) -> u64
+    ensures { result ≡ greatest (map (λ hit. hit.modseq) hits.now) }
+{
+    let mut greatest = 0u64;
+    for hit in hits {
+        greatest = greatest.max(hit.modseq);
+    }
+    greatest
+}
+
+/// Whether all hits are asked: by ALL, or by no option at all.
+fn wants_all(options: &[SearchOption]) -> bool
+    ensures { result ≡ wants_all options.now }
+{
+    options.is_empty() || wants(options, SearchOption::All)
+}
+
+/// Whether there are options, and each is MIN or MAX.
+fn wants_ends(options: &[SearchOption]) -> bool
+    ensures { result ≡ wants_ends options.now }
+{
+    !wants_all(options) && !wants(options, SearchOption::Count)
+}
+
+fn wants(options: &[SearchOption], option: SearchOption) -> bool
+    ensures { result ≡ wants option options.now }
+{
+    for other in options {
+        if *other == option {
+            return true;
+        }
+    }
+    false
+}

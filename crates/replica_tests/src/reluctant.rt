@@ -1,0 +1,87 @@
+//! Values and followers that are refused memory at one call.
+
+use merge_laws::{Follower, NotReady, Replicated};
+use std::alloc::{AllocError, Global};
+
+/// Whether this call is the one that is refused: there were to be so many before it. Only one ever is.
+pub fn is_refused(before: &mut Option<u32>) -> bool {
+    match *before {
+        Some(0) => {
+            *before = None;
+            true
+        }
+        Some(count) => {
+            *before = Some(count - 1);
+            false
+        }
+        None => false,
+    }
+}
+
+/// Folders, or another value, that are refused memory at one call: the first where there are 0 before it.
+#[derive(Drop)]
+pub struct Reluctant<R> {
+    /// The value.
+    pub value: R,
+    /// The calls before the one that is refused; none is, where it is `None`.
+    pub before: Option<u32>,
+}
+
+impl<R: Replicated> Replicated for Reluctant<R> {
+    type Op = R::Op;
+
+    ghost Meaning = { R.Meaning };
+
+    ghost meaning = { λ x. R.meaning x.value };
+
+    ghost effect = { R.effect };
+
+    ghost initial = { R.initial };
+
+    ghost is_prepared = { λ x ops. R.is_prepared x.value ops };
+
+    ghost first = { λ x o os h. R.first x.value o os h };
+
+    ghost commutes = { R.commutes };
+
+    fn prepare(&mut self, alloc: Global, ops: &[R::Op]) -> Result<(), AllocError> {
+        if is_refused(&mut self.before) {
+            return Err(AllocError);
+        }
+        self.value.prepare(alloc, ops)
+    }
+
+    fn apply(&mut self, op: &R::Op) {
+        self.value.apply(op);
+    }
+}
+
+/// A follower that is refused memory at one call: the first where there are 0 before it.
+#[derive(Drop)]
+pub struct Hesitant {
+    /// The calls before the one that is refused; none is, where it is `None`.
+    pub before: Option<u32>,
+}
+
+impl<R: Replicated> Follower<R> for Hesitant {
+    type Start = ();
+
+    ghost start = { λ _. tt };
+
+    ghost follows = { λ _ _. Unit {0} };
+
+    ghost is_ready = { λ _ _ _. Unit {0} };
+
+    ghost exhausts = { λ _ _ _. ⊥ };
+
+    ghost first = { λ _ _ _ _ _. tt };
+
+    fn ready(&mut self, _alloc: Global, _value: &R, _ops: &[R::Op]) -> Result<(), NotReady> {
+        if is_refused(&mut self.before) {
+            return Err(NotReady::NoMemory);
+        }
+        Ok(())
+    }
+
+    fn note(&mut self, _value: &R, _op: &R::Op) {}
+}

@@ -1,0 +1,335 @@
+//! What is refused once is taken the second time, and all ends as with memory.
+
+use crate::fixtures::{Mailboxes, Trouble, empty, operation, play};
+use crate::reluctant::{Hesitant, Reluctant};
+use crate::telling::{lines_of, told_of};
+use causal_inbox::{DeliverFault, Delivered, Inbox};
+use crdt_ops::SoundOp;
+use folder_state::Folders;
+use merge_laws::{Pair, Unfollowed};
+use std::alloc::{AllocError, Global};
+use std::test::Fail;
+use subs_state::Subs;
+
+/// The operations of an inbox, applied and held, and what they led to.
+fn shown_of(
+    alloc: Global,
+    applied: &[SoundOp],
+    held: &[SoundOp],
+    folders: &Folders,
+    subs: &Subs,
+) -> Result<Vec<u8>, AllocError> {
+    let mut text = lines_of(alloc, applied)?;
+    text.extend_from_slice(b"held\n")?;
+    text.extend_from_slice(&lines_of(alloc, held)?)?;
+    text.extend_from_slice(&told_of(alloc, folders, subs)?)?;
+    Ok(text)
+}
+
+/// Three operations early, then what they wait for, and others.
+const MIXED: &[&str] = &[
+    "1:3 1=2,2=1 store a (\\Seen zed) 1:2 1:2",
+    "2:1 1=2 expunge a 1:2",
+    "1:2 1=1 append a () \"17-Jul-1996 02:44:25 -0700\" =hello",
+    "5:1 - subscribe b",
+    "1:1 - create a",
+    "5:2 5=1 unsubscribe b 5:1",
+    "6:1 1=1 delete a 1:1",
+    "6:1 1=1 delete a 1:1",
+    "7:1 5=1 subscribe b",
+];
+
+/// What they end in, whatever was refused on the way.
+const MIXED_END: &str =
+    "5:1 - subscribe b\n1:1 - create a\n1:2 1=1 append a () \"17-Jul-1996 02:44:25 -0700\" =hello\n2:1 1=2 expunge a 1:2\n1:3 1=2,2=1 store a (\\Seen zed) 1:2 1:2\n5:2 5=1 unsubscribe b 5:1\n6:1 1=1 delete a 1:1\n7:1 5=1 subscribe b\nheld\nfolder INBOX -\nfolder a 2:1\nmessage 1:3 (\\Seen zed) \"17-Jul-1996 02:44:25 -0700\" =hello\nsubscribed b 7:1\n";
+
+/// The number of applications before the one for which memory is refused, and the answers: a delivery that is refused is made
+/// again, and one that stalls is followed by a drain.
+const REFUSED_MIXED: &[(u32, &str)] = &[
+    (
+        0,
+        "Held\nHeld\nHeld\nNoMemory\nApplied 1\nApplied 4\nApplied 1\nApplied 1\nRepeat\nApplied 1\n",
+    ),
+    (
+        1,
+        "Held\nHeld\nHeld\nApplied 1\nNoMemory\nApplied 4\nApplied 1\nApplied 1\nRepeat\nApplied 1\n",
+    ),
+    (
+        2,
+        "Held\nHeld\nHeld\nApplied 1\nApplied 1 stalled\ndrained 3\nApplied 1\nApplied 1\nRepeat\nApplied 1\n",
+    ),
+    (
+        3,
+        "Held\nHeld\nHeld\nApplied 1\nApplied 2 stalled\ndrained 2\nApplied 1\nApplied 1\nRepeat\nApplied 1\n",
+    ),
+    (
+        4,
+        "Held\nHeld\nHeld\nApplied 1\nApplied 3 stalled\ndrained 1\nApplied 1\nApplied 1\nRepeat\nApplied 1\n",
+    ),
+    (
+        5,
+        "Held\nHeld\nHeld\nApplied 1\nApplied 4\nNoMemory\nApplied 1\nApplied 1\nRepeat\nApplied 1\n",
+    ),
+    (
+        6,
+        "Held\nHeld\nHeld\nApplied 1\nApplied 4\nApplied 1\nNoMemory\nApplied 1\nRepeat\nApplied 1\n",
+    ),
+    (
+        7,
+        "Held\nHeld\nHeld\nApplied 1\nApplied 4\nApplied 1\nApplied 1\nRepeat\nNoMemory\nApplied 1\n",
+    ),
+    (
+        8,
+        "Held\nHeld\nHeld\nApplied 1\nApplied 4\nApplied 1\nApplied 1\nRepeat\nApplied 1\n",
+    ),
+];
+
+/// What is asked for room before an operation is applied.
+#[derive(Clone, Copy, PartialEq, Eq)]
+enum Part {
+    Follower,
+    Folders,
+    Subs,
+}
+
+/// The calls before the one that this part is refused, where it is the part that is refused one.
+fn calls_before(part: Part, refused: Part, before: u32) -> Option<u32> {
+    if part == refused { Some(before) } else { None }
+}
+
+type Wary = Inbox<Pair<Reluctant<Folders>, Reluctant<Subs>>, Hesitant>;
+
+/// An inbox of which this part is refused memory once, behind so many calls.
+fn refused_at(alloc: Global, refused: Part, before: u32) -> Result<Wary, AllocError> {
+    let folders = Reluctant {
+        value: Folders::new(alloc),
+        before: calls_before(Part::Folders, refused, before),
+    };
+    let subs = Reluctant {
+        value: Subs::new(alloc),
+        before: calls_before(Part::Subs, refused, before),
+    };
+    let value = Pair {
+        first: folders,
+        second: subs,
+    };
+    let follower = Hesitant {
+        before: calls_before(Part::Follower, refused, before),
+    };
+    Inbox::new(alloc, value, follower)
+}
+
+fn shown_wary(alloc: Global, inbox: &Wary) -> Result<Vec<u8>, AllocError> {
+    let value = inbox.value();
+    shown_of(
+        alloc,
+        inbox.op_list(),
+        inbox.held(),
+        &value.first.value,
+        &value.second.value,
+    )
+}
+
+/// The answer to a line.
+fn answer_of(alloc: Global, inbox: &mut Wary, line: &str) -> Result<String, Trouble> {
+    let mut text = String::new(alloc);
+    play(alloc, inbox, line, &mut text)?;
+    Ok(text)
+}
+
+/// Delivers the line's operation, again where it was refused memory, and drains where one stalls; tells the answers, and gives
+/// whether a refusal changed nothing.
+fn retried(
+    alloc: Global,
+    inbox: &mut Wary,
+    line: &str,
+    text: &mut String,
+) -> Result<bool, Trouble> {
+    let before = shown_wary(alloc, inbox)?;
+    let answer = answer_of(alloc, inbox, line)?;
+    text.push_str(&answer)?;
+    match answer.as_str() {
+        "NoMemory\n" => retried_after(alloc, inbox, line, &before, text),
+        answer => {
+            drain_where(alloc, inbox, answer.ends_with("stalled\n"), text)?;
+            Ok(true)
+        }
+    }
+}
+
+/// Delivers again behind a refusal; whether all was as before it.
+fn retried_after(
+    alloc: Global,
+    inbox: &mut Wary,
+    line: &str,
+    before: &[u8],
+    text: &mut String,
+) -> Result<bool, Trouble> {
+    let unchanged = is_shown(alloc, inbox, before)?;
+    play(alloc, inbox, line, text)?;
+    Ok(unchanged)
+}
+
+fn drain_where(
+    alloc: Global,
+    inbox: &mut Wary,
+    stalled: bool,
+    text: &mut String,
+) -> Result<(), Trouble> {
+    if stalled {
+        play(alloc, inbox, "drain", text)?;
+    }
+    Ok(())
+}
+
+fn is_shown(alloc: Global, inbox: &Wary, lines: &[u8]) -> Result<bool, AllocError> {
+    let text = shown_wary(alloc, inbox)?;
+    Ok(text.as_slice() == lines)
+}
+
+/// Whether this part is refused so behind so many calls, and all ends as with memory.
+fn is_refused_so(
+    alloc: Global,
+    refused: Part,
+    before: u32,
+    answers: &str,
+) -> Result<bool, Trouble> {
+    let mut inbox = refused_at(alloc, refused, before)?;
+    let is_so = ends_so(alloc, &mut inbox, answers);
+    drop(inbox);
+    is_so
+}
+
+fn ends_so(alloc: Global, inbox: &mut Wary, answers: &str) -> Result<bool, Trouble> {
+    if !answers_so(alloc, inbox, answers)? {
+        return Ok(false);
+    }
+    Ok(is_shown(alloc, inbox, MIXED_END.as_bytes())?)
+}
+
+/// Whether the inbox answers the mixed lines so, and no refusal changes anything.
+fn answers_so(alloc: Global, inbox: &mut Wary, answers: &str) -> Result<bool, Trouble> {
+    let mut text = String::new(alloc);
+    let unchanged = retry_all(alloc, inbox, &mut text)?;
+    Ok(unchanged && text.as_str() == answers)
+}
+
+fn retry_all(alloc: Global, inbox: &mut Wary, text: &mut String) -> Result<bool, Trouble> {
+    for line in MIXED {
+        if !retried(alloc, inbox, line, text)? {
+            return Ok(false);
+        }
+    }
+    Ok(true)
+}
+
+fn first_wrong(alloc: Global, refused: Part) -> Result<Option<usize>, Trouble> {
+    for (at, (before, answers)) in REFUSED_MIXED.iter().enumerate() {
+        if !is_refused_so(alloc, refused, *before, answers)? {
+            return Ok(Some(at));
+        }
+    }
+    Ok(None)
+}
+
+/// Whether each part is refused so.
+fn is_each_refused_so(alloc: Global) -> Result<bool, Trouble> {
+    for refused in [Part::Follower, Part::Folders, Part::Subs] {
+        if first_wrong(alloc, refused)?.is_some() {
+            return Ok(false);
+        }
+    }
+    Ok(true)
+}
+
+/// The room that the follower, the folders and the subscriptions are asked for before each of the eight operations is applied is
+/// refused in turn. The room in the inbox's own lists and for its next clock comes from the allocator itself, which no test can
+/// make refuse.
+#[test]
+fn each_part_is_refused_once(rt: HostRuntime) -> Result<(), Fail> {
+    assert!(rt; is_each_refused_so(rt.alloc())?);
+    Ok(())
+}
+
+type Node = Inbox<Mailboxes, Unfollowed>;
+
+fn shown(alloc: Global, inbox: &Node) -> Result<Vec<u8>, AllocError> {
+    let value = inbox.value();
+    shown_of(
+        alloc,
+        inbox.op_list(),
+        inbox.held(),
+        &value.first,
+        &value.second,
+    )
+}
+
+fn is_end(alloc: Global, inbox: &Node, lines: &[u8]) -> Result<bool, AllocError> {
+    let text = shown(alloc, inbox)?;
+    Ok(text.as_slice() == lines)
+}
+
+fn deliver(
+    alloc: Global,
+    inbox: &mut Node,
+    line: &str,
+) -> Result<Result<Delivered, DeliverFault>, Trouble> {
+    let op = operation(alloc, line)?;
+    Ok(inbox.deliver(alloc, op))
+}
+
+/// Delivers the line's operation, and once more where there was no memory for it, or drains where one stalled; whether the first
+/// refusal changed nothing, and the second call was refused nothing. An error comes of the memory that this takes for itself.
+fn is_delivered_in_the_end(alloc: Global, inbox: &mut Node, line: &str) -> Result<bool, Trouble> {
+    let before = shown(alloc, inbox)?;
+    match deliver(alloc, inbox, line)? {
+        Ok(delivered) => Ok(goes_on(alloc, inbox, delivered.stalled)),
+        Err(DeliverFault::NoMemory) => is_delivered_again(alloc, inbox, line, &before),
+        Err(_) => Ok(false),
+    }
+}
+
+fn goes_on(alloc: Global, inbox: &mut Node, stalled: bool) -> bool {
+    !stalled || !inbox.drain(alloc).stalled
+}
+
+fn is_delivered_again(
+    alloc: Global,
+    inbox: &mut Node,
+    line: &str,
+    before: &[u8],
+) -> Result<bool, Trouble> {
+    let unchanged = is_end(alloc, inbox, before)?;
+    let answer = deliver(alloc, inbox, line)?;
+    Ok(unchanged && answer.is_ok())
+}
+
+/// Whether each of the mixed lines is delivered in the end, and all end as they must.
+fn are_all_delivered(alloc: Global) -> Result<bool, Trouble> {
+    let mut inbox = node(alloc)?;
+    let is_so = is_each_delivered(alloc, &mut inbox);
+    drop(inbox);
+    is_so
+}
+
+fn node(alloc: Global) -> Result<Node, AllocError> {
+    Inbox::new(alloc, empty(alloc), Unfollowed)
+}
+
+fn is_each_delivered(alloc: Global, inbox: &mut Node) -> Result<bool, Trouble> {
+    for line in MIXED {
+        if !is_delivered_in_the_end(alloc, inbox, line)? {
+            return Ok(false);
+        }
+    }
+    Ok(is_end(alloc, inbox, MIXED_END.as_bytes())?)
+}
+
+/// The gate runs this with memory: each delivery is made once, and none is refused. By hand it was run with each of its 570
+/// allocations refused in turn, by a `malloc` that fails once. 73 of them are a delivery's, and each of these runs ended as with
+/// memory. The other 497 are the test's own, and end it with an error; a wrong answer would have stopped it at the assertion.
+#[test]
+fn deliveries_are_tried_again(rt: HostRuntime) -> Result<(), Fail> {
+    assert!(rt; are_all_delivered(rt.alloc())?);
+    Ok(())
+}

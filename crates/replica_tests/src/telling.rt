@@ -1,0 +1,157 @@
+//! Answers and states as lines.
+
+use causal_inbox::{Arrival, DeliverFault, Delivered, Drained};
+use crdt_ops::{Message, SoundOp, write_flags, write_id, write_ids, write_op};
+use folder_state::Folders;
+use imap_types::{Escape, Name, write_escaped};
+use std::alloc::{AllocError, Global};
+use std::fmt::Write;
+use subs_state::Subs;
+
+/// The lines of operations.
+pub fn lines_of(alloc: Global, ops: &[SoundOp]) -> Result<Vec<u8>, AllocError> {
+    let mut text = Vec::new(alloc);
+    for op in ops {
+        write_op(alloc, op, &mut text)?;
+        text.extend_from_slice(b"\n")?;
+    }
+    Ok(text)
+}
+
+/// What these folders and these subscriptions tell, as the lines of a dump.
+pub fn told_of(alloc: Global, folders: &Folders, subs: &Subs) -> Result<Vec<u8>, AllocError> {
+    let mut text = told_folders(alloc, folders)?;
+    tell_subscriptions(alloc, subs, &mut text)?;
+    Ok(text)
+}
+
+/// What the folders tell, as the lines of a dump.
+pub fn told_folders(alloc: Global, folders: &Folders) -> Result<Vec<u8>, AllocError> {
+    let mut text = Vec::new(alloc);
+    let names = folders.names(alloc)?;
+    for name in &names {
+        tell_folder(alloc, folders, name, &mut text)?;
+    }
+    Ok(text)
+}
+
+fn tell_folder(
+    alloc: Global,
+    folders: &Folders,
+    name: &Name,
+    text: &mut Vec<u8>,
+) -> Result<(), AllocError> {
+    tell_name(b"folder ", name, text)?;
+    let ids = folders.tags(alloc, name)?;
+    write_ids(alloc, &ids, text)?;
+    text.extend_from_slice(b"\n")?;
+    tell_messages(alloc, folders, name, text)
+}
+
+fn tell_name(word: &[u8], name: &Name, text: &mut Vec<u8>) -> Result<(), AllocError> {
+    text.extend_from_slice(word)?;
+    write_escaped(Escape::Field, name.as_bytes(), text)?;
+    text.extend_from_slice(b" ")
+}
+
+fn tell_messages(
+    alloc: Global,
+    folders: &Folders,
+    name: &Name,
+    text: &mut Vec<u8>,
+) -> Result<(), AllocError> {
+    let messages = folders.messages(alloc, name)?;
+    for message in &messages {
+        tell_message(alloc, message, text)?;
+    }
+    Ok(())
+}
+
+fn tell_message(alloc: Global, message: &Message, text: &mut Vec<u8>) -> Result<(), AllocError> {
+    text.extend_from_slice(b"message ")?;
+    write_id(alloc, message.id, text)?;
+    text.extend_from_slice(b" ")?;
+    tell_content(message, text)
+}
+
+fn tell_content(message: &Message, text: &mut Vec<u8>) -> Result<(), AllocError> {
+    write_flags(&message.flags, text)?;
+    text.extend_from_slice(b" ")?;
+    text.extend_from_slice(message.date.as_bytes())?;
+    text.extend_from_slice(b" =")?;
+    write_escaped(Escape::Text, message.text.as_bytes(), text)?;
+    text.extend_from_slice(b"\n")
+}
+
+fn tell_subscriptions(alloc: Global, subs: &Subs, text: &mut Vec<u8>) -> Result<(), AllocError> {
+    let names = subs.names(alloc)?;
+    for name in &names {
+        tell_subscription(alloc, subs, name, text)?;
+    }
+    Ok(())
+}
+
+fn tell_subscription(
+    alloc: Global,
+    subs: &Subs,
+    name: &Name,
+    text: &mut Vec<u8>,
+) -> Result<(), AllocError> {
+    tell_name(b"subscribed ", name, text)?;
+    let ids = subs.tags(alloc, name)?;
+    write_ids(alloc, &ids, text)?;
+    text.extend_from_slice(b"\n")
+}
+
+/// The answer to a drain, as a line.
+pub fn tell_drained(text: &mut String, drained: Drained) -> Result<(), AllocError> {
+    write!(text, "drained {}", drained.applied)?;
+    tell_stalled(text, drained.stalled)
+}
+
+/// The answer to a delivery, as a line.
+pub fn tell_delivered(
+    text: &mut String,
+    answer: Result<Delivered, DeliverFault>,
+) -> Result<(), AllocError> {
+    match answer {
+        Ok(delivered) => {
+            tell_arrival(text, delivered.arrival)?;
+            tell_stalled(text, delivered.stalled)
+        }
+        Err(fault) => tell_fault(text, fault),
+    }
+}
+
+fn tell_arrival(text: &mut String, arrival: Arrival) -> Result<(), AllocError> {
+    match arrival {
+        Arrival::Applied(count) => write!(text, "Applied {count}"),
+        Arrival::Held => text.push_str("Held"),
+        Arrival::Repeat => text.push_str("Repeat"),
+    }
+}
+
+fn tell_stalled(text: &mut String, stalled: bool) -> Result<(), AllocError> {
+    text.push_str(if stalled { " stalled\n" } else { "\n" })
+}
+
+fn tell_fault(text: &mut String, fault: DeliverFault) -> Result<(), AllocError> {
+    match fault {
+        DeliverFault::Conflict { id } => {
+            writeln!(text, "Conflict {}:{}", id.replica.get(), id.number.get())
+        }
+        DeliverFault::HeldFull => text.push_str("HeldFull\n"),
+        DeliverFault::Exhausted => text.push_str("Exhausted\n"),
+        DeliverFault::NoMemory => text.push_str("NoMemory\n"),
+    }
+}
+
+/// The ids of operations behind a word, as a line.
+pub fn tell_ids(word: &str, ops: &[SoundOp], text: &mut String) -> Result<(), AllocError> {
+    text.push_str(word)?;
+    for op in ops {
+        let id = op.op().id;
+        write!(text, " {}:{}", id.replica.get(), id.number.get())?;
+    }
+    text.push_str("\n")
+}

@@ -1,0 +1,152 @@
+use Rattle.std.proofs.Common.{◌≡◌, ◌↔◌, ◌⊎◌, inl, inr, ℕ, ◌+◌, ◌<◌, ◌≤◌, Bool, true, false, cond, not, ◌&&◌, List, [], ◌∷◌, ◌++◌, length, refl, sym, ap, ◌∙◌, subst, append_assoc, append-nil, arith, nat_le, nat_lt, eqb, get_or, take, drop, ◌-◌}
+use Rattle.std.proofs.lemmas.Bool.{cases_Bool, eq-eqb, eqb-true, false≢true, leb-false, lt-ltb, ltb-true}
+use Rattle.std.proofs.lemmas.List.{take_all, take_more, take-append-drop}
+use Rattle.merge_laws.proofs.Lists.{in_parts}
+use Rattle.merge_laws.specs.Orders.{IsIn}
+use Rattle.crdt_ops.specs.declared.op.Op.{Op}
+use Rattle.crdt_ops.specs.Sets.{folders_of}
+use Rattle.crdt_ops.specs.Tags.{name_of}
+use Rattle.uid_projection.specs.declared.start.Start.{Start}
+use Rattle.uid_projection.specs.Applied.{IsApplied}
+use Rattle.uid_projection.specs.Exhaustion.{Exhausts, IsExhausted, LacksK, LacksUid}
+use Rattle.uid_projection.specs.History.{counted_all}
+use Rattle.uid_projection.specs.Incarnations.{begins, is_there}
+use Rattle.uid_projection.specs.Lines.{begins_line, first_uid, uidnext_of}
+use Rattle.uid_projection.proofs.HistoryLemmas.{once, all-append}
+use Rattle.uid_projection.proofs.Presence.{applied_front, same_bool, there_in}
+use Rattle.uid_projection.proofs.Steps.{uidnext_gone, uidnext_here}
+
+-- the operations in front and the next one, behind the list
+pub behind : (list front through : List Op) (o : Op) → through ≡ front ++ o ∷ [] → list ++ through ≡ (list ++ front) ++ o ∷ []
+behind list front through o e = ap (λ xs. list ++ xs) e ∙ sym (append_assoc list front (o ∷ []))
+
+pub applied_before : (list front through : List Op) (o : Op) → through ≡ front ++ o ∷ [] → IsApplied (list ++ through) → IsApplied (list ++ front)
+applied_before list front through o e a = applied_front (list ++ front) (o ∷ []) (subst IsApplied (behind list front through o e) a)
+
+pub there_as : (n : List ℕ) (ops : List Op) (r : Bool) → (r ≡ true) ↔ IsIn n (folders_of ops) → r ≡ is_there n ops
+there_as n ops r h = let l = there_in n ops in same_bool r (is_there n ops) (λ t. l.1 (h.0 t)) (λ t. h.1 (l.0 t))
+
+pub begins_told : (list front through : List Op) (o : Op) (n : List ℕ) (a b : Bool) → through ≡ front ++ o ∷ [] → n ≡ name_of o.kind → a ≡ is_there n (list ++ through) → b ≡ is_there n (list ++ front) → (a && not b) ≡ begins (list ++ front) o
+begins_told list front through o n a b e own x y =
+    (λ i. (x ∙ (λ k. is_there (own k) (behind list front through o e k))) i && not ((y ∙ ap (λ m. is_there m (list ++ front)) own) i))
+
+pub uid_told : (start : Start) (folder : List ℕ) (list front through : List Op) (o : Op) (there begun : Bool) (first uid r : ℕ) → through ≡ front ++ o ∷ [] → first ≡ first_uid start folder → there ≡ is_there folder (list ++ through) → begun ≡ begins_line folder (list ++ front) o → uid ≡ uidnext_of start folder (list ++ front) → r ≡ cond there (cond begun (uid + 1) uid) first → r ≡ uidnext_of start folder (list ++ through)
+uid_told start folder list front through o there begun first uid r e f x y u k =
+    let w = behind list front through o e in
+    let is = x ∙ ap (is_there folder) w in
+    k ∙ elim (cases_Bool there) [
+      | inl t ↦
+          let h = uidnext_here start folder (list ++ front) o (sym is ∙ t) in
+          let b : once begun ≡ once (begins_line folder (list ++ front) o) = ap once y in
+          let p = plus begun uid in
+          let q : cond there (cond begun (uid + 1) uid) first ≡ cond begun (uid + 1) uid = ap (λ z. cond z (cond begun (uid + 1) uid) first) t in
+          q ∙ p ∙ (λ i. u i + b i) ∙ sym h ∙ sym (ap (uidnext_of start folder) w)
+      | inr g ↦
+          ap (λ z. cond z (cond begun (uid + 1) uid) first) g ∙ f ∙ sym (uidnext_gone start folder (list ++ front) o (sym is ∙ g)) ∙ sym (ap (uidnext_of start folder) w)
+    ]
+  where
+    plus : (b : Bool) (n : ℕ) → cond b (n + 1) n ≡ n + once b
+    plus true n = refl
+    plus false n = omega arith
+
+pub k_told : (start : Start) (list front through : List Op) (o : Op) (b : Bool) (k r : ℕ) → through ≡ front ++ o ∷ [] → b ≡ begins (list ++ front) o → k ≡ start.k + counted_all begins (list ++ front) → r ≡ k + once b → r ≡ start.k + counted_all begins (list ++ through)
+k_told start list front through o b k r e x y z =
+    let m = all-append begins (list ++ front) o in
+    let w : counted_all begins (list ++ through) ≡ counted_all begins ((list ++ front) ++ o ∷ []) = ap (counted_all begins) (behind list front through o e) in
+    let v : once b ≡ once (begins (list ++ front) o) = ap once x in
+    omega (arith, m, w, v, y, z)
+
+once_bound : (b : Bool) → once b ≤ 1
+once_bound true = omega arith
+once_bound false = omega arith
+
+-- so many operations take no more UIDs, and begin no more incarnations
+pub uid_bound : (start : Start) (folder : List ℕ) (front list : List Op) (n : ℕ) → uidnext_of start folder list ≤ n → first_uid start folder ≤ n → uidnext_of start folder (list ++ front) ≤ n + length front
+uid_bound start folder [] list n u f = let e = ap (uidnext_of start folder) (append-nil list) in omega (arith, u, e)
+uid_bound start folder (o ∷ front) list n u f =
+    let e = ap (uidnext_of start folder) (append_assoc list (o ∷ []) front) in
+    let step : uidnext_of start folder (list ++ o ∷ []) ≤ n + 1 = elim (cases_Bool (is_there folder (list ++ o ∷ []))) [
+      | inl t ↦ let h = uidnext_here start folder list o t in let b = once_bound (begins_line folder list o) in omega (arith, h, b, u)
+      | inr g ↦ let h = uidnext_gone start folder list o g in omega (arith, h, f)
+    ] in
+    let r = uid_bound start folder front (list ++ o ∷ []) (n + 1) step (omega (arith, f)) in
+    omega (arith, r, e)
+
+pub k_bound : (front list : List Op) → counted_all begins (list ++ front) ≤ counted_all begins list + length front
+k_bound [] list = let e = ap (counted_all begins) (append-nil list) in omega (arith, e)
+k_bound (o ∷ front) list =
+    let e = ap (counted_all begins) (append_assoc list (o ∷ []) front) in
+    let m = all-append begins list o in
+    let b = once_bound (begins list o) in
+    let r = k_bound front (list ++ o ∷ []) in
+    omega (arith, r, e, m, b)
+
+-- the operations through a place
+pub take_op : (ops : List Op) (at : ℕ) (x o : Op) → at < length ops → x ≡ get_or ops at x → o ≡ x → take (at + 1) ops ≡ take at ops ++ o ∷ []
+take_op ops at x o l is e = take_more ops at x l ∙ (λ i. take at ops ++ (sym is ∙ sym e) i ∷ [])
+
+pub applied_take : (list ops : List Op) (n : ℕ) → IsApplied (list ++ ops) → IsApplied (list ++ take n ops)
+applied_take list ops n a = applied_front (list ++ take n ops) (drop n ops) (subst IsApplied (ap (λ xs. list ++ xs) (sym (take-append-drop n ops)) ∙ sym (append_assoc list (take n ops) (drop n ops))) a)
+
+-- far from a counter's end
+pub k_far : (start : Start) (list front : List Op) (o : Op) (next_k : ℕ) → next_k ≤ 65535 → length front ≤ 65535 - next_k → next_k ≡ start.k + counted_all begins list → (false ≡ true) ↔ LacksK start (list ++ front) o
+k_far start list front o next_k l m is =
+    let b = k_bound front list in
+    (λ h. absurd (false≢true h), λ w. let v = w.1 in absurd (impossible (start.k + counted_all begins (list ++ front)) v (omega (arith, b, is, l, m))))
+  where
+    impossible : (n : ℕ) → 65535 < n → n ≤ 65535 → ⊥
+    impossible n a b = omega (arith, a, b)
+
+pub k_near : (start : Start) (list front : List Op) (o : Op) (k : ℕ) (b : Bool) → b ≡ true → b ≡ begins (list ++ front) o → k ≡ start.k + counted_all begins (list ++ front) → (nat_lt 65535 k ≡ true) ↔ LacksK start (list ++ front) o
+k_near start list front o k b t e is = (
+  λ h. (sym e ∙ t, subst (λ n. 65535 < n) is (ltb-true 65535 k h)),
+  λ w. lt-ltb 65535 k (subst (λ n. 65535 < n) (sym is) w.1),
+)
+
+pub uid_far : (start : Start) (list front : List Op) (o : Op) (folder : List ℕ) (first now : ℕ) → folder ≡ name_of o.kind → nat_le (4294967295 - first) (length front) ≡ false → nat_le (4294967295 - now) (length front) ≡ false → first ≡ first_uid start folder → now ≡ uidnext_of start folder list → (false ≡ true) ↔ LacksUid start (list ++ front) o
+uid_far start list front o folder first now own f n is next =
+    let x = leb-false (4294967295 - first) (length front) f in
+    let y = leb-false (4294967295 - now) (length front) n in
+    let b = uid_bound start folder front list (4294967294 - length front) (omega (arith, y, next)) (omega (arith, x, is)) in
+    let e : uidnext_of start (name_of o.kind) (list ++ front) ≡ uidnext_of start folder (list ++ front) = ap (λ m. uidnext_of start m (list ++ front)) (sym own) in
+    (λ h. absurd (false≢true h), λ w. let v = w.1 in absurd (impossible (uidnext_of start (name_of o.kind) (list ++ front)) v (omega (arith, b, e, x))))
+  where
+    impossible : (n : ℕ) → n ≡ 4294967295 → n < 4294967295 → ⊥
+    impossible n a b = omega (arith, a, b)
+
+-- ---- the first one that lacks a number
+
+pub none_exhausted : (start : Start) (list : List Op) → Exhausts start list [] → ⊥
+none_exhausted start list ([], o, back, e, x) = absurd cc
+none_exhausted start list (y ∷ front, o, back, e, x) = absurd cc
+
+last_cut : (xs front back : List Op) (x o : Op) → xs ++ x ∷ [] ≡ front ++ o ∷ back → ((xs ≡ front) × (x ≡ o)) ⊎ ((rest : List Op) × (xs ≡ front ++ o ∷ rest))
+last_cut [] [] back x o e = inl (refl, cc)
+last_cut [] (y ∷ []) back x o e = absurd cc
+last_cut [] (y ∷ z ∷ front) back x o e = absurd cc
+last_cut (y ∷ xs) [] back x o e = let k : y ≡ o = cc in inr (xs, (λ i. k i ∷ xs))
+last_cut (y ∷ xs) (z ∷ front) back x o e =
+    let k : y ≡ z = cc in
+    let r : xs ++ x ∷ [] ≡ front ++ o ∷ back = cc in
+    elim (last_cut xs front back x o r) [
+      | inl w ↦ inl ((λ i. k i ∷ w.0 i), w.1)
+      | inr w ↦ inr (w.0, (λ i. k i ∷ w.1 i))
+    ]
+
+pub more_exhausted : (start : Start) (list xs : List Op) (x : Op) → Exhausts start list (xs ++ x ∷ []) → Exhausts start list xs ⊎ IsExhausted start (list ++ xs) x
+more_exhausted start list xs x (front, o, back, e, h) =
+    elim (last_cut xs front back x o e) [
+      | inl w ↦ inr (subst (λ (p : Op). IsExhausted start (list ++ xs) p) (sym w.1) (subst (λ (ys : List Op). IsExhausted start (list ++ ys) o) (sym w.0) h))
+      | inr w ↦ inl (front, o, w.0, w.1, h)
+    ]
+
+-- what holds of all in front and of the next holds of all in front of the one after
+pub all_more : (P : Op → Type 0) (ops : List Op) (at : ℕ) (x : Op) → at < length ops → x ≡ get_or ops at x → ((o : Op) → IsIn o (take at ops) → P o) → P x → (o : Op) → IsIn o (take (at + 1) ops) → P o
+all_more P ops at x l is before here o h =
+    elim (in_parts o (take at ops) (x ∷ []) (subst (IsIn o) (take_op ops at x x l is refl) h)) [
+      | inl t ↦ before o t
+      | inr t ↦ elim t [ inl k ↦ subst P k here | inr n ↦ absurd n ]
+    ]
+
+pub all_of : (P : Op → Type 0) (ops : List Op) (n : ℕ) → length ops ≤ n → ((o : Op) → IsIn o (take n ops) → P o) → (o : Op) → IsIn o ops → P o
+all_of P ops n l h o i = h o (subst (IsIn o) (sym (take_all n ops l)) i)

@@ -1,0 +1,122 @@
+use Rattle.std.specs.Str.{bytes_eq}
+use Rattle.std.proofs.Common.{◌≡◌, ◌↔◌, inl, inr, ℕ, ◌+◌, ◌*◌, ◌<◌, ◌≤◌, Bool, true, false, cond, List, [], ◌∷◌, ◌++◌, Option, Some, None, length, get_or, refl, sym, ap, ◌∙◌, subst, append_assoc, append-nil, arith}
+use Rattle.std.proofs.lemmas.Bool.{cases_Bool, false≢true, false_from_ne_true}
+use Rattle.std.proofs.lemmas.Slice.Eq.{bytes_eq-Decides}
+use Rattle.imap_types.specs.Names.{inbox}
+use Rattle.merge_laws.specs.Orders.{AreSound, IsCausal, IsIn, fold_of}
+use Rattle.merge_laws.proofs.Lists.{in_parts}
+use Rattle.crdt_ops.specs.declared.op.Op.{Op}
+use Rattle.crdt_ops.specs.Sound.{IsSound}
+use Rattle.crdt_ops.specs.Tags.{name_of}
+use Rattle.folder_state.specs.Contents.{Contents, IsMadeBy, effect_of, no_contents}
+use Rattle.uid_projection.specs.declared.chart.Chart.{Chart}
+use Rattle.uid_projection.specs.declared.charts.Charts.{Charts}
+use Rattle.uid_projection.specs.declared.start.Start.{Start}
+use Rattle.uid_projection.specs.Applied.{IsApplied}
+use Rattle.uid_projection.specs.Chart.{IsChart}
+use Rattle.uid_projection.specs.Exhaustion.{Exhausts, IsExhausted}
+use Rattle.uid_projection.specs.Following.{Follows, IsReadyFor}
+use Rattle.uid_projection.specs.Incarnations.{is_there, k_of, uidvalidity_of}
+use Rattle.uid_projection.specs.Lines.{concerns_by, first_uid}
+use Rattle.uid_projection.specs.Readiness.{less_room}
+use Rattle.uid_projection.specs.Shown.{Shows}
+use Rattle.uid_projection.specs.Table.{HasRooms, IsNextOn, IsTable, IsUpTo}
+use Rattle.uid_projection.proofs.Asked.{up_at}
+use Rattle.uid_projection.proofs.Lasting.{about_name}
+use Rattle.uid_projection.proofs.Presence.{inbox_there, there_tags}
+use Rattle.uid_projection.proofs.Tables.{table_unmoved}
+
+pub both_applied : (list ops : List Op) → IsApplied list → AreSound IsSound ops → IsCausal (λ (o : Op). o.id) (λ o. o.clock) (list ++ ops) → IsApplied (list ++ ops)
+both_applied list ops a s d = record {
+  sound = λ o i. elim (in_parts o list ops i) [ inl t ↦ a.sound o t | inr t ↦ s o t ];
+  causal = d;
+}
+
+pub made_by : (c : Contents) (list : List Op) → IsApplied list → c ≡ fold_of effect_of no_contents list → IsMadeBy c list
+made_by c list a m = record { sound = a.sound; causal = a.causal; made = m }
+
+-- an operation that was made ready for comes next
+pub next_on : (x : Charts) (list : List Op) (o p : Op) (there : Bool) → p ≡ o → Follows x list → IsReadyFor x list (o ∷ []) → there ≡ is_there (name_of p.kind) (list ++ p ∷ []) → IsNextOn x.start x.next_k x.charts.items list p there
+next_on x list o p there e f r t =
+    let r2 : IsReadyFor x list (p ∷ []) = subst (λ (q : Op). IsReadyFor x list (q ∷ [])) (sym e) r in
+    record {
+      applied = r2.applied;
+      table = f.table;
+      is_there_now = t;
+      lasts = λ h. r2.lasts ([], p, [], refl, subst (λ (xs : List Op). IsExhausted x.start xs p) (sym (append-nil list)) h);
+    }
+
+-- what stays ready for the others
+pub others_ready : (x y : Charts) (list : List Op) (o : Op) (rest : List Op) → y.start ≡ x.start → ((n : ℕ) (folder : List ℕ) → HasRooms (n + 1) folder x.charts.items → HasRooms n folder y.charts.items) → IsReadyFor x list (o ∷ rest) → IsReadyFor y (list ++ o ∷ []) rest
+others_ready x y list o rest same rooms r = record {
+  applied = subst IsApplied (sym (append_assoc list (o ∷ []) rest)) r.applied;
+  lasts = λ e.
+      let (front, p, back, k, h) = e in
+      let h2 : IsExhausted x.start (list ++ o ∷ front) p = subst (λ (xs : List Op). IsExhausted x.start xs p) (append_assoc list (o ∷ []) front) (subst (λ (s : Start). IsExhausted s ((list ++ o ∷ []) ++ front) p) same h) in
+      r.lasts (o ∷ front, p, back, ap (λ xs. o ∷ xs) k, h2);
+  rooms = λ p i about. rooms (length rest) (name_of p.kind) (less_room (length rest + 1) (length (o ∷ rest)) (name_of p.kind) x.charts.items (omega arith) (r.rooms p (inr i) about));
+}
+
+-- an operation that is about no folder
+pub nobody : (o : Op) → concerns_by (name_of o.kind) o.kind ≡ false → (folder : List ℕ) → concerns_by folder o.kind ≡ false
+nobody o f folder = false_from_ne_true (concerns_by folder o.kind) (λ t. false≢true (sym f ∙ subst (λ (n : List ℕ). concerns_by n o.kind ≡ true) (about_name folder o.kind t) t))
+
+pub unmoved : (x : Charts) (list : List Op) (o : Op) → concerns_by (name_of o.kind) o.kind ≡ false → Follows x list → IsReadyFor x list (o ∷ []) → Follows x (list ++ o ∷ [])
+unmoved x list o f w r = record {
+  applied = r.applied;
+  table = table_unmoved x.start list o r.applied x.charts.items x.next_k (nobody o f) w.table;
+}
+
+-- nothing applied
+pub first_table : (start : Start) (c : Chart) (charts : List Chart) → charts ≡ c ∷ [] → c.folder ≡ inbox → c.there ≡ true → c.k ≡ start.k → c.uidnext ≡ start.uid → c.highest ≡ 1 → c.entries.items ≡ [] → IsTable start [] start.k charts
+first_table start c charts items own t k u h es =
+    let first : IsChart start inbox [] start.k start.uid 1 [] = record {
+      is_k = omega arith;
+      is_uidnext = omega arith;
+      is_highest = omega arith;
+      are_entries = λ e. (λ i. absurd i, λ w. absurd (false≢true w.present));
+      ascending = tt;
+      below = λ e i. absurd i;
+    } in
+    let a = subst (λ n. IsChart start n [] start.k start.uid 1 []) (sym own) first in
+    let b = subst (λ n. IsChart start c.folder [] n start.uid 1 []) (sym k) a in
+    let d = subst (λ n. IsChart start c.folder [] c.k n 1 []) (sym u) b in
+    let e = subst (λ n. IsChart start c.folder [] c.k c.uidnext n []) (sym h) d in
+    let s : Shows start [] c = subst (λ xs. IsChart start c.folder [] c.k c.uidnext c.highest xs) (sym es) e in
+    subst (IsTable start [] start.k) (sym items) (record {
+      is_k = omega arith;
+      shows = λ x i. elim i [
+        | inl j ↦ subst (IsUpTo start []) j (record {
+          there = t ∙ sym (inbox_there []) ∙ ap (λ n. is_there n []) (sym own);
+          live = λ q. s;
+          away = λ q. absurd (false≢true (sym q ∙ t));
+          small = λ q n. absurd (n own);
+        })
+        | inr n ↦ absurd n
+      ];
+      covers = λ folder h. elim ((there_tags folder []).0 h) [
+        | inl e ↦ (c, inl refl, own ∙ sym e)
+        | inr w ↦ elim w.1 [ inl x ↦ absurd (false≢true x) | inr x ↦ absurd (false≢true x) ]
+      ];
+      apart = (λ x i e. absurd i, tt);
+    })
+
+-- the UIDVALIDITY by the chart
+pub validity_at : (start : Start) (list : List Op) (k : ℕ) (charts : List Chart) (name : List ℕ) (t : IsTable start list k charts) (at : ℕ) (c : Chart) (r : Option ℕ) → at < length charts → c ≡ get_or charts at c → c.folder ≡ name → bytes_eq name inbox ≡ false → (c.there ≡ false → r ≡ None) → (c.there ≡ true → c.k ≤ 65535 → r ≡ Some (65536 * c.k + start.replica)) → r ≡ uidvalidity_of start name list
+validity_at start list k charts name t at c r l is own other away there =
+    let up = up_at start list k charts name t at c l is in
+    let was : c.there ≡ is_there name list = up.there ∙ ap (λ n. is_there n list) own in
+    elim (cases_Bool c.there) [
+      | inl q ↦
+          let s : IsChart start name list c.k c.uidnext c.highest c.entries.items = subst (λ n. IsChart start n list c.k c.uidnext c.highest c.entries.items) own (up.live q) in
+          let small = up.small q (λ e. false≢true (sym other ∙ (bytes_eq-Decides name inbox).1 (sym own ∙ e))) in
+          there q small ∙ (λ i. Some (65536 * s.is_k i + start.replica))
+          ∙ (λ i. cond (sym other i) (Some start.replica) (cond ((sym q ∙ was) i) (Some (65536 * k_of start name list + start.replica)) None))
+      | inr f ↦ away f ∙ (λ i. cond (sym other i) (Some start.replica) (cond ((sym f ∙ was) i) (Some (65536 * k_of start name list + start.replica)) None))
+    ]
+
+pub validity_gone : (start : Start) (list : List Op) (name : List ℕ) → bytes_eq name inbox ≡ false → is_there name list ≡ false → ◌≡◌ {A = Option ℕ} None (uidvalidity_of start name list)
+validity_gone start list name other gone = (λ i. cond (sym other i) (Some start.replica) (cond (sym gone i) (Some (65536 * k_of start name list + start.replica)) None))
+
+pub validity_inbox : (start : Start) (list : List Op) (name : List ℕ) → bytes_eq name inbox ≡ true → ◌≡◌ {A = Option ℕ} (Some start.replica) (uidvalidity_of start name list)
+validity_inbox start list name own = (λ i. cond (sym own i) (Some start.replica) (cond (is_there name list) (Some (65536 * k_of start name list + start.replica)) None))

@@ -1,0 +1,15 @@
+use Rattle.std.proofs.Common.{◌≡◌, ◌≤◌, ◌+◌, List, ◌++◌, take}
+use Rattle.crdt_ops.specs.declared.op.Op.{Op}
+use Rattle.folder_state.specs.Contents.{IsMadeBy}
+use Rattle.folder_state.specs.Tables.{contents_of}
+use Rattle.uid_projection.specs.declared.start.Start.{Start}
+use Rattle.uid_projection.specs.Applied.{IsApplied}
+use Rattle.uid_projection.specs.History.{counted_all}
+use Rattle.uid_projection.specs.Incarnations.{begins}
+use Rattle.uid_projection.proofs.ahead.k_after.Given as goal
+
+abbrev pub invariant-loop-at : goal.invariant-loop-at
+invariant-loop-at l = record {
+  told : (start : Start) (list : List Op) → IsApplied (list ++ l.ops) → IsMadeBy (contents_of l.value) list → l.now ≡ start.k + counted_all begins list → l.k ≡ start.k + counted_all begins (list ++ take l.at l.ops);
+  bound : l.k ≤ 4294967295 + l.at;
+}

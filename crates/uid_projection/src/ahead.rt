@@ -1,0 +1,158 @@
+//! Whether operations that come next would need a number that a counter doesn't have. Nothing here takes memory.
+
+ghost use Rattle.std.specs.Prelude.{◌≡◌, ◌↔◌, ◌≤◌, ◌<◌, ◌+◌, ◌-◌, ℕ, List, [], ◌∷◌, ◌++◌, nat_le, if◌then◌else◌, IsTrue};
+ghost use Rattle.std.specs.Str.{bytes_eq};
+ghost use Rattle.crdt_ops.specs.declared.op.Op.{Op as Operation};
+ghost use Rattle.folder_state.specs.Contents.{IsMadeBy};
+ghost use Rattle.folder_state.specs.Tables.{contents_of};
+ghost use Rattle.uid_projection.specs.declared.start.Start.{Start as First};
+ghost use Rattle.uid_projection.specs.Applied.{IsApplied};
+ghost use Rattle.uid_projection.specs.Exhaustion.{Exhausts, IsExhausted, LacksK, LacksUid};
+ghost use Rattle.uid_projection.specs.History.{counted_all};
+ghost use Rattle.uid_projection.specs.Incarnations.{begins};
+ghost use Rattle.uid_projection.specs.Lines.{begins_line, first_uid, uidnext_of};
+ghost use Rattle.uid_projection.specs.Table.{IsTable};
+
+use crate::chart::Chart;
+use crate::start::{Start, first_of};
+use crate::table::uidnext_in;
+use crdt_ops::{Kind, Op, SoundOp};
+use folder_state::Folders;
+use imap_types::Name;
+
+/// Whether one of these operations would need a number that a counter doesn't have, applied behind those in front of it. The
+/// folders are those of the list for which the charts stand. Its cost grows as the operations times the charts; near the end of
+/// a counter, as the operations' square times what is in the folders.
+pub fn exhausts(
+    start: &Start,
+    next_k: u32,
+    charts: &[Chart],
+    value: &Folders,
+    ops: &[SoundOp],
+) -> bool
+    ensures { (list : List Operation) → IsApplied (list ++ ops.now) → IsTable start.now list next_k charts.now → IsMadeBy (contents_of value.now) list → IsTrue result ↔ Exhausts start.now list ops.now }
+{
+    for at in 0..ops.len() {
+        let op = ops[at].op();
+        if lacks(start, next_k, charts, value, &ops[..at], &ops[..at + 1], op) {
+            return true;
+        }
+    }
+    false
+}
+
+/// Whether the operation would need a number that a counter doesn't have, applied behind those in front.
+fn lacks(
+    start: &Start,
+    next_k: u32,
+    charts: &[Chart],
+    value: &Folders,
+    front: &[SoundOp],
+    through: &[SoundOp],
+    op: &Op,
+) -> bool
+    ensures { (list : List Operation) → through.now ≡ front.now ++ op.now ∷ [] → IsApplied (list ++ through.now) → IsTable start.now list next_k charts.now → IsMadeBy (contents_of value.now) list → IsTrue result ↔ IsExhausted start.now (list ++ front.now) op.now }
+{
+    lacks_uid(start, charts, value, front, op) || lacks_k(next_k, value, front, through, op)
+}
+
+/// Whether it would need a UID, and none is left.
+fn lacks_uid(start: &Start, charts: &[Chart], value: &Folders, front: &[SoundOp], op: &Op) -> bool
+    ensures { (list : List Operation) (k : ℕ) → IsApplied (list ++ front.now) → IsTable start.now list k charts.now → IsMadeBy (contents_of value.now) list → IsTrue result ↔ LacksUid start.now (list ++ front.now) op.now }
+{
+    let folder = op.kind.name();
+    let first = first_of(start, folder);
+    let now = uidnext_in(start, charts, folder);
+    if !is_near(first, front.len()) && !is_near(now, front.len()) {
+        return false;
+    }
+    begins_line(value, folder, front, op)
+        && uid_after(value, folder, first, now, front) == 4_294_967_295
+}
+
+/// Whether so many UIDs more may use them up.
+fn is_near(uid: u32, more: usize) -> bool
+    ensures { result ≡ nat_le (4294967295 - uid) more }
+{
+    (u32::MAX - uid) as usize <= more
+}
+
+/// Whether a line of the folder begins with the operation, applied behind these.
+fn begins_line(value: &Folders, folder: &Name, front: &[SoundOp], op: &Op) -> bool
+    ensures { (list : List Operation) → IsApplied (list ++ front.now) → IsMadeBy (contents_of value.now) list → result ≡ begins_line folder.now (list ++ front.now) op.now }
+{
+    match &op.kind {
+        Kind::Append { folder: own, .. } => same(folder, own),
+        Kind::Store {
+            folder: own,
+            old,
+            ..
+        } => same(folder, own) && !value.has_message_after(folder, old, front),
+        Kind::Create { .. } => false,
+        Kind::Delete { .. } => false,
+        Kind::Expunge { .. } => false,
+        Kind::Subscribe { .. } => false,
+        Kind::Unsubscribe { .. } => false,
+    }
+}
+
+fn same(folder: &Name, other: &Name) -> bool
+    ensures { result ≡ bytes_eq folder.now other.now }
+{
+    folder.as_bytes() == other.as_bytes()
+}
+
+/// The UID that the folder's next line gets after these operations, where `now` is that which it gets before them.
+fn uid_after(value: &Folders, folder: &Name, first: u32, now: u32, ops: &[SoundOp]) -> u64
+    ensures { (start : First) (list : List Operation) → IsApplied (list ++ ops.now) → IsMadeBy (contents_of value.now) list → first ≡ first_uid start folder.now → now ≡ uidnext_of start folder.now list → result ≡ uidnext_of start folder.now (list ++ ops.now) }
+{
+    let mut uid = u64::from(now);
+    for at in 0..ops.len() {
+        let begun = begins_line(value, folder, &ops[..at], ops[at].op());
+        let there = value.exists_after(folder, &ops[..at + 1]);
+        uid = uid_behind(there, begun, first, uid);
+    }
+    uid
+}
+
+fn uid_behind(there: bool, begun: bool, first: u32, uid: u64) -> u64
+    requires { uid < 18446744073709551615 }
+    ensures uid { result ≡ (if there then (if begun then uid + 1 else uid) else first) }
+    ensures bound { (n : ℕ) → uid ≤ n → 4294967295 ≤ n → result ≤ n + 1 }
+{
+    if !there {
+        return u64::from(first);
+    }
+    if begun { uid + 1 } else { uid }
+}
+
+/// Whether an incarnation would begin with it, and its k would pass 65,535.
+fn lacks_k(next_k: u32, value: &Folders, front: &[SoundOp], through: &[SoundOp], op: &Op) -> bool
+    ensures { (start : First) (list : List Operation) → through.now ≡ front.now ++ op.now ∷ [] → IsApplied (list ++ through.now) → IsMadeBy (contents_of value.now) list → next_k ≡ start.k + counted_all begins list → IsTrue result ↔ LacksK start (list ++ front.now) op.now }
+{
+    if next_k <= 65_535 && front.len() <= (65_535 - next_k) as usize {
+        return false;
+    }
+    begins(value, front, through, op) && 65_535 < k_after(next_k, value, front)
+}
+
+/// Whether an incarnation would begin with it.
+fn begins(value: &Folders, front: &[SoundOp], through: &[SoundOp], op: &Op) -> bool
+    ensures { (list : List Operation) → through.now ≡ front.now ++ op.now ∷ [] → IsApplied (list ++ through.now) → IsMadeBy (contents_of value.now) list → result ≡ begins (list ++ front.now) op.now }
+{
+    let folder = op.kind.name();
+    value.exists_after(folder, through) && !value.exists_after(folder, front)
+}
+
+/// The k of the next incarnation that begins after these operations, where `now` is that before them.
+fn k_after(now: u32, value: &Folders, ops: &[SoundOp]) -> u64
+    ensures { (start : First) (list : List Operation) → IsApplied (list ++ ops.now) → IsMadeBy (contents_of value.now) list → now ≡ start.k + counted_all begins list → result ≡ start.k + counted_all begins (list ++ ops.now) }
+{
+    let mut k = u64::from(now);
+    for at in 0..ops.len() {
+        if begins(value, &ops[..at], &ops[..at + 1], ops[at].op()) {
+            k += 1;
+        }
+    }
+    k
+}

@@ -1,0 +1,21 @@
+//! Reads cases of views from its standard input, and prints each with what the code answers: where all is right, what it was given.
+//!
+//! A line is a case, `KIND INPUT => ANSWER`. The head of the file `stdin` beside this folder says which kinds there are, and
+//! how inputs and answers are written.
+#![tactic(auto)]
+
+mod cases;
+mod reading;
+mod words;
+mod writing;
+
+use std::io::{self, BufRead, BufReader, BufWriter, Write};
+
+fn main(rt: HostRuntime) -> io::Result<()> {
+    let mut writer = BufWriter::new(rt.alloc(), io::writer(&rt))?;
+    for line in BufReader::new(rt.alloc(), rt.reader())?.lines(rt.alloc()) {
+        let answered = cases::answered(rt.alloc(), line?.as_str())?;
+        writer.write_all(&answered)?;
+    }
+    writer.flush()
+}
