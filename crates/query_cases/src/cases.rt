@@ -1,0 +1,52 @@
+//! The lines of cases.
+
+use crate::commands::put_command;
+use crate::stage::Stage;
+use crate::texts::put_of_text;
+use crate::trouble::Trouble;
+use crate::words::Words;
+use std::alloc::{AllocError, Global};
+
+/// The line with its LF. In a case, `KIND INPUT => ANSWER`, the answer is what the code answers now; comments, which begin with
+/// `#`, empty lines, and lines that set what is asked of are as they were.
+pub fn answered(alloc: Global, stage: &mut Stage, line: &str) -> Result<Vec<u8>, AllocError> {
+    let mut words = Words::new(alloc);
+    if line.is_empty() || line.starts_with('#') {
+        words.put(line);
+    } else {
+        put_line(alloc, &mut words, stage, line);
+    }
+    words.put("\n");
+    words.finish()
+}
+
+fn put_line(alloc: Global, words: &mut Words, stage: &mut Stage, line: &str) {
+    let (kind, rest) = line.split_once(' ').unwrap_or((line, ""));
+    match stage.set(alloc, kind, rest) {
+        Ok(true) => words.put(line),
+        Ok(false) => put_case(alloc, words, stage, line),
+        Err(trouble) => {
+            words.put(line);
+            words.put(" => ");
+            words.put_trouble(trouble);
+        }
+    }
+}
+
+fn put_case(alloc: Global, words: &mut Words, stage: &Stage, line: &str) {
+    let (case, _) = line.split_once(" => ").unwrap_or((line, ""));
+    words.put(case);
+    words.put(" => ");
+    if let Err(trouble) = put_answer(alloc, words, stage, case) {
+        words.put_trouble(trouble);
+    }
+}
+
+fn put_answer(alloc: Global, words: &mut Words, stage: &Stage, case: &str) -> Result<(), Trouble> {
+    let (kind, input) = case.split_once(' ').unwrap_or((case, ""));
+    if kind == "command" {
+        put_command(alloc, words, stage, input)
+    } else {
+        put_of_text(alloc, words, stage.text.as_bytes(), kind, input)
+    }
+}

@@ -1,0 +1,180 @@
+//! What commands that read mailboxes answer.
+
+use crate::fields::octets;
+use crate::mailbox::Mailbox;
+use crate::messages::rows_of;
+use crate::searches::{found, named};
+use crate::stage::Stage;
+use crate::trouble::Trouble;
+use crate::words::Words;
+use imap_answers::{Answer, SearchResults};
+use imap_grammar::{Command, FetchItem, ParseFault, StatusItem, Tagged, parse};
+use imap_print::print;
+use imap_query::{FetchMode, ListMode, fetch, list_names, status};
+use imap_types::{Escape, Name, Octets, SequenceSet};
+use std::alloc::{AllocError, Global};
+
+/// The answers to the command that a line spells, its tagged one left out.
+pub fn put_command(
+    alloc: Global,
+    words: &mut Words,
+    stage: &Stage,
+    line: &str,
+) -> Result<(), Trouble> {
+    let frame = frame(alloc, line)?;
+    match parse(alloc, &frame) {
+        Ok(tagged) => put_answers_to(alloc, words, stage, &tagged),
+        Err(ParseFault::NoMemory) => Err(Trouble::NoMemory),
+        Err(_) => Err(Trouble::NotACase),
+    }
+}
+
+fn frame(alloc: Global, line: &str) -> Result<Vec<u8>, Trouble> {
+    let mut frame = octets(alloc, Escape::Text, line)?.into_vec();
+    frame.extend_from_slice(b"\r\n")?;
+    Ok(frame)
+}
+
+fn put_answers_to(
+    alloc: Global,
+    words: &mut Words,
+    stage: &Stage,
+    tagged: &Tagged,
+) -> Result<(), Trouble> {
+    let answers = answers_to(alloc, stage, tagged)?;
+    put_answers(alloc, words, &answers)?;
+    Ok(())
+}
+
+/// Each answer without its line end, ` | ` between them, `nothing` where there are none.
+fn put_answers(alloc: Global, words: &mut Words, answers: &[Answer]) -> Result<(), AllocError> {
+    let mut mark = "";
+    for answer in answers {
+        let mut text = Vec::new(alloc);
+        print(answer, &mut text)?;
+        words.put(mark);
+        words.put_escaped(text.strip_suffix(b"\r\n".as_slice()).unwrap_or(&text));
+        mark = " | ";
+    }
+    words.put_if(answers.is_empty(), "nothing");
+    Ok(())
+}
+
+fn answers_to(alloc: Global, stage: &Stage, tagged: &Tagged) -> Result<Vec<Answer>, Trouble> {
+    match &tagged.command {
+        Command::ListNames {
+            subscribed_only,
+            reference,
+            pattern,
+            return_subscribed,
+        } => {
+            let mode = ListMode {
+                subscribed_only: *subscribed_only,
+                return_subscribed: *return_subscribed,
+            };
+            names_listed(alloc, stage, mode, reference, pattern)
+        }
+        Command::Status { name, items } => {
+            status_told(alloc, &stage.mailbox, name, items.as_slice())
+        }
+        _ => answers_of_messages(alloc, &stage.mailbox, tagged),
+    }
+}
+
+fn answers_of_messages(
+    alloc: Global,
+    mailbox: &Mailbox,
+    tagged: &Tagged,
+) -> Result<Vec<Answer>, Trouble> {
+    match &tagged.command {
+        Command::Search {
+            by_uid,
+            options,
+            steps,
+        } => {
+            let results = found(
+                alloc,
+                mailbox,
+                *by_uid,
+                options.as_slice(),
+                steps.as_slice(),
+            )?;
+            search_answers(alloc, &tagged.tag, *by_uid, results)
+        }
+        Command::Fetch {
+            by_uid,
+            messages,
+            items,
+            changed_since,
+        } => {
+            let mode = FetchMode {
+                by_uid: *by_uid,
+                condstore: mailbox.condstore,
+                writable: mailbox.is_writable,
+                changed_since: *changed_since,
+            };
+            fetched(alloc, mailbox, messages, items.as_slice(), mode)
+        }
+        _ => Err(Trouble::NotACase),
+    }
+}
+
+fn names_listed(
+    alloc: Global,
+    stage: &Stage,
+    mode: ListMode,
+    reference: &Octets,
+    pattern: &Octets,
+) -> Result<Vec<Answer>, Trouble> {
+    Ok(list_names(
+        alloc,
+        reference.as_bytes(),
+        pattern.as_bytes(),
+        mode,
+        &stage.folders,
+        &stage.subscriptions,
+    )?)
+}
+
+fn status_told(
+    alloc: Global,
+    mailbox: &Mailbox,
+    name: &Name,
+    items: &[StatusItem],
+) -> Result<Vec<Answer>, Trouble> {
+    let rows = rows_of(alloc, &mailbox.messages, false)?;
+    let items = status(&rows, items, mailbox.marks);
+    let name = name.copy(alloc)?;
+    let mut answers = Vec::new(alloc);
+    answers.push(Answer::Status { name, items })?;
+    Ok(answers)
+}
+
+fn search_answers(
+    alloc: Global,
+    tag: &Octets,
+    by_uid: bool,
+    results: SearchResults,
+) -> Result<Vec<Answer>, Trouble> {
+    let tag = tag.copy(alloc)?;
+    let mut answers = Vec::new(alloc);
+    answers.push(Answer::Search {
+        tag,
+        by_uid,
+        results,
+    })?;
+    Ok(answers)
+}
+
+fn fetched(
+    alloc: Global,
+    mailbox: &Mailbox,
+    messages: &SequenceSet,
+    items: &[FetchItem],
+    mode: FetchMode,
+) -> Result<Vec<Answer>, Trouble> {
+    let named = named(alloc, &mailbox.view, messages.ranges(), mode.by_uid)?;
+    let before = rows_of(alloc, &mailbox.messages, false)?;
+    let after = rows_of(alloc, &mailbox.messages, true)?;
+    Ok(fetch(alloc, &named, &before, &after, items, mode)?)
+}

@@ -1,0 +1,141 @@
+//! Messages, and their rows before and after a command.
+
+use crate::fields::{cut, long_number, number, octets};
+use crate::trouble::Trouble;
+use imap_types::{DATE_TIME_OCTETS, DateTime, Escape, Flags, Octets};
+use mail_listing::{Row, Rows};
+use std::alloc::Global;
+use tags_clocks::{OpId, ReplicaId};
+
+/// What a command may change of a message.
+#[derive(Drop)]
+pub struct Standing {
+    modseq: u64,
+    flags: Flags,
+}
+
+/// A message of the mailbox.
+#[derive(Drop)]
+pub struct Message {
+    pub uid: u32,
+    before: Standing,
+    /// How it stands after a command, where that changes it.
+    pub after: Option<Standing>,
+    date: DateTime,
+    text: Octets,
+}
+
+impl Message {
+    fn stands(&self, is_after: bool) -> &Standing {
+        match &self.after {
+            Some(after) => { if is_after { after } else { &self.before } }
+            None => &self.before,
+        }
+    }
+}
+
+/// `UID MODSEQ FLAGS DATE TEXT`.
+pub fn message_in(alloc: Global, text: &str) -> Result<Message, Trouble> {
+    let (uid, rest) = cut(text)?;
+    let uid = number(uid)?;
+    let (front, back) = rest.split_once(" \"").ok_or(Trouble::NotACase)?;
+    let before = standing_in(alloc, front)?;
+    let (date, text) = back.split_once("\" ").ok_or(Trouble::NotACase)?;
+    Ok(Message {
+        uid,
+        before,
+        after: None,
+        date: date_time(date.as_bytes())?,
+        text: octets(alloc, Escape::Text, text)?,
+    })
+}
+
+/// `MODSEQ FLAGS`.
+pub fn standing_in(alloc: Global, text: &str) -> Result<Standing, Trouble> {
+    let (modseq, flags) = cut(text)?;
+    Ok(Standing {
+        modseq: long_number(modseq)?,
+        flags: flags_in(alloc, flags)?,
+    })
+}
+
+/// `()`, or flags with spaces between them in parentheses.
+fn flags_in(alloc: Global, text: &str) -> Result<Flags, Trouble> {
+    let mut flags = Flags::none(alloc);
+    if text == "()" {
+        return Ok(flags);
+    }
+    let Some(text) = text.strip_prefix('(') else {
+        return Err(Trouble::NotACase);
+    };
+    let Some(text) = text.strip_suffix(')') else {
+        return Err(Trouble::NotACase);
+    };
+    for flag in text.split(' ') {
+        set_flag(alloc, flag, &mut flags)?;
+    }
+    Ok(flags)
+}
+
+fn set_flag(alloc: Global, flag: &str, flags: &mut Flags) -> Result<(), Trouble> {
+    match flag {
+        "\\Answered" => flags.answered = true,
+        "\\Flagged" => flags.flagged = true,
+        "\\Deleted" => flags.deleted = true,
+        "\\Seen" => flags.seen = true,
+        "\\Draft" => flags.draft = true,
+        keyword => flags.keywords.insert(alloc, keyword.as_bytes())?,
+    }
+    Ok(())
+}
+
+/// The date-time between whose quotes these octets stand.
+pub fn date_time(octets: &[u8]) -> Result<DateTime, Trouble> {
+    if octets.len() != DATE_TIME_OCTETS - 2 {
+        return Err(Trouble::NotACase);
+    }
+    let mut quoted = [b'"'; 28];
+    quoted[1..27].copy_from_slice(octets);
+    DateTime::new(quoted).ok_or(Trouble::NotACase)
+}
+
+/// The rows of these messages, as they are after a command or before it.
+pub fn rows_of<'a>(
+    alloc: Global,
+    messages: &'a [Message],
+    is_after: bool,
+) -> Result<Rows<'a>, Trouble> {
+    let mut rows = Vec::new(alloc);
+    let mut low = 1;
+    for message in messages {
+        let Some(row) = row_of(message, is_after) else {
+            return Err(Trouble::NotACase);
+        };
+        if u64::from(row.uid) < low {
+            return Err(Trouble::NotACase);
+        }
+        low = u64::from(row.uid) + 1;
+        if rows.push(row).is_err() {
+            return Err(Trouble::NoMemory);
+        }
+    }
+    Ok(Rows::from_ascending(rows))
+}
+
+/// The row of a message, under some id.
+fn row_of<'a>(message: &'a Message, is_after: bool) -> Option<Row<'a>> {
+    let standing = message.stands(is_after);
+    Some(Row {
+        uid: message.uid,
+        modseq: standing.modseq,
+        id: some_id()?,
+        origin: some_id()?,
+        flags: &standing.flags,
+        date: &message.date,
+        text: message.text.as_bytes(),
+    })
+}
+
+fn some_id() -> Option<OpId> {
+    OpId::new(ReplicaId::new(1)?, 1)
+}

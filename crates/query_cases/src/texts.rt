@@ -1,0 +1,103 @@
+//! What a text's parts are, what it holds, and date-times.
+
+use crate::fields::{all_octets, cut, long_number, number, octets};
+use crate::messages::date_time;
+use crate::trouble::Trouble;
+use crate::words::Words;
+use imap_types::{Day, Escape, Moment};
+use mail_text::{
+    body, civil, contains_nocase, date_ok, field_contains_nocase, fields, header, other_fields,
+    partial, written_day,
+};
+use std::alloc::Global;
+
+/// What is answered of a text, in the words that the case asks for.
+pub fn put_of_text(
+    alloc: Global,
+    words: &mut Words,
+    text: &[u8],
+    kind: &str,
+    input: &str,
+) -> Result<(), Trouble> {
+    match kind {
+        "header" => words.put_text(header(text)),
+        "body" => words.put_text(body(text)),
+        "partial" => return put_partial(words, text, input),
+        "fields" => return put_fields(alloc, words, text, input),
+        "other_fields" => return put_other_fields(alloc, words, text, input),
+        "contains_nocase" => return put_contains(alloc, words, text, input),
+        "field_contains_nocase" => return put_field_contains(alloc, words, text, input),
+        _ => return put_of_date(alloc, words, kind, input),
+    }
+    Ok(())
+}
+
+/// `START COUNT`.
+fn put_partial(words: &mut Words, text: &[u8], input: &str) -> Result<(), Trouble> {
+    let (start, count) = cut(input)?;
+    words.put_text(partial(text, number(start)?, number(count)?));
+    Ok(())
+}
+
+fn put_fields(alloc: Global, words: &mut Words, text: &[u8], input: &str) -> Result<(), Trouble> {
+    let names = all_octets(alloc, input)?;
+    words.put_text(&fields(alloc, text, &names)?);
+    Ok(())
+}
+
+fn put_other_fields(
+    alloc: Global,
+    words: &mut Words,
+    text: &[u8],
+    input: &str,
+) -> Result<(), Trouble> {
+    let names = all_octets(alloc, input)?;
+    words.put_text(&other_fields(alloc, text, &names)?);
+    Ok(())
+}
+
+fn put_contains(alloc: Global, words: &mut Words, text: &[u8], input: &str) -> Result<(), Trouble> {
+    let word = octets(alloc, Escape::Text, input)?;
+    words.put_whether(contains_nocase(alloc, text, word.as_bytes())?);
+    Ok(())
+}
+
+/// `NAME WORD`.
+fn put_field_contains(
+    alloc: Global,
+    words: &mut Words,
+    text: &[u8],
+    input: &str,
+) -> Result<(), Trouble> {
+    let (name, word) = cut(input)?;
+    let name = octets(alloc, Escape::Field, name)?;
+    let word = octets(alloc, Escape::Text, word)?;
+    words.put_whether(field_contains_nocase(alloc, text, name.as_bytes(), word.as_bytes())?);
+    Ok(())
+}
+
+fn put_of_date(alloc: Global, words: &mut Words, kind: &str, input: &str) -> Result<(), Trouble> {
+    match kind {
+        "civil" => put_civil(words, long_number(input)?),
+        "date_ok" => {
+            let date = octets(alloc, Escape::Text, input)?;
+            words.put_whether(date_ok(date.as_bytes()));
+        }
+        "written_day" => put_day(words, written_day(&date_time(input.as_bytes())?)),
+        _ => return Err(Trouble::NotACase),
+    }
+    Ok(())
+}
+
+fn put_civil(words: &mut Words, seconds: u64) {
+    match Moment::new(seconds) {
+        Some(moment) => words.put_escaped(civil(moment).as_bytes()),
+        None => words.put("no moment"),
+    }
+}
+
+fn put_day(words: &mut Words, day: Day) {
+    words.put_number("year ", day.year.into());
+    words.put_number(" month ", day.month.into());
+    words.put_number(" day ", day.day.into());
+}
