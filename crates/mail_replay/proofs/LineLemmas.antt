@@ -4,7 +4,7 @@ use Rattle.mail_script.specs.Lines.{lines_of}
 use Rattle.mail_script.specs.Reading.{cut_at}
 use Rattle.mail_script.specs.Script.{Says}
 use Rattle.mail_script.specs.declared.script.ScriptLine.{ScriptLine}
-use Rattle.mail_script.proofs.FieldLemmas.{cut_takes}
+use Rattle.text_fields.proofs.FieldLemmas.{cut_takes}
 use Rattle.mail_script.proofs.LineLemmas.{lines_next}
 use Rattle.mail_replay.specs.Lines.{IsBad, Serves, ServesInPart}
 use Rattle.mail_replay.specs.Replays.{Advances, Breaks, FirstInPart, ServesAll, Stops}
