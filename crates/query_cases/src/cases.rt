@@ -1,6 +1,6 @@
 //! The lines of cases.
 
-use crate::commands::put_command;
+use crate::commands::{put_command, put_matches};
 use crate::stage::Stage;
 use crate::texts::put_of_text;
 use crate::trouble::Trouble;
@@ -44,9 +44,9 @@ fn put_case(alloc: Global, words: &mut Words, stage: &Stage, line: &str) {
 
 fn put_answer(alloc: Global, words: &mut Words, stage: &Stage, case: &str) -> Result<(), Trouble> {
     let (kind, input) = case.split_once(' ').unwrap_or((case, ""));
-    if kind == "command" {
-        put_command(alloc, words, stage, input)
-    } else {
-        put_of_text(alloc, words, stage.text.as_bytes(), kind, input)
+    match kind {
+        "command" => put_command(alloc, words, stage, input),
+        "matches" => put_matches(alloc, words, input),
+        _ => put_of_text(alloc, words, stage.text.as_bytes(), kind, input),
     }
 }

@@ -1,6 +1,6 @@
 //! What commands that read mailboxes answer.
 
-use crate::fields::octets;
+use crate::fields::{cut, octets};
 use crate::mailbox::Mailbox;
 use crate::messages::rows_of;
 use crate::searches::{found, named};
@@ -10,7 +10,7 @@ use crate::words::Words;
 use imap_answers::{Answer, SearchResults};
 use imap_grammar::{Command, FetchItem, ParseFault, StatusItem, Tagged, parse};
 use imap_print::print;
-use imap_query::{FetchMode, ListMode, fetch, list_names, status};
+use imap_query::{FetchMode, ListMode, fetch, list_names, matches, status};
 use imap_types::{Escape, Name, Octets, SequenceSet};
 use std::alloc::{AllocError, Global};
 
@@ -27,6 +27,15 @@ pub fn put_command(
         Err(ParseFault::NoMemory) => Err(Trouble::NoMemory),
         Err(_) => Err(Trouble::NotACase),
     }
+}
+
+/// `PATTERN NAME`.
+pub fn put_matches(alloc: Global, words: &mut Words, input: &str) -> Result<(), Trouble> {
+    let (pattern, name) = cut(input)?;
+    let pattern = octets(alloc, Escape::Field, pattern)?;
+    let name = octets(alloc, Escape::Field, name)?;
+    words.put_whether(matches(alloc, pattern.as_bytes(), name.as_bytes())?);
+    Ok(())
 }
 
 fn frame(alloc: Global, line: &str) -> Result<Vec<u8>, Trouble> {
