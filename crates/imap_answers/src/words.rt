@@ -1,5 +1,7 @@
 //! The parts of answers that are one fixed text each.
 
+use std::alloc::{AllocError, AllocFailed};
+
 /// What a greeting says of the user (RFC 9051, sections 7.1.1 and 7.1.4).
 #[derive(Clone, Copy, Debug, PartialEq, Eq)]
 pub enum Login {
@@ -177,6 +179,28 @@ impl Refusal {
             Refusal::NoSuchMessage => b"BAD no such message",
             Refusal::DoneExpected => b"BAD DONE expected",
         }
+    }
+}
+
+impl From<AllocError> for Refusal {
+    ghost use Rattle.std.specs.Prelude.{◌≡◌};
+    ghost use Rattle.imap_answers.specs.declared.words.Refusal.TheVariants.{NoMemory};
+
+    ghost from_gives = { λ _ e. e ≡ NoMemory };
+
+    fn from(_e: AllocError) -> Refusal {
+        Refusal::NoMemory
+    }
+}
+
+impl<T: Drop> From<AllocFailed<T>> for Refusal {
+    ghost use Rattle.std.specs.Prelude.{◌≡◌};
+    ghost use Rattle.imap_answers.specs.declared.words.Refusal.TheVariants.{NoMemory};
+
+    ghost from_gives = { λ _ e. e ≡ NoMemory };
+
+    fn from(_e: AllocFailed<T>) -> Refusal {
+        Refusal::NoMemory
     }
 }
 

@@ -1,0 +1,116 @@
+//! What a command itself tells.
+
+ghost use Rattle.std.specs.Prelude.{◌≡◌, [], None, Some, if◌then◌else◌};
+ghost use Rattle.std.specs.List.{list_any};
+ghost use Rattle.std.specs.Option.{option_copied, option_map};
+ghost use Rattle.imap_commands.specs.Told.{are_some_gone, entry_at, gone_code, is_gone, message_at, nothing_told, only_told};
+ghost use Rattle.mail_listing.specs.Listing.{listed};
+
+use imap_answers::{Answer, Code};
+use mail_listing::{Row, Rows};
+use session_view::{Entry, Silent};
+use std::alloc::Global;
+use std::marker::Model;
+
+/// What a command itself tells: its own answers, the flags that the session set in silence (RFC 9051, section 6.4.6), and the
+/// code of its tagged line (RFC 9051, section 7.1).
+#[derive(Drop)]
+pub struct Telling {
+    own: Vec<Answer>,
+    silent: Vec<Silent>,
+    code: Option<Code>,
+}
+
+impl Model for Telling {
+    ghost use Rattle.imap_commands.specs.Told.{Telling};
+
+    ghost Value = { Telling };
+
+    ghost view = { λ t. record { own = t.own.items; silent = t.silent.items; code = t.code } };
+}
+
+impl Telling {
+    /// This, whose memory it takes over.
+    pub fn new(own: Vec<Answer>, silent: Vec<Silent>, code: Option<Code>) -> Telling
+        ensures { result ≡ record { own = own.items; silent = silent.items; code = code } }
+    {
+        Telling { own, silent, code }
+    }
+
+    /// Nothing.
+    pub fn nothing(alloc: Global) -> Telling
+        ensures { result ≡ nothing_told }
+    {
+        Telling::new(Vec::new(alloc), Vec::new(alloc), None)
+    }
+
+    /// These answers alone, whose memory it takes over.
+    pub fn only(alloc: Global, own: Vec<Answer>) -> Telling
+        ensures { result ≡ only_told own.items }
+    {
+        Telling::new(own, Vec::new(alloc), None)
+    }
+
+    /// The command's own answers.
+    pub fn own(&self) -> &[Answer]
+        ensures { result.now ≡ self.now.own }
+    {
+        &self.own
+    }
+
+    /// The flags set in silence.
+    pub fn silent(&self) -> &[Silent]
+        ensures { result.now ≡ self.now.silent }
+    {
+        &self.silent
+    }
+
+    /// All of it, with its memory.
+    pub fn into_parts(self) -> (Vec<Answer>, Vec<Silent>, Option<Code>)
+        ensures own { result.0.items ≡ self.own }
+        ensures silent { result.1.items ≡ self.silent }
+        ensures code { result.2 ≡ self.code }
+    {
+        let Telling { own, silent, code } = self;
+        (own, silent, code)
+    }
+}
+
+/// The view's message with this number, from 1 on.
+pub fn entry_at(view: &[Entry], number: u32) -> Option<&Entry>
+    ensures { option_copied result ≡ entry_at view.now number }
+{
+    view.get((number as usize).saturating_sub(1))
+}
+
+/// What the listing has for the view's message with this number; `None` where it is gone. A binary search.
+pub fn message_at<'a>(rows: &Rows<'a>, view: &[Entry], number: u32) -> Option<Row<'a>>
+    ensures { option_map listed result ≡ message_at rows.now view.now number }
+{
+    match entry_at(view, number) {
+        Some(entry) => rows.row_of(entry.uid),
+        None => None,
+    }
+}
+
+/// The code which tells that some of the messages with these numbers are gone (RFC 9051, section 7.1, EXPUNGEISSUED).
+pub fn gone_code(rows: &Rows<'_>, view: &[Entry], numbers: &[u32]) -> Option<Code>
+    ensures { result ≡ gone_code rows.now view.now numbers.now }
+{
+    if are_some_gone(rows, view, numbers) {
+        Some(Code::ExpungeIssued)
+    } else {
+        None
+    }
+}
+
+fn are_some_gone(rows: &Rows<'_>, view: &[Entry], numbers: &[u32]) -> bool
+    ensures { result ≡ are_some_gone rows.now view.now numbers.now }
+{
+    for number in numbers {
+        if message_at(rows, view, *number).is_none() {
+            return true;
+        }
+    }
+    false
+}
