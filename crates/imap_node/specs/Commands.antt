@@ -1,0 +1,232 @@
+use Rattle.std.specs.Prelude.{◌≡◌, ◌==◌, ℕ, Bool, true, false, not, ◌||◌, ◌&&◌, List, [], ◌∷◌, ◌++◌, Option, Some, None, is_some, Result, Ok, Err, if◌then◌else◌}
+use Rattle.crdt_ops.specs.declared.kind.Kind.{Kind}
+use Rattle.crdt_ops.specs.declared.op.Op.{Op}
+use Rattle.crdt_ops.specs.Sets.{delete_set_of, folders_of, subscribed_of, subscription_tags_of}
+use Rattle.imap_answers.specs.declared.answer.Answer.{Answer}
+use Rattle.imap_answers.specs.declared.answer.Answer.TheVariants.{Tell}
+use Rattle.imap_answers.specs.declared.codes.Notice.TheVariants.{HighestModSeq}
+use Rattle.imap_answers.specs.declared.words.CommandWord.{CommandWord}
+use Rattle.imap_answers.specs.declared.words.CommandWord.TheVariants as words
+use Rattle.imap_answers.specs.declared.words.Refusal.{Refusal}
+use Rattle.imap_answers.specs.declared.words.Refusal.TheVariants.{NotNow}
+use Rattle.imap_commands.specs.Appending.{append_tells, append_wants}
+use Rattle.imap_commands.specs.Asking.{ListTells, asks_condstore, capability_tells, enable_tells, fetch_asks_modseq, idle_tells, login_wants, logout_tells, namespace_tells, search_asks_modseq, status_asks_modseq, status_tells, status_wants}
+use Rattle.imap_commands.specs.Copying.{copy_tells, copy_wants, move_tells, move_wants}
+use Rattle.imap_commands.specs.Expunging.{close_wants, expunge_wants, uid_expunge_tells, uid_expunge_wants}
+use Rattle.imap_commands.specs.Fetching.{fetch_tells, fetch_wants}
+use Rattle.imap_commands.specs.Mailboxes.{create_wants, created_name, delete_wants, subscribe_wants, unsubscribe_wants}
+use Rattle.imap_commands.specs.Searching.{SearchTells, search_wants}
+use Rattle.imap_commands.specs.Selecting.{select_tells, select_wants}
+use Rattle.imap_commands.specs.Storing.{store_tells, store_wants}
+use Rattle.imap_commands.specs.Told.{Telling, nothing_told}
+use Rattle.imap_commands.specs.declared.session.Credentials.{Credentials}
+use Rattle.imap_commands.specs.declared.session.Session.{Session}
+use Rattle.imap_commands.specs.declared.session.State.{State}
+use Rattle.imap_commands.specs.declared.session.State.TheVariants.{NotAuthenticated, Authenticated, Selected, LoggedOut}
+use Rattle.imap_grammar.specs.declared.command.Command.{Command}
+use Rattle.imap_grammar.specs.declared.command.Command.TheVariants as commands
+use Rattle.mail_listing.specs.Listed.{Listed}
+use Rattle.session_view.specs.Seen.{Seen}
+use Rattle.session_view.specs.declared.entry.SyncKind.{SyncKind}
+use Rattle.session_view.specs.declared.entry.SyncKind.TheVariants.{Full, Partial}
+use Rattle.imap_node.specs.Mailboxes.{is_subscribed, rows_for, validity_of}
+use Rattle.uid_projection.specs.declared.start.Start.{Start}
+use Rattle.uid_projection.specs.Incarnations.{is_there, uidvalidity_of}
+use Rattle.uid_projection.specs.Lines.{highest_modseq_of, uidnext_of}
+use Rattle.uid_projection.specs.Listing.{listing}
+
+-- ---- the states that commands want (RFC 9051, section 3)
+
+abbrev pub is_selected : State → Bool
+is_selected (Selected view read_only) = true
+is_selected _ = false
+
+-- In a session that has not logged in.
+abbrev pub when_new : {X : Type 0} → State → (Credentials → Result X Refusal) → Result X Refusal
+when_new (NotAuthenticated credentials) want = want credentials
+when_new _ want = Err NotNow
+
+-- In a session whose user is known.
+abbrev pub when_known : {X : Type 0} → State → Result X Refusal → Result X Refusal
+when_known (NotAuthenticated credentials) want = Err NotNow
+when_known Authenticated want = want
+when_known (Selected view read_only) want = want
+when_known LoggedOut want = Err NotNow
+
+-- In a session that has selected a mailbox.
+abbrev pub when_selected : {X : Type 0} → State → (Seen → Bool → Result X Refusal) → Result X Refusal
+when_selected (Selected view read_only) want = want view read_only
+when_selected _ want = Err NotNow
+
+-- ---- each command's line
+
+-- What a command issues behind these operations, or the first reason that stands against it. The stamp is the date-time of the
+-- command's moment.
+abbrev pub wants : Start → List Op → List ℕ → State → Command → Result (List Kind) Refusal
+wants start ops stamp state commands.Capability = Ok []
+wants start ops stamp state commands.Noop = Ok []
+wants start ops stamp state commands.Logout = Ok []
+wants start ops stamp state (commands.Login user password) = when_new state (λ credentials. login_wants credentials user password)
+wants start ops stamp state (commands.Enable names) = when_known state (Ok [])
+wants start ops stamp state (commands.Select name condstore) = when_known state (select_wants (is_there name ops))
+wants start ops stamp state (commands.Examine name condstore) = when_known state (select_wants (is_there name ops))
+wants start ops stamp state (commands.Create name) = when_known state (create_wants (is_there (created_name name) ops) name)
+wants start ops stamp state (commands.Delete name) = when_known state (delete_wants (is_there name ops) (delete_set_of ops name) name)
+wants start ops stamp state (commands.Subscribe name) = when_known state (subscribe_wants (is_subscribed name ops) name)
+wants start ops stamp state (commands.Unsubscribe name) = when_known state (unsubscribe_wants (subscription_tags_of ops name) name)
+wants start ops stamp state (commands.ListNames subscribed_only reference pattern return_subscribed) = when_known state (Ok [])
+wants start ops stamp state commands.Namespace = when_known state (Ok [])
+wants start ops stamp state (commands.Status name items) = when_known state (status_wants (is_there name ops))
+wants start ops stamp state (commands.Append name flags date text) = when_known state (append_wants (is_there name ops) name flags date stamp text)
+wants start ops stamp state commands.Idle = when_known state (Ok [])
+wants start ops stamp state commands.Close = when_selected state (λ view read_only. close_wants view.name (rows_for start ops view) read_only)
+wants start ops stamp state commands.Unselect = when_selected state (λ view read_only. Ok [])
+wants start ops stamp state commands.Expunge = when_selected state (λ view read_only. expunge_wants view.name (rows_for start ops view) read_only)
+wants start ops stamp state (commands.UidExpunge uids) =
+    when_selected state (λ view read_only. uid_expunge_wants view.name (rows_for start ops view) view.entries read_only uids)
+wants start ops stamp state (commands.Search by_uid options steps) = when_selected state (λ view read_only. search_wants view.entries steps)
+wants start ops stamp state (commands.Fetch by_uid set items changed_since) =
+    when_selected state (λ view read_only. fetch_wants view.name (rows_for start ops view) view.entries read_only by_uid set items changed_since)
+wants start ops stamp state (commands.Store by_uid set unchanged_since action flags) =
+    when_selected state (λ view read_only. store_wants view.name (rows_for start ops view) view.entries read_only by_uid set unchanged_since action.mode flags)
+wants start ops stamp state (commands.Copy by_uid set name) =
+    when_selected state (λ view read_only. copy_wants name (is_there name ops) (rows_for start ops view) view.entries by_uid set)
+wants start ops stamp state (commands.Move by_uid set name) =
+    when_selected state (λ view read_only. move_wants view.name name (is_there name ops) (rows_for start ops view) view.entries read_only by_uid set)
+
+-- What a command tells of a mailbox that is selected, and nothing where none is.
+abbrev pub tells_selected : State → (Seen → Bool → Telling) → Telling
+tells_selected (Selected view read_only) tell = tell view read_only
+tells_selected _ tell = nothing_told
+
+-- What a command itself tells, by the operations before it and those with its own; LIST and SEARCH aside.
+abbrev pub tells : Start → List Op → List Op → State → Bool → Command → Telling
+tells start before after state modseq commands.Capability = capability_tells
+tells start before after state modseq commands.Namespace = namespace_tells
+tells start before after state modseq commands.Logout = logout_tells
+tells start before after state modseq commands.Idle = idle_tells
+tells start before after state modseq (commands.Enable names) = enable_tells names
+tells start before after state modseq (commands.Select name condstore) =
+    select_tells (is_selected state) false name (validity_of start name after) (uidnext_of start name after) (highest_modseq_of name after) (listing start name after)
+tells start before after state modseq (commands.Examine name condstore) =
+    select_tells (is_selected state) true name (validity_of start name after) (uidnext_of start name after) (highest_modseq_of name after) (listing start name after)
+tells start before after state modseq (commands.Status name items) =
+    status_tells name items (record { uidnext = uidnext_of start name after; uidvalidity = validity_of start name after; highest_modseq = highest_modseq_of name after }) (listing start name after)
+tells start before after state modseq (commands.Append name flags date text) = append_tells (validity_of start name after) (uidnext_of start name before)
+tells start before after state modseq (commands.UidExpunge uids) =
+    tells_selected state (λ view read_only. uid_expunge_tells (rows_for start before view) view.entries uids)
+tells start before after state modseq (commands.Fetch by_uid set items changed_since) =
+    tells_selected state (λ view read_only. fetch_tells (rows_for start before view) (rows_for start after view) view.entries read_only modseq by_uid set items changed_since)
+tells start before after state modseq (commands.Store by_uid set unchanged_since action flags) =
+    tells_selected state (λ view read_only. store_tells (rows_for start before view) (rows_for start after view) view.entries modseq by_uid set unchanged_since action.mode action.silent flags)
+tells start before after state modseq (commands.Copy by_uid set name) =
+    tells_selected state (λ view read_only. copy_tells (rows_for start before view) view.entries by_uid set (validity_of start name after) (uidnext_of start name before) (listing start name after))
+tells start before after state modseq (commands.Move by_uid set name) =
+    tells_selected state (λ view read_only. move_tells (rows_for start before view) view.entries by_uid set (validity_of start name after) (uidnext_of start name before) (listing start name after))
+tells start before after state modseq _ = nothing_told
+
+abbrev pub SearchTellsSelected : Start → List Op → State → (Seen → List Listed → Telling → Type 0) → Telling → Type 0
+SearchTellsSelected start ops (Selected view read_only) Tell told = Tell view (rows_for start ops view) told
+SearchTellsSelected start ops _ Tell told = told ≡ nothing_told
+
+-- What a command itself tells: LIST and SEARCH what the rules for them allow, which is one telling each.
+abbrev pub Tells : Start → List Op → List Op → State → Bool → List ℕ → Command → Telling → Type 0
+Tells start before after state modseq tag (commands.ListNames subscribed_only reference pattern return_subscribed) told =
+    ListTells (record { subscribed_only = subscribed_only; return_subscribed = return_subscribed }) reference pattern (folders_of after) (subscribed_of after) told
+Tells start before after state modseq tag (commands.Search by_uid options steps) told =
+    SearchTellsSelected start after state (λ view rows telling. SearchTells rows view.entries tag by_uid options steps telling) told
+Tells start before after state modseq tag command told = told ≡ tells start before after state modseq command
+
+-- The state behind a command, before its answers are replayed. It shows no messages of a mailbox that is selected anew.
+abbrev pub moves_to : Start → List Op → State → Command → State
+moves_to start ops state (commands.Login user password) = Authenticated
+moves_to start ops state (commands.Select name condstore) = Selected (record { name = name; uidvalidity = validity_of start name ops; entries = [] }) false
+moves_to start ops state (commands.Examine name condstore) = Selected (record { name = name; uidvalidity = validity_of start name ops; entries = [] }) true
+moves_to start ops state commands.Logout = LoggedOut
+moves_to start ops state commands.Unselect = Authenticated
+moves_to start ops state commands.Close = Authenticated
+moves_to start ops state _ = state
+
+-- Whether messages are named by their numbers, which an EXPUNGE would shift (RFC 9051, section 7.5.1).
+abbrev pub by_kind : Bool → SyncKind
+by_kind by_uid = if by_uid then Full else Partial
+
+-- How much the sync behind a command tells, if there is one.
+abbrev pub sync_of : Command → Option SyncKind
+sync_of (commands.Login user password) = None
+sync_of commands.Logout = None
+sync_of (commands.Select name condstore) = None
+sync_of (commands.Examine name condstore) = None
+sync_of commands.Idle = None
+sync_of commands.Unselect = None
+sync_of commands.Close = None
+sync_of (commands.Search by_uid options steps) = Some (by_kind by_uid)
+sync_of (commands.Fetch by_uid set items changed_since) = Some (by_kind by_uid)
+sync_of (commands.Store by_uid set unchanged_since action flags) = Some (by_kind by_uid)
+sync_of _ = Some Full
+
+-- The commands that turn mod-sequences on (RFC 7162, section 3.1).
+abbrev pub is_enabling : Command → Bool
+is_enabling (commands.Enable names) = asks_condstore names
+is_enabling (commands.Select name condstore) = condstore
+is_enabling (commands.Examine name condstore) = condstore
+is_enabling (commands.Status name items) = status_asks_modseq items
+is_enabling (commands.Search by_uid options steps) = search_asks_modseq steps
+is_enabling (commands.Fetch by_uid set items changed_since) = fetch_asks_modseq items changed_since
+is_enabling (commands.Store by_uid set unchanged_since action flags) = is_some unchanged_since
+is_enabling _ = false
+
+-- A command that leaves the selected mailbox also where it is refused (RFC 9051, section 6.3.2).
+abbrev pub is_selecting : Command → Bool
+is_selecting (commands.Select name condstore) = true
+is_selecting (commands.Examine name condstore) = true
+is_selecting _ = false
+
+-- Whether IDLE begins, whose tagged line comes behind its end (RFC 2177, section 3).
+abbrev pub is_idle : Command → Bool
+is_idle commands.Idle = true
+is_idle _ = false
+
+-- The word of the tagged line.
+abbrev pub word_of : Command → CommandWord
+word_of commands.Capability = words.Capability
+word_of commands.Noop = words.Noop
+word_of commands.Logout = words.Logout
+word_of (commands.Login user password) = words.Login
+word_of (commands.Enable names) = words.Enable
+word_of (commands.Select name condstore) = words.Select
+word_of (commands.Examine name condstore) = words.Examine
+word_of (commands.Create name) = words.Create
+word_of (commands.Delete name) = words.Delete
+word_of (commands.Subscribe name) = words.Subscribe
+word_of (commands.Unsubscribe name) = words.Unsubscribe
+word_of (commands.ListNames subscribed_only reference pattern return_subscribed) = words.List
+word_of commands.Namespace = words.Namespace
+word_of (commands.Status name items) = words.Status
+word_of (commands.Append name flags date text) = words.Append
+word_of commands.Idle = words.Idle
+word_of commands.Close = words.Close
+word_of commands.Unselect = words.Unselect
+word_of commands.Expunge = words.Expunge
+word_of (commands.UidExpunge uids) = words.UidExpunge
+word_of (commands.Search by_uid options steps) = if by_uid then words.UidSearch else words.Search
+word_of (commands.Fetch by_uid set items changed_since) = if by_uid then words.UidFetch else words.Fetch
+word_of (commands.Store by_uid set unchanged_since action flags) = if by_uid then words.UidStore else words.Store
+word_of (commands.Copy by_uid set name) = if by_uid then words.UidCopy else words.Copy
+word_of (commands.Move by_uid set name) = if by_uid then words.UidMove else words.Move
+
+-- ---- mod-sequences (RFC 7162, section 3.1)
+
+-- HIGHESTMODSEQ of a view's mailbox, where its incarnation hasn't ended.
+abbrev pub highest_told : ℕ → Option ℕ → ℕ → List Answer
+highest_told uidvalidity None highest = []
+highest_told uidvalidity (Some now) highest = if now == uidvalidity then Tell (HighestModSeq highest) ∷ [] else []
+
+abbrev pub highest_of : Start → List Op → State → List Answer
+highest_of start ops (Selected view read_only) = highest_told view.uidvalidity (uidvalidity_of start view.name ops) (highest_modseq_of view.name ops)
+highest_of start ops _ = []
+
+-- What is told first by a command that turns mod-sequences on while a mailbox is selected; SELECT tells it anyway.
+abbrev pub notice : Start → List Op → State → Bool → Command → List Answer
+notice start ops state condstore command =
+    if not condstore && (is_enabling command && not (is_selecting command)) then highest_of start ops state else []

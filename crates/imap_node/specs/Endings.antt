@@ -1,0 +1,52 @@
+use Rattle.std.specs.Prelude.{ℕ, Bool, List, [], ◌∷◌, ◌++◌, Option, Some, None}
+use Rattle.crdt_ops.specs.declared.op.Op.{Op}
+use Rattle.imap_answers.specs.declared.answer.Answer.{Answer}
+use Rattle.imap_commands.specs.Told.{Telling}
+use Rattle.imap_commands.specs.declared.session.State.{State}
+use Rattle.imap_commands.specs.declared.session.State.TheVariants.{Selected}
+use Rattle.mail_listing.specs.Listed.{Listed}
+use Rattle.session_view.specs.Replay.{replayed}
+use Rattle.session_view.specs.Sync.{sync_answers, synced}
+use Rattle.session_view.specs.declared.entry.Entry.{Entry}
+use Rattle.session_view.specs.declared.entry.SyncKind.{SyncKind}
+use Rattle.session_view.specs.declared.replaying.Silent.{Silent}
+use Rattle.imap_node.specs.Mailboxes.{rows_for}
+use Rattle.uid_projection.specs.declared.start.Start.{Start}
+
+-- What a sync makes of the messages seen, and what it sends; nothing where there is none.
+abbrev pub synced_by : Option SyncKind → List Listed → List Entry → List Entry
+synced_by None rows view = view
+synced_by (Some kind) rows view = synced kind rows view
+
+abbrev pub answers_by : Option SyncKind → Bool → List Listed → List Entry → List Answer
+answers_by None modseq rows view = []
+answers_by (Some kind) modseq rows view = sync_answers kind modseq rows view
+
+-- What an input that is carried out comes to, apart from its operations: the flags that it sets in silence, its own answers, the
+-- sync behind them with or without mod-sequences, the state before all these are replayed, and what is sent last.
+pub record Course : Type 0 where
+  pub silent : List Silent
+  pub own : List Answer
+  pub sync : Option SyncKind
+  pub modseq : Bool
+  pub state : State
+  pub tail : List Answer
+
+-- What is sent behind a command's own answers, and where the session stands then.
+pub record Ending : Type 0 where
+  pub answers : List Answer
+  pub state : State
+
+abbrev pub ending : Start → List Op → Option SyncKind → Bool → State → List Silent → List Answer → Ending
+ending start ops sync modseq (Selected view read_only) silent own =
+    let rows = rows_for start ops view in
+    let seen = replayed rows view.entries silent own in
+    record { answers = answers_by sync modseq rows seen; state = Selected (record view { entries = synced_by sync rows seen }) read_only }
+ending start ops sync modseq state silent own = record { answers = []; state = state }
+
+abbrev pub ending_of : Start → List Op → Course → Ending
+ending_of start ops course = ending start ops course.sync course.modseq course.state course.silent course.own
+
+-- All answers: the input's own, the sync's, and the last ones.
+abbrev pub answers_of_course : Start → List Op → Course → List Answer
+answers_of_course start ops course = course.own ++ ((ending_of start ops course).answers ++ course.tail)

@@ -1,0 +1,10 @@
+pub mod Operations
+pub mod Sessions
+pub mod Rooms
+pub mod Nodes
+pub mod Mailboxes
+pub mod Commands
+pub mod Endings
+pub mod Respond
+pub mod Plans
+pub mod Deliveries

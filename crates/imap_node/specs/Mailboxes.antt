@@ -1,0 +1,27 @@
+use Rattle.std.specs.Prelude.{ℕ, Bool, true, false, List, [], ◌∷◌}
+use Rattle.std.specs.Option.{unwrap_or}
+use Rattle.crdt_ops.specs.declared.op.Op.{Op}
+use Rattle.crdt_ops.specs.Sets.{subscription_tags_of}
+use Rattle.mail_listing.specs.Listed.{Listed}
+use Rattle.session_view.specs.Seen.{Seen, rows_under}
+use Rattle.tags_clocks.specs.declared.id.OpId.{OpId}
+use Rattle.uid_projection.specs.declared.start.Start.{Start}
+use Rattle.uid_projection.specs.Incarnations.{uidvalidity_of}
+use Rattle.uid_projection.specs.Listing.{listing}
+
+-- The UIDVALIDITY of a mailbox that is there.
+abbrev pub validity_of : Start → List ℕ → List Op → ℕ
+validity_of start name ops = unwrap_or (uidvalidity_of start name ops) 0
+
+-- What a view's mailbox has now, of the view's own incarnation: nothing where that has ended.
+abbrev pub rows_for : Start → List Op → Seen → List Listed
+rows_for start ops view = rows_under view.uidvalidity (uidvalidity_of start view.name ops) (listing start view.name ops)
+
+-- There is such an id.
+abbrev pub are_some : List OpId → Bool
+are_some [] = false
+are_some (id ∷ ids) = true
+
+-- The name is subscribed to.
+abbrev pub is_subscribed : List ℕ → List Op → Bool
+is_subscribed name ops = are_some (subscription_tags_of ops name)

@@ -1,0 +1,51 @@
+use Rattle.std.specs.Prelude.{◌≡◌, ℕ, List, Some, None, IsSome}
+use Rattle.causal_inbox.specs.Seen.{Seen}
+use Rattle.crdt_ops.specs.declared.op.Op.{Op}
+use Rattle.imap_commands.specs.declared.session.Session.{Session}
+use Rattle.imap_commands.specs.declared.session.State.TheVariants.{LoggedOut}
+use Rattle.imap_node.specs.Rooms.{Room}
+use Rattle.imap_node.specs.Sessions.{Places, session_at, with_session}
+use Rattle.uid_projection.specs.declared.start.Start.{Start}
+
+-- A node: its name and the first numbers of its counters, the operations that it applied, in their order, those that it holds until
+-- their causes come, and its sessions.
+pub record NodeState : Type 0 where
+  pub start : Start
+  pub applied : List Op
+  pub held : List Op
+  pub sessions : Places
+
+-- A node with the room that was made in it.
+pub record NodeKept : Type 0 where
+  pub state : NodeState
+  pub room : Room
+
+-- A replica without its sessions, with the room that was made in it.
+pub record ReplicaKept : Type 0 where
+  pub start : Start
+  pub applied : List Op
+  pub held : List Op
+  pub room : Room
+
+-- What was received: the operations applied, and those held.
+abbrev pub received : NodeState → Seen Start Op
+received node = record { start = node.start; applied = node.applied; held = node.held }
+
+abbrev pub replica_received : ReplicaKept → Seen Start Op
+replica_received replica = record { start = replica.start; applied = replica.applied; held = replica.held }
+
+-- The session idles: a DONE is awaited, and nothing else.
+abbrev pub IsIdling : Session → Type 0
+IsIdling session = IsSome session.idling
+
+-- The session's LOGOUT was answered OK.
+abbrev pub HasLoggedOut : NodeState → ℕ → Type 0
+HasLoggedOut node n = (session : Session) × (session_at node.sessions n ≡ Some session) × (session.state ≡ LoggedOut)
+
+-- The session is open, and goes on.
+abbrev pub IsGoing : NodeState → ℕ → Type 0
+IsGoing node n = (session : Session) × (session_at node.sessions n ≡ Some session) × ((session.state ≡ LoggedOut) → ⊥)
+
+-- The node with this session closed.
+abbrev pub closed : NodeState → ℕ → NodeState
+closed node n = record node { sessions = with_session node.sessions n None }

@@ -1,0 +1,57 @@
+use Rattle.std.specs.Prelude.{◌≡◌, ◌⊎◌, ℕ, ◌+◌, ◌<◌, List, [], ◌∷◌, ◌++◌, length, map}
+use Rattle.causal_inbox.specs.Seen.{IsClockOf}
+use Rattle.crdt_ops.specs.declared.kind.Kind.{Kind}
+use Rattle.crdt_ops.specs.declared.op.Op.{Op}
+use Rattle.crdt_ops.specs.Sound.{CoversNamed, HasLawfulFlags, IsDeleteOfInbox, IsSound}
+use Rattle.crdt_ops.specs.Tags.{name_of}
+use Rattle.imap_types.specs.Names.{IsLawfulName}
+use Rattle.merge_laws.specs.Orders.{HasId, IsIn}
+use Rattle.tags_clocks.specs.Clock.{count_of}
+use Rattle.uid_projection.specs.declared.start.Start.{Start}
+use Rattle.uid_projection.specs.Applied.{IsApplied}
+use Rattle.uid_projection.specs.Exhaustion.{Exhausts}
+
+-- An operation that comes next at this replica: its clock counts all that was applied there, and its number is one more
+-- than those of the replica's operations among these.
+pub record IsNext (replica : ℕ) (applied : List Op) (op : Op) : Type 0 where
+  pub own : op.id.replica ≡ replica
+  pub clock : IsClockOf (λ (o : Op). o.id) applied op.clock
+  pub number : op.id.number ≡ count_of op.clock replica + 1
+
+-- Operations of these kinds, in their order, each of which comes next behind those applied and those in front of it.
+pub record AreNext (replica : ℕ) (applied : List Op) (kinds : List Kind) (ops : List Op) : Type 0 where
+  pub kinds : map (λ (o : Op). o.kind) ops ≡ kinds
+  pub next : (front : List Op) (op : Op) (back : List Op) → ops ≡ front ++ op ∷ back → IsNext replica (applied ++ front) op
+
+-- The replica's own numbers, which end at 4,294,967,295, don't suffice for operations of these kinds.
+abbrev pub NumbersEnd : ℕ → List Op → List Kind → Type 0
+NumbersEnd replica applied kinds =
+    (clock : List (ℕ × ℕ)) × IsClockOf (λ (o : Op). o.id) applied clock × (4294967295 < count_of clock replica + length kinds)
+
+-- A counter is at its end for one of these: the replica's own numbers, a folder's UIDs or the UIDVALIDITY's.
+abbrev pub IsUsedUp : Start → List Op → List Kind → Type 0
+IsUsedUp start applied kinds =
+    NumbersEnd start.replica applied kinds ⊎ ((ops : List Op) × AreNext start.replica applied kinds ops × Exhausts start applied ops)
+
+-- These operations can be applied behind the list, and no counter is at its end for them.
+pub record CanFollow (start : Start) (applied ops : List Op) : Type 0 where
+  pub applied : IsApplied (applied ++ ops)
+  pub lasts : Exhausts start applied ops → ⊥
+
+-- The replica may issue an operation of this kind: its name and flags are lawful, it doesn't delete INBOX, and it names only
+-- what was applied.
+pub record CanIssue (applied : List Op) (kind : Kind) : Type 0 where
+  pub name : IsLawfulName (name_of kind)
+  pub flags : HasLawfulFlags kind
+  pub inbox_stays : ¬ IsDeleteOfInbox kind
+  pub covered : (clock : List (ℕ × ℕ)) → IsClockOf (λ (o : Op). o.id) applied clock → CoversNamed clock kind
+
+-- It may issue operations of all these kinds.
+abbrev pub CanIssueAll : List Op → List Kind → Type 0
+CanIssueAll applied kinds = (kind : Kind) → IsIn kind kinds → CanIssue applied kind
+
+-- An operation that a replica issues behind these is sound, bears the replica's name, and has an id that none of them has.
+pub record IsFresh (replica : ℕ) (applied : List Op) (op : Op) : Type 0 where
+  pub sound : IsSound op
+  pub own : op.id.replica ≡ replica
+  pub fresh : ¬ HasId (λ (o : Op). o.id) applied op.id

@@ -1,0 +1,62 @@
+use Rattle.std.specs.Prelude.{◌≡◌, ℕ, List, [], ◌++◌, Option, Some, None, Result, Ok, Err, if◌then◌else◌}
+use Rattle.causal_inbox.specs.Seen.{AreIssued}
+use Rattle.crdt_ops.specs.declared.kind.Kind.{Kind}
+use Rattle.crdt_ops.specs.declared.op.Op.{Op}
+use Rattle.imap_answers.specs.declared.words.Refusal.{Refusal}
+use Rattle.imap_commands.specs.declared.session.Session.{Session}
+use Rattle.imap_commands.specs.declared.session.State.TheVariants.{Authenticated}
+use Rattle.imap_node.specs.declared.input.Input.{Input}
+use Rattle.imap_node.specs.declared.planning.Answered.{Answered}
+use Rattle.imap_node.specs.declared.planning.Next.{Next}
+use Rattle.imap_node.specs.declared.planning.Next.TheVariants.{Becomes, Leaves, Stays, Wakes}
+use Rattle.imap_node.specs.declared.planning.Plan.{Plan}
+use Rattle.imap_node.specs.declared.planning.Prepared.{Prepared}
+use Rattle.imap_node.specs.declared.reply.Reply.TheVariants.{Done, Refused}
+use Rattle.imap_node.specs.Endings.{Course, answers_of_course}
+use Rattle.imap_node.specs.Nodes.{NodeKept, NodeState}
+use Rattle.imap_node.specs.Operations.{AreNext}
+use Rattle.imap_node.specs.Respond.{IsStamp, TakesCourse, Replies, closes, ends_idling, leaves, session_after, wants_of}
+use Rattle.imap_node.specs.Rooms.{HasRoomFor}
+use Rattle.imap_node.specs.Sessions.{IsOpen, session_at, with_session}
+use Rattle.uid_projection.specs.declared.start.Start.{Start}
+use Rattle.uid_projection.specs.Exhaustion.{Exhausts}
+
+-- The answers, the flags set in silence and the session are those of an input's course.
+pub record IsAnswered (start : Start) (before after : List Op) (session : Session) (input : Input) (answered : Answered) : Type 0 where
+  pub course : Course
+  pub taken : TakesCourse start before after session input course
+  pub answers : answered.answers ≡ answers_of_course start after course
+  pub silent : answered.silent ≡ course.silent
+  pub becomes : answered.session ≡ session_after start after session input course
+
+-- An input can be carried out so.
+pub record Prepares (start : Start) (applied : List Op) (session : Session) (input : Input) (prepared : Prepared) : Type 0 where
+  pub stamp : List ℕ
+  pub stamped : IsStamp input stamp
+  pub kinds : List Kind
+  pub wanted : wants_of start applied stamp session.state input ≡ Ok kinds
+  pub next : AreNext start.replica applied kinds prepared.ops
+  pub lasts : Exhausts start applied prepared.ops → ⊥
+  pub answered : IsAnswered start applied (applied ++ prepared.ops) session input prepared.answered
+  pub copies : prepared.copies ≡ prepared.ops
+
+-- What becomes of a session.
+abbrev pub session_next : Session → Next → Session
+session_next session Stays = session
+session_next session Leaves = record session { state = Authenticated }
+session_next session Wakes = record session { idling = None }
+session_next session (Becomes next) = next
+
+abbrev pub place_next : Option Session → Next → Option Session
+place_next None next = None
+place_next (Some session) next = Some (session_next session next)
+
+-- The plan can be committed: its session is open, its operations come next, and the room for them is there.
+pub record IsPlanned (node : NodeKept) (plan : Plan) : Type 0 where
+  pub is_open : IsOpen node.state.sessions plan.number
+  pub issued : AreIssued (λ (o : Op). o.id) (λ o. o.clock) node.state.applied plan.ops
+  pub room : HasRoomFor node.state.applied node.room plan.ops
+
+-- The session that a plan leaves behind.
+abbrev pub planned_session : NodeState → Plan → Option Session
+planned_session node plan = place_next (session_at node.sessions plan.number) plan.next

@@ -1,0 +1,168 @@
+use Rattle.std.specs.Prelude.{◌≡◌, ◌⊎◌, ℕ, Bool, true, false, ◌||◌, ◌&&◌, List, [], ◌∷◌, ◌++◌, Option, Some, None, is_some, Result, Ok, Err, if◌then◌else◌}
+use Rattle.causal_inbox.specs.Seen.{AreKept}
+use Rattle.crdt_ops.specs.declared.kind.Kind.{Kind}
+use Rattle.crdt_ops.specs.declared.op.Op.{Op}
+use Rattle.imap_answers.specs.declared.answer.Answer.{Answer}
+use Rattle.imap_answers.specs.declared.answer.Answer.TheVariants.{Completed}
+use Rattle.imap_answers.specs.declared.words.CommandWord.TheVariants as words
+use Rattle.imap_answers.specs.declared.words.Refusal.{Refusal}
+use Rattle.imap_answers.specs.declared.words.Refusal.TheVariants.{DoneExpected, NoMemory, NumberUsedUp}
+use Rattle.imap_commands.specs.Told.{Telling}
+use Rattle.imap_commands.specs.declared.session.Session.{Session}
+use Rattle.imap_commands.specs.declared.session.State.{State}
+use Rattle.imap_commands.specs.declared.session.State.TheVariants.{Authenticated}
+use Rattle.imap_grammar.specs.declared.command.Command.{Command}
+use Rattle.imap_grammar.specs.declared.command.Tagged.{Tagged}
+use Rattle.imap_grammar.specs.declared.idle.IdleLine.TheVariants.{Done as DoneLine, Other}
+use Rattle.mail_text.specs.Dates.{IsCivil}
+use Rattle.session_view.specs.declared.entry.SyncKind.TheVariants.{Full}
+use Rattle.session_view.specs.declared.replaying.Silent.{Silent}
+use Rattle.imap_node.specs.declared.input.Input.{Input}
+use Rattle.imap_node.specs.declared.input.Input.TheVariants as inputs
+use Rattle.imap_node.specs.declared.reply.Reply.{Reply}
+use Rattle.imap_node.specs.declared.reply.Reply.TheVariants.{Done, Refused}
+use Rattle.imap_node.specs.Commands.{Tells, is_enabling, is_idle, is_selected, is_selecting, moves_to, notice, sync_of, wants, word_of}
+use Rattle.imap_node.specs.Endings.{Course, answers_of_course, ending_of}
+use Rattle.imap_node.specs.Nodes.{NodeState}
+use Rattle.imap_node.specs.Operations.{AreNext, IsUsedUp}
+use Rattle.imap_node.specs.Sessions.{session_at, with_session}
+use Rattle.uid_projection.specs.declared.start.Start.{Start}
+use Rattle.uid_projection.specs.Exhaustion.{Exhausts}
+
+-- ---- what an input wants
+
+-- The date-time of an input's moment; only a command has one.
+abbrev pub IsStamp : Input → List ℕ → Type 0
+IsStamp (inputs.Command moment tagged) stamp = IsCivil moment stamp
+IsStamp (inputs.Line line) stamp = Unit {0}
+IsStamp inputs.Poll stamp = Unit {0}
+
+-- What an input issues, or the first reason that stands against it: a line that isn't DONE ends the idling (RFC 2177, section 3).
+abbrev pub wants_of : Start → List Op → List ℕ → State → Input → Result (List Kind) Refusal
+wants_of start ops stamp state (inputs.Command moment tagged) = wants start ops stamp state tagged.command
+wants_of start ops stamp state (inputs.Line DoneLine) = Ok []
+wants_of start ops stamp state (inputs.Line Other) = Err DoneExpected
+wants_of start ops stamp state inputs.Poll = Ok []
+
+-- ---- an input that is carried out
+
+-- Mod-sequences are on, for this command too (RFC 7162, section 3.1).
+abbrev pub is_on : Session → Command → Bool
+is_on session command = session.condstore || is_enabling command
+
+-- The tagged line, which IDLE gets at its end.
+abbrev pub tail_of : List ℕ → Command → Telling → List Answer
+tail_of tag command told = if is_idle command then [] else Completed tag told.code (word_of command) ∷ []
+
+-- The tagged line of an IDLE that ends.
+abbrev pub idle_tail : Option (List ℕ) → List Answer
+idle_tail None = []
+idle_tail (Some tag) = Completed tag None words.Idle ∷ []
+
+-- What a command comes to, by what it tells.
+abbrev pub course_of : Start → List Op → Session → List ℕ → Command → Telling → Course
+course_of start ops session tag command told = record {
+  silent = told.silent;
+  own = notice start ops session.state session.condstore command ++ told.own;
+  sync = sync_of command;
+  modseq = is_on session command;
+  state = moves_to start ops session.state command;
+  tail = tail_of tag command told;
+}
+
+-- A full sync alone, with this behind it.
+abbrev pub synced_course : Session → List Answer → Course
+synced_course session tail = record { silent = []; own = []; sync = Some Full; modseq = session.condstore; state = session.state; tail = tail }
+
+-- What an input comes to, by the operations before it and those with its own.
+abbrev pub TakesCourse : Start → List Op → List Op → Session → Input → Course → Type 0
+TakesCourse start before after session (inputs.Command moment tagged) course =
+    (told : Telling) × Tells start before after session.state (is_on session tagged.command) tagged.tag tagged.command told
+    × (course ≡ course_of start after session tagged.tag tagged.command told)
+TakesCourse start before after session (inputs.Line line) course = course ≡ synced_course session (idle_tail session.idling)
+TakesCourse start before after session inputs.Poll course = course ≡ synced_course session []
+
+-- Whether an idling goes on behind an input, and with which tag.
+abbrev pub idling_after : Session → Input → Option (List ℕ)
+idling_after session (inputs.Command moment tagged) = if is_idle tagged.command then Some tagged.tag else None
+idling_after session (inputs.Line line) = None
+idling_after session inputs.Poll = session.idling
+
+abbrev pub condstore_after : Session → Input → Bool
+condstore_after session (inputs.Command moment tagged) = is_on session tagged.command
+condstore_after session _ = session.condstore
+
+-- The session behind an input that is carried out.
+abbrev pub session_after : Start → List Op → Session → Input → Course → Session
+session_after start ops session input course =
+    record { state = (ending_of start ops course).state; condstore = condstore_after session input; idling = idling_after session input }
+
+-- ---- an input that is refused
+
+-- A SELECT that is refused leaves no mailbox selected (RFC 9051, section 6.3.2).
+abbrev pub leaves : State → Input → Bool
+leaves state (inputs.Command moment tagged) = is_selected state && is_selecting tagged.command
+leaves state _ = false
+
+-- A line that isn't DONE ends the idling, but for want of memory.
+abbrev pub ends_idling : Input → Refusal → Bool
+ends_idling (inputs.Line line) NoMemory = false
+ends_idling (inputs.Line line) _ = true
+ends_idling _ why = false
+
+-- What a refusal makes of a session.
+abbrev pub left : Session → Input → Refusal → Session
+left session input why = record {
+  state = if leaves session.state input then Authenticated else session.state;
+  condstore = session.condstore;
+  idling = if ends_idling input why then None else session.idling;
+}
+
+-- Whether it is told that a mailbox was left: not where memory was wanting.
+abbrev pub closes : State → Input → Refusal → Bool
+closes state input NoMemory = false
+closes state input _ = leaves state input
+
+-- Why an input is refused: the first reason that stands against it, or a counter's end; want of memory may come in place of
+-- anything.
+abbrev pub IsRefused : Start → List Op → State → Input → Refusal → Type 0
+IsRefused start ops state input why =
+    (why ≡ NoMemory)
+    ⊎ ((stamp : List ℕ) × IsStamp input stamp
+    × ((wants_of start ops stamp state input ≡ Err why)
+    ⊎ ((why ≡ NumberUsedUp) × (kinds : List Kind) × (wants_of start ops stamp state input ≡ Ok kinds) × IsUsedUp start ops kinds)))
+
+-- ---- the response
+
+-- The node issues operations, and one of its sessions becomes another: they stand behind those applied, and a held one with the id of one of
+-- them is dropped.
+pub record Becomes (old : NodeState) (ops : List Op) (n : ℕ) (session : Session) (new : NodeState) : Type 0 where
+  pub start : new.start ≡ old.start
+  pub applied : new.applied ≡ old.applied ++ ops
+  pub held : AreKept (λ (o : Op). o.id) ops old.held new.held
+  pub sessions : new.sessions ≡ with_session old.sessions n (Some session)
+
+-- An input is carried out, whole: what it wants is issued, and it is answered by what it comes to.
+pub record Carries (old : NodeState) (n : ℕ) (session : Session) (input : Input) (answers : List Answer) (silent : List Silent) (issued : List Op) (new : NodeState) : Type 0 where
+  pub stamp : List ℕ
+  pub stamped : IsStamp input stamp
+  pub kinds : List Kind
+  pub wanted : wants_of old.start old.applied stamp session.state input ≡ Ok kinds
+  pub next : AreNext old.start.replica old.applied kinds issued
+  pub lasts : Exhausts old.start old.applied issued → ⊥
+  pub course : Course
+  pub taken : TakesCourse old.start old.applied (old.applied ++ issued) session input course
+  pub answers_are : answers ≡ answers_of_course old.start (old.applied ++ issued) course
+  pub silent_is : silent ≡ course.silent
+  pub becomes : Becomes old issued n (session_after old.start (old.applied ++ issued) session input course) new
+
+-- What a node replies to an input of a session, and what it is then.
+abbrev pub Replies : NodeState → ℕ → Session → Input → Reply → NodeState → Type 0
+Replies old n session input (Done answers silent issued) new = Carries old n session input answers silent issued new
+Replies old n session input (Refused why closed) new =
+    IsRefused old.start old.applied session.state input why
+    × (closed ≡ closes session.state input why)
+    × (new ≡ record old { sessions = with_session old.sessions n (Some (left session input why)) })
+
+abbrev pub Responds : NodeState → ℕ → Input → Reply → NodeState → Type 0
+Responds old n input reply new = (session : Session) × (session_at old.sessions n ≡ Some session) × Replies old n session input reply new

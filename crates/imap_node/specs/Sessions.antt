@@ -1,0 +1,39 @@
+use Rattle.std.specs.Prelude.{◌≡◌, ◌≢◌, ℕ, ◌-◌, ◌<◌, ◌==◌, false, List, slice_index_or, slice_set, Option, Some, None, IsSome, IsNone, if◌then◌else◌}
+use Rattle.imap_commands.specs.declared.session.Session.{Session}
+use Rattle.imap_commands.specs.declared.session.State.TheVariants.{Authenticated, NotAuthenticated}
+use Rattle.imap_node.specs.declared.sessions.Auth.{Auth}
+use Rattle.imap_node.specs.declared.sessions.Auth.TheVariants.{Preauth, Password}
+
+-- The places of a replica's sessions: the session with number n stands at place n - 1, and a place may be vacant. Numbers begin
+-- at 1.
+abbrev pub Places : Type 0
+Places = List (Option Session)
+
+-- What the session with this number is, if it is open; none has the number 0.
+abbrev pub session_at : Places → ℕ → Option Session
+session_at places n = if n == 0 then None else slice_index_or places (n - 1) None
+
+-- The session with this number is open.
+abbrev pub IsOpen : Places → ℕ → Type 0
+IsOpen places n = IsSome (session_at places n)
+
+-- The places with one open session changed, or closed.
+abbrev pub with_session : Places → ℕ → Option Session → Places
+with_session places n place = slice_set places (n - 1) place
+
+-- Every session but this one stays as it was.
+abbrev pub OthersStay : Places → ℕ → Places → Type 0
+OthersStay old n new = (m : ℕ) → m ≢ n → session_at new m ≡ session_at old m
+
+-- A session as it begins: the user is known already, or has to log in.
+abbrev pub opened : Auth → Session
+opened Preauth = record { state = Authenticated; condstore = false; idling = None }
+opened (Password credentials) = record { state = NotAuthenticated credentials; condstore = false; idling = None }
+
+-- The least number that no open session has is open now, and nothing else changed.
+pub record Opens (old : Places) (auth : Auth) (n : ℕ) (new : Places) : Type 0 where
+  pub positive : 0 < n
+  pub vacant : IsNone (session_at old n)
+  pub least : (m : ℕ) → 0 < m → m < n → IsOpen old m
+  pub open_now : session_at new n ≡ Some (opened auth)
+  pub others : OthersStay old n new

@@ -1,0 +1,26 @@
+//! One replica with its sessions.
+//!
+//! A node answers from its own state alone. `command`, `done` and `poll` are each a plan, which makes all the room that is wanted and
+//! leaves the node as it was, and its commit, which takes no memory. What each command wants and tells stands in `imap_commands`; here
+//! stands what they have in common: which listings they look at, the operations that they issue, the sync and the tagged line behind their
+//! own answers, and what they make of their session.
+#![tactic(auto)]
+
+mod ending;
+mod input;
+mod issuing;
+mod node;
+mod planning;
+mod replica;
+mod reply;
+mod sessions;
+mod tables;
+mod telling;
+mod wanting;
+
+pub use imap_commands::{Credentials, Session, State};
+pub use input::Input;
+pub use node::Node;
+pub use planning::Plan;
+pub use reply::{Answers, Issued, Reply, Silents};
+pub use sessions::{Auth, MAX_SESSIONS, OpenFault, SessionNo};

@@ -1,0 +1,290 @@
+//! A replica without its sessions: the operations that it received, and what they lead to.
+
+ghost use Rattle.std.specs.Prelude.{◌≡◌, ◌↔◌, ◌≤◌, ◌++◌, [], IfOk, OnOk, OnErr, IsTrue, Err, MatchResult};
+ghost use Rattle.causal_inbox.specs.Delivery.{Arrives, Refuses};
+ghost use Rattle.causal_inbox.specs.Seen.{AreIssued, AreKept, AreReleased, IsClockOf, IsLawful, IsStalled, held_limit, uncovered};
+ghost use Rattle.causal_inbox.specs.declared.answers.IssueFault.TheVariants.{Exhausted as UsedUp};
+ghost use Rattle.crdt_ops.specs.Sets.{delete_set_of, folder_tags_of, folders_of, messages_of, subscribed_of, subscription_tags_of};
+ghost use Rattle.crdt_ops.specs.Sound.{IsSound};
+ghost use Rattle.crdt_ops.specs.declared.op.Op.{Op as Operation};
+ghost use Rattle.folder_state.specs.Contents.{IsMadeBy};
+ghost use Rattle.folder_state.specs.Tables.{contents_of};
+ghost use Rattle.imap_node.specs.Nodes.{replica_received};
+ghost use Rattle.imap_node.specs.Operations.{CanFollow};
+ghost use Rattle.imap_node.specs.Rooms.{HasRoomFor};
+ghost use Rattle.merge_laws.specs.Orders.{AreSound, IsCausal};
+ghost use Rattle.subs_state.specs.Subscriptions.{IsMadeBy as AreMadeBy};
+ghost use Rattle.subs_state.specs.Table.{subscriptions_of};
+ghost use Rattle.uid_projection.specs.Exhaustion.{Exhausts};
+ghost use Rattle.uid_projection.specs.Following.{Follows};
+ghost use Rattle.uid_projection.specs.Incarnations.{is_there, uidvalidity_of};
+ghost use Rattle.uid_projection.specs.Lines.{highest_modseq_of, uidnext_of};
+ghost use Rattle.uid_projection.specs.Listing.{listing};
+
+use causal_inbox::{DeliverFault, Delivered, Drained, Inbox, IssueFault};
+use crdt_ops::{Ids, Message, SoundOp};
+use folder_state::Folders;
+use imap_types::Name;
+use mail_listing::Rows;
+use merge_laws::{OnFirst, Pair};
+use std::alloc::{AllocError, Global};
+use std::marker::Model;
+use subs_state::Subs;
+use tags_clocks::{Clock, ReplicaId};
+use uid_projection::{Charts, Start};
+
+/// A replica without its sessions.
+#[derive(Drop)]
+pub struct Replica {
+    id: ReplicaId,
+    inbox: Inbox<Pair<Folders, Subs>, OnFirst<Charts>>,
+}
+
+impl Model for Replica {
+    ghost use Rattle.std.specs.Prelude.{◌≡◌};
+    ghost use Rattle.imap_node.specs.Nodes.{ReplicaKept};
+
+    ghost Value = { ReplicaKept };
+
+    ghost view = { λ r. record { start = r.inbox.seen.start; applied = r.inbox.seen.applied; held = r.inbox.seen.held; room = r.inbox.room } };
+
+    ghost invariant = { λ r. r.id ≡ r.inbox.seen.start.replica };
+}
+
+impl Replica {
+    /// A replica of this name and these first numbers that has received nothing; `Err` where there is no memory for it.
+    pub fn new(alloc: Global, start: Start) -> Result<Replica, AllocError>
+        ensures start { IfOk result (λ replica. replica.start ≡ start) }
+        ensures applied { IfOk result (λ replica. replica.applied ≡ []) }
+        ensures held { IfOk result (λ replica. replica.held ≡ []) }
+    {
+        let value = Pair {
+            first: Folders::new(alloc),
+            second: Subs::new(alloc),
+        };
+        let follower = OnFirst {
+            follower: Charts::new(alloc, start)?,
+        };
+        Ok(Replica {
+            id: start.replica,
+            inbox: Inbox::new(alloc, value, follower)?,
+        })
+    }
+
+    /// The replica's name.
+    pub fn id(&self) -> ReplicaId
+        ensures { result ≡ self.now.start.replica }
+    {
+        self.id
+    }
+
+    /// The operations applied, in their order, which is causal.
+    pub fn applied(&self) -> &[SoundOp]
+        ensures applied { result.now ≡ self.now.applied }
+        ensures lawful { IsLawful (λ (o : Operation). o.id) (λ (o : Operation). o.clock) (replica_received self.now) }
+        ensures sound { AreSound IsSound self.now.applied }
+    {
+        self.inbox.op_list()
+    }
+
+    /// The operations held, by ascending ids.
+    pub fn held(&self) -> &[SoundOp]
+        ensures held { result.now ≡ self.now.held }
+        ensures lawful { IsLawful (λ (o : Operation). o.id) (λ (o : Operation). o.clock) (replica_received self.now) }
+        ensures sound { AreSound IsSound self.now.held }
+    {
+        let _list = self.inbox.op_list();
+        self.inbox.held()
+    }
+
+    /// The clock that counts the operations applied.
+    pub fn clock(&self) -> &Clock
+        ensures { IsClockOf (λ (o : Operation). o.id) self.now.applied result.now }
+    {
+        self.inbox.clock()
+    }
+
+    /// Copies of the operations applied that the clock doesn't cover, in their order; `Err` where there is no memory for them.
+    pub fn ops_since(&self, alloc: Global, clock: &Clock) -> Result<Vec<SoundOp>, AllocError>
+        ensures { IfOk result (λ ops. ops.items ≡ uncovered (λ (o : Operation). o.id) clock.now self.now.applied) }
+    {
+        self.inbox.ops_since(alloc, clock)
+    }
+
+    /// Makes room for issuing these operations, which come next. An error leaves what was received as it was: `Exhausted` exactly where a
+    /// counter is at its end for one of them.
+    pub fn ready(&mut self, alloc: Global, ops: &[SoundOp]) -> Result<(), IssueFault>
+        ensures start { self.new.start ≡ self.old.start }
+        ensures applied { self.new.applied ≡ self.old.applied }
+        ensures held { self.new.held ≡ self.old.held }
+        ensures room { OnOk result (HasRoomFor self.new.applied self.new.room ops.now) }
+        ensures exhausted { IsCausal (λ (o : Operation). o.id) (λ (o : Operation). o.clock) (self.old.applied ++ ops.now) → (result ≡ Err UsedUp) ↔ Exhausts self.old.start self.old.applied ops.now }
+    {
+        self.inbox.ready(alloc, ops)
+    }
+
+    /// Applies the replica's own next operations, for which there is room; takes no memory.
+    pub fn issue(&mut self, ops: Vec<SoundOp>)
+        requires room { HasRoomFor self.old.applied self.old.room ops.items }
+        requires issued { AreIssued (λ (o : Operation). o.id) (λ (o : Operation). o.clock) self.old.applied ops.items }
+        ensures start { self.new.start ≡ self.old.start }
+        ensures applied { self.new.applied ≡ self.old.applied ++ ops.items }
+        ensures held { AreKept (λ (o : Operation). o.id) ops.items self.old.held self.new.held }
+    {
+        self.inbox.issue(ops);
+    }
+
+    /// Receives an operation: applies it and those that waited for it, or holds it where it is early. An error leaves the
+    /// replica as it was.
+    pub fn deliver(&mut self, alloc: Global, op: SoundOp) -> Result<Delivered, DeliverFault>
+        ensures answer { MatchResult result (λ d. Arrives (λ (o : Operation). o.id) (λ (o : Operation). o.clock) Exhausts (replica_received self.old) op d.arrival (replica_received self.new)) (λ e. Refuses (λ (o : Operation). o.id) (λ (o : Operation). o.clock) Exhausts (replica_received self.old) op e) }
+        ensures stalled { IfOk result (λ d. IsTrue d.stalled ↔ IsStalled (λ (o : Operation). o.id) (λ (o : Operation). o.clock) (replica_received self.new)) }
+        ensures err { OnErr result (replica_received self.new ≡ replica_received self.old) }
+    {
+        self.inbox.deliver(alloc, op)
+    }
+
+    /// Applies held operations whose causes were all applied, the least id first, until there is none or one is refused.
+    pub fn drain(&mut self, alloc: Global) -> Drained
+        ensures released { AreReleased (λ (o : Operation). o.id) (λ (o : Operation). o.clock) result.applied (replica_received self.old) (replica_received self.new) }
+        ensures stalled { IsTrue result.stalled ↔ IsStalled (λ (o : Operation). o.id) (λ (o : Operation). o.clock) (replica_received self.new) }
+        ensures at_most { result.applied ≤ held_limit }
+    {
+        self.inbox.drain(alloc)
+    }
+
+    // ---- what the operations lead to
+
+    /// Whether the mailbox is there. INBOX always is. Takes no memory.
+    pub fn exists(&self, name: &Name) -> bool
+        ensures { result ≡ is_there name.now self.now.applied }
+    {
+        self.folders_now().exists(name)
+    }
+
+    /// The mailboxes, ascending, none twice; `Err` where there is no memory for them.
+    pub fn folders(&self, alloc: Global) -> Result<Vec<Name>, AllocError>
+        ensures { IfOk result (λ names. names.items ≡ folders_of self.now.applied) }
+    {
+        self.folders_now().names(alloc)
+    }
+
+    /// The ids of the folder's present folder tags, ascending; `Err` where there is no memory for them.
+    pub fn tags(&self, alloc: Global, name: &Name) -> Result<Ids, AllocError>
+        ensures { IfOk result (λ ids. ids ≡ folder_tags_of self.now.applied name.now) }
+    {
+        self.folders_now().tags(alloc, name)
+    }
+
+    /// The ids of the folder's present tags, ascending, of folders and messages alike; `Err` where there is no memory for
+    /// them.
+    pub fn delete_set(&self, alloc: Global, name: &Name) -> Result<Ids, AllocError>
+        ensures { IfOk result (λ ids. ids ≡ delete_set_of self.now.applied name.now) }
+    {
+        self.folders_now().delete_set(alloc, name)
+    }
+
+    /// The folder's messages, ascending by their ids; `Err` where there is no memory for them.
+    pub fn messages(&self, alloc: Global, name: &Name) -> Result<Vec<Message>, AllocError>
+        ensures { IfOk result (λ messages. messages.items ≡ messages_of self.now.applied name.now) }
+    {
+        self.folders_now().messages(alloc, name)
+    }
+
+    /// The names that are subscribed to, ascending, none twice; `Err` where there is no memory for them.
+    pub fn subscribed(&self, alloc: Global) -> Result<Vec<Name>, AllocError>
+        ensures { IfOk result (λ names. names.items ≡ subscribed_of self.now.applied) }
+    {
+        self.subs_now().names(alloc)
+    }
+
+    /// The ids of the name's present subscription tags, ascending; `Err` where there is no memory for them.
+    pub fn subscription_tags(&self, alloc: Global, name: &Name) -> Result<Ids, AllocError>
+        ensures { IfOk result (λ ids. ids ≡ subscription_tags_of self.now.applied name.now) }
+    {
+        self.subs_now().tags(alloc, name)
+    }
+
+    /// The UIDVALIDITY of the mailbox, `None` where it isn't there. Takes no memory.
+    pub fn uidvalidity(&self, name: &Name) -> Option<u32>
+        ensures { result ≡ uidvalidity_of self.now.start name.now self.now.applied }
+    {
+        self.charts_now().uidvalidity(name)
+    }
+
+    /// The UIDNEXT of the mailbox. Takes no memory.
+    pub fn uidnext(&self, name: &Name) -> u32
+        ensures { result ≡ uidnext_of self.now.start name.now self.now.applied }
+    {
+        self.charts_now().uidnext(name)
+    }
+
+    /// The mailbox's listing; `Err` where there is no memory for it.
+    pub fn rows(&self, alloc: Global, name: &Name) -> Result<Rows<'_>, AllocError>
+        ensures { IfOk result (λ rows. rows ≡ listing self.now.start name.now self.now.applied) }
+    {
+        self.charts_now().rows(alloc, self.folders_now(), name)
+    }
+
+    /// The UIDVALIDITY that the mailbox has behind these operations.
+    pub fn uidvalidity_after(&self, name: &Name, ops: &[SoundOp]) -> Option<u32>
+        requires { CanFollow self.now.start self.now.applied ops.now }
+        ensures { result ≡ uidvalidity_of self.now.start name.now (self.now.applied ++ ops.now) }
+    {
+        self.charts_now().uidvalidity_after(self.folders_now(), name, ops)
+    }
+
+    /// The UIDNEXT that the mailbox has behind these operations.
+    pub fn uidnext_after(&self, name: &Name, ops: &[SoundOp]) -> u32
+        requires { CanFollow self.now.start self.now.applied ops.now }
+        ensures { result ≡ uidnext_of self.now.start name.now (self.now.applied ++ ops.now) }
+    {
+        self.charts_now().uidnext_after(self.folders_now(), name, ops)
+    }
+
+    /// The HIGHESTMODSEQ that the mailbox has behind these operations.
+    pub fn highest_after(&self, name: &Name, ops: &[SoundOp]) -> u64
+        requires { CanFollow self.now.start self.now.applied ops.now }
+        ensures { result ≡ highest_modseq_of name.now (self.now.applied ++ ops.now) }
+    {
+        self.charts_now().highest_after(self.folders_now(), name, ops)
+    }
+
+    /// The listing that the mailbox has behind these operations; `Err` where there is no memory for it.
+    pub fn rows_after<'a>(
+        &'a self,
+        alloc: Global,
+        name: &Name,
+        ops: &'a [SoundOp],
+    ) -> Result<Rows<'a>, AllocError>
+        requires { CanFollow self.now.start self.now.applied ops.now }
+        ensures { IfOk result (λ rows. rows ≡ listing self.now.start name.now (self.now.applied ++ ops.now)) }
+    {
+        self.charts_now()
+            .rows_after(alloc, self.folders_now(), name, ops)
+    }
+
+    /// The folders to which the operations applied led.
+    fn folders_now(&self) -> &Folders
+        ensures { IsMadeBy (contents_of result.now) self.now.applied }
+    {
+        let _list = self.inbox.op_list();
+        &self.inbox.value().first
+    }
+
+    /// The subscriptions to which the operations applied led.
+    fn subs_now(&self) -> &Subs
+        ensures { AreMadeBy (subscriptions_of result.now) self.now.applied }
+    {
+        let _list = self.inbox.op_list();
+        &self.inbox.value().second
+    }
+
+    /// The charts of the operations applied.
+    fn charts_now(&self) -> &Charts
+        ensures follows { Follows result.now self.now.applied }
+        ensures start { result.now.start ≡ self.now.start }
+    {
+        &self.inbox.follower().follower
+    }
+}

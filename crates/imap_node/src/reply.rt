@@ -1,0 +1,132 @@
+//! What a node replies to an input.
+
+ghost use Rattle.std.specs.Prelude.{◌≡◌, IfOk};
+
+use crdt_ops::SoundOp;
+use imap_answers::{Answer, Refusal};
+use session_view::Silent;
+use std::alloc::{AllocError, Global};
+use std::marker::Model;
+
+/// Answers in the order in which they are sent.
+#[derive(Drop)]
+pub struct Answers {
+    answers: Vec<Answer>,
+}
+
+impl Model for Answers {
+    ghost use Rattle.std.specs.Prelude.{List};
+    ghost use Rattle.imap_answers.specs.declared.answer.Answer.{Answer};
+
+    ghost Value = { List Answer };
+
+    ghost view = { λ a. a.answers.items };
+}
+
+impl Answers {
+    /// These answers, whose memory it takes over.
+    pub fn new(answers: Vec<Answer>) -> Answers
+        ensures { result ≡ answers.items }
+    {
+        Answers { answers }
+    }
+
+    /// The answers in order.
+    pub fn as_slice(&self) -> &[Answer]
+        ensures { result.now ≡ self.now }
+    {
+        &self.answers
+    }
+}
+
+/// Flags that a session set in silence, in their order (RFC 9051, section 6.4.6).
+#[derive(Drop)]
+pub struct Silents {
+    silents: Vec<Silent>,
+}
+
+impl Model for Silents {
+    ghost use Rattle.std.specs.Prelude.{List};
+    ghost use Rattle.session_view.specs.declared.replaying.Silent.{Silent};
+
+    ghost Value = { List Silent };
+
+    ghost view = { λ s. s.silents.items };
+}
+
+impl Silents {
+    /// These, whose memory it takes over.
+    pub fn new(silents: Vec<Silent>) -> Silents
+        ensures { result ≡ silents.items }
+    {
+        Silents { silents }
+    }
+
+    /// The flags in order.
+    pub fn as_slice(&self) -> &[Silent]
+        ensures { result.now ≡ self.now }
+    {
+        &self.silents
+    }
+}
+
+/// Operations that a command issued, in the order of their numbers.
+#[derive(Drop)]
+pub struct Issued {
+    ops: Vec<SoundOp>,
+}
+
+impl Model for Issued {
+    ghost use Rattle.std.specs.Prelude.{List};
+    ghost use Rattle.crdt_ops.specs.declared.op.Op.{Op};
+
+    ghost Value = { List Op };
+
+    ghost view = { λ i. i.ops.items };
+}
+
+impl Issued {
+    /// These operations, whose memory it takes over.
+    pub fn new(ops: Vec<SoundOp>) -> Issued
+        ensures { result ≡ ops.items }
+    {
+        Issued { ops }
+    }
+
+    /// The operations in order.
+    pub fn as_slice(&self) -> &[SoundOp]
+        ensures { result.now ≡ self.now }
+    {
+        &self.ops
+    }
+
+    /// The operations, with their memory.
+    pub fn into_vec(self) -> Vec<SoundOp>
+        ensures { result.items ≡ self }
+    {
+        let Issued { ops } = self;
+        ops
+    }
+}
+
+/// What a node replies to an input.
+#[derive(Drop)]
+pub enum Reply {
+    /// The input was carried out.
+    Done {
+        /// All answers, in the order in which they are sent.
+        answers: Answers,
+        /// The flags that the session set in silence, before the answers.
+        silent: Silents,
+        /// The operations that it issued, for the other replicas.
+        issued: Issued,
+    },
+    /// The input was refused. Nothing changed, but that a refused SELECT or EXAMINE leaves no mailbox selected, and that any line but DONE ends
+    /// an IDLE.
+    Refused {
+        /// Why.
+        why: Refusal,
+        /// Whether `* OK [CLOSED] ok` goes in front of the tagged line, since a mailbox was left (RFC 9051, section 7.1, CLOSED).
+        closed: bool,
+    },
+}

@@ -1,0 +1,210 @@
+ghost use Rattle.std.specs.Prelude.{◌≡◌, ◌≢◌, ◌+◌, ◌-◌, ◌<◌, ◌≤◌, ◌↔◌, [], ℕ, IsTrue, IsNone, IsSome, None, Some, Err, IfOk, IfErr, OnOk, OnErr, SomeIff, length, max, ◌==◌, if◌then◌else◌, slice_index_or, slice_set};
+ghost use Rattle.std.specs.Option.{option_copied};
+ghost use Rattle.imap_node.specs.Sessions.{IsOpen, opened, session_at};
+ghost use Rattle.imap_node.specs.declared.sessions.OpenFault.TheVariants.{NoMemory, TooManySessions};
+
+use imap_commands::{Credentials, Session, State};
+use std::alloc::Global;
+use std::marker::Model;
+use thiserror::Error;
+
+/// The most sessions that a replica has open at once.
+pub const MAX_SESSIONS: usize = 1_024;
+
+/// A session's number at its replica, from 1 to 1,024.
+#[derive(Clone, Copy, Debug, PartialEq, Eq, PartialOrd, Ord)]
+pub struct SessionNo {
+    number: u16,
+}
+
+impl Model for SessionNo {
+    ghost use Rattle.std.specs.Prelude.{ℕ, ◌<◌, ◌≤◌};
+
+    ghost Value = { ℕ };
+
+    ghost view = { λ s. s.number };
+
+    ghost invariant = { λ s. (0 < s.number) × (s.number ≤ 1024) };
+
+    ghost inverse = { λ n. record { number = n } };
+}
+
+impl SessionNo {
+    /// The session with this number; `None` outside 1 to 1,024.
+    pub fn new(number: usize) -> Option<SessionNo>
+        ensures { SomeIff result ((0 < number) × (number ≤ MAX_SESSIONS)) number }
+    {
+        if number == 0 || number > MAX_SESSIONS {
+            None
+        } else {
+            Some(SessionNo {
+                number: number as u16,
+            })
+        }
+    }
+
+    /// The number, from 1 to 1,024.
+    pub fn get(self) -> usize
+        ensures number { result ≡ self }
+        ensures positive { 0 < result }
+        ensures bound { result ≤ MAX_SESSIONS }
+    {
+        usize::from(self.number)
+    }
+}
+
+/// How a session's user becomes known.
+#[derive(Drop)]
+pub enum Auth {
+    /// The user is known before the session begins (RFC 9051, section 7.1.4, PREAUTH).
+    Preauth,
+    /// The user has to log in.
+    Password {
+        /// What LOGIN has to give.
+        credentials: Credentials,
+    },
+}
+
+/// Why a session can't be opened. The replica stays as it was.
+#[derive(Clone, Copy, Debug, PartialEq, Eq, Error)]
+pub enum OpenFault {
+    /// 1,024 sessions are open.
+    #[error("too many sessions")]
+    TooManySessions,
+    /// There was no memory for one more.
+    #[error("no memory")]
+    NoMemory,
+}
+
+/// The sessions of a replica by their numbers.
+#[derive(Drop)]
+pub struct Sessions {
+    places: Vec<Option<Session>>,
+}
+
+impl Model for Sessions {
+    ghost use Rattle.std.specs.Prelude.{◌≤◌, length};
+    ghost use Rattle.imap_node.specs.Sessions.{Places};
+
+    ghost Value = { Places };
+
+    ghost view = { λ s. s.places.items };
+
+    ghost invariant = { λ s. length s.places.items ≤ 1024 };
+}
+
+impl Sessions {
+    ghost use Rattle.imap_node.specs.Sessions.{Opens, with_session};
+
+    /// No session.
+    pub fn new(alloc: Global) -> Sessions
+        ensures { result ≡ [] }
+    {
+        Sessions {
+            places: Vec::new(alloc),
+        }
+    }
+
+    /// What this session is; `None` where it isn't open.
+    pub fn get(&self, session: SessionNo) -> Option<&Session>
+        ensures { option_copied result ≡ session_at self.now session }
+    {
+        session_in(&self.places, session)
+    }
+
+    /// Opens the session with the least number that isn't open. An error leaves the sessions as they were.
+    pub fn open(&mut self, auth: Auth) -> Result<SessionNo, OpenFault>
+        ensures ok { IfOk result (λ session. Opens self.old auth session self.new) }
+        ensures full { result ≡ Err TooManySessions → (n : ℕ) → 0 < n → n ≤ 1024 → IsOpen self.old n }
+        ensures room { ((n : ℕ) × (0 < n) × (n ≤ 1024) × IsNone (session_at self.old n)) → result ≢ Err TooManySessions }
+        ensures err { OnErr result (self.new ≡ self.old) }
+    {
+        let vacant = vacant_place(&self.places);
+        if vacant >= MAX_SESSIONS {
+            return Err(OpenFault::TooManySessions);
+        }
+        open_in(&mut self.places, vacant, opened(auth))
+    }
+
+    /// Changes an open session, or closes it by `None`.
+    pub fn set(&mut self, session: SessionNo, place: Option<Session>)
+        requires { IsOpen self.old session }
+        ensures { self.new ≡ with_session self.old session place }
+    {
+        set_in(&mut self.places, session, place);
+    }
+}
+
+/// A session as it begins.
+fn opened(auth: Auth) -> Session
+    ensures { result ≡ opened auth }
+{
+    let state = match auth {
+        Auth::Preauth => State::Authenticated,
+        Auth::Password { credentials } => State::NotAuthenticated { credentials },
+    };
+    Session {
+        state,
+        condstore: false,
+        idling: None,
+    }
+}
+
+fn session_in(places: &[Option<Session>], session: SessionNo) -> Option<&Session>
+    ensures { option_copied result ≡ session_at places.now session }
+{
+    match places.get(session.get() - 1) {
+        Some(Some(session)) => Some(session),
+        _ => None,
+    }
+}
+
+/// The first vacant place, or the place behind all.
+fn vacant_place(places: &[Option<Session>]) -> usize
+    ensures within { result ≤ length places.now }
+    ensures before { (k : ℕ) → k < result → IsSome (slice_index_or places.now k None) }
+    ensures vacant { IsNone (slice_index_or places.now result None) }
+{
+    for (place, session) in places.iter().enumerate() {
+        if session.is_none() {
+            return place;
+        }
+    }
+    places.len()
+}
+
+/// Opens the session of a vacant place, which may stand behind all others.
+fn open_in(
+    places: &mut Vec<Option<Session>>,
+    vacant: usize,
+    begun: Session,
+) -> Result<SessionNo, OpenFault>
+    requires within { vacant ≤ length places.old.items }
+    requires bound { vacant < MAX_SESSIONS }
+    ensures number { IfOk result (λ session. session ≡ vacant + 1) }
+    ensures ok { OnOk result ((k : ℕ) → slice_index_or places.new.items k None ≡ (if k == vacant then Some begun else slice_index_or places.old.items k None)) }
+    ensures bound { length places.new.items ≤ max (length places.old.items) (vacant + 1) }
+    ensures err { IfErr result (λ fault. (fault ≡ NoMemory) × (places.new.items ≡ places.old.items)) }
+{
+    let Some(session) = SessionNo::new(vacant + 1) else {
+        unreachable!()
+    };
+    if vacant < places.len() {
+        places[vacant] = Some(begun);
+        return Ok(session);
+    }
+    match places.push(Some(begun)) {
+        Ok(()) => Ok(session),
+        Err(_) => Err(OpenFault::NoMemory),
+    }
+}
+
+fn set_in(places: &mut Vec<Option<Session>>, session: SessionNo, next: Option<Session>)
+    requires { IsOpen places.old.items session }
+    ensures { places.new.items ≡ slice_set places.old.items (session - 1) next }
+{
+    let place = session.get() - 1;
+    if place < places.len() {
+        places[place] = next;
+    }
+}
