@@ -1,2 +1,9 @@
+pub mod Appending
+pub mod Asking
+pub mod Enabling
+pub mod Entering
 pub mod Gives
+pub mod Lawful
+pub mod Mailboxes
+pub mod Selecting
 pub mod Told

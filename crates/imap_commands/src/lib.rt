@@ -5,8 +5,29 @@
 //! look at listings, views and the command's parts alone; `imap_node` finds these for them, and does all that commands have in common.
 #![tactic(auto)]
 
+mod appending;
+mod asking;
+mod enabling;
+mod entering;
+mod laws;
+mod mailboxes;
+mod selecting;
 mod session;
 mod telling;
 
+pub use appending::{append_tells, append_wants};
+pub use asking::{
+    capability_tells, idle_tells, list_tells, logout_tells, namespace_tells, status_tells,
+    status_wants,
+};
+pub use enabling::{
+    asks_condstore, enable_tells, fetch_asks_modseq, search_asks_modseq, status_asks_modseq,
+};
+pub use entering::login_wants;
+pub use laws::{lawful_name_is, listed_keywords_are_borne, one_set_of_keywords};
+pub use mailboxes::{
+    create_wants, created_name, delete_wants, is_lawful_name, subscribe_wants, unsubscribe_wants,
+};
+pub use selecting::{select_tells, select_wants};
 pub use session::{Credentials, Session, State};
 pub use telling::{Telling, entry_at, gone_code, message_at};

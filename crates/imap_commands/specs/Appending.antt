@@ -1,0 +1,31 @@
+use Rattle.std.specs.Prelude.{ℕ, nat_lt, Bool, List, [], ◌∷◌, length, Option, Some, None, Result, Ok, Err, if◌then◌else◌}
+use Rattle.std.specs.List.{list_all}
+use Rattle.crdt_ops.specs.declared.kind.Kind.{Kind}
+use Rattle.crdt_ops.specs.declared.kind.Kind.TheVariants.{Append}
+use Rattle.imap_answers.specs.declared.codes.Code.TheVariants.{AppendUid}
+use Rattle.imap_answers.specs.declared.words.Refusal.{Refusal}
+use Rattle.imap_answers.specs.declared.words.Refusal.TheVariants.{KeywordTooLong, NoDestination, TooManyKeywords}
+use Rattle.imap_types.specs.declared.flags.Flags.{Flags}
+use Rattle.imap_types.specs.Keywords.{is_lawful_keyword}
+use Rattle.imap_commands.specs.Told.{Telling}
+
+-- The date that a message is given: the command's own, or else that of the moment (RFC 9051, section 6.3.12).
+abbrev pub given_date : Option (List ℕ) → List ℕ → List ℕ
+given_date None stamp = stamp
+given_date (Some date) stamp = date
+
+-- APPEND (RFC 9051, section 6.3.12) to a mailbox that is there, or isn't. A keyword is too long where no message may bear it: those of a
+-- command have no other fault. `stamp` is the date-time of the moment.
+abbrev pub append_wants : Bool → List ℕ → Flags → Option (List ℕ) → List ℕ → List ℕ → Result (List Kind) Refusal
+append_wants is_there name flags date stamp text =
+    if is_there
+    then (
+      if list_all is_lawful_keyword flags.keywords
+      then (if nat_lt 32 (length flags.keywords) then Err TooManyKeywords else Ok (Append name flags (given_date date stamp) text ∷ []))
+      else Err KeywordTooLong
+    )
+    else Err NoDestination
+
+-- What APPEND tells: the UID that the message took (RFC 9051, section 7.1, APPENDUID).
+abbrev pub append_tells : ℕ → ℕ → Telling
+append_tells uidvalidity uid = record { own = []; silent = []; code = Some (AppendUid uidvalidity uid) }

@@ -1,0 +1,79 @@
+use Rattle.std.specs.Prelude.{◌≡◌, ◌↔◌, ℕ, Bool, true, false, List, [], ◌∷◌, ◌++◌, length, Option, Some, None, Result, Ok, Err, if◌then◌else◌}
+use Rattle.crdt_ops.specs.declared.kind.Kind.{Kind}
+use Rattle.imap_answers.specs.declared.answer.Answer.{Answer}
+use Rattle.imap_answers.specs.declared.answer.Answer.TheVariants.{Exists, Tell, Flags as FlagsAnswer, List as ListAnswer}
+use Rattle.imap_answers.specs.declared.codes.Code.{Code}
+use Rattle.imap_answers.specs.declared.codes.Code.TheVariants.{ReadWrite, ReadOnly}
+use Rattle.imap_answers.specs.declared.codes.Notice.TheVariants.{Closed, UidValidity, UidNext, PermanentFlags, HighestModSeq}
+use Rattle.imap_answers.specs.declared.mailbox.MailboxState.TheVariants.{There}
+use Rattle.imap_answers.specs.declared.words.Refusal.{Refusal}
+use Rattle.imap_answers.specs.declared.words.Refusal.TheVariants.{NoSuchMailbox}
+use Rattle.imap_query.specs.declared.mailbox_status.Marks.{Marks}
+use Rattle.imap_query.specs.Patterns.{IsIn}
+use Rattle.imap_types.specs.declared.flags.Flags.{Flags}
+use Rattle.imap_types.specs.Keywords.{AreKeywords, lowered, with_text}
+use Rattle.mail_listing.specs.Listed.{Listed}
+use Rattle.imap_commands.specs.Told.{Telling}
+
+-- What SELECT and EXAMINE issue, which is nothing, where the mailbox is there (RFC 9051, sections 6.3.2 and 6.3.3).
+abbrev pub select_wants : Bool → Result (List Kind) Refusal
+select_wants is_there = if is_there then Ok [] else Err NoSuchMailbox
+
+-- ---- the keywords of a listing
+
+-- Some message of the listing bears a keyword that has this spelling in lower case.
+abbrev pub IsBorne : List Listed → List ℕ → Type 0
+IsBorne rows word =
+    (row : Listed) × IsIn row rows × ((keyword : List ℕ) × IsIn keyword row.flags.keywords × (lowered keyword ≡ word))
+
+-- The keywords of a listing: the set of those that its messages bear (RFC 9051, section 2.3.2).
+pub record AreBorne (rows : List Listed) (keywords : List (List ℕ)) : Type 0 where
+  pub set : AreKeywords keywords
+  pub exactly : (word : List ℕ) → IsIn word keywords ↔ IsBorne rows word
+
+-- A set of keywords with more of them.
+abbrev pub with_keywords : List (List ℕ) → List (List ℕ) → List (List ℕ)
+with_keywords [] keywords = keywords
+with_keywords (word ∷ words) keywords = with_keywords words (with_text (lowered word) keywords)
+
+-- A set of keywords with those of messages.
+abbrev pub with_rows : List Listed → List (List ℕ) → List (List ℕ)
+with_rows [] keywords = keywords
+with_rows (row ∷ rows) keywords = with_rows rows (with_keywords row.flags.keywords keywords)
+
+-- The keywords of a listing as a function: `listed_keywords_are_borne` says that they are those borne.
+abbrev pub listed_keywords : List Listed → List (List ℕ)
+listed_keywords rows = with_rows rows []
+
+-- ---- what is told
+
+-- The flags that are in use in a mailbox: the system flags, and the keywords of its listing (RFC 9051, section 7.3.5).
+abbrev pub flags_in_use : List Listed → Flags
+flags_in_use rows = record { answered = true; flagged = true; deleted = true; seen = true; draft = true; keywords = listed_keywords rows }
+
+-- Those that the session can change for good: none in a mailbox that it only reads (RFC 9051, section 7.1, PERMANENTFLAGS).
+abbrev pub permanent_flags : Bool → List Listed → Option Flags
+permanent_flags read_only rows = if read_only then None else Some (flags_in_use rows)
+
+-- What is told of the mailbox that is selected (RFC 9051, section 6.3.2; RFC 7162, section 3.1.2.1).
+abbrev pub mailbox_answers : Bool → List ℕ → Marks → List Listed → List Answer
+mailbox_answers read_only name marks rows =
+    FlagsAnswer (flags_in_use rows) ∷ Exists (length rows) ∷ ListAnswer name There false
+    ∷ Tell (UidValidity marks.uidvalidity) ∷ Tell (UidNext marks.uidnext)
+    ∷ Tell (PermanentFlags (permanent_flags read_only rows)) ∷ Tell (HighestModSeq marks.highest_modseq) ∷ []
+
+-- What is told of a mailbox that is left (RFC 9051, section 7.1, CLOSED).
+abbrev pub closed_answers : Bool → List Answer
+closed_answers was_selected = if was_selected then Tell Closed ∷ [] else []
+
+-- Whether the session may change the mailbox (RFC 9051, section 6.3.2).
+abbrev pub access_code : Bool → Code
+access_code read_only = if read_only then ReadOnly else ReadWrite
+
+-- What SELECT and EXAMINE tell: EXAMINE selects read-only.
+abbrev pub select_tells : Bool → Bool → List ℕ → Marks → List Listed → Telling
+select_tells was_selected read_only name marks rows = record {
+  own = closed_answers was_selected ++ mailbox_answers read_only name marks rows;
+  silent = [];
+  code = Some (access_code read_only);
+}

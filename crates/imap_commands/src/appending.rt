@@ -1,0 +1,93 @@
+//! APPEND.
+
+ghost use Rattle.std.specs.Prelude.{◌≡◌, ◌∷◌, [], IfOk};
+ghost use Rattle.std.specs.List.{list_all};
+ghost use Rattle.crdt_ops.specs.declared.kind.Kind.TheVariants.{Append as AppendKind};
+ghost use Rattle.imap_commands.specs.Appending.{append_tells, append_wants, given_date};
+ghost use Rattle.imap_commands.specs.Gives.{Gives};
+ghost use Rattle.imap_types.specs.Keywords.{is_lawful_keyword};
+
+use crate::mailboxes::one_kind;
+use crate::telling::Telling;
+use crdt_ops::Kind;
+use imap_answers::{Code, Refusal};
+use imap_types::{DateTime, Flags, MAX_KEYWORDS, Name, Octets, is_lawful_keyword};
+use std::alloc::{AllocError, Global};
+
+/// What APPEND issues, or why it is refused: `NoDestination` where the mailbox isn't there, else `KeywordTooLong` where no message
+/// may bear one of the keywords, else `TooManyKeywords` (RFC 9051, section 6.3.12). Without a date the message takes `stamp`, the
+/// date-time of the moment.
+pub fn append_wants(
+    alloc: Global,
+    is_there: bool,
+    name: &Name,
+    flags: &Flags,
+    date: &Option<DateTime>,
+    stamp: &DateTime,
+    text: &Octets,
+) -> Result<Vec<Kind>, Refusal>
+    ensures { Gives (λ kinds. kinds.items) result (append_wants is_there name.now flags.now date.now stamp.now text.now) }
+{
+    if !is_there {
+        return Err(Refusal::NoDestination);
+    }
+    if !are_lawful(flags.keywords.as_slice()) {
+        return Err(Refusal::KeywordTooLong);
+    }
+    if flags.keywords.len() > MAX_KEYWORDS {
+        return Err(Refusal::TooManyKeywords);
+    }
+    Ok(append(alloc, name, flags, given_date(date, stamp), text)?)
+}
+
+/// Whether messages may bear each of these keywords.
+fn are_lawful(keywords: &[Octets]) -> bool
+    ensures { result ≡ list_all is_lawful_keyword keywords.now }
+{
+    for keyword in keywords {
+        if !is_lawful_keyword(keyword.as_bytes()) {
+            return false;
+        }
+    }
+    true
+}
+
+fn given_date(date: &Option<DateTime>, stamp: &DateTime) -> DateTime
+    ensures { result ≡ given_date date.now stamp.now }
+{
+    match date {
+        Some(date) => date.copy(),
+        None => stamp.copy(),
+    }
+}
+
+fn append(
+    alloc: Global,
+    name: &Name,
+    flags: &Flags,
+    date: DateTime,
+    text: &Octets,
+) -> Result<Vec<Kind>, AllocError>
+    ensures { IfOk result (λ kinds. kinds.items ≡ AppendKind name.now flags.now date text.now ∷ []) }
+{
+    let folder = name.copy(alloc)?;
+    let flags = flags.copy(alloc)?;
+    let text = text.copy(alloc)?;
+    one_kind(
+        alloc,
+        Kind::Append {
+            folder,
+            flags,
+            date,
+            text,
+        },
+    )
+}
+
+/// What APPEND tells: the UID that the message took, under this UIDVALIDITY (RFC 9051, section 7.1, APPENDUID).
+pub fn append_tells(alloc: Global, uidvalidity: u32, uid: u32) -> Telling
+    ensures { result ≡ append_tells uidvalidity uid }
+{
+    let code = Code::AppendUid { uidvalidity, uid };
+    Telling::new(Vec::new(alloc), Vec::new(alloc), Some(code))
+}

@@ -1,0 +1,154 @@
+//! ENABLE, and what else turns mod-sequences on.
+
+ghost use Rattle.std.specs.Prelude.{◌≡◌, IfOk, false};
+ghost use Rattle.std.specs.List.{filter, list_any};
+ghost use Rattle.imap_commands.specs.Enabling.{asks_condstore, asks_condstore_first, asks_imap4rev2, begins_with_condstore, enable_tells, enabled_by, enabled_of, fetch_asks_modseq, is_condstore, is_imap4rev2, is_modseq_item, search_asks_modseq, status_asks_modseq};
+ghost use Rattle.imap_query.specs.Hits.{step_names_modseq};
+
+use crate::asking::one_answer;
+use crate::telling::Telling;
+use imap_answers::{Answer, Enabled};
+use imap_grammar::{FetchItem, SearchStep, SearchTest, StatusItem};
+use imap_types::Octets;
+use std::alloc::{AllocError, Global};
+
+/// What ENABLE tells: which of CONDSTORE and IMAP4rev2 were asked, in the order in which they were asked first, in any case
+/// (RFC 9051, section 6.3.1). `Err` where there is no memory for it.
+pub fn enable_tells(alloc: Global, names: &[Octets]) -> Result<Telling, AllocError>
+    ensures { IfOk result (λ told. told ≡ enable_tells names.now) }
+{
+    let extensions = enabled_of(names);
+    one_answer(alloc, Answer::Enabled { extensions })
+}
+
+fn enabled_of(names: &[Octets]) -> Enabled
+    ensures { result ≡ enabled_of names.now }
+{
+    enabled_by(
+        asks_condstore(names),
+        asks_imap4rev2(names),
+        asks_condstore_first(names),
+    )
+}
+
+fn enabled_by(condstore: bool, imap4rev2: bool, condstore_first: bool) -> Enabled
+    ensures { result ≡ enabled_by condstore imap4rev2 condstore_first }
+{
+    match (condstore, imap4rev2, condstore_first) {
+        (false, false, _) => Enabled::Nothing,
+        (true, false, _) => Enabled::Condstore,
+        (false, true, _) => Enabled::Imap4Rev2,
+        (true, true, true) => Enabled::CondstoreImap4Rev2,
+        (true, true, false) => Enabled::Imap4Rev2Condstore,
+    }
+}
+
+/// Whether one of the names is CONDSTORE in any case (RFC 7162, section 3.1).
+pub fn asks_condstore(names: &[Octets]) -> bool
+    ensures { result ≡ asks_condstore names.now }
+{
+    for name in names {
+        if is_condstore(name) {
+            return true;
+        }
+    }
+    false
+}
+
+fn asks_imap4rev2(names: &[Octets]) -> bool
+    ensures { result ≡ asks_imap4rev2 names.now }
+{
+    for name in names {
+        if is_imap4rev2(name) {
+            return true;
+        }
+    }
+    false
+}
+
+/// Whether CONDSTORE stands in front of IMAP4rev2.
+fn asks_condstore_first(names: &[Octets]) -> bool
+    ensures { result ≡ asks_condstore_first names.now }
+{
+    for name in names {
+        if is_condstore(name) {
+            return true;
+        }
+        if is_imap4rev2(name) {
+            return false;
+        }
+    }
+    false
+}
+
+fn is_condstore(name: &Octets) -> bool
+    ensures { result ≡ is_condstore name.now }
+{
+    name.as_bytes().eq_ignore_ascii_case(b"CONDSTORE")
+}
+
+fn is_imap4rev2(name: &Octets) -> bool
+    ensures { result ≡ is_imap4rev2 name.now }
+{
+    name.as_bytes().eq_ignore_ascii_case(b"IMAP4rev2")
+}
+
+/// Whether STATUS asks for HIGHESTMODSEQ (RFC 7162, section 3.1).
+pub fn status_asks_modseq(items: &[StatusItem]) -> bool
+    ensures { result ≡ status_asks_modseq items.now }
+{
+    for item in items {
+        if *item == StatusItem::HighestModSeq {
+            return true;
+        }
+    }
+    false
+}
+
+/// Whether FETCH asks for mod-sequences, or by CHANGEDSINCE (RFC 7162, section 3.1).
+pub fn fetch_asks_modseq(items: &[FetchItem], changed_since: Option<u64>) -> bool
+    ensures { result ≡ fetch_asks_modseq items.now changed_since }
+{
+    has_modseq_item(items) || changed_since.is_some()
+}
+
+fn has_modseq_item(items: &[FetchItem]) -> bool
+    ensures { result ≡ list_any is_modseq_item items.now }
+{
+    for item in items {
+        if is_modseq_item(item) {
+            return true;
+        }
+    }
+    false
+}
+
+fn is_modseq_item(item: &FetchItem) -> bool
+    ensures { result ≡ is_modseq_item item.now }
+{
+    match item {
+        FetchItem::ModSeq => true,
+        _ => false,
+    }
+}
+
+/// Whether SEARCH has a key MODSEQ, wherever it stands (RFC 7162, section 3.1).
+pub fn search_asks_modseq(steps: &[SearchStep]) -> bool
+    ensures { result ≡ search_asks_modseq steps.now }
+{
+    for step in steps {
+        if names_modseq(step) {
+            return true;
+        }
+    }
+    false
+}
+
+fn names_modseq(step: &SearchStep) -> bool
+    ensures { result ≡ step_names_modseq step.now }
+{
+    match step {
+        SearchStep::Test(SearchTest::ModSeq { .. }) => true,
+        _ => false,
+    }
+}
