@@ -10,8 +10,10 @@ use Rattle.imap_answers.specs.declared.words.CommandWord.TheVariants as words
 use Rattle.imap_answers.specs.declared.words.Refusal.{Refusal}
 use Rattle.imap_answers.specs.declared.words.Refusal.TheVariants.{NotNow}
 use Rattle.imap_commands.specs.Appending.{append_tells, append_wants}
-use Rattle.imap_commands.specs.Asking.{ListTells, asks_condstore, capability_tells, enable_tells, fetch_asks_modseq, idle_tells, login_wants, logout_tells, namespace_tells, search_asks_modseq, status_asks_modseq, status_tells, status_wants}
+use Rattle.imap_commands.specs.Asking.{ListTells, capability_tells, idle_tells, logout_tells, namespace_tells, status_tells, status_wants}
 use Rattle.imap_commands.specs.Copying.{copy_tells, copy_wants, move_tells, move_wants}
+use Rattle.imap_commands.specs.Enabling.{asks_condstore, enable_tells, fetch_asks_modseq, search_asks_modseq, status_asks_modseq}
+use Rattle.imap_commands.specs.Entering.{login_wants}
 use Rattle.imap_commands.specs.Expunging.{close_wants, expunge_wants, uid_expunge_tells, uid_expunge_wants}
 use Rattle.imap_commands.specs.Fetching.{fetch_tells, fetch_wants}
 use Rattle.imap_commands.specs.Mailboxes.{create_wants, created_name, delete_wants, subscribe_wants, unsubscribe_wants}
@@ -29,7 +31,7 @@ use Rattle.mail_listing.specs.Listed.{Listed}
 use Rattle.session_view.specs.Seen.{Seen}
 use Rattle.session_view.specs.declared.entry.SyncKind.{SyncKind}
 use Rattle.session_view.specs.declared.entry.SyncKind.TheVariants.{Full, Partial}
-use Rattle.imap_node.specs.Mailboxes.{is_subscribed, rows_for, validity_of}
+use Rattle.imap_node.specs.Mailboxes.{is_subscribed, marks_of, rows_for, validity_of}
 use Rattle.uid_projection.specs.declared.start.Start.{Start}
 use Rattle.uid_projection.specs.Incarnations.{is_there, uidvalidity_of}
 use Rattle.uid_projection.specs.Lines.{highest_modseq_of, uidnext_of}
@@ -107,11 +109,11 @@ tells start before after state modseq commands.Logout = logout_tells
 tells start before after state modseq commands.Idle = idle_tells
 tells start before after state modseq (commands.Enable names) = enable_tells names
 tells start before after state modseq (commands.Select name condstore) =
-    select_tells (is_selected state) false name (validity_of start name after) (uidnext_of start name after) (highest_modseq_of name after) (listing start name after)
+    select_tells (is_selected state) false name (marks_of start name after) (listing start name after)
 tells start before after state modseq (commands.Examine name condstore) =
-    select_tells (is_selected state) true name (validity_of start name after) (uidnext_of start name after) (highest_modseq_of name after) (listing start name after)
+    select_tells (is_selected state) true name (marks_of start name after) (listing start name after)
 tells start before after state modseq (commands.Status name items) =
-    status_tells name items (record { uidnext = uidnext_of start name after; uidvalidity = validity_of start name after; highest_modseq = highest_modseq_of name after }) (listing start name after)
+    status_tells name items (marks_of start name after) (listing start name after)
 tells start before after state modseq (commands.Append name flags date text) = append_tells (validity_of start name after) (uidnext_of start name before)
 tells start before after state modseq (commands.UidExpunge uids) =
     tells_selected state (λ view read_only. uid_expunge_tells (rows_for start before view) view.entries uids)

@@ -2,16 +2,22 @@ use Rattle.std.specs.Prelude.{ℕ, Bool, true, false, List, [], ◌∷◌}
 use Rattle.std.specs.Option.{unwrap_or}
 use Rattle.crdt_ops.specs.declared.op.Op.{Op}
 use Rattle.crdt_ops.specs.Sets.{subscription_tags_of}
+use Rattle.imap_query.specs.declared.mailbox_status.Marks.{Marks}
 use Rattle.mail_listing.specs.Listed.{Listed}
 use Rattle.session_view.specs.Seen.{Seen, rows_under}
 use Rattle.tags_clocks.specs.declared.id.OpId.{OpId}
 use Rattle.uid_projection.specs.declared.start.Start.{Start}
 use Rattle.uid_projection.specs.Incarnations.{uidvalidity_of}
+use Rattle.uid_projection.specs.Lines.{highest_modseq_of, uidnext_of}
 use Rattle.uid_projection.specs.Listing.{listing}
 
 -- The UIDVALIDITY of a mailbox that is there.
 abbrev pub validity_of : Start → List ℕ → List Op → ℕ
 validity_of start name ops = unwrap_or (uidvalidity_of start name ops) 0
+
+-- The numbers that SELECT and STATUS tell of a mailbox that is there.
+abbrev pub marks_of : Start → List ℕ → List Op → Marks
+marks_of start name ops = record { uidnext = uidnext_of start name ops; uidvalidity = validity_of start name ops; highest_modseq = highest_modseq_of name ops }
 
 -- What a view's mailbox has now, of the view's own incarnation: nothing where that has ended.
 abbrev pub rows_for : Start → List Op → Seen → List Listed

@@ -2,9 +2,10 @@ use Rattle.std.specs.Prelude.{◌≡◌, ◌⊎◌, ℕ, ◌+◌, ◌<◌, List,
 use Rattle.causal_inbox.specs.Seen.{IsClockOf}
 use Rattle.crdt_ops.specs.declared.kind.Kind.{Kind}
 use Rattle.crdt_ops.specs.declared.op.Op.{Op}
-use Rattle.crdt_ops.specs.Sound.{CoversNamed, HasLawfulFlags, IsDeleteOfInbox, IsSound}
-use Rattle.crdt_ops.specs.Tags.{name_of}
-use Rattle.imap_types.specs.Names.{IsLawfulName}
+use Rattle.crdt_ops.specs.Sound.{CoversNamed, IsSound}
+use Rattle.imap_answers.specs.declared.words.Refusal.{Refusal}
+use Rattle.imap_answers.specs.declared.words.Refusal.TheVariants.{NoMemory, NumberUsedUp}
+use Rattle.imap_commands.specs.Lawful.{IsLawfulKind}
 use Rattle.merge_laws.specs.Orders.{HasId, IsIn}
 use Rattle.tags_clocks.specs.Clock.{count_of}
 use Rattle.uid_projection.specs.declared.start.Start.{Start}
@@ -38,13 +39,20 @@ pub record CanFollow (start : Start) (applied ops : List Op) : Type 0 where
   pub applied : IsApplied (applied ++ ops)
   pub lasts : Exhausts start applied ops → ⊥
 
+-- Why operations of these kinds can't be made ready.
+abbrev pub IsNotReady : Start → List Op → List Kind → Refusal → Type 0
+IsNotReady start applied kinds why = (why ≡ NoMemory) ⊎ ((why ≡ NumberUsedUp) × IsUsedUp start applied kinds)
+
 -- The replica may issue an operation of this kind: its name and flags are lawful, it doesn't delete INBOX, and it names only
 -- what was applied.
 pub record CanIssue (applied : List Op) (kind : Kind) : Type 0 where
-  pub name : IsLawfulName (name_of kind)
-  pub flags : HasLawfulFlags kind
-  pub inbox_stays : ¬ IsDeleteOfInbox kind
+  pub lawful : IsLawfulKind kind
   pub covered : (clock : List (ℕ × ℕ)) → IsClockOf (λ (o : Op). o.id) applied clock → CoversNamed clock kind
+
+-- Behind what this clock counts, it may issue an operation of this kind.
+pub record CanIssueBy (clock : List (ℕ × ℕ)) (kind : Kind) : Type 0 where
+  pub lawful : IsLawfulKind kind
+  pub covered : CoversNamed clock kind
 
 -- It may issue operations of all these kinds.
 abbrev pub CanIssueAll : List Op → List Kind → Type 0

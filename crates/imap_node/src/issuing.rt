@@ -1,0 +1,129 @@
+//! The replica's own next operations.
+
+ghost use Rattle.std.specs.Prelude.{◌≡◌, ◌↔◌, ◌++◌, ◌+◌, ◌<◌, ◌≤◌, ◌⊎◌, ℕ, List, false, IfOk, IfErr, OnOk, IsTrue, length};
+ghost use Rattle.causal_inbox.specs.Seen.{IsClockOf};
+ghost use Rattle.crdt_ops.specs.Sound.{IsSound};
+ghost use Rattle.crdt_ops.specs.declared.kind.Kind.{Kind as Action};
+ghost use Rattle.crdt_ops.specs.declared.op.Op.{Op as Operation};
+ghost use Rattle.imap_answers.specs.declared.words.Refusal.TheVariants.{NoMemory, NumberUsedUp};
+ghost use Rattle.imap_node.specs.Operations.{AreNext, CanFollow, CanIssueAll, CanIssueBy, IsNext, IsNotReady, NumbersEnd};
+ghost use Rattle.imap_node.specs.Rooms.{HasRoomFor};
+ghost use Rattle.merge_laws.specs.Orders.{AreSound};
+ghost use Rattle.tags_clocks.specs.Clock.{count_of};
+ghost use Rattle.uid_projection.specs.Exhaustion.{Exhausts};
+
+use crate::replica::Replica;
+use causal_inbox::IssueFault;
+use crdt_ops::{Kind, Op, SoundOp, check};
+use imap_answers::Refusal;
+use std::alloc::{AllocError, Global};
+use tags_clocks::{Clock, OpId, ReplicaId};
+
+/// The replica's next operations, of these kinds, with room for issuing them. An error leaves what was received as it was:
+/// `NumberUsedUp` where a counter is at its end for one of them.
+pub fn readied(
+    alloc: Global,
+    replica: &mut Replica,
+    kinds: Vec<Kind>,
+) -> Result<Vec<SoundOp>, Refusal>
+    requires { CanIssueAll replica.old.applied kinds.items }
+    ensures start { replica.new.start ≡ replica.old.start }
+    ensures applied { replica.new.applied ≡ replica.old.applied }
+    ensures held { replica.new.held ≡ replica.old.held }
+    ensures room { IfOk result (λ ops. HasRoomFor replica.new.applied replica.new.room ops.items) }
+    ensures next { IfOk result (λ ops. AreNext replica.old.start.replica replica.old.applied kinds.items ops.items) }
+    ensures follow { IfOk result (λ ops. CanFollow replica.old.start replica.old.applied ops.items) }
+    ensures err { IfErr result (λ why. IsNotReady replica.old.start replica.old.applied kinds.items why) }
+{
+    if !has_numbers(replica, kinds.len()) {
+        drop(kinds);
+        return Err(Refusal::NumberUsedUp);
+    }
+    let ops = next_ops(alloc, replica, kinds)?;
+    match make_room(alloc, replica, &ops) {
+        Ok(()) => Ok(ops),
+        Err(why) => {
+            drop(ops);
+            Err(why)
+        }
+    }
+}
+
+/// Makes room for issuing operations that come next.
+fn make_room(alloc: Global, replica: &mut Replica, ops: &[SoundOp]) -> Result<(), Refusal>
+    requires sound { AreSound IsSound ops.now }
+    requires next { (kinds : List Action) × AreNext replica.old.start.replica replica.old.applied kinds ops.now }
+    ensures start { replica.new.start ≡ replica.old.start }
+    ensures applied { replica.new.applied ≡ replica.old.applied }
+    ensures held { replica.new.held ≡ replica.old.held }
+    ensures room { OnOk result (HasRoomFor replica.new.applied replica.new.room ops.now) }
+    ensures follow { OnOk result (CanFollow replica.old.start replica.old.applied ops.now) }
+    ensures err { IfErr result (λ why. (why ≡ NoMemory) ⊎ ((why ≡ NumberUsedUp) × Exhausts replica.old.start replica.old.applied ops.now)) }
+{
+    let _list = replica.applied();
+    match replica.ready(alloc, ops) {
+        Ok(()) => Ok(()),
+        Err(IssueFault::Exhausted) => Err(Refusal::NumberUsedUp),
+        Err(IssueFault::NoMemory) => Err(Refusal::NoMemory),
+    }
+}
+
+/// Whether the replica's own numbers suffice for so many operations more.
+fn has_numbers(replica: &Replica, count: usize) -> bool
+    ensures yes { IsTrue result → (clock : List (ℕ × ℕ)) → IsClockOf (λ (o : Operation). o.id) replica.now.applied clock → count_of clock replica.now.start.replica + count ≤ 4294967295 }
+    ensures no { result ≡ false → (kinds : List Action) → count ≡ length kinds → NumbersEnd replica.now.start.replica replica.now.applied kinds }
+{
+    let given = replica.clock().get(replica.id());
+    count <= (u32::MAX - given) as usize
+}
+
+/// The replica's next operations, of these kinds.
+fn next_ops(
+    alloc: Global,
+    replica: &Replica,
+    kinds: Vec<Kind>,
+) -> Result<Vec<SoundOp>, AllocError>
+    requires can { CanIssueAll replica.now.applied kinds.items }
+    requires numbers { (clock : List (ℕ × ℕ)) → IsClockOf (λ (o : Operation). o.id) replica.now.applied clock → count_of clock replica.now.start.replica + length kinds.items ≤ 4294967295 }
+    ensures next { IfOk result (λ ops. AreNext replica.now.start.replica replica.now.applied kinds.items ops.items) }
+    ensures sound { IfOk result (λ ops. AreSound IsSound ops.items) }
+{
+    let mut clock = replica.clock().copy(alloc)?;
+    let mut ops = Vec::with_capacity(alloc, kinds.len())?;
+    for kind in kinds {
+        let op = next_op(alloc, replica.id(), &clock, kind)?;
+        clock.raise(replica.id(), op.op().id.number.get())?;
+        ops.push(op)?;
+    }
+    Ok(ops)
+}
+
+/// The operation of this kind that comes next behind those that the clock counts.
+fn next_op(
+    alloc: Global,
+    replica: ReplicaId,
+    clock: &Clock,
+    kind: Kind,
+) -> Result<SoundOp, AllocError>
+    requires can { CanIssueBy clock.now kind }
+    requires number { count_of clock.now replica < 4294967295 }
+    ensures kind { IfOk result (λ op. op.kind ≡ kind) }
+    ensures clock { IfOk result (λ op. op.clock ≡ clock.now) }
+    ensures replica { IfOk result (λ op. op.id.replica ≡ replica) }
+    ensures number { IfOk result (λ op. op.id.number ≡ count_of clock.now replica + 1) }
+{
+    let Some(id) = OpId::new(replica, clock.get(replica) + 1) else {
+        unreachable!()
+    };
+    let clock = match clock.copy(alloc) {
+        Ok(clock) => clock,
+        Err(error) => {
+            drop(kind);
+            return Err(error);
+        }
+    };
+    match check(Op { id, clock, kind }) {
+        Ok(op) => Ok(op),
+        Err(_) => unreachable!(),
+    }
+}

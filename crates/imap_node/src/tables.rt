@@ -1,0 +1,165 @@
+//! What each command is to the frame around it: one line a command in each table.
+
+ghost use Rattle.std.specs.Prelude.{◌≡◌};
+ghost use Rattle.imap_node.specs.Commands.{by_kind, is_enabling, is_idle, is_selected, is_selecting, sync_of, word_of};
+ghost use Rattle.imap_node.specs.Respond.{closes, condstore_after, ends_idling, is_on, leaves};
+
+use crate::input::Input;
+use imap_answers::{CommandWord, Refusal};
+use imap_commands::{
+    Session, State, asks_condstore, fetch_asks_modseq, search_asks_modseq, status_asks_modseq,
+};
+use imap_grammar::Command;
+use session_view::SyncKind;
+
+/// Whether a mailbox is selected.
+pub fn is_selected(state: &State) -> bool
+    ensures { result ≡ is_selected state.now }
+{
+    matches!(state, State::Selected { .. })
+}
+
+/// How much a sync tells: no EXPUNGE where messages are named by their numbers (RFC 9051, section 7.5.1).
+fn by_kind(by_uid: bool) -> SyncKind
+    ensures { result ≡ by_kind by_uid }
+{
+    if by_uid {
+        SyncKind::Full
+    } else {
+        SyncKind::Partial
+    }
+}
+
+/// How much the sync behind a command tells, if there is one.
+pub fn sync_of(command: &Command) -> Option<SyncKind>
+    ensures { result ≡ sync_of command.now }
+{
+    match command {
+        Command::Login { .. } => None,
+        Command::Logout => None,
+        Command::Select { .. } => None,
+        Command::Examine { .. } => None,
+        Command::Idle => None,
+        Command::Unselect => None,
+        Command::Close => None,
+        Command::Search { by_uid, .. } => Some(by_kind(*by_uid)),
+        Command::Fetch { by_uid, .. } => Some(by_kind(*by_uid)),
+        Command::Store { by_uid, .. } => Some(by_kind(*by_uid)),
+        _ => Some(SyncKind::Full),
+    }
+}
+
+/// Whether a command turns mod-sequences on (RFC 7162, section 3.1).
+pub fn is_enabling(command: &Command) -> bool
+    ensures { result ≡ is_enabling command.now }
+{
+    match command {
+        Command::Enable { names } => asks_condstore(names.as_slice()),
+        Command::Select { condstore, .. } => *condstore,
+        Command::Examine { condstore, .. } => *condstore,
+        Command::Status { items, .. } => status_asks_modseq(items.as_slice()),
+        Command::Search { steps, .. } => search_asks_modseq(steps.as_slice()),
+        Command::Fetch {
+            items,
+            changed_since,
+            ..
+        } => fetch_asks_modseq(items.as_slice(), *changed_since),
+        Command::Store {
+            unchanged_since, ..
+        } => unchanged_since.is_some(),
+        _ => false,
+    }
+}
+
+/// Whether mod-sequences are on, for this command too.
+pub fn is_on(session: &Session, command: &Command) -> bool
+    ensures { result ≡ is_on session.now command.now }
+{
+    session.condstore || is_enabling(command)
+}
+
+/// Whether a command leaves the selected mailbox also where it is refused (RFC 9051, section 6.3.2).
+pub fn is_selecting(command: &Command) -> bool
+    ensures { result ≡ is_selecting command.now }
+{
+    match command {
+        Command::Select { .. } => true,
+        Command::Examine { .. } => true,
+        _ => false,
+    }
+}
+
+/// Whether IDLE begins (RFC 2177, section 3).
+pub fn is_idle(command: &Command) -> bool
+    ensures { result ≡ is_idle command.now }
+{
+    matches!(command, Command::Idle)
+}
+
+/// Whether a refused input leaves the selected mailbox.
+pub fn leaves(state: &State, input: &Input) -> bool
+    ensures { result ≡ leaves state.now input.now }
+{
+    match input {
+        Input::Command { tagged, .. } => is_selected(state) && is_selecting(&tagged.command),
+        _ => false,
+    }
+}
+
+/// Whether it is told that the refused input left a mailbox.
+pub fn closes(state: &State, input: &Input, why: Refusal) -> bool
+    ensures { result ≡ closes state.now input.now why }
+{
+    if why == Refusal::NoMemory {
+        return false;
+    }
+    leaves(state, input)
+}
+
+/// Whether a refused input ends an IDLE.
+pub fn ends_idling(input: &Input, why: Refusal) -> bool
+    ensures { result ≡ ends_idling input.now why }
+{
+    match input {
+        Input::Line { .. } => why != Refusal::NoMemory,
+        _ => false,
+    }
+}
+
+/// The word of the tagged line.
+pub fn word_of(command: &Command) -> CommandWord
+    ensures { result ≡ word_of command.now }
+{
+    match command {
+        Command::Capability => CommandWord::Capability,
+        Command::Noop => CommandWord::Noop,
+        Command::Logout => CommandWord::Logout,
+        Command::Login { .. } => CommandWord::Login,
+        Command::Enable { .. } => CommandWord::Enable,
+        Command::Select { .. } => CommandWord::Select,
+        Command::Examine { .. } => CommandWord::Examine,
+        Command::Create { .. } => CommandWord::Create,
+        Command::Delete { .. } => CommandWord::Delete,
+        Command::Subscribe { .. } => CommandWord::Subscribe,
+        Command::Unsubscribe { .. } => CommandWord::Unsubscribe,
+        Command::ListNames { .. } => CommandWord::List,
+        Command::Namespace => CommandWord::Namespace,
+        Command::Status { .. } => CommandWord::Status,
+        Command::Append { .. } => CommandWord::Append,
+        Command::Idle => CommandWord::Idle,
+        Command::Close => CommandWord::Close,
+        Command::Unselect => CommandWord::Unselect,
+        Command::Expunge => CommandWord::Expunge,
+        Command::UidExpunge { .. } => CommandWord::UidExpunge,
+        Command::Search { by_uid: true, .. } => CommandWord::UidSearch,
+        Command::Search { by_uid: false, .. } => CommandWord::Search,
+        Command::Fetch { by_uid: true, .. } => CommandWord::UidFetch,
+        Command::Fetch { by_uid: false, .. } => CommandWord::Fetch,
+        Command::Store { by_uid: true, .. } => CommandWord::UidStore,
+        Command::Store { by_uid: false, .. } => CommandWord::Store,
+        Command::Copy { by_uid: true, .. } => CommandWord::UidCopy,
+        Command::Copy { by_uid: false, .. } => CommandWord::Copy,
+        Command::Move { by_uid: true, .. } => CommandWord::UidMove,
+        Command::Move { by_uid: false, .. } => CommandWord::Move,
+    }
+}
