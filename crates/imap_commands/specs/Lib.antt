@@ -1,2 +1,10 @@
+pub mod Changing
+pub mod Copying
+pub mod Expunging
+pub mod Fetching
 pub mod Gives
+pub mod Issued
+pub mod Named
+pub mod Searching
+pub mod Storing
 pub mod Told

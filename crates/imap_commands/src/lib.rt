@@ -5,8 +5,26 @@
 //! look at listings, views and the command's parts alone; `imap_node` finds these for them, and does all that commands have in common.
 #![tactic(auto)]
 
+mod changing;
+mod copying;
+mod expunging;
+mod fetching;
+mod issued;
+mod named;
+mod searching;
 mod session;
+mod storing;
 mod telling;
 
+pub use changing::changed;
+pub use copying::{copy_tells, copy_wants, move_tells, move_wants};
+pub use expunging::{close_wants, expunge_wants, uid_expunge_tells, uid_expunge_wants};
+pub use fetching::{fetch_tells, fetch_wants};
+pub use issued::{
+    copies_are_issuable, expunges_are_issuable, moves_are_issuable, seen_stores_are_issuable,
+    stores_are_issuable,
+};
+pub use searching::{search_tells, search_wants};
 pub use session::{Credentials, Session, State};
+pub use storing::{store_tells, store_wants};
 pub use telling::{Telling, entry_at, gone_code, message_at};
