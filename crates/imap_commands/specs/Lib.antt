@@ -1,9 +1,17 @@
 pub mod Appending
 pub mod Asking
+pub mod Changing
+pub mod Copying
 pub mod Enabling
 pub mod Entering
+pub mod Expunging
+pub mod Fetching
 pub mod Gives
+pub mod Issued
 pub mod Lawful
 pub mod Mailboxes
+pub mod Named
+pub mod Searching
 pub mod Selecting
+pub mod Storing
 pub mod Told

@@ -7,12 +7,20 @@
 
 mod appending;
 mod asking;
+mod changing;
+mod copying;
 mod enabling;
 mod entering;
+mod expunging;
+mod fetching;
+mod issued;
 mod laws;
 mod mailboxes;
+mod named;
+mod searching;
 mod selecting;
 mod session;
+mod storing;
 mod telling;
 
 pub use appending::{append_tells, append_wants};
@@ -20,14 +28,24 @@ pub use asking::{
     capability_tells, idle_tells, list_tells, logout_tells, namespace_tells, status_tells,
     status_wants,
 };
+pub use changing::changed;
+pub use copying::{copy_tells, copy_wants, move_tells, move_wants};
 pub use enabling::{
     asks_condstore, enable_tells, fetch_asks_modseq, search_asks_modseq, status_asks_modseq,
 };
 pub use entering::login_wants;
+pub use expunging::{close_wants, expunge_wants, uid_expunge_tells, uid_expunge_wants};
+pub use fetching::{fetch_tells, fetch_wants};
+pub use issued::{
+    copies_are_issuable, expunges_are_issuable, moves_are_issuable, seen_stores_are_issuable,
+    stores_are_issuable,
+};
 pub use laws::{lawful_name_is, listed_keywords_are_borne, one_set_of_keywords};
 pub use mailboxes::{
     create_wants, created_name, delete_wants, is_lawful_name, subscribe_wants, unsubscribe_wants,
 };
+pub use searching::{search_tells, search_wants};
 pub use selecting::{select_tells, select_wants};
 pub use session::{Credentials, Session, State};
+pub use storing::{store_tells, store_wants};
 pub use telling::{Telling, entry_at, gone_code, message_at};

@@ -92,8 +92,8 @@ fn push_fetch(answers: &mut Vec<Answer>, number: u32, items: FetchItems) -> Resu
     Ok(())
 }
 
-/// Whether a message changed since.
-fn is_kept(changed_since: Option<u64>, old: &Row<'_>) -> bool
+/// Whether a message changed since: its mod-sequence is above this one, or none is asked (RFC 7162, section 3.1.4.1).
+pub fn is_kept(changed_since: Option<u64>, old: &Row<'_>) -> bool
     ensures { result ≡ is_kept changed_since (listed old.now) }
 {
     match changed_since {
@@ -153,8 +153,9 @@ fn tells_flags(items: &[FetchItem], mode: FetchMode, old: &Row<'_>) -> bool
     asks(items, Part::Flags) || is_marked(items, mode, old)
 }
 
-/// Whether reading a section sets `\Seen`.
-fn is_marked(items: &[FetchItem], mode: FetchMode, old: &Row<'_>) -> bool
+/// Whether reading a section sets `\Seen` on this message: in a read-write mailbox, if it lacks it and an item asks without PEEK
+/// (RFC 9051, section 6.4.5.1).
+pub fn is_marked(items: &[FetchItem], mode: FetchMode, old: &Row<'_>) -> bool
     ensures { result ≡ is_marked items.now mode (listed old.now) }
 {
     mode.writable && !old.flags.seen && set_seen(items)

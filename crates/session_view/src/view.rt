@@ -145,6 +145,14 @@ impl View {
         }
     }
 
+    /// Whether each number that a set of numbers names is a message's (RFC 9051, section 9, sequence-set); in an empty view `*` is none.
+    pub fn is_in_range(&self, set: &SequenceSet) -> bool
+        ensures { result ≡ is_in_range false set.now self.now.entries }
+    {
+        let count = count_of(self.entries());
+        are_in_view(count, set.ranges())
+    }
+
     /// Brings the view up to the listing and tells how: everything, or all but which messages are gone; with mod-sequences where they
     /// are asked. The answers are as `synced` says. `Err` where there is no memory; the view stays as it was.
     pub fn sync(

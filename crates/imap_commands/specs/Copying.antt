@@ -1,0 +1,88 @@
+use Rattle.std.specs.Prelude.{ℕ, ◌-◌, Bool, true, not, List, [], ◌∷◌, ◌++◌, map, flat_map, Option, Some, None, Result, Ok, Err, if◌then◌else◌}
+use Rattle.crdt_ops.specs.declared.kind.Kind.{Kind}
+use Rattle.crdt_ops.specs.declared.kind.Kind.TheVariants.{Append, Expunge}
+use Rattle.imap_answers.specs.declared.answer.Answer.{Answer}
+use Rattle.imap_answers.specs.declared.answer.Answer.TheVariants.{Tell}
+use Rattle.imap_answers.specs.declared.codes.Code.{Code}
+use Rattle.imap_answers.specs.declared.codes.Code.TheVariants as code
+use Rattle.imap_answers.specs.declared.codes.Notice.TheVariants as notice
+use Rattle.imap_answers.specs.declared.words.Refusal.{Refusal}
+use Rattle.imap_answers.specs.declared.words.Refusal.TheVariants.{NoDestination, NoSuchMessage, ReadOnly}
+use Rattle.imap_types.specs.declared.sequence_set.SequenceRange.{SequenceRange}
+use Rattle.mail_listing.specs.Listed.{Listed}
+use Rattle.mail_listing.specs.Listing.{beyond}
+use Rattle.session_view.specs.Sets.{is_in_range, resolved}
+use Rattle.session_view.specs.declared.entry.Entry.{Entry}
+use Rattle.imap_commands.specs.Named.{names_of, those_there}
+use Rattle.imap_commands.specs.Told.{Telling, gone_code, message_at}
+
+-- The Append of a message's copy, with its flags, date and text.
+abbrev pub append_of : List ℕ → Option Listed → List Kind
+append_of destination None = []
+append_of destination (Some row) = Append destination row.flags row.date row.text ∷ []
+
+-- The Appends of the messages with these numbers.
+abbrev pub appends_of : List ℕ → List Listed → List Entry → List ℕ → List Kind
+appends_of destination before view numbers = flat_map (λ n. append_of destination (message_at before view n)) numbers
+
+-- The Expunge of a message that is moved, marked as deleted or not.
+abbrev pub removal_of : List ℕ → Option Listed → List Kind
+removal_of folder None = []
+removal_of folder (Some row) = Expunge folder row.id ∷ []
+
+abbrev pub removals_of : List ℕ → List Listed → List Entry → List ℕ → List Kind
+removals_of folder before view numbers = flat_map (λ n. removal_of folder (message_at before view n)) numbers
+
+-- What COPY issues, or the first reason against it (RFC 9051, section 6.4.7).
+abbrev pub copy_wants : List ℕ → Bool → List Listed → List Entry → Bool → List SequenceRange → Result (List Kind) Refusal
+copy_wants destination is_there before view by_uid set =
+    if not (is_in_range by_uid set view) then Err NoSuchMessage
+    else (if not is_there then Err NoDestination
+    else Ok (appends_of destination before view (resolved by_uid set view)))
+
+-- What MOVE issues, or the first reason against it: first all copies, then what takes the messages out (RFC 9051, section 6.4.8).
+abbrev pub move_wants : List ℕ → List ℕ → Bool → List Listed → List Entry → Bool → Bool → List SequenceRange → Result (List Kind) Refusal
+move_wants folder destination is_there before view read_only by_uid set =
+    if not (is_in_range by_uid set view) then Err NoSuchMessage
+    else (if read_only then Err ReadOnly
+    else (if not is_there then Err NoDestination
+    else Ok (appends_of destination before view (resolved by_uid set view) ++ removals_of folder before view (resolved by_uid set view))))
+
+-- The UIDs of the messages that are copied, of those with these numbers.
+abbrev pub sources_of : List Listed → List Entry → List ℕ → List ℕ
+sources_of before view numbers = names_of true view (those_there before view numbers)
+
+-- The UIDs of their copies: those of the destination's messages that came with the command, which have UIDs from its UIDNEXT on.
+abbrev pub copies_in : ℕ → List Listed → List ℕ
+copies_in uidnext landed = map (λ row. row.uid) (beyond (uidnext - 1) landed)
+
+-- The code of a COPY: where its copies are, and else the other code.
+abbrev pub copied_code : ℕ → List ℕ → List ℕ → Option Code → Option Code
+copied_code uidvalidity [] copies code = code
+copied_code uidvalidity (n ∷ sources) copies code = Some (code.CopyUid uidvalidity (n ∷ sources) copies)
+
+-- What MOVE tells of itself: where its copies are.
+abbrev pub moved_answers : ℕ → List ℕ → List ℕ → List Answer
+moved_answers uidvalidity [] copies = []
+moved_answers uidvalidity (n ∷ sources) copies = Tell (notice.CopyUid uidvalidity (n ∷ sources) copies) ∷ []
+
+-- What COPY tells: by the listing before it, the destination's UIDVALIDITY, its UIDNEXT before the command and its listing after it
+-- (RFC 9051, sections 6.4.7 and 7.1).
+abbrev pub copy_tells : List Listed → List Entry → Bool → List SequenceRange → ℕ → ℕ → List Listed → Telling
+copy_tells before view by_uid set uidvalidity uidnext landed =
+    let numbers = resolved by_uid set view in
+    record {
+      own = [];
+      silent = [];
+      code = copied_code uidvalidity (sources_of before view numbers) (copies_in uidnext landed) (gone_code before view numbers);
+    }
+
+-- What MOVE tells, by the same (RFC 9051, section 6.4.8).
+abbrev pub move_tells : List Listed → List Entry → Bool → List SequenceRange → ℕ → ℕ → List Listed → Telling
+move_tells before view by_uid set uidvalidity uidnext landed =
+    let numbers = resolved by_uid set view in
+    record {
+      own = moved_answers uidvalidity (sources_of before view numbers) (copies_in uidnext landed);
+      silent = [];
+      code = gone_code before view numbers;
+    }

@@ -1,0 +1,37 @@
+use Rattle.std.specs.Prelude.{ℕ, Bool, true, List, [], ◌∷◌, flat_map, Option, Some, None, Result, Ok, Err, if◌then◌else◌}
+use Rattle.crdt_ops.specs.declared.kind.Kind.{Kind}
+use Rattle.crdt_ops.specs.declared.kind.Kind.TheVariants.{Expunge}
+use Rattle.imap_answers.specs.declared.words.Refusal.{Refusal}
+use Rattle.imap_answers.specs.declared.words.Refusal.TheVariants.{ReadOnly}
+use Rattle.imap_types.specs.declared.sequence_set.SequenceRange.{SequenceRange}
+use Rattle.mail_listing.specs.Listed.{Listed}
+use Rattle.session_view.specs.Sets.{resolved}
+use Rattle.session_view.specs.declared.entry.Entry.{Entry}
+use Rattle.imap_commands.specs.Told.{Telling, gone_code, message_at}
+
+-- The Expunge of a message, where it is marked as deleted.
+abbrev pub expunge_of : List ℕ → Listed → List Kind
+expunge_of folder row = if row.flags.deleted then Expunge folder row.id ∷ [] else []
+
+-- The same of a message that may be gone.
+abbrev pub expunge_at : List ℕ → Option Listed → List Kind
+expunge_at folder None = []
+expunge_at folder (Some row) = expunge_of folder row
+
+-- What EXPUNGE issues, or why not: it takes out what is marked as deleted (RFC 9051, section 6.4.3).
+abbrev pub expunge_wants : List ℕ → List Listed → Bool → Result (List Kind) Refusal
+expunge_wants folder before read_only = if read_only then Err ReadOnly else Ok (flat_map (expunge_of folder) before)
+
+-- What UID EXPUNGE issues, or why not: of the messages that the set names alone (RFC 9051, section 6.4.9).
+abbrev pub uid_expunge_wants : List ℕ → List Listed → List Entry → Bool → List SequenceRange → Result (List Kind) Refusal
+uid_expunge_wants folder before view read_only set =
+    if read_only then Err ReadOnly
+    else Ok (flat_map (λ n. expunge_at folder (message_at before view n)) (resolved true set view))
+
+-- What UID EXPUNGE tells.
+abbrev pub uid_expunge_tells : List Listed → List Entry → List SequenceRange → Telling
+uid_expunge_tells before view set = record { own = []; silent = []; code = gone_code before view (resolved true set view) }
+
+-- What CLOSE issues: nothing in a mailbox that is only read (RFC 9051, section 6.4.1).
+abbrev pub close_wants : List ℕ → List Listed → Bool → Result (List Kind) Refusal
+close_wants folder before read_only = if read_only then Ok [] else Ok (flat_map (expunge_of folder) before)

@@ -1,0 +1,54 @@
+use Rattle.std.specs.Prelude.{ℕ, Bool, true, false, not, ◌&&◌, List, [], ◌∷◌, flat_map, Option, Some, None, Result, Ok, Err, if◌then◌else◌}
+use Rattle.crdt_ops.specs.declared.kind.Kind.{Kind}
+use Rattle.crdt_ops.specs.declared.kind.Kind.TheVariants.{Store}
+use Rattle.imap_answers.specs.declared.words.Refusal.{Refusal}
+use Rattle.imap_answers.specs.declared.words.Refusal.TheVariants.{NoSuchMessage}
+use Rattle.imap_grammar.specs.declared.fetch.FetchItem.{FetchItem}
+use Rattle.imap_query.specs.Fetching.{fetch_answers, is_kept, is_marked}
+use Rattle.imap_query.specs.declared.fetching.FetchMode.{FetchMode}
+use Rattle.imap_query.specs.declared.shown.Shown.{Shown}
+use Rattle.imap_types.specs.declared.flags.Flags.{Flags}
+use Rattle.imap_types.specs.declared.sequence_set.SequenceRange.{SequenceRange}
+use Rattle.mail_listing.specs.Listed.{Listed}
+use Rattle.session_view.specs.Sets.{is_in_range, resolved}
+use Rattle.session_view.specs.declared.entry.Entry.{Entry}
+use Rattle.imap_commands.specs.Told.{Telling, entry_at, gone_code, message_at}
+
+-- How FETCH asks.
+abbrev pub mode_of : Bool → Bool → Bool → Option ℕ → FetchMode
+mode_of by_uid condstore read_only changed_since = record { by_uid = by_uid; condstore = condstore; writable = not read_only; changed_since = changed_since }
+
+-- Flags with `\Seen`.
+abbrev pub seen_flags : Flags → Flags
+seen_flags flags = record flags { seen = true }
+
+-- The Store of `\Seen` of a message: where the mailbox is read-write, an item sets it, the message was kept by CHANGEDSINCE and lacks it.
+abbrev pub seen_store : List ℕ → List FetchItem → FetchMode → Option Listed → List Kind
+seen_store folder items mode None = []
+seen_store folder items mode (Some row) =
+    if is_kept mode.changed_since row && is_marked items mode row then Store folder (seen_flags row.flags) row.id row.origin ∷ [] else []
+
+-- What FETCH issues, or why not (RFC 9051, section 6.4.5; RFC 7162, section 3.1.4).
+abbrev pub fetch_wants : List ℕ → List Listed → List Entry → Bool → Bool → List SequenceRange → List FetchItem → Option ℕ → Result (List Kind) Refusal
+fetch_wants folder before view read_only by_uid set items changed_since =
+    if not (is_in_range by_uid set view) then Err NoSuchMessage
+    else Ok (flat_map (λ n. seen_store folder items (mode_of by_uid false read_only changed_since) (message_at before view n)) (resolved by_uid set view))
+
+-- A message of a view as queries see it.
+abbrev pub shown_at : ℕ → Option Entry → List Shown
+shown_at n None = []
+shown_at n (Some e) = record { number = n; uid = e.uid } ∷ []
+
+-- The messages with these numbers.
+abbrev pub shown_of : List Entry → List ℕ → List Shown
+shown_of view numbers = flat_map (λ n. shown_at n (entry_at view n)) numbers
+
+-- What FETCH tells, by the listings before and after it.
+abbrev pub fetch_tells : List Listed → List Listed → List Entry → Bool → Bool → Bool → List SequenceRange → List FetchItem → Option ℕ → Telling
+fetch_tells before after view read_only condstore by_uid set items changed_since =
+    let numbers = resolved by_uid set view in
+    record {
+      own = fetch_answers items (mode_of by_uid condstore read_only changed_since) before after (shown_of view numbers);
+      silent = [];
+      code = gone_code before view numbers;
+    }

@@ -1,0 +1,53 @@
+use Rattle.std.specs.Prelude.{◌≡◌, ℕ, ◌+◌, Bool, true, false, List, [], ◌∷◌, Result, Ok, Err, if◌then◌else◌}
+use Rattle.std.specs.List.{list_all}
+use Rattle.crdt_ops.specs.declared.kind.Kind.{Kind}
+use Rattle.imap_answers.specs.declared.answer.Answer.TheVariants.{Search}
+use Rattle.imap_answers.specs.declared.words.Refusal.{Refusal}
+use Rattle.imap_answers.specs.declared.words.Refusal.TheVariants.{NoSuchMessage}
+use Rattle.imap_grammar.specs.declared.search.SearchOption.{SearchOption}
+use Rattle.imap_grammar.specs.declared.search.SearchStep.{SearchStep}
+use Rattle.imap_grammar.specs.declared.search.SearchStep.TheVariants.{Test, Not, Or, And}
+use Rattle.imap_grammar.specs.declared.search.SearchTest.{SearchTest}
+use Rattle.imap_grammar.specs.declared.search.SearchTest.TheVariants as tests
+use Rattle.imap_query.specs.Keys.{Key, steps_of}
+use Rattle.imap_query.specs.Search.{asks_modseq, hits_in, results_of}
+use Rattle.imap_query.specs.declared.shown.Shown.{Shown}
+use Rattle.mail_listing.specs.Listed.{Listed}
+use Rattle.session_view.specs.Sets.{is_in_range}
+use Rattle.session_view.specs.declared.entry.Entry.{Entry}
+use Rattle.imap_commands.specs.Told.{Telling, only_told}
+
+-- A key can be asked: a set of numbers names only numbers that messages have. UIDs can be any.
+abbrev pub test_is_in_range : List Entry → SearchTest → Bool
+test_is_in_range view (tests.Numbers numbers) = is_in_range false numbers view
+test_is_in_range view tests.All = true
+test_is_in_range view (tests.System flag is_set) = true
+test_is_in_range view (tests.Keyword keyword is_set) = true
+test_is_in_range view (tests.Holds place word) = true
+test_is_in_range view (tests.Header name word) = true
+test_is_in_range view (tests.Dated order day) = true
+test_is_in_range view (tests.Larger octets) = true
+test_is_in_range view (tests.Smaller octets) = true
+test_is_in_range view (tests.ModSeq value) = true
+test_is_in_range view (tests.Uids uids) = true
+
+abbrev pub step_is_in_range : List Entry → SearchStep → Bool
+step_is_in_range view (Test test) = test_is_in_range view test
+step_is_in_range view Not = true
+step_is_in_range view Or = true
+step_is_in_range view And = true
+
+-- SEARCH issues nothing; it is refused where a set of numbers, wherever it stands, names one that no message has.
+abbrev pub search_wants : List Entry → List SearchStep → Result (List Kind) Refusal
+search_wants view steps = if list_all (step_is_in_range view) steps then Ok [] else Err NoSuchMessage
+
+-- The messages of a view as queries see them, from number n on.
+abbrev pub shown_from : ℕ → List Entry → List Shown
+shown_from n [] = []
+shown_from n (e ∷ es) = record { number = n; uid = e.uid } ∷ shown_from (n + 1) es
+
+-- What SEARCH tells, by the key that its steps are (RFC 9051, section 6.4.4; RFC 7162, section 3.1.5).
+abbrev pub SearchTells : List Listed → List Entry → List ℕ → Bool → List SearchOption → List SearchStep → Telling → Type 0
+SearchTells rows view tag by_uid options steps told =
+    (key : Key) → steps ≡ steps_of key
+    → told ≡ only_told (Search tag by_uid (results_of options (asks_modseq key) (hits_in by_uid key rows (shown_from 1 view))) ∷ [])

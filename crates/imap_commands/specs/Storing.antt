@@ -1,0 +1,112 @@
+use Rattle.std.specs.Prelude.{ℕ, nat_le, nat_lt, Bool, true, false, not, ◌&&◌, ◌||◌, is_some, List, [], ◌∷◌, length, flat_map, Option, Some, None, Result, Ok, Err, if◌then◌else◌}
+use Rattle.std.specs.List.{filter, list_all, list_any}
+use Rattle.crdt_ops.specs.declared.kind.Kind.{Kind}
+use Rattle.crdt_ops.specs.declared.kind.Kind.TheVariants.{Store}
+use Rattle.imap_answers.specs.declared.answer.Answer.{Answer}
+use Rattle.imap_answers.specs.declared.answer.Answer.TheVariants.{Fetch}
+use Rattle.imap_answers.specs.declared.codes.Code.{Code}
+use Rattle.imap_answers.specs.declared.codes.Code.TheVariants.{Modified}
+use Rattle.imap_answers.specs.declared.words.Refusal.{Refusal}
+use Rattle.imap_answers.specs.declared.words.Refusal.TheVariants.{KeywordTooLong, NoSuchMessage, ReadOnly, TooManyKeywords}
+use Rattle.imap_grammar.specs.declared.store.StoreMode.{StoreMode}
+use Rattle.imap_query.specs.Fetching.{where_told}
+use Rattle.imap_types.specs.Keywords.{is_lawful_keyword}
+use Rattle.imap_types.specs.declared.flags.Flags.{Flags}
+use Rattle.imap_types.specs.declared.sequence_set.SequenceRange.{SequenceRange}
+use Rattle.mail_listing.specs.Listed.{Listed}
+use Rattle.session_view.specs.Sets.{is_in_range, resolved}
+use Rattle.session_view.specs.Views.{same_flags}
+use Rattle.session_view.specs.declared.entry.Entry.{Entry}
+use Rattle.session_view.specs.declared.replaying.Silent.{Silent}
+use Rattle.imap_commands.specs.Changing.{changed_flags}
+use Rattle.imap_commands.specs.Named.{names_of}
+use Rattle.imap_commands.specs.Told.{Telling, entry_at, gone_code, message_at}
+
+-- A keyword is none that a message may bear: it is too long, or has octets that no command spells.
+abbrev pub has_unlawful_keyword : Flags → Bool
+has_unlawful_keyword flags = not (list_all is_lawful_keyword flags.keywords)
+
+-- The message did not change since UNCHANGEDSINCE, where that stands (RFC 7162, section 3.1.3).
+abbrev pub is_unchanged : Option ℕ → Listed → Bool
+is_unchanged None row = true
+is_unchanged (Some modseq) row = nat_le row.modseq modseq
+
+-- STORE takes a message: it is there and did not change since.
+abbrev pub is_taken : Option ℕ → Option Listed → Bool
+is_taken since None = false
+is_taken since (Some row) = is_unchanged since row
+
+-- STORE refuses a message: it is there and changed since.
+abbrev pub is_refused : Option ℕ → Option Listed → Bool
+is_refused since None = false
+is_refused since (Some row) = not (is_unchanged since row)
+
+-- The numbers of the messages that STORE takes, of the listing before it.
+abbrev pub those_taken : List Listed → List Entry → Option ℕ → List ℕ → List ℕ
+those_taken before view since numbers = filter (λ n. is_taken since (message_at before view n)) numbers
+
+abbrev pub those_refused : List Listed → List Entry → Option ℕ → List ℕ → List ℕ
+those_refused before view since numbers = filter (λ n. is_refused since (message_at before view n)) numbers
+
+-- A message would bear too many keywords.
+abbrev pub is_overfull : StoreMode → Flags → Option Listed → Bool
+is_overfull mode given None = false
+is_overfull mode given (Some row) = nat_lt 32 (length (changed_flags mode row.flags given).keywords)
+
+-- The Store of a message, where its flags change.
+abbrev pub store_of : List ℕ → StoreMode → Flags → Option Listed → List Kind
+store_of folder mode given None = []
+store_of folder mode given (Some row) =
+    if same_flags (changed_flags mode row.flags given) row.flags then [] else Store folder (changed_flags mode row.flags given) row.id row.origin ∷ []
+
+-- The Stores of the messages with these numbers, unless one would bear too many keywords.
+abbrev pub stores_of : List ℕ → List Listed → List Entry → List ℕ → StoreMode → Flags → Result (List Kind) Refusal
+stores_of folder before view numbers mode given =
+    if list_any (λ n. is_overfull mode given (message_at before view n)) numbers then Err TooManyKeywords
+    else Ok (flat_map (λ n. store_of folder mode given (message_at before view n)) numbers)
+
+-- What STORE issues, or the first reason against it (RFC 9051, section 6.4.6; RFC 7162, section 3.1.3).
+abbrev pub store_wants : List ℕ → List Listed → List Entry → Bool → Bool → List SequenceRange → Option ℕ → StoreMode → Flags → Result (List Kind) Refusal
+store_wants folder before view read_only by_uid set since mode given =
+    if not (is_in_range by_uid set view) then Err NoSuchMessage
+    else (if read_only then Err ReadOnly
+    else (if has_unlawful_keyword given then Err KeywordTooLong
+    else stores_of folder before view (those_taken before view since (resolved by_uid set view)) mode given))
+
+-- FETCH of a message as it is behind the command.
+abbrev pub stored_answer : Bool → Bool → Bool → ℕ → Option Listed → List Answer
+stored_answer by_uid with_flags with_modseq n None = []
+stored_answer by_uid with_flags with_modseq n (Some row) =
+    Fetch n (record { uid = where_told by_uid row.uid; flags = where_told with_flags row.flags; date = None; size = None; modseq = where_told with_modseq row.modseq; sections = [] }) ∷ []
+
+-- What STORE tells of the messages that it takes: their flags unless it is silent, their mod-sequences where UNCHANGEDSINCE or CONDSTORE
+-- asks for them; and nothing where it is silent without UNCHANGEDSINCE.
+abbrev pub stored_answers : List Listed → List Entry → Bool → Bool → Option ℕ → Bool → List ℕ → List Answer
+stored_answers after view condstore by_uid since silent taken =
+    if silent && not (is_some since) then []
+    else flat_map (λ n. stored_answer by_uid (not silent) (is_some since || condstore) n (message_at after view n)) taken
+
+-- The view's own flags of a message, changed as asked.
+abbrev pub silent_at : StoreMode → Flags → ℕ → Option Entry → List Silent
+silent_at mode given n None = []
+silent_at mode given n (Some e) = record { number = n; flags = changed_flags mode e.flags given } ∷ []
+
+-- The flags that a session takes where STORE is silent.
+abbrev pub silents_of : List Entry → StoreMode → Bool → Flags → List ℕ → List Silent
+silents_of view mode silent given taken = if silent then flat_map (λ n. silent_at mode given n (entry_at view n)) taken else []
+
+-- The code of a STORE: which messages it refused, and else the other code.
+abbrev pub modified_code : List ℕ → Option Code → Option Code
+modified_code [] code = code
+modified_code (n ∷ refused) code = Some (Modified (n ∷ refused))
+
+-- What STORE tells, by the listings before and after it (RFC 9051, section 6.4.6; RFC 7162, section 3.1.3).
+abbrev pub store_tells : List Listed → List Listed → List Entry → Bool → Bool → List SequenceRange → Option ℕ → StoreMode → Bool → Flags → Telling
+store_tells before after view condstore by_uid set since mode silent given =
+    let numbers = resolved by_uid set view in
+    let taken = those_taken before view since numbers in
+    record {
+      own = stored_answers after view condstore by_uid since silent taken;
+      silent = silents_of view mode silent given taken;
+      code = modified_code (names_of by_uid view (those_refused before view since numbers)) (gone_code before view numbers);
+    }

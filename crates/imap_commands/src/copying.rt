@@ -1,0 +1,272 @@
+//! COPY, MOVE and their UID forms (RFC 9051, sections 6.4.7 and 6.4.8).
+
+ghost use Rattle.std.specs.Prelude.{◌≡◌, ◌++◌, map, IfOk, OnOk};
+ghost use Rattle.imap_types.specs.Numbers.{AreRisingFrom};
+ghost use Rattle.mail_listing.specs.Listing.{beyond};
+ghost use Rattle.session_view.specs.Sets.{resolved};
+ghost use Rattle.imap_commands.specs.Copying.{append_of, appends_of, copied_code, copies_in, copy_tells, copy_wants, move_tells, move_wants, moved_answers, removal_of, removals_of, sources_of};
+ghost use Rattle.imap_commands.specs.Gives.{Gives};
+ghost use Rattle.imap_commands.specs.Told.{gone_code, message_at};
+
+use crate::named::{named, names_of, resolved, set_of, those_there};
+use crate::telling::{Telling, gone_code, message_at};
+use crdt_ops::Kind;
+use imap_answers::{Answer, Code, Notice, Refusal};
+use imap_types::{Name, NumberSet, Octets, SequenceSet};
+use mail_listing::Rows;
+use session_view::{Entry, View};
+use std::alloc::{AllocError, Global};
+
+/// What COPY issues in the destination, or the first reason against it: a number that no message has, a destination that isn't there. The
+/// texts are copied.
+pub fn copy_wants(
+    alloc: Global,
+    destination: &Name,
+    is_there: bool,
+    before: &Rows<'_>,
+    view: &View,
+    by_uid: bool,
+    set: &SequenceSet,
+) -> Result<Vec<Kind>, Refusal>
+    ensures { Gives (λ kinds. kinds.items) result (copy_wants destination.now is_there before.now view.now.entries by_uid set.now) }
+{
+    let numbers = named(alloc, by_uid, set, view)?;
+    if !is_there {
+        return Err(Refusal::NoDestination);
+    }
+    let mut kinds = Vec::new(alloc);
+    push_appends(alloc, destination, before, view.entries(), &numbers, &mut kinds)?;
+    Ok(kinds)
+}
+
+/// What MOVE issues, or the first reason against it: a number that no message has, a mailbox that is only read, a destination that isn't
+/// there. It issues all copies in the destination first, then what takes the messages out of the folder. The texts are copied.
+pub fn move_wants(
+    alloc: Global,
+    folder: &Name,
+    destination: &Name,
+    is_there: bool,
+    before: &Rows<'_>,
+    view: &View,
+    read_only: bool,
+    by_uid: bool,
+    set: &SequenceSet,
+) -> Result<Vec<Kind>, Refusal>
+    ensures { Gives (λ kinds. kinds.items) result (move_wants folder.now destination.now is_there before.now view.now.entries read_only by_uid set.now) }
+{
+    let numbers = named(alloc, by_uid, set, view)?;
+    if read_only {
+        return Err(Refusal::ReadOnly);
+    }
+    if !is_there {
+        return Err(Refusal::NoDestination);
+    }
+    let mut kinds = Vec::new(alloc);
+    push_appends(alloc, destination, before, view.entries(), &numbers, &mut kinds)?;
+    push_removals(alloc, folder, before, view.entries(), &numbers, &mut kinds)?;
+    Ok(kinds)
+}
+
+/// Adds the Appends of the messages with these numbers.
+fn push_appends(
+    alloc: Global,
+    destination: &Name,
+    before: &Rows<'_>,
+    view: &[Entry],
+    numbers: &[u32],
+    kinds: &mut Vec<Kind>,
+) -> Result<(), AllocError>
+    ensures { OnOk result (kinds.new.items ≡ kinds.old.items ++ appends_of destination.now before.now view.now numbers.now) }
+{
+    for number in numbers {
+        push_append(alloc, destination, before, view, *number, kinds)?;
+    }
+    Ok(())
+}
+
+fn push_append(
+    alloc: Global,
+    destination: &Name,
+    before: &Rows<'_>,
+    view: &[Entry],
+    number: u32,
+    kinds: &mut Vec<Kind>,
+) -> Result<(), AllocError>
+    ensures { OnOk result (kinds.new.items ≡ kinds.old.items ++ append_of destination.now (message_at before.now view.now number)) }
+{
+    let Some(row) = message_at(before, view, number) else {
+        return Ok(());
+    };
+    let folder = destination.copy(alloc)?;
+    let flags = row.flags.copy(alloc)?;
+    let text = Octets::copied_from(alloc, row.text)?;
+    kinds.push(Kind::Append {
+        folder,
+        flags,
+        date: row.date.copy(),
+        text,
+    })?;
+    Ok(())
+}
+
+/// Adds the Expunges of the messages with these numbers.
+fn push_removals(
+    alloc: Global,
+    folder: &Name,
+    before: &Rows<'_>,
+    view: &[Entry],
+    numbers: &[u32],
+    kinds: &mut Vec<Kind>,
+) -> Result<(), AllocError>
+    ensures { OnOk result (kinds.new.items ≡ kinds.old.items ++ removals_of folder.now before.now view.now numbers.now) }
+{
+    for number in numbers {
+        push_removal(alloc, folder, before, view, *number, kinds)?;
+    }
+    Ok(())
+}
+
+fn push_removal(
+    alloc: Global,
+    folder: &Name,
+    before: &Rows<'_>,
+    view: &[Entry],
+    number: u32,
+    kinds: &mut Vec<Kind>,
+) -> Result<(), AllocError>
+    ensures { OnOk result (kinds.new.items ≡ kinds.old.items ++ removal_of folder.now (message_at before.now view.now number)) }
+{
+    let Some(row) = message_at(before, view, number) else {
+        return Ok(());
+    };
+    kinds.push(Kind::Expunge {
+        folder: folder.copy(alloc)?,
+        old: row.id,
+    })?;
+    Ok(())
+}
+
+/// What COPY tells, by the listing before it, the destination's UIDVALIDITY, its UIDNEXT before the command and its listing after it: where
+/// the copies are, and else whether some messages are gone.
+pub fn copy_tells(
+    alloc: Global,
+    before: &Rows<'_>,
+    view: &View,
+    by_uid: bool,
+    set: &SequenceSet,
+    uidvalidity: u32,
+    uidnext: u32,
+    landed: &Rows<'_>,
+) -> Result<Telling, AllocError>
+    ensures { IfOk result (λ told. told ≡ copy_tells before.now view.now.entries by_uid set.now uidvalidity uidnext landed.now) }
+{
+    let numbers = resolved(alloc, by_uid, set, view)?;
+    let gone = gone_code(before, view.entries(), &numbers);
+    let source = sources_of(alloc, before, view, by_uid, set)?;
+    let copies = copies_in(alloc, uidnext, landed)?;
+    let code = copied_code(uidvalidity, source, copies, gone);
+    Ok(Telling::new(Vec::new(alloc), Vec::new(alloc), code))
+}
+
+/// What MOVE tells, by the same: where the copies are, and by the code whether some messages are gone.
+pub fn move_tells(
+    alloc: Global,
+    before: &Rows<'_>,
+    view: &View,
+    by_uid: bool,
+    set: &SequenceSet,
+    uidvalidity: u32,
+    uidnext: u32,
+    landed: &Rows<'_>,
+) -> Result<Telling, AllocError>
+    ensures { IfOk result (λ told. told ≡ move_tells before.now view.now.entries by_uid set.now uidvalidity uidnext landed.now) }
+{
+    let numbers = resolved(alloc, by_uid, set, view)?;
+    let gone = gone_code(before, view.entries(), &numbers);
+    let source = sources_of(alloc, before, view, by_uid, set)?;
+    let copies = copies_in(alloc, uidnext, landed)?;
+    let own = moved_answers(alloc, uidvalidity, source, copies)?;
+    Ok(Telling::new(own, Vec::new(alloc), gone))
+}
+
+/// The UIDs of the messages that are copied.
+fn sources_of(
+    alloc: Global,
+    before: &Rows<'_>,
+    view: &View,
+    by_uid: bool,
+    set: &SequenceSet,
+) -> Result<NumberSet, AllocError>
+    ensures { IfOk result (λ source. source ≡ sources_of before.now view.now.entries (resolved by_uid set.now view.now.entries)) }
+{
+    let numbers = resolved(alloc, by_uid, set, view)?;
+    let view = view.entries();
+    let there = those_there(alloc, before, view, &numbers)?;
+    let uids = names_of(alloc, true, view, &there)?;
+    set_of(alloc, &uids)
+}
+
+/// The UIDs of the messages that came with the command.
+fn copies_in(alloc: Global, uidnext: u32, landed: &Rows<'_>) -> Result<NumberSet, AllocError>
+    ensures { IfOk result (λ copies. copies ≡ copies_in uidnext landed.now) }
+{
+    let uids = uids_beyond(alloc, uidnext.saturating_sub(1), landed)?;
+    set_of(alloc, &uids)
+}
+
+/// The code of a COPY.
+fn copied_code(
+    uidvalidity: u32,
+    source: NumberSet,
+    copies: NumberSet,
+    gone: Option<Code>,
+) -> Option<Code>
+    ensures { result ≡ copied_code uidvalidity source copies gone }
+{
+    if source.is_empty() {
+        return gone;
+    }
+    Some(Code::CopyUid {
+        uidvalidity,
+        source,
+        copies,
+    })
+}
+
+/// What MOVE tells of itself.
+fn moved_answers(
+    alloc: Global,
+    uidvalidity: u32,
+    source: NumberSet,
+    copies: NumberSet,
+) -> Result<Vec<Answer>, AllocError>
+    ensures { IfOk result (λ own. own.items ≡ moved_answers uidvalidity source copies) }
+{
+    let mut own = Vec::new(alloc);
+    if source.is_empty() {
+        return Ok(own);
+    }
+    own.push(Answer::Tell {
+        notice: Notice::CopyUid {
+            uidvalidity,
+            source,
+            copies,
+        },
+    })?;
+    Ok(own)
+}
+
+/// The UIDs above this one.
+fn uids_beyond(alloc: Global, uid: u32, rows: &Rows<'_>) -> Result<Vec<u32>, AllocError>
+    ensures uids { IfOk result (λ uids. uids.items ≡ map (λ row. row.uid) (beyond uid rows.now)) }
+    ensures rising { IfOk result (λ uids. AreRisingFrom 1 uids.items) }
+{
+    let count = rows.count() as usize;
+    let mut uids = Vec::new(alloc);
+    for place in rows.place_beyond(uid)..count {
+        if let Some(row) = rows.row_at(place) {
+            uids.push(row.uid)?;
+        }
+    }
+    Ok(uids)
+}

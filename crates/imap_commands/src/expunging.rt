@@ -1,0 +1,132 @@
+//! EXPUNGE, UID EXPUNGE and CLOSE (RFC 9051, sections 6.4.3, 6.4.9 and 6.4.1).
+
+ghost use Rattle.std.specs.Prelude.{◌≡◌, ◌++◌, flat_map, IfOk, OnOk};
+ghost use Rattle.mail_listing.specs.Listing.{listed};
+ghost use Rattle.imap_commands.specs.Expunging.{close_wants, expunge_at, expunge_of, expunge_wants, uid_expunge_tells, uid_expunge_wants};
+ghost use Rattle.imap_commands.specs.Gives.{Gives};
+ghost use Rattle.imap_commands.specs.Told.{message_at};
+
+use crate::named::resolved;
+use crate::telling::{Telling, gone_code, message_at};
+use crdt_ops::Kind;
+use imap_answers::Refusal;
+use imap_types::{Name, SequenceSet};
+use mail_listing::{Row, Rows};
+use session_view::{Entry, View};
+use std::alloc::{AllocError, Global};
+
+/// What EXPUNGE issues in this folder, or why not: it takes out the messages of the listing that are marked as deleted, those among them
+/// that the session wasn't told of yet. It looks at each message once.
+pub fn expunge_wants(
+    alloc: Global,
+    folder: &Name,
+    before: &Rows<'_>,
+    read_only: bool,
+) -> Result<Vec<Kind>, Refusal>
+    ensures { Gives (λ kinds. kinds.items) result (expunge_wants folder.now before.now read_only) }
+{
+    if read_only {
+        return Err(Refusal::ReadOnly);
+    }
+    Ok(expunges(alloc, folder, before)?)
+}
+
+/// What CLOSE issues: what EXPUNGE does, and nothing in a mailbox that is only read.
+pub fn close_wants(
+    alloc: Global,
+    folder: &Name,
+    before: &Rows<'_>,
+    read_only: bool,
+) -> Result<Vec<Kind>, Refusal>
+    ensures { Gives (λ kinds. kinds.items) result (close_wants folder.now before.now read_only) }
+{
+    if read_only {
+        return Ok(Vec::new(alloc));
+    }
+    Ok(expunges(alloc, folder, before)?)
+}
+
+/// The Expunges of all messages that are marked as deleted.
+fn expunges(alloc: Global, folder: &Name, before: &Rows<'_>) -> Result<Vec<Kind>, AllocError>
+    ensures { IfOk result (λ kinds. kinds.items ≡ flat_map (expunge_of folder.now) before.now) }
+{
+    let count = before.count() as usize;
+    let mut kinds = Vec::new(alloc);
+    for place in 0..count {
+        if let Some(row) = before.row_at(place) {
+            push_expunge(alloc, folder, &row, &mut kinds)?;
+        }
+    }
+    Ok(kinds)
+}
+
+/// Adds the Expunge of a message, where it is marked as deleted.
+fn push_expunge(
+    alloc: Global,
+    folder: &Name,
+    row: &Row<'_>,
+    kinds: &mut Vec<Kind>,
+) -> Result<(), AllocError>
+    ensures { OnOk result (kinds.new.items ≡ kinds.old.items ++ expunge_of folder.now (listed row.now)) }
+{
+    if !row.flags.deleted {
+        return Ok(());
+    }
+    kinds.push(Kind::Expunge {
+        folder: folder.copy(alloc)?,
+        old: row.id,
+    })?;
+    Ok(())
+}
+
+/// What UID EXPUNGE issues, or why not: it takes out those of the view's messages that the set names by UIDs and that are marked as
+/// deleted.
+pub fn uid_expunge_wants(
+    alloc: Global,
+    folder: &Name,
+    before: &Rows<'_>,
+    view: &View,
+    read_only: bool,
+    set: &SequenceSet,
+) -> Result<Vec<Kind>, Refusal>
+    ensures { Gives (λ kinds. kinds.items) result (uid_expunge_wants folder.now before.now view.now.entries read_only set.now) }
+{
+    if read_only {
+        return Err(Refusal::ReadOnly);
+    }
+    let numbers = resolved(alloc, true, set, view)?;
+    Ok(expunges_of(alloc, folder, before, view.entries(), &numbers)?)
+}
+
+/// The Expunges of those messages that are marked as deleted.
+fn expunges_of(
+    alloc: Global,
+    folder: &Name,
+    before: &Rows<'_>,
+    view: &[Entry],
+    numbers: &[u32],
+) -> Result<Vec<Kind>, AllocError>
+    ensures { IfOk result (λ kinds. kinds.items ≡ flat_map (λ n. expunge_at folder.now (message_at before.now view.now n)) numbers.now) }
+{
+    let mut kinds = Vec::new(alloc);
+    for number in numbers {
+        if let Some(row) = message_at(before, view, *number) {
+            push_expunge(alloc, folder, &row, &mut kinds)?;
+        }
+    }
+    Ok(kinds)
+}
+
+/// What UID EXPUNGE tells.
+pub fn uid_expunge_tells(
+    alloc: Global,
+    before: &Rows<'_>,
+    view: &View,
+    set: &SequenceSet,
+) -> Result<Telling, AllocError>
+    ensures { IfOk result (λ told. told ≡ uid_expunge_tells before.now view.now.entries set.now) }
+{
+    let numbers = resolved(alloc, true, set, view)?;
+    let code = gone_code(before, view.entries(), &numbers);
+    Ok(Telling::new(Vec::new(alloc), Vec::new(alloc), code))
+}

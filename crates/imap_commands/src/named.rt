@@ -1,0 +1,105 @@
+//! The messages that a command names.
+
+ghost use Rattle.std.specs.Prelude.{◌≡◌, ◌+◌, Some, IfOk, OnOk};
+ghost use Rattle.imap_types.specs.Numbers.{AreRisingFrom, greatest};
+ghost use Rattle.session_view.specs.Sets.{resolved};
+ghost use Rattle.session_view.specs.Views.{AreRising};
+ghost use Rattle.imap_commands.specs.Gives.{Gives};
+ghost use Rattle.imap_commands.specs.Named.{name_at, named, names_of, those_there};
+
+use crate::telling::{entry_at, message_at};
+use imap_answers::Refusal;
+use imap_types::{NumberSet, SequenceSet};
+use mail_listing::Rows;
+use session_view::{BadSet, Entry, View};
+use std::alloc::{AllocError, Global};
+
+/// The numbers of the messages that a set names, or that it names one that there isn't.
+pub fn named(
+    alloc: Global,
+    by_uid: bool,
+    set: &SequenceSet,
+    view: &View,
+) -> Result<Vec<u32>, Refusal>
+    ensures { Gives (λ numbers. numbers.items) result (named by_uid set.now view.now.entries) }
+{
+    match view.resolve(alloc, set, by_uid) {
+        Ok(numbers) => Ok(numbers),
+        Err(BadSet::OutOfRange) => Err(Refusal::NoSuchMessage),
+        Err(BadSet::NoMemory) => Err(Refusal::NoMemory),
+    }
+}
+
+/// The numbers of the messages that a set names; of a set that can't be resolved nothing is said.
+pub fn resolved(
+    alloc: Global,
+    by_uid: bool,
+    set: &SequenceSet,
+    view: &View,
+) -> Result<Vec<u32>, AllocError>
+    ensures { IfOk result (λ numbers. numbers.items ≡ resolved by_uid set.now view.now.entries) }
+{
+    match view.resolve(alloc, set, by_uid) {
+        Ok(numbers) => Ok(numbers),
+        Err(_) => Err(AllocError),
+    }
+}
+
+/// Those of the numbers whose messages are there.
+pub fn those_there(
+    alloc: Global,
+    rows: &Rows<'_>,
+    view: &[Entry],
+    numbers: &[u32],
+) -> Result<Vec<u32>, AllocError>
+    ensures { IfOk result (λ there. there.items ≡ those_there rows.now view.now numbers.now) }
+{
+    let mut there = Vec::new(alloc);
+    for number in numbers {
+        if message_at(rows, view, *number).is_some() {
+            there.push(*number)?;
+        }
+    }
+    Ok(there)
+}
+
+/// What the messages with these numbers are named by.
+pub fn names_of(
+    alloc: Global,
+    by_uid: bool,
+    view: &[Entry],
+    numbers: &[u32],
+) -> Result<Vec<u32>, AllocError>
+    ensures { IfOk result (λ names. names.items ≡ names_of by_uid view.now numbers.now) }
+{
+    let mut names = Vec::with_capacity(alloc, numbers.len())?;
+    for number in numbers {
+        names.push(name_at(by_uid, view, *number))?;
+    }
+    Ok(names)
+}
+
+/// What the message with this number is named by: its UID, or its number.
+fn name_at(by_uid: bool, view: &[Entry], number: u32) -> u32
+    ensures { result ≡ name_at by_uid view.now number }
+{
+    if !by_uid {
+        return number;
+    }
+    match entry_at(view, number) {
+        Some(entry) => entry.uid,
+        None => 0,
+    }
+}
+
+/// The set of these numbers, which ascend from 1 on.
+pub fn set_of(alloc: Global, numbers: &[u32]) -> Result<NumberSet, AllocError>
+    requires { AreRisingFrom 1 numbers.now }
+    ensures { IfOk result (λ set. set ≡ numbers.now) }
+{
+    let mut set = NumberSet::new(alloc);
+    for number in numbers {
+        set.push(*number)?;
+    }
+    Ok(set)
+}

@@ -1,0 +1,101 @@
+//! SEARCH and UID SEARCH (RFC 9051, section 6.4.4; RFC 7162, section 3.1.5).
+
+ghost use Rattle.std.specs.Prelude.{◌≡◌, ◌≤◌, ◌<◌, ◌^◌, length, IfOk, OnOk};
+ghost use Rattle.std.specs.List.{list_all};
+ghost use Rattle.session_view.specs.Views.{AreRising};
+ghost use Rattle.imap_commands.specs.Gives.{Gives};
+ghost use Rattle.imap_commands.specs.Searching.{SearchTells, search_wants, shown_from, step_is_in_range, test_is_in_range};
+
+use crate::telling::Telling;
+use crdt_ops::Kind;
+use imap_answers::{Answer, Refusal};
+use imap_grammar::{SearchOption, SearchStep, SearchTest};
+use imap_query::{Shown, search};
+use imap_types::Octets;
+use mail_listing::Rows;
+use session_view::{Entry, View};
+use std::alloc::{AllocError, Global};
+
+/// Nothing, which is what SEARCH issues, or that a set of numbers in its keys names a message that there isn't.
+pub fn search_wants(
+    alloc: Global,
+    view: &View,
+    steps: &[SearchStep],
+) -> Result<Vec<Kind>, Refusal>
+    ensures { Gives (λ kinds. kinds.items) result (search_wants view.now.entries steps.now) }
+{
+    if !are_in_range(view, steps) {
+        return Err(Refusal::NoSuchMessage);
+    }
+    Ok(Vec::new(alloc))
+}
+
+fn are_in_range(view: &View, steps: &[SearchStep]) -> bool
+    ensures { result ≡ list_all (step_is_in_range view.now.entries) steps.now }
+{
+    for step in steps {
+        if !step_is_in_range(view, step) {
+            return false;
+        }
+    }
+    true
+}
+
+fn step_is_in_range(view: &View, step: &SearchStep) -> bool
+    ensures { result ≡ step_is_in_range view.now.entries step.now }
+{
+    match step {
+        SearchStep::Test(test) => test_is_in_range(view, test),
+        _ => true,
+    }
+}
+
+fn test_is_in_range(view: &View, test: &SearchTest) -> bool
+    ensures { result ≡ test_is_in_range view.now.entries test.now }
+{
+    match test {
+        SearchTest::Numbers { numbers } => view.is_in_range(numbers),
+        _ => true,
+    }
+}
+
+/// What SEARCH tells: what `imap_query::search` says of the view's messages that are there.
+pub fn search_tells(
+    alloc: Global,
+    rows: &Rows<'_>,
+    view: &View,
+    tag: &Octets,
+    by_uid: bool,
+    options: &[SearchOption],
+    steps: &[SearchStep],
+) -> Result<Telling, AllocError>
+    ensures { IfOk result (λ told. SearchTells rows.now view.now.entries tag.now by_uid options.now steps.now told) }
+{
+    let shown = all_shown(alloc, view.entries())?;
+    let results = search(alloc, &shown, rows, by_uid, steps, options)?;
+    let tag = tag.copy(alloc)?;
+    let mut own = Vec::new(alloc);
+    own.push(Answer::Search {
+        tag,
+        by_uid,
+        results,
+    })?;
+    Ok(Telling::only(alloc, own))
+}
+
+/// A view's messages as queries see them.
+fn all_shown(alloc: Global, view: &[Entry]) -> Result<Vec<Shown>, AllocError>
+    requires { AreRising 1 view.now }
+    ensures { IfOk result (λ shown. shown.items ≡ shown_from 1 view.now) }
+{
+    let mut shown = Vec::with_capacity(alloc, view.len())?;
+    let mut number = 0;
+    for entry in view {
+        number += 1;
+        shown.push(Shown {
+            number,
+            uid: entry.uid,
+        })?;
+    }
+    Ok(shown)
+}

@@ -1,0 +1,435 @@
+//! STORE and UID STORE (RFC 9051, section 6.4.6; RFC 7162, section 3.1.3).
+
+ghost use Rattle.std.specs.Prelude.{◌≡◌, ◌&&◌, ◌||◌, ◌++◌, flat_map, not, is_some, IfOk, OnOk};
+ghost use Rattle.std.specs.List.{list_all, list_any};
+ghost use Rattle.std.specs.Option.{option_copied, option_map};
+ghost use Rattle.imap_types.specs.Keywords.{is_lawful_keyword};
+ghost use Rattle.imap_types.specs.Numbers.{AreRisingFrom};
+ghost use Rattle.mail_listing.specs.Listing.{listed};
+ghost use Rattle.imap_query.specs.Fetching.{where_told};
+ghost use Rattle.session_view.specs.Sets.{resolved};
+ghost use Rattle.session_view.specs.Views.{same_flags};
+ghost use Rattle.imap_commands.specs.Changing.{changed_flags};
+ghost use Rattle.imap_commands.specs.Gives.{Gives};
+ghost use Rattle.imap_commands.specs.Named.{names_of};
+ghost use Rattle.imap_commands.specs.Storing.{has_unlawful_keyword, is_overfull, is_refused, is_taken, is_unchanged, modified_code, silent_at, silents_of, store_of, store_tells, store_wants, stored_answer, stored_answers, stores_of, those_refused, those_taken};
+ghost use Rattle.imap_commands.specs.Told.{entry_at, gone_code, message_at};
+
+use crate::changing::changed;
+use crate::named::{named, names_of, resolved, set_of};
+use crate::telling::{Telling, entry_at, gone_code, message_at};
+use crdt_ops::Kind;
+use imap_answers::{Answer, Code, FetchItems, Refusal, Sections};
+use imap_grammar::StoreMode;
+use imap_types::{Flags, MAX_KEYWORDS, Name, Octets, SequenceSet, is_lawful_keyword};
+use mail_listing::{Row, Rows};
+use session_view::{Entry, Silent, View};
+use std::alloc::{AllocError, Global};
+
+/// What STORE issues in this folder, or the first reason against it: a number that no message has, a mailbox that is only read, a keyword that
+/// no message may bear, more than 32 keywords on a message that it changes. It looks each named message up twice, by binary search.
+pub fn store_wants(
+    alloc: Global,
+    folder: &Name,
+    before: &Rows<'_>,
+    view: &View,
+    read_only: bool,
+    by_uid: bool,
+    set: &SequenceSet,
+    unchanged_since: Option<u64>,
+    mode: StoreMode,
+    given: &Flags,
+) -> Result<Vec<Kind>, Refusal>
+    ensures { Gives (λ kinds. kinds.items) result (store_wants folder.now before.now view.now.entries read_only by_uid set.now unchanged_since mode given.now) }
+{
+    let numbers = named(alloc, by_uid, set, view)?;
+    if read_only {
+        return Err(Refusal::ReadOnly);
+    }
+    if has_unlawful_keyword(given) {
+        return Err(Refusal::KeywordTooLong);
+    }
+    let taken = those_taken(alloc, before, view.entries(), unchanged_since, &numbers)?;
+    stores_of(alloc, folder, before, view.entries(), &taken, mode, given)
+}
+
+/// The Stores of the messages with these numbers, unless one would bear too many keywords.
+fn stores_of(
+    alloc: Global,
+    folder: &Name,
+    before: &Rows<'_>,
+    view: &[Entry],
+    numbers: &[u32],
+    mode: StoreMode,
+    given: &Flags,
+) -> Result<Vec<Kind>, Refusal>
+    ensures { Gives (λ kinds. kinds.items) result (stores_of folder.now before.now view.now numbers.now mode given.now) }
+{
+    if are_overfull(alloc, before, view, numbers, mode, given)? {
+        return Err(Refusal::TooManyKeywords);
+    }
+    Ok(stores(alloc, folder, before, view, numbers, mode, given)?)
+}
+
+fn has_unlawful_keyword(flags: &Flags) -> bool
+    ensures { result ≡ has_unlawful_keyword flags.now }
+{
+    !are_lawful(flags.keywords.as_slice())
+}
+
+fn are_lawful(keywords: &[Octets]) -> bool
+    ensures { result ≡ list_all is_lawful_keyword keywords.now }
+{
+    for keyword in keywords {
+        if !is_lawful_keyword(keyword.as_bytes()) {
+            return false;
+        }
+    }
+    true
+}
+
+/// Whether a message did not change since.
+fn is_unchanged(since: Option<u64>, row: &Row<'_>) -> bool
+    ensures { result ≡ is_unchanged since (listed row.now) }
+{
+    match since {
+        None => true,
+        Some(modseq) => row.modseq <= modseq,
+    }
+}
+
+fn is_taken(since: Option<u64>, rows: &Rows<'_>, view: &[Entry], number: u32) -> bool
+    ensures { result ≡ is_taken since (message_at rows.now view.now number) }
+{
+    match message_at(rows, view, number) {
+        None => false,
+        Some(row) => is_unchanged(since, &row),
+    }
+}
+
+fn is_refused(since: Option<u64>, rows: &Rows<'_>, view: &[Entry], number: u32) -> bool
+    ensures { result ≡ is_refused since (message_at rows.now view.now number) }
+{
+    match message_at(rows, view, number) {
+        None => false,
+        Some(row) => !is_unchanged(since, &row),
+    }
+}
+
+/// The numbers of the messages that STORE takes.
+fn those_taken(
+    alloc: Global,
+    before: &Rows<'_>,
+    view: &[Entry],
+    since: Option<u64>,
+    numbers: &[u32],
+) -> Result<Vec<u32>, AllocError>
+    ensures { IfOk result (λ taken. taken.items ≡ those_taken before.now view.now since numbers.now) }
+{
+    let mut taken = Vec::new(alloc);
+    for number in numbers {
+        if is_taken(since, before, view, *number) {
+            taken.push(*number)?;
+        }
+    }
+    Ok(taken)
+}
+
+/// The numbers of the messages that STORE refuses.
+fn those_refused(
+    alloc: Global,
+    before: &Rows<'_>,
+    view: &[Entry],
+    since: Option<u64>,
+    numbers: &[u32],
+) -> Result<Vec<u32>, AllocError>
+    ensures { IfOk result (λ refused. refused.items ≡ those_refused before.now view.now since numbers.now) }
+{
+    let mut refused = Vec::new(alloc);
+    for number in numbers {
+        if is_refused(since, before, view, *number) {
+            refused.push(*number)?;
+        }
+    }
+    Ok(refused)
+}
+
+/// Whether some of the messages would bear too many keywords.
+fn are_overfull(
+    alloc: Global,
+    before: &Rows<'_>,
+    view: &[Entry],
+    numbers: &[u32],
+    mode: StoreMode,
+    given: &Flags,
+) -> Result<bool, AllocError>
+    ensures { IfOk result (λ are. are ≡ list_any (λ n. is_overfull mode given.now (message_at before.now view.now n)) numbers.now) }
+{
+    for number in numbers {
+        if is_overfull(alloc, before, view, *number, mode, given)? {
+            return Ok(true);
+        }
+    }
+    Ok(false)
+}
+
+fn is_overfull(
+    alloc: Global,
+    before: &Rows<'_>,
+    view: &[Entry],
+    number: u32,
+    mode: StoreMode,
+    given: &Flags,
+) -> Result<bool, AllocError>
+    ensures { IfOk result (λ is. is ≡ is_overfull mode given.now (message_at before.now view.now number)) }
+{
+    match message_at(before, view, number) {
+        None => Ok(false),
+        Some(row) => Ok(changed(alloc, mode, row.flags, given)?.keywords.len() > MAX_KEYWORDS),
+    }
+}
+
+/// The Stores of the messages whose flags change.
+fn stores(
+    alloc: Global,
+    folder: &Name,
+    before: &Rows<'_>,
+    view: &[Entry],
+    numbers: &[u32],
+    mode: StoreMode,
+    given: &Flags,
+) -> Result<Vec<Kind>, AllocError>
+    ensures { IfOk result (λ kinds. kinds.items ≡ flat_map (λ n. store_of folder.now mode given.now (message_at before.now view.now n)) numbers.now) }
+{
+    let mut kinds = Vec::new(alloc);
+    for number in numbers {
+        push_store(alloc, folder, before, view, *number, mode, given, &mut kinds)?;
+    }
+    Ok(kinds)
+}
+
+/// Adds the Store of a message, where its flags change.
+fn push_store(
+    alloc: Global,
+    folder: &Name,
+    before: &Rows<'_>,
+    view: &[Entry],
+    number: u32,
+    mode: StoreMode,
+    given: &Flags,
+    kinds: &mut Vec<Kind>,
+) -> Result<(), AllocError>
+    ensures { OnOk result (kinds.new.items ≡ kinds.old.items ++ store_of folder.now mode given.now (message_at before.now view.now number)) }
+{
+    let Some(row) = message_at(before, view, number) else {
+        return Ok(());
+    };
+    let flags = changed(alloc, mode, row.flags, given)?;
+    if are_same(&flags, row.flags) {
+        return Ok(());
+    }
+    kinds.push(Kind::Store {
+        folder: folder.copy(alloc)?,
+        flags,
+        old: row.id,
+        origin: row.origin,
+    })?;
+    Ok(())
+}
+
+/// Whether both are the same flags.
+fn are_same(flags: &Flags, others: &Flags) -> bool
+    ensures { result ≡ same_flags flags.now others.now }
+{
+    flags.same(others)
+}
+
+/// What STORE tells, by the listings before and after it: FETCH of each message that it takes, the flags that the session takes where it
+/// is silent, and which messages UNCHANGEDSINCE refused or that some are gone. It looks each named message up four times at most, by
+/// binary search.
+pub fn store_tells(
+    alloc: Global,
+    before: &Rows<'_>,
+    after: &Rows<'_>,
+    view: &View,
+    condstore: bool,
+    by_uid: bool,
+    set: &SequenceSet,
+    unchanged_since: Option<u64>,
+    mode: StoreMode,
+    silent: bool,
+    given: &Flags,
+) -> Result<Telling, AllocError>
+    ensures { IfOk result (λ told. told ≡ store_tells before.now after.now view.now.entries condstore by_uid set.now unchanged_since mode silent given.now) }
+{
+    let numbers = resolved(alloc, by_uid, set, view)?;
+    let code = store_code(alloc, before, view, by_uid, set, unchanged_since)?;
+    let view = view.entries();
+    let taken = those_taken(alloc, before, view, unchanged_since, &numbers)?;
+    let own = stored_answers(alloc, after, view, condstore, by_uid, unchanged_since, silent, &taken)?;
+    let silent = silents_of(alloc, view, mode, silent, given, &taken)?;
+    Ok(Telling::new(own, silent, code))
+}
+
+/// The code of a STORE: which messages it refused, and else whether some are gone.
+fn store_code(
+    alloc: Global,
+    before: &Rows<'_>,
+    view: &View,
+    by_uid: bool,
+    set: &SequenceSet,
+    since: Option<u64>,
+) -> Result<Option<Code>, AllocError>
+    ensures { IfOk result (λ code. code ≡ modified_code (names_of by_uid view.now.entries (those_refused before.now view.now.entries since (resolved by_uid set.now view.now.entries))) (gone_code before.now view.now.entries (resolved by_uid set.now view.now.entries))) }
+{
+    let numbers = resolved(alloc, by_uid, set, view)?;
+    let view = view.entries();
+    let refused = those_refused(alloc, before, view, since, &numbers)?;
+    let names = names_of(alloc, by_uid, view, &refused)?;
+    if names.is_empty() {
+        return Ok(gone_code(before, view, &numbers));
+    }
+    Ok(Some(Code::Modified {
+        refused: set_of(alloc, &names)?,
+    }))
+}
+
+/// What STORE tells of the messages that it takes.
+fn stored_answers(
+    alloc: Global,
+    after: &Rows<'_>,
+    view: &[Entry],
+    condstore: bool,
+    by_uid: bool,
+    since: Option<u64>,
+    silent: bool,
+    taken: &[u32],
+) -> Result<Vec<Answer>, AllocError>
+    ensures { IfOk result (λ answers. answers.items ≡ stored_answers after.now view.now condstore by_uid since silent taken.now) }
+{
+    if is_untold(silent, since) {
+        return Ok(Vec::new(alloc));
+    }
+    let with_modseq = since.is_some() || condstore;
+    answers_of(alloc, after, view, by_uid, !silent, with_modseq, taken)
+}
+
+/// Whether nothing is told of the messages.
+fn is_untold(silent: bool, since: Option<u64>) -> bool
+    ensures { result ≡ (silent && not (is_some since)) }
+{
+    silent && !since.is_some()
+}
+
+/// FETCH of the messages as they are behind the command.
+fn answers_of(
+    alloc: Global,
+    after: &Rows<'_>,
+    view: &[Entry],
+    by_uid: bool,
+    with_flags: bool,
+    with_modseq: bool,
+    taken: &[u32],
+) -> Result<Vec<Answer>, AllocError>
+    ensures { IfOk result (λ answers. answers.items ≡ flat_map (λ n. stored_answer by_uid with_flags with_modseq n (message_at after.now view.now n)) taken.now) }
+{
+    let mut answers = Vec::new(alloc);
+    for number in taken {
+        push_answer(alloc, after, view, by_uid, with_flags, with_modseq, *number, &mut answers)?;
+    }
+    Ok(answers)
+}
+
+/// Adds FETCH of a message as it is behind the command.
+fn push_answer(
+    alloc: Global,
+    after: &Rows<'_>,
+    view: &[Entry],
+    by_uid: bool,
+    with_flags: bool,
+    with_modseq: bool,
+    number: u32,
+    answers: &mut Vec<Answer>,
+) -> Result<(), AllocError>
+    ensures { OnOk result (answers.new.items ≡ answers.old.items ++ stored_answer by_uid with_flags with_modseq number (message_at after.now view.now number)) }
+{
+    let Some(row) = message_at(after, view, number) else {
+        return Ok(());
+    };
+    let flags = flags_where(alloc, with_flags, row.flags)?;
+    answers.push(Answer::Fetch {
+        number,
+        items: FetchItems {
+            uid: by_uid.then_some(row.uid),
+            flags,
+            date: None,
+            size: None,
+            modseq: with_modseq.then_some(row.modseq),
+            sections: Sections::new(Vec::new(alloc)),
+        },
+    })?;
+    Ok(())
+}
+
+fn flags_where(alloc: Global, told: bool, flags: &Flags) -> Result<Option<Flags>, AllocError>
+    ensures { IfOk result (λ copied. copied ≡ where_told told flags.now) }
+{
+    if !told {
+        return Ok(None);
+    }
+    Ok(Some(flags.copy(alloc)?))
+}
+
+/// The flags that a session takes where STORE is silent.
+fn silents_of(
+    alloc: Global,
+    view: &[Entry],
+    mode: StoreMode,
+    silent: bool,
+    given: &Flags,
+    taken: &[u32],
+) -> Result<Vec<Silent>, AllocError>
+    ensures { IfOk result (λ silents. silents.items ≡ silents_of view.now mode silent given.now taken.now) }
+{
+    if !silent {
+        return Ok(Vec::new(alloc));
+    }
+    silents(alloc, view, mode, given, taken)
+}
+
+fn silents(
+    alloc: Global,
+    view: &[Entry],
+    mode: StoreMode,
+    given: &Flags,
+    taken: &[u32],
+) -> Result<Vec<Silent>, AllocError>
+    ensures { IfOk result (λ silents. silents.items ≡ flat_map (λ n. silent_at mode given.now n (entry_at view.now n)) taken.now) }
+{
+    let mut silents = Vec::new(alloc);
+    for number in taken {
+        push_silent(alloc, view, mode, given, *number, &mut silents)?;
+    }
+    Ok(silents)
+}
+
+/// Adds the view's own flags of a message, changed as asked.
+fn push_silent(
+    alloc: Global,
+    view: &[Entry],
+    mode: StoreMode,
+    given: &Flags,
+    number: u32,
+    silents: &mut Vec<Silent>,
+) -> Result<(), AllocError>
+    ensures { OnOk result (silents.new.items ≡ silents.old.items ++ silent_at mode given.now number (entry_at view.now number)) }
+{
+    let Some(entry) = entry_at(view, number) else {
+        return Ok(());
+    };
+    silents.push(Silent {
+        number,
+        flags: changed(alloc, mode, &entry.flags, given)?,
+    })?;
+    Ok(())
+}
