@@ -48,12 +48,16 @@ abbrev pub when_new : {X : Type 0} → State → (Credentials → Result X Refus
 when_new (NotAuthenticated credentials) want = want credentials
 when_new _ want = Err NotNow
 
+-- The session's user is known, and has not logged out.
+abbrev pub is_known : State → Bool
+is_known (NotAuthenticated credentials) = false
+is_known Authenticated = true
+is_known (Selected view read_only) = true
+is_known LoggedOut = false
+
 -- In a session whose user is known.
 abbrev pub when_known : {X : Type 0} → State → Result X Refusal → Result X Refusal
-when_known (NotAuthenticated credentials) want = Err NotNow
-when_known Authenticated want = want
-when_known (Selected view read_only) want = want
-when_known LoggedOut want = Err NotNow
+when_known state want = if is_known state then want else Err NotNow
 
 -- In a session that has selected a mailbox.
 abbrev pub when_selected : {X : Type 0} → State → (Seen → Bool → Result X Refusal) → Result X Refusal
@@ -134,7 +138,7 @@ SearchTellsSelected start ops _ Tell told = told ≡ nothing_told
 -- What a command itself tells: LIST and SEARCH what the rules for them allow, which is one telling each.
 abbrev pub Tells : Start → List Op → List Op → State → Bool → List ℕ → Command → Telling → Type 0
 Tells start before after state modseq tag (commands.ListNames subscribed_only reference pattern return_subscribed) told =
-    ListTells (record { subscribed_only = subscribed_only; return_subscribed = return_subscribed }) reference pattern (folders_of after) (subscribed_of after) told
+    ListTells (record { subscribed_only = subscribed_only; return_subscribed = return_subscribed }) reference pattern (folders_of before) (subscribed_of before) told
 Tells start before after state modseq tag (commands.Search by_uid options steps) told =
     SearchTellsSelected start after state (λ view rows telling. SearchTells rows view.entries tag by_uid options steps telling) told
 Tells start before after state modseq tag command told = told ≡ tells start before after state modseq command
@@ -228,7 +232,10 @@ abbrev pub highest_of : Start → List Op → State → List Answer
 highest_of start ops (Selected view read_only) = highest_told view.uidvalidity (uidvalidity_of start view.name ops) (highest_modseq_of view.name ops)
 highest_of start ops _ = []
 
--- What is told first by a command that turns mod-sequences on while a mailbox is selected; SELECT tells it anyway.
+-- A command turns mod-sequences on that weren't, and tells HIGHESTMODSEQ first; SELECT tells it anyway.
+abbrev pub turns_on : Bool → Command → Bool
+turns_on condstore command = not condstore && (is_enabling command && not (is_selecting command))
+
+-- What such a command tells first while a mailbox is selected.
 abbrev pub notice : Start → List Op → State → Bool → Command → List Answer
-notice start ops state condstore command =
-    if not condstore && (is_enabling command && not (is_selecting command)) then highest_of start ops state else []
+notice start ops state condstore command = if turns_on condstore command then highest_of start ops state else []

@@ -4,6 +4,7 @@ use Rattle.crdt_ops.specs.declared.kind.Kind.{Kind}
 use Rattle.crdt_ops.specs.declared.op.Op.{Op}
 use Rattle.imap_answers.specs.declared.words.Refusal.{Refusal}
 use Rattle.imap_commands.specs.declared.session.Session.{Session}
+use Rattle.imap_commands.specs.declared.session.State.{State}
 use Rattle.imap_commands.specs.declared.session.State.TheVariants.{Authenticated}
 use Rattle.imap_node.specs.declared.input.Input.{Input}
 use Rattle.imap_node.specs.declared.planning.Answered.{Answered}
@@ -15,7 +16,7 @@ use Rattle.imap_node.specs.declared.reply.Reply.TheVariants.{Done, Refused}
 use Rattle.imap_node.specs.Endings.{Course, answers_of_course}
 use Rattle.imap_node.specs.Nodes.{NodeKept, NodeState}
 use Rattle.imap_node.specs.Operations.{AreNext}
-use Rattle.imap_node.specs.Respond.{IsStamp, TakesCourse, Replies, closes, ends_idling, leaves, session_after, wants_of}
+use Rattle.imap_node.specs.Respond.{Holds, IsStamp, Responds, TakesCourse, closes, ends_idling, leaves, session_after, wants_of}
 use Rattle.imap_node.specs.Rooms.{HasRoomFor}
 use Rattle.imap_node.specs.Sessions.{IsOpen, session_at, with_session}
 use Rattle.uid_projection.specs.declared.start.Start.{Start}
@@ -60,3 +61,24 @@ pub record IsPlanned (node : NodeKept) (plan : Plan) : Type 0 where
 -- The session that a plan leaves behind.
 abbrev pub planned_session : NodeState → Plan → Option Session
 planned_session node plan = place_next (session_at node.sessions plan.number) plan.next
+
+-- The node behind a plan that is committed.
+abbrev pub CommitsTo : NodeState → Plan → NodeState → Type 0
+CommitsTo old plan new = Holds old plan.ops (with_session old.sessions plan.number (planned_session old plan)) new
+
+-- What a plan says is what the node replies, and what it is then once the plan is committed.
+abbrev pub Planned : NodeState → ℕ → Input → Plan → Type 0
+Planned old n input plan = (new : NodeState) → CommitsTo old plan new → Responds old n input plan.reply new
+
+-- What becomes of the session of a refused input.
+abbrev pub next_left : State → Input → Refusal → Next
+next_left state input why = if leaves state input then Leaves else (if ends_idling input why then Wakes else Stays)
+
+-- The plan of an input that can be carried out.
+abbrev pub done_plan : ℕ → Prepared → Plan
+done_plan n p = record { number = n; reply = Done p.answered.answers p.answered.silent p.copies; ops = p.ops; next = Becomes p.answered.session }
+
+-- The plan for what was worked out.
+abbrev pub plan_by : ℕ → State → Input → Result Prepared Refusal → Plan
+plan_by n state input (Ok p) = done_plan n p
+plan_by n state input (Err why) = record { number = n; reply = Refused why (closes state input why); ops = []; next = next_left state input why }

@@ -4,6 +4,7 @@ use Rattle.crdt_ops.specs.declared.kind.Kind.{Kind}
 use Rattle.crdt_ops.specs.declared.op.Op.{Op}
 use Rattle.imap_answers.specs.declared.answer.Answer.{Answer}
 use Rattle.imap_answers.specs.declared.answer.Answer.TheVariants.{Completed}
+use Rattle.imap_answers.specs.declared.codes.Code.{Code}
 use Rattle.imap_answers.specs.declared.words.CommandWord.TheVariants as words
 use Rattle.imap_answers.specs.declared.words.Refusal.{Refusal}
 use Rattle.imap_answers.specs.declared.words.Refusal.TheVariants.{DoneExpected, NoMemory, NumberUsedUp}
@@ -25,7 +26,7 @@ use Rattle.imap_node.specs.Commands.{Tells, is_enabling, is_idle, is_selected, i
 use Rattle.imap_node.specs.Endings.{Course, answers_of_course, ending_of}
 use Rattle.imap_node.specs.Nodes.{NodeState}
 use Rattle.imap_node.specs.Operations.{AreNext, IsUsedUp}
-use Rattle.imap_node.specs.Sessions.{session_at, with_session}
+use Rattle.imap_node.specs.Sessions.{Places, session_at, with_session}
 use Rattle.uid_projection.specs.declared.start.Start.{Start}
 use Rattle.uid_projection.specs.Exhaustion.{Exhausts}
 
@@ -51,24 +52,28 @@ abbrev pub is_on : Session → Command → Bool
 is_on session command = session.condstore || is_enabling command
 
 -- The tagged line, which IDLE gets at its end.
-abbrev pub tail_of : List ℕ → Command → Telling → List Answer
-tail_of tag command told = if is_idle command then [] else Completed tag told.code (word_of command) ∷ []
+abbrev pub tail_of : List ℕ → Command → Option Code → List Answer
+tail_of tag command code = if is_idle command then [] else Completed tag code (word_of command) ∷ []
 
 -- The tagged line of an IDLE that ends.
 abbrev pub idle_tail : Option (List ℕ) → List Answer
 idle_tail None = []
 idle_tail (Some tag) = Completed tag None words.Idle ∷ []
 
+-- What a command comes to that tells this behind some first answers.
+abbrev pub told_course : List Answer → Telling → State → Bool → List ℕ → Command → Course
+told_course first told state modseq tag command =
+    record { silent = told.silent; own = first ++ told.own; sync = sync_of command; modseq = modseq; state = state; tail = tail_of tag command told.code }
+
 -- What a command comes to, by what it tells.
 abbrev pub course_of : Start → List Op → Session → List ℕ → Command → Telling → Course
-course_of start ops session tag command told = record {
-  silent = told.silent;
-  own = notice start ops session.state session.condstore command ++ told.own;
-  sync = sync_of command;
-  modseq = is_on session command;
-  state = moves_to start ops session.state command;
-  tail = tail_of tag command told;
-}
+course_of start ops session tag command told =
+    told_course (notice start ops session.state session.condstore command) told (moves_to start ops session.state command) (is_on session command) tag command
+
+abbrev pub CommandTakes : Start → List Op → List Op → Session → Tagged → Course → Type 0
+CommandTakes start before after session tagged course =
+    (told : Telling) × Tells start before after session.state (is_on session tagged.command) tagged.tag tagged.command told
+    × (course ≡ course_of start after session tagged.tag tagged.command told)
 
 -- A full sync alone, with this behind it.
 abbrev pub synced_course : Session → List Answer → Course
@@ -76,15 +81,17 @@ synced_course session tail = record { silent = []; own = []; sync = Some Full; m
 
 -- What an input comes to, by the operations before it and those with its own.
 abbrev pub TakesCourse : Start → List Op → List Op → Session → Input → Course → Type 0
-TakesCourse start before after session (inputs.Command moment tagged) course =
-    (told : Telling) × Tells start before after session.state (is_on session tagged.command) tagged.tag tagged.command told
-    × (course ≡ course_of start after session tagged.tag tagged.command told)
+TakesCourse start before after session (inputs.Command moment tagged) course = CommandTakes start before after session tagged course
 TakesCourse start before after session (inputs.Line line) course = course ≡ synced_course session (idle_tail session.idling)
 TakesCourse start before after session inputs.Poll course = course ≡ synced_course session []
 
+-- The tag of an IDLE that begins.
+abbrev pub begun : Tagged → Option (List ℕ)
+begun tagged = if is_idle tagged.command then Some tagged.tag else None
+
 -- Whether an idling goes on behind an input, and with which tag.
 abbrev pub idling_after : Session → Input → Option (List ℕ)
-idling_after session (inputs.Command moment tagged) = if is_idle tagged.command then Some tagged.tag else None
+idling_after session (inputs.Command moment tagged) = begun tagged
 idling_after session (inputs.Line line) = None
 idling_after session inputs.Poll = session.idling
 
@@ -134,13 +141,13 @@ IsRefused start ops state input why =
 
 -- ---- the response
 
--- The node issues operations, and one of its sessions becomes another: they stand behind those applied, and a held one with the id of one of
--- them is dropped.
-pub record Becomes (old : NodeState) (ops : List Op) (n : ℕ) (session : Session) (new : NodeState) : Type 0 where
+-- The node issues operations, and its sessions are these then: the operations stand behind those applied, and a held one with the id of one
+-- of them is dropped.
+pub record Holds (old : NodeState) (ops : List Op) (sessions : Places) (new : NodeState) : Type 0 where
   pub start : new.start ≡ old.start
   pub applied : new.applied ≡ old.applied ++ ops
   pub held : AreKept (λ (o : Op). o.id) ops old.held new.held
-  pub sessions : new.sessions ≡ with_session old.sessions n (Some session)
+  pub sessions : new.sessions ≡ sessions
 
 -- An input is carried out, whole: what it wants is issued, and it is answered by what it comes to.
 pub record Carries (old : NodeState) (n : ℕ) (session : Session) (input : Input) (answers : List Answer) (silent : List Silent) (issued : List Op) (new : NodeState) : Type 0 where
@@ -154,7 +161,7 @@ pub record Carries (old : NodeState) (n : ℕ) (session : Session) (input : Inpu
   pub taken : TakesCourse old.start old.applied (old.applied ++ issued) session input course
   pub answers_are : answers ≡ answers_of_course old.start (old.applied ++ issued) course
   pub silent_is : silent ≡ course.silent
-  pub becomes : Becomes old issued n (session_after old.start (old.applied ++ issued) session input course) new
+  pub becomes : Holds old issued (with_session old.sessions n (Some (session_after old.start (old.applied ++ issued) session input course))) new
 
 -- What a node replies to an input of a session, and what it is then.
 abbrev pub Replies : NodeState → ℕ → Session → Input → Reply → NodeState → Type 0
@@ -162,7 +169,7 @@ Replies old n session input (Done answers silent issued) new = Carries old n ses
 Replies old n session input (Refused why closed) new =
     IsRefused old.start old.applied session.state input why
     × (closed ≡ closes session.state input why)
-    × (new ≡ record old { sessions = with_session old.sessions n (Some (left session input why)) })
+    × Holds old [] (with_session old.sessions n (Some (left session input why))) new
 
 abbrev pub Responds : NodeState → ℕ → Input → Reply → NodeState → Type 0
 Responds old n input reply new = (session : Session) × (session_at old.sessions n ≡ Some session) × Replies old n session input reply new

@@ -6,6 +6,7 @@
 //! own answers, and what they make of their session.
 #![tactic(auto)]
 
+mod course;
 mod ending;
 mod input;
 mod issuing;
@@ -22,5 +23,6 @@ pub use imap_commands::{Credentials, Session, State};
 pub use input::Input;
 pub use node::Node;
 pub use planning::Plan;
+pub use replica::Replica;
 pub use reply::{Answers, Issued, Reply, Silents};
 pub use sessions::{Auth, MAX_SESSIONS, OpenFault, SessionNo};

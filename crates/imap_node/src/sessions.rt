@@ -1,5 +1,6 @@
 ghost use Rattle.std.specs.Prelude.{◌≡◌, ◌≢◌, ◌+◌, ◌-◌, ◌<◌, ◌≤◌, ◌↔◌, [], ℕ, IsTrue, IsNone, IsSome, None, Some, Err, IfOk, IfErr, OnOk, OnErr, SomeIff, length, max, ◌==◌, if◌then◌else◌, slice_index_or, slice_set};
-ghost use Rattle.std.specs.Option.{option_copied};
+ghost use Rattle.std.specs.Option.{option_copied, option_map};
+ghost use Rattle.imap_commands.specs.declared.session.State.TheVariants.{Authenticated};
 ghost use Rattle.imap_node.specs.Sessions.{IsOpen, opened, session_at};
 ghost use Rattle.imap_node.specs.declared.sessions.OpenFault.TheVariants.{NoMemory, TooManySessions};
 
@@ -133,6 +134,22 @@ impl Sessions {
     {
         set_in(&mut self.places, session, place);
     }
+
+    /// Leaves the mailbox that an open session has selected.
+    pub fn leave(&mut self, session: SessionNo)
+        requires { IsOpen self.old session }
+        ensures { self.new ≡ with_session self.old session (option_map (λ s. record s { state = Authenticated }) (session_at self.old session)) }
+    {
+        leave_in(&mut self.places, session);
+    }
+
+    /// Ends the IDLE of an open session.
+    pub fn wake(&mut self, session: SessionNo)
+        requires { IsOpen self.old session }
+        ensures { self.new ≡ with_session self.old session (option_map (λ s. record s { idling = None }) (session_at self.old session)) }
+    {
+        wake_in(&mut self.places, session);
+    }
 }
 
 /// A session as it begins.
@@ -147,6 +164,28 @@ fn opened(auth: Auth) -> Session
         state,
         condstore: false,
         idling: None,
+    }
+}
+
+/// The session's state is Authenticated, and nothing else of it changes.
+fn leave_in(places: &mut Vec<Option<Session>>, session: SessionNo)
+    requires { IsOpen places.old.items session }
+    ensures { places.new.items ≡ slice_set places.old.items (session - 1) (option_map (λ s. record s { state = Authenticated }) (session_at places.old.items session)) }
+{
+    let place = session.get() - 1;
+    if let Some(Some(session)) = places.get_mut(place) {
+        session.state = State::Authenticated;
+    }
+}
+
+/// The session no longer idles, and nothing else of it changes.
+fn wake_in(places: &mut Vec<Option<Session>>, session: SessionNo)
+    requires { IsOpen places.old.items session }
+    ensures { places.new.items ≡ slice_set places.old.items (session - 1) (option_map (λ s. record s { idling = None }) (session_at places.old.items session)) }
+{
+    let place = session.get() - 1;
+    if let Some(Some(session)) = places.get_mut(place) {
+        session.idling = None;
     }
 }
 

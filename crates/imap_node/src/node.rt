@@ -1,0 +1,322 @@
+//! A replica with its sessions.
+
+ghost use Rattle.std.specs.Prelude.{◌≡◌, ◌≢◌, ◌↔◌, ◌×◌, ℕ, ◌<◌, ◌≤◌, List, [], Err, IfOk, IsNone, IsSome, IsTrue, MatchResult, None, OnErr, Some};
+ghost use Rattle.std.specs.Option.{option_copied};
+ghost use Rattle.causal_inbox.specs.Seen.{IsClockOf, held_limit, uncovered};
+ghost use Rattle.crdt_ops.specs.Sets.{delete_set_of, folder_tags_of, folders_of, messages_of, subscribed_of, subscription_tags_of};
+ghost use Rattle.crdt_ops.specs.declared.op.Op.{Op as Operation};
+ghost use Rattle.imap_node.specs.Plans.{done_plan, next_left, plan_by};
+ghost use Rattle.imap_node.specs.Rooms.{HasRoomFor};
+ghost use Rattle.imap_node.specs.declared.input.Input.TheVariants as inputs;
+
+use crate::input::Input;
+use crate::planning::{Answered, Next, Plan, Prepared, prepare};
+use crate::replica::Replica;
+use crate::reply::{Issued, Reply};
+use crate::sessions::{Auth, OpenFault, SessionNo, Sessions};
+use crate::tables::{closes, ends_idling, leaves};
+use causal_inbox::{DeliverFault, Delivered, Drained};
+use crdt_ops::SoundOp;
+use imap_answers::Refusal;
+use imap_commands::{Session, State};
+use imap_grammar::{IdleLine, Tagged};
+use imap_types::{Moment, Name};
+use mail_listing::Rows;
+use std::alloc::{AllocError, Global};
+use std::marker::Model;
+use tags_clocks::{Clock, ReplicaId};
+use uid_projection::Start;
+
+/// A replica with its sessions. It answers from its own state alone.
+#[derive(Drop)]
+pub struct Node {
+    replica: Replica,
+    sessions: Sessions,
+}
+
+impl Model for Node {
+    ghost use Rattle.imap_node.specs.Nodes.{NodeKept};
+
+    ghost Value = { NodeKept };
+
+    ghost view = { λ n. record { state = record { start = n.replica.start; applied = n.replica.applied; held = n.replica.held; sessions = n.sessions }; room = n.replica.room } };
+}
+
+impl Node {
+    ghost use Rattle.crdt_ops.specs.Sound.{IsSound};
+    ghost use Rattle.imap_node.specs.Deliveries.{Delivers, Drains, HoldsRipe, IsOrderly, IsRefusedAt};
+    ghost use Rattle.imap_node.specs.Nodes.{IsIdle, closed};
+    ghost use Rattle.imap_node.specs.Plans.{CommitsTo, IsPlanned, Planned};
+    ghost use Rattle.imap_node.specs.Respond.{Responds};
+    ghost use Rattle.imap_node.specs.Sessions.{IsOpen, Opens, session_at};
+    ghost use Rattle.imap_node.specs.declared.sessions.OpenFault.TheVariants.{TooManySessions};
+    ghost use Rattle.merge_laws.specs.Orders.{AreSound};
+    ghost use Rattle.uid_projection.specs.Listing.{listing};
+
+    /// A replica of this name and with these first numbers that has received nothing, without sessions; `Err` where there is no memory for
+    /// it.
+    pub fn new(alloc: Global, start: Start) -> Result<Node, AllocError>
+        ensures { IfOk result (λ node. node.state ≡ record { start = start; applied = []; held = []; sessions = [] }) }
+    {
+        Ok(Node {
+            replica: Replica::new(alloc, start)?,
+            sessions: Sessions::new(alloc),
+        })
+    }
+
+    // ---- sessions
+
+    /// What this session is; `None` where it isn't open.
+    pub fn session(&self, session: SessionNo) -> Option<&Session>
+        ensures { option_copied result ≡ session_at self.now.state.sessions session }
+    {
+        self.sessions.get(session)
+    }
+
+    /// Whether the session is open. It may have logged out.
+    pub fn is_open(&self, session: SessionNo) -> bool
+        ensures { IsTrue result ↔ IsOpen self.now.state.sessions session }
+    {
+        self.session(session).is_some()
+    }
+
+    /// Opens a session, with the least number that isn't open: `TooManySessions` exactly where all numbers from 1 to 1,024 are, unless memory
+    /// is wanting. An error leaves the node as it was.
+    pub fn open(&mut self, auth: Auth) -> Result<SessionNo, OpenFault>
+        ensures ok { IfOk result (λ session. Opens self.old.state.sessions auth session self.new.state.sessions) }
+        ensures full { result ≡ Err TooManySessions → (n : ℕ) → 0 < n → n ≤ 1024 → IsOpen self.old.state.sessions n }
+        ensures room { ((n : ℕ) × (0 < n) × (n ≤ 1024) × IsNone (session_at self.old.state.sessions n)) → result ≢ Err TooManySessions }
+        ensures rest { self.new ≡ record self.old { state = record self.old.state { sessions = self.new.state.sessions } } }
+        ensures err { OnErr result (self.new ≡ self.old) }
+    {
+        self.sessions.open(auth)
+    }
+
+    /// Closes the session.
+    pub fn close(&mut self, session: SessionNo)
+        requires { IsOpen self.old.state.sessions session }
+        ensures { self.new.state ≡ closed self.old.state session }
+    {
+        self.sessions.set(session, None);
+    }
+
+    // ---- inputs
+
+    /// Carries out a command of a session that is open and doesn't idle, whole, or refuses it. `moment` is when it came.
+    pub fn command(
+        &mut self,
+        alloc: Global,
+        session: SessionNo,
+        moment: Moment,
+        tagged: Tagged,
+    ) -> Reply
+        requires { IsOpen self.old.state.sessions session }
+        ensures { Responds self.old.state session (inputs.Command moment tagged) result self.new.state }
+    {
+        let plan = self.plan(alloc, session, Input::Command { moment, tagged });
+        self.commit(plan)
+    }
+
+    /// Takes a line of a session that idles (RFC 2177, section 3).
+    pub fn done(&mut self, alloc: Global, session: SessionNo, line: IdleLine) -> Reply
+        requires { IsOpen self.old.state.sessions session }
+        ensures { Responds self.old.state session (inputs.Line line) result self.new.state }
+    {
+        let plan = self.plan(alloc, session, Input::Line { line });
+        self.commit(plan)
+    }
+
+    /// Tells a session that idles what changed (RFC 2177, section 3).
+    pub fn poll(&mut self, alloc: Global, session: SessionNo) -> Reply
+        requires { IsOpen self.old.state.sessions session }
+        ensures { Responds self.old.state session inputs.Poll result self.new.state }
+    {
+        let plan = self.plan(alloc, session, Input::Poll);
+        self.commit(plan)
+    }
+
+    /// Works out what the node will do with an input, and makes the room for it. The node stays as it was. A `Done` is planned where all
+    /// room was made; any refusal is in the plan's reply.
+    pub fn plan(&mut self, alloc: Global, session: SessionNo, input: Input) -> Plan
+        requires { IsOpen self.old.state.sessions session }
+        ensures same { self.new.state ≡ self.old.state }
+        ensures planned { IsPlanned self.new result }
+        ensures responds { Planned self.old.state session input result }
+    {
+        let Some(found) = self.sessions.get(session) else {
+            unreachable!()
+        };
+        let outcome = prepare(alloc, &mut self.replica, found, &input);
+        let plan = plan_by(alloc, session, &found.state, &input, outcome);
+        drop(input);
+        plan
+    }
+
+    /// Does what was planned, where the node is as the plan left it; takes no memory.
+    pub fn commit(&mut self, plan: Plan) -> Reply
+        requires { IsPlanned self.old plan }
+        ensures reply { result ≡ plan.reply }
+        ensures state { CommitsTo self.old.state plan self.new.state }
+    {
+        let Plan {
+            number,
+            reply,
+            ops,
+            next,
+        } = plan;
+        self.replica.issue(ops.into_vec());
+        set_next(&mut self.sessions, number, next);
+        reply
+    }
+
+    // ---- other replicas
+
+    /// Receives an operation: applies it where its causes were all applied, with the held ones that waited for it, the least
+    /// id first; holds it where it is early; or has it already. No session changes. An error leaves the node as it was:
+    /// `Conflict` where another operation has its id, `HeldFull` for an early one where 65,536 are held, `Exhausted` where a counter is at
+    /// its end for it, `NoMemory`.
+    ///
+    /// It looks through the operations received, and through those held once for each that it applies.
+    pub fn deliver(&mut self, alloc: Global, op: SoundOp) -> Result<Delivered, DeliverFault>
+        ensures answer { MatchResult result (λ d. Delivers self.old.state op d.arrival self.new.state) (λ e. IsRefusedAt self.old.state op e) }
+        ensures stalled { IfOk result (λ d. IsTrue d.stalled ↔ HoldsRipe self.new.state) }
+        ensures err { OnErr result (self.new.state ≡ self.old.state) }
+    {
+        self.replica.deliver(alloc, op)
+    }
+
+    /// Applies held operations whose causes were all applied, the least id first, until there is none or one is refused. No
+    /// session changes.
+    pub fn drain(&mut self, alloc: Global) -> Drained
+        ensures released { Drains self.old.state result.applied self.new.state }
+        ensures stalled { IsTrue result.stalled ↔ HoldsRipe self.new.state }
+        ensures at_most { result.applied ≤ held_limit }
+    {
+        self.replica.drain(alloc)
+    }
+
+    /// The operations applied, in their order, which is causal. They are sound, and none has the id of one that is held.
+    pub fn op_list(&self) -> &[SoundOp]
+        ensures applied { result.now ≡ self.now.state.applied }
+        ensures orderly { IsOrderly self.now.state }
+        ensures sound { AreSound IsSound self.now.state.applied }
+    {
+        self.replica.applied()
+    }
+
+    /// The operations held until their causes come, by ascending ids. They are sound.
+    pub fn held(&self) -> &[SoundOp]
+        ensures held { result.now ≡ self.now.state.held }
+        ensures orderly { IsOrderly self.now.state }
+        ensures sound { AreSound IsSound self.now.state.held }
+    {
+        self.replica.held()
+    }
+
+    /// The clock that counts the operations applied.
+    pub fn clock(&self) -> &Clock
+        ensures { IsClockOf (λ (o : Operation). o.id) self.now.state.applied result.now }
+    {
+        self.replica.clock()
+    }
+
+    /// Copies of the operations applied that the clock doesn't cover, in their order; `Err` where there is no memory for them.
+    pub fn ops_since(&self, alloc: Global, clock: &Clock) -> Result<Vec<SoundOp>, AllocError>
+        ensures { IfOk result (λ ops. ops.items ≡ uncovered (λ (o : Operation). o.id) clock.now self.now.state.applied) }
+    {
+        self.replica.ops_since(alloc, clock)
+    }
+
+    /// The mailbox's listing; `Err` where there is no memory for it.
+    pub fn listing(&self, alloc: Global, name: &Name) -> Result<Rows<'_>, AllocError>
+        ensures { IfOk result (λ rows. rows ≡ listing self.now.state.start name.now self.now.state.applied) }
+    {
+        self.replica.rows(alloc, name)
+    }
+
+    /// The replica's part of the node: what its operations lead to.
+    pub fn replica(&self) -> &Replica
+        ensures start { result.now.start ≡ self.now.state.start }
+        ensures applied { result.now.applied ≡ self.now.state.applied }
+        ensures held { result.now.held ≡ self.now.state.held }
+    {
+        &self.replica
+    }
+}
+
+/// Makes of an open session what was planned.
+fn set_next(sessions: &mut Sessions, number: SessionNo, next: Next)
+    requires { IsOpen sessions.old number }
+    ensures { sessions.new ≡ with_session sessions.old number (place_next (session_at sessions.old number) next) }
+{
+    match next {
+        Next::Stays => {}
+        Next::Leaves => sessions.leave(number),
+        Next::Wakes => sessions.wake(number),
+        Next::Becomes { session } => sessions.set(number, Some(session)),
+    }
+}
+
+/// The plan for what was worked out.
+fn plan_by(
+    alloc: Global,
+    number: SessionNo,
+    state: &State,
+    input: &Input,
+    outcome: Result<Prepared, Refusal>,
+) -> Plan
+    ensures { result ≡ plan_by number state.now input.now outcome }
+{
+    match outcome {
+        Ok(prepared) => done_plan(number, prepared),
+        Err(why) => Plan {
+            number,
+            reply: Reply::Refused {
+                why,
+                closed: closes(state, input, why),
+            },
+            ops: Issued::new(Vec::new(alloc)),
+            next: next_left(state, input, why),
+        },
+    }
+}
+
+/// The plan of an input that can be carried out.
+fn done_plan(number: SessionNo, prepared: Prepared) -> Plan
+    ensures { result ≡ done_plan number prepared }
+{
+    let Prepared {
+        answered,
+        ops,
+        copies,
+    } = prepared;
+    let Answered {
+        answers,
+        silent,
+        session,
+    } = answered;
+    Plan {
+        number,
+        reply: Reply::Done {
+            answers,
+            silent,
+            issued: copies,
+        },
+        ops,
+        next: Next::Becomes { session },
+    }
+}
+
+/// What becomes of the session of a refused input.
+fn next_left(state: &State, input: &Input, why: Refusal) -> Next
+    ensures { result ≡ next_left state.now input.now why }
+{
+    if leaves(state, input) {
+        return Next::Leaves;
+    }
+    if ends_idling(input, why) {
+        Next::Wakes
+    } else {
+        Next::Stays
+    }
+}

@@ -1,0 +1,405 @@
+//! What each command tells: one line a command.
+
+ghost use Rattle.std.specs.Prelude.{◌≡◌, ◌++◌, IfOk};
+ghost use Rattle.std.specs.Option.{unwrap_or};
+ghost use Rattle.crdt_ops.specs.Sets.{folders_of, subscribed_of};
+ghost use Rattle.imap_commands.specs.Asking.{ListTells, status_tells};
+ghost use Rattle.imap_commands.specs.Appending.{append_tells};
+ghost use Rattle.imap_commands.specs.Copying.{copy_tells, move_tells};
+ghost use Rattle.imap_commands.specs.Expunging.{uid_expunge_tells};
+ghost use Rattle.imap_commands.specs.Fetching.{fetch_tells};
+ghost use Rattle.imap_commands.specs.Searching.{SearchTells};
+ghost use Rattle.imap_commands.specs.Selecting.{select_tells};
+ghost use Rattle.imap_commands.specs.Storing.{store_tells};
+ghost use Rattle.imap_node.specs.Commands.{SearchTellsSelected, Tells, is_selected, tells_selected};
+ghost use Rattle.imap_node.specs.Mailboxes.{marks_of, rows_for, validity_of};
+ghost use Rattle.imap_node.specs.Operations.{CanFollow};
+ghost use Rattle.uid_projection.specs.Lines.{uidnext_of};
+ghost use Rattle.uid_projection.specs.Listing.{listing};
+
+use crate::replica::Replica;
+use crate::tables::is_selected;
+use crdt_ops::SoundOp;
+use imap_commands::{
+    State, Telling, append_tells, capability_tells, copy_tells, enable_tells, fetch_tells,
+    idle_tells, list_tells, logout_tells, move_tells, namespace_tells, search_tells, select_tells,
+    status_tells, store_tells, uid_expunge_tells,
+};
+use imap_grammar::{Command, FetchItem, SearchOption, SearchStep, StatusItem, StoreAction};
+use imap_query::{ListMode, Marks};
+use imap_types::{Flags, Name, Octets, SequenceSet};
+use mail_listing::Rows;
+use session_view::View;
+use std::alloc::{AllocError, Global};
+
+/// What a command itself tells, behind the operations applied and its own.
+pub fn tells(
+    alloc: Global,
+    replica: &Replica,
+    ops: &[SoundOp],
+    state: &State,
+    modseq: bool,
+    tag: &Octets,
+    command: &Command,
+) -> Result<Telling, AllocError>
+    requires { CanFollow replica.now.start replica.now.applied ops.now }
+    ensures { IfOk result (λ told. Tells replica.now.start replica.now.applied (replica.now.applied ++ ops.now) state.now modseq tag.now command.now told) }
+{
+    match command {
+        Command::Capability => capability_tells(alloc),
+        Command::Noop => Ok(Telling::nothing(alloc)),
+        Command::Logout => logout_tells(alloc),
+        Command::Login { .. } => Ok(Telling::nothing(alloc)),
+        Command::Enable { names } => enable_tells(alloc, names.as_slice()),
+        Command::Select { name, .. } => tells_select(alloc, replica, ops, state, false, name),
+        Command::Examine { name, .. } => tells_select(alloc, replica, ops, state, true, name),
+        Command::Create { .. } => Ok(Telling::nothing(alloc)),
+        Command::Delete { .. } => Ok(Telling::nothing(alloc)),
+        Command::Subscribe { .. } => Ok(Telling::nothing(alloc)),
+        Command::Unsubscribe { .. } => Ok(Telling::nothing(alloc)),
+        Command::ListNames {
+            subscribed_only,
+            reference,
+            pattern,
+            return_subscribed,
+        } => tells_list(
+            alloc,
+            replica,
+            ListMode {
+                subscribed_only: *subscribed_only,
+                return_subscribed: *return_subscribed,
+            },
+            reference,
+            pattern,
+        ),
+        Command::Namespace => namespace_tells(alloc),
+        Command::Status { name, items } => {
+            tells_status(alloc, replica, ops, name, items.as_slice())
+        }
+        Command::Append { name, .. } => Ok(tells_append(alloc, replica, ops, name)),
+        Command::Idle => idle_tells(alloc),
+        Command::Close => Ok(Telling::nothing(alloc)),
+        Command::Unselect => Ok(Telling::nothing(alloc)),
+        Command::Expunge => Ok(Telling::nothing(alloc)),
+        Command::UidExpunge { uids } => tells_uid_expunge(alloc, replica, state, uids),
+        Command::Search {
+            by_uid,
+            options,
+            steps,
+        } => tells_search(
+            alloc,
+            replica,
+            ops,
+            state,
+            tag,
+            *by_uid,
+            options.as_slice(),
+            steps.as_slice(),
+        ),
+        Command::Fetch {
+            by_uid,
+            messages,
+            items,
+            changed_since,
+        } => tells_fetch(
+            alloc,
+            replica,
+            ops,
+            state,
+            modseq,
+            *by_uid,
+            messages,
+            items.as_slice(),
+            *changed_since,
+        ),
+        Command::Store {
+            by_uid,
+            messages,
+            unchanged_since,
+            action,
+            flags,
+        } => tells_store(
+            alloc,
+            replica,
+            ops,
+            state,
+            modseq,
+            *by_uid,
+            messages,
+            *unchanged_since,
+            *action,
+            flags,
+        ),
+        Command::Copy {
+            by_uid,
+            messages,
+            name,
+        } => tells_copy(alloc, replica, ops, state, *by_uid, messages, name),
+        Command::Move {
+            by_uid,
+            messages,
+            name,
+        } => tells_move(alloc, replica, ops, state, *by_uid, messages, name),
+    }
+}
+
+/// What a view's mailbox has behind these operations, of the view's own incarnation.
+pub fn rows_behind<'a>(
+    alloc: Global,
+    replica: &'a Replica,
+    ops: &'a [SoundOp],
+    view: &View,
+) -> Result<Rows<'a>, AllocError>
+    requires { CanFollow replica.now.start replica.now.applied ops.now }
+    ensures { IfOk result (λ rows. rows ≡ rows_for replica.now.start (replica.now.applied ++ ops.now) view.now) }
+{
+    let rows = replica.rows_after(alloc, view.name(), ops)?;
+    Ok(view.rows_under(alloc, replica.uidvalidity_after(view.name(), ops), rows))
+}
+
+/// What a view's mailbox has before these operations.
+pub fn rows_before<'a>(
+    alloc: Global,
+    replica: &'a Replica,
+    view: &View,
+) -> Result<Rows<'a>, AllocError>
+    ensures { IfOk result (λ rows. rows ≡ rows_for replica.now.start replica.now.applied view.now) }
+{
+    let rows = replica.rows(alloc, view.name())?;
+    Ok(view.rows_under(alloc, replica.uidvalidity(view.name()), rows))
+}
+
+/// The UIDVALIDITY of a mailbox that is there behind these operations.
+pub fn validity_after(replica: &Replica, ops: &[SoundOp], name: &Name) -> u32
+    requires { CanFollow replica.now.start replica.now.applied ops.now }
+    ensures { result ≡ validity_of replica.now.start name.now (replica.now.applied ++ ops.now) }
+{
+    replica.uidvalidity_after(name, ops).unwrap_or(0)
+}
+
+/// The numbers of a mailbox that is there behind these operations.
+fn marks_after(replica: &Replica, ops: &[SoundOp], name: &Name) -> Marks
+    requires { CanFollow replica.now.start replica.now.applied ops.now }
+    ensures { result ≡ marks_of replica.now.start name.now (replica.now.applied ++ ops.now) }
+{
+    Marks {
+        uidvalidity: validity_after(replica, ops, name),
+        uidnext: replica.uidnext_after(name, ops),
+        highest_modseq: replica.highest_after(name, ops),
+    }
+}
+
+fn tells_select(
+    alloc: Global,
+    replica: &Replica,
+    ops: &[SoundOp],
+    state: &State,
+    read_only: bool,
+    name: &Name,
+) -> Result<Telling, AllocError>
+    requires { CanFollow replica.now.start replica.now.applied ops.now }
+    ensures { IfOk result (λ told. told ≡ select_tells (is_selected state.now) read_only name.now (marks_of replica.now.start name.now (replica.now.applied ++ ops.now)) (listing replica.now.start name.now (replica.now.applied ++ ops.now))) }
+{
+    let rows = replica.rows_after(alloc, name, ops)?;
+    let marks = marks_after(replica, ops, name);
+    select_tells(alloc, is_selected(state), read_only, name, marks, &rows)
+}
+
+fn tells_status(
+    alloc: Global,
+    replica: &Replica,
+    ops: &[SoundOp],
+    name: &Name,
+    items: &[StatusItem],
+) -> Result<Telling, AllocError>
+    requires { CanFollow replica.now.start replica.now.applied ops.now }
+    ensures { IfOk result (λ told. told ≡ status_tells name.now items.now (marks_of replica.now.start name.now (replica.now.applied ++ ops.now)) (listing replica.now.start name.now (replica.now.applied ++ ops.now))) }
+{
+    let rows = replica.rows_after(alloc, name, ops)?;
+    let marks = marks_after(replica, ops, name);
+    status_tells(alloc, name, items, marks, &rows)
+}
+
+fn tells_append(alloc: Global, replica: &Replica, ops: &[SoundOp], name: &Name) -> Telling
+    requires { CanFollow replica.now.start replica.now.applied ops.now }
+    ensures { result ≡ append_tells (validity_of replica.now.start name.now (replica.now.applied ++ ops.now)) (uidnext_of replica.now.start name.now replica.now.applied) }
+{
+    append_tells(alloc, validity_after(replica, ops, name), replica.uidnext(name))
+}
+
+fn tells_list(
+    alloc: Global,
+    replica: &Replica,
+    mode: ListMode,
+    reference: &Octets,
+    pattern: &Octets,
+) -> Result<Telling, AllocError>
+    ensures { IfOk result (λ told. ListTells mode reference.now pattern.now (folders_of replica.now.applied) (subscribed_of replica.now.applied) told) }
+{
+    let folders = replica.folders(alloc)?;
+    let subscriptions = replica.subscribed(alloc)?;
+    list_tells(alloc, mode, reference, pattern, &folders, &subscriptions)
+}
+
+fn tells_uid_expunge(
+    alloc: Global,
+    replica: &Replica,
+    state: &State,
+    uids: &SequenceSet,
+) -> Result<Telling, AllocError>
+    ensures { IfOk result (λ told. told ≡ tells_selected state.now (λ view read_only. uid_expunge_tells (rows_for replica.now.start replica.now.applied view) view.entries uids.now)) }
+{
+    let State::Selected { view, .. } = state else {
+        return Ok(Telling::nothing(alloc));
+    };
+    let rows = rows_before(alloc, replica, view)?;
+    uid_expunge_tells(alloc, &rows, view, uids)
+}
+
+fn tells_search(
+    alloc: Global,
+    replica: &Replica,
+    ops: &[SoundOp],
+    state: &State,
+    tag: &Octets,
+    by_uid: bool,
+    options: &[SearchOption],
+    steps: &[SearchStep],
+) -> Result<Telling, AllocError>
+    requires { CanFollow replica.now.start replica.now.applied ops.now }
+    ensures { IfOk result (λ told. SearchTellsSelected replica.now.start (replica.now.applied ++ ops.now) state.now (λ view rows telling. SearchTells rows view.entries tag.now by_uid options.now steps.now telling) told) }
+{
+    let State::Selected { view, .. } = state else {
+        return Ok(Telling::nothing(alloc));
+    };
+    let rows = rows_behind(alloc, replica, ops, view)?;
+    search_tells(alloc, &rows, view, tag, by_uid, options, steps)
+}
+
+fn tells_fetch(
+    alloc: Global,
+    replica: &Replica,
+    ops: &[SoundOp],
+    state: &State,
+    modseq: bool,
+    by_uid: bool,
+    messages: &SequenceSet,
+    items: &[FetchItem],
+    changed_since: Option<u64>,
+) -> Result<Telling, AllocError>
+    requires { CanFollow replica.now.start replica.now.applied ops.now }
+    ensures { IfOk result (λ told. told ≡ tells_selected state.now (λ view read_only. fetch_tells (rows_for replica.now.start replica.now.applied view) (rows_for replica.now.start (replica.now.applied ++ ops.now) view) view.entries read_only modseq by_uid messages.now items.now changed_since)) }
+{
+    let State::Selected { view, read_only } = state else {
+        return Ok(Telling::nothing(alloc));
+    };
+    let before = rows_before(alloc, replica, view)?;
+    let after = rows_behind(alloc, replica, ops, view)?;
+    fetch_tells(
+        alloc,
+        &before,
+        &after,
+        view,
+        *read_only,
+        modseq,
+        by_uid,
+        messages,
+        items,
+        changed_since,
+    )
+}
+
+fn tells_store(
+    alloc: Global,
+    replica: &Replica,
+    ops: &[SoundOp],
+    state: &State,
+    modseq: bool,
+    by_uid: bool,
+    messages: &SequenceSet,
+    unchanged_since: Option<u64>,
+    action: StoreAction,
+    flags: &Flags,
+) -> Result<Telling, AllocError>
+    requires { CanFollow replica.now.start replica.now.applied ops.now }
+    ensures { IfOk result (λ told. told ≡ tells_selected state.now (λ view read_only. store_tells (rows_for replica.now.start replica.now.applied view) (rows_for replica.now.start (replica.now.applied ++ ops.now) view) view.entries modseq by_uid messages.now unchanged_since action.mode action.silent flags.now)) }
+{
+    let State::Selected { view, .. } = state else {
+        return Ok(Telling::nothing(alloc));
+    };
+    let before = rows_before(alloc, replica, view)?;
+    let after = rows_behind(alloc, replica, ops, view)?;
+    store_tells(
+        alloc,
+        &before,
+        &after,
+        view,
+        modseq,
+        by_uid,
+        messages,
+        unchanged_since,
+        action.mode,
+        action.silent,
+        flags,
+    )
+}
+
+fn tells_copy(
+    alloc: Global,
+    replica: &Replica,
+    ops: &[SoundOp],
+    state: &State,
+    by_uid: bool,
+    messages: &SequenceSet,
+    name: &Name,
+) -> Result<Telling, AllocError>
+    requires { CanFollow replica.now.start replica.now.applied ops.now }
+    ensures { IfOk result (λ told. told ≡ tells_selected state.now (λ view read_only. copy_tells (rows_for replica.now.start replica.now.applied view) view.entries by_uid messages.now (validity_of replica.now.start name.now (replica.now.applied ++ ops.now)) (uidnext_of replica.now.start name.now replica.now.applied) (listing replica.now.start name.now (replica.now.applied ++ ops.now)))) }
+{
+    let State::Selected { view, .. } = state else {
+        return Ok(Telling::nothing(alloc));
+    };
+    let before = rows_before(alloc, replica, view)?;
+    let landed = replica.rows_after(alloc, name, ops)?;
+    let uidvalidity = validity_after(replica, ops, name);
+    copy_tells(
+        alloc,
+        &before,
+        view,
+        by_uid,
+        messages,
+        uidvalidity,
+        replica.uidnext(name),
+        &landed,
+    )
+}
+
+fn tells_move(
+    alloc: Global,
+    replica: &Replica,
+    ops: &[SoundOp],
+    state: &State,
+    by_uid: bool,
+    messages: &SequenceSet,
+    name: &Name,
+) -> Result<Telling, AllocError>
+    requires { CanFollow replica.now.start replica.now.applied ops.now }
+    ensures { IfOk result (λ told. told ≡ tells_selected state.now (λ view read_only. move_tells (rows_for replica.now.start replica.now.applied view) view.entries by_uid messages.now (validity_of replica.now.start name.now (replica.now.applied ++ ops.now)) (uidnext_of replica.now.start name.now replica.now.applied) (listing replica.now.start name.now (replica.now.applied ++ ops.now)))) }
+{
+    let State::Selected { view, .. } = state else {
+        return Ok(Telling::nothing(alloc));
+    };
+    let before = rows_before(alloc, replica, view)?;
+    let landed = replica.rows_after(alloc, name, ops)?;
+    let uidvalidity = validity_after(replica, ops, name);
+    move_tells(
+        alloc,
+        &before,
+        view,
+        by_uid,
+        messages,
+        uidvalidity,
+        replica.uidnext(name),
+        &landed,
+    )
+}

@@ -1,0 +1,436 @@
+//! What each input wants: one line a command.
+
+ghost use Rattle.std.specs.Prelude.{◌≡◌, ◌++◌, [], Ok, Err, IfOk};
+ghost use Rattle.imap_answers.specs.declared.words.Refusal.TheVariants.{NotNow};
+ghost use Rattle.imap_commands.specs.Appending.{append_wants};
+ghost use Rattle.imap_commands.specs.Asking.{status_wants};
+ghost use Rattle.imap_commands.specs.Entering.{login_wants};
+ghost use Rattle.imap_commands.specs.Expunging.{close_wants, expunge_wants, uid_expunge_wants};
+ghost use Rattle.imap_commands.specs.Fetching.{fetch_wants};
+ghost use Rattle.imap_commands.specs.Gives.{Gives};
+ghost use Rattle.imap_commands.specs.Copying.{copy_wants, move_wants};
+ghost use Rattle.imap_commands.specs.Mailboxes.{create_wants, created_name, delete_wants, subscribe_wants, unsubscribe_wants};
+ghost use Rattle.imap_commands.specs.Searching.{search_wants};
+ghost use Rattle.imap_commands.specs.Selecting.{select_wants};
+ghost use Rattle.imap_commands.specs.Storing.{store_wants};
+ghost use Rattle.crdt_ops.specs.Sets.{delete_set_of, subscription_tags_of};
+ghost use Rattle.imap_node.specs.Commands.{is_known, wants, when_known, when_new, when_selected};
+ghost use Rattle.imap_node.specs.Mailboxes.{are_some, is_subscribed, rows_for};
+ghost use Rattle.imap_node.specs.Respond.{wants_of};
+ghost use Rattle.uid_projection.specs.Incarnations.{is_there};
+
+use crate::input::Input;
+use crate::replica::Replica;
+use crate::telling::rows_before;
+use crdt_ops::Kind;
+use imap_answers::Refusal;
+use imap_commands::{
+    State, append_wants, close_wants, copy_wants, create_wants, created_name, delete_wants,
+    expunge_wants, fetch_wants, login_wants, move_wants, search_wants, select_wants, status_wants,
+    store_wants, subscribe_wants, uid_expunge_wants, unsubscribe_wants,
+};
+use imap_grammar::{Command, FetchItem, IdleLine, SearchStep, StoreMode};
+use imap_types::{DateTime, Flags, Name, Octets, SequenceSet};
+use std::alloc::{AllocError, Global};
+use tags_clocks::OpId;
+
+/// What an input issues, or the first reason that stands against it. `stamp` is the date-time of its moment.
+pub fn wants_of(
+    alloc: Global,
+    replica: &Replica,
+    stamp: &DateTime,
+    state: &State,
+    input: &Input,
+) -> Result<Vec<Kind>, Refusal>
+    ensures { Gives (λ kinds. kinds.items) result (wants_of replica.now.start replica.now.applied stamp.now state.now input.now) }
+{
+    match input {
+        Input::Command { tagged, .. } => wants(alloc, replica, stamp, state, &tagged.command),
+        Input::Line { line: IdleLine::Done } => Ok(Vec::new(alloc)),
+        Input::Line { line: IdleLine::Other } => Err(Refusal::DoneExpected),
+        Input::Poll => Ok(Vec::new(alloc)),
+    }
+}
+
+/// What a command issues, or the first reason that stands against it.
+fn wants(
+    alloc: Global,
+    replica: &Replica,
+    stamp: &DateTime,
+    state: &State,
+    command: &Command,
+) -> Result<Vec<Kind>, Refusal>
+    ensures { Gives (λ kinds. kinds.items) result (wants replica.now.start replica.now.applied stamp.now state.now command.now) }
+{
+    match command {
+        Command::Capability => Ok(Vec::new(alloc)),
+        Command::Noop => Ok(Vec::new(alloc)),
+        Command::Logout => Ok(Vec::new(alloc)),
+        Command::Login { user, password } => wants_login(alloc, state, user, password),
+        Command::Enable { .. } => known(alloc, state),
+        Command::Select { name, .. } => wants_select(alloc, replica, state, name),
+        Command::Examine { name, .. } => wants_select(alloc, replica, state, name),
+        Command::Create { name } => wants_create(alloc, replica, state, name),
+        Command::Delete { name } => wants_delete(alloc, replica, state, name),
+        Command::Subscribe { name } => wants_subscribe(alloc, replica, state, name),
+        Command::Unsubscribe { name } => wants_unsubscribe(alloc, replica, state, name),
+        Command::ListNames { .. } => known(alloc, state),
+        Command::Namespace => known(alloc, state),
+        Command::Status { name, .. } => wants_status(alloc, replica, state, name),
+        Command::Append {
+            name,
+            flags,
+            date,
+            text,
+        } => wants_append(alloc, replica, stamp, state, name, flags, date, text),
+        Command::Idle => known(alloc, state),
+        Command::Close => wants_close(alloc, replica, state),
+        Command::Unselect => selected(alloc, state),
+        Command::Expunge => wants_expunge(alloc, replica, state),
+        Command::UidExpunge { uids } => wants_uid_expunge(alloc, replica, state, uids),
+        Command::Search { steps, .. } => wants_search(alloc, state, steps.as_slice()),
+        Command::Fetch {
+            by_uid,
+            messages,
+            items,
+            changed_since,
+        } => wants_fetch(alloc, replica, state, *by_uid, messages, items.as_slice(), *changed_since),
+        Command::Store {
+            by_uid,
+            messages,
+            unchanged_since,
+            action,
+            flags,
+        } => wants_store(
+            alloc,
+            replica,
+            state,
+            *by_uid,
+            messages,
+            *unchanged_since,
+            action.mode,
+            flags,
+        ),
+        Command::Copy {
+            by_uid,
+            messages,
+            name,
+        } => wants_copy(alloc, replica, state, *by_uid, messages, name),
+        Command::Move {
+            by_uid,
+            messages,
+            name,
+        } => wants_move(alloc, replica, state, *by_uid, messages, name),
+    }
+}
+
+/// Whether the session's user is known, and has not logged out.
+fn is_known(state: &State) -> bool
+    ensures { result ≡ is_known state.now }
+{
+    matches!(state, State::Authenticated | State::Selected { .. })
+}
+
+/// Nothing, where the session's user is known.
+fn known(alloc: Global, state: &State) -> Result<Vec<Kind>, Refusal>
+    ensures { Gives (λ kinds. kinds.items) result (when_known state.now (Ok [])) }
+{
+    if !is_known(state) {
+        return Err(Refusal::NotNow);
+    }
+    Ok(Vec::new(alloc))
+}
+
+/// Nothing, where a mailbox is selected.
+fn selected(alloc: Global, state: &State) -> Result<Vec<Kind>, Refusal>
+    ensures { Gives (λ kinds. kinds.items) result (when_selected state.now (λ view read_only. Ok [])) }
+{
+    match state {
+        State::Selected { .. } => Ok(Vec::new(alloc)),
+        _ => Err(Refusal::NotNow),
+    }
+}
+
+fn wants_login(
+    alloc: Global,
+    state: &State,
+    user: &Octets,
+    password: &Octets,
+) -> Result<Vec<Kind>, Refusal>
+    ensures { Gives (λ kinds. kinds.items) result (when_new state.now (λ credentials. login_wants credentials user.now password.now)) }
+{
+    match state {
+        State::NotAuthenticated { credentials } => login_wants(alloc, credentials, user, password),
+        _ => Err(Refusal::NotNow),
+    }
+}
+
+fn wants_select(
+    alloc: Global,
+    replica: &Replica,
+    state: &State,
+    name: &Name,
+) -> Result<Vec<Kind>, Refusal>
+    ensures { Gives (λ kinds. kinds.items) result (when_known state.now (select_wants (is_there name.now replica.now.applied))) }
+{
+    if !is_known(state) {
+        return Err(Refusal::NotNow);
+    }
+    select_wants(alloc, replica.exists(name))
+}
+
+fn wants_status(
+    alloc: Global,
+    replica: &Replica,
+    state: &State,
+    name: &Name,
+) -> Result<Vec<Kind>, Refusal>
+    ensures { Gives (λ kinds. kinds.items) result (when_known state.now (status_wants (is_there name.now replica.now.applied))) }
+{
+    if !is_known(state) {
+        return Err(Refusal::NotNow);
+    }
+    status_wants(alloc, replica.exists(name))
+}
+
+fn wants_create(
+    alloc: Global,
+    replica: &Replica,
+    state: &State,
+    name: &Name,
+) -> Result<Vec<Kind>, Refusal>
+    ensures { Gives (λ kinds. kinds.items) result (when_known state.now (create_wants (is_there (created_name name.now) replica.now.applied) name.now)) }
+{
+    if !is_known(state) {
+        return Err(Refusal::NotNow);
+    }
+    let folder = created_name(alloc, name)?;
+    create_wants(alloc, replica.exists(&folder), name)
+}
+
+fn wants_delete(
+    alloc: Global,
+    replica: &Replica,
+    state: &State,
+    name: &Name,
+) -> Result<Vec<Kind>, Refusal>
+    ensures { Gives (λ kinds. kinds.items) result (when_known state.now (delete_wants (is_there name.now replica.now.applied) (delete_set_of replica.now.applied name.now) name.now)) }
+{
+    if !is_known(state) {
+        return Err(Refusal::NotNow);
+    }
+    let seen = replica.delete_set(alloc, name)?;
+    delete_wants(alloc, replica.exists(name), seen, name)
+}
+
+fn wants_subscribe(
+    alloc: Global,
+    replica: &Replica,
+    state: &State,
+    name: &Name,
+) -> Result<Vec<Kind>, Refusal>
+    ensures { Gives (λ kinds. kinds.items) result (when_known state.now (subscribe_wants (is_subscribed name.now replica.now.applied) name.now)) }
+{
+    if !is_known(state) {
+        return Err(Refusal::NotNow);
+    }
+    subscribe_wants(alloc, is_subscribed(alloc, replica, name)?, name)
+}
+
+fn is_subscribed(alloc: Global, replica: &Replica, name: &Name) -> Result<bool, AllocError>
+    ensures { IfOk result (λ yes. yes ≡ is_subscribed name.now replica.now.applied) }
+{
+    let tags = replica.subscription_tags(alloc, name)?;
+    Ok(are_some(tags.as_slice()))
+}
+
+fn are_some(ids: &[OpId]) -> bool
+    ensures { result ≡ are_some ids.now }
+{
+    match ids {
+        [] => false,
+        [_, ..] => true,
+    }
+}
+
+fn wants_unsubscribe(
+    alloc: Global,
+    replica: &Replica,
+    state: &State,
+    name: &Name,
+) -> Result<Vec<Kind>, Refusal>
+    ensures { Gives (λ kinds. kinds.items) result (when_known state.now (unsubscribe_wants (subscription_tags_of replica.now.applied name.now) name.now)) }
+{
+    if !is_known(state) {
+        return Err(Refusal::NotNow);
+    }
+    unsubscribe_wants(alloc, replica.subscription_tags(alloc, name)?, name)
+}
+
+fn wants_append(
+    alloc: Global,
+    replica: &Replica,
+    stamp: &DateTime,
+    state: &State,
+    name: &Name,
+    flags: &Flags,
+    date: &Option<DateTime>,
+    text: &Octets,
+) -> Result<Vec<Kind>, Refusal>
+    ensures { Gives (λ kinds. kinds.items) result (when_known state.now (append_wants (is_there name.now replica.now.applied) name.now flags.now date.now stamp.now text.now)) }
+{
+    if !is_known(state) {
+        return Err(Refusal::NotNow);
+    }
+    append_wants(alloc, replica.exists(name), name, flags, date, stamp, text)
+}
+
+fn wants_close(alloc: Global, replica: &Replica, state: &State) -> Result<Vec<Kind>, Refusal>
+    ensures { Gives (λ kinds. kinds.items) result (when_selected state.now (λ view read_only. close_wants view.name (rows_for replica.now.start replica.now.applied view) read_only)) }
+{
+    let State::Selected { view, read_only } = state else {
+        return Err(Refusal::NotNow);
+    };
+    let rows = rows_before(alloc, replica, view)?;
+    close_wants(alloc, view.name(), &rows, *read_only)
+}
+
+fn wants_expunge(alloc: Global, replica: &Replica, state: &State) -> Result<Vec<Kind>, Refusal>
+    ensures { Gives (λ kinds. kinds.items) result (when_selected state.now (λ view read_only. expunge_wants view.name (rows_for replica.now.start replica.now.applied view) read_only)) }
+{
+    let State::Selected { view, read_only } = state else {
+        return Err(Refusal::NotNow);
+    };
+    let rows = rows_before(alloc, replica, view)?;
+    expunge_wants(alloc, view.name(), &rows, *read_only)
+}
+
+fn wants_uid_expunge(
+    alloc: Global,
+    replica: &Replica,
+    state: &State,
+    uids: &SequenceSet,
+) -> Result<Vec<Kind>, Refusal>
+    ensures { Gives (λ kinds. kinds.items) result (when_selected state.now (λ view read_only. uid_expunge_wants view.name (rows_for replica.now.start replica.now.applied view) view.entries read_only uids.now)) }
+{
+    let State::Selected { view, read_only } = state else {
+        return Err(Refusal::NotNow);
+    };
+    let rows = rows_before(alloc, replica, view)?;
+    uid_expunge_wants(alloc, view.name(), &rows, view, *read_only, uids)
+}
+
+fn wants_search(
+    alloc: Global,
+    state: &State,
+    steps: &[SearchStep],
+) -> Result<Vec<Kind>, Refusal>
+    ensures { Gives (λ kinds. kinds.items) result (when_selected state.now (λ view read_only. search_wants view.entries steps.now)) }
+{
+    let State::Selected { view, .. } = state else {
+        return Err(Refusal::NotNow);
+    };
+    search_wants(alloc, view, steps)
+}
+
+fn wants_fetch(
+    alloc: Global,
+    replica: &Replica,
+    state: &State,
+    by_uid: bool,
+    messages: &SequenceSet,
+    items: &[FetchItem],
+    changed_since: Option<u64>,
+) -> Result<Vec<Kind>, Refusal>
+    ensures { Gives (λ kinds. kinds.items) result (when_selected state.now (λ view read_only. fetch_wants view.name (rows_for replica.now.start replica.now.applied view) view.entries read_only by_uid messages.now items.now changed_since)) }
+{
+    let State::Selected { view, read_only } = state else {
+        return Err(Refusal::NotNow);
+    };
+    let rows = rows_before(alloc, replica, view)?;
+    fetch_wants(
+        alloc,
+        view.name(),
+        &rows,
+        view,
+        *read_only,
+        by_uid,
+        messages,
+        items,
+        changed_since,
+    )
+}
+
+fn wants_store(
+    alloc: Global,
+    replica: &Replica,
+    state: &State,
+    by_uid: bool,
+    messages: &SequenceSet,
+    unchanged_since: Option<u64>,
+    mode: StoreMode,
+    flags: &Flags,
+) -> Result<Vec<Kind>, Refusal>
+    ensures { Gives (λ kinds. kinds.items) result (when_selected state.now (λ view read_only. store_wants view.name (rows_for replica.now.start replica.now.applied view) view.entries read_only by_uid messages.now unchanged_since mode flags.now)) }
+{
+    let State::Selected { view, read_only } = state else {
+        return Err(Refusal::NotNow);
+    };
+    let rows = rows_before(alloc, replica, view)?;
+    store_wants(
+        alloc,
+        view.name(),
+        &rows,
+        view,
+        *read_only,
+        by_uid,
+        messages,
+        unchanged_since,
+        mode,
+        flags,
+    )
+}
+
+fn wants_copy(
+    alloc: Global,
+    replica: &Replica,
+    state: &State,
+    by_uid: bool,
+    messages: &SequenceSet,
+    name: &Name,
+) -> Result<Vec<Kind>, Refusal>
+    ensures { Gives (λ kinds. kinds.items) result (when_selected state.now (λ view read_only. copy_wants name.now (is_there name.now replica.now.applied) (rows_for replica.now.start replica.now.applied view) view.entries by_uid messages.now)) }
+{
+    let State::Selected { view, .. } = state else {
+        return Err(Refusal::NotNow);
+    };
+    let rows = rows_before(alloc, replica, view)?;
+    copy_wants(alloc, name, replica.exists(name), &rows, view, by_uid, messages)
+}
+
+fn wants_move(
+    alloc: Global,
+    replica: &Replica,
+    state: &State,
+    by_uid: bool,
+    messages: &SequenceSet,
+    name: &Name,
+) -> Result<Vec<Kind>, Refusal>
+    ensures { Gives (λ kinds. kinds.items) result (when_selected state.now (λ view read_only. move_wants view.name name.now (is_there name.now replica.now.applied) (rows_for replica.now.start replica.now.applied view) view.entries read_only by_uid messages.now)) }
+{
+    let State::Selected { view, read_only } = state else {
+        return Err(Refusal::NotNow);
+    };
+    let rows = rows_before(alloc, replica, view)?;
+    move_wants(
+        alloc,
+        view.name(),
+        name,
+        replica.exists(name),
+        &rows,
+        view,
+        *read_only,
+        by_uid,
+        messages,
+    )
+}
