@@ -141,12 +141,17 @@ IsRefused start ops state input why =
 
 -- ---- the response
 
+-- The held operations that stay where these are issued: all of them where none is.
+abbrev pub KeepsHeld : List Op → List Op → List Op → Type 0
+KeepsHeld [] old new = new ≡ old
+KeepsHeld (op ∷ ops) old new = AreKept (λ (o : Op). o.id) (op ∷ ops) old new
+
 -- The node issues operations, and its sessions are these then: the operations stand behind those applied, and a held one with the id of one
 -- of them is dropped.
 pub record Holds (old : NodeState) (ops : List Op) (sessions : Places) (new : NodeState) : Type 0 where
   pub start : new.start ≡ old.start
   pub applied : new.applied ≡ old.applied ++ ops
-  pub held : AreKept (λ (o : Op). o.id) ops old.held new.held
+  pub held : KeepsHeld ops old.held new.held
   pub sessions : new.sessions ≡ sessions
 
 -- An input is carried out, whole: what it wants is issued, and it is answered by what it comes to.

@@ -1,11 +1,13 @@
 //! A replica with its sessions.
 
-ghost use Rattle.std.specs.Prelude.{◌≡◌, ◌≢◌, ◌↔◌, ◌×◌, ℕ, ◌<◌, ◌≤◌, List, [], Err, IfOk, IsNone, IsSome, IsTrue, MatchResult, None, OnErr, Some};
+ghost use Rattle.std.specs.Prelude.{◌≡◌, ◌≢◌, ◌↔◌, ◌×◌, ℕ, ◌<◌, ◌≤◌, ◌++◌, List, [], Err, IfOk, IsNone, IsSome, IsTrue, MatchResult, None, OnErr, Some};
 ghost use Rattle.std.specs.Option.{option_copied};
-ghost use Rattle.causal_inbox.specs.Seen.{IsClockOf, held_limit, uncovered};
+ghost use Rattle.causal_inbox.specs.Seen.{AreIssued, IsClockOf, held_limit, uncovered};
 ghost use Rattle.crdt_ops.specs.Sets.{delete_set_of, folder_tags_of, folders_of, messages_of, subscribed_of, subscription_tags_of};
 ghost use Rattle.crdt_ops.specs.declared.op.Op.{Op as Operation};
-ghost use Rattle.imap_node.specs.Plans.{done_plan, next_left, plan_by};
+ghost use Rattle.imap_node.specs.Plans.{done_plan, next_left, place_next, plan_by};
+ghost use Rattle.imap_node.specs.Respond.{KeepsHeld};
+ghost use Rattle.imap_node.specs.Sessions.{IsOpen, session_at, with_session};
 ghost use Rattle.imap_node.specs.Rooms.{HasRoomFor};
 ghost use Rattle.imap_node.specs.declared.input.Input.TheVariants as inputs;
 
@@ -45,7 +47,7 @@ impl Model for Node {
 impl Node {
     ghost use Rattle.crdt_ops.specs.Sound.{IsSound};
     ghost use Rattle.imap_node.specs.Deliveries.{Delivers, Drains, HoldsRipe, IsOrderly, IsRefusedAt};
-    ghost use Rattle.imap_node.specs.Nodes.{IsIdle, closed};
+    ghost use Rattle.imap_node.specs.Nodes.{closed};
     ghost use Rattle.imap_node.specs.Plans.{CommitsTo, IsPlanned, Planned};
     ghost use Rattle.imap_node.specs.Respond.{Responds};
     ghost use Rattle.imap_node.specs.Sessions.{IsOpen, Opens, session_at};
@@ -164,7 +166,7 @@ impl Node {
             ops,
             next,
         } = plan;
-        self.replica.issue(ops.into_vec());
+        issue(&mut self.replica, ops);
         set_next(&mut self.sessions, number, next);
         reply
     }
@@ -242,6 +244,21 @@ impl Node {
     {
         &self.replica
     }
+}
+
+/// Issues the operations, if there are any.
+fn issue(replica: &mut Replica, ops: Issued)
+    requires room { HasRoomFor replica.old.applied replica.old.room ops }
+    requires issued { AreIssued (λ (o : Operation). o.id) (λ (o : Operation). o.clock) replica.old.applied ops }
+    ensures start { replica.new.start ≡ replica.old.start }
+    ensures applied { replica.new.applied ≡ replica.old.applied ++ ops }
+    ensures held { KeepsHeld ops replica.old.held replica.new.held }
+{
+    if ops.as_slice().is_empty() {
+        drop(ops);
+        return;
+    }
+    replica.issue(ops.into_vec());
 }
 
 /// Makes of an open session what was planned.
