@@ -1,6 +1,6 @@
 //! How STORE changes flags (RFC 9051, section 6.4.6).
 
-ghost use Rattle.std.specs.Prelude.{◌≡◌, ◌×◌, not, IfOk, IsTrue, OnOk};
+ghost use Rattle.std.specs.Prelude.{◌≡◌, not, IfOk, IsTrue, OnOk};
 ghost use Rattle.std.specs.List.{list_all};
 ghost use Rattle.imap_types.specs.Keywords.{has_keyword, is_lowered, with_text};
 ghost use Rattle.imap_commands.specs.Changing.{added_flags, changed_flags, remaining, removed_flags, united};

@@ -103,7 +103,7 @@ fn push_append(
     kinds.push(Kind::Append {
         folder,
         flags,
-        date: row.date.copy(),
+        date: row.shown_date(),
         text,
     })?;
     Ok(())

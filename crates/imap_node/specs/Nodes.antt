@@ -3,7 +3,8 @@ use Rattle.causal_inbox.specs.Seen.{Seen}
 use Rattle.crdt_ops.specs.declared.op.Op.{Op}
 use Rattle.imap_commands.specs.declared.session.Session.{Session}
 use Rattle.imap_commands.specs.declared.session.State.TheVariants.{LoggedOut}
-use Rattle.imap_node.specs.Rooms.{Room}
+use Rattle.imap_node.specs.Operations.{CanFollow}
+use Rattle.imap_node.specs.Rooms.{HasRoomFor, Room}
 use Rattle.imap_node.specs.Sessions.{Places, session_at, with_session}
 use Rattle.uid_projection.specs.declared.start.Start.{Start}
 
@@ -31,6 +32,12 @@ pub record ReplicaKept : Type 0 where
 abbrev pub received : NodeState → Seen Start Op
 received node = record { start = node.start; applied = node.applied; held = node.held }
 
+-- The replica can issue these operations: they come behind those applied, no counter is at its end for them, and there is room.
+pub record IsReady (replica : ReplicaKept) (ops : List Op) : Type 0 where
+  pub follow : CanFollow replica.start replica.applied ops
+  pub room : HasRoomFor replica.applied replica.room ops
+
+-- What a replica received.
 abbrev pub replica_received : ReplicaKept → Seen Start Op
 replica_received replica = record { start = replica.start; applied = replica.applied; held = replica.held }
 

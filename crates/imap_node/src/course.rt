@@ -3,7 +3,7 @@
 ghost use Rattle.std.specs.Prelude.{◌≡◌, ◌++◌, ◌∷◌, [], IfOk, OnOk, Some};
 ghost use Rattle.imap_answers.specs.declared.answer.Answer.TheVariants.{Completed};
 ghost use Rattle.imap_node.specs.Commands.{highest_of, highest_told, notice, turns_on};
-ghost use Rattle.imap_node.specs.Operations.{CanFollow};
+ghost use Rattle.imap_node.specs.Nodes.{IsReady};
 ghost use Rattle.imap_node.specs.Respond.{CommandTakes, TakesCourse, begun, condstore_after, idle_tail, idling_after, synced_course, tail_of, told_course};
 
 use crate::ending::moves_to;
@@ -53,7 +53,7 @@ pub fn course_of(
     session: &Session,
     input: &Input,
 ) -> Result<Course, AllocError>
-    requires { CanFollow replica.now.start replica.now.applied ops.now }
+    requires { IsReady replica.now ops.now }
     ensures { IfOk result (λ course. TakesCourse replica.now.start replica.now.applied (replica.now.applied ++ ops.now) session.now input.now course) }
 {
     match input {
@@ -114,7 +114,7 @@ fn command_course(
     session: &Session,
     tagged: &Tagged,
 ) -> Result<Course, AllocError>
-    requires { CanFollow replica.now.start replica.now.applied ops.now }
+    requires { IsReady replica.now ops.now }
     ensures { IfOk result (λ course. CommandTakes replica.now.start replica.now.applied (replica.now.applied ++ ops.now) session.now tagged.now course) }
 {
     let Tagged { tag, command } = tagged;
@@ -183,7 +183,7 @@ fn notice(
     session: &Session,
     command: &Command,
 ) -> Result<Vec<Answer>, AllocError>
-    requires { CanFollow replica.now.start replica.now.applied ops.now }
+    requires { IsReady replica.now ops.now }
     ensures { IfOk result (λ first. first.items ≡ notice replica.now.start (replica.now.applied ++ ops.now) session.now.state session.now.condstore command.now) }
 {
     if !turns_on(session, command) {
@@ -204,7 +204,7 @@ fn highest_of(
     ops: &[SoundOp],
     state: &State,
 ) -> Result<Vec<Answer>, AllocError>
-    requires { CanFollow replica.now.start replica.now.applied ops.now }
+    requires { IsReady replica.now ops.now }
     ensures { IfOk result (λ first. first.items ≡ highest_of replica.now.start (replica.now.applied ++ ops.now) state.now) }
 {
     match state {

@@ -5,7 +5,7 @@ ghost use Rattle.imap_commands.specs.declared.session.State.TheVariants.{Selecte
 ghost use Rattle.imap_node.specs.Commands.{moves_to};
 ghost use Rattle.imap_node.specs.Endings.{answers_by, ending, synced_by};
 ghost use Rattle.imap_node.specs.Mailboxes.{rows_for, validity_of};
-ghost use Rattle.imap_node.specs.Operations.{CanFollow};
+ghost use Rattle.imap_node.specs.Nodes.{IsReady};
 ghost use Rattle.session_view.specs.Replay.{replayed};
 ghost use Rattle.session_view.specs.Views.{AreRising};
 
@@ -28,7 +28,7 @@ pub fn moves_to(
     state: &State,
     command: &Command,
 ) -> Result<State, AllocError>
-    requires { CanFollow replica.now.start replica.now.applied ops.now }
+    requires { IsReady replica.now ops.now }
     ensures { IfOk result (λ moved. moved ≡ moves_to replica.now.start (replica.now.applied ++ ops.now) state.now command.now) }
 {
     match command {
@@ -49,7 +49,7 @@ fn selected(
     name: &Name,
     read_only: bool,
 ) -> Result<State, AllocError>
-    requires { CanFollow replica.now.start replica.now.applied ops.now }
+    requires { IsReady replica.now ops.now }
     ensures { IfOk result (λ state. state ≡ Selected (record { name = name.now; uidvalidity = validity_of replica.now.start name.now (replica.now.applied ++ ops.now); entries = [] }) read_only) }
 {
     let uidvalidity = validity_after(replica, ops, name);
@@ -70,7 +70,7 @@ pub fn ending(
     silent: &[Silent],
     own: &[Answer],
 ) -> Result<(Vec<Answer>, State), AllocError>
-    requires { CanFollow replica.now.start replica.now.applied ops.now }
+    requires { IsReady replica.now ops.now }
     ensures answers { IfOk result (λ e. e.0.items ≡ (ending replica.now.start (replica.now.applied ++ ops.now) sync modseq state silent.now own.now).answers) }
     ensures state { IfOk result (λ e. e.1 ≡ (ending replica.now.start (replica.now.applied ++ ops.now) sync modseq state silent.now own.now).state) }
 {

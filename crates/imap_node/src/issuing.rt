@@ -6,8 +6,8 @@ ghost use Rattle.crdt_ops.specs.Sound.{IsSound};
 ghost use Rattle.crdt_ops.specs.declared.kind.Kind.{Kind as Action};
 ghost use Rattle.crdt_ops.specs.declared.op.Op.{Op as Operation};
 ghost use Rattle.imap_answers.specs.declared.words.Refusal.TheVariants.{NoMemory, NumberUsedUp};
-ghost use Rattle.imap_node.specs.Operations.{AreNext, CanFollow, CanIssueAll, CanIssueBy, IsNext, IsNotReady, NumbersEnd};
-ghost use Rattle.imap_node.specs.Rooms.{HasRoomFor};
+ghost use Rattle.imap_node.specs.Operations.{AreNext, CanIssueAll, CanIssueBy, IsNotReady, NumbersEnd};
+ghost use Rattle.imap_node.specs.Nodes.{IsReady};
 ghost use Rattle.merge_laws.specs.Orders.{AreSound};
 ghost use Rattle.tags_clocks.specs.Clock.{count_of};
 ghost use Rattle.uid_projection.specs.Exhaustion.{Exhausts};
@@ -30,9 +30,8 @@ pub fn readied(
     ensures start { replica.new.start ≡ replica.old.start }
     ensures applied { replica.new.applied ≡ replica.old.applied }
     ensures held { replica.new.held ≡ replica.old.held }
-    ensures room { IfOk result (λ ops. HasRoomFor replica.new.applied replica.new.room ops.items) }
+    ensures ready { IfOk result (λ ops. IsReady replica.new ops.items) }
     ensures next { IfOk result (λ ops. AreNext replica.old.start.replica replica.old.applied kinds.items ops.items) }
-    ensures follow { IfOk result (λ ops. CanFollow replica.old.start replica.old.applied ops.items) }
     ensures err { IfErr result (λ why. IsNotReady replica.old.start replica.old.applied kinds.items why) }
 {
     if !has_numbers(replica, kinds.len()) {
@@ -56,8 +55,7 @@ fn make_room(alloc: Global, replica: &mut Replica, ops: &[SoundOp]) -> Result<()
     ensures start { replica.new.start ≡ replica.old.start }
     ensures applied { replica.new.applied ≡ replica.old.applied }
     ensures held { replica.new.held ≡ replica.old.held }
-    ensures room { OnOk result (HasRoomFor replica.new.applied replica.new.room ops.now) }
-    ensures follow { OnOk result (CanFollow replica.old.start replica.old.applied ops.now) }
+    ensures ready { OnOk result (IsReady replica.new ops.now) }
     ensures err { IfErr result (λ why. (why ≡ NoMemory) ⊎ ((why ≡ NumberUsedUp) × Exhausts replica.old.start replica.old.applied ops.now)) }
 {
     let _list = replica.applied();

@@ -1,6 +1,6 @@
 //! A replica with its sessions.
 
-ghost use Rattle.std.specs.Prelude.{◌≡◌, ◌≢◌, ◌↔◌, ◌×◌, ℕ, ◌<◌, ◌≤◌, ◌++◌, List, [], Err, IfOk, IsNone, IsSome, IsTrue, MatchResult, None, OnErr, Some};
+ghost use Rattle.std.specs.Prelude.{◌≡◌, ◌≢◌, ◌↔◌, ℕ, ◌<◌, ◌≤◌, ◌++◌, List, [], Err, IfOk, IsNone, IsSome, IsTrue, MatchResult, None, OnErr, Some};
 ghost use Rattle.std.specs.Option.{option_copied};
 ghost use Rattle.causal_inbox.specs.Seen.{AreIssued, IsClockOf, held_limit, uncovered};
 ghost use Rattle.crdt_ops.specs.Sets.{delete_set_of, folder_tags_of, folders_of, messages_of, subscribed_of, subscription_tags_of};

@@ -5,7 +5,8 @@ ghost use Rattle.causal_inbox.specs.Seen.{AreIssued};
 ghost use Rattle.crdt_ops.specs.declared.op.Op.{Op as Operation};
 ghost use Rattle.imap_commands.specs.Gives.{Gives};
 ghost use Rattle.imap_node.specs.Endings.{answers_of_course};
-ghost use Rattle.imap_node.specs.Operations.{CanFollow, CanIssueAll};
+ghost use Rattle.imap_node.specs.Nodes.{IsReady};
+ghost use Rattle.imap_node.specs.Operations.{CanIssueAll};
 ghost use Rattle.imap_node.specs.Plans.{IsAnswered, Prepares};
 ghost use Rattle.imap_node.specs.Respond.{IsRefused, IsStamp, session_after, wants_of};
 ghost use Rattle.imap_node.specs.Rooms.{HasRoomFor};
@@ -130,12 +131,12 @@ fn finished(
     input: &Input,
     ops: Vec<SoundOp>,
 ) -> Result<Prepared, AllocError>
-    requires { CanFollow replica.now.start replica.now.applied ops.items }
+    requires { IsReady replica.now ops.items }
     ensures answered { IfOk result (λ p. IsAnswered replica.now.start replica.now.applied (replica.now.applied ++ ops.items) session.now input.now p.answered) }
     ensures ops { IfOk result (λ p. p.ops ≡ ops.items) }
     ensures copies { IfOk result (λ p. p.copies ≡ ops.items) }
 {
-    let answered = answered(alloc, replica, session, input, &ops)?;
+    let answered = answers_to(alloc, replica, session, input, &ops)?;
     let copies = copied_ops(alloc, &ops)?;
     Ok(Prepared {
         answered,
@@ -145,14 +146,14 @@ fn finished(
 }
 
 /// What an input is answered behind its operations, and what the session is then.
-fn answered(
+fn answers_to(
     alloc: Global,
     replica: &Replica,
     session: &Session,
     input: &Input,
     ops: &[SoundOp],
 ) -> Result<Answered, AllocError>
-    requires { CanFollow replica.now.start replica.now.applied ops.now }
+    requires { IsReady replica.now ops.now }
     ensures { IfOk result (λ a. IsAnswered replica.now.start replica.now.applied (replica.now.applied ++ ops.now) session.now input.now a) }
 {
     let course = course_of(alloc, replica, ops, session, input)?;
@@ -168,7 +169,7 @@ fn followed(
     input: &Input,
     course: Course,
 ) -> Result<Answered, AllocError>
-    requires { CanFollow replica.now.start replica.now.applied ops.now }
+    requires { IsReady replica.now ops.now }
     ensures answers { IfOk result (λ a. a.answers ≡ answers_of_course replica.now.start (replica.now.applied ++ ops.now) course) }
     ensures silent { IfOk result (λ a. a.silent ≡ course.silent) }
     ensures session { IfOk result (λ a. a.session ≡ session_after replica.now.start (replica.now.applied ++ ops.now) session.now input.now course) }

@@ -9,8 +9,7 @@ ghost use Rattle.crdt_ops.specs.Sound.{IsSound};
 ghost use Rattle.crdt_ops.specs.declared.op.Op.{Op as Operation};
 ghost use Rattle.folder_state.specs.Contents.{IsMadeBy};
 ghost use Rattle.folder_state.specs.Tables.{contents_of};
-ghost use Rattle.imap_node.specs.Nodes.{replica_received};
-ghost use Rattle.imap_node.specs.Operations.{CanFollow};
+ghost use Rattle.imap_node.specs.Nodes.{IsReady, replica_received};
 ghost use Rattle.imap_node.specs.Rooms.{HasRoomFor};
 ghost use Rattle.merge_laws.specs.Orders.{AreSound, IsCausal};
 ghost use Rattle.subs_state.specs.Subscriptions.{IsMadeBy as AreMadeBy};
@@ -228,7 +227,7 @@ impl Replica {
 
     /// The UIDVALIDITY that the mailbox has behind these operations.
     pub fn uidvalidity_after(&self, name: &Name, ops: &[SoundOp]) -> Option<u32>
-        requires { CanFollow self.now.start self.now.applied ops.now }
+        requires { IsReady self.now ops.now }
         ensures { result ≡ uidvalidity_of self.now.start name.now (self.now.applied ++ ops.now) }
     {
         self.charts_now().uidvalidity_after(self.folders_now(), name, ops)
@@ -236,7 +235,7 @@ impl Replica {
 
     /// The UIDNEXT that the mailbox has behind these operations.
     pub fn uidnext_after(&self, name: &Name, ops: &[SoundOp]) -> u32
-        requires { CanFollow self.now.start self.now.applied ops.now }
+        requires { IsReady self.now ops.now }
         ensures { result ≡ uidnext_of self.now.start name.now (self.now.applied ++ ops.now) }
     {
         self.charts_now().uidnext_after(self.folders_now(), name, ops)
@@ -244,7 +243,7 @@ impl Replica {
 
     /// The HIGHESTMODSEQ that the mailbox has behind these operations.
     pub fn highest_after(&self, name: &Name, ops: &[SoundOp]) -> u64
-        requires { CanFollow self.now.start self.now.applied ops.now }
+        requires { IsReady self.now ops.now }
         ensures { result ≡ highest_modseq_of name.now (self.now.applied ++ ops.now) }
     {
         self.charts_now().highest_after(self.folders_now(), name, ops)
@@ -257,7 +256,7 @@ impl Replica {
         name: &Name,
         ops: &'a [SoundOp],
     ) -> Result<Rows<'a>, AllocError>
-        requires { CanFollow self.now.start self.now.applied ops.now }
+        requires { IsReady self.now ops.now }
         ensures { IfOk result (λ rows. rows ≡ listing self.now.start name.now (self.now.applied ++ ops.now)) }
     {
         self.charts_now()

@@ -13,7 +13,7 @@ ghost use Rattle.imap_commands.specs.Selecting.{select_tells};
 ghost use Rattle.imap_commands.specs.Storing.{store_tells};
 ghost use Rattle.imap_node.specs.Commands.{SearchTellsSelected, Tells, is_selected, tells_selected};
 ghost use Rattle.imap_node.specs.Mailboxes.{marks_of, rows_for, validity_of};
-ghost use Rattle.imap_node.specs.Operations.{CanFollow};
+ghost use Rattle.imap_node.specs.Nodes.{IsReady};
 ghost use Rattle.uid_projection.specs.Lines.{uidnext_of};
 ghost use Rattle.uid_projection.specs.Listing.{listing};
 
@@ -42,7 +42,7 @@ pub fn tells(
     tag: &Octets,
     command: &Command,
 ) -> Result<Telling, AllocError>
-    requires { CanFollow replica.now.start replica.now.applied ops.now }
+    requires { IsReady replica.now ops.now }
     ensures { IfOk result (λ told. Tells replica.now.start replica.now.applied (replica.now.applied ++ ops.now) state.now modseq tag.now command.now told) }
 {
     match command {
@@ -150,7 +150,7 @@ pub fn rows_behind<'a>(
     ops: &'a [SoundOp],
     view: &View,
 ) -> Result<Rows<'a>, AllocError>
-    requires { CanFollow replica.now.start replica.now.applied ops.now }
+    requires { IsReady replica.now ops.now }
     ensures { IfOk result (λ rows. rows ≡ rows_for replica.now.start (replica.now.applied ++ ops.now) view.now) }
 {
     let rows = replica.rows_after(alloc, view.name(), ops)?;
@@ -171,7 +171,7 @@ pub fn rows_before<'a>(
 
 /// The UIDVALIDITY of a mailbox that is there behind these operations.
 pub fn validity_after(replica: &Replica, ops: &[SoundOp], name: &Name) -> u32
-    requires { CanFollow replica.now.start replica.now.applied ops.now }
+    requires { IsReady replica.now ops.now }
     ensures { result ≡ validity_of replica.now.start name.now (replica.now.applied ++ ops.now) }
 {
     replica.uidvalidity_after(name, ops).unwrap_or(0)
@@ -179,7 +179,7 @@ pub fn validity_after(replica: &Replica, ops: &[SoundOp], name: &Name) -> u32
 
 /// The numbers of a mailbox that is there behind these operations.
 fn marks_after(replica: &Replica, ops: &[SoundOp], name: &Name) -> Marks
-    requires { CanFollow replica.now.start replica.now.applied ops.now }
+    requires { IsReady replica.now ops.now }
     ensures { result ≡ marks_of replica.now.start name.now (replica.now.applied ++ ops.now) }
 {
     Marks {
@@ -197,7 +197,7 @@ fn tells_select(
     read_only: bool,
     name: &Name,
 ) -> Result<Telling, AllocError>
-    requires { CanFollow replica.now.start replica.now.applied ops.now }
+    requires { IsReady replica.now ops.now }
     ensures { IfOk result (λ told. told ≡ select_tells (is_selected state.now) read_only name.now (marks_of replica.now.start name.now (replica.now.applied ++ ops.now)) (listing replica.now.start name.now (replica.now.applied ++ ops.now))) }
 {
     let rows = replica.rows_after(alloc, name, ops)?;
@@ -212,7 +212,7 @@ fn tells_status(
     name: &Name,
     items: &[StatusItem],
 ) -> Result<Telling, AllocError>
-    requires { CanFollow replica.now.start replica.now.applied ops.now }
+    requires { IsReady replica.now ops.now }
     ensures { IfOk result (λ told. told ≡ status_tells name.now items.now (marks_of replica.now.start name.now (replica.now.applied ++ ops.now)) (listing replica.now.start name.now (replica.now.applied ++ ops.now))) }
 {
     let rows = replica.rows_after(alloc, name, ops)?;
@@ -221,7 +221,7 @@ fn tells_status(
 }
 
 fn tells_append(alloc: Global, replica: &Replica, ops: &[SoundOp], name: &Name) -> Telling
-    requires { CanFollow replica.now.start replica.now.applied ops.now }
+    requires { IsReady replica.now ops.now }
     ensures { result ≡ append_tells (validity_of replica.now.start name.now (replica.now.applied ++ ops.now)) (uidnext_of replica.now.start name.now replica.now.applied) }
 {
     append_tells(alloc, validity_after(replica, ops, name), replica.uidnext(name))
@@ -266,7 +266,7 @@ fn tells_search(
     options: &[SearchOption],
     steps: &[SearchStep],
 ) -> Result<Telling, AllocError>
-    requires { CanFollow replica.now.start replica.now.applied ops.now }
+    requires { IsReady replica.now ops.now }
     ensures { IfOk result (λ told. SearchTellsSelected replica.now.start (replica.now.applied ++ ops.now) state.now (λ view rows telling. SearchTells rows view.entries tag.now by_uid options.now steps.now telling) told) }
 {
     let State::Selected { view, .. } = state else {
@@ -287,7 +287,7 @@ fn tells_fetch(
     items: &[FetchItem],
     changed_since: Option<u64>,
 ) -> Result<Telling, AllocError>
-    requires { CanFollow replica.now.start replica.now.applied ops.now }
+    requires { IsReady replica.now ops.now }
     ensures { IfOk result (λ told. told ≡ tells_selected state.now (λ view read_only. fetch_tells (rows_for replica.now.start replica.now.applied view) (rows_for replica.now.start (replica.now.applied ++ ops.now) view) view.entries read_only modseq by_uid messages.now items.now changed_since)) }
 {
     let State::Selected { view, read_only } = state else {
@@ -321,7 +321,7 @@ fn tells_store(
     action: StoreAction,
     flags: &Flags,
 ) -> Result<Telling, AllocError>
-    requires { CanFollow replica.now.start replica.now.applied ops.now }
+    requires { IsReady replica.now ops.now }
     ensures { IfOk result (λ told. told ≡ tells_selected state.now (λ view read_only. store_tells (rows_for replica.now.start replica.now.applied view) (rows_for replica.now.start (replica.now.applied ++ ops.now) view) view.entries modseq by_uid messages.now unchanged_since action.mode action.silent flags.now)) }
 {
     let State::Selected { view, .. } = state else {
@@ -353,7 +353,7 @@ fn tells_copy(
     messages: &SequenceSet,
     name: &Name,
 ) -> Result<Telling, AllocError>
-    requires { CanFollow replica.now.start replica.now.applied ops.now }
+    requires { IsReady replica.now ops.now }
     ensures { IfOk result (λ told. told ≡ tells_selected state.now (λ view read_only. copy_tells (rows_for replica.now.start replica.now.applied view) view.entries by_uid messages.now (validity_of replica.now.start name.now (replica.now.applied ++ ops.now)) (uidnext_of replica.now.start name.now replica.now.applied) (listing replica.now.start name.now (replica.now.applied ++ ops.now)))) }
 {
     let State::Selected { view, .. } = state else {
@@ -383,7 +383,7 @@ fn tells_move(
     messages: &SequenceSet,
     name: &Name,
 ) -> Result<Telling, AllocError>
-    requires { CanFollow replica.now.start replica.now.applied ops.now }
+    requires { IsReady replica.now ops.now }
     ensures { IfOk result (λ told. told ≡ tells_selected state.now (λ view read_only. move_tells (rows_for replica.now.start replica.now.applied view) view.entries by_uid messages.now (validity_of replica.now.start name.now (replica.now.applied ++ ops.now)) (uidnext_of replica.now.start name.now replica.now.applied) (listing replica.now.start name.now (replica.now.applied ++ ops.now)))) }
 {
     let State::Selected { view, .. } = state else {
