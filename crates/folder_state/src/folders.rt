@@ -2,6 +2,7 @@
 
 use crate::changes::{forget_removed_messages, forget_removed_tags, keep_added};
 use crate::later::{has_folder_after, has_message_at, message_after};
+use crate::lending::{LentMessage, lent_message};
 use crate::lookups::{all_ids, folder_names, has_folder, message_ids, tag_ids};
 use crate::reading::messages_at;
 use crate::tables::{FolderEntry, LetterEntry, MessageEntry};
@@ -22,17 +23,19 @@ pub struct Folders {
 }
 
 impl Folders {
-    ghost use Rattle.std.specs.Prelude.{◌≡◌, ◌↔◌, List, IfOk, IsTrue, true};
+    ghost use Rattle.std.specs.Prelude.{◌≡◌, ◌↔◌, List, None, IfOk, IsTrue, true, if◌then◌else◌};
+    ghost use Rattle.std.specs.Option.{option_map};
     ghost use Rattle.imap_types.specs.Ascending.{compared};
     ghost use Rattle.std.specs.Prelude.{◌++◌};
     ghost use Rattle.merge_laws.specs.Orders.{AreSound, IsCausal, IsIn};
     ghost use Rattle.crdt_ops.specs.Sound.{IsSound};
     ghost use Rattle.crdt_ops.specs.Tags.{MessageTag, is_present};
     ghost use Rattle.folder_state.specs.Later.{after, has_body};
+    ghost use Rattle.folder_state.specs.Lending.{lent};
     ghost use Rattle.crdt_ops.specs.declared.op.Op.{Op as Operation};
     ghost use Rattle.crdt_ops.specs.Order.{IsListOf, id_order};
-    ghost use Rattle.crdt_ops.specs.Sets.{delete_set_of, folder_tags_of, folders_of, messages_of};
-    ghost use Rattle.folder_state.specs.Contents.{AreMessages, HasTag, IsFolder, IsMadeBy, no_contents};
+    ghost use Rattle.crdt_ops.specs.Sets.{delete_set_of, folder_tags_of, folders_of, message_of, messages_of};
+    ghost use Rattle.folder_state.specs.Contents.{AreMessages, HasTag, IsFolder, IsMadeBy, message_in, no_contents};
     ghost use Rattle.folder_state.specs.Tables.{contents_of};
 
     /// No folders but INBOX, no messages, and no memory.
@@ -71,6 +74,21 @@ impl Folders {
         ensures set { (list : List Operation) → IsMadeBy (contents_of self.now) list → AreSound IsSound (list ++ ops.now) → IsCausal (λ (o : Operation). o.id) (λ o. o.clock) (list ++ ops.now) → result ≡ is_present (list ++ ops.now) (MessageTag folder.now id.now) }
     {
         message_after(ops, folder, id, has_message_at(&self.messages, folder, id))
+    }
+
+    /// The folder's message with this id after these operations, applied in this order, lent by the folders and the
+    /// operations; None where it isn't there then. Takes no memory. Cost: one pass over the messages, the texts and the
+    /// operations.
+    pub fn message_after<'a>(
+        &'a self,
+        folder: &Name,
+        id: &OpId,
+        ops: &'a [SoundOp],
+    ) -> Option<LentMessage<'a>>
+        ensures contents { option_map lent result ≡ message_in (after (contents_of self.now) ops.now) folder.now id.now }
+        ensures set { (list : List Operation) → IsMadeBy (contents_of self.now) list → AreSound IsSound (list ++ ops.now) → IsCausal (λ (o : Operation). o.id) (λ o. o.clock) (list ++ ops.now) → option_map lent result ≡ (if is_present (list ++ ops.now) (MessageTag folder.now id.now) then message_of (list ++ ops.now) folder.now id.now else None) }
+    {
+        lent_message(&self.messages, &self.letters, ops, folder, id)
     }
 
     /// The names of the folders that are there, ascending by octets, INBOX among them; `Err` where there is no memory for

@@ -42,7 +42,7 @@ fn removes_tag(op: &Op, folder: &Name, id: OpId) -> bool
 }
 
 /// Whether the operation adds the message tag.
-fn adds_message(op: &Op, folder: &Name, id: OpId) -> bool
+pub fn adds_message(op: &Op, folder: &Name, id: OpId) -> bool
     ensures { result ≡ adds (MessageTag folder.now id) op.now }
 {
     match &op.kind {
@@ -53,7 +53,7 @@ fn adds_message(op: &Op, folder: &Name, id: OpId) -> bool
 }
 
 /// Whether the operation removes the message tag.
-fn removes_message(op: &Op, folder: &Name, id: OpId) -> bool
+pub fn removes_message(op: &Op, folder: &Name, id: OpId) -> bool
     ensures { result ≡ removes (MessageTag folder.now id) op.now }
 {
     match &op.kind {

@@ -8,9 +8,11 @@ mod changes;
 mod folders;
 mod later;
 mod laws;
+mod lending;
 mod lookups;
 mod reading;
 mod tables;
 
 pub use folders::Folders;
 pub use laws::{contents_follow_the_set, folders_for_all_orders};
+pub use lending::LentMessage;

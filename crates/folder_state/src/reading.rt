@@ -31,7 +31,11 @@ pub fn messages_at(
 }
 
 /// The message tag of this folder and id.
-fn entry_at<'a>(entries: &'a [MessageEntry], folder: &Name, id: &OpId) -> Option<&'a MessageEntry>
+pub fn entry_at<'a>(
+    entries: &'a [MessageEntry],
+    folder: &Name,
+    id: &OpId,
+) -> Option<&'a MessageEntry>
     ensures { MatchOption result (body_in entries.now folder.now id.now ≡ None) (λ entry. body_in entries.now folder.now id.now ≡ Some (record { flags = entry.now.flags; origin = entry.now.origin })) }
 {
     for entry in entries {
@@ -72,7 +76,7 @@ fn message(
 }
 
 /// The date and text of the Append with this id.
-fn letter_at(letters: &[LetterEntry], id: OpId) -> Option<&LetterEntry>
+pub fn letter_at(letters: &[LetterEntry], id: OpId) -> Option<&LetterEntry>
     ensures { MatchOption result (letter_in letters.now id ≡ None) (λ letter. letter_in letters.now id ≡ Some (record { date = letter.now.date; text = letter.now.text })) }
 {
     for letter in letters {

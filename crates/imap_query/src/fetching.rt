@@ -118,7 +118,7 @@ fn items_of(
     Ok(FetchItems {
         uid: tells_uid(items, mode).then_some(row.uid),
         flags,
-        date: date_where(asks(items, Part::Date), row.date),
+        date: date_where(asks(items, Part::Date), &row.shown_date()),
         size: asks(items, Part::Size).then_some(row.text.len() as u64),
         modseq: tells_modseq(items, mode, tells_flags).then_some(row.modseq),
         sections,

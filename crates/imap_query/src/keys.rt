@@ -94,7 +94,7 @@ fn is_so(
         SearchTest::Header { name, text } => {
             field_contains_nocase(alloc, row.text, name.as_bytes(), text.as_bytes())
         }
-        SearchTest::Dated { order, day } => Ok(is_dated(*order, *day, row.date)),
+        SearchTest::Dated { order, day } => Ok(is_dated(*order, *day, &row.shown_date())),
         SearchTest::Larger { octets } => Ok((row.text.len() as u64) > *octets),
         SearchTest::Smaller { octets } => Ok((row.text.len() as u64) < *octets),
         SearchTest::ModSeq { value } => Ok(row.modseq >= *value),

@@ -131,7 +131,7 @@ fn row_of<'a>(message: &'a Message, is_after: bool) -> Option<Row<'a>> {
         id: some_id()?,
         origin: some_id()?,
         flags: &standing.flags,
-        date: &message.date,
+        date: Some(&message.date),
         text: message.text.as_bytes(),
     })
 }

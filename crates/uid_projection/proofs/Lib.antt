@@ -14,3 +14,6 @@ pub mod RowLemmas
 pub mod Asked
 pub mod Coming
 pub mod Noted
+pub mod LaterCharts
+pub mod LaterNumbers
+pub mod ListingLaws

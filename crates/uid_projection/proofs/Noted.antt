@@ -63,6 +63,7 @@ nobody o f folder = false_from_ne_true (concerns_by folder o.kind) (λ t. false�
 
 pub unmoved : (x : Charts) (list : List Op) (o : Op) → concerns_by (name_of o.kind) o.kind ≡ false → Follows x list → IsReadyFor x list (o ∷ []) → Follows x (list ++ o ∷ [])
 unmoved x list o f w r = record {
+  first = w.first;
   applied = r.applied;
   table = table_unmoved x.start list o r.applied x.charts.items x.next_k (nobody o f) w.table;
 }
@@ -117,6 +118,11 @@ validity_at start list k charts name t at c r l is own other away there =
 
 pub validity_gone : (start : Start) (list : List Op) (name : List ℕ) → bytes_eq name inbox ≡ false → is_there name list ≡ false → ◌≡◌ {A = Option ℕ} None (uidvalidity_of start name list)
 validity_gone start list name other gone = (λ i. cond (sym other i) (Some start.replica) (cond (sym gone i) (Some (65536 * k_of start name list + start.replica)) None))
+
+pub validity_there : (start : Start) (list : List Op) (name : List ℕ) → bytes_eq name inbox ≡ false → is_there name list ≡ true → (k : ℕ) → k ≡ k_of start name list → ◌≡◌ {A = Option ℕ} (Some (65536 * k + start.replica)) (uidvalidity_of start name list)
+validity_there start list name other there k is =
+    (λ i. Some (65536 * is i + start.replica))
+    ∙ (λ i. cond (sym other i) (Some start.replica) (cond (sym there i) (Some (65536 * k_of start name list + start.replica)) None))
 
 pub validity_inbox : (start : Start) (list : List Op) (name : List ℕ) → bytes_eq name inbox ≡ true → ◌≡◌ {A = Option ℕ} (Some start.replica) (uidvalidity_of start name list)
 validity_inbox start list name own = (λ i. cond (sym own i) (Some start.replica) (cond (is_there name list) (Some (65536 * k_of start name list + start.replica)) None))

@@ -96,14 +96,15 @@ fn begins_line(value: &Folders, folder: &Name, front: &[SoundOp], op: &Op) -> bo
     }
 }
 
-fn same(folder: &Name, other: &Name) -> bool
+/// Whether both are one name.
+pub fn same(folder: &Name, other: &Name) -> bool
     ensures { result ≡ bytes_eq folder.now other.now }
 {
     folder.as_bytes() == other.as_bytes()
 }
 
 /// The UID that the folder's next line gets after these operations, where `now` is that which it gets before them.
-fn uid_after(value: &Folders, folder: &Name, first: u32, now: u32, ops: &[SoundOp]) -> u64
+pub fn uid_after(value: &Folders, folder: &Name, first: u32, now: u32, ops: &[SoundOp]) -> u64
     ensures { (start : First) (list : List Operation) → IsApplied (list ++ ops.now) → IsMadeBy (contents_of value.now) list → first ≡ first_uid start folder.now → now ≡ uidnext_of start folder.now list → result ≡ uidnext_of start folder.now (list ++ ops.now) }
 {
     let mut uid = u64::from(now);
@@ -137,7 +138,7 @@ fn lacks_k(next_k: u32, value: &Folders, front: &[SoundOp], through: &[SoundOp],
 }
 
 /// Whether an incarnation would begin with it.
-fn begins(value: &Folders, front: &[SoundOp], through: &[SoundOp], op: &Op) -> bool
+pub fn begins(value: &Folders, front: &[SoundOp], through: &[SoundOp], op: &Op) -> bool
     ensures { (list : List Operation) → through.now ≡ front.now ++ op.now ∷ [] → IsApplied (list ++ through.now) → IsMadeBy (contents_of value.now) list → result ≡ begins (list ++ front.now) op.now }
 {
     let folder = op.kind.name();

@@ -104,7 +104,7 @@ fn place_for(
 }
 
 /// The chart of a folder that isn't there.
-fn away(alloc: Global, start: &Start, folder: &Name) -> Result<Chart, AllocError>
+pub fn away(alloc: Global, start: &Start, folder: &Name) -> Result<Chart, AllocError>
     ensures { IfOk result (λ c. (c.folder ≡ folder.now) × (c.there ≡ false) × IsAway start.now c) }
 {
     Ok(Chart {
@@ -118,7 +118,7 @@ fn away(alloc: Global, start: &Start, folder: &Name) -> Result<Chart, AllocError
 }
 
 /// Makes room for so many operations in the chart. (No memory holds as many operations as a mod-sequence has numbers.)
-fn make_room_in(chart: &mut Chart, more: usize) -> Result<(), AllocError>
+pub fn make_room_in(chart: &mut Chart, more: usize) -> Result<(), AllocError>
     ensures same { IsSame chart.old chart.new }
     ensures ok { OnOk result (IsRoomy more chart.new) }
 {

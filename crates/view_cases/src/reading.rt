@@ -141,7 +141,7 @@ fn row_of<'a>(message: &'a Message, date: &'a DateTime) -> Option<Row<'a>> {
         id: some_id()?,
         origin: some_id()?,
         flags: &message.flags,
-        date,
+        date: Some(date),
         text: b"",
     })
 }

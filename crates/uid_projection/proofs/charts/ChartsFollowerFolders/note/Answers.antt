@@ -29,6 +29,7 @@ returns-then-names_folder-clause-follows c = λ list f r d m.
     let there = there_as n (list ++ o ∷ []) c.exists-there.result (c.exists-there.ensures.set (list ++ o ∷ []) (made_by (contents_of c.args.value.now) (list ++ o ∷ []) r.applied m)) in
     let next = next_on c.args.self.now list o p c.exists-there.result e f r (there ∙ (λ i. is_there (c.name.ensures i) (list ++ sym e i ∷ []))) in
     record {
+      first = f.first;
       applied = r.applied;
       table = subst (λ (q : Op). IsTable c.args.self.now.start (list ++ q ∷ []) c.note_on.new.next_k c.note_on.new.charts.items) e (c.note_on.ensures.next list next);
     }

@@ -11,7 +11,7 @@ returns-then-exhausts-clause-exhausted c = λ list f d m.
     (λ k. h.0 c.if-exhausts.true, λ x. cc)
 
 pub returns-in-Ok-clause-follows : goal.returns-in-Ok-clause-follows
-returns-in-Ok-clause-follows c = λ list f. record { applied = f.applied; table = c.make_rooms.ensures.table list c.args.self.now.next_k f.table }
+returns-in-Ok-clause-follows c = λ list f. record { first = f.first; applied = f.applied; table = c.make_rooms.ensures.table list c.args.self.now.next_k f.table }
 
 pub returns-in-Ok-clause-ready : goal.returns-in-Ok-clause-ready
 returns-in-Ok-clause-ready c = λ list f d m.
@@ -29,7 +29,7 @@ returns-in-Ok-clause-exhausted c = λ list f d m.
     (λ k. absurd cc, λ x. absurd (false≢true (sym c.if-exhausts.false ∙ h.1 x)))
 
 pub returns-in-Err-clause-follows : goal.returns-in-Err-clause-follows
-returns-in-Err-clause-follows c = λ list f. record { applied = f.applied; table = c.make_rooms.ensures.table list c.args.self.now.next_k f.table }
+returns-in-Err-clause-follows c = λ list f. record { first = f.first; applied = f.applied; table = c.make_rooms.ensures.table list c.args.self.now.next_k f.table }
 
 pub returns-in-Err-clause-exhausted : goal.returns-in-Err-clause-exhausted
 returns-in-Err-clause-exhausted c = λ list f d m.

@@ -1,0 +1,24 @@
+use Rattle.std.specs.Option.{option_map, unwrap_or}
+use Rattle.crdt_ops.specs.declared.message.Message.{Message}
+use Rattle.crdt_ops.specs.Sets.{Body, Letter, no_letter}
+use Rattle.folder_state.specs.declared.lending.LentBody.{LentBody}
+use Rattle.folder_state.specs.declared.lending.LentLetter.{LentLetter}
+use Rattle.folder_state.specs.declared.lending.LentMessage.{LentMessage}
+
+-- What is lent of a message tag.
+abbrev pub borne : LentBody → Body
+borne body = record { flags = body.flags.now; origin = body.origin }
+
+-- The date and text that are lent.
+abbrev pub written : LentLetter → Letter
+written letter = record { date = letter.date.now; text = letter.text.now }
+
+-- The message that is lent.
+abbrev pub lent : LentMessage → Message
+lent message = record {
+  id = message.id;
+  origin = message.origin;
+  flags = message.flags.now;
+  date = unwrap_or (option_map (λ date. date.now) message.date) no_letter.date;
+  text = message.text.now;
+}

@@ -1,0 +1,177 @@
+use Rattle.std.proofs.Common.{◌≡◌, ◌⊎◌, inl, inr, ℕ, ◌+◌, ◌<◌, ◌≤◌, Bool, true, false, cond, not, ◌&&◌, List, [], ◌∷◌, ◌++◌, length, refl, sym, ap, ◌∙◌, subst, append_assoc, append-nil, arith}
+use Rattle.std.specs.List.{list_any}
+use Rattle.std.proofs.lemmas.Bool.{and_parts, cases_Bool, cases_eq, cases_lt, false≢true, or_parts}
+use Rattle.imap_types.specs.Names.{inbox}
+use Rattle.merge_laws.specs.Orders.{IsIn}
+use Rattle.crdt_ops.specs.declared.op.Op.{Op}
+use Rattle.crdt_ops.specs.Tags.{MessageTag, adds, name_of}
+use Rattle.crdt_ops.proofs.Members.{any_in}
+use Rattle.uid_projection.specs.declared.chart.Chart.{Chart}
+use Rattle.uid_projection.specs.declared.charts.Charts.{Charts}
+use Rattle.uid_projection.specs.declared.start.Start.{Start}
+use Rattle.uid_projection.specs.Applied.{IsApplied}
+use Rattle.uid_projection.specs.Exhaustion.{Exhausts, IsExhausted}
+use Rattle.uid_projection.specs.Following.{Follows, IsReadyFor}
+use Rattle.uid_projection.specs.History.{counted_all}
+use Rattle.uid_projection.specs.Incarnations.{begins, is_there, k_of}
+use Rattle.uid_projection.specs.Lines.{begins_line, concerns_by, first_uid, highest_modseq_of, is_none, replaced, uidnext_of}
+use Rattle.uid_projection.specs.Table.{IsTable}
+use Rattle.uid_projection.proofs.Coming.{behind}
+use Rattle.uid_projection.proofs.HistoryLemmas.{once}
+use Rattle.uid_projection.proofs.Lasting.{about_name, begun}
+use Rattle.uid_projection.proofs.LaterCharts.{shown}
+use Rattle.uid_projection.proofs.Presence.{adds_about, applied_front, other_there}
+use Rattle.uid_projection.proofs.Steps.{highest_gone, highest_here, k_here, k_none, uidnext_gone, uidnext_here}
+
+-- ---- where none lacks a number, none of the others does behind the first
+
+first_lasts : (start : Start) (list rest : List Op) (o : Op) → (Exhausts start list (o ∷ rest) → ⊥) → IsExhausted start list o → ⊥
+first_lasts start list rest o lasts h = lasts ([], o, rest, refl, subst (λ (xs : List Op). IsExhausted start xs o) (sym (append-nil list)) h)
+
+others_last : (start : Start) (list rest : List Op) (o : Op) → (Exhausts start list (o ∷ rest) → ⊥) → Exhausts start (list ++ o ∷ []) rest → ⊥
+others_last start list rest o lasts (front, p, back, k, h) =
+    lasts (o ∷ front, p, back, ap (λ xs. o ∷ xs) k, subst (λ (xs : List Op). IsExhausted start xs p) (append_assoc list (o ∷ []) front) h)
+
+others_applied : (list rest : List Op) (o : Op) → IsApplied (list ++ o ∷ rest) → IsApplied ((list ++ o ∷ []) ++ rest)
+others_applied list rest o a = subst IsApplied (sym (append_assoc list (o ∷ []) rest)) a
+
+-- ---- UIDNEXT
+
+once_most : (b : Bool) → once b ≤ 1
+once_most true = omega arith
+once_most false = omega arith
+
+-- a line takes the next UID, which isn't the last number
+line_within : (start : Start) (folder : List ℕ) (list : List Op) (o : Op) → uidnext_of start folder list ≤ 4294967295 → (IsExhausted start list o → ⊥) → uidnext_of start folder list + once (begins_line folder list o) ≤ 4294967295
+line_within start folder list o l lasts =
+    elim (cases_Bool (begins_line folder list o)) [
+      | inl t ↦
+          let own : folder ≡ name_of o.kind = about_name folder o.kind (adds_about folder o.id o.id o.kind (inr (and_parts (adds (MessageTag folder o.id) o) (is_none (replaced folder list o)) t).0)) in
+          let e : once (begins_line folder list o) ≡ 1 = ap once t in
+          elim (cases_eq (uidnext_of start folder list) 4294967295) [
+            | inl k ↦ absurd (lasts (inl (subst (λ n. begins_line n list o ≡ true) own t, ap (λ n. uidnext_of start n list) (sym own) ∙ k)))
+            | inr n ↦ omega (arith, e, l, n)
+          ]
+      | inr f ↦ let e : once (begins_line folder list o) ≡ 0 = ap once f in omega (arith, e, l)
+    ]
+
+pub uidnext_within : (start : Start) (folder : List ℕ) (ops list : List Op) → uidnext_of start folder list ≤ 4294967295 → first_uid start folder ≤ 4294967295 → (Exhausts start list ops → ⊥) → uidnext_of start folder (list ++ ops) ≤ 4294967295
+uidnext_within start folder [] list u f lasts = let e = ap (uidnext_of start folder) (append-nil list) in omega (arith, u, e)
+uidnext_within start folder (o ∷ ops) list u f lasts =
+    let e = ap (uidnext_of start folder) (append_assoc list (o ∷ []) ops) in
+    let step : uidnext_of start folder (list ++ o ∷ []) ≤ 4294967295 = elim (cases_Bool (is_there folder (list ++ o ∷ []))) [
+      | inl t ↦
+          let h = uidnext_here start folder list o t in
+          let w = line_within start folder list o u (first_lasts start list ops o lasts) in
+          omega (arith, h, w)
+      | inr g ↦ let h = uidnext_gone start folder list o g in omega (arith, h, f)
+    ] in
+    let r = uidnext_within start folder ops (list ++ o ∷ []) step f (others_last start list ops o lasts) in
+    omega (arith, r, e)
+
+-- ---- UIDVALIDITY
+
+pub k_told_behind : (start : Start) (folder : List ℕ) (list front through : List Op) (o : Op) (there : Bool) (k next r : ℕ) → through ≡ front ++ o ∷ [] → there ≡ is_there folder (list ++ through) → k ≡ k_of start folder (list ++ front) → next ≡ start.k + counted_all begins (list ++ through) → r ≡ cond there k next → r ≡ k_of start folder (list ++ through)
+k_told_behind start folder list front through o there k next r e x y z h =
+    let w = behind list front through o e in
+    h ∙ elim (cases_Bool there) [
+      | inl t ↦ (λ i. cond (t i) k next) ∙ y ∙ sym (k_here start folder (list ++ front) o (sym (ap (is_there folder) w) ∙ sym x ∙ t)) ∙ sym (ap (k_of start folder) w)
+      | inr f ↦ (λ i. cond (f i) k next) ∙ z ∙ sym (k_none start folder (list ++ through) (sym x ∙ f))
+    ]
+
+module _ (start : Start) (folder : List ℕ) (other : folder ≡ inbox → ⊥) where
+  -- the k of an incarnation is small
+  pub k_within_after : (ops list : List Op) → IsApplied (list ++ ops) → (is_there folder list ≡ true → k_of start folder list ≤ 65535) → (Exhausts start list ops → ⊥) → is_there folder (list ++ ops) ≡ true → k_of start folder (list ++ ops) ≤ 65535
+  k_within_after [] list a h lasts t =
+      let e = ap (k_of start folder) (append-nil list) in
+      let l = h (sym (ap (is_there folder) (append-nil list)) ∙ t) in
+      omega (arith, e, l)
+  k_within_after (o ∷ ops) list a h lasts t =
+      let b = others_applied list ops o a in
+      let e = ap (k_of start folder) (append_assoc list (o ∷ []) ops) in
+      let step : is_there folder (list ++ o ∷ []) ≡ true → k_of start folder (list ++ o ∷ []) ≤ 65535 = λ q.
+      let same = k_here start folder list o q in
+      elim (cases_Bool (is_there folder list)) [
+        | inl was ↦ let l = h was in omega (arith, same, l)
+        | inr f ↦
+            let one = begun start folder list o (applied_front (list ++ o ∷ []) ops b) f q in
+            let n = k_none start folder list f in
+            elim (cases_lt 65535 (start.k + counted_all begins list)) [
+              | inl l ↦ absurd (first_lasts start list ops o lasts (inr (one, l)))
+              | inr l ↦ omega (arith, same, n, l)
+            ]
+      ]
+      in
+      let r = k_within_after ops (list ++ o ∷ []) b step (others_last start list ops o lasts) (ap (is_there folder) (append_assoc list (o ∷ []) ops) ∙ t) in
+      omega (arith, r, e)
+
+  pub k_within_table : (list : List Op) (k : ℕ) (charts : List Chart) → IsTable start list k charts → is_there folder list ≡ true → k_of start folder list ≤ 65535
+  k_within_table list k charts t there =
+      let w = t.covers folder there in
+      let up = t.shows w.0 w.1 in
+      let q : w.0.there ≡ true = up.there ∙ ap (λ n. is_there n list) w.2 ∙ there in
+      let small = up.small q (λ e. other (sym w.2 ∙ e)) in
+      let is : w.0.k ≡ k_of start w.0.folder list = (up.live q).is_k in
+      subst (λ n. n ≤ 65535) (is ∙ ap (λ n. k_of start n list) w.2) small
+
+-- ---- HIGHESTMODSEQ
+
+pub highest_told : (folder : List ℕ) (list front through : List Op) (o : Op) (there about : Bool) (h r : ℕ) → through ≡ front ++ o ∷ [] → there ≡ is_there folder (list ++ through) → about ≡ concerns_by folder o.kind → h ≡ highest_modseq_of folder (list ++ front) → r ≡ cond there (cond about (h + 1) h) 1 → r ≡ highest_modseq_of folder (list ++ through)
+highest_told folder list front through o there about h r e x y u k =
+    let w = behind list front through o e in
+    let is = x ∙ ap (is_there folder) w in
+    k ∙ elim (cases_Bool there) [
+      | inl t ↦
+          let m = highest_here folder (list ++ front) o (sym is ∙ t) in
+          (λ i. cond (t i) (cond about (h + 1) h) 1) ∙ plus about h ∙ (λ i. u i + once (y i)) ∙ sym m ∙ sym (ap (highest_modseq_of folder) w)
+      | inr g ↦ (λ i. cond (g i) (cond about (h + 1) h) 1) ∙ sym (highest_gone folder (list ++ front) o (sym is ∙ g)) ∙ sym (ap (highest_modseq_of folder) w)
+    ]
+  where
+    plus : (b : Bool) (n : ℕ) → cond b (n + 1) n ≡ n + once b
+    plus true n = refl
+    plus false n = omega arith
+
+-- so many operations raise it no further
+highest_bound : (folder : List ℕ) (ops list : List Op) (n : ℕ) → highest_modseq_of folder list ≤ n → 1 ≤ n → highest_modseq_of folder (list ++ ops) ≤ n + length ops
+highest_bound folder [] list n u l = let e = ap (highest_modseq_of folder) (append-nil list) in omega (arith, u, e)
+highest_bound folder (o ∷ ops) list n u l =
+    let e = ap (highest_modseq_of folder) (append_assoc list (o ∷ []) ops) in
+    let step : highest_modseq_of folder (list ++ o ∷ []) ≤ n + 1 = elim (cases_Bool (is_there folder (list ++ o ∷ []))) [
+      | inl t ↦ let h = highest_here folder list o t in let b = once_most (concerns_by folder o.kind) in omega (arith, h, b, u)
+      | inr g ↦ let h = highest_gone folder list o g in omega (arith, h, l)
+    ] in
+    let r = highest_bound folder ops (list ++ o ∷ []) (n + 1) step (omega arith) in
+    omega (arith, r, e)
+
+-- where none is about the folder, it isn't raised
+highest_still : (folder : List ℕ) (ops list : List Op) (n : ℕ) → IsApplied (list ++ ops) → list_any (λ (o : Op). concerns_by folder o.kind) ops ≡ false → highest_modseq_of folder list ≤ n → 1 ≤ n → highest_modseq_of folder (list ++ ops) ≤ n
+highest_still folder [] list n a none u l = let e = ap (highest_modseq_of folder) (append-nil list) in omega (arith, u, e)
+highest_still folder (o ∷ ops) list n a none u l =
+    let p = or_parts (concerns_by folder o.kind) (list_any (λ (x : Op). concerns_by folder x.kind) ops) none in
+    let b = others_applied list ops o a in
+    let e = ap (highest_modseq_of folder) (append_assoc list (o ∷ []) ops) in
+    let step : highest_modseq_of folder (list ++ o ∷ []) ≤ n = elim (cases_Bool (is_there folder (list ++ o ∷ []))) [
+      | inl t ↦ let h = highest_here folder list o t in let z : once (concerns_by folder o.kind) ≡ 0 = ap once p.0 in omega (arith, h, z, u)
+      | inr g ↦ let h = highest_gone folder list o g in omega (arith, h, l)
+    ] in
+    let r = highest_still folder ops (list ++ o ∷ []) n b p.1 step l in
+    omega (arith, r, e)
+
+-- charts that are ready for the operations have its numbers
+pub highest_within : (x : Charts) (list ops : List Op) (folder : List ℕ) → Follows x list → IsReadyFor x list ops → highest_modseq_of folder list ≤ 18446744073709551615 → highest_modseq_of folder (list ++ ops) ≤ 18446744073709551615
+highest_within x list ops folder f r u =
+    elim (cases_Bool (list_any (λ (o : Op). concerns_by folder o.kind) ops)) [
+      | inl t ↦
+          let w = (any_in (λ (o : Op). concerns_by folder o.kind) ops).0 t in
+          let own : folder ≡ name_of w.0.kind = about_name folder w.0.kind w.2 in
+          let rooms = r.rooms w.0 w.1 (subst (λ (n : List ℕ). concerns_by n w.0.kind ≡ true) own w.2) in
+          let c = rooms.found.0 in
+          let roomy = rooms.rooms c rooms.found.1 rooms.found.2 in
+          let s = shown x.start list c (f.table.shows c rooms.found.1) in
+          let is : c.highest ≡ highest_modseq_of folder list = s.is_highest ∙ ap (λ n. highest_modseq_of n list) (rooms.found.2 ∙ sym own) in
+          let least : 1 ≤ highest_modseq_of folder list = omega arith in
+          let b = highest_bound folder ops list (highest_modseq_of folder list) (omega arith) least in
+          let h = roomy.highest in
+          omega (arith, b, h, is)
+      | inr none ↦ highest_still folder ops list 18446744073709551615 r.applied none u (omega arith)
+    ]

@@ -1,0 +1,124 @@
+//! A folder's numbers after operations that come next. Nothing here takes memory.
+
+ghost use Rattle.std.specs.Prelude.{◌≡◌, ◌≤◌, ◌<◌, ◌+◌, ◌*◌, ℕ, List, ◌++◌, Some, min, if◌then◌else◌};
+ghost use Rattle.crdt_ops.specs.declared.op.Op.{Op as Operation};
+ghost use Rattle.folder_state.specs.Contents.{IsMadeBy};
+ghost use Rattle.folder_state.specs.Tables.{contents_of};
+ghost use Rattle.uid_projection.specs.declared.start.Start.{Start as First};
+ghost use Rattle.uid_projection.specs.Applied.{IsApplied};
+ghost use Rattle.uid_projection.specs.History.{counted_all};
+ghost use Rattle.uid_projection.specs.Incarnations.{begins, k_of};
+ghost use Rattle.uid_projection.specs.Lines.{highest_modseq_of};
+ghost use Rattle.uid_projection.specs.Table.{IsTable};
+
+use crate::ahead::begins;
+use crate::chart::Chart;
+use crate::later::is_about;
+use crate::table::place_of;
+use crdt_ops::SoundOp;
+use folder_state::Folders;
+use imap_types::Name;
+use tags_clocks::ReplicaId;
+
+/// A UID that is known to be small.
+pub fn small_uid(uid: u64) -> u32
+    ensures { uid ≤ 4294967295 → result ≡ uid }
+{
+    match u32::try_from(uid) {
+        Ok(uid) => uid,
+        Err(_) => u32::MAX,
+    }
+}
+
+/// A mod-sequence, or the last 64-bit number where it is above.
+pub fn modseq_within(modseq: u128) -> u64
+    ensures { result ≡ min modseq 18446744073709551615 }
+{
+    match u64::try_from(modseq) {
+        Ok(modseq) => modseq,
+        Err(_) => u64::MAX,
+    }
+}
+
+/// The folder's HIGHESTMODSEQ after these operations, where `now` is that before them.
+pub fn highest_after(value: &Folders, folder: &Name, now: u64, ops: &[SoundOp]) -> u128
+    ensures { (list : List Operation) → IsApplied (list ++ ops.now) → IsMadeBy (contents_of value.now) list → now ≡ highest_modseq_of folder.now list → result ≡ highest_modseq_of folder.now (list ++ ops.now) }
+{
+    let mut highest = u128::from(now);
+    for at in 0..ops.len() {
+        let about = is_about(&ops[at].op().kind, folder);
+        let there = value.exists_after(folder, &ops[..at + 1]);
+        highest = highest_behind(there, about, highest);
+    }
+    highest
+}
+
+fn highest_behind(there: bool, about: bool, highest: u128) -> u128
+    requires { highest < 340282366920938463463374607431768211455 }
+    ensures highest { result ≡ (if there then (if about then highest + 1 else highest) else 1) }
+    ensures bound { (n : ℕ) → highest ≤ n → 1 ≤ n → result ≤ n + 1 }
+{
+    if !there {
+        return 1;
+    }
+    if about { highest + 1 } else { highest }
+}
+
+/// The k of the folder's incarnation, or of the next one that begins where it isn't there.
+pub fn k_in(charts: &[Chart], next_k: u32, folder: &Name) -> u32
+    ensures { (start : First) (list : List Operation) → IsTable start list next_k charts.now → result ≡ k_of start folder.now list }
+{
+    match place_of(charts, folder) {
+        Some(at) => k_now(&charts[at], next_k),
+        None => next_k,
+    }
+}
+
+fn k_now(chart: &Chart, next_k: u32) -> u32
+    ensures { result ≡ (if chart.now.there then chart.now.k else next_k) }
+{
+    if chart.there { chart.k } else { next_k }
+}
+
+/// The k of the folder's incarnation after these operations, or of the next one that begins where it isn't there then. `now` is
+/// that before them, and `next_k` that of the next incarnation which begins.
+pub fn k_of_after(value: &Folders, folder: &Name, now: u32, next_k: u32, ops: &[SoundOp]) -> u64
+    ensures { (start : First) (list : List Operation) → IsApplied (list ++ ops.now) → IsMadeBy (contents_of value.now) list → next_k ≡ start.k + counted_all begins list → now ≡ k_of start folder.now list → result ≡ k_of start folder.now (list ++ ops.now) }
+{
+    let mut next = u64::from(next_k);
+    let mut k = u64::from(now);
+    for at in 0..ops.len() {
+        let begun = begins(value, &ops[..at], &ops[..at + 1], ops[at].op());
+        let there = value.exists_after(folder, &ops[..at + 1]);
+        next = next_behind(begun, next);
+        k = k_behind(there, k, next);
+    }
+    k
+}
+
+fn next_behind(begun: bool, next: u64) -> u64
+    requires { next < 18446744073709551615 }
+    ensures next { result ≡ (if begun then next + 1 else next) }
+    ensures bound { result ≤ next + 1 }
+{
+    if begun { next + 1 } else { next }
+}
+
+fn k_behind(there: bool, k: u64, next: u64) -> u64
+    ensures { result ≡ (if there then k else next) }
+{
+    if there { k } else { next }
+}
+
+/// The UIDVALIDITY of a replica's incarnation with this k, from 1 to 65,535.
+pub fn number_with(k: u64, replica: ReplicaId) -> Option<u32>
+    ensures { k ≤ 65535 → result ≡ Some (65536 * k + replica) }
+{
+    if k > 65_535 {
+        return None;
+    }
+    match u32::try_from(65_536 * k + u64::from(replica.get())) {
+        Ok(number) => Some(number),
+        Err(_) => None,
+    }
+}
