@@ -1,0 +1,4 @@
+pub mod BorneLemmas
+pub mod KeywordSteps
+pub mod LawfulLemmas
+pub mod NameLemmas
