@@ -7,7 +7,7 @@ use Rattle.std.proofs.lemmas.Map.Lookups.{exact_bytes}
 use Rattle.imap_types.specs.Ascending.{AreAscending, ComesBefore, compared}
 use Rattle.imap_types.specs.Keywords.{AreKeywords, lowered, with_text}
 use Rattle.imap_types.proofs.KeywordLemmas.{keywords_with}
-use Rattle.imap_query.specs.Patterns.{IsIn}
+use Rattle.merge_laws.specs.Orders.{IsIn}
 use Rattle.mail_listing.specs.Listed.{Listed}
 use Rattle.imap_commands.specs.Selecting.{AreBorne, IsBorne, listed_keywords, with_keywords, with_rows}
 

@@ -22,16 +22,16 @@ use Rattle.imap_commands.specs.Selecting.{select_wants}
 use Rattle.imap_commands.proofs.NameLemmas.{lawful_from_test}
 
 -- what is given where a result is Ok
-given : (wanted kinds : List Kind) → Ok {T = List Kind} {E = Refusal} wanted ≡ Ok kinds → wanted ≡ kinds
+given : (wanted kinds : List Kind) → ◌≡◌ {A = Result (List Kind) Refusal} (Ok wanted) (Ok kinds) → wanted ≡ kinds
 given wanted kinds e = cc
 
-one : (kind : Kind) (kinds : List Kind) → IsLawfulKind kind → Ok {T = List Kind} {E = Refusal} (kind ∷ []) ≡ Ok kinds → AreLawfulKinds kinds
+one : (kind : Kind) (kinds : List Kind) → IsLawfulKind kind → ◌≡◌ {A = Result (List Kind) Refusal} (Ok (kind ∷ [])) (Ok kinds) → AreLawfulKinds kinds
 one kind kinds h e = subst AreLawfulKinds (given (kind ∷ []) kinds e) (h, tt)
 
-none : (kinds : List Kind) → Ok {T = List Kind} {E = Refusal} [] ≡ Ok kinds → AreLawfulKinds kinds
+none : (kinds : List Kind) → ◌≡◌ {A = Result (List Kind) Refusal} (Ok []) (Ok kinds) → AreLawfulKinds kinds
 none kinds e = subst AreLawfulKinds (given [] kinds e) tt
 
-never : (why : Refusal) (kinds : List Kind) → Err {T = List Kind} {E = Refusal} why ≡ Ok kinds → AreLawfulKinds kinds
+never : (why : Refusal) (kinds : List Kind) → ◌≡◌ {A = Result (List Kind) Refusal} (Err why) (Ok kinds) → AreLawfulKinds kinds
 never why kinds e = cc
 
 nothing_by : (test : Bool) (why : Refusal) (kinds : List Kind) → (if test then Ok [] else Err why) ≡ Ok kinds → AreLawfulKinds kinds

@@ -23,32 +23,30 @@ test_from_at_most n h = grind (arith, nat_tests)
 
 -- the test of a name says whether a mailbox may bear it
 pub lawful_from_test : (name : List ℕ) → is_lawful_name name ≡ true → IsLawfulName name
-  unfolding is_lawful_name
+unfolding is_lawful_name
 lawful_from_test name h =
-    let a = and_parts _ _ h in
-    let b = and_parts _ _ a.1 in
-    let c = and_parts _ _ b.1 in
-    let d = and_parts _ _ c.1 in
-    let e = and_parts _ _ d.1 in
+    let folded = and_parts _ _ h in
+    let levels = and_parts _ _ folded.0 in
+    let octets = and_parts _ _ levels.0 in
+    let utf8 = and_parts _ _ octets.0 in
+    let lengths = and_parts _ _ utf8.0 in
     record {
-      not_empty = some_from_test (length name) a.0;
-      short = at_most_from_test (length name) b.0;
-      utf8 = IsUtf8-from_is_utf8 name c.0;
-      octets = d.0;
-      levels = e.0;
-      folded = (bytes_eq-Decides _ _).0 e.1;
+      not_empty = some_from_test (length name) lengths.0;
+      short = at_most_from_test (length name) lengths.1;
+      utf8 = IsUtf8-from_is_utf8 name utf8.1;
+      octets = octets.1;
+      levels = levels.1;
+      folded = (bytes_eq-Decides _ _).0 folded.1;
     }
 
 pub test_from_lawful : (name : List ℕ) → IsLawfulName name → is_lawful_name name ≡ true
-  unfolding is_lawful_name
+unfolding is_lawful_name
 test_from_lawful name h =
-    and_from _ _ (test_from_some (length name) h.not_empty) (
-      and_from _ _ (test_from_at_most (length name) h.short) (
-        and_from _ _ (is_utf8-from_IsUtf8 name h.utf8) (
-          and_from _ _ h.octets (and_from _ _ h.levels ((bytes_eq-Decides _ _).1 h.folded))
-        )
-      )
-    )
+    let lengths = and_from _ _ (test_from_some (length name) h.not_empty) (test_from_at_most (length name) h.short) in
+    let utf8 = and_from _ _ lengths (is_utf8-from_IsUtf8 name h.utf8) in
+    let octets = and_from _ _ utf8 h.octets in
+    let levels = and_from _ _ octets h.levels in
+    and_from _ _ levels ((bytes_eq-Decides _ _).1 h.folded)
 
 pub lawful_name_is : (name : List ℕ) → IsTrue (is_lawful_name name) ↔ IsLawfulName name
 lawful_name_is name = (lawful_from_test name, test_from_lawful name)

@@ -9,7 +9,7 @@ use Rattle.imap_answers.specs.declared.mailbox.MailboxState.TheVariants.{There}
 use Rattle.imap_answers.specs.declared.words.Refusal.{Refusal}
 use Rattle.imap_answers.specs.declared.words.Refusal.TheVariants.{NoSuchMailbox}
 use Rattle.imap_query.specs.declared.mailbox_status.Marks.{Marks}
-use Rattle.imap_query.specs.Patterns.{IsIn}
+use Rattle.merge_laws.specs.Orders.{IsIn}
 use Rattle.imap_types.specs.declared.flags.Flags.{Flags}
 use Rattle.imap_types.specs.Keywords.{AreKeywords, lowered, with_text}
 use Rattle.mail_listing.specs.Listed.{Listed}
