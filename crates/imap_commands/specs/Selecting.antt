@@ -9,7 +9,7 @@ use Rattle.imap_answers.specs.declared.mailbox.MailboxState.TheVariants.{There}
 use Rattle.imap_answers.specs.declared.words.Refusal.{Refusal}
 use Rattle.imap_answers.specs.declared.words.Refusal.TheVariants.{NoSuchMailbox}
 use Rattle.imap_query.specs.declared.mailbox_status.Marks.{Marks}
-use Rattle.imap_query.specs.Patterns.{IsIn}
+use Rattle.merge_laws.specs.Orders.{IsIn}
 use Rattle.imap_types.specs.declared.flags.Flags.{Flags}
 use Rattle.imap_types.specs.Keywords.{AreKeywords, lowered, with_text}
 use Rattle.mail_listing.specs.Listed.{Listed}
@@ -51,16 +51,16 @@ listed_keywords rows = with_rows rows []
 abbrev pub flags_in_use : List Listed → Flags
 flags_in_use rows = record { answered = true; flagged = true; deleted = true; seen = true; draft = true; keywords = listed_keywords rows }
 
--- Those that the session can change for good: none in a mailbox that it only reads (RFC 9051, section 7.1, PERMANENTFLAGS).
-abbrev pub permanent_flags : Bool → List Listed → Option Flags
-permanent_flags read_only rows = if read_only then None else Some (flags_in_use rows)
+-- Those of them that the session can change for good: none in a mailbox that it only reads (RFC 9051, section 7.1, PERMANENTFLAGS).
+abbrev pub permanent_flags : Bool → Flags → Option Flags
+permanent_flags read_only flags = if read_only then None else Some flags
 
 -- What is told of the mailbox that is selected (RFC 9051, section 6.3.2; RFC 7162, section 3.1.2.1).
 abbrev pub mailbox_answers : Bool → List ℕ → Marks → List Listed → List Answer
 mailbox_answers read_only name marks rows =
     FlagsAnswer (flags_in_use rows) ∷ Exists (length rows) ∷ ListAnswer name There false
     ∷ Tell (UidValidity marks.uidvalidity) ∷ Tell (UidNext marks.uidnext)
-    ∷ Tell (PermanentFlags (permanent_flags read_only rows)) ∷ Tell (HighestModSeq marks.highest_modseq) ∷ []
+    ∷ Tell (PermanentFlags (permanent_flags read_only (flags_in_use rows))) ∷ Tell (HighestModSeq marks.highest_modseq) ∷ []
 
 -- What is told of a mailbox that is left (RFC 9051, section 7.1, CLOSED).
 abbrev pub closed_answers : Bool → List Answer

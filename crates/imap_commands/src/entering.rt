@@ -1,5 +1,6 @@
 //! LOGIN.
 
+ghost use Rattle.std.specs.Prelude.{◌≡◌};
 ghost use Rattle.imap_commands.specs.Entering.{are_right, login_wants};
 ghost use Rattle.imap_commands.specs.Gives.{Gives};
 

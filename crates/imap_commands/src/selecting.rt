@@ -1,6 +1,6 @@
 //! SELECT and EXAMINE.
 
-ghost use Rattle.std.specs.Prelude.{◌≡◌, ◌++◌, ◌+◌, ◌∷◌, [], None, Some, false, drop, if◌then◌else◌, length, IfOk, OnOk};
+ghost use Rattle.std.specs.Prelude.{◌≡◌, ◌++◌, ◌+◌, ◌∷◌, [], false, drop, length, IfOk, OnOk};
 ghost use Rattle.imap_answers.specs.declared.answer.Answer.TheVariants.{Exists as ExistsAnswer, Flags as FlagsAnswer, List as ListAnswer, Tell as TellAnswer};
 ghost use Rattle.imap_answers.specs.declared.codes.Notice.TheVariants.{HighestModSeq as HighestModSeqNotice, PermanentFlags as PermanentFlagsNotice, UidNext as UidNextNotice, UidValidity as UidValidityNotice};
 ghost use Rattle.imap_answers.specs.declared.mailbox.MailboxState.TheVariants.{There};
@@ -76,7 +76,7 @@ fn push_mailbox(
     push_changes(permanent, marks, answers)
 }
 
-/// The flags that are in use: FLAGS, EXISTS and LIST.
+/// FLAGS, with these flags, EXISTS and LIST.
 fn push_contents(
     alloc: Global,
     flags: Flags,
@@ -99,6 +99,7 @@ fn push_contents(
     Ok(())
 }
 
+/// UIDVALIDITY and UIDNEXT.
 fn push_uids(marks: Marks, answers: &mut Vec<Answer>) -> Result<(), AllocError>
     ensures { OnOk result (answers.new.items ≡ answers.old.items ++ TellAnswer (UidValidityNotice marks.uidvalidity) ∷ TellAnswer (UidNextNotice marks.uidnext) ∷ []) }
 {
@@ -113,6 +114,7 @@ fn push_uids(marks: Marks, answers: &mut Vec<Answer>) -> Result<(), AllocError>
     Ok(())
 }
 
+/// PERMANENTFLAGS, with these flags, and HIGHESTMODSEQ.
 fn push_changes(
     permanent: Option<Flags>,
     marks: Marks,
@@ -137,7 +139,7 @@ fn permanent_flags(
     read_only: bool,
     flags: &Flags,
 ) -> Result<Option<Flags>, AllocError>
-    ensures { IfOk result (λ permanent. permanent ≡ (if read_only then None else Some flags.now)) }
+    ensures { IfOk result (λ permanent. permanent ≡ permanent_flags read_only flags.now) }
 {
     if read_only {
         return Ok(None);

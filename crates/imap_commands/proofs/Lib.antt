@@ -1,0 +1,5 @@
+pub mod BorneLemmas
+mod Examples
+pub mod KeywordSteps
+pub mod LawfulLemmas
+pub mod NameLemmas
