@@ -79,14 +79,25 @@ fn put_in(alloc: Global, given: &[Octets], keywords: &mut Keywords) -> Result<()
 fn remaining(alloc: Global, given: &Keywords, keywords: &Keywords) -> Result<Keywords, AllocError>
     ensures { IfOk result (λ left. left ≡ remaining given.now keywords.now) }
 {
+    match Keywords::new(left_of(alloc, given, keywords.as_slice())?) {
+        Some(left) => Ok(left),
+        None => unreachable!(),
+    }
+}
+
+/// Those of these keywords that aren't given.
+fn left_of(
+    alloc: Global,
+    given: &Keywords,
+    keywords: &[Octets],
+) -> Result<Vec<Octets>, AllocError>
+    ensures { IfOk result (λ left. left.items ≡ remaining given.now keywords.now) }
+{
     let mut left = Vec::new(alloc);
-    for keyword in keywords.as_slice() {
+    for keyword in keywords {
         if !given.contains(keyword.as_bytes()) {
             left.push(keyword.copy(alloc)?)?;
         }
     }
-    match Keywords::new(left) {
-        Some(left) => Ok(left),
-        None => unreachable!(),
-    }
+    Ok(left)
 }

@@ -1,6 +1,8 @@
 //! COPY, MOVE and their UID forms (RFC 9051, sections 6.4.7 and 6.4.8).
 
-ghost use Rattle.std.specs.Prelude.{◌≡◌, ◌++◌, map, IfOk, OnOk};
+ghost use Rattle.std.specs.Prelude.{◌≡◌, ◌++◌, drop, map, IfOk, OnOk};
+ghost use Rattle.std.specs.List.{slice_get};
+ghost use Rattle.std.specs.Option.{option_to_list};
 ghost use Rattle.imap_types.specs.Numbers.{AreRisingFrom};
 ghost use Rattle.mail_listing.specs.Listing.{beyond};
 ghost use Rattle.session_view.specs.Sets.{resolved};
@@ -261,12 +263,28 @@ fn uids_beyond(alloc: Global, uid: u32, rows: &Rows<'_>) -> Result<Vec<u32>, All
     ensures uids { IfOk result (λ uids. uids.items ≡ map (λ row. row.uid) (beyond uid rows.now)) }
     ensures rising { IfOk result (λ uids. AreRisingFrom 1 uids.items) }
 {
-    let count = rows.count() as usize;
+    let _count = rows.count();
+    let uids = uids_from(alloc, rows.place_beyond(uid), rows)?;
+    Ok(uids)
+}
+
+/// The UIDs of the messages from this place on.
+fn uids_from(alloc: Global, start: usize, rows: &Rows<'_>) -> Result<Vec<u32>, AllocError>
+    ensures { IfOk result (λ uids. uids.items ≡ map (λ row. row.uid) (drop start rows.now)) }
+{
     let mut uids = Vec::new(alloc);
-    for place in rows.place_beyond(uid)..count {
-        if let Some(row) = rows.row_at(place) {
-            uids.push(row.uid)?;
-        }
+    for place in start..rows.count() as usize {
+        push_uid(rows, place, &mut uids)?;
     }
     Ok(uids)
+}
+
+/// Adds the UID of the message at this place.
+fn push_uid(rows: &Rows<'_>, place: usize, uids: &mut Vec<u32>) -> Result<(), AllocError>
+    ensures { OnOk result (uids.new.items ≡ uids.old.items ++ map (λ row. row.uid) (option_to_list (slice_get rows.now place))) }
+{
+    if let Some(row) = rows.row_at(place) {
+        uids.push(row.uid)?;
+    }
+    Ok(())
 }

@@ -13,7 +13,7 @@ use imap_grammar::{SearchOption, SearchStep, SearchTest};
 use imap_query::{Shown, search};
 use imap_types::Octets;
 use mail_listing::Rows;
-use session_view::{Entry, View};
+use session_view::{Entry, View, count_of};
 use std::alloc::{AllocError, Global};
 
 /// Nothing, which is what SEARCH issues, or that a set of numbers in its keys names a message that there isn't.
@@ -88,6 +88,7 @@ fn all_shown(alloc: Global, view: &[Entry]) -> Result<Vec<Shown>, AllocError>
     requires { AreRising 1 view.now }
     ensures { IfOk result (λ shown. shown.items ≡ shown_from 1 view.now) }
 {
+    let _count = count_of(view);
     let mut shown = Vec::with_capacity(alloc, view.len())?;
     let mut number = 0;
     for entry in view {

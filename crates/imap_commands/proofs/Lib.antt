@@ -1,0 +1,4 @@
+pub mod ChangingLemmas
+pub mod IssuedLemmas
+pub mod NamedLemmas
+pub mod PlaceLemmas
