@@ -1,4 +1,4 @@
-use Rattle.std.proofs.Common.{◌≡◌, ◌∙◌, ap, sym, refl, arith, ℕ, zero, suc, ◌+◌, ◌<◌, inl, inr, Bool, true, false, List, [], ◌∷◌, ◌++◌, length, drop, get_or}
+use Rattle.std.proofs.Common.{◌≡◌, ◌∙◌, ap, sym, refl, arith, ℕ, zero, suc, ◌+◌, ◌<◌, inl, inr, Bool, true, false, List, [], ◌∷◌, length, drop, get_or, Option, Some, None, if◌then◌else◌}
 use Rattle.std.specs.Prelude.{not}
 use Rattle.std.specs.List.{filter, list_all}
 use Rattle.std.proofs.lemmas.Bool.{and_from, and_parts, cases_Bool}
@@ -60,6 +60,10 @@ all_filtered p test (a ∷ words) h =
       | inl t ↦ rw t (and_from (p a) (list_all p (filter test words)) parts.0 (all_filtered p test words parts.1))
       | inr f ↦ rw f (all_filtered p test words parts.1)
     ]
+
+pub never_none : (b : Bool) (words : List (List ℕ)) (made : Option (List (List ℕ))) → b ≡ true → made ≡ (if b then Some words else None) → made ≡ None → ⊥
+never_none true words made t m e = let k : Some words ≡ None = sym m ∙ e in cc
+never_none false words made t m e = cc
 
 pub remaining_are_keywords : (given keywords : List (List ℕ)) → AreKeywords keywords → are_keywords (remaining given keywords) ≡ true
 remaining_are_keywords given keywords h =

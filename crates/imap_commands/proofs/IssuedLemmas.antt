@@ -1,10 +1,10 @@
-use Rattle.std.proofs.Common.{◌≡◌, ◌⊎◌, ◌∙◌, ap, sym, subst, refl, arith, ℕ, ◌≤◌, inl, inr, Bool, true, false, ◌||◌, ◌==◌, List, [], ◌∷◌, ◌++◌, length, Option, Some, None, if◌then◌else◌}
+use Rattle.std.proofs.Common.{◌≡◌, ◌⊎◌, subst, refl, arith, ℕ, ◌≤◌, inl, inr, Bool, true, false, ◌||◌, ◌==◌, List, [], ◌∷◌, ◌++◌, length, Option, Some, None, if◌then◌else◌}
 use Rattle.std.specs.Prelude.{◌&&◌, nat_lt, not, Result, Ok, Err}
 use Rattle.std.specs.List.{flat_map, list_all, list_any}
 use Rattle.std.specs.Ordering.{match_ordering}
 use Rattle.std.specs.declared.cmp.Ordering.{Ordering}
 use Rattle.std.specs.declared.cmp.Ordering.TheVariants.{Less, Equal, Greater}
-use Rattle.std.proofs.lemmas.Bool.{and_from, and_parts, cases_Bool}
+use Rattle.std.proofs.lemmas.Bool.{and_from, and_parts}
 use Rattle.std.proofs.lemmas.Bool.Decides.{nat_tests}
 use Rattle.crdt_ops.specs.declared.kind.Kind.{Kind}
 use Rattle.crdt_ops.specs.declared.kind.Kind.TheVariants.{Append, Expunge, Store}
@@ -25,11 +25,11 @@ use Rattle.merge_laws.specs.Orders.{IsIn}
 use Rattle.session_view.specs.Sets.{is_in_range, resolved}
 use Rattle.session_view.specs.Views.{same_flags}
 use Rattle.session_view.specs.declared.entry.Entry.{Entry}
-use Rattle.imap_commands.specs.Changing.{changed_flags, remaining, united}
+use Rattle.imap_commands.specs.Changing.{changed_flags, united}
 use Rattle.imap_commands.specs.Copying.{append_of, appends_of, copy_wants, move_wants, removal_of, removals_of}
 use Rattle.imap_commands.specs.Expunging.{close_wants, expunge_at, expunge_of, expunge_wants, uid_expunge_wants}
 use Rattle.imap_commands.specs.Fetching.{fetch_wants, mode_of, seen_flags, seen_store}
-use Rattle.imap_commands.specs.Issued.{AreIssuable, AreListedIds, HaveLawfulFlags, IsIssuable, IsListedId}
+use Rattle.imap_commands.specs.Issued.{AreIssuable, HaveLawfulFlags, IsIssuable}
 use Rattle.imap_commands.specs.Storing.{has_unlawful_keyword, is_overfull, store_of, store_wants, stores_of, those_taken}
 use Rattle.imap_commands.specs.Told.{entry_at, message_at, row_for}
 use Rattle.imap_commands.proofs.ChangingLemmas.{all_filtered}
@@ -70,13 +70,13 @@ ok_is P found kinds the e h p = let k : found ≡ kinds = cc in subst P k p
 
 -- ---- messages of a listing
 
+picked : (b : Bool) (x row : Listed) (rest : Option Listed) → (if b then Some x else rest) ≡ Some row → (x ≡ row) ⊎ (rest ≡ Some row)
+picked true x row rest h = let k : x ≡ row = cc in inl k
+picked false x row rest h = inr h
+
 row_is_in : (uid : ℕ) (rows : List Listed) (row : Listed) → row_of uid rows ≡ Some row → IsIn row rows
 row_is_in uid [] row h = cc
-row_is_in uid (x ∷ rows) row h =
-    elim (cases_Bool (x.uid == uid)) [
-      | inl t ↦ let e : Some x ≡ Some row = rw t at h in inl (let k : x ≡ row = cc in k)
-      | inr f ↦ inr (row_is_in uid rows row (rw f at h))
-    ]
+row_is_in uid (x ∷ rows) row h = elim (picked (x.uid == uid) x row (row_of uid rows) h) [ inl e ↦ inl e | inr t ↦ inr (row_is_in uid rows row t) ]
 
 message_is_in : (rows : List Listed) (entry : Option Entry) (row : Listed) → row_for rows entry ≡ Some row → IsIn row rows
 message_is_in rows None row h = cc
@@ -119,18 +119,24 @@ store_issuable folder rows mode given (Some row) m l k o kind i =
     let is_in : IsIn row rows = m row refl in
     let flags = changed_flags mode row.flags given in
     let lawful : IsLawfulFlags flags = (few_enough (length flags.keywords) o, lawful_change mode row.flags given (l row is_in).1 k) in
-    one_unless (IsIssuable folder folder rows) (same_flags flags row.flags) (Store folder flags row.id row.origin) (refl, (lawful, (row, (is_in, (refl, refl))))) kind i
+    one_unless (IsIssuable folder folder rows) (same_flags flags row.flags) (Store folder flags row.id row.origin) (refl, lawful, (row, is_in, refl, refl)) kind i
+
+neither : (a b : Bool) → (a || b) ≡ false → (a ≡ false) × (b ≡ false)
+neither true b h = cc
+neither false b h = (refl, h)
 
 none_of_them : {A : Type 0} (test : A → Bool) (xs : List A) (x : A) → list_any test xs ≡ false → IsIn x xs → test x ≡ false
 none_of_them test [] x h i = absurd i
 none_of_them test (y ∷ xs) x h i =
-    elim (cases_Bool (test y)) [
-      | inl t ↦ let e : true ≡ false = rw t at h in cc
-      | inr f ↦ let g : list_any test xs ≡ false = rw f at h in elim i [ inl e ↦ subst (λ z. test z ≡ false) e f | inr n ↦ none_of_them test xs x g n ]
-    ]
+    let parts = neither (test y) (list_any test xs) h in
+    elim i [ inl e ↦ subst (λ z. test z ≡ false) e parts.0 | inr n ↦ none_of_them test xs x parts.1 n ]
+
+not_false : (b : Bool) → not b ≡ false → b ≡ true
+not_false true h = refl
+not_false false h = cc
 
 lawful_given : (flags : Flags) → has_unlawful_keyword flags ≡ false → list_all is_lawful_keyword flags.keywords ≡ true
-lawful_given flags h = elim (cases_Bool (list_all is_lawful_keyword flags.keywords)) [ inl t ↦ t | inr f ↦ let e : true ≡ false = rw f at h in cc ]
+lawful_given flags h = not_false (list_all is_lawful_keyword flags.keywords) h
 
 pub stores_of_issuable : (folder : List ℕ) (rows : List Listed) (view : List Entry) (numbers : List ℕ) (mode : StoreMode) (given : Flags) (kinds : List Kind) → HaveLawfulFlags rows
     → has_unlawful_keyword given ≡ false → stores_of folder rows view numbers mode given ≡ Ok kinds → AreIssuable folder folder rows kinds
@@ -154,7 +160,7 @@ store_wants_issuable folder before view read_only by_uid set since mode given ki
 
 expunge_issuable : (folder destination : List ℕ) (rows : List Listed) (row : Listed) → IsIn row rows → (kind : Kind) → IsIn kind (expunge_of folder row) → IsIssuable folder destination rows kind
 expunge_issuable folder destination rows row m kind i =
-    one_where (IsIssuable folder destination rows) row.flags.deleted (Expunge folder row.id) (refl, (row, (m, refl))) kind i
+    one_where (IsIssuable folder destination rows) row.flags.deleted (Expunge folder row.id) (refl, (row, m, refl)) kind i
 
 expunges_issuable : (folder : List ℕ) (rows : List Listed) → AreIssuable folder folder rows (flat_map (expunge_of folder) rows)
 expunges_issuable folder rows = each_flat (IsIssuable folder folder rows) (expunge_of folder) rows (λ row m. expunge_issuable folder folder rows row m)
@@ -189,7 +195,7 @@ seen_issuable : (folder : List ℕ) (rows : List Listed) (items : List FetchItem
 seen_issuable folder rows items mode None m l kind i = absurd i
 seen_issuable folder rows items mode (Some row) m l kind i =
     let is_in : IsIn row rows = m row refl in
-    one_where (IsIssuable folder folder rows) (is_kept mode.changed_since row && is_marked items mode row) (Store folder (seen_flags row.flags) row.id row.origin) (refl, (l row is_in, (row, (is_in, (refl, refl))))) kind i
+    one_where (IsIssuable folder folder rows) (is_kept mode.changed_since row && is_marked items mode row) (Store folder (seen_flags row.flags) row.id row.origin) (refl, l row is_in, (row, is_in, refl, refl)) kind i
 
 -- FETCH issues Stores of listed messages, with lawful flags.
 pub fetch_wants_issuable : (folder : List ℕ) (before : List Listed) (view : List Entry) (read_only by_uid : Bool) (set : List SequenceRange) (items : List FetchItem) (changed_since : Option ℕ) (kinds : List Kind)
@@ -215,7 +221,7 @@ appends_issuable folder destination rows view numbers l =
 
 removal_issuable : (folder destination : List ℕ) (rows : List Listed) (message : Option Listed) → ((row : Listed) → message ≡ Some row → IsIn row rows) → (kind : Kind) → IsIn kind (removal_of folder message) → IsIssuable folder destination rows kind
 removal_issuable folder destination rows None m kind i = absurd i
-removal_issuable folder destination rows (Some row) m kind i = only_one (IsIssuable folder destination rows) (Expunge folder row.id) (refl, (row, (m row refl, refl))) kind i
+removal_issuable folder destination rows (Some row) m kind i = only_one (IsIssuable folder destination rows) (Expunge folder row.id) (refl, (row, m row refl, refl)) kind i
 
 removals_issuable : (folder destination : List ℕ) (rows : List Listed) (view : List Entry) (numbers : List ℕ) → AreIssuable folder destination rows (removals_of folder rows view numbers)
 removals_issuable folder destination rows view numbers =

@@ -73,6 +73,11 @@ pub names_rising : (name_uid by_uid : Bool) (set : List SequenceRange) (test : �
 names_rising true by_uid set test view h = rising_from true by_uid (top_of by_uid view) set test view [] view 1 1 refl refl h
 names_rising false by_uid set test view h = rising_from false by_uid (top_of by_uid view) set test view [] view 1 1 refl refl h
 
+pub chosen_rising : (name_uid by_uid : Bool) (set : List SequenceRange) (test : ℕ → Bool) (view seen : List Entry) (numbers chosen : List ℕ) → seen ≡ view → AreRising 1 view → chosen ≡ filter test numbers → numbers ≡ resolved by_uid set view
+    → AreRisingFrom 1 (names_of name_uid seen chosen)
+chosen_rising name_uid by_uid set test view seen numbers chosen s h c n =
+    subst (λ (ns : List ℕ). AreRisingFrom 1 ns) (sym ((λ i. names_of name_uid (s i) (c i)) ∙ ap (λ (ns : List ℕ). names_of name_uid view (filter test ns)) n)) (names_rising name_uid by_uid set test view h)
+
 -- What the messages of a view are named by ascends.
 pub shown_rising : (by_uid : Bool) (n low : ℕ) (view : List Entry) → AreRising low view → AreRisingFrom (least by_uid n low) (map (shown_name by_uid) (shown_from n view))
 shown_rising true n low [] h = tt

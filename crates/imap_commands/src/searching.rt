@@ -1,6 +1,6 @@
 //! SEARCH and UID SEARCH (RFC 9051, section 6.4.4; RFC 7162, section 3.1.5).
 
-ghost use Rattle.std.specs.Prelude.{◌≡◌, ◌≤◌, ◌<◌, ◌^◌, length, IfOk, OnOk};
+ghost use Rattle.std.specs.Prelude.{◌≡◌, IfOk};
 ghost use Rattle.std.specs.List.{list_all};
 ghost use Rattle.session_view.specs.Views.{AreRising};
 ghost use Rattle.imap_commands.specs.Gives.{Gives};
@@ -17,11 +17,7 @@ use session_view::{Entry, View, count_of};
 use std::alloc::{AllocError, Global};
 
 /// Nothing, which is what SEARCH issues, or that a set of numbers in its keys names a message that there isn't.
-pub fn search_wants(
-    alloc: Global,
-    view: &View,
-    steps: &[SearchStep],
-) -> Result<Vec<Kind>, Refusal>
+pub fn search_wants(alloc: Global, view: &View, steps: &[SearchStep]) -> Result<Vec<Kind>, Refusal>
     ensures { Gives (λ kinds. kinds.items) result (search_wants view.now.entries steps.now) }
 {
     if !are_in_range(view, steps) {

@@ -1,4 +1,4 @@
-use Rattle.std.proofs.Common.{◌≡◌, ◌++◌, ◌+◌, ◌≤◌, drop, map}
+use Rattle.std.proofs.Common.{◌≡◌, drop}
 use Rattle.imap_commands.specs.Changing.{united}
 use Rattle.imap_commands.proofs.changing.put_in.Given as goal
 

@@ -1,4 +1,4 @@
-use Rattle.std.proofs.Common.{◌≡◌, ◌++◌, ◌+◌, ◌≤◌, drop, map}
+use Rattle.std.proofs.Common.{◌≡◌, ◌++◌, drop, map}
 use Rattle.mail_listing.specs.Listed.{Listed}
 use Rattle.imap_commands.proofs.copying.uids_from.Given as goal
 

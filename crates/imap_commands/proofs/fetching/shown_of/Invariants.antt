@@ -1,4 +1,4 @@
-use Rattle.std.proofs.Common.{◌≡◌, ◌++◌, ◌+◌, ◌≤◌, drop, map}
+use Rattle.std.proofs.Common.{◌≡◌, ◌++◌, drop}
 use Rattle.imap_commands.specs.Fetching.{shown_of}
 use Rattle.imap_commands.proofs.fetching.shown_of.Given as goal
 

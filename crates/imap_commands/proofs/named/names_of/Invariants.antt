@@ -1,4 +1,4 @@
-use Rattle.std.proofs.Common.{◌≡◌, ◌++◌, ◌+◌, ◌≤◌, drop, map}
+use Rattle.std.proofs.Common.{◌≡◌, ◌++◌, drop}
 use Rattle.imap_commands.specs.Named.{names_of}
 use Rattle.imap_commands.proofs.named.names_of.Given as goal
 

@@ -1,4 +1,4 @@
-use Rattle.std.proofs.Common.{◌≡◌, ◌++◌, ◌+◌, ◌≤◌, drop, map}
+use Rattle.std.proofs.Common.{◌≡◌, ◌++◌, ◌+◌, drop}
 use Rattle.imap_types.specs.Numbers.{AreRisingFrom, greatest}
 use Rattle.imap_commands.proofs.named.set_of.Given as goal
 

@@ -1,4 +1,4 @@
-use Rattle.std.proofs.Common.{◌≡◌, ◌++◌, ◌+◌, ◌≤◌, drop, map}
+use Rattle.std.proofs.Common.{◌≡◌, ◌++◌, drop}
 use Rattle.imap_commands.specs.Named.{those_there}
 use Rattle.imap_commands.proofs.named.those_there.Given as goal
 

@@ -1,4 +1,4 @@
-use Rattle.std.proofs.Common.{◌≡◌, ◌++◌, ◌+◌, ◌≤◌, drop, map}
+use Rattle.std.proofs.Common.{◌≡◌, ◌++◌, ◌+◌, drop}
 use Rattle.imap_commands.specs.Searching.{shown_from}
 use Rattle.imap_commands.proofs.searching.all_shown.Given as goal
 

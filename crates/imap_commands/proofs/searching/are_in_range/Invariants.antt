@@ -1,4 +1,4 @@
-use Rattle.std.proofs.Common.{◌≡◌, ◌++◌, ◌+◌, ◌≤◌, drop, map}
+use Rattle.std.proofs.Common.{◌≡◌, drop}
 use Rattle.std.specs.List.{list_all}
 use Rattle.imap_commands.specs.Searching.{step_is_in_range}
 use Rattle.imap_commands.proofs.searching.are_in_range.Given as goal

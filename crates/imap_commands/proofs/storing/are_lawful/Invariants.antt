@@ -1,4 +1,4 @@
-use Rattle.std.proofs.Common.{◌≡◌, ◌++◌, ◌+◌, ◌≤◌, drop, map}
+use Rattle.std.proofs.Common.{◌≡◌, drop}
 use Rattle.std.specs.List.{list_all}
 use Rattle.imap_types.specs.Keywords.{is_lawful_keyword}
 use Rattle.imap_commands.proofs.storing.are_lawful.Given as goal

@@ -1,4 +1,4 @@
-use Rattle.std.proofs.Common.{◌≡◌, ◌++◌, ◌+◌, ◌≤◌, drop, map}
+use Rattle.std.proofs.Common.{◌≡◌, ◌++◌, drop}
 use Rattle.imap_commands.specs.Storing.{those_refused}
 use Rattle.imap_commands.proofs.storing.those_refused.Given as goal
 

@@ -1,4 +1,4 @@
-use Rattle.std.proofs.Common.{◌≡◌, ◌++◌, ◌+◌, ◌≤◌, drop, map}
+use Rattle.std.proofs.Common.{◌≡◌, ◌++◌, drop}
 use Rattle.imap_commands.specs.Storing.{those_taken}
 use Rattle.imap_commands.proofs.storing.those_taken.Given as goal
 
