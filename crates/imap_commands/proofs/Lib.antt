@@ -3,3 +3,7 @@ mod Examples
 pub mod KeywordSteps
 pub mod LawfulLemmas
 pub mod NameLemmas
+pub mod ChangingLemmas
+pub mod IssuedLemmas
+pub mod NamedLemmas
+pub mod PlaceLemmas

@@ -1,4 +1,4 @@
-use Rattle.std.specs.Prelude.{ℕ, Bool, not, ◌&&◌, ◌||◌, List, [], ◌∷◌}
+use Rattle.std.specs.Prelude.{ℕ, not, ◌&&◌, ◌||◌, List, [], ◌∷◌}
 use Rattle.std.specs.List.{filter}
 use Rattle.imap_grammar.specs.declared.store.StoreMode.{StoreMode}
 use Rattle.imap_grammar.specs.declared.store.StoreMode.TheVariants.{Replace, Add, Remove}

@@ -4,7 +4,7 @@ use Rattle.crdt_ops.specs.declared.kind.Kind.TheVariants.{Append, Expunge}
 use Rattle.imap_answers.specs.declared.answer.Answer.{Answer}
 use Rattle.imap_answers.specs.declared.answer.Answer.TheVariants.{Tell}
 use Rattle.imap_answers.specs.declared.codes.Code.{Code}
-use Rattle.imap_answers.specs.declared.codes.Code.TheVariants as code
+use Rattle.imap_answers.specs.declared.codes.Code.TheVariants as codes
 use Rattle.imap_answers.specs.declared.codes.Notice.TheVariants as notice
 use Rattle.imap_answers.specs.declared.words.Refusal.{Refusal}
 use Rattle.imap_answers.specs.declared.words.Refusal.TheVariants.{NoDestination, NoSuchMessage, ReadOnly}
@@ -59,7 +59,7 @@ copies_in uidnext landed = map (λ row. row.uid) (beyond (uidnext - 1) landed)
 -- The code of a COPY: where its copies are, and else the other code.
 abbrev pub copied_code : ℕ → List ℕ → List ℕ → Option Code → Option Code
 copied_code uidvalidity [] copies code = code
-copied_code uidvalidity (n ∷ sources) copies code = Some (code.CopyUid uidvalidity (n ∷ sources) copies)
+copied_code uidvalidity (n ∷ sources) copies code = Some (codes.CopyUid uidvalidity (n ∷ sources) copies)
 
 -- What MOVE tells of itself: where its copies are.
 abbrev pub moved_answers : ℕ → List ℕ → List ℕ → List Answer

@@ -1,16 +1,8 @@
-use Rattle.std.specs.Prelude.{ℕ, Bool, not, List, map, Option, Some, None, Result, Ok, Err, if◌then◌else◌}
+use Rattle.std.specs.Prelude.{ℕ, Bool, not, List, map, Option, Some, None, if◌then◌else◌}
 use Rattle.std.specs.List.{filter}
-use Rattle.imap_answers.specs.declared.words.Refusal.{Refusal}
-use Rattle.imap_answers.specs.declared.words.Refusal.TheVariants.{NoSuchMessage}
-use Rattle.imap_types.specs.declared.sequence_set.SequenceRange.{SequenceRange}
 use Rattle.mail_listing.specs.Listed.{Listed}
 use Rattle.session_view.specs.declared.entry.Entry.{Entry}
-use Rattle.session_view.specs.Sets.{is_in_range, resolved}
 use Rattle.imap_commands.specs.Told.{entry_at, is_gone, message_at}
-
--- The numbers of the messages that a set names, or that it names one that there isn't.
-abbrev pub named : Bool → List SequenceRange → List Entry → Result (List ℕ) Refusal
-named by_uid set view = if is_in_range by_uid set view then Ok (resolved by_uid set view) else Err NoSuchMessage
 
 -- Those of the numbers whose messages are there.
 abbrev pub those_there : List Listed → List Entry → List ℕ → List ℕ

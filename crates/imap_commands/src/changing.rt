@@ -1,8 +1,8 @@
 //! How STORE changes flags (RFC 9051, section 6.4.6).
 
-ghost use Rattle.std.specs.Prelude.{◌≡◌, not, IfOk, IsTrue, OnOk};
+ghost use Rattle.std.specs.Prelude.{◌≡◌, IfOk, IsTrue, OnOk};
 ghost use Rattle.std.specs.List.{list_all};
-ghost use Rattle.imap_types.specs.Keywords.{has_keyword, is_lowered, with_text};
+ghost use Rattle.imap_types.specs.Keywords.{is_lowered};
 ghost use Rattle.imap_commands.specs.Changing.{added_flags, changed_flags, remaining, removed_flags, united};
 
 use imap_grammar::StoreMode;
@@ -57,7 +57,7 @@ fn removed(alloc: Global, old: &Flags, given: &Flags) -> Result<Flags, AllocErro
 
 /// The second keywords with each of the first put in its place.
 fn united(alloc: Global, given: &Keywords, keywords: &Keywords) -> Result<Keywords, AllocError>
-    ensures { IfOk result (λ united. united ≡ united given.now keywords.now) }
+    ensures { IfOk result (λ all. all ≡ united given.now keywords.now) }
 {
     let mut all = keywords.copy(alloc)?;
     put_in(alloc, given.as_slice(), &mut all)?;
@@ -79,14 +79,21 @@ fn put_in(alloc: Global, given: &[Octets], keywords: &mut Keywords) -> Result<()
 fn remaining(alloc: Global, given: &Keywords, keywords: &Keywords) -> Result<Keywords, AllocError>
     ensures { IfOk result (λ left. left ≡ remaining given.now keywords.now) }
 {
+    match Keywords::new(left_of(alloc, given, keywords.as_slice())?) {
+        Some(left) => Ok(left),
+        None => unreachable!(),
+    }
+}
+
+/// Those of these keywords that aren't given.
+fn left_of(alloc: Global, given: &Keywords, keywords: &[Octets]) -> Result<Vec<Octets>, AllocError>
+    ensures { IfOk result (λ left. left.items ≡ remaining given.now keywords.now) }
+{
     let mut left = Vec::new(alloc);
-    for keyword in keywords.as_slice() {
+    for keyword in keywords {
         if !given.contains(keyword.as_bytes()) {
             left.push(keyword.copy(alloc)?)?;
         }
     }
-    match Keywords::new(left) {
-        Some(left) => Ok(left),
-        None => unreachable!(),
-    }
+    Ok(left)
 }

@@ -1,6 +1,8 @@
 //! COPY, MOVE and their UID forms (RFC 9051, sections 6.4.7 and 6.4.8).
 
-ghost use Rattle.std.specs.Prelude.{◌≡◌, ◌++◌, map, IfOk, OnOk};
+ghost use Rattle.std.specs.Prelude.{◌≡◌, ◌++◌, drop, map, IfOk, OnOk};
+ghost use Rattle.std.specs.List.{slice_get};
+ghost use Rattle.std.specs.Option.{option_to_list};
 ghost use Rattle.imap_types.specs.Numbers.{AreRisingFrom};
 ghost use Rattle.mail_listing.specs.Listing.{beyond};
 ghost use Rattle.session_view.specs.Sets.{resolved};
@@ -16,6 +18,17 @@ use imap_types::{Name, NumberSet, Octets, SequenceSet};
 use mail_listing::Rows;
 use session_view::{Entry, View};
 use std::alloc::{AllocError, Global};
+
+/// What a command copied.
+#[derive(Drop)]
+struct Copied {
+    /// The UIDs of the messages.
+    source: NumberSet,
+    /// The UIDs of their copies, in the same order.
+    copies: NumberSet,
+    /// That some messages are gone, if some are.
+    gone: Option<Code>,
+}
 
 /// What COPY issues in the destination, or the first reason against it: a number that no message has, a destination that isn't there. The
 /// texts are copied.
@@ -35,7 +48,14 @@ pub fn copy_wants(
         return Err(Refusal::NoDestination);
     }
     let mut kinds = Vec::new(alloc);
-    push_appends(alloc, destination, before, view.entries(), &numbers, &mut kinds)?;
+    push_appends(
+        alloc,
+        destination,
+        before,
+        view.entries(),
+        &numbers,
+        &mut kinds,
+    )?;
     Ok(kinds)
 }
 
@@ -62,7 +82,14 @@ pub fn move_wants(
         return Err(Refusal::NoDestination);
     }
     let mut kinds = Vec::new(alloc);
-    push_appends(alloc, destination, before, view.entries(), &numbers, &mut kinds)?;
+    push_appends(
+        alloc,
+        destination,
+        before,
+        view.entries(),
+        &numbers,
+        &mut kinds,
+    )?;
     push_removals(alloc, folder, before, view.entries(), &numbers, &mut kinds)?;
     Ok(kinds)
 }
@@ -160,10 +187,11 @@ pub fn copy_tells(
 ) -> Result<Telling, AllocError>
     ensures { IfOk result (λ told. told ≡ copy_tells before.now view.now.entries by_uid set.now uidvalidity uidnext landed.now) }
 {
-    let numbers = resolved(alloc, by_uid, set, view)?;
-    let gone = gone_code(before, view.entries(), &numbers);
-    let source = sources_of(alloc, before, view, by_uid, set)?;
-    let copies = copies_in(alloc, uidnext, landed)?;
+    let Copied {
+        source,
+        copies,
+        gone,
+    } = outcome_of(alloc, before, view, by_uid, set, uidnext, landed)?;
     let code = copied_code(uidvalidity, source, copies, gone);
     Ok(Telling::new(Vec::new(alloc), Vec::new(alloc), code))
 }
@@ -181,29 +209,38 @@ pub fn move_tells(
 ) -> Result<Telling, AllocError>
     ensures { IfOk result (λ told. told ≡ move_tells before.now view.now.entries by_uid set.now uidvalidity uidnext landed.now) }
 {
-    let numbers = resolved(alloc, by_uid, set, view)?;
-    let gone = gone_code(before, view.entries(), &numbers);
-    let source = sources_of(alloc, before, view, by_uid, set)?;
-    let copies = copies_in(alloc, uidnext, landed)?;
+    let Copied {
+        source,
+        copies,
+        gone,
+    } = outcome_of(alloc, before, view, by_uid, set, uidnext, landed)?;
     let own = moved_answers(alloc, uidvalidity, source, copies)?;
     Ok(Telling::new(own, Vec::new(alloc), gone))
 }
 
-/// The UIDs of the messages that are copied.
-fn sources_of(
+/// What was copied, by UIDs, and whether some messages are gone.
+fn outcome_of(
     alloc: Global,
     before: &Rows<'_>,
     view: &View,
     by_uid: bool,
     set: &SequenceSet,
-) -> Result<NumberSet, AllocError>
-    ensures { IfOk result (λ source. source ≡ sources_of before.now view.now.entries (resolved by_uid set.now view.now.entries)) }
+    uidnext: u32,
+    landed: &Rows<'_>,
+) -> Result<Copied, AllocError>
+    ensures source { IfOk result (λ found. found.source ≡ sources_of before.now view.now.entries (resolved by_uid set.now view.now.entries)) }
+    ensures copies { IfOk result (λ found. found.copies ≡ copies_in uidnext landed.now) }
+    ensures gone { IfOk result (λ found. found.gone ≡ gone_code before.now view.now.entries (resolved by_uid set.now view.now.entries)) }
 {
     let numbers = resolved(alloc, by_uid, set, view)?;
     let view = view.entries();
     let there = those_there(alloc, before, view, &numbers)?;
     let uids = names_of(alloc, true, view, &there)?;
-    set_of(alloc, &uids)
+    Ok(Copied {
+        source: set_of(alloc, &uids)?,
+        copies: copies_in(alloc, uidnext, landed)?,
+        gone: gone_code(before, view, &numbers),
+    })
 }
 
 /// The UIDs of the messages that came with the command.
@@ -261,12 +298,28 @@ fn uids_beyond(alloc: Global, uid: u32, rows: &Rows<'_>) -> Result<Vec<u32>, All
     ensures uids { IfOk result (λ uids. uids.items ≡ map (λ row. row.uid) (beyond uid rows.now)) }
     ensures rising { IfOk result (λ uids. AreRisingFrom 1 uids.items) }
 {
-    let count = rows.count() as usize;
+    let _count = rows.count();
+    let uids = uids_from(alloc, rows.place_beyond(uid), rows)?;
+    Ok(uids)
+}
+
+/// The UIDs of the messages from this place on.
+fn uids_from(alloc: Global, start: usize, rows: &Rows<'_>) -> Result<Vec<u32>, AllocError>
+    ensures { IfOk result (λ uids. uids.items ≡ map (λ row. row.uid) (drop start rows.now)) }
+{
     let mut uids = Vec::new(alloc);
-    for place in rows.place_beyond(uid)..count {
-        if let Some(row) = rows.row_at(place) {
-            uids.push(row.uid)?;
-        }
+    for place in start..rows.count() as usize {
+        push_uid(rows, place, &mut uids)?;
     }
     Ok(uids)
+}
+
+/// Adds the UID of the message at this place.
+fn push_uid(rows: &Rows<'_>, place: usize, uids: &mut Vec<u32>) -> Result<(), AllocError>
+    ensures { OnOk result (uids.new.items ≡ uids.old.items ++ map (λ row. row.uid) (option_to_list (slice_get rows.now place))) }
+{
+    if let Some(row) = rows.row_at(place) {
+        uids.push(row.uid)?;
+    }
+    Ok(())
 }

@@ -1,6 +1,7 @@
 //! EXPUNGE, UID EXPUNGE and CLOSE (RFC 9051, sections 6.4.3, 6.4.9 and 6.4.1).
 
 ghost use Rattle.std.specs.Prelude.{◌≡◌, ◌++◌, flat_map, IfOk, OnOk};
+ghost use Rattle.std.specs.List.{slice_get};
 ghost use Rattle.mail_listing.specs.Listing.{listed};
 ghost use Rattle.imap_commands.specs.Expunging.{close_wants, expunge_at, expunge_of, expunge_wants, uid_expunge_tells, uid_expunge_wants};
 ghost use Rattle.imap_commands.specs.Gives.{Gives};
@@ -50,14 +51,27 @@ pub fn close_wants(
 fn expunges(alloc: Global, folder: &Name, before: &Rows<'_>) -> Result<Vec<Kind>, AllocError>
     ensures { IfOk result (λ kinds. kinds.items ≡ flat_map (expunge_of folder.now) before.now) }
 {
-    let count = before.count() as usize;
     let mut kinds = Vec::new(alloc);
-    for place in 0..count {
-        if let Some(row) = before.row_at(place) {
-            push_expunge(alloc, folder, &row, &mut kinds)?;
-        }
+    for place in 0..before.count() as usize {
+        push_expunge_at(alloc, folder, before, place, &mut kinds)?;
     }
     Ok(kinds)
+}
+
+/// Adds the Expunge of the message at this place of the listing, where it is marked as deleted.
+fn push_expunge_at(
+    alloc: Global,
+    folder: &Name,
+    before: &Rows<'_>,
+    place: usize,
+    kinds: &mut Vec<Kind>,
+) -> Result<(), AllocError>
+    ensures { OnOk result (kinds.new.items ≡ kinds.old.items ++ expunge_at folder.now (slice_get before.now place)) }
+{
+    match before.row_at(place) {
+        None => Ok(()),
+        Some(row) => push_expunge(alloc, folder, &row, kinds),
+    }
 }
 
 /// Adds the Expunge of a message, where it is marked as deleted.

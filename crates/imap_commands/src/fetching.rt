@@ -54,7 +54,9 @@ fn seen_stores(
 {
     let mut kinds = Vec::new(alloc);
     for number in numbers {
-        push_seen(alloc, folder, before, view, *number, items, mode, &mut kinds)?;
+        push_seen(
+            alloc, folder, before, view, *number, items, mode, &mut kinds,
+        )?;
     }
     Ok(kinds)
 }

@@ -1,11 +1,10 @@
 //! The messages that a command names.
 
-ghost use Rattle.std.specs.Prelude.{◌≡◌, ◌+◌, Some, IfOk, OnOk};
-ghost use Rattle.imap_types.specs.Numbers.{AreRisingFrom, greatest};
-ghost use Rattle.session_view.specs.Sets.{resolved};
-ghost use Rattle.session_view.specs.Views.{AreRising};
-ghost use Rattle.imap_commands.specs.Gives.{Gives};
-ghost use Rattle.imap_commands.specs.Named.{name_at, named, names_of, those_there};
+ghost use Rattle.std.specs.Prelude.{◌≡◌, ◌⊎◌, true, false, IfErr, IfOk};
+ghost use Rattle.imap_answers.specs.declared.words.Refusal.TheVariants.{NoMemory, NoSuchMessage};
+ghost use Rattle.imap_types.specs.Numbers.{AreRisingFrom};
+ghost use Rattle.session_view.specs.Sets.{is_in_range, resolved};
+ghost use Rattle.imap_commands.specs.Named.{name_at, names_of, those_there};
 
 use crate::telling::{entry_at, message_at};
 use imap_answers::Refusal;
@@ -14,14 +13,16 @@ use mail_listing::Rows;
 use session_view::{BadSet, Entry, View};
 use std::alloc::{AllocError, Global};
 
-/// The numbers of the messages that a set names, or that it names one that there isn't.
+/// The numbers of the messages that a set names; `NoSuchMessage` exactly where it names one that there isn't, or `NoMemory`.
 pub fn named(
     alloc: Global,
     by_uid: bool,
     set: &SequenceSet,
     view: &View,
 ) -> Result<Vec<u32>, Refusal>
-    ensures { Gives (λ numbers. numbers.items) result (named by_uid set.now view.now.entries) }
+    ensures range { IfOk result (λ _. is_in_range by_uid set.now view.now.entries ≡ true) }
+    ensures numbers { IfOk result (λ numbers. numbers.items ≡ resolved by_uid set.now view.now.entries) }
+    ensures err { IfErr result (λ why. (why ≡ NoMemory) ⊎ ((why ≡ NoSuchMessage) × (is_in_range by_uid set.now view.now.entries ≡ false))) }
 {
     match view.resolve(alloc, set, by_uid) {
         Ok(numbers) => Ok(numbers),

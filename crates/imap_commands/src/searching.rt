@@ -1,6 +1,6 @@
 //! SEARCH and UID SEARCH (RFC 9051, section 6.4.4; RFC 7162, section 3.1.5).
 
-ghost use Rattle.std.specs.Prelude.{◌≡◌, ◌≤◌, ◌<◌, ◌^◌, length, IfOk, OnOk};
+ghost use Rattle.std.specs.Prelude.{◌≡◌, IfOk};
 ghost use Rattle.std.specs.List.{list_all};
 ghost use Rattle.session_view.specs.Views.{AreRising};
 ghost use Rattle.imap_commands.specs.Gives.{Gives};
@@ -13,15 +13,11 @@ use imap_grammar::{SearchOption, SearchStep, SearchTest};
 use imap_query::{Shown, search};
 use imap_types::Octets;
 use mail_listing::Rows;
-use session_view::{Entry, View};
+use session_view::{Entry, View, count_of};
 use std::alloc::{AllocError, Global};
 
 /// Nothing, which is what SEARCH issues, or that a set of numbers in its keys names a message that there isn't.
-pub fn search_wants(
-    alloc: Global,
-    view: &View,
-    steps: &[SearchStep],
-) -> Result<Vec<Kind>, Refusal>
+pub fn search_wants(alloc: Global, view: &View, steps: &[SearchStep]) -> Result<Vec<Kind>, Refusal>
     ensures { Gives (λ kinds. kinds.items) result (search_wants view.now.entries steps.now) }
 {
     if !are_in_range(view, steps) {
@@ -88,6 +84,7 @@ fn all_shown(alloc: Global, view: &[Entry]) -> Result<Vec<Shown>, AllocError>
     requires { AreRising 1 view.now }
     ensures { IfOk result (λ shown. shown.items ≡ shown_from 1 view.now) }
 {
+    let _count = count_of(view);
     let mut shown = Vec::with_capacity(alloc, view.len())?;
     let mut number = 0;
     for entry in view {

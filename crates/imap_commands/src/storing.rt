@@ -1,15 +1,12 @@
 //! STORE and UID STORE (RFC 9051, section 6.4.6; RFC 7162, section 3.1.3).
 
-ghost use Rattle.std.specs.Prelude.{◌≡◌, ◌&&◌, ◌||◌, ◌++◌, flat_map, not, is_some, IfOk, OnOk};
+ghost use Rattle.std.specs.Prelude.{◌≡◌, ◌&&◌, ◌++◌, flat_map, not, is_some, IfOk, OnOk};
 ghost use Rattle.std.specs.List.{list_all, list_any};
-ghost use Rattle.std.specs.Option.{option_copied, option_map};
 ghost use Rattle.imap_types.specs.Keywords.{is_lawful_keyword};
 ghost use Rattle.imap_types.specs.Numbers.{AreRisingFrom};
 ghost use Rattle.mail_listing.specs.Listing.{listed};
 ghost use Rattle.imap_query.specs.Fetching.{where_told};
-ghost use Rattle.session_view.specs.Sets.{resolved};
 ghost use Rattle.session_view.specs.Views.{same_flags};
-ghost use Rattle.imap_commands.specs.Changing.{changed_flags};
 ghost use Rattle.imap_commands.specs.Gives.{Gives};
 ghost use Rattle.imap_commands.specs.Named.{names_of};
 ghost use Rattle.imap_commands.specs.Storing.{has_unlawful_keyword, is_overfull, is_refused, is_taken, is_unchanged, modified_code, silent_at, silents_of, store_of, store_tells, store_wants, stored_answer, stored_answers, stores_of, those_refused, those_taken};
@@ -203,7 +200,9 @@ fn stores(
 {
     let mut kinds = Vec::new(alloc);
     for number in numbers {
-        push_store(alloc, folder, before, view, *number, mode, given, &mut kinds)?;
+        push_store(
+            alloc, folder, before, view, *number, mode, given, &mut kinds,
+        )?;
     }
     Ok(kinds)
 }
@@ -263,31 +262,39 @@ pub fn store_tells(
     ensures { IfOk result (λ told. told ≡ store_tells before.now after.now view.now.entries condstore by_uid set.now unchanged_since mode silent given.now) }
 {
     let numbers = resolved(alloc, by_uid, set, view)?;
-    let code = store_code(alloc, before, view, by_uid, set, unchanged_since)?;
     let view = view.entries();
+    let refused = those_refused(alloc, before, view, unchanged_since, &numbers)?;
+    let code = store_code(alloc, before, view, by_uid, &refused, &numbers)?;
     let taken = those_taken(alloc, before, view, unchanged_since, &numbers)?;
-    let own = stored_answers(alloc, after, view, condstore, by_uid, unchanged_since, silent, &taken)?;
+    let own = stored_answers(
+        alloc,
+        after,
+        view,
+        condstore,
+        by_uid,
+        unchanged_since,
+        silent,
+        &taken,
+    )?;
     let silent = silents_of(alloc, view, mode, silent, given, &taken)?;
     Ok(Telling::new(own, silent, code))
 }
 
-/// The code of a STORE: which messages it refused, and else whether some are gone.
+/// The code of a STORE that names messages with these numbers: which it refused, and else whether some are gone.
 fn store_code(
     alloc: Global,
     before: &Rows<'_>,
-    view: &View,
+    view: &[Entry],
     by_uid: bool,
-    set: &SequenceSet,
-    since: Option<u64>,
+    refused: &[u32],
+    numbers: &[u32],
 ) -> Result<Option<Code>, AllocError>
-    ensures { IfOk result (λ code. code ≡ modified_code (names_of by_uid view.now.entries (those_refused before.now view.now.entries since (resolved by_uid set.now view.now.entries))) (gone_code before.now view.now.entries (resolved by_uid set.now view.now.entries))) }
+    requires { AreRisingFrom 1 (names_of by_uid view.now refused.now) }
+    ensures { IfOk result (λ code. code ≡ modified_code (names_of by_uid view.now refused.now) (gone_code before.now view.now numbers.now)) }
 {
-    let numbers = resolved(alloc, by_uid, set, view)?;
-    let view = view.entries();
-    let refused = those_refused(alloc, before, view, since, &numbers)?;
-    let names = names_of(alloc, by_uid, view, &refused)?;
+    let names = names_of(alloc, by_uid, view, refused)?;
     if names.is_empty() {
-        return Ok(gone_code(before, view, &numbers));
+        return Ok(gone_code(before, view, numbers));
     }
     Ok(Some(Code::Modified {
         refused: set_of(alloc, &names)?,
@@ -335,7 +342,16 @@ fn answers_of(
 {
     let mut answers = Vec::new(alloc);
     for number in taken {
-        push_answer(alloc, after, view, by_uid, with_flags, with_modseq, *number, &mut answers)?;
+        push_answer(
+            alloc,
+            after,
+            view,
+            by_uid,
+            with_flags,
+            with_modseq,
+            *number,
+            &mut answers,
+        )?;
     }
     Ok(answers)
 }

@@ -12,7 +12,7 @@ mod sets;
 mod syncing;
 mod view;
 
-pub use entry::{Entry, SyncKind, are_rising};
+pub use entry::{Entry, SyncKind, are_rising, count_of};
 pub use laws::{
     ended_views_empty, expunges_name_gone, full_syncs_show_listing, notes_suffice,
     partial_syncs_keep_gone, replays_keep_order, syncs_keep_order, syncs_replay,

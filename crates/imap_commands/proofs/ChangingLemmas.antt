@@ -1,0 +1,71 @@
+use Rattle.std.proofs.Common.{◌≡◌, ◌∙◌, ap, sym, refl, arith, ℕ, zero, suc, ◌+◌, ◌<◌, inl, inr, Bool, true, false, List, [], ◌∷◌, length, drop, get_or, Option, Some, None, if◌then◌else◌}
+use Rattle.std.specs.Prelude.{not}
+use Rattle.std.specs.List.{filter, list_all}
+use Rattle.std.proofs.lemmas.Bool.{and_from, and_parts, cases_Bool}
+use Rattle.std.proofs.lemmas.Cmp.{nat_list_cmp_total}
+use Rattle.std.proofs.lemmas.Slice.Eq.{bytes_eq-Decides}
+use Rattle.imap_types.specs.Ascending.{AreAscending, ComesBefore}
+use Rattle.imap_types.specs.Keywords.{AreKeywords, are_keywords, has_keyword, is_lowered, lowered, with_text}
+use Rattle.imap_types.proofs.KeywordLemmas.{dropped, test_from_keywords}
+use Rattle.imap_commands.specs.Changing.{remaining, united}
+
+-- ---- keywords put in
+
+lowered_at : (words : List (List ℕ)) (i : ℕ) (d : List ℕ) → list_all is_lowered words ≡ true → i < length words → lowered (get_or words i d) ≡ get_or words i d
+lowered_at [] i d h l = absurd (omega arith)
+lowered_at (word ∷ words) zero d h l = (bytes_eq-Decides (lowered word) word).0 (and_parts (is_lowered word) (list_all is_lowered words) h).0
+lowered_at (word ∷ words) (suc i) d h l = lowered_at words i d (and_parts (is_lowered word) (list_all is_lowered words) h).1 (omega arith)
+
+-- one keyword more
+pub united_more : (given : List (List ℕ)) (i : ℕ) (word : List ℕ) (old new total : List (List ℕ)) → list_all is_lowered given ≡ true → i < length given → word ≡ get_or given i word
+    → new ≡ with_text (lowered word) old → united (drop i given) old ≡ total → united (drop (i + 1) given) new ≡ total
+united_more given i word old new total h l e n t =
+    let low : lowered word ≡ word = ap lowered e ∙ lowered_at given i word h l ∙ sym e in
+    ap (λ ks. united (drop (i + 1) given) ks) (n ∙ ap (λ w. with_text w old) low)
+    ∙ ap (λ ws. united ws old) (sym (dropped given i word l e))
+    ∙ t
+
+-- ---- keywords left
+
+first_out : (a b : List ℕ) (rest : List (List ℕ)) → ComesBefore a b → AreAscending (b ∷ rest) → AreAscending (a ∷ rest)
+first_out a b [] h i = tt
+first_out a b (c ∷ rest) h i = (nat_list_cmp_total.trans a b c h i.0, i.1)
+
+filtered_behind : (test : List ℕ → Bool) (a : List ℕ) (words : List (List ℕ)) → AreAscending (a ∷ words) → AreAscending (a ∷ filter test words)
+filtered_behind test a [] h = tt
+filtered_behind test a (b ∷ words) h =
+    elim (cases_Bool (test b)) [
+      | inl t ↦ rw t (h.0, filtered_behind test b words h.1)
+      | inr f ↦ rw f (filtered_behind test a words (first_out a b words h.0 h.1))
+    ]
+
+ascending_tail : (a : List ℕ) (words : List (List ℕ)) → AreAscending (a ∷ words) → AreAscending words
+ascending_tail a [] h = tt
+ascending_tail a (b ∷ words) h = h.1
+
+filtered : (test : List ℕ → Bool) (words : List (List ℕ)) → AreAscending words → AreAscending (filter test words)
+filtered test [] h = tt
+filtered test (a ∷ words) h =
+    elim (cases_Bool (test a)) [
+      | inl t ↦ rw t (filtered_behind test a words h)
+      | inr f ↦ rw f (filtered test words (ascending_tail a words h))
+    ]
+
+-- What holds of all holds of those that are left.
+pub all_filtered : (p test : List ℕ → Bool) (words : List (List ℕ)) → list_all p words ≡ true → list_all p (filter test words) ≡ true
+all_filtered p test [] h = refl
+all_filtered p test (a ∷ words) h =
+    let parts = and_parts (p a) (list_all p words) h in
+    elim (cases_Bool (test a)) [
+      | inl t ↦ rw t (and_from (p a) (list_all p (filter test words)) parts.0 (all_filtered p test words parts.1))
+      | inr f ↦ rw f (all_filtered p test words parts.1)
+    ]
+
+pub never_none : (b : Bool) (words : List (List ℕ)) (made : Option (List (List ℕ))) → b ≡ true → made ≡ (if b then Some words else None) → made ≡ None → ⊥
+never_none true words made t m e = let k : Some words ≡ None = sym m ∙ e in cc
+never_none false words made t m e = cc
+
+pub remaining_are_keywords : (given keywords : List (List ℕ)) → AreKeywords keywords → are_keywords (remaining given keywords) ≡ true
+remaining_are_keywords given keywords h =
+    let test = λ (keyword : List ℕ). not (has_keyword keyword given) in
+    test_from_keywords (remaining given keywords) (all_filtered is_lowered test keywords h.0, filtered test keywords h.1)

@@ -1,0 +1,250 @@
+use Rattle.std.proofs.Common.{◌≡◌, ◌⊎◌, subst, refl, arith, ℕ, ◌≤◌, inl, inr, Bool, true, false, ◌||◌, ◌==◌, List, [], ◌∷◌, ◌++◌, length, Option, Some, None, if◌then◌else◌}
+use Rattle.std.specs.Prelude.{◌&&◌, nat_lt, not, Result, Ok, Err}
+use Rattle.std.specs.List.{flat_map, list_all, list_any}
+use Rattle.std.specs.Ordering.{match_ordering}
+use Rattle.std.specs.declared.cmp.Ordering.{Ordering}
+use Rattle.std.specs.declared.cmp.Ordering.TheVariants.{Less, Equal, Greater}
+use Rattle.std.proofs.lemmas.Bool.{and_from, and_parts}
+use Rattle.std.proofs.lemmas.Bool.Decides.{nat_tests}
+use Rattle.crdt_ops.specs.declared.kind.Kind.{Kind}
+use Rattle.crdt_ops.specs.declared.kind.Kind.TheVariants.{Append, Expunge, Store}
+use Rattle.imap_answers.specs.declared.words.Refusal.{Refusal}
+use Rattle.imap_grammar.specs.declared.fetch.FetchItem.{FetchItem}
+use Rattle.imap_grammar.specs.declared.store.StoreMode.{StoreMode}
+use Rattle.imap_grammar.specs.declared.store.StoreMode.TheVariants.{Replace, Add, Remove}
+use Rattle.imap_query.specs.Fetching.{is_kept, is_marked}
+use Rattle.imap_query.specs.declared.fetching.FetchMode.{FetchMode}
+use Rattle.imap_types.specs.Ascending.{compared}
+use Rattle.imap_types.specs.Flags.{IsLawfulFlags}
+use Rattle.imap_types.specs.Keywords.{has_keyword, is_lawful_keyword, with_text}
+use Rattle.imap_types.specs.declared.flags.Flags.{Flags}
+use Rattle.imap_types.specs.declared.sequence_set.SequenceRange.{SequenceRange}
+use Rattle.mail_listing.specs.Listed.{Listed}
+use Rattle.mail_listing.specs.Listing.{row_of}
+use Rattle.merge_laws.specs.Orders.{IsIn}
+use Rattle.session_view.specs.Sets.{is_in_range, resolved}
+use Rattle.session_view.specs.Views.{same_flags}
+use Rattle.session_view.specs.declared.entry.Entry.{Entry}
+use Rattle.imap_commands.specs.Changing.{changed_flags, united}
+use Rattle.imap_commands.specs.Copying.{append_of, appends_of, copy_wants, move_wants, removal_of, removals_of}
+use Rattle.imap_commands.specs.Expunging.{close_wants, expunge_at, expunge_of, expunge_wants, uid_expunge_wants}
+use Rattle.imap_commands.specs.Fetching.{fetch_wants, mode_of, seen_flags, seen_store}
+use Rattle.imap_commands.specs.Issued.{AreIssuable, HaveLawfulFlags, IsIssuable}
+use Rattle.imap_commands.specs.Storing.{has_unlawful_keyword, is_overfull, store_of, store_wants, stores_of, those_taken}
+use Rattle.imap_commands.specs.Told.{entry_at, message_at, row_for}
+use Rattle.imap_commands.proofs.ChangingLemmas.{all_filtered}
+
+-- ---- lists of operations
+
+each_append : (P : Kind → Type 0) (xs ys : List Kind) → ((kind : Kind) → IsIn kind xs → P kind) → ((kind : Kind) → IsIn kind ys → P kind) → (kind : Kind) → IsIn kind (xs ++ ys) → P kind
+each_append P [] ys h g kind i = g kind i
+each_append P (x ∷ xs) ys h g kind i =
+    elim i [
+      | inl e ↦ h kind (inl e)
+      | inr t ↦ each_append P xs ys (λ k m. h k (inr m)) g kind t
+    ]
+
+each_flat : {A : Type 0} (P : Kind → Type 0) (f : A → List Kind) (xs : List A) → ((x : A) → IsIn x xs → (kind : Kind) → IsIn kind (f x) → P kind) → (kind : Kind) → IsIn kind (flat_map f xs) → P kind
+each_flat P f [] h kind i = absurd i
+each_flat P f (x ∷ xs) h kind i = each_append P (f x) (flat_map f xs) (h x (inl refl)) (each_flat P f xs (λ y m. h y (inr m))) kind i
+
+only_one : (P : Kind → Type 0) (x : Kind) → P x → (kind : Kind) → IsIn kind (x ∷ []) → P kind
+only_one P x p kind i = elim i [ inl e ↦ subst P e p | inr t ↦ absurd t ]
+
+one_unless : (P : Kind → Type 0) (b : Bool) (x : Kind) → P x → (kind : Kind) → IsIn kind (if b then [] else x ∷ []) → P kind
+one_unless P true x p kind i = absurd i
+one_unless P false x p kind i = only_one P x p kind i
+
+one_where : (P : Kind → Type 0) (b : Bool) (x : Kind) → P x → (kind : Kind) → IsIn kind (if b then x ∷ [] else []) → P kind
+one_where P true x p kind i = only_one P x p kind i
+one_where P false x p kind i = absurd i
+
+-- ---- results
+
+unless_refused : (b : Bool) (why : Refusal) (rest : Result (List Kind) Refusal) (kinds : List Kind) → (if b then Err why else rest) ≡ Ok kinds → (b ≡ false) × (rest ≡ Ok kinds)
+unless_refused true why rest kinds h = cc
+unless_refused false why rest kinds h = (refl, h)
+
+ok_is : (P : List Kind → Type 0) (found kinds : List Kind) → (the : Result (List Kind) Refusal) → the ≡ Ok found → the ≡ Ok kinds → P found → P kinds
+ok_is P found kinds the e h p = let k : found ≡ kinds = cc in subst P k p
+
+-- ---- messages of a listing
+
+picked : (b : Bool) (x row : Listed) (rest : Option Listed) → (if b then Some x else rest) ≡ Some row → (x ≡ row) ⊎ (rest ≡ Some row)
+picked true x row rest h = let k : x ≡ row = cc in inl k
+picked false x row rest h = inr h
+
+row_is_in : (uid : ℕ) (rows : List Listed) (row : Listed) → row_of uid rows ≡ Some row → IsIn row rows
+row_is_in uid [] row h = cc
+row_is_in uid (x ∷ rows) row h = elim (picked (x.uid == uid) x row (row_of uid rows) h) [ inl e ↦ inl e | inr t ↦ inr (row_is_in uid rows row t) ]
+
+message_is_in : (rows : List Listed) (entry : Option Entry) (row : Listed) → row_for rows entry ≡ Some row → IsIn row rows
+message_is_in rows None row h = cc
+message_is_in rows (Some e) row h = row_is_in e.uid rows row h
+
+-- ---- lawful flags
+
+all_with : (p : List ℕ → Bool) (word : List ℕ) (next : List ℕ) (words rest : List (List ℕ)) (o : Ordering) → p word ≡ true → list_all p (next ∷ words) ≡ true → list_all p rest ≡ true
+    → list_all p (match_ordering o (word ∷ next ∷ words) (next ∷ words) (next ∷ rest)) ≡ true
+all_with p word next words rest Less h i j = and_from (p word) (list_all p (next ∷ words)) h i
+all_with p word next words rest Equal h i j = i
+all_with p word next words rest Greater h i j = and_from (p next) (list_all p rest) (and_parts (p next) (list_all p words) i).0 j
+
+all_with_text : (p : List ℕ → Bool) (word : List ℕ) (words : List (List ℕ)) → p word ≡ true → list_all p words ≡ true → list_all p (with_text word words) ≡ true
+all_with_text p word [] h i = and_from (p word) true h refl
+all_with_text p word (next ∷ words) h i =
+    all_with p word next words (with_text word words) (compared word next) h i (all_with_text p word words h (and_parts (p next) (list_all p words) i).1)
+
+all_united : (p : List ℕ → Bool) (given words : List (List ℕ)) → list_all p given ≡ true → list_all p words ≡ true → list_all p (united given words) ≡ true
+all_united p [] words h i = i
+all_united p (word ∷ given) words h i =
+    let parts = and_parts (p word) (list_all p given) h in
+    all_united p given (with_text word words) parts.1 (all_with_text p word words parts.0 i)
+
+lawful_change : (mode : StoreMode) (old given : Flags) → list_all is_lawful_keyword old.keywords ≡ true → list_all is_lawful_keyword given.keywords ≡ true → list_all is_lawful_keyword (changed_flags mode old given).keywords ≡ true
+unfolding changed_flags
+lawful_change Replace old given h i = i
+lawful_change Add old given h i = all_united is_lawful_keyword given.keywords old.keywords i h
+lawful_change Remove old given h i = all_filtered is_lawful_keyword (λ (keyword : List ℕ). not (has_keyword keyword given.keywords)) old.keywords h
+
+few_enough : (n : ℕ) → nat_lt 32 n ≡ false → n ≤ 32
+few_enough n h = grind (arith, nat_tests)
+
+-- ---- STORE
+
+store_issuable : (folder : List ℕ) (rows : List Listed) (mode : StoreMode) (given : Flags) (message : Option Listed) → ((row : Listed) → message ≡ Some row → IsIn row rows) → HaveLawfulFlags rows
+    → list_all is_lawful_keyword given.keywords ≡ true → is_overfull mode given message ≡ false → (kind : Kind) → IsIn kind (store_of folder mode given message) → IsIssuable folder folder rows kind
+store_issuable folder rows mode given None m l k o kind i = absurd i
+store_issuable folder rows mode given (Some row) m l k o kind i =
+    let is_in : IsIn row rows = m row refl in
+    let flags = changed_flags mode row.flags given in
+    let lawful : IsLawfulFlags flags = (few_enough (length flags.keywords) o, lawful_change mode row.flags given (l row is_in).1 k) in
+    one_unless (IsIssuable folder folder rows) (same_flags flags row.flags) (Store folder flags row.id row.origin) (refl, lawful, (row, is_in, refl, refl)) kind i
+
+neither : (a b : Bool) → (a || b) ≡ false → (a ≡ false) × (b ≡ false)
+neither true b h = cc
+neither false b h = (refl, h)
+
+none_of_them : {A : Type 0} (test : A → Bool) (xs : List A) (x : A) → list_any test xs ≡ false → IsIn x xs → test x ≡ false
+none_of_them test [] x h i = absurd i
+none_of_them test (y ∷ xs) x h i =
+    let parts = neither (test y) (list_any test xs) h in
+    elim i [ inl e ↦ subst (λ z. test z ≡ false) e parts.0 | inr n ↦ none_of_them test xs x parts.1 n ]
+
+not_false : (b : Bool) → not b ≡ false → b ≡ true
+not_false true h = refl
+not_false false h = cc
+
+lawful_given : (flags : Flags) → has_unlawful_keyword flags ≡ false → list_all is_lawful_keyword flags.keywords ≡ true
+lawful_given flags h = not_false (list_all is_lawful_keyword flags.keywords) h
+
+pub stores_of_issuable : (folder : List ℕ) (rows : List Listed) (view : List Entry) (numbers : List ℕ) (mode : StoreMode) (given : Flags) (kinds : List Kind) → HaveLawfulFlags rows
+    → has_unlawful_keyword given ≡ false → stores_of folder rows view numbers mode given ≡ Ok kinds → AreIssuable folder folder rows kinds
+stores_of_issuable folder rows view numbers mode given kinds l u h =
+    let parts = unless_refused (list_any (λ n. is_overfull mode given (message_at rows view n)) numbers) _ _ kinds h in
+    ok_is (AreIssuable folder folder rows) (flat_map (λ n. store_of folder mode given (message_at rows view n)) numbers) kinds _ refl parts.1
+    (each_flat (IsIssuable folder folder rows) (λ n. store_of folder mode given (message_at rows view n)) numbers
+    (λ n i. store_issuable folder rows mode given (message_at rows view n) (λ row e. message_is_in rows (entry_at view n) row e) l (lawful_given given u)
+    (none_of_them (λ n. is_overfull mode given (message_at rows view n)) numbers n parts.0 i)))
+
+-- STORE issues Stores of listed messages, with lawful flags.
+pub store_wants_issuable : (folder : List ℕ) (before : List Listed) (view : List Entry) (read_only by_uid : Bool) (set : List SequenceRange) (since : Option ℕ) (mode : StoreMode) (given : Flags) (kinds : List Kind)
+    → HaveLawfulFlags before → store_wants folder before view read_only by_uid set since mode given ≡ Ok kinds → AreIssuable folder folder before kinds
+store_wants_issuable folder before view read_only by_uid set since mode given kinds l h =
+    let in_range = unless_refused (not (is_in_range by_uid set view)) _ _ kinds h in
+    let writable = unless_refused read_only _ _ kinds in_range.1 in
+    let lawful = unless_refused (has_unlawful_keyword given) _ _ kinds writable.1 in
+    stores_of_issuable folder before view (those_taken before view since (resolved by_uid set view)) mode given kinds l lawful.0 lawful.1
+
+-- ---- EXPUNGE
+
+expunge_issuable : (folder destination : List ℕ) (rows : List Listed) (row : Listed) → IsIn row rows → (kind : Kind) → IsIn kind (expunge_of folder row) → IsIssuable folder destination rows kind
+expunge_issuable folder destination rows row m kind i =
+    one_where (IsIssuable folder destination rows) row.flags.deleted (Expunge folder row.id) (refl, (row, m, refl)) kind i
+
+expunges_issuable : (folder : List ℕ) (rows : List Listed) → AreIssuable folder folder rows (flat_map (expunge_of folder) rows)
+expunges_issuable folder rows = each_flat (IsIssuable folder folder rows) (expunge_of folder) rows (λ row m. expunge_issuable folder folder rows row m)
+
+-- EXPUNGE issues Expunges of listed messages.
+pub expunge_wants_issuable : (folder : List ℕ) (before : List Listed) (read_only : Bool) (kinds : List Kind) → expunge_wants folder before read_only ≡ Ok kinds → AreIssuable folder folder before kinds
+expunge_wants_issuable folder before read_only kinds h =
+    let writable = unless_refused read_only _ _ kinds h in
+    ok_is (AreIssuable folder folder before) (flat_map (expunge_of folder) before) kinds _ refl writable.1 (expunges_issuable folder before)
+
+-- CLOSE does too, or issues nothing.
+pub close_wants_issuable : (folder : List ℕ) (before : List Listed) (read_only : Bool) (kinds : List Kind) → close_wants folder before read_only ≡ Ok kinds → AreIssuable folder folder before kinds
+close_wants_issuable folder before true kinds h = ok_is (AreIssuable folder folder before) [] kinds _ refl h (λ kind i. absurd i)
+close_wants_issuable folder before false kinds h = ok_is (AreIssuable folder folder before) (flat_map (expunge_of folder) before) kinds _ refl h (expunges_issuable folder before)
+
+expunge_at_issuable : (folder : List ℕ) (rows : List Listed) (message : Option Listed) → ((row : Listed) → message ≡ Some row → IsIn row rows) → (kind : Kind) → IsIn kind (expunge_at folder message) → IsIssuable folder folder rows kind
+expunge_at_issuable folder rows None m kind i = absurd i
+expunge_at_issuable folder rows (Some row) m kind i = expunge_issuable folder folder rows row (m row refl) kind i
+
+-- So does UID EXPUNGE.
+pub uid_expunge_wants_issuable : (folder : List ℕ) (before : List Listed) (view : List Entry) (read_only : Bool) (set : List SequenceRange) (kinds : List Kind) → uid_expunge_wants folder before view read_only set ≡ Ok kinds → AreIssuable folder folder before kinds
+uid_expunge_wants_issuable folder before view read_only set kinds h =
+    let writable = unless_refused read_only _ _ kinds h in
+    ok_is (AreIssuable folder folder before) (flat_map (λ n. expunge_at folder (message_at before view n)) (resolved true set view)) kinds _ refl writable.1
+    (each_flat (IsIssuable folder folder before) (λ n. expunge_at folder (message_at before view n)) (resolved true set view)
+    (λ n i. expunge_at_issuable folder before (message_at before view n) (λ row e. message_is_in before (entry_at view n) row e)))
+
+-- ---- FETCH
+
+seen_issuable : (folder : List ℕ) (rows : List Listed) (items : List FetchItem) (mode : FetchMode) (message : Option Listed) → ((row : Listed) → message ≡ Some row → IsIn row rows) → HaveLawfulFlags rows
+    → (kind : Kind) → IsIn kind (seen_store folder items mode message) → IsIssuable folder folder rows kind
+seen_issuable folder rows items mode None m l kind i = absurd i
+seen_issuable folder rows items mode (Some row) m l kind i =
+    let is_in : IsIn row rows = m row refl in
+    one_where (IsIssuable folder folder rows) (is_kept mode.changed_since row && is_marked items mode row) (Store folder (seen_flags row.flags) row.id row.origin) (refl, l row is_in, (row, is_in, refl, refl)) kind i
+
+-- FETCH issues Stores of listed messages, with lawful flags.
+pub fetch_wants_issuable : (folder : List ℕ) (before : List Listed) (view : List Entry) (read_only by_uid : Bool) (set : List SequenceRange) (items : List FetchItem) (changed_since : Option ℕ) (kinds : List Kind)
+    → HaveLawfulFlags before → fetch_wants folder before view read_only by_uid set items changed_since ≡ Ok kinds → AreIssuable folder folder before kinds
+fetch_wants_issuable folder before view read_only by_uid set items changed_since kinds l h =
+    let in_range = unless_refused (not (is_in_range by_uid set view)) _ _ kinds h in
+    let mode = mode_of by_uid false read_only changed_since in
+    ok_is (AreIssuable folder folder before) (flat_map (λ n. seen_store folder items mode (message_at before view n)) (resolved by_uid set view)) kinds _ refl in_range.1
+    (each_flat (IsIssuable folder folder before) (λ n. seen_store folder items mode (message_at before view n)) (resolved by_uid set view)
+    (λ n i. seen_issuable folder before items mode (message_at before view n) (λ row e. message_is_in before (entry_at view n) row e) l))
+
+-- ---- COPY and MOVE
+
+append_issuable : (folder destination : List ℕ) (rows : List Listed) (message : Option Listed) → ((row : Listed) → message ≡ Some row → IsIn row rows) → HaveLawfulFlags rows
+    → (kind : Kind) → IsIn kind (append_of destination message) → IsIssuable folder destination rows kind
+append_issuable folder destination rows None m l kind i = absurd i
+append_issuable folder destination rows (Some row) m l kind i = only_one (IsIssuable folder destination rows) (Append destination row.flags row.date row.text) (refl, l row (m row refl)) kind i
+
+appends_issuable : (folder destination : List ℕ) (rows : List Listed) (view : List Entry) (numbers : List ℕ) → HaveLawfulFlags rows → AreIssuable folder destination rows (appends_of destination rows view numbers)
+appends_issuable folder destination rows view numbers l =
+    each_flat (IsIssuable folder destination rows) (λ n. append_of destination (message_at rows view n)) numbers
+    (λ n i. append_issuable folder destination rows (message_at rows view n) (λ row e. message_is_in rows (entry_at view n) row e) l)
+
+removal_issuable : (folder destination : List ℕ) (rows : List Listed) (message : Option Listed) → ((row : Listed) → message ≡ Some row → IsIn row rows) → (kind : Kind) → IsIn kind (removal_of folder message) → IsIssuable folder destination rows kind
+removal_issuable folder destination rows None m kind i = absurd i
+removal_issuable folder destination rows (Some row) m kind i = only_one (IsIssuable folder destination rows) (Expunge folder row.id) (refl, (row, m row refl, refl)) kind i
+
+removals_issuable : (folder destination : List ℕ) (rows : List Listed) (view : List Entry) (numbers : List ℕ) → AreIssuable folder destination rows (removals_of folder rows view numbers)
+removals_issuable folder destination rows view numbers =
+    each_flat (IsIssuable folder destination rows) (λ n. removal_of folder (message_at rows view n)) numbers
+    (λ n i. removal_issuable folder destination rows (message_at rows view n) (λ row e. message_is_in rows (entry_at view n) row e))
+
+-- COPY issues Appends in the destination, with lawful flags.
+pub copy_wants_issuable : (folder destination : List ℕ) (is_there : Bool) (before : List Listed) (view : List Entry) (by_uid : Bool) (set : List SequenceRange) (kinds : List Kind)
+    → HaveLawfulFlags before → copy_wants destination is_there before view by_uid set ≡ Ok kinds → AreIssuable folder destination before kinds
+copy_wants_issuable folder destination is_there before view by_uid set kinds l h =
+    let in_range = unless_refused (not (is_in_range by_uid set view)) _ _ kinds h in
+    let found = unless_refused (not is_there) _ _ kinds in_range.1 in
+    ok_is (AreIssuable folder destination before) (appends_of destination before view (resolved by_uid set view)) kinds _ refl found.1
+    (appends_issuable folder destination before view (resolved by_uid set view) l)
+
+-- MOVE issues these and Expunges of listed messages.
+pub move_wants_issuable : (folder destination : List ℕ) (is_there : Bool) (before : List Listed) (view : List Entry) (read_only by_uid : Bool) (set : List SequenceRange) (kinds : List Kind)
+    → HaveLawfulFlags before → move_wants folder destination is_there before view read_only by_uid set ≡ Ok kinds → AreIssuable folder destination before kinds
+move_wants_issuable folder destination is_there before view read_only by_uid set kinds l h =
+    let in_range = unless_refused (not (is_in_range by_uid set view)) _ _ kinds h in
+    let writable = unless_refused read_only _ _ kinds in_range.1 in
+    let found = unless_refused (not is_there) _ _ kinds writable.1 in
+    let numbers = resolved by_uid set view in
+    ok_is (AreIssuable folder destination before) (appends_of destination before view numbers ++ removals_of folder before view numbers) kinds _ refl found.1
+    (each_append (IsIssuable folder destination before) (appends_of destination before view numbers) (removals_of folder before view numbers)
+    (appends_issuable folder destination before view numbers l) (removals_issuable folder destination before view numbers))

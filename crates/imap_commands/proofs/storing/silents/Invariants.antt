@@ -1,0 +1,9 @@
+use Rattle.std.proofs.Common.{◌≡◌, ◌++◌, drop}
+use Rattle.std.specs.List.{flat_map}
+use Rattle.imap_commands.specs.Storing.{silent_at}
+use Rattle.imap_commands.specs.Told.{entry_at}
+use Rattle.imap_commands.proofs.storing.silents.Given as goal
+
+abbrev pub invariant-loop-number : goal.invariant-loop-number
+invariant-loop-number l =
+    l.silents.items ++ flat_map (λ n. silent_at l.mode l.given n (entry_at l.view n)) (drop l.number-index l.taken) ≡ flat_map (λ n. silent_at l.mode l.given n (entry_at l.view n)) l.taken

@@ -1,0 +1,11 @@
+use Rattle.std.proofs.Common.{◌∙◌}
+use Rattle.imap_commands.specs.Storing.{is_refused}
+use Rattle.imap_commands.specs.Told.{message_at}
+use Rattle.imap_commands.proofs.NamedLemmas.{chosen_rising}
+use Rattle.imap_commands.proofs.storing.store_tells.Goals as goal
+
+pub store_code-requires : goal.store_code-requires
+store_code-requires c =
+    chosen_rising c.args.by_uid c.args.by_uid c.args.set.now (λ n. is_refused c.args.unchanged_since (message_at c.args.before.now c.entries-view.result.now n)) c.args.view.now.entries c.entries-view.result.now
+    c.deref.result.now c.deref-2.result.now c.entries-view.ensures.entries c.entries-view.ensures.rising (c.deref-2.ensures.value ∙ c.in_ok-refused.ensures {u = tt})
+    (c.deref.ensures.value ∙ c.in_ok-numbers.ensures {u = tt})
