@@ -1,5 +1,5 @@
 -- Worked examples of the definitions.
-use Rattle.std.proofs.Common.{◌≡◌, List, [], ◌∷◌, refl}
+use Rattle.std.proofs.Common.{◌≡◌, [], ◌∷◌, refl}
 use Rattle.std.specs.Prelude.{codes}
 use Rattle.imap_answers.specs.declared.words.Enabled.TheVariants.{Nothing, Imap4Rev2Condstore}
 use Rattle.imap_commands.specs.Enabling.{enabled_of}

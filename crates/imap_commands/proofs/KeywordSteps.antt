@@ -1,4 +1,4 @@
-use Rattle.std.proofs.Common.{◌≡◌, ◌∙◌, ap, sym, refl, ℕ, ◌+◌, List, [], ◌∷◌, ◌++◌, drop, Option, Some, None}
+use Rattle.std.proofs.Common.{◌≡◌, ◌∙◌, ap, sym, ℕ, ◌+◌, List, ◌∷◌, ◌++◌, drop, Option, Some, None}
 use Rattle.std.specs.Prelude.{OnOk, Result, Ok, Err}
 use Rattle.std.specs.declared.alloc.AllocError.{AllocError}
 use Rattle.std.specs.List.{slice_get}
@@ -9,21 +9,21 @@ use Rattle.imap_commands.specs.Selecting.{with_keywords, with_rows}
 
 -- the keywords of the message at a place, and of those behind it
 pub row_read : (rows : List Listed) (place : ℕ) (row : Listed) (keywords : List (List ℕ)) → Some row ≡ slice_get rows place
-  → with_rows (drop (place + 1) rows) (with_keywords row.flags.keywords keywords) ≡ with_rows (drop place rows) keywords
+    → with_rows (drop (place + 1) rows) (with_keywords row.flags.keywords keywords) ≡ with_rows (drop place rows) keywords
 row_read rows place row keywords e =
     let from : drop place rows ≡ row ∷ drop (place + 1) rows = from_place rows place ∙ ap (λ (found : Option Listed). option_to_list found ++ drop (place + 1) rows) (sym e) in
     sym (ap (λ (some : List Listed). with_rows some keywords) from)
 
 pub row_passed : (rows : List Listed) (place : ℕ) (keywords : List (List ℕ)) → ◌≡◌ {A = Option Listed} None (slice_get rows place)
-  → with_rows (drop (place + 1) rows) keywords ≡ with_rows (drop place rows) keywords
+    → with_rows (drop (place + 1) rows) keywords ≡ with_rows (drop place rows) keywords
 row_passed rows place keywords e =
     let from : drop place rows ≡ drop (place + 1) rows = from_place rows place ∙ ap (λ (found : Option Listed). option_to_list found ++ drop (place + 1) rows) (sym e) in
     sym (ap (λ (some : List Listed). with_rows some keywords) from)
 
 -- the same where memory was not wanting for them
 pub row_added : (rows : List Listed) (place : ℕ) (row : Listed) (words keywords new : List (List ℕ)) (r : Result (Unit {0}) AllocError)
-  → Some row ≡ slice_get rows place → words ≡ row.flags.keywords → OnOk r (new ≡ with_keywords words keywords)
-  → OnOk r (with_rows (drop (place + 1) rows) new ≡ with_rows (drop place rows) keywords)
+    → Some row ≡ slice_get rows place → words ≡ row.flags.keywords → OnOk r (new ≡ with_keywords words keywords)
+    → OnOk r (with_rows (drop (place + 1) rows) new ≡ with_rows (drop place rows) keywords)
 row_added rows place row words keywords new (Ok done) e w h =
     ap (with_rows (drop (place + 1) rows)) (h ∙ ap (λ (ws : List (List ℕ)). with_keywords ws keywords) w) ∙ row_read rows place row keywords e
 row_added rows place row words keywords new (Err why) e w h = tt

@@ -1,4 +1,4 @@
-use Rattle.std.proofs.Common.{◌≡◌, ℕ, ◌≤◌, Bool, true, false, not, List, [], ◌∷◌, length, arith, refl, subst, sym, Option}
+use Rattle.std.proofs.Common.{◌≡◌, ℕ, ◌≤◌, Bool, true, false, List, [], ◌∷◌, length, arith, refl, subst, sym, Option}
 use Rattle.std.specs.Prelude.{Result, Ok, Err, if◌then◌else◌, nat_lt}
 use Rattle.std.specs.List.{list_all}
 use Rattle.std.specs.Str.{bytes_eq}
@@ -50,7 +50,7 @@ login_lawful credentials user password kinds e = nothing_by (are_right credentia
 
 -- CREATE
 create_by : (lawful is_there : Bool) (folder : List ℕ) (kinds : List Kind) → (lawful ≡ true → IsLawfulName folder)
-  → (if lawful then (if is_there then Err MailboxExists else Ok (Create folder ∷ [])) else Err NameNotAllowed) ≡ Ok kinds → AreLawfulKinds kinds
+    → (if lawful then (if is_there then Err MailboxExists else Ok (Create folder ∷ [])) else Err NameNotAllowed) ≡ Ok kinds → AreLawfulKinds kinds
 create_by true true folder kinds n e = never MailboxExists kinds e
 create_by true false folder kinds n e = one (Create folder) kinds (record { name = n refl; flags = tt; inbox_stays = λ k. k }) e
 create_by false is_there folder kinds n e = never NameNotAllowed kinds e
@@ -60,7 +60,7 @@ create_lawful is_there name kinds e = create_by (is_lawful_name (created_name na
 
 -- DELETE
 delete_by : (is_there is_inbox : Bool) (seen : List OpId) (name : List ℕ) (kinds : List Kind) → IsLawfulName name → (is_inbox ≡ false → name ≡ inbox → ⊥)
-  → (if is_there then (if is_inbox then Err InboxStays else Ok (Delete name seen ∷ [])) else Err NoSuchMailbox) ≡ Ok kinds → AreLawfulKinds kinds
+    → (if is_there then (if is_inbox then Err InboxStays else Ok (Delete name seen ∷ [])) else Err NoSuchMailbox) ≡ Ok kinds → AreLawfulKinds kinds
 delete_by true true seen name kinds n i e = never InboxStays kinds e
 delete_by true false seen name kinds n i e = one (Delete name seen) kinds (record { name = n; flags = tt; inbox_stays = i refl }) e
 delete_by false is_inbox seen name kinds n i e = never NoSuchMailbox kinds e
@@ -73,7 +73,7 @@ delete_lawful is_there seen name kinds n e = delete_by is_there (bytes_eq name i
 
 -- SUBSCRIBE
 subscribe_by : (lawful is_subscribed : Bool) (name : List ℕ) (kinds : List Kind) → (lawful ≡ true → IsLawfulName name)
-  → (if lawful then Ok (if is_subscribed then [] else Subscribe name ∷ []) else Err NameNotAllowed) ≡ Ok kinds → AreLawfulKinds kinds
+    → (if lawful then Ok (if is_subscribed then [] else Subscribe name ∷ []) else Err NameNotAllowed) ≡ Ok kinds → AreLawfulKinds kinds
 subscribe_by true true name kinds n e = none kinds e
 subscribe_by true false name kinds n e = one (Subscribe name) kinds (record { name = n refl; flags = tt; inbox_stays = λ k. k }) e
 subscribe_by false is_subscribed name kinds n e = never NameNotAllowed kinds e
@@ -83,7 +83,7 @@ subscribe_lawful is_subscribed name kinds e = subscribe_by (is_lawful_name name)
 
 -- UNSUBSCRIBE
 unsubscribe_by : (lawful : Bool) (seen : List OpId) (name : List ℕ) (kinds : List Kind) → (lawful ≡ true → IsLawfulName name)
-  → (if lawful then Ok (unsubscribes seen name) else Err NameNotAllowed) ≡ Ok kinds → AreLawfulKinds kinds
+    → (if lawful then Ok (unsubscribes seen name) else Err NameNotAllowed) ≡ Ok kinds → AreLawfulKinds kinds
 unsubscribe_by true [] name kinds n e = none kinds e
 unsubscribe_by true (id ∷ ids) name kinds n e = one (Unsubscribe name (id ∷ ids)) kinds (record { name = n refl; flags = tt; inbox_stays = λ k. k }) e
 unsubscribe_by false seen name kinds n e = never NameNotAllowed kinds e
@@ -93,8 +93,8 @@ unsubscribe_lawful seen name kinds e = unsubscribe_by (is_lawful_name name) seen
 
 -- APPEND
 append_by : (is_there lawful many : Bool) (name : List ℕ) (flags : Flags) (date text : List ℕ) (kinds : List Kind) → IsLawfulName name
-  → lawful ≡ list_all is_lawful_keyword flags.keywords → many ≡ nat_lt 32 (length flags.keywords)
-  → (if is_there then (if lawful then (if many then Err TooManyKeywords else Ok (Append name flags date text ∷ [])) else Err KeywordTooLong) else Err NoDestination) ≡ Ok kinds → AreLawfulKinds kinds
+    → lawful ≡ list_all is_lawful_keyword flags.keywords → many ≡ nat_lt 32 (length flags.keywords)
+    → (if is_there then (if lawful then (if many then Err TooManyKeywords else Ok (Append name flags date text ∷ [])) else Err KeywordTooLong) else Err NoDestination) ≡ Ok kinds → AreLawfulKinds kinds
 append_by true true true name flags date text kinds n l m e = never TooManyKeywords kinds e
 append_by true true false name flags date text kinds n l m e =
     let few : length flags.keywords ≤ 32 = grind (arith, nat_tests) in
@@ -103,6 +103,6 @@ append_by true false many name flags date text kinds n l m e = never KeywordTooL
 append_by false lawful many name flags date text kinds n l m e = never NoDestination kinds e
 
 pub append_lawful : (is_there : Bool) (name : List ℕ) (flags : Flags) (date : Option (List ℕ)) (stamp text : List ℕ) (kinds : List Kind) → IsLawfulName name
-  → append_wants is_there name flags date stamp text ≡ Ok kinds → AreLawfulKinds kinds
+    → append_wants is_there name flags date stamp text ≡ Ok kinds → AreLawfulKinds kinds
 append_lawful is_there name flags date stamp text kinds n e =
     append_by is_there (list_all is_lawful_keyword flags.keywords) (nat_lt 32 (length flags.keywords)) name flags (given_date date stamp) text kinds n refl refl e

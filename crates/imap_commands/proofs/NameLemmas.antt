@@ -1,12 +1,10 @@
-use Rattle.std.proofs.Common.{◌≡◌, ◌↔◌, IsTrue, inl, inr, refl, sym, ℕ, ◌<◌, ◌≤◌, ◌==◌, Bool, true, false, not, ◌&&◌, List, length, arith}
+use Rattle.std.proofs.Common.{◌≡◌, ◌↔◌, IsTrue, inl, inr, refl, sym, ℕ, ◌<◌, ◌≤◌, ◌==◌, Bool, true, false, not, List, length, arith}
 use Rattle.std.specs.Prelude.{nat_lt}
-use Rattle.std.specs.List.{list_all}
-use Rattle.std.specs.Str.{bytes_eq, is_utf8}
 use Rattle.std.proofs.lemmas.Bool.{and_from, and_parts, cases_Bool}
 use Rattle.std.proofs.lemmas.Bool.Decides.{nat_tests}
 use Rattle.std.proofs.lemmas.Slice.Eq.{bytes_eq-Decides}
 use Rattle.std.proofs.lemmas.Str.{IsUtf8-from_is_utf8, is_utf8-from_IsUtf8}
-use Rattle.imap_types.specs.Names.{IsLawfulName, folded_name, has_octets, is_name_octet, levels_of}
+use Rattle.imap_types.specs.Names.{IsLawfulName}
 use Rattle.imap_commands.specs.Mailboxes.{is_lawful_name}
 
 some_from_test : (n : ℕ) → not (n == 0) ≡ true → 0 < n

@@ -20,9 +20,9 @@ abbrev pub append_wants : Bool → List ℕ → Flags → Option (List ℕ) → 
 append_wants is_there name flags date stamp text =
     if is_there
     then (
-      if list_all is_lawful_keyword flags.keywords
-      then (if nat_lt 32 (length flags.keywords) then Err TooManyKeywords else Ok (Append name flags (given_date date stamp) text ∷ []))
-      else Err KeywordTooLong
+    if list_all is_lawful_keyword flags.keywords
+    then (if nat_lt 32 (length flags.keywords) then Err TooManyKeywords else Ok (Append name flags (given_date date stamp) text ∷ []))
+    else Err KeywordTooLong
     )
     else Err NoDestination
 

@@ -46,17 +46,17 @@ pub fn select_tells(
         })?;
     }
     push_mailbox(alloc, read_only, name, marks, rows, &mut own)?;
-    Ok(Telling::new(
-        own,
-        Vec::new(alloc),
-        Some(access_code(read_only)),
-    ))
+    Ok(Telling::new(own, Vec::new(alloc), Some(access_code(read_only))))
 }
 
 fn access_code(read_only: bool) -> Code
     ensures { result ≡ access_code read_only }
 {
-    if read_only { Code::ReadOnly } else { Code::ReadWrite }
+    if read_only {
+        Code::ReadOnly
+    } else {
+        Code::ReadWrite
+    }
 }
 
 fn push_mailbox(
@@ -187,11 +187,7 @@ fn add_keywords_at(
     }
 }
 
-fn add_keywords(
-    alloc: Global,
-    words: &[Octets],
-    keywords: &mut Keywords,
-) -> Result<(), AllocError>
+fn add_keywords(alloc: Global, words: &[Octets], keywords: &mut Keywords) -> Result<(), AllocError>
     ensures { OnOk result (keywords.new ≡ with_keywords words.now keywords.old) }
 {
     for word in words {
