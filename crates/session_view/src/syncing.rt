@@ -260,7 +260,7 @@ pub fn push_rows(
 {
     for step in 0..count as usize {
         match rows.row_at(start + step) {
-            Some(row) => push_row(alloc, row, entries)?,
+            Some(row) => push_row(alloc, &row, entries)?,
             None => return Ok(()),
         }
     }
@@ -268,8 +268,8 @@ pub fn push_rows(
 }
 
 /// Puts a message behind those that are there.
-fn push_row(alloc: Global, row: Row<'_>, entries: &mut Vec<Entry>) -> Result<(), AllocError>
-    ensures { OnOk result (entries.new.items ≡ entries.old.items ++ entries_of (listed row.entry ∷ [])) }
+fn push_row(alloc: Global, row: &Row<'_>, entries: &mut Vec<Entry>) -> Result<(), AllocError>
+    ensures { OnOk result (entries.new.items ≡ entries.old.items ++ entries_of (listed row.now ∷ [])) }
 {
     entries.push(Entry {
         uid: row.uid,
