@@ -260,7 +260,7 @@ pub fn push_rows(
 {
     for step in 0..count as usize {
         match rows.row_at(start + step) {
-            Some(row) => push_entry(alloc, row.uid, row.flags, entries)?,
+            Some(row) => push_row(alloc, &row, entries)?,
             None => return Ok(()),
         }
     }
@@ -268,17 +268,12 @@ pub fn push_rows(
 }
 
 /// Puts a message behind those that are there.
-fn push_entry(
-    alloc: Global,
-    uid: u32,
-    flags: &Flags,
-    entries: &mut Vec<Entry>,
-) -> Result<(), AllocError>
-    ensures { OnOk result (entries.new.items ≡ entries.old.items ++ record { uid = uid; flags = flags.now } ∷ []) }
+fn push_row(alloc: Global, row: &Row<'_>, entries: &mut Vec<Entry>) -> Result<(), AllocError>
+    ensures { OnOk result (entries.new.items ≡ entries.old.items ++ entries_of (listed row.now ∷ [])) }
 {
     entries.push(Entry {
-        uid,
-        flags: flags.copy(alloc)?,
+        uid: row.uid,
+        flags: row.flags.copy(alloc)?,
     })?;
     Ok(())
 }
