@@ -1,4 +1,5 @@
 pub mod Seen
 pub mod Kept
 pub mod Delivery
+pub mod Stalls
 pub mod Standing

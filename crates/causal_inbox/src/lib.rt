@@ -6,10 +6,12 @@
 
 mod answers;
 mod held;
+mod held_ops;
 mod history;
 mod inbox;
 mod search;
 
-pub use answers::{Arrival, DeliverFault, Delivered, Drained, IssueFault};
+pub use answers::{Arrival, DeliverFault, Delivered, Drained, IssueFault, Stall};
+pub use held_ops::{HeldIter, HeldOps};
 pub use inbox::{HELD_LIMIT, Inbox};
 pub use search::find_in;
