@@ -3,3 +3,4 @@ pub mod Kept
 pub mod Delivery
 pub mod Stalls
 pub mod Standing
+pub mod Received
