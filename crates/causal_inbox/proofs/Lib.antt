@@ -2,3 +2,5 @@ mod Clocks
 mod Places
 mod Ascending
 mod Received
+pub mod Union
+pub mod Closure

@@ -4,7 +4,7 @@ use Rattle.merge_laws.specs.Orders.{IsIn, HasId, HaveSameElements, AreSound, IsR
 use Rattle.merge_laws.proofs.Lists.{in_parts, in_cases, in_front, in_back, id_of_element, element_of_id, id_in_parts}
 use Rattle.std.specs.List.{remove}
 use Rattle.merge_laws.proofs.Causal.{causal_determines}
-use Rattle.causal_inbox.specs.Seen.{Seen, AreAscending, IsLawful, IsReceived, IsStalled, IsLeastRipe, IsReleased, held_limit}
+use Rattle.causal_inbox.specs.Seen.{Seen, AreAscending, IsLawful, IsReceived, IsStalled, IsLeastRipe, IsNextReleased, IsReleased, held_limit}
 use Rattle.causal_inbox.proofs.Ascending.{less_irreflexive, less_trans, ascending_determines, ascending_back, cut_at, in_at, element_at, removed_others}
 
 -- no id of those kept is an id of those applied now
@@ -107,16 +107,23 @@ module _ {S O : Type 0} (id : O → OpId) (clock : O → List (ℕ × ℕ)) wher
       let there : IsReceived s (now x) = inr (subst (IsIn (now x)) shown m.0) in
       (there, m.1 ∙ e, λ o p k. law.determined o (now x) (received_in s o p) (received_in s (now x) there) (k ∙ sym (m.1 ∙ e)))
 
+  -- of a lawful inbox, the least ripe one is released next
+  pub next_released : (s : Seen S O) (at : ℕ) (op : O) → IsLeastRipe id clock s at → op ≡ get_or s.held at op → IsNextReleased id clock s op
+  next_released s at op least is = record {
+    held = in_at s.held at op least.0 is;
+    ripe = least.1 op is;
+    least = λ o h r. least.2 op o is h r;
+  }
+
   -- the least ripe one let go
-  pub released : (old new : Seen S O) (at : ℕ) (op : O) → IsLeastRipe id clock old at → AreAscending id old.held → op ≡ get_or old.held at op → new.start ≡ old.start → new.applied ≡ old.applied ++ op ∷ [] → new.held ≡ remove old.held at → IsReleased id clock old new
-  released old new at op least a is start applied held =
+  pub released : (exhausts : S → List O → List O → Type 0) (old new : Seen S O) (at : ℕ) (op : O) → IsLeastRipe id clock old at → AreAscending id old.held → op ≡ get_or old.held at op → ¬ exhausts old.start old.applied (op ∷ []) → new.start ≡ old.start → new.applied ≡ old.applied ++ op ∷ [] → new.held ≡ remove old.held at → IsReleased id clock exhausts old new
+  released exhausts old new at op least a is reach start applied held =
       let cut = cut_at old.held at op least.0 is in
       let others : (o : O) → IsIn o (remove old.held at) ↔ (IsIn o old.held × (id o ≢ id op)) = λ o. removed_others id old.held at op o least.0 is a in
       record {
         op = op;
-        was_held = in_at old.held at op least.0 is;
-        was_ripe = least.1 op is;
-        was_least = λ o h r. least.2 op o is h r;
+        next = next_released old at op least is;
+        in_reach = reach;
         start = start;
         applied = applied;
         held = λ o. (

@@ -1,6 +1,6 @@
 //! The inbox.
 
-ghost use Rattle.std.specs.Prelude.{◌≡◌, ◌↔◌, ℕ, ◌+◌, ◌<◌, ◌≤◌, List, [], ◌∷◌, ◌++◌, length, IsTrue, IfOk, OnOk, OnErr, MatchOption, MatchResult, Err, vec_len, vec_capacity};
+ghost use Rattle.std.specs.Prelude.{◌≡◌, ◌↔◌, ℕ, ◌+◌, ◌<◌, ◌≤◌, List, [], ◌∷◌, ◌++◌, length, IsTrue, IfOk, OnOk, OnErr, MatchOption, MatchResult, Err, slice_index_or, vec_len, vec_capacity};
 ghost use Rattle.merge_laws.specs.Orders.{IsIn, HasId, HaveSameElements, AreSound, IsCausal, IsRipe, fold_of};
 ghost use Rattle.merge_laws.specs.declared.follower.NotReady.TheVariants.{Exhausted as UsedUpThere};
 ghost use Rattle.causal_inbox.specs.declared.answers.IssueFault.TheVariants.{Exhausted as UsedUp};
@@ -8,9 +8,11 @@ ghost use Rattle.causal_inbox.specs.Seen.{IsClockOf, IsLawful, IsStalled, IsLeas
 ghost use Rattle.causal_inbox.specs.Standing.{Stands};
 ghost use Rattle.causal_inbox.specs.Kept.{IsReadied};
 ghost use Rattle.causal_inbox.specs.Delivery.{Arrives, Refuses};
+ghost use Rattle.causal_inbox.specs.Stalls.{StallsFor};
 
-use crate::answers::{Arrival, DeliverFault, Delivered, Drained, IssueFault};
+use crate::answers::{Arrival, DeliverFault, Delivered, Drained, IssueFault, Stall};
 use crate::held::{discard_all, insert};
+use crate::held_ops::HeldOps;
 use crate::history::History;
 use crate::search::{find_in, first_ripe, is_ripe, uncovered_in};
 use merge_laws::{Caused, Follower, NotReady, Replicated};
@@ -80,13 +82,13 @@ impl<R: Replicated, F: Follower<R>> Inbox<R, F> {
     }
 
     /// The held operations, by ascending ids.
-    pub fn held(&self) -> &[R::Op]
-        ensures held { result.now ≡ self.now.seen.held }
+    pub fn held(&self) -> HeldOps<'_, R::Op>
+        ensures held { result ≡ self.now.seen.held }
         ensures ascending { AreAscending R.Op.id self.now.seen.held }
         ensures limited { length self.now.seen.held ≤ held_limit }
         ensures sound { AreSound R.Op.is_sound self.now.seen.held }
     {
-        self.held.as_slice()
+        HeldOps::new(self.held_list())
     }
 
     /// The clock that covers the applied operations.
@@ -167,11 +169,11 @@ impl<R: Replicated, F: Follower<R>> Inbox<R, F> {
 
     /// Applies held operations that are ripe, the least id first, until none is ripe or one is refused.
     pub fn drain(&mut self, alloc: Global) -> Drained
-        ensures released { AreReleased R.Op.id R.Op.clock result.applied self.old.seen self.new.seen }
+        ensures released { AreReleased R.Op.id R.Op.clock F.exhausts result.applied self.old.seen self.new.seen }
         ensures stalled { IsTrue result.stalled ↔ IsStalled R.Op.id R.Op.clock self.new.seen }
         ensures at_most { result.applied ≤ held_limit }
     {
-        let count = self.held().len();
+        let count = self.held_list().len();
         for applied in 0..count {
             match self.next_ripe() {
                 None => {
@@ -196,6 +198,30 @@ impl<R: Replicated, F: Follower<R>> Inbox<R, F> {
         }
     }
 
+    /// Why a ripe operation is held, if one is. It asks for room for the one that is released next; what was received stays.
+    pub fn stall(&mut self, alloc: Global) -> Option<Stall>
+        ensures same { self.new.seen ≡ self.old.seen }
+        ensures stalls { StallsFor R.Op.id R.Op.clock F.exhausts self.old.seen result }
+    {
+        let _applied = self.op_list();
+        let at = self.next_ripe()?;
+        match ready_at(alloc, &mut self.history, &self.held, at) {
+            Ok(()) => Some(Stall::Drainable),
+            Err(NotReady::Exhausted) => Some(Stall::Exhausted),
+            Err(NotReady::NoMemory) => Some(Stall::Drainable),
+        }
+    }
+
+    /// The held operations, as they are kept.
+    fn held_list(&self) -> &[R::Op]
+        ensures held { result.now ≡ self.now.seen.held }
+        ensures ascending { AreAscending R.Op.id self.now.seen.held }
+        ensures limited { length self.now.seen.held ≤ held_limit }
+        ensures sound { AreSound R.Op.is_sound self.now.seen.held }
+    {
+        self.held.as_slice()
+    }
+
     /// The received operation that has this one's id.
     fn find(&self, op: &R::Op) -> Option<&R::Op>
         ensures { MatchOption result (IsNew R.Op.id self.now.seen op.now)
@@ -205,7 +231,7 @@ impl<R: Replicated, F: Follower<R>> Inbox<R, F> {
         if self.clock().covers(op.id()) {
             find_in(list, op.id())
         } else {
-            find_in(self.held(), op.id())
+            find_in(self.held_list(), op.id())
         }
     }
 
@@ -235,7 +261,7 @@ impl<R: Replicated, F: Follower<R>> Inbox<R, F> {
     fn next_ripe(&self) -> Option<usize>
         ensures { MatchOption result (¬ IsStalled R.Op.id R.Op.clock self.now.seen) (IsLeastRipe R.Op.id R.Op.clock self.now.seen) }
     {
-        first_ripe(self.clock(), self.held())
+        first_ripe(self.clock(), self.held_list())
     }
 
     /// Whether a ripe operation is held.
@@ -248,11 +274,12 @@ impl<R: Replicated, F: Follower<R>> Inbox<R, F> {
     /// Applies the held operation at this place. An error leaves what was received as it was.
     fn release(&mut self, alloc: Global, at: usize) -> Result<(), NotReady>
         requires { IsLeastRipe R.Op.id R.Op.clock self.old.seen at }
-        ensures ok { OnOk result (IsReleased R.Op.id R.Op.clock self.old.seen self.new.seen) }
+        ensures ok { OnOk result (IsReleased R.Op.id R.Op.clock F.exhausts self.old.seen self.new.seen) }
         ensures count { OnOk result (length self.new.seen.held + 1 ≡ length self.old.seen.held) }
         ensures err { OnErr result (self.new.seen ≡ self.old.seen) }
     {
-        self.history.ready(alloc, &self.held[at..at + 1])?;
+        let _applied = self.op_list();
+        ready_at(alloc, &mut self.history, &self.held, at)?;
         let op = self.held.remove(at);
         self.history.append(op);
         Ok(())
@@ -313,6 +340,22 @@ impl<R: Replicated, F: Follower<R>> Inbox<R, F> {
             stalled: self.is_stalled(),
         })
     }
+}
+
+/// Makes the history ready for the operation at this place.
+fn ready_at<R: Replicated, F: Follower<R>>(
+    alloc: Global,
+    history: &mut History<R, F>,
+    ops: &[R::Op],
+    at: usize,
+) -> Result<(), NotReady>
+    requires { at < length ops.now }
+    ensures start { history.new.start ≡ history.old.start }
+    ensures applied { history.new.applied ≡ history.old.applied }
+    ensures ready { OnOk result ((op : R.Op) → op ≡ slice_index_or ops.now at op → IsReadied R.is_prepared F.is_ready R.Op.id R.Op.clock history.new.applied history.new.room (op ∷ [])) }
+    ensures exhausted { (op : R.Op) → op ≡ slice_index_or ops.now at op → IsCausal R.Op.id R.Op.clock (history.old.applied ++ op ∷ []) → (result ≡ Err UsedUpThere) ↔ F.exhausts history.old.start history.old.applied (op ∷ []) }
+{
+    history.ready(alloc, &ops[at..at + 1])
 }
 
 /// Makes the history ready for the operation, and gives it back. A free place of the list shows it as a slice meanwhile, so

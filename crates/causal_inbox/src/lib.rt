@@ -6,10 +6,17 @@
 
 mod answers;
 mod held;
+mod held_ops;
 mod history;
 mod inbox;
+mod laws;
 mod search;
 
-pub use answers::{Arrival, DeliverFault, Delivered, Drained, IssueFault};
+pub use answers::{Arrival, DeliverFault, Delivered, Drained, IssueFault, Stall};
+pub use held_ops::{HeldIter, HeldOps};
 pub use inbox::{HELD_LIMIT, Inbox};
+pub use laws::{
+    delivery_is_received, issue_is_received, nothing_ripe_is_left, release_loses_nothing,
+    what_is_received_is_consistent,
+};
 pub use search::find_in;

@@ -31,7 +31,7 @@ IsRefusedAt applied held op why = Refuses (λ (o : Op). o.id) (λ o. o.clock) ne
 -- So many held operations are applied, each as it is the ripe one of the least id.
 abbrev pub Releases : List Op → List Op → ℕ → List Op → List Op → Type 0
 Releases applied held count applied' held' =
-    AreReleased (λ (o : Op). o.id) (λ o. o.clock) count (received applied held) (received applied' held')
+    AreReleased (λ (o : Op). o.id) (λ o. o.clock) never_used_up count (received applied held) (received applied' held')
 
 -- An operation is held all of whose causes were applied.
 abbrev pub HoldsRipe : List Op → List Op → Type 0

@@ -13,7 +13,7 @@ ghost use Rattle.world_core.specs.declared.reply.Reply.TheVariants.{Done as Done
 use crate::replica::{IssueFault, Replica};
 use crate::reply::{Answers, Issued, Reply};
 use crate::sessions::{OpenFault, SessionNo, SessionState, Sessions};
-use causal_inbox::{DeliverFault, Delivered, Drained};
+use causal_inbox::{DeliverFault, Delivered, Drained, HeldOps};
 use crdt_ops::{Kind, SoundOp};
 use imap_grammar::{Command, Tagged};
 use imap_print::{Answer, ByeReason, CommandWord, MailboxState, Refusal};
@@ -125,8 +125,8 @@ impl Node {
     }
 
     /// The operations held until their causes come, by ascending ids. They are sound.
-    pub fn held(&self) -> &[SoundOp]
-        ensures held { result.now ≡ self.now.held }
+    pub fn held(&self) -> HeldOps<'_, SoundOp>
+        ensures held { result ≡ self.now.held }
         ensures orderly { IsOrderly self.now }
         ensures sound { AreSound IsSound self.now.held }
     {

@@ -15,7 +15,7 @@ ghost use Rattle.merge_laws.specs.Orders.{AreSound};
 ghost use Rattle.world_core.specs.Deliveries.{ArrivesAt, HoldsRipe, IsRefusedAt, Releases, received};
 ghost use Rattle.world_core.specs.Operations.{CanIssue, IsNext, IsThere, IsUsedUp};
 
-use causal_inbox::{DeliverFault, Delivered, Drained, Inbox};
+use causal_inbox::{DeliverFault, Delivered, Drained, HeldOps, Inbox};
 use crdt_ops::{Ids, Kind, Message, Op, SoundOp, check};
 use folder_state::Folders;
 use imap_types::Name;
@@ -195,8 +195,8 @@ impl Replica {
     }
 
     /// The operations held, by ascending ids.
-    pub fn held(&self) -> &[SoundOp]
-        ensures held { result.now ≡ self.now.held }
+    pub fn held(&self) -> HeldOps<'_, SoundOp>
+        ensures held { result ≡ self.now.held }
         ensures lawful { IsLawful (λ (o : Operation). o.id) (λ (o : Operation). o.clock) (received self.now.applied self.now.held) }
         ensures sound { AreSound IsSound self.now.held }
     {

@@ -18,4 +18,4 @@ returns-else-covers g c =
     let t = c.covers.ensures.1 ((c.clock.ensures c.id.result).1 (subst (HasId o.id s.applied) (sym c.id.ensures) h)) in
     let f = c.if-covers.false in
     cc (t, f) in
-    found_held o.id o.clock (λ x. x.now) s c.held.result.now c.id-else-covers.result (o.id c.args.op.now) c.find_in-else-covers.result c.held.ensures.held c.id-else-covers.ensures c.op_list-list.ensures.lawful not_there c.find_in-else-covers.ensures
+    found_held o.id o.clock (λ x. x.now) s c.held_list.result.now c.id-else-covers.result (o.id c.args.op.now) c.find_in-else-covers.result c.held_list.ensures.held c.id-else-covers.ensures c.op_list-list.ensures.lawful not_there c.find_in-else-covers.ensures

@@ -5,4 +5,4 @@ pub returns : goal.returns
 returns g c =
     let o = g.R.Op.Caused in
     let s = c.args.self.now.seen in
-    next_from o.id o.clock s c.first_ripe.result c.held.result.now c.held.ensures.held (c.first_ripe.ensures s.applied c.clock.ensures) c.held.ensures.ascending
+    next_from o.id o.clock s c.first_ripe.result c.held_list.result.now c.held_list.ensures.held (c.first_ripe.ensures s.applied c.clock.ensures) c.held_list.ensures.ascending
