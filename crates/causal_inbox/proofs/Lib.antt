@@ -1,4 +1,4 @@
-mod Clocks
+pub mod Clocks
 mod Places
 mod Ascending
 mod Received

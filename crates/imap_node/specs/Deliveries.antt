@@ -1,8 +1,10 @@
-use Rattle.std.specs.Prelude.{◌≡◌, ℕ}
+use Rattle.std.specs.Prelude.{◌≡◌, ℕ, Option}
 use Rattle.causal_inbox.specs.Delivery.{Arrives, Refuses}
 use Rattle.causal_inbox.specs.Seen.{AreReleased, IsLawful, IsStalled}
 use Rattle.causal_inbox.specs.declared.answers.Arrival.{Arrival}
+use Rattle.causal_inbox.specs.Stalls.{StallsFor}
 use Rattle.causal_inbox.specs.declared.answers.DeliverFault.{DeliverFault}
+use Rattle.causal_inbox.specs.declared.answers.Stall.{Stall}
 use Rattle.crdt_ops.specs.declared.op.Op.{Op}
 use Rattle.imap_node.specs.Nodes.{NodeState, received}
 use Rattle.uid_projection.specs.Exhaustion.{Exhausts}
@@ -26,8 +28,12 @@ IsRefusedAt node op why = Refuses (λ (o : Op). o.id) (λ o. o.clock) Exhausts (
 abbrev pub HoldsRipe : NodeState → Type 0
 HoldsRipe node = IsStalled (λ (o : Op). o.id) (λ o. o.clock) (received node)
 
+-- Why a ripe operation is held, if one is: the next to be released needs a number that a counter lacks, or only memory was wanting.
+abbrev pub StallsAt : NodeState → Option Stall → Type 0
+StallsAt node why = StallsFor (λ (o : Op). o.id) (λ o. o.clock) Exhausts (received node) why
+
 -- A node goes on with held operations whose causes were applied: so many are, each as it is the ripe one of the least id. Its sessions
 -- stay.
 pub record Drains (old : NodeState) (count : ℕ) (new : NodeState) : Type 0 where
   pub sessions : new.sessions ≡ old.sessions
-  pub released : AreReleased (λ (o : Op). o.id) (λ o. o.clock) count (received old) (received new)
+  pub released : AreReleased (λ (o : Op). o.id) (λ o. o.clock) Exhausts count (received old) (received new)

@@ -17,7 +17,7 @@ use crate::replica::Replica;
 use crate::reply::{Issued, Reply};
 use crate::sessions::{Auth, OpenFault, SessionNo, Sessions};
 use crate::tables::{closes, ends_idling, leaves};
-use causal_inbox::{DeliverFault, Delivered, Drained};
+use causal_inbox::{DeliverFault, Delivered, Drained, HeldOps, Stall};
 use crdt_ops::SoundOp;
 use imap_answers::Refusal;
 use imap_commands::{Session, State};
@@ -46,7 +46,7 @@ impl Model for Node {
 
 impl Node {
     ghost use Rattle.crdt_ops.specs.Sound.{IsSound};
-    ghost use Rattle.imap_node.specs.Deliveries.{Delivers, Drains, HoldsRipe, IsOrderly, IsRefusedAt};
+    ghost use Rattle.imap_node.specs.Deliveries.{Delivers, Drains, HoldsRipe, IsOrderly, IsRefusedAt, StallsAt};
     ghost use Rattle.imap_node.specs.Nodes.{closed};
     ghost use Rattle.imap_node.specs.Plans.{CommitsTo, IsPlanned, Planned};
     ghost use Rattle.imap_node.specs.Respond.{Responds};
@@ -55,9 +55,10 @@ impl Node {
     ghost use Rattle.merge_laws.specs.Orders.{AreSound};
     ghost use Rattle.uid_projection.specs.Listing.{listing};
 
-    /// A replica of this name and with these first numbers that has received nothing, without sessions; `Err` where there is no memory for
+    /// A replica of this name that has received nothing, without sessions, and with these first numbers, UIDs from 1 on; `Err` where there is no memory for
     /// it.
     pub fn new(alloc: Global, start: Start) -> Result<Node, AllocError>
+        requires { 1 ≤ start.uid }
         ensures { IfOk result (λ node. node.state ≡ record { start = start; applied = []; held = []; sessions = [] }) }
     {
         Ok(Node {
@@ -197,6 +198,15 @@ impl Node {
         self.replica.drain(alloc)
     }
 
+    /// Why a ripe operation is held, if one is: `Exhausted` where a drain could not go on for a counter's end, `Drainable` where it could but for
+    /// memory. The node stays as it was.
+    pub fn stall(&mut self, alloc: Global) -> Option<Stall>
+        ensures same { self.new.state ≡ self.old.state }
+        ensures stalls { StallsAt self.old.state result }
+    {
+        self.replica.stall(alloc)
+    }
+
     /// The operations applied, in their order, which is causal. They are sound, and none has the id of one that is held.
     pub fn op_list(&self) -> &[SoundOp]
         ensures applied { result.now ≡ self.now.state.applied }
@@ -207,8 +217,8 @@ impl Node {
     }
 
     /// The operations held until their causes come, by ascending ids. They are sound.
-    pub fn held(&self) -> &[SoundOp]
-        ensures held { result.now ≡ self.now.state.held }
+    pub fn held(&self) -> HeldOps<'_, SoundOp>
+        ensures held { result ≡ self.now.state.held }
         ensures orderly { IsOrderly self.now.state }
         ensures sound { AreSound IsSound self.now.state.held }
     {

@@ -3,6 +3,7 @@
 ghost use Rattle.std.specs.Prelude.{◌≡◌, ◌↔◌, ◌≤◌, ◌++◌, [], IfOk, OnOk, OnErr, IsTrue, Err, MatchResult};
 ghost use Rattle.causal_inbox.specs.Delivery.{Arrives, Refuses};
 ghost use Rattle.causal_inbox.specs.Seen.{AreIssued, AreKept, AreReleased, IsClockOf, IsLawful, IsStalled, held_limit, uncovered};
+ghost use Rattle.causal_inbox.specs.Stalls.{StallsFor};
 ghost use Rattle.causal_inbox.specs.declared.answers.IssueFault.TheVariants.{Exhausted as UsedUp};
 ghost use Rattle.crdt_ops.specs.Sets.{delete_set_of, folder_tags_of, folders_of, messages_of, subscribed_of, subscription_tags_of};
 ghost use Rattle.crdt_ops.specs.Sound.{IsSound};
@@ -20,7 +21,7 @@ ghost use Rattle.uid_projection.specs.Incarnations.{is_there, uidvalidity_of};
 ghost use Rattle.uid_projection.specs.Lines.{highest_modseq_of, uidnext_of};
 ghost use Rattle.uid_projection.specs.Listing.{listing};
 
-use causal_inbox::{DeliverFault, Delivered, Drained, Inbox, IssueFault};
+use causal_inbox::{DeliverFault, Delivered, Drained, HeldOps, Inbox, IssueFault, Stall};
 use crdt_ops::{Ids, Message, SoundOp};
 use folder_state::Folders;
 use imap_types::Name;
@@ -53,6 +54,7 @@ impl Model for Replica {
 impl Replica {
     /// A replica of this name and these first numbers that has received nothing; `Err` where there is no memory for it.
     pub fn new(alloc: Global, start: Start) -> Result<Replica, AllocError>
+        requires { 1 ≤ start.uid }
         ensures start { IfOk result (λ replica. replica.start ≡ start) }
         ensures applied { IfOk result (λ replica. replica.applied ≡ []) }
         ensures held { IfOk result (λ replica. replica.held ≡ []) }
@@ -87,8 +89,8 @@ impl Replica {
     }
 
     /// The operations held, by ascending ids.
-    pub fn held(&self) -> &[SoundOp]
-        ensures held { result.now ≡ self.now.held }
+    pub fn held(&self) -> HeldOps<'_, SoundOp>
+        ensures held { result ≡ self.now.held }
         ensures lawful { IsLawful (λ (o : Operation). o.id) (λ (o : Operation). o.clock) (replica_received self.now) }
         ensures sound { AreSound IsSound self.now.held }
     {
@@ -145,11 +147,19 @@ impl Replica {
 
     /// Applies held operations whose causes were all applied, the least id first, until there is none or one is refused.
     pub fn drain(&mut self, alloc: Global) -> Drained
-        ensures released { AreReleased (λ (o : Operation). o.id) (λ (o : Operation). o.clock) result.applied (replica_received self.old) (replica_received self.new) }
+        ensures released { AreReleased (λ (o : Operation). o.id) (λ (o : Operation). o.clock) Exhausts result.applied (replica_received self.old) (replica_received self.new) }
         ensures stalled { IsTrue result.stalled ↔ IsStalled (λ (o : Operation). o.id) (λ (o : Operation). o.clock) (replica_received self.new) }
         ensures at_most { result.applied ≤ held_limit }
     {
         self.inbox.drain(alloc)
+    }
+
+    /// Why a ripe operation is held, if one is. What was received stays.
+    pub fn stall(&mut self, alloc: Global) -> Option<Stall>
+        ensures same { replica_received self.new ≡ replica_received self.old }
+        ensures stalls { StallsFor (λ (o : Operation). o.id) (λ (o : Operation). o.clock) Exhausts (replica_received self.old) result }
+    {
+        self.inbox.stall(alloc)
     }
 
     // ---- what the operations lead to
