@@ -15,7 +15,7 @@ use Rattle.imap_commands.specs.declared.session.State.TheVariants.{Authenticated
 use Rattle.imap_grammar.specs.declared.command.Command.{Command}
 use Rattle.imap_grammar.specs.declared.command.Tagged.{Tagged}
 use Rattle.imap_grammar.specs.declared.idle.IdleLine.TheVariants.{Done as DoneLine, Other}
-use Rattle.mail_text.specs.Dates.{IsCivil}
+use Rattle.mail_text.specs.Civil.{IsCivil}
 use Rattle.session_view.specs.declared.entry.SyncKind.TheVariants.{Full}
 use Rattle.session_view.specs.declared.replaying.Silent.{Silent}
 use Rattle.imap_node.specs.declared.input.Input.{Input}
