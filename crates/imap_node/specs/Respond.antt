@@ -148,11 +148,11 @@ KeepsHeld (op ∷ ops) old new = AreKept (λ (o : Op). o.id) (op ∷ ops) old ne
 
 -- The node issues operations, and its sessions are these then: the operations stand behind those applied, and a held one with the id of one
 -- of them is dropped.
-pub record Holds (old : NodeState) (ops : List Op) (sessions : Places) (new : NodeState) : Type 0 where
+pub record Holds (old : NodeState) (ops : List Op) (places : Places) (new : NodeState) : Type 0 where
   pub start : new.start ≡ old.start
   pub applied : new.applied ≡ old.applied ++ ops
   pub held : KeepsHeld ops old.held new.held
-  pub sessions : new.sessions ≡ sessions
+  pub sessions : new.sessions ≡ places
 
 -- An input is carried out, whole: what it wants is issued, and it is answered by what it comes to.
 pub record Carries (old : NodeState) (n : ℕ) (session : Session) (input : Input) (answers : List Answer) (silent : List Silent) (issued : List Op) (new : NodeState) : Type 0 where
