@@ -2,3 +2,4 @@ pub mod ChangingLemmas
 pub mod IssuedLemmas
 pub mod NamedLemmas
 pub mod PlaceLemmas
+mod StoreExamples
