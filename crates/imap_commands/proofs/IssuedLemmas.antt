@@ -112,14 +112,14 @@ few_enough n h = grind (arith, nat_tests)
 
 -- ---- STORE
 
-store_issuable : (folder : List ℕ) (rows : List Listed) (mode : StoreMode) (given : Flags) (message : Option Listed) → ((row : Listed) → message ≡ Some row → IsIn row rows) → HaveLawfulFlags rows
-    → list_all is_lawful_keyword given.keywords ≡ true → is_overfull mode given message ≡ false → (kind : Kind) → IsIn kind (store_of folder mode given message) → IsIssuable folder folder rows kind
-store_issuable folder rows mode given None m l k o kind i = absurd i
-store_issuable folder rows mode given (Some row) m l k o kind i =
+store_issuable : (folder destination : List ℕ) (rows : List Listed) (mode : StoreMode) (given : Flags) (message : Option Listed) → ((row : Listed) → message ≡ Some row → IsIn row rows) → HaveLawfulFlags rows
+    → list_all is_lawful_keyword given.keywords ≡ true → is_overfull mode given message ≡ false → (kind : Kind) → IsIn kind (store_of folder mode given message) → IsIssuable folder destination rows kind
+store_issuable folder destination rows mode given None m l k o kind i = absurd i
+store_issuable folder destination rows mode given (Some row) m l k o kind i =
     let is_in : IsIn row rows = m row refl in
     let flags = changed_flags mode row.flags given in
     let lawful : IsLawfulFlags flags = (few_enough (length flags.keywords) o, lawful_change mode row.flags given (l row is_in).1 k) in
-    one_unless (IsIssuable folder folder rows) (same_flags flags row.flags) (Store folder flags row.id row.origin) (refl, lawful, (row, is_in, refl, refl)) kind i
+    one_unless (IsIssuable folder destination rows) (same_flags flags row.flags) (Store folder flags row.id row.origin) (refl, lawful, (row, is_in, refl, refl)) kind i
 
 neither : (a b : Bool) → (a || b) ≡ false → (a ≡ false) × (b ≡ false)
 neither true b h = cc
@@ -138,23 +138,23 @@ not_false false h = cc
 lawful_given : (flags : Flags) → has_unlawful_keyword flags ≡ false → list_all is_lawful_keyword flags.keywords ≡ true
 lawful_given flags h = not_false (list_all is_lawful_keyword flags.keywords) h
 
-pub stores_of_issuable : (folder : List ℕ) (rows : List Listed) (view : List Entry) (numbers : List ℕ) (mode : StoreMode) (given : Flags) (kinds : List Kind) → HaveLawfulFlags rows
-    → has_unlawful_keyword given ≡ false → stores_of folder rows view numbers mode given ≡ Ok kinds → AreIssuable folder folder rows kinds
-stores_of_issuable folder rows view numbers mode given kinds l u h =
+pub stores_of_issuable : (folder destination : List ℕ) (rows : List Listed) (view : List Entry) (numbers : List ℕ) (mode : StoreMode) (given : Flags) (kinds : List Kind) → HaveLawfulFlags rows
+    → has_unlawful_keyword given ≡ false → stores_of folder rows view numbers mode given ≡ Ok kinds → AreIssuable folder destination rows kinds
+stores_of_issuable folder destination rows view numbers mode given kinds l u h =
     let parts = unless_refused (list_any (λ n. is_overfull mode given (message_at rows view n)) numbers) _ _ kinds h in
-    ok_is (AreIssuable folder folder rows) (flat_map (λ n. store_of folder mode given (message_at rows view n)) numbers) kinds _ refl parts.1
-    (each_flat (IsIssuable folder folder rows) (λ n. store_of folder mode given (message_at rows view n)) numbers
-    (λ n i. store_issuable folder rows mode given (message_at rows view n) (λ row e. message_is_in rows (entry_at view n) row e) l (lawful_given given u)
+    ok_is (AreIssuable folder destination rows) (flat_map (λ n. store_of folder mode given (message_at rows view n)) numbers) kinds _ refl parts.1
+    (each_flat (IsIssuable folder destination rows) (λ n. store_of folder mode given (message_at rows view n)) numbers
+    (λ n i. store_issuable folder destination rows mode given (message_at rows view n) (λ row e. message_is_in rows (entry_at view n) row e) l (lawful_given given u)
     (none_of_them (λ n. is_overfull mode given (message_at rows view n)) numbers n parts.0 i)))
 
 -- STORE issues Stores of listed messages, with lawful flags.
-pub store_wants_issuable : (folder : List ℕ) (before : List Listed) (view : List Entry) (read_only by_uid : Bool) (set : List SequenceRange) (since : Option ℕ) (mode : StoreMode) (given : Flags) (kinds : List Kind)
-    → HaveLawfulFlags before → store_wants folder before view read_only by_uid set since mode given ≡ Ok kinds → AreIssuable folder folder before kinds
-store_wants_issuable folder before view read_only by_uid set since mode given kinds l h =
+pub store_wants_issuable : (folder destination : List ℕ) (before : List Listed) (view : List Entry) (read_only by_uid : Bool) (set : List SequenceRange) (since : Option ℕ) (mode : StoreMode) (given : Flags) (kinds : List Kind)
+    → HaveLawfulFlags before → store_wants folder before view read_only by_uid set since mode given ≡ Ok kinds → AreIssuable folder destination before kinds
+store_wants_issuable folder destination before view read_only by_uid set since mode given kinds l h =
     let in_range = unless_refused (not (is_in_range by_uid set view)) _ _ kinds h in
     let writable = unless_refused read_only _ _ kinds in_range.1 in
     let lawful = unless_refused (has_unlawful_keyword given) _ _ kinds writable.1 in
-    stores_of_issuable folder before view (those_taken before view since (resolved by_uid set view)) mode given kinds l lawful.0 lawful.1
+    stores_of_issuable folder destination before view (those_taken before view since (resolved by_uid set view)) mode given kinds l lawful.0 lawful.1
 
 -- ---- EXPUNGE
 
@@ -162,50 +162,50 @@ expunge_issuable : (folder destination : List ℕ) (rows : List Listed) (row : L
 expunge_issuable folder destination rows row m kind i =
     one_where (IsIssuable folder destination rows) row.flags.deleted (Expunge folder row.id) (refl, (row, m, refl)) kind i
 
-expunges_issuable : (folder : List ℕ) (rows : List Listed) → AreIssuable folder folder rows (flat_map (expunge_of folder) rows)
-expunges_issuable folder rows = each_flat (IsIssuable folder folder rows) (expunge_of folder) rows (λ row m. expunge_issuable folder folder rows row m)
+expunges_issuable : (folder destination : List ℕ) (rows : List Listed) → AreIssuable folder destination rows (flat_map (expunge_of folder) rows)
+expunges_issuable folder destination rows = each_flat (IsIssuable folder destination rows) (expunge_of folder) rows (λ row m. expunge_issuable folder destination rows row m)
 
 -- EXPUNGE issues Expunges of listed messages.
-pub expunge_wants_issuable : (folder : List ℕ) (before : List Listed) (read_only : Bool) (kinds : List Kind) → expunge_wants folder before read_only ≡ Ok kinds → AreIssuable folder folder before kinds
-expunge_wants_issuable folder before read_only kinds h =
+pub expunge_wants_issuable : (folder destination : List ℕ) (before : List Listed) (read_only : Bool) (kinds : List Kind) → expunge_wants folder before read_only ≡ Ok kinds → AreIssuable folder destination before kinds
+expunge_wants_issuable folder destination before read_only kinds h =
     let writable = unless_refused read_only _ _ kinds h in
-    ok_is (AreIssuable folder folder before) (flat_map (expunge_of folder) before) kinds _ refl writable.1 (expunges_issuable folder before)
+    ok_is (AreIssuable folder destination before) (flat_map (expunge_of folder) before) kinds _ refl writable.1 (expunges_issuable folder destination before)
 
 -- CLOSE does too, or issues nothing.
-pub close_wants_issuable : (folder : List ℕ) (before : List Listed) (read_only : Bool) (kinds : List Kind) → close_wants folder before read_only ≡ Ok kinds → AreIssuable folder folder before kinds
-close_wants_issuable folder before true kinds h = ok_is (AreIssuable folder folder before) [] kinds _ refl h (λ kind i. absurd i)
-close_wants_issuable folder before false kinds h = ok_is (AreIssuable folder folder before) (flat_map (expunge_of folder) before) kinds _ refl h (expunges_issuable folder before)
+pub close_wants_issuable : (folder destination : List ℕ) (before : List Listed) (read_only : Bool) (kinds : List Kind) → close_wants folder before read_only ≡ Ok kinds → AreIssuable folder destination before kinds
+close_wants_issuable folder destination before true kinds h = ok_is (AreIssuable folder destination before) [] kinds _ refl h (λ kind i. absurd i)
+close_wants_issuable folder destination before false kinds h = ok_is (AreIssuable folder destination before) (flat_map (expunge_of folder) before) kinds _ refl h (expunges_issuable folder destination before)
 
-expunge_at_issuable : (folder : List ℕ) (rows : List Listed) (message : Option Listed) → ((row : Listed) → message ≡ Some row → IsIn row rows) → (kind : Kind) → IsIn kind (expunge_at folder message) → IsIssuable folder folder rows kind
-expunge_at_issuable folder rows None m kind i = absurd i
-expunge_at_issuable folder rows (Some row) m kind i = expunge_issuable folder folder rows row (m row refl) kind i
+expunge_at_issuable : (folder destination : List ℕ) (rows : List Listed) (message : Option Listed) → ((row : Listed) → message ≡ Some row → IsIn row rows) → (kind : Kind) → IsIn kind (expunge_at folder message) → IsIssuable folder destination rows kind
+expunge_at_issuable folder destination rows None m kind i = absurd i
+expunge_at_issuable folder destination rows (Some row) m kind i = expunge_issuable folder destination rows row (m row refl) kind i
 
 -- So does UID EXPUNGE.
-pub uid_expunge_wants_issuable : (folder : List ℕ) (before : List Listed) (view : List Entry) (read_only : Bool) (set : List SequenceRange) (kinds : List Kind) → uid_expunge_wants folder before view read_only set ≡ Ok kinds → AreIssuable folder folder before kinds
-uid_expunge_wants_issuable folder before view read_only set kinds h =
+pub uid_expunge_wants_issuable : (folder destination : List ℕ) (before : List Listed) (view : List Entry) (read_only : Bool) (set : List SequenceRange) (kinds : List Kind) → uid_expunge_wants folder before view read_only set ≡ Ok kinds → AreIssuable folder destination before kinds
+uid_expunge_wants_issuable folder destination before view read_only set kinds h =
     let writable = unless_refused read_only _ _ kinds h in
-    ok_is (AreIssuable folder folder before) (flat_map (λ n. expunge_at folder (message_at before view n)) (resolved true set view)) kinds _ refl writable.1
-    (each_flat (IsIssuable folder folder before) (λ n. expunge_at folder (message_at before view n)) (resolved true set view)
-    (λ n i. expunge_at_issuable folder before (message_at before view n) (λ row e. message_is_in before (entry_at view n) row e)))
+    ok_is (AreIssuable folder destination before) (flat_map (λ n. expunge_at folder (message_at before view n)) (resolved true set view)) kinds _ refl writable.1
+    (each_flat (IsIssuable folder destination before) (λ n. expunge_at folder (message_at before view n)) (resolved true set view)
+    (λ n i. expunge_at_issuable folder destination before (message_at before view n) (λ row e. message_is_in before (entry_at view n) row e)))
 
 -- ---- FETCH
 
-seen_issuable : (folder : List ℕ) (rows : List Listed) (items : List FetchItem) (mode : FetchMode) (message : Option Listed) → ((row : Listed) → message ≡ Some row → IsIn row rows) → HaveLawfulFlags rows
-    → (kind : Kind) → IsIn kind (seen_store folder items mode message) → IsIssuable folder folder rows kind
-seen_issuable folder rows items mode None m l kind i = absurd i
-seen_issuable folder rows items mode (Some row) m l kind i =
+seen_issuable : (folder destination : List ℕ) (rows : List Listed) (items : List FetchItem) (mode : FetchMode) (message : Option Listed) → ((row : Listed) → message ≡ Some row → IsIn row rows) → HaveLawfulFlags rows
+    → (kind : Kind) → IsIn kind (seen_store folder items mode message) → IsIssuable folder destination rows kind
+seen_issuable folder destination rows items mode None m l kind i = absurd i
+seen_issuable folder destination rows items mode (Some row) m l kind i =
     let is_in : IsIn row rows = m row refl in
-    one_where (IsIssuable folder folder rows) (is_kept mode.changed_since row && is_marked items mode row) (Store folder (seen_flags row.flags) row.id row.origin) (refl, l row is_in, (row, is_in, refl, refl)) kind i
+    one_where (IsIssuable folder destination rows) (is_kept mode.changed_since row && is_marked items mode row) (Store folder (seen_flags row.flags) row.id row.origin) (refl, l row is_in, (row, is_in, refl, refl)) kind i
 
 -- FETCH issues Stores of listed messages, with lawful flags.
-pub fetch_wants_issuable : (folder : List ℕ) (before : List Listed) (view : List Entry) (read_only by_uid : Bool) (set : List SequenceRange) (items : List FetchItem) (changed_since : Option ℕ) (kinds : List Kind)
-    → HaveLawfulFlags before → fetch_wants folder before view read_only by_uid set items changed_since ≡ Ok kinds → AreIssuable folder folder before kinds
-fetch_wants_issuable folder before view read_only by_uid set items changed_since kinds l h =
+pub fetch_wants_issuable : (folder destination : List ℕ) (before : List Listed) (view : List Entry) (read_only by_uid : Bool) (set : List SequenceRange) (items : List FetchItem) (changed_since : Option ℕ) (kinds : List Kind)
+    → HaveLawfulFlags before → fetch_wants folder before view read_only by_uid set items changed_since ≡ Ok kinds → AreIssuable folder destination before kinds
+fetch_wants_issuable folder destination before view read_only by_uid set items changed_since kinds l h =
     let in_range = unless_refused (not (is_in_range by_uid set view)) _ _ kinds h in
     let mode = mode_of by_uid false read_only changed_since in
-    ok_is (AreIssuable folder folder before) (flat_map (λ n. seen_store folder items mode (message_at before view n)) (resolved by_uid set view)) kinds _ refl in_range.1
-    (each_flat (IsIssuable folder folder before) (λ n. seen_store folder items mode (message_at before view n)) (resolved by_uid set view)
-    (λ n i. seen_issuable folder before items mode (message_at before view n) (λ row e. message_is_in before (entry_at view n) row e) l))
+    ok_is (AreIssuable folder destination before) (flat_map (λ n. seen_store folder items mode (message_at before view n)) (resolved by_uid set view)) kinds _ refl in_range.1
+    (each_flat (IsIssuable folder destination before) (λ n. seen_store folder items mode (message_at before view n)) (resolved by_uid set view)
+    (λ n i. seen_issuable folder destination before items mode (message_at before view n) (λ row e. message_is_in before (entry_at view n) row e) l))
 
 -- ---- COPY and MOVE
 

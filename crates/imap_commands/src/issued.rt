@@ -16,19 +16,19 @@ ghost use Rattle.imap_commands.specs.Storing.{store_wants};
 
 /// STORE issues Stores of listed messages, with lawful flags.
 pub fn stores_are_issuable()
-    ensures { (folder : List ℕ) (before : List Listed) (view : List Entry) (read_only by_uid : Bool) (set : List SequenceRange) (since : Option ℕ) (mode : StoreMode) (given : Flags) (kinds : List Kind) → HaveLawfulFlags before → store_wants folder before view read_only by_uid set since mode given ≡ Ok kinds → AreIssuable folder folder before kinds }
+    ensures { (folder destination : List ℕ) (before : List Listed) (view : List Entry) (read_only by_uid : Bool) (set : List SequenceRange) (since : Option ℕ) (mode : StoreMode) (given : Flags) (kinds : List Kind) → HaveLawfulFlags before → store_wants folder before view read_only by_uid set since mode given ≡ Ok kinds → AreIssuable folder destination before kinds }
 {}
 
 /// EXPUNGE and UID EXPUNGE issue Expunges of listed messages; CLOSE issues what EXPUNGE does, or nothing.
 pub fn expunges_are_issuable()
-    ensures all { (folder : List ℕ) (before : List Listed) (read_only : Bool) (kinds : List Kind) → expunge_wants folder before read_only ≡ Ok kinds → AreIssuable folder folder before kinds }
-    ensures close { (folder : List ℕ) (before : List Listed) (read_only : Bool) (kinds : List Kind) → close_wants folder before read_only ≡ Ok kinds → AreIssuable folder folder before kinds }
-    ensures some { (folder : List ℕ) (before : List Listed) (view : List Entry) (read_only : Bool) (set : List SequenceRange) (kinds : List Kind) → uid_expunge_wants folder before view read_only set ≡ Ok kinds → AreIssuable folder folder before kinds }
+    ensures all { (folder destination : List ℕ) (before : List Listed) (read_only : Bool) (kinds : List Kind) → expunge_wants folder before read_only ≡ Ok kinds → AreIssuable folder destination before kinds }
+    ensures close { (folder destination : List ℕ) (before : List Listed) (read_only : Bool) (kinds : List Kind) → close_wants folder before read_only ≡ Ok kinds → AreIssuable folder destination before kinds }
+    ensures some { (folder destination : List ℕ) (before : List Listed) (view : List Entry) (read_only : Bool) (set : List SequenceRange) (kinds : List Kind) → uid_expunge_wants folder before view read_only set ≡ Ok kinds → AreIssuable folder destination before kinds }
 {}
 
 /// FETCH issues Stores of listed messages, with lawful flags.
 pub fn seen_stores_are_issuable()
-    ensures { (folder : List ℕ) (before : List Listed) (view : List Entry) (read_only by_uid : Bool) (set : List SequenceRange) (items : List FetchItem) (changed_since : Option ℕ) (kinds : List Kind) → HaveLawfulFlags before → fetch_wants folder before view read_only by_uid set items changed_since ≡ Ok kinds → AreIssuable folder folder before kinds }
+    ensures { (folder destination : List ℕ) (before : List Listed) (view : List Entry) (read_only by_uid : Bool) (set : List SequenceRange) (items : List FetchItem) (changed_since : Option ℕ) (kinds : List Kind) → HaveLawfulFlags before → fetch_wants folder before view read_only by_uid set items changed_since ≡ Ok kinds → AreIssuable folder destination before kinds }
 {}
 
 /// COPY issues Appends in the destination, with lawful flags.

@@ -1,35 +1,62 @@
-use Rattle.std.proofs.Common.{◌≡◌, ◌⊎◌, inl, inr, ◌↔◌, ℕ, Bool, true, false, List, [], ◌∷◌, Option, Some, None, refl, sym, ap, ◌∙◌, subst}
-use Rattle.std.specs.Prelude.{Result, Ok, Err, not, ◌&&◌, nat_lt, length, ◌==◌, if◌then◌else◌}
+use Rattle.std.proofs.Common.{◌≡◌, ◌⊎◌, inl, inr, ◌↔◌, ℕ, Bool, true, false, List, [], ◌∷◌, Option, Some, None, arith, refl, sym, ap, ◌∙◌, subst}
+use Rattle.std.specs.Prelude.{Result, Ok, Err, not, ◌&&◌, nat_lt, length, ◌==◌, ◌<◌, zero, suc, slice_index, if◌then◌else◌}
 use Rattle.std.specs.List.{filter_map, list_all, list_any}
 use Rattle.std.specs.Str.{bytes_eq}
 use Rattle.std.proofs.lemmas.Bool.{and_parts, false≢true}
 use Rattle.std.proofs.lemmas.Slice.Eq.{bytes_eq-Decides}
+use Rattle.std.proofs.lemmas.Str.{IsUtf8-from_ascii}
 use Rattle.causal_inbox.specs.Seen.{IsClockOf}
 use Rattle.crdt_ops.specs.declared.kind.Kind.{Kind}
 use Rattle.crdt_ops.specs.declared.kind.Kind.TheVariants as kinds
 use Rattle.crdt_ops.specs.declared.op.Op.{Op}
 use Rattle.crdt_ops.specs.Order.{id_order}
-use Rattle.crdt_ops.specs.Sets.{delete_set_of, folder_id, folders_of, subscription_tags_of}
+use Rattle.crdt_ops.specs.Sets.{delete_set_of, folder_id, folders_of, subscription_id, subscription_tags_of}
 use Rattle.crdt_ops.specs.Sound.{AreCovered, CoversNamed, IsSound}
 use Rattle.crdt_ops.specs.Tags.{FolderTag, MessageTag, SubscriptionTag, Tag, added_by, adds, is_present, is_some_tag, name_of, present_tags, removes}
 use Rattle.crdt_ops.specs.TagLaws.{adds_own, same_tag_is}
 use Rattle.crdt_ops.proofs.MeaningLemmas.{folders_listed}
 use Rattle.crdt_ops.proofs.Members.{any_in}
 use Rattle.crdt_ops.proofs.OrderLemmas.{id_order_total, id_order_same, in_order_lists}
-use Rattle.crdt_ops.proofs.SetLemmas.{delete_set_in}
+use Rattle.crdt_ops.proofs.SetLemmas.{delete_set_in, subscription_tags_in}
 use Rattle.imap_answers.specs.declared.words.Refusal.{Refusal}
 use Rattle.imap_answers.specs.declared.words.Refusal.TheVariants as refusals
+use Rattle.imap_commands.specs.Appending.{append_wants, given_date}
+use Rattle.imap_commands.specs.Asking.{status_wants}
+use Rattle.imap_commands.specs.Copying.{copy_wants, move_wants}
+use Rattle.imap_commands.specs.Entering.{are_right, login_wants}
+use Rattle.imap_commands.specs.Expunging.{close_wants, expunge_wants, uid_expunge_wants}
+use Rattle.imap_commands.specs.Fetching.{fetch_wants}
+use Rattle.imap_commands.specs.Mailboxes.{create_wants, created_name, delete_wants, is_lawful_name, subscribe_wants, unsubscribe_wants, unsubscribes}
+use Rattle.imap_commands.specs.Searching.{search_wants, step_is_in_range}
+use Rattle.imap_commands.specs.Selecting.{select_wants}
+use Rattle.imap_commands.specs.Storing.{store_wants}
+use Rattle.imap_commands.specs.declared.session.Credentials.{Credentials}
+use Rattle.imap_commands.specs.declared.session.State.{State}
+use Rattle.imap_commands.specs.declared.session.State.TheVariants.{NotAuthenticated, Authenticated, Selected, LoggedOut}
+use Rattle.imap_commands.proofs.IssuedLemmas.{close_wants_issuable, copy_wants_issuable, expunge_wants_issuable, fetch_wants_issuable, move_wants_issuable, store_wants_issuable, uid_expunge_wants_issuable}
+use Rattle.imap_commands.proofs.LawfulLemmas.{append_lawful, create_lawful, delete_lawful, subscribe_lawful, unsubscribe_lawful}
+use Rattle.imap_grammar.specs.declared.command.Command.{Command}
+use Rattle.imap_grammar.specs.declared.command.Command.TheVariants as commands
+use Rattle.imap_grammar.specs.declared.idle.IdleLine.TheVariants.{Done as DoneLine, Other}
+use Rattle.imap_node.specs.declared.input.Input.{Input}
+use Rattle.imap_node.specs.declared.input.Input.TheVariants as inputs
 use Rattle.imap_commands.specs.Issued.{AreIssuable, HaveLawfulFlags, IsIssuable}
 use Rattle.imap_commands.specs.Lawful.{AreLawfulKinds, IsLawfulKind}
-use Rattle.imap_commands.proofs.NameLemmas.{lawful_from_test}
+use Rattle.imap_types.specs.Keywords.{is_lawful_keyword}
 use Rattle.imap_types.specs.Names.{IsLawfulName, inbox}
+use Rattle.imap_types.specs.declared.flags.Flags.{Flags}
+use Rattle.imap_types.specs.declared.sequence_set.SequenceRange.{SequenceRange}
 use Rattle.mail_listing.specs.Listed.{Listed}
 use Rattle.merge_laws.specs.Orders.{AreSound, HasId, IsIn}
 use Rattle.tags_clocks.specs.Clock.{IsCause}
 use Rattle.tags_clocks.specs.declared.id.OpId.{OpId}
 use Rattle.session_view.specs.Seen.{Seen, rows_under}
-use Rattle.imap_node.specs.Mailboxes.{rows_for}
+use Rattle.session_view.specs.Sets.{is_in_range}
+use Rattle.session_view.specs.declared.entry.Entry.{Entry}
+use Rattle.imap_node.specs.Commands.{is_known, wants, when_known, when_new, when_selected}
+use Rattle.imap_node.specs.Mailboxes.{is_subscribed, rows_for}
 use Rattle.imap_node.specs.Operations.{CanIssue, CanIssueAll}
+use Rattle.imap_node.specs.Respond.{wants_of}
 use Rattle.uid_projection.specs.declared.start.Start.{Start}
 use Rattle.uid_projection.specs.Applied.{IsApplied}
 use Rattle.uid_projection.specs.Incarnations.{is_there, uidvalidity_of}
@@ -39,8 +66,16 @@ use Rattle.uid_projection.proofs.ListingLaws.{flags_lawful, names_applied}
 
 -- ---- names
 
+inbox_ascii : (i : ℕ) → slice_index inbox i < 128
+inbox_ascii zero = omega arith
+inbox_ascii (suc zero) = omega arith
+inbox_ascii (suc (suc zero)) = omega arith
+inbox_ascii (suc (suc (suc zero))) = omega arith
+inbox_ascii (suc (suc (suc (suc zero)))) = omega arith
+inbox_ascii (suc (suc (suc (suc (suc i))))) = omega arith
+
 pub inbox_lawful : IsLawfulName inbox
-inbox_lawful = lawful_from_test inbox refl
+inbox_lawful = record { not_empty = omega arith; short = omega arith; utf8 = IsUtf8-from_ascii inbox inbox_ascii; octets = refl; levels = refl; folded = refl }
 
 tag_name : Tag → List ℕ
 tag_name (FolderTag folder id) = folder
@@ -208,10 +243,167 @@ deleted_there there seen name given e = (where_true there _ _ given e).0
 
 -- ---- what the commands over messages want
 
+chosen : (b : Bool) (rows : List Listed) (row : Listed) → IsIn row (if b then rows else []) → IsIn row rows
+chosen true rows row i = i
+chosen false rows row i = absurd i
+
+under_in : (uidvalidity : ℕ) (now : Option ℕ) (rows : List Listed) (row : Listed) → IsIn row (rows_under uidvalidity now rows) → IsIn row rows
+under_in uidvalidity None rows row i = absurd i
+under_in uidvalidity (Some now) rows row i = chosen (now == uidvalidity) rows row i
+
 module _ (start : Start) (ops : List Op) (a : IsApplied ops) where
-  in_rows : (name : List ℕ) (uidvalidity : ℕ) (now : Option ℕ) (row : Listed) → IsIn row (rows_under uidvalidity now (listing start name ops)) → IsIn row (listing start name ops)
-  in_rows name uidvalidity None row i = absurd i
-  in_rows name uidvalidity (Some now) row i = chosen (now == uidvalidity) i
-    where
-      chosen : (b : Bool) → IsIn row (if b then listing start name ops else []) → IsIn row (listing start name ops)
-      chosen b i = i
+  view_row : (view : Seen) (row : Listed) → IsIn row (rows_for start ops view) → IsIn row (listing start view.name ops)
+  view_row view row i = under_in view.uidvalidity (uidvalidity_of start view.name ops) (listing start view.name ops) row i
+
+  pub view_flags : (view : Seen) → HaveLawfulFlags (rows_for start ops view)
+  view_flags view = λ row i. flags_lawful start view.name ops row a (view_row view row i)
+
+  module _ (view : Seen) (destination : List ℕ) (lawful : IsLawfulName destination) where
+    name_of_view : (row : Listed) → IsIn row (rows_for start ops view) → IsLawfulName view.name
+    name_of_view row i = listed_lawful start view.name ops row a (view_row view row i)
+
+    ids_of_row : (row : Listed) → IsIn row (rows_for start ops view) → HasId (λ (o : Op). o.id) ops row.id × HasId (λ (o : Op). o.id) ops row.origin
+    ids_of_row row i = names_applied start view.name ops row a (view_row view row i)
+
+    issuable_can : (kind : Kind) → IsIssuable view.name destination (rows_for start ops view) kind → CanIssue ops kind
+    issuable_can (kinds.Create f) h = absurd h
+    issuable_can (kinds.Delete f seen) h = absurd h
+    issuable_can (kinds.Append f flags date text) h = record {
+      lawful = record { name = subst IsLawfulName (sym h.0) lawful; flags = h.1; inbox_stays = λ k. k };
+      covered = λ clock counts. tt;
+    }
+    issuable_can (kinds.Expunge f old) h =
+        let row = h.1.0 in
+        let i = h.1.1 in
+        record {
+          lawful = record { name = subst IsLawfulName (sym h.0) (name_of_view row i); flags = tt; inbox_stays = λ k. k };
+          covered = λ clock counts. subst (IsCause clock) (sym h.1.2) ((counts row.id).1 (ids_of_row row i).0);
+        }
+    issuable_can (kinds.Store f flags old origin) h =
+        let row = h.2.0 in
+        let i = h.2.1 in
+        record {
+          lawful = record { name = subst IsLawfulName (sym h.0) (name_of_view row i); flags = h.1; inbox_stays = λ k. k };
+          covered = λ clock counts. (
+            subst (IsCause clock) (sym h.2.2) ((counts row.id).1 (ids_of_row row i).0),
+            subst (IsCause clock) (sym h.2.3) ((counts row.origin).1 (ids_of_row row i).1),
+          );
+        }
+    issuable_can (kinds.Subscribe name) h = absurd h
+    issuable_can (kinds.Unsubscribe name seen) h = absurd h
+
+    pub issuable_all : (given : List Kind) → AreIssuable view.name destination (rows_for start ops view) given → CanIssueAll ops given
+    issuable_all given h = λ kind i. issuable_can kind (h kind i)
+
+-- a destination that is copied to is there
+not_true : (b : Bool) → not b ≡ false → b ≡ true
+not_true true h = refl
+not_true false h = cc
+
+copy_there : (there : Bool) (name : List ℕ) (rows : List Listed) (view : List Entry) (by_uid : Bool) (set : List SequenceRange) (given : List Kind) → copy_wants name there rows view by_uid set ≡ Ok given → there ≡ true
+copy_there there name rows view by_uid set given e =
+    let in_range = where_false (not (is_in_range by_uid set view)) _ _ given e in
+    not_true there (where_false (not there) _ _ given in_range.1).0
+
+move_there : (folder name : List ℕ) (there : Bool) (rows : List Listed) (view : List Entry) (read_only by_uid : Bool) (set : List SequenceRange) (given : List Kind) → move_wants folder name there rows view read_only by_uid set ≡ Ok given → there ≡ true
+move_there folder name there rows view read_only by_uid set given e =
+    let in_range = where_false (not (is_in_range by_uid set view)) _ _ given e in
+    let writable = where_false read_only _ _ given in_range.1 in
+    not_true there (where_false (not there) _ _ given writable.1).0
+
+-- ---- what each command wants
+
+known_wants : (state : State) (want : Result (List Kind) Refusal) (given : List Kind) → when_known state want ≡ Ok given → want ≡ Ok given
+known_wants state want given e = (where_true (is_known state) want refusals.NotNow given e).1
+
+selected_wants : (state : State) (want : Seen → Bool → Result (List Kind) Refusal) (given : List Kind) → when_selected state want ≡ Ok given → (view : Seen) × (read_only : Bool) × (want view read_only ≡ Ok given)
+selected_wants (NotAuthenticated credentials) want given e = not_ok refusals.NotNow given e
+selected_wants Authenticated want given e = not_ok refusals.NotNow given e
+selected_wants (Selected view read_only) want given e = (view, read_only, e)
+selected_wants LoggedOut want given e = not_ok refusals.NotNow given e
+
+new_wants : (state : State) (want : Credentials → Result (List Kind) Refusal) (given : List Kind) → when_new state want ≡ Ok given → (credentials : Credentials) × (want credentials ≡ Ok given)
+new_wants (NotAuthenticated credentials) want given e = (credentials, e)
+new_wants Authenticated want given e = not_ok refusals.NotNow given e
+new_wants (Selected view read_only) want given e = not_ok refusals.NotNow given e
+new_wants LoggedOut want given e = not_ok refusals.NotNow given e
+
+nothing_wanted : (ops : List Op) (given : List Kind) → ◌≡◌ {A = Result (List Kind) Refusal} (Ok []) (Ok given) → CanIssueAll ops given
+nothing_wanted ops given e = subst (CanIssueAll ops) (ok_is [] given e) (can_none ops)
+
+nothing_where : (ops : List Op) (test : Bool) (why : Refusal) (given : List Kind) → (if test then Ok [] else Err why) ≡ Ok given → CanIssueAll ops given
+nothing_where ops test why given e = nothing_wanted ops given (where_true test (Ok []) why given e).1
+
+module _ (start : Start) (ops : List Op) (a : IsApplied ops) (stamp : List ℕ) (state : State) where
+  -- what a command wants may be issued
+  pub wanted_can : (command : Command) (given : List Kind) → wants start ops stamp state command ≡ Ok given → CanIssueAll ops given
+  wanted_can commands.Capability given e = nothing_wanted ops given e
+  wanted_can commands.Noop given e = nothing_wanted ops given e
+  wanted_can commands.Logout given e = nothing_wanted ops given e
+  wanted_can (commands.Login user password) given e =
+      let w = new_wants state (λ credentials. login_wants credentials user password) given e in
+      nothing_where ops (are_right w.0 user password) refusals.LoginFailed given w.1
+  wanted_can (commands.Enable names) given e = nothing_wanted ops given (known_wants state (Ok []) given e)
+  wanted_can (commands.Select name condstore) given e = nothing_where ops (is_there name ops) refusals.NoSuchMailbox given (known_wants state (select_wants (is_there name ops)) given e)
+  wanted_can (commands.Examine name condstore) given e = nothing_where ops (is_there name ops) refusals.NoSuchMailbox given (known_wants state (select_wants (is_there name ops)) given e)
+  wanted_can (commands.Create name) given e =
+      let there = is_there (created_name name) ops in
+      let w = known_wants state (create_wants there name) given e in
+      can_all ops given (create_lawful there name given w) (create_covers ops there name given w)
+  wanted_can (commands.Delete name) given e =
+      let there = is_there name ops in
+      let seen = delete_set_of ops name in
+      let w = known_wants state (delete_wants there seen name) given e in
+      can_all ops given (delete_lawful there seen name given (there_lawful ops name a.sound (deleted_there there seen name given w)) w) (delete_covers ops there name given w)
+  wanted_can (commands.Subscribe name) given e =
+      let subscribed = is_subscribed name ops in
+      let w = known_wants state (subscribe_wants subscribed name) given e in
+      can_all ops given (subscribe_lawful subscribed name given w) (subscribe_covers ops subscribed name given w)
+  wanted_can (commands.Unsubscribe name) given e =
+      let seen = subscription_tags_of ops name in
+      let w = known_wants state (unsubscribe_wants seen name) given e in
+      can_all ops given (unsubscribe_lawful seen name given w) (unsubscribe_covers ops name given w)
+  wanted_can (commands.ListNames subscribed_only reference pattern return_subscribed) given e = nothing_wanted ops given (known_wants state (Ok []) given e)
+  wanted_can commands.Namespace given e = nothing_wanted ops given (known_wants state (Ok []) given e)
+  wanted_can (commands.Status name items) given e = nothing_where ops (is_there name ops) refusals.NoSuchMailbox given (known_wants state (status_wants (is_there name ops)) given e)
+  wanted_can (commands.Append name flags date text) given e =
+      let there = is_there name ops in
+      let w = known_wants state (append_wants there name flags date stamp text) given e in
+      let c = append_covers ops there name flags date stamp text given w in
+      can_all ops given (append_lawful there name flags date stamp text given (there_lawful ops name a.sound c.0) w) c.1
+  wanted_can commands.Idle given e = nothing_wanted ops given (known_wants state (Ok []) given e)
+  wanted_can commands.Close given e =
+      let w = selected_wants state (λ view read_only. close_wants view.name (rows_for start ops view) read_only) given e in
+      issuable_all start ops a w.0 inbox inbox_lawful given (close_wants_issuable w.0.name inbox (rows_for start ops w.0) w.1 given w.2)
+  wanted_can commands.Unselect given e = nothing_wanted ops given (selected_wants state (λ view read_only. Ok []) given e).2
+  wanted_can commands.Expunge given e =
+      let w = selected_wants state (λ view read_only. expunge_wants view.name (rows_for start ops view) read_only) given e in
+      issuable_all start ops a w.0 inbox inbox_lawful given (expunge_wants_issuable w.0.name inbox (rows_for start ops w.0) w.1 given w.2)
+  wanted_can (commands.UidExpunge uids) given e =
+      let w = selected_wants state (λ view read_only. uid_expunge_wants view.name (rows_for start ops view) view.entries read_only uids) given e in
+      issuable_all start ops a w.0 inbox inbox_lawful given (uid_expunge_wants_issuable w.0.name inbox (rows_for start ops w.0) w.0.entries w.1 uids given w.2)
+  wanted_can (commands.Search by_uid options steps) given e =
+      let w = selected_wants state (λ view read_only. search_wants view.entries steps) given e in
+      nothing_where ops (list_all (step_is_in_range w.0.entries) steps) refusals.NoSuchMessage given w.2
+  wanted_can (commands.Fetch by_uid set items changed_since) given e =
+      let w = selected_wants state (λ view read_only. fetch_wants view.name (rows_for start ops view) view.entries read_only by_uid set items changed_since) given e in
+      issuable_all start ops a w.0 inbox inbox_lawful given (fetch_wants_issuable w.0.name inbox (rows_for start ops w.0) w.0.entries w.1 by_uid set items changed_since given (view_flags start ops a w.0) w.2)
+  wanted_can (commands.Store by_uid set unchanged_since action flags) given e =
+      let w = selected_wants state (λ view read_only. store_wants view.name (rows_for start ops view) view.entries read_only by_uid set unchanged_since action.mode flags) given e in
+      issuable_all start ops a w.0 inbox inbox_lawful given (store_wants_issuable w.0.name inbox (rows_for start ops w.0) w.0.entries w.1 by_uid set unchanged_since action.mode flags given (view_flags start ops a w.0) w.2)
+  wanted_can (commands.Copy by_uid set name) given e =
+      let there = is_there name ops in
+      let w = selected_wants state (λ view read_only. copy_wants name there (rows_for start ops view) view.entries by_uid set) given e in
+      issuable_all start ops a w.0 name (there_lawful ops name a.sound (copy_there there name (rows_for start ops w.0) w.0.entries by_uid set given w.2)) given
+      (copy_wants_issuable w.0.name name there (rows_for start ops w.0) w.0.entries by_uid set given (view_flags start ops a w.0) w.2)
+  wanted_can (commands.Move by_uid set name) given e =
+      let there = is_there name ops in
+      let w = selected_wants state (λ view read_only. move_wants view.name name there (rows_for start ops view) view.entries read_only by_uid set) given e in
+      issuable_all start ops a w.0 name (there_lawful ops name a.sound (move_there w.0.name name there (rows_for start ops w.0) w.0.entries w.1 by_uid set given w.2)) given
+      (move_wants_issuable w.0.name name there (rows_for start ops w.0) w.0.entries w.1 by_uid set given (view_flags start ops a w.0) w.2)
+
+  pub input_can : (input : Input) (given : List Kind) → wants_of start ops stamp state input ≡ Ok given → CanIssueAll ops given
+  input_can (inputs.Command moment tagged) given e = wanted_can tagged.command given e
+  input_can (inputs.Line DoneLine) given e = nothing_wanted ops given e
+  input_can (inputs.Line Other) given e = not_ok refusals.DoneExpected given e
+  input_can inputs.Poll given e = nothing_wanted ops given e

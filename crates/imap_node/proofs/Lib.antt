@@ -1,2 +1,4 @@
 pub mod NextLemmas
 pub mod CanLemmas
+pub mod PlanLemmas
+pub mod TellLemmas

@@ -1,4 +1,8 @@
 use Rattle.std.proofs.Common.{◌≡◌, ◌⊎◌, inl, inr, ℕ, ◌+◌, ◌≤◌, List, [], ◌∷◌, ◌++◌, length, map, append_assoc, append-nil, arith, refl, sym, ap, ◌∙◌, subst}
+use Rattle.std.proofs.Common.{◌-◌, max, if◌then◌else◌}
+use Rattle.std.proofs.Math.Dec.{eqb}
+use Rattle.std.proofs.lemmas.Bool.{cases_lt}
+use Rattle.std.proofs.lemmas.Bool.Decides.{eqb_tells}
 use Rattle.crdt_ops.specs.Sound.{AreCovered, CoversNamed, IsSound}
 use Rattle.crdt_ops.specs.declared.kind.Kind.{Kind}
 use Rattle.crdt_ops.specs.declared.kind.Kind.TheVariants.{Append, Create, Delete, Expunge, Store, Subscribe, Unsubscribe}
@@ -7,7 +11,8 @@ use Rattle.causal_inbox.specs.Seen.{AreIssued, IsClockOf}
 use Rattle.merge_laws.specs.Orders.{AreSound, HasId, IsCausal, IsIn, IsRipe}
 use Rattle.merge_laws.proofs.Causal.{causal_append}
 use Rattle.merge_laws.proofs.Lists.{id_in_front}
-use Rattle.tags_clocks.specs.Clock.{IsCause, count_of}
+use Rattle.causal_inbox.proofs.Clocks.{clock_step}
+use Rattle.tags_clocks.specs.Clock.{IsCause, IsRaised, count_of}
 use Rattle.tags_clocks.specs.declared.id.OpId.{OpId}
 use Rattle.imap_node.specs.Operations.{AreNext, CanIssue, CanIssueAll, CanIssueBy, IsFresh, IsNext}
 use Rattle.uid_projection.specs.Applied.{IsApplied}
@@ -93,3 +98,89 @@ can_by applied more kind before after can b a = record {
   lawful = can.lawful;
   covered = covers_more before after kind (λ i c. (a i).1 (id_in_front (λ (o : Op). o.id) i applied more ((b i).0 c))) (can.covered before b);
 }
+
+-- two clocks of one list count the same
+pub counts_within : (ops : List Op) (c d : List (ℕ × ℕ)) → IsClockOf (λ (o : Op). o.id) ops c → IsClockOf (λ (o : Op). o.id) ops d → (r : ℕ) → count_of c r ≤ count_of d r
+counts_within ops c d hc hd r =
+    elim (cases_lt 0 (count_of c r)) [
+      | inl l ↦
+          let i : OpId = record { replica = r; number = count_of c r } in
+          let least : count_of c r ≤ count_of c r = omega arith in
+          ((hd i).1 ((hc i).0 (l, least))).1
+      | inr z ↦ omega arith
+    ]
+
+-- ---- operations that are made one after another
+
+-- Of these kinds operations are made, that come next one behind another; the rest is still to be made, and the clock counts what was applied
+-- and made.
+pub record IsMade (replica : ℕ) (applied : List Op) (given rest : List Kind) (ops : List Op) (clock : List (ℕ × ℕ)) : Type 0 where
+  pub split : map (λ (o : Op). o.kind) ops ++ rest ≡ given
+  pub next : (front : List Op) (op : Op) (back : List Op) → ops ≡ front ++ op ∷ back → IsNext replica (applied ++ front) op
+  pub sound : AreSound IsSound ops
+  pub counts : IsClockOf (λ (o : Op). o.id) (applied ++ ops) clock
+  pub few : count_of clock replica + length rest ≤ 4294967295
+
+pub no_cut : (front : List Op) (op : Op) (back : List Op) → [] ≡ front ++ op ∷ back → ⊥
+no_cut [] op back e = absurd cc
+no_cut (o ∷ front) op back e = absurd cc
+
+pub made_none : (replica : ℕ) (applied : List Op) (given rest : List Kind) (ops : List Op) (clock now : List (ℕ × ℕ)) → rest ≡ given → ops ≡ [] → clock ≡ now
+    → IsClockOf (λ (o : Op). o.id) applied now → count_of now replica + length given ≤ 4294967295 → IsMade replica applied given rest ops clock
+made_none replica applied given rest ops clock now r o k counts few =
+    subst (λ (xs : List Kind). IsMade replica applied given xs ops clock) (sym r)
+    (subst (λ (os : List Op). IsMade replica applied given given os clock) (sym o)
+    (subst (IsMade replica applied given given []) (sym k)
+    (record {
+      split = refl;
+      next = λ front op back e. absurd (no_cut front op back e);
+      sound = λ op i. absurd i;
+      counts = subst (λ (os : List Op). IsClockOf (λ (o : Op). o.id) os now) (sym (append-nil applied)) counts;
+      few = few;
+    })))
+
+kinds_more : (ops : List Op) (op : Op) (rest : List Kind) → map (λ (o : Op). o.kind) (ops ++ op ∷ []) ++ rest ≡ map (λ (o : Op). o.kind) ops ++ op.kind ∷ rest
+kinds_more [] op rest = refl
+kinds_more (o ∷ ops) op rest = ap (λ (ks : List Kind). o.kind ∷ ks) (kinds_more ops op rest)
+
+raised_own : (old : List (ℕ × ℕ)) (replica number : ℕ) (new : List (ℕ × ℕ)) → IsRaised old replica number new → count_of new replica ≡ max (count_of old replica) number
+raised_own old replica number new h =
+    let at : count_of new replica ≡ (if eqb replica replica then max (count_of old replica) number else count_of old replica) = h replica in
+    elim (eqb_tells replica replica) [
+      | inl t ↦ rw t.0 at at
+      | inr f ↦ absurd (f.1 refl)
+    ]
+
+pub made_more : (replica : ℕ) (applied : List Op) (given : List Kind) (kind : Kind) (rest : List Kind) (ops : List Op) (clock : List (ℕ × ℕ)) (op : Op) (new : List (ℕ × ℕ))
+    → IsMade replica applied given (kind ∷ rest) ops clock → op.kind ≡ kind → op.clock ≡ clock → op.id.replica ≡ replica → op.id.number ≡ count_of clock replica + 1 → IsSound op
+    → IsRaised clock replica op.id.number new → IsMade replica applied given rest (ops ++ op ∷ []) new
+made_more replica applied given kind rest ops clock op new h k c r n sound raised =
+    let is_next : IsNext replica (applied ++ ops) op = record {
+      own = r;
+      clock = subst (IsClockOf (λ (o : Op). o.id) (applied ++ ops)) (sym c) h.counts;
+      number = n ∙ ap (λ (x : List (ℕ × ℕ)). count_of x replica + 1) (sym c);
+    } in
+    let own : count_of op.clock op.id.replica + 1 ≡ op.id.number = ap (λ (x : ℕ). count_of op.clock x + 1) r ∙ sym is_next.number in
+    let here : IsRaised clock op.id.replica op.id.number new = subst (λ (x : ℕ). IsRaised clock x op.id.number new) (sym r) raised in
+    let now : count_of new replica ≡ max (count_of clock replica) op.id.number = raised_own clock replica op.id.number new raised in
+    let left : count_of clock replica + length (kind ∷ rest) ≤ 4294967295 = h.few in
+    record {
+      split = kinds_more ops op rest ∙ ap (λ (x : Kind). map (λ (o : Op). o.kind) ops ++ x ∷ rest) k ∙ h.split;
+      next = next_more replica applied ops op h.next is_next;
+      sound = λ o i. elim (in_both ops (op ∷ []) o i) [ inl t ↦ h.sound o t | inr t ↦ elim t [ inl e ↦ subst IsSound e sound | inr f ↦ absurd f ] ];
+      counts = subst (λ (os : List Op). IsClockOf (λ (o : Op). o.id) os new) (append_assoc applied ops (op ∷ []))
+          (clock_step (λ (o : Op). o.id) (λ o. o.clock) (applied ++ ops) clock new op h.counts (next_ripe replica (applied ++ ops) op is_next) own here);
+      few = omega (arith, now, left, n);
+    }
+
+kind_among : (xs : List Kind) (kind : Kind) (rest : List Kind) → IsIn kind (xs ++ kind ∷ rest)
+kind_among [] kind rest = inl refl
+kind_among (x ∷ xs) kind rest = inr (kind_among xs kind rest)
+
+pub made_can : (replica : ℕ) (applied : List Op) (given : List Kind) (kind : Kind) (rest : List Kind) (ops : List Op) (clock before : List (ℕ × ℕ))
+    → IsMade replica applied given (kind ∷ rest) ops clock → CanIssueAll applied given → IsClockOf (λ (o : Op). o.id) applied before → CanIssueBy clock kind
+made_can replica applied given kind rest ops clock before h can counts =
+    can_by applied ops kind before clock (can kind (subst (IsIn kind) h.split (kind_among (map (λ (o : Op). o.kind) ops) kind rest))) counts h.counts
+
+pub made_all : (replica : ℕ) (applied : List Op) (given : List Kind) (ops : List Op) (clock : List (ℕ × ℕ)) → IsMade replica applied given [] ops clock → AreNext replica applied given ops
+made_all replica applied given ops clock h = record { of_kinds = sym (append-nil (map (λ (o : Op). o.kind) ops)) ∙ h.split; next = h.next }

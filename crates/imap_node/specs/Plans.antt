@@ -51,11 +51,11 @@ abbrev pub place_next : Option Session → Next → Option Session
 place_next None next = None
 place_next (Some session) next = Some (session_next session next)
 
--- The plan can be committed: its session is open, its operations come next, and the room for them is there.
+-- The plan can be committed: its session is open, its operations come next, and the room for them, if there are any, is there.
 pub record IsPlanned (node : NodeKept) (plan : Plan) : Type 0 where
   pub is_open : IsOpen node.state.sessions plan.number
   pub issued : AreIssued (λ (o : Op). o.id) (λ o. o.clock) node.state.applied plan.ops
-  pub room : HasRoomFor node.state.applied node.room plan.ops
+  pub room : (plan.ops ≡ [] → ⊥) → HasRoomFor node.state.applied node.room plan.ops
 
 -- The session that a plan leaves behind.
 abbrev pub planned_session : NodeState → Plan → Option Session

@@ -258,7 +258,7 @@ impl Node {
 
 /// Issues the operations, if there are any.
 fn issue(replica: &mut Replica, ops: Issued)
-    requires room { HasRoomFor replica.old.applied replica.old.room ops }
+    requires room { (ops ≡ [] → ⊥) → HasRoomFor replica.old.applied replica.old.room ops }
     requires issued { AreIssued (λ (o : Operation). o.id) (λ (o : Operation). o.clock) replica.old.applied ops }
     ensures start { replica.new.start ≡ replica.old.start }
     ensures applied { replica.new.applied ≡ replica.old.applied ++ ops }

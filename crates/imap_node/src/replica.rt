@@ -36,19 +36,15 @@ use uid_projection::{Charts, Start};
 /// A replica without its sessions.
 #[derive(Drop)]
 pub struct Replica {
-    id: ReplicaId,
     inbox: Inbox<Pair<Folders, Subs>, OnFirst<Charts>>,
 }
 
 impl Model for Replica {
-    ghost use Rattle.std.specs.Prelude.{◌≡◌};
     ghost use Rattle.imap_node.specs.Nodes.{ReplicaKept};
 
     ghost Value = { ReplicaKept };
 
     ghost view = { λ r. record { start = r.inbox.seen.start; applied = r.inbox.seen.applied; held = r.inbox.seen.held; room = r.inbox.room } };
-
-    ghost invariant = { λ r. r.id ≡ r.inbox.seen.start.replica };
 }
 
 impl Replica {
@@ -67,7 +63,6 @@ impl Replica {
             follower: Charts::new(alloc, start)?,
         };
         Ok(Replica {
-            id: start.replica,
             inbox: Inbox::new(alloc, value, follower)?,
         })
     }
@@ -76,7 +71,7 @@ impl Replica {
     pub fn id(&self) -> ReplicaId
         ensures { result ≡ self.now.start.replica }
     {
-        self.id
+        self.charts_now().start().replica
     }
 
     /// The operations applied, in their order, which is causal.
@@ -293,6 +288,7 @@ impl Replica {
     fn charts_now(&self) -> &Charts
         ensures follows { Follows result.now self.now.applied }
         ensures start { result.now.start ≡ self.now.start }
+        ensures room { result.now ≡ self.now.room.follower.follower }
     {
         &self.inbox.follower().follower
     }

@@ -1,5 +1,5 @@
 ghost use Rattle.std.specs.Prelude.{◌≡◌, ◌≢◌, ◌+◌, ◌-◌, ◌<◌, ◌≤◌, ◌↔◌, [], ℕ, IsTrue, IsNone, IsSome, None, Some, Err, IfOk, IfErr, OnOk, OnErr, SomeIff, length, max, ◌==◌, if◌then◌else◌, slice_index_or, slice_set};
-ghost use Rattle.std.specs.Option.{option_copied};
+ghost use Rattle.std.specs.Option.{option_copied, option_map};
 ghost use Rattle.imap_node.specs.Sessions.{IsOpen, awake, opened, session_at, unselected, with_changed};
 ghost use Rattle.imap_node.specs.declared.sessions.OpenFault.TheVariants.{NoMemory, TooManySessions};
 
@@ -166,24 +166,40 @@ fn opened(auth: Auth) -> Session
     }
 }
 
-/// The session's state is Authenticated, and nothing else of it changes.
 fn leave_in(places: &mut Vec<Option<Session>>, session: SessionNo)
     requires { IsOpen places.old.items session }
     ensures { places.new.items ≡ with_changed places.old.items session unselected }
 {
     let place = session.get() - 1;
-    if let Some(Some(session)) = places.get_mut(place) {
+    if place < places.len() {
+        unselect(&mut places[place]);
+    }
+}
+
+/// The session has no mailbox selected, and nothing else of it changes.
+fn unselect(place: &mut Option<Session>)
+    ensures { place.new ≡ option_map unselected place.old }
+{
+    if let Some(session) = place {
         session.state = State::Authenticated;
     }
 }
 
-/// The session no longer idles, and nothing else of it changes.
 fn wake_in(places: &mut Vec<Option<Session>>, session: SessionNo)
     requires { IsOpen places.old.items session }
     ensures { places.new.items ≡ with_changed places.old.items session awake }
 {
     let place = session.get() - 1;
-    if let Some(Some(session)) = places.get_mut(place) {
+    if place < places.len() {
+        wake(&mut places[place]);
+    }
+}
+
+/// The session doesn't idle, and nothing else of it changes.
+fn wake(place: &mut Option<Session>)
+    ensures { place.new ≡ option_map awake place.old }
+{
+    if let Some(session) = place {
         session.idling = None;
     }
 }

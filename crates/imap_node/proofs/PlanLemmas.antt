@@ -1,0 +1,126 @@
+use Rattle.std.proofs.Common.{◌≡◌, ◌⊎◌, inl, inr, ℕ, Bool, true, false, List, [], ◌∷◌, ◌++◌, Option, Some, None, Vec, Global, refl, sym, ap, ◌∙◌, subst, append-nil, IfOk, IfErr}
+use Rattle.std.specs.Prelude.{Result, Ok, Err, MatchResult, ◌&&◌, if◌then◌else◌}
+use Rattle.std.specs.Prelude.{length, ◌==◌}
+use Rattle.std.proofs.lemmas.Bool.{false≢true}
+use Rattle.causal_inbox.specs.Seen.{AreIssued, AreKept}
+use Rattle.crdt_ops.specs.declared.kind.Kind.{Kind}
+use Rattle.crdt_ops.specs.declared.op.Op.{Op}
+use Rattle.imap_answers.specs.declared.words.Refusal.{Refusal}
+use Rattle.imap_answers.specs.declared.words.Refusal.TheVariants.{NoMemory}
+use Rattle.imap_commands.specs.Gives.{Gives}
+use Rattle.imap_commands.specs.declared.session.Session.{Session}
+use Rattle.imap_commands.specs.declared.session.State.{State}
+use Rattle.imap_commands.specs.declared.session.State.TheVariants.{Authenticated}
+use Rattle.imap_node.specs.declared.input.Input.{Input}
+use Rattle.imap_node.specs.declared.input.Input.TheVariants as inputs
+use Rattle.imap_node.specs.declared.planning.Next.TheVariants.{Becomes, Leaves, Stays, Wakes}
+use Rattle.imap_node.specs.declared.planning.Prepared.{Prepared}
+use Rattle.imap_node.specs.Endings.{Course, answers_of_course}
+use Rattle.imap_node.specs.declared.planning.Answered.{Answered}
+use Rattle.imap_node.specs.Nodes.{NodeKept, NodeState}
+use Rattle.imap_node.specs.Rooms.{HasRoomFor}
+use Rattle.imap_node.proofs.NextLemmas.{no_cut}
+use Rattle.imap_node.specs.Commands.{is_selected, is_selecting}
+use Rattle.imap_node.specs.Operations.{CanIssueAll, IsNotReady}
+use Rattle.imap_node.specs.Plans.{IsAnswered, IsPlanned, Planned, Prepares, done_plan, next_left, place_next, plan_by, session_next}
+use Rattle.imap_node.specs.Respond.{Carries, Holds, IsRefused, IsStamp, KeepsHeld, TakesCourse, ends_idling, left, session_after, wants_of}
+use Rattle.imap_node.specs.Sessions.{IsOpen, session_at, with_session}
+use Rattle.imap_node.proofs.CanLemmas.{input_can}
+use Rattle.uid_projection.specs.declared.start.Start.{Start}
+use Rattle.uid_projection.specs.Applied.{IsApplied}
+
+-- what holds of either outcome
+pub match_weaker : {T E : Type 0} (r : Result T E) (P P' : T → Type 0) (Q Q' : E → Type 0) → ((t : T) → P t → P' t) → ((e : E) → Q e → Q' e) → MatchResult r P Q → MatchResult r P' Q'
+match_weaker (Ok t) P P' Q Q' f g h = f t h
+match_weaker (Err e) P P' Q Q' f g h = g e h
+
+-- what is kept where something is issued
+pub kept_some : (ops old new : List Op) → (ops ≡ [] → ⊥) → AreKept (λ (o : Op). o.id) ops old new → KeepsHeld ops old new
+kept_some [] old new n h = absurd (n refl)
+kept_some (op ∷ ops) old new n h = h
+
+pub kept_none : (ops old : List Op) → ops ≡ [] → KeepsHeld ops old old
+kept_none ops old e = subst (λ (os : List Op). KeepsHeld os old old) (sym e) refl
+
+module _ (session : Session) where
+  left_command : (b : Bool) → Some (session_next session (if b then Leaves else Stays)) ≡ Some (record { state = if b then Authenticated else session.state; condstore = session.condstore; idling = session.idling })
+  left_command true = refl
+  left_command false = refl
+
+  left_line : (b : Bool) → Some (session_next session (if b then Wakes else Stays)) ≡ Some (record { state = session.state; condstore = session.condstore; idling = if b then None else session.idling })
+  left_line true = refl
+  left_line false = refl
+
+  -- a refused input leaves the session that its plan says
+  left_by : (input : Input) (why : Refusal) → place_next (Some session) (next_left session.state input why) ≡ Some (left session input why)
+  left_by (inputs.Command moment tagged) why = left_command (is_selected session.state && is_selecting tagged.command)
+  left_by (inputs.Line line) why = left_line (ends_idling (inputs.Line line) why)
+  left_by inputs.Poll why = refl
+
+module _ (old : NodeState) (n : ℕ) (session : Session) (input : Input) (at : session_at old.sessions n ≡ Some session) where
+  left_next : (why : Refusal) → place_next (session_at old.sessions n) (next_left session.state input why) ≡ Some (left session input why)
+  left_next why = ap (λ (s : Option Session). place_next s (next_left session.state input why)) at ∙ left_by session input why
+
+  done_responds : (p : Prepared) → Prepares old.start old.applied session input p → Planned old n input (done_plan n p)
+  done_responds p h = λ new k.
+      let after : Session = session_after old.start (old.applied ++ p.ops) session input h.answered.course in
+      let place : place_next (session_at old.sessions n) (Becomes p.answered.session) ≡ Some after =
+      ap (λ (s : Option Session). place_next s (Becomes p.answered.session)) at ∙ ap (λ (s : Session). Some s) h.answered.becomes in
+      (
+        session,
+        at,
+        subst (λ (os : List Op). Carries old n session input p.answered.answers p.answered.silent os new) (sym h.copies)
+        (record {
+          stamp = h.stamp;
+          stamped = h.stamped;
+          kinds = h.kinds;
+          wanted = h.wanted;
+          next = h.next;
+          lasts = h.lasts;
+          course = h.answered.course;
+          taken = h.answered.taken;
+          answers_are = h.answered.answers;
+          silent_is = h.answered.silent;
+          becomes = subst (λ (s : Option Session). Holds old p.ops (with_session old.sessions n s) new) place k;
+        }),
+      )
+
+  refused_responds : (why : Refusal) → IsRefused old.start old.applied session.state input why → Planned old n input (plan_by n session.state input (Err why))
+  refused_responds why h = λ new k. (session, at, (h, refl, subst (λ (s : Option Session). Holds old [] (with_session old.sessions n s) new) (left_next why) k))
+
+  pub plan_responds : (outcome : Result Prepared Refusal) → IfOk outcome (λ p. Prepares old.start old.applied session input p) → IfErr outcome (λ why. IsRefused old.start old.applied session.state input why)
+      → Planned old n input (plan_by n session.state input outcome)
+  plan_responds (Ok p) h k = done_responds p h
+  plan_responds (Err why) h k = refused_responds why k
+
+-- what an input wants may be issued
+pub gives_can : (start : Start) (ops : List Op) (a : IsApplied ops) (stamp : List ℕ) (state : State) (input : Input) (r : Result (Vec Kind Global) Refusal) → Gives (λ kinds. kinds.items) r (wants_of start ops stamp state input) → IfOk r (λ kinds. CanIssueAll ops kinds.items)
+gives_can start ops a stamp state input (Ok given) g = input_can start ops a stamp state input given.items g
+gives_can start ops a stamp state input (Err why) g = tt
+
+-- why an input is refused by what it wants
+pub refused_by_want : (start : Start) (ops : List Op) (stamp : List ℕ) (state : State) (input : Input) (why : Refusal) → IsStamp input stamp
+    → (why ≡ NoMemory) ⊎ (wants_of start ops stamp state input ≡ Err why) → IsRefused start ops state input why
+refused_by_want start ops stamp state input why s h = elim h [ inl e ↦ inl e | inr e ↦ inr (stamp, s, inl e) ]
+
+-- and by what can't be made ready
+pub refused_by_end : (start : Start) (ops : List Op) (stamp : List ℕ) (state : State) (input : Input) (given : List Kind) (why : Refusal) → IsStamp input stamp → wants_of start ops stamp state input ≡ Ok given
+    → IsNotReady start ops given why → IsRefused start ops state input why
+refused_by_end start ops stamp state input given why s w h = elim h [ inl e ↦ inl e | inr e ↦ inr (stamp, s, inr (e.0, given, w, e.1)) ]
+
+-- what an input that follows this course is answered
+pub answered_by : {E : Type 0} (start : Start) (before after : List Op) (session : Session) (input : Input) (course : Course) → TakesCourse start before after session input course → (r : Result Answered E)
+    → IfOk r (λ a. a.answers ≡ answers_of_course start after course) → IfOk r (λ a. a.silent ≡ course.silent) → IfOk r (λ a. a.session ≡ session_after start after session input course)
+    → IfOk r (λ a. IsAnswered start before after session input a)
+answered_by start before after session input course taken (Ok a) p q s = record { course = course; taken = taken; answers = p; silent = q; becomes = s }
+answered_by start before after session input course taken (Err e) p q s = tt
+
+-- a plan can be committed
+pub plan_planned : (node : NodeKept) (n : ℕ) (state : State) (input : Input) (outcome : Result Prepared Refusal) → IsOpen node.state.sessions n
+    → IfOk outcome (λ p. AreIssued (λ (o : Op). o.id) (λ o. o.clock) node.state.applied p.ops) → IfOk outcome (λ p. HasRoomFor node.state.applied node.room p.ops) → IsPlanned node (plan_by n state input outcome)
+plan_planned node n state input (Ok p) opened i r = record { is_open = opened; issued = i; room = λ f. r }
+plan_planned node n state input (Err why) opened i r = record { is_open = opened; issued = λ front o back e. absurd (no_cut front o back e); room = λ f. absurd (f refl) }
+
+-- nothing is there where it was found that something is
+pub not_empty : (ops os : List Op) (b : Bool) → b ≡ false → b ≡ (length os == 0) → os ≡ ops → ops ≡ [] → ⊥
+not_empty ops os b f h e n = absurd (false≢true (sym f ∙ (h ∙ ap (λ (xs : List Op). length xs == 0) (e ∙ n))))
