@@ -7,3 +7,7 @@ pub mod ChangingLemmas
 pub mod IssuedLemmas
 pub mod NamedLemmas
 pub mod PlaceLemmas
+pub mod PrintSelected
+pub mod PrintViews
+pub mod PrintFetched
+pub mod PrintStored
