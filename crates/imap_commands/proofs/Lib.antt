@@ -11,3 +11,7 @@ pub mod PrintSelected
 pub mod PrintViews
 pub mod PrintFetched
 pub mod PrintStored
+pub mod PrintSynced
+pub mod PrintAsked
+pub mod PrintSearched
+pub mod PrintCopied

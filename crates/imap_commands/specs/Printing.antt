@@ -1,13 +1,16 @@
-use Rattle.std.specs.Prelude.{ℕ, ◌<◌, List, [], ◌∷◌, length, Option, Some, None}
+use Rattle.std.specs.Prelude.{◌≡◌, ℕ, Bool, ◌<◌, List, [], ◌∷◌, length, Option, Some, None}
 use Rattle.imap_answers.specs.Printable.{AreFlags, Each, IsCode, IsModSeq, IsNonzero, IsPrintable, IsSection, IsSmall, IsWide, Where}
 use Rattle.imap_grammar.specs.declared.fetch.FetchItem.{FetchItem}
 use Rattle.imap_grammar.specs.declared.fetch.FetchItem.TheVariants.{Body, Flags, InternalDate, ModSeq, Size, Uid}
 use Rattle.imap_query.specs.declared.mailbox_status.Marks.{Marks}
 use Rattle.imap_types.specs.DateTimes.{IsDateTime}
+use Rattle.imap_types.specs.declared.sequence_set.SequenceRange.{SequenceRange}
 use Rattle.mail_listing.specs.Listed.{Listed}
 use Rattle.mail_listing.specs.Listing.{AreRisingRows}
+use Rattle.session_view.specs.Sets.{resolved}
 use Rattle.session_view.specs.Views.{AreRising}
 use Rattle.session_view.specs.declared.entry.Entry.{Entry}
+use Rattle.imap_commands.specs.Copying.{copies_in, sources_of}
 use Rattle.imap_commands.specs.Told.{Telling}
 
 -- What a command tells can be printed: its own answers, and the code of its tagged line.
@@ -54,3 +57,7 @@ IsTellable (Body peek section partial) = IsSection section × Where (λ cut. IsS
 pub record AreTellable (items : List FetchItem) : Type 0 where
   pub some : 0 < length items
   pub each : Each IsTellable items
+
+-- As many messages have come into the destination as the command copies (RFC 9051, section 7.1, COPYUID).
+abbrev pub AreAsMany : List Listed → List Entry → Bool → List SequenceRange → ℕ → List Listed → Type 0
+AreAsMany before view by_uid set uidnext landed = length (sources_of before view (resolved by_uid set view)) ≡ length (copies_in uidnext landed)
