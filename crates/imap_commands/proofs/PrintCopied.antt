@@ -1,11 +1,10 @@
-use Rattle.std.proofs.Common.{◌≡◌, ◌∙◌, ap, sym, subst, refl, arith, ℕ, ◌+◌, ◌-◌, ◌≤◌, ◌<◌, inl, inr, Bool, true, false, not, List, [], ◌∷◌, length, map, nat_lt, Option}
-use Rattle.std.specs.List.{filter}
+use Rattle.std.proofs.Common.{◌≡◌, arith, ℕ, ◌-◌, Bool, true, not, List, [], ◌∷◌, length, map, nat_lt, Option}
 use Rattle.imap_answers.specs.declared.codes.Code.{Code}
 use Rattle.imap_answers.specs.Printable.{Each, IsCode, IsCopied, IsNonzero, IsPrintable, IsSmall, Where}
 use Rattle.imap_types.specs.Numbers.{AreRisingFrom}
 use Rattle.imap_types.specs.declared.sequence_set.SequenceRange.{SequenceRange}
 use Rattle.mail_listing.specs.Listed.{Listed}
-use Rattle.mail_listing.specs.Listing.{AreRisingRows, beyond}
+use Rattle.mail_listing.specs.Listing.{beyond}
 use Rattle.session_view.specs.Sets.{resolved}
 use Rattle.session_view.specs.declared.entry.Entry.{Entry}
 use Rattle.imap_commands.specs.Appending.{append_tells}

@@ -1,12 +1,9 @@
-use Rattle.std.proofs.Common.{◌≡◌, ◌∙◌, ap, sym, subst, refl, arith, ℕ, zero, suc, ◌+◌, ◌-◌, ◌≤◌, ◌<◌, ◌⊎◌, inl, inr, Bool, true, false, not, ◌&&◌, ◌||◌, List, [], ◌∷◌, ◌++◌, length, length-append, take, drop, Option, Some, None, nat_lt, nat_eq, if◌then◌else◌, flat_map, map}
+use Rattle.std.proofs.Common.{◌≡◌, ap, refl, arith, ℕ, zero, suc, ◌+◌, ◌≤◌, ◌<◌, ◌⊎◌, inl, inr, Bool, true, false, not, ◌||◌, List, [], ◌∷◌, ◌++◌, length, length-append, take, drop, Option, Some, None, nat_eq, flat_map, map}
 use Rattle.std.specs.Prelude.{is_some}
 use Rattle.std.specs.List.{concat}
 use Rattle.std.proofs.Math.Dec.{eqb-suc-zero}
 use Rattle.std.proofs.lemmas.Bool.{cases_Bool, false≢true}
-use Rattle.imap_answers.specs.declared.answer.Answer.{Answer}
-use Rattle.imap_answers.specs.declared.codes.Code.{Code}
 use Rattle.imap_answers.specs.declared.fetched.FetchItems.{FetchItems}
-use Rattle.imap_answers.specs.declared.fetched.SectionData.{SectionData}
 use Rattle.imap_answers.specs.Printable.{AreFetchItems, AreFlags, Each, IsCode, IsModSeq, IsNonzero, IsPart, IsPrintable, IsSmall, IsWide, Where, tells_of_message}
 use Rattle.imap_grammar.specs.declared.fetch.FetchItem.{FetchItem}
 use Rattle.imap_grammar.specs.declared.fetch.FetchItem.TheVariants as item
@@ -23,7 +20,6 @@ use Rattle.mail_listing.specs.Listing.{row_of}
 use Rattle.mail_text.specs.Fields.{asked_in, empty_line, field_lines, fields_in, fields_of, first_asked, goes_on}
 use Rattle.mail_text.specs.Fields.{asks as asks_field}
 use Rattle.mail_text.specs.Lines.{body_lines, header_lines, in_first, is_empty_line, lines_of}
-use Rattle.mail_text.specs.Parts.{body_of, header_of}
 use Rattle.mail_text.proofs.LineLemmas.{lines-joined}
 use Rattle.session_view.specs.Sets.{resolved}
 use Rattle.session_view.specs.declared.entry.Entry.{Entry}

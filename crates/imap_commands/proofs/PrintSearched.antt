@@ -1,13 +1,11 @@
-use Rattle.std.proofs.Common.{◌≡◌, ◌∙◌, ap, sym, subst, refl, arith, ℕ, ◌+◌, ◌≤◌, ◌<◌, ◌⊎◌, inl, inr, Bool, true, false, not, ◌&&◌, ◌||◌, List, [], ◌∷◌, ◌++◌, length, map, nat_eq, Option, Some, None, if◌then◌else◌}
-use Rattle.std.specs.Prelude.{max}
-use Rattle.std.proofs.Math.Dec.{eqb-suc-zero}
-use Rattle.std.proofs.lemmas.Bool.{and_parts, cases_Bool, false≢true}
-use Rattle.imap_answers.specs.Printable.{AreHits, AreResults, Each, IsModSeq, IsNonzero, IsPrintable, IsSet, IsSmall, IsTag, IsWide, Where}
+use Rattle.std.proofs.Common.{◌≡◌, sym, subst, refl, arith, ℕ, ◌+◌, ◌≤◌, ◌<◌, ◌⊎◌, inl, inr, Bool, true, false, not, ◌&&◌, ◌||◌, List, [], ◌∷◌, ◌++◌, length, map, nat_eq, Option, Some, None, if◌then◌else◌}
+use Rattle.std.proofs.lemmas.Bool.{cases_Bool, false≢true}
+use Rattle.imap_answers.specs.Printable.{AreHits, AreResults, Each, IsModSeq, IsNonzero, IsSet, IsSmall, IsTag, IsWide, Where}
 use Rattle.imap_grammar.specs.declared.search.SearchOption.{SearchOption}
 use Rattle.imap_grammar.specs.declared.search.SearchOption.TheVariants as option
 use Rattle.imap_grammar.specs.declared.search.SearchStep.{SearchStep}
-use Rattle.imap_query.specs.Keys.{IsKey, Key, hits, steps_of}
-use Rattle.imap_query.specs.Search.{asks_modseq, first_hit, hit_by, hit_of, hits_among, hits_in, last_hit, last_shown, modseq_in, name_of, number_in, results_of, told_modseq, wants, wants_all, wants_ends, where_wanted}
+use Rattle.imap_query.specs.Keys.{IsKey, Key, hits}
+use Rattle.imap_query.specs.Search.{asks_modseq, first_hit, hit_of, hits_among, hits_in, last_hit, last_shown, modseq_in, name_of, number_in, results_of, told_modseq, wants, wants_all, wants_ends, where_wanted}
 use Rattle.imap_query.specs.Tests.{is_so}
 use Rattle.imap_query.specs.declared.searching.Hit.{Hit}
 use Rattle.imap_query.specs.declared.shown.Shown.{Shown}
@@ -18,7 +16,7 @@ use Rattle.session_view.specs.Views.{AreRising}
 use Rattle.session_view.specs.declared.entry.Entry.{Entry}
 use Rattle.imap_commands.specs.Printing.{AreShowable, IsNumbered, IsPrintableTelling, IsShowable}
 use Rattle.imap_commands.specs.Searching.{SearchTells, shown_from}
-use Rattle.imap_commands.specs.Told.{Telling, only_told}
+use Rattle.imap_commands.specs.Told.{Telling}
 use Rattle.imap_commands.proofs.NamedLemmas.{least, least_first, least_lower, least_next, rising_lower}
 use Rattle.imap_commands.proofs.PrintAsked.{only_printable}
 use Rattle.imap_commands.proofs.PrintFetched.{each_flat, or_right}

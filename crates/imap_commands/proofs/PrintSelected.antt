@@ -1,10 +1,7 @@
-use Rattle.std.proofs.Common.{◌≡◌, ◌∙◌, ap, sym, subst, refl, arith, ℕ, ◌+◌, ◌≤◌, ◌<◌, inl, inr, Bool, true, false, List, [], ◌∷◌, ◌++◌, length}
+use Rattle.std.proofs.Common.{◌≡◌, ◌∙◌, sym, subst, refl, arith, ℕ, ◌+◌, ◌≤◌, ◌<◌, inl, inr, Bool, true, false, List, [], ◌∷◌, ◌++◌, length}
 use Rattle.std.specs.List.{filter, list_all}
 use Rattle.std.proofs.lemmas.Bool.{and_parts, cases_Bool}
 use Rattle.std.proofs.lemmas.Slice.Eq.{bytes_eq-Decides}
-use Rattle.imap_answers.specs.declared.answer.Answer.{Answer}
-use Rattle.imap_answers.specs.declared.answer.Answer.TheVariants.{Tell}
-use Rattle.imap_answers.specs.declared.codes.Notice.TheVariants.{Closed}
 use Rattle.imap_answers.specs.Printable.{AreFlags, Each, IsAtom, IsCode, IsFolded, IsPrintable, IsSmall, Where}
 use Rattle.imap_types.specs.declared.flags.Flags.{Flags}
 use Rattle.imap_types.specs.Keywords.{is_lowered, lowered}
@@ -62,11 +59,11 @@ rows_small rows h = let n = row_count 1 rows h.rising h.each (omega arith) in om
 use_atoms : (rows : List Listed) → Each IsShowable rows → Each IsAtom (listed_keywords rows)
 use_atoms rows h =
     each_of IsAtom (listed_keywords rows) (λ word i.
-        let b = ((borne rows).exactly word).0 i in
-        let f = (each_in IsShowable rows b.0 h b.1).flags in
-        let low : is_lowered b.2.0 ≡ true = all_in is_lowered b.0.flags.keywords b.2.0 f.0.0 b.2.1 in
-        let same : lowered b.2.0 ≡ b.2.0 = (bytes_eq-Decides (lowered b.2.0) b.2.0).0 low in
-        subst IsAtom (sym same ∙ b.2.2) (each_in IsAtom b.0.flags.keywords b.2.0 f.1 b.2.1))
+    let b = ((borne rows).exactly word).0 i in
+    let f = (each_in IsShowable rows b.0 h b.1).flags in
+    let low : is_lowered b.2.0 ≡ true = all_in is_lowered b.0.flags.keywords b.2.0 f.0.0 b.2.1 in
+    let same : lowered b.2.0 ≡ b.2.0 = (bytes_eq-Decides (lowered b.2.0) b.2.0).0 low in
+    subst IsAtom (sym same ∙ b.2.2) (each_in IsAtom b.0.flags.keywords b.2.0 f.1 b.2.1))
 
 use_flags : (rows : List Listed) → Each IsShowable rows → AreFlags (flags_in_use rows)
 use_flags rows h = ((borne rows).set, use_atoms rows h)

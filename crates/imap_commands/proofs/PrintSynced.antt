@@ -1,13 +1,13 @@
-use Rattle.std.proofs.Common.{◌≡◌, ap, sym, subst, refl, arith, ℕ, ◌+◌, ◌≤◌, ◌<◌, inl, inr, Bool, true, false, List, [], ◌∷◌, ◌++◌, length, Option, Some, None, nat_lt}
+use Rattle.std.proofs.Common.{refl, arith, ℕ, ◌+◌, ◌≤◌, ◌<◌, inl, inr, Bool, List, [], ◌∷◌, ◌++◌, length, Option, Some, None, nat_lt}
 use Rattle.std.specs.Prelude.{max}
 use Rattle.std.specs.List.{filter}
 use Rattle.std.proofs.lemmas.Bool.{cases_Bool}
 use Rattle.std.proofs.lemmas.Bool.Decides.{nat_tests}
-use Rattle.imap_answers.specs.Printable.{AreFetchItems, Each, IsModSeq, IsNonzero, IsPrintable, IsSmall, Where}
+use Rattle.imap_answers.specs.Printable.{Each, IsModSeq, IsNonzero, IsPrintable, IsSmall, Where}
 use Rattle.mail_listing.specs.Listed.{Listed}
 use Rattle.mail_listing.specs.Listing.{AreRisingRows, beyond, row_of}
-use Rattle.session_view.specs.Sync.{announced, arrivals, change, change_of, changes, expunges, is_there, loss, losses, staying, sync_answers}
-use Rattle.session_view.specs.Views.{AreRising, last_from, last_uid, same_flags}
+use Rattle.session_view.specs.Sync.{announced, arrivals, change, changes, expunges, is_there, loss, losses, staying, sync_answers}
+use Rattle.session_view.specs.Views.{AreRising, last_uid, same_flags}
 use Rattle.session_view.specs.declared.entry.Entry.{Entry}
 use Rattle.session_view.specs.declared.entry.SyncKind.{SyncKind}
 use Rattle.session_view.specs.declared.entry.SyncKind.TheVariants.{Full, Partial}

@@ -1,8 +1,6 @@
-use Rattle.std.proofs.Common.{◌≡◌, ◌∙◌, ap, sym, subst, refl, arith, ℕ, zero, suc, ◌+◌, ◌-◌, ◌≤◌, ◌<◌, inl, inr, Bool, true, false, List, [], ◌∷◌, ◌++◌, length, map, take, Option, Some, None, nat_lt, nat_eq, if◌then◌else◌, flat_map}
-use Rattle.std.specs.Prelude.{max}
-use Rattle.std.specs.List.{filter, slice_get}
+use Rattle.std.proofs.Common.{subst, arith, ℕ, zero, suc, ◌+◌, ◌-◌, ◌≤◌, ◌<◌, inl, inr, Bool, true, false, List, [], ◌∷◌, ◌++◌, length, take, Option, Some, None, nat_lt, nat_eq, if◌then◌else◌}
+use Rattle.std.specs.List.{slice_get}
 use Rattle.std.proofs.lemmas.Bool.{cases_Bool}
-use Rattle.std.proofs.lemmas.Bool.Decides.{nat_tests}
 use Rattle.imap_answers.specs.declared.answer.Answer.{Answer}
 use Rattle.imap_answers.specs.declared.answer.Answer.TheVariants.{Exists, Expunge, Fetch}
 use Rattle.imap_answers.specs.Printable.{Each, IsNonzero, IsSmall, Where}
@@ -10,12 +8,12 @@ use Rattle.imap_types.specs.declared.flags.Flags.{Flags}
 use Rattle.imap_types.specs.declared.sequence_set.SequenceRange.{SequenceRange}
 use Rattle.imap_types.specs.Numbers.{greatest}
 use Rattle.mail_listing.specs.Listed.{Listed}
-use Rattle.mail_listing.specs.Listing.{AreRisingRows, beyond, row_of}
+use Rattle.mail_listing.specs.Listing.{beyond, row_of}
 use Rattle.session_view.specs.Replay.{after_answer, after_answers, after_silent, arrived, fetched, flagged, replayed, without}
 use Rattle.session_view.specs.Sets.{numbers_from, resolved, set_names, top_of}
 use Rattle.session_view.specs.Sets.{name_of as set_name}
 use Rattle.session_view.specs.Sync.{sync_answers, synced}
-use Rattle.session_view.specs.Views.{AreRising, entries_of, last_from, last_uid}
+use Rattle.session_view.specs.Views.{entries_of, last_from, last_uid}
 use Rattle.session_view.specs.declared.entry.Entry.{Entry}
 use Rattle.session_view.specs.declared.replaying.Silent.{Silent}
 use Rattle.session_view.specs.declared.entry.SyncKind.{SyncKind}
@@ -23,7 +21,6 @@ use Rattle.session_view.proofs.ReplayLemmas.{replay_rising}
 use Rattle.session_view.proofs.SyncLemmas.{rising_count, syncs_replay}
 use Rattle.imap_commands.specs.Named.{name_at, names_of, uid_in}
 use Rattle.imap_commands.specs.Printing.{AreShowable, IsNumbered, IsShowable}
-use Rattle.imap_commands.specs.Told.{entry_at}
 use Rattle.imap_commands.proofs.PrintSelected.{each_append, each_filtered}
 
 abbrev pub AreSmall : List Entry → Type 0

@@ -1,4 +1,4 @@
-use Rattle.std.specs.Prelude.{◌≡◌, ℕ, Bool, ◌<◌, List, [], ◌∷◌, length, Option, Some, None}
+use Rattle.std.specs.Prelude.{◌≡◌, ℕ, Bool, ◌<◌, List, length}
 use Rattle.imap_answers.specs.Printable.{AreFlags, Each, IsCode, IsModSeq, IsNonzero, IsPrintable, IsSection, IsSmall, IsWide, Where}
 use Rattle.imap_grammar.specs.declared.fetch.FetchItem.{FetchItem}
 use Rattle.imap_grammar.specs.declared.fetch.FetchItem.TheVariants.{Body, Flags, InternalDate, ModSeq, Size, Uid}
