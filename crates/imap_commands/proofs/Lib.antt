@@ -15,3 +15,4 @@ pub mod PrintSynced
 pub mod PrintAsked
 pub mod PrintSearched
 pub mod PrintCopied
+mod StoreExamples

@@ -30,8 +30,8 @@ struct Copied {
     gone: Option<Code>,
 }
 
-/// What COPY issues in the destination, or the first reason against it: a number that no message has, a destination that isn't there. The
-/// texts are copied.
+/// What COPY issues in the destination, or the first reason against it: `NoSuchMessage`, `NoDestination`. `NoMemory` may come in place of
+/// any answer. The texts are copied.
 pub fn copy_wants(
     alloc: Global,
     destination: &Name,
@@ -59,8 +59,8 @@ pub fn copy_wants(
     Ok(kinds)
 }
 
-/// What MOVE issues, or the first reason against it: a number that no message has, a mailbox that is only read, a destination that isn't
-/// there. It issues all copies in the destination first, then what takes the messages out of the folder. The texts are copied.
+/// What MOVE issues, or the first reason against it: `NoSuchMessage`, `ReadOnly`, `NoDestination`. `NoMemory` may come in place of any
+/// answer. It issues all copies in the destination first, then what takes the messages out of the folder. The texts are copied.
 pub fn move_wants(
     alloc: Global,
     folder: &Name,
@@ -174,7 +174,8 @@ fn push_removal(
 }
 
 /// What COPY tells, by the listing before it, the destination's UIDVALIDITY, its UIDNEXT before the command and its listing after it: where
-/// the copies are, and else whether some messages are gone.
+/// the copies are, and else whether some messages are gone. Of a set that can't be resolved nothing is promised. `Err` where there is no
+/// memory.
 pub fn copy_tells(
     alloc: Global,
     before: &Rows<'_>,
@@ -196,7 +197,8 @@ pub fn copy_tells(
     Ok(Telling::new(Vec::new(alloc), Vec::new(alloc), code))
 }
 
-/// What MOVE tells, by the same: where the copies are, and by the code whether some messages are gone.
+/// What MOVE tells, by the same: where the copies are, and by the code whether some messages are gone. Of a set that can't be resolved
+/// nothing is promised. `Err` where there is no memory.
 pub fn move_tells(
     alloc: Global,
     before: &Rows<'_>,

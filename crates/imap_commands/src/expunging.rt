@@ -16,8 +16,8 @@ use mail_listing::{Row, Rows};
 use session_view::{Entry, View};
 use std::alloc::{AllocError, Global};
 
-/// What EXPUNGE issues in this folder, or why not: it takes out the messages of the listing that are marked as deleted, those among them
-/// that the session wasn't told of yet. It looks at each message once.
+/// What EXPUNGE issues in this folder, or why not (`ReadOnly`, `NoMemory`): it takes out the messages of the listing that are marked as
+/// deleted, those among them that the session wasn't told of yet. It looks at each message once.
 pub fn expunge_wants(
     alloc: Global,
     folder: &Name,
@@ -32,7 +32,7 @@ pub fn expunge_wants(
     Ok(expunges(alloc, folder, before)?)
 }
 
-/// What CLOSE issues: what EXPUNGE does, and nothing in a mailbox that is only read.
+/// What CLOSE issues: what EXPUNGE does, and nothing in a mailbox that is only read; or `NoMemory`.
 pub fn close_wants(
     alloc: Global,
     folder: &Name,
@@ -93,8 +93,8 @@ fn push_expunge(
     Ok(())
 }
 
-/// What UID EXPUNGE issues, or why not: it takes out those of the view's messages that the set names by UIDs and that are marked as
-/// deleted.
+/// What UID EXPUNGE issues, or why not (`ReadOnly`, `NoMemory`): it takes out those of the view's messages that the set names by UIDs and
+/// that are marked as deleted.
 pub fn uid_expunge_wants(
     alloc: Global,
     folder: &Name,
@@ -131,7 +131,7 @@ fn expunges_of(
     Ok(kinds)
 }
 
-/// What UID EXPUNGE tells.
+/// What UID EXPUNGE tells, by the listing before it: that it names messages that are gone, if it does. `Err` where there is no memory.
 pub fn uid_expunge_tells(
     alloc: Global,
     before: &Rows<'_>,

@@ -16,7 +16,7 @@ use mail_listing::Rows;
 use session_view::{Entry, View};
 use std::alloc::{AllocError, Global};
 
-/// What FETCH issues in this folder, or that it names a message that there isn't: Stores of `\Seen`, where it reads a section without PEEK.
+/// What FETCH issues in this folder, or why not (`NoSuchMessage`, `NoMemory`): Stores of `\Seen`, where it reads a section without PEEK.
 pub fn fetch_wants(
     alloc: Global,
     folder: &Name,
@@ -102,6 +102,7 @@ fn seen_flags(alloc: Global, flags: &Flags) -> Result<Flags, AllocError>
 }
 
 /// What FETCH tells, by the listings before and after it: what `imap_query::fetch` says of the messages named, and whether some are gone.
+/// Of a set that can't be resolved nothing is promised. `Err` where there is no memory.
 pub fn fetch_tells(
     alloc: Global,
     before: &Rows<'_>,

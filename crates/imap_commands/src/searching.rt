@@ -16,7 +16,7 @@ use mail_listing::Rows;
 use session_view::{Entry, View, count_of};
 use std::alloc::{AllocError, Global};
 
-/// Nothing, which is what SEARCH issues, or that a set of numbers in its keys names a message that there isn't.
+/// Nothing, which is what SEARCH issues, or `NoSuchMessage`: a set of numbers in its keys, wherever it stands, names one that no message has.
 pub fn search_wants(alloc: Global, view: &View, steps: &[SearchStep]) -> Result<Vec<Kind>, Refusal>
     ensures { Gives (λ kinds. kinds.items) result (search_wants view.now.entries steps.now) }
 {
@@ -55,7 +55,8 @@ fn test_is_in_range(view: &View, test: &SearchTest) -> bool
     }
 }
 
-/// What SEARCH tells: what `imap_query::search` says of the view's messages that are there.
+/// What SEARCH tells: what `imap_query::search` says of the view's messages that are there. Of steps that are no key nothing is promised.
+/// `Err` where there is no memory.
 pub fn search_tells(
     alloc: Global,
     rows: &Rows<'_>,

@@ -23,8 +23,9 @@ use mail_listing::{Row, Rows};
 use session_view::{Entry, Silent, View};
 use std::alloc::{AllocError, Global};
 
-/// What STORE issues in this folder, or the first reason against it: a number that no message has, a mailbox that is only read, a keyword that
-/// no message may bear, more than 32 keywords on a message that it changes. It looks each named message up twice, by binary search.
+/// What STORE issues in this folder, or the first reason against it: `NoSuchMessage`, `ReadOnly`, `KeywordTooLong` (a keyword that no
+/// message may bear), `TooManyKeywords` (more than 32 on a message that it changes). `NoMemory` may come in place of any answer. It looks
+/// each named message up three times, by binary search.
 pub fn store_wants(
     alloc: Global,
     folder: &Name,
@@ -244,8 +245,8 @@ fn are_same(flags: &Flags, others: &Flags) -> bool
 }
 
 /// What STORE tells, by the listings before and after it: FETCH of each message that it takes, the flags that the session takes where it
-/// is silent, and which messages UNCHANGEDSINCE refused or that some are gone. It looks each named message up four times at most, by
-/// binary search.
+/// is silent, and which messages UNCHANGEDSINCE refused or that some are gone. Of a set that can't be resolved nothing is promised. `Err`
+/// where there is no memory. It looks each named message up four times at most, by binary search.
 pub fn store_tells(
     alloc: Global,
     before: &Rows<'_>,

@@ -132,8 +132,8 @@ tells start before after state modseq (commands.Move by_uid set name) =
 tells start before after state modseq _ = nothing_told
 
 abbrev pub SearchTellsSelected : Start → List Op → State → (Seen → List Listed → Telling → Type 0) → Telling → Type 0
-SearchTellsSelected start ops (Selected view read_only) Tell told = Tell view (rows_for start ops view) told
-SearchTellsSelected start ops _ Tell told = told ≡ nothing_told
+SearchTellsSelected start ops (Selected view read_only) tells_it told = tells_it view (rows_for start ops view) told
+SearchTellsSelected start ops _ tells_it told = told ≡ nothing_told
 
 -- What a command itself tells: LIST and SEARCH what the rules for them allow, which is one telling each.
 abbrev pub Tells : Start → List Op → List Op → State → Bool → List ℕ → Command → Telling → Type 0

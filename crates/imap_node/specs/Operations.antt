@@ -21,7 +21,7 @@ pub record IsNext (replica : ℕ) (applied : List Op) (op : Op) : Type 0 where
 
 -- Operations of these kinds, in their order, each of which comes next behind those applied and those in front of it.
 pub record AreNext (replica : ℕ) (applied : List Op) (kinds : List Kind) (ops : List Op) : Type 0 where
-  pub kinds : map (λ (o : Op). o.kind) ops ≡ kinds
+  pub of_kinds : map (λ (o : Op). o.kind) ops ≡ kinds
   pub next : (front : List Op) (op : Op) (back : List Op) → ops ≡ front ++ op ∷ back → IsNext replica (applied ++ front) op
 
 -- The replica's own numbers, which end at 4,294,967,295, don't suffice for operations of these kinds.
@@ -36,7 +36,7 @@ IsUsedUp start applied kinds =
 
 -- These operations can be applied behind the list, and no counter is at its end for them.
 pub record CanFollow (start : Start) (applied ops : List Op) : Type 0 where
-  pub applied : IsApplied (applied ++ ops)
+  pub causal : IsApplied (applied ++ ops)
   pub lasts : Exhausts start applied ops → ⊥
 
 -- Why operations of these kinds can't be made ready.

@@ -5,7 +5,6 @@ use Rattle.crdt_ops.specs.declared.op.Op.{Op}
 use Rattle.imap_answers.specs.declared.words.Refusal.{Refusal}
 use Rattle.imap_commands.specs.declared.session.Session.{Session}
 use Rattle.imap_commands.specs.declared.session.State.{State}
-use Rattle.imap_commands.specs.declared.session.State.TheVariants.{Authenticated}
 use Rattle.imap_node.specs.declared.input.Input.{Input}
 use Rattle.imap_node.specs.declared.planning.Answered.{Answered}
 use Rattle.imap_node.specs.declared.planning.Next.{Next}
@@ -18,7 +17,7 @@ use Rattle.imap_node.specs.Nodes.{NodeKept, NodeState}
 use Rattle.imap_node.specs.Operations.{AreNext}
 use Rattle.imap_node.specs.Respond.{Holds, IsStamp, Responds, TakesCourse, closes, ends_idling, leaves, session_after, wants_of}
 use Rattle.imap_node.specs.Rooms.{HasRoomFor}
-use Rattle.imap_node.specs.Sessions.{IsOpen, session_at, with_session}
+use Rattle.imap_node.specs.Sessions.{IsOpen, awake, session_at, unselected, with_session}
 use Rattle.uid_projection.specs.declared.start.Start.{Start}
 use Rattle.uid_projection.specs.Exhaustion.{Exhausts}
 
@@ -44,8 +43,8 @@ pub record Prepares (start : Start) (applied : List Op) (session : Session) (inp
 -- What becomes of a session.
 abbrev pub session_next : Session → Next → Session
 session_next session Stays = session
-session_next session Leaves = record session { state = Authenticated }
-session_next session Wakes = record session { idling = None }
+session_next session Leaves = unselected session
+session_next session Wakes = awake session
 session_next session (Becomes next) = next
 
 abbrev pub place_next : Option Session → Next → Option Session

@@ -15,7 +15,7 @@ use Rattle.imap_commands.specs.declared.session.State.TheVariants.{Authenticated
 use Rattle.imap_grammar.specs.declared.command.Command.{Command}
 use Rattle.imap_grammar.specs.declared.command.Tagged.{Tagged}
 use Rattle.imap_grammar.specs.declared.idle.IdleLine.TheVariants.{Done as DoneLine, Other}
-use Rattle.mail_text.specs.Dates.{IsCivil}
+use Rattle.mail_text.specs.Civil.{IsCivil}
 use Rattle.session_view.specs.declared.entry.SyncKind.TheVariants.{Full}
 use Rattle.session_view.specs.declared.replaying.Silent.{Silent}
 use Rattle.imap_node.specs.declared.input.Input.{Input}
@@ -148,11 +148,11 @@ KeepsHeld (op ∷ ops) old new = AreKept (λ (o : Op). o.id) (op ∷ ops) old ne
 
 -- The node issues operations, and its sessions are these then: the operations stand behind those applied, and a held one with the id of one
 -- of them is dropped.
-pub record Holds (old : NodeState) (ops : List Op) (sessions : Places) (new : NodeState) : Type 0 where
+pub record Holds (old : NodeState) (ops : List Op) (places : Places) (new : NodeState) : Type 0 where
   pub start : new.start ≡ old.start
   pub applied : new.applied ≡ old.applied ++ ops
   pub held : KeepsHeld ops old.held new.held
-  pub sessions : new.sessions ≡ sessions
+  pub sessions : new.sessions ≡ places
 
 -- An input is carried out, whole: what it wants is issued, and it is answered by what it comes to.
 pub record Carries (old : NodeState) (n : ℕ) (session : Session) (input : Input) (answers : List Answer) (silent : List Silent) (issued : List Op) (new : NodeState) : Type 0 where

@@ -1,4 +1,5 @@
 use Rattle.std.specs.Prelude.{◌≡◌, ◌≢◌, ℕ, ◌-◌, ◌<◌, ◌==◌, false, List, slice_index_or, slice_set, Option, Some, None, IsSome, IsNone, if◌then◌else◌}
+use Rattle.std.specs.Option.{option_map}
 use Rattle.imap_commands.specs.declared.session.Session.{Session}
 use Rattle.imap_commands.specs.declared.session.State.TheVariants.{Authenticated, NotAuthenticated}
 use Rattle.imap_node.specs.declared.sessions.Auth.{Auth}
@@ -20,6 +21,17 @@ IsOpen places n = IsSome (session_at places n)
 -- The places with one open session changed, or closed.
 abbrev pub with_session : Places → ℕ → Option Session → Places
 with_session places n place = slice_set places (n - 1) place
+
+-- A session that has no mailbox selected, and one that doesn't idle.
+abbrev pub unselected : Session → Session
+unselected session = record session { state = Authenticated }
+
+abbrev pub awake : Session → Session
+awake session = record session { idling = None }
+
+-- The places with one session changed.
+abbrev pub with_changed : Places → ℕ → (Session → Session) → Places
+with_changed places n change = with_session places n (option_map change (session_at places n))
 
 -- Every session but this one stays as it was.
 abbrev pub OthersStay : Places → ℕ → Places → Type 0

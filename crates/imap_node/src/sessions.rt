@@ -1,7 +1,6 @@
 ghost use Rattle.std.specs.Prelude.{◌≡◌, ◌≢◌, ◌+◌, ◌-◌, ◌<◌, ◌≤◌, ◌↔◌, [], ℕ, IsTrue, IsNone, IsSome, None, Some, Err, IfOk, IfErr, OnOk, OnErr, SomeIff, length, max, ◌==◌, if◌then◌else◌, slice_index_or, slice_set};
-ghost use Rattle.std.specs.Option.{option_copied, option_map};
-ghost use Rattle.imap_commands.specs.declared.session.State.TheVariants.{Authenticated};
-ghost use Rattle.imap_node.specs.Sessions.{IsOpen, opened, session_at};
+ghost use Rattle.std.specs.Option.{option_copied};
+ghost use Rattle.imap_node.specs.Sessions.{IsOpen, awake, opened, session_at, unselected, with_changed};
 ghost use Rattle.imap_node.specs.declared.sessions.OpenFault.TheVariants.{NoMemory, TooManySessions};
 
 use imap_commands::{Credentials, Session, State};
@@ -138,7 +137,7 @@ impl Sessions {
     /// Leaves the mailbox that an open session has selected.
     pub fn leave(&mut self, session: SessionNo)
         requires { IsOpen self.old session }
-        ensures { self.new ≡ with_session self.old session (option_map (λ s. record s { state = Authenticated }) (session_at self.old session)) }
+        ensures { self.new ≡ with_changed self.old session unselected }
     {
         leave_in(&mut self.places, session);
     }
@@ -146,7 +145,7 @@ impl Sessions {
     /// Ends the IDLE of an open session.
     pub fn wake(&mut self, session: SessionNo)
         requires { IsOpen self.old session }
-        ensures { self.new ≡ with_session self.old session (option_map (λ s. record s { idling = None }) (session_at self.old session)) }
+        ensures { self.new ≡ with_changed self.old session awake }
     {
         wake_in(&mut self.places, session);
     }
@@ -170,7 +169,7 @@ fn opened(auth: Auth) -> Session
 /// The session's state is Authenticated, and nothing else of it changes.
 fn leave_in(places: &mut Vec<Option<Session>>, session: SessionNo)
     requires { IsOpen places.old.items session }
-    ensures { places.new.items ≡ slice_set places.old.items (session - 1) (option_map (λ s. record s { state = Authenticated }) (session_at places.old.items session)) }
+    ensures { places.new.items ≡ with_changed places.old.items session unselected }
 {
     let place = session.get() - 1;
     if let Some(Some(session)) = places.get_mut(place) {
@@ -181,7 +180,7 @@ fn leave_in(places: &mut Vec<Option<Session>>, session: SessionNo)
 /// The session no longer idles, and nothing else of it changes.
 fn wake_in(places: &mut Vec<Option<Session>>, session: SessionNo)
     requires { IsOpen places.old.items session }
-    ensures { places.new.items ≡ slice_set places.old.items (session - 1) (option_map (λ s. record s { idling = None }) (session_at places.old.items session)) }
+    ensures { places.new.items ≡ with_changed places.old.items session awake }
 {
     let place = session.get() - 1;
     if let Some(Some(session)) = places.get_mut(place) {

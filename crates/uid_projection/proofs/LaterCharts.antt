@@ -1,10 +1,9 @@
 use Rattle.std.specs.List.{list_any}
 use Rattle.std.specs.Str.{bytes_eq}
-use Rattle.std.proofs.Common.{◌≡◌, inl, inr, ℕ, ◌+◌, ◌<◌, ◌≤◌, Bool, true, false, not, cond, ◌&&◌, nat_lt, nat_eq, List, [], ◌∷◌, ◌++◌, length, get_or, take, drop, refl, sym, ap, ◌∙◌, subst, append_assoc, arith}
+use Rattle.std.proofs.Common.{◌≡◌, inl, inr, ℕ, ◌+◌, ◌<◌, ◌≤◌, Bool, true, false, not, cond, ◌&&◌, nat_lt, nat_eq, List, [], ◌∷◌, ◌++◌, take, drop, refl, sym, ap, ◌∙◌, subst, append_assoc, arith}
 use Rattle.std.proofs.lemmas.Bool.{and_parts, cases_Bool, eqb-true, false≢true, ltb-true, not-true}
 use Rattle.std.proofs.lemmas.Bool.Decides.{nat_tests}
 use Rattle.std.proofs.lemmas.List.{take-append-drop}
-use Rattle.imap_types.specs.Names.{inbox}
 use Rattle.crdt_ops.specs.declared.op.Op.{Op}
 use Rattle.crdt_ops.specs.Tags.{name_of}
 use Rattle.uid_projection.specs.declared.chart.Chart.{Chart}
@@ -15,11 +14,11 @@ use Rattle.uid_projection.specs.Exhaustion.{Exhausts, IsExhausted}
 use Rattle.uid_projection.specs.History.{counted_all}
 use Rattle.uid_projection.specs.Incarnations.{begins, is_there}
 use Rattle.uid_projection.specs.Lines.{begins_line, concerns_by, first_uid, uidnext_of}
-use Rattle.uid_projection.specs.Shown.{Shows, takes_uid}
-use Rattle.uid_projection.specs.Table.{HasRoom, IsAlike, IsAway, IsRoomy, IsTable, IsUpTo}
+use Rattle.uid_projection.specs.Shown.{takes_uid}
+use Rattle.uid_projection.specs.Table.{IsAlike, IsAway, IsTable, IsUpTo}
 use Rattle.uid_projection.proofs.Arms.{chart_as}
 use Rattle.uid_projection.proofs.Asked.{gone_without}
-use Rattle.uid_projection.proofs.Coming.{behind, take_op}
+use Rattle.uid_projection.proofs.Coming.{behind}
 use Rattle.uid_projection.proofs.HistoryLemmas.{once, all-append}
 use Rattle.uid_projection.proofs.Lasting.{about_name, begun}
 use Rattle.uid_projection.proofs.Numbers.{line_by}

@@ -1,8 +1,7 @@
-use Rattle.std.proofs.Common.{◌≡◌, ◌⊎◌, inl, inr, ℕ, ◌+◌, ◌<◌, ◌≤◌, Bool, true, false, cond, not, ◌&&◌, List, [], ◌∷◌, ◌++◌, length, refl, sym, ap, ◌∙◌, subst, append_assoc, append-nil, arith}
+use Rattle.std.proofs.Common.{◌≡◌, inl, inr, ℕ, ◌+◌, ◌≤◌, Bool, true, false, cond, List, [], ◌∷◌, ◌++◌, length, refl, sym, ap, ◌∙◌, subst, append_assoc, append-nil, arith}
 use Rattle.std.specs.List.{list_any}
-use Rattle.std.proofs.lemmas.Bool.{and_parts, cases_Bool, cases_eq, cases_lt, false≢true, or_parts}
+use Rattle.std.proofs.lemmas.Bool.{and_parts, cases_Bool, cases_eq, cases_lt, or_parts}
 use Rattle.imap_types.specs.Names.{inbox}
-use Rattle.merge_laws.specs.Orders.{IsIn}
 use Rattle.crdt_ops.specs.declared.op.Op.{Op}
 use Rattle.crdt_ops.specs.Tags.{MessageTag, adds, name_of}
 use Rattle.crdt_ops.proofs.Members.{any_in}
@@ -20,7 +19,7 @@ use Rattle.uid_projection.proofs.Coming.{behind}
 use Rattle.uid_projection.proofs.HistoryLemmas.{once}
 use Rattle.uid_projection.proofs.Lasting.{about_name, begun}
 use Rattle.uid_projection.proofs.LaterCharts.{shown}
-use Rattle.uid_projection.proofs.Presence.{adds_about, applied_front, other_there}
+use Rattle.uid_projection.proofs.Presence.{adds_about, applied_front}
 use Rattle.uid_projection.proofs.Steps.{highest_gone, highest_here, k_here, k_none, uidnext_gone, uidnext_here}
 
 -- ---- where none lacks a number, none of the others does behind the first

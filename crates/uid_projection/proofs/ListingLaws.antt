@@ -1,10 +1,9 @@
-use Rattle.std.proofs.Common.{◌≡◌, ℕ, true, false, not, Option, Some, None, List, sym, ap, ◌∙◌, subst}
+use Rattle.std.proofs.Common.{◌≡◌, ℕ, true, not, Some, List, sym, ap, subst}
 use Rattle.std.specs.List.{list_any}
 use Rattle.std.proofs.lemmas.Bool.{and_parts}
 use Rattle.imap_types.specs.Flags.{IsLawfulFlags}
 use Rattle.tags_clocks.specs.declared.id.OpId.{OpId}
 use Rattle.mail_listing.specs.Listed.{Listed}
-use Rattle.merge_laws.specs.Orders.{HasId, IsIn}
 use Rattle.merge_laws.proofs.Lists.{id_of_element}
 use Rattle.crdt_ops.specs.declared.kind.Kind.{Kind}
 use Rattle.crdt_ops.specs.declared.kind.Kind.TheVariants.{Create, Delete, Append, Expunge, Store, Subscribe, Unsubscribe}
@@ -16,10 +15,9 @@ use Rattle.crdt_ops.specs.TagLaws.{adds_own}
 use Rattle.crdt_ops.proofs.Members.{any_in}
 use Rattle.crdt_ops.proofs.Presence.{Has, id_of}
 use Rattle.uid_projection.specs.declared.start.Start.{Start}
-use Rattle.uid_projection.specs.Applied.{IsApplied}
-use Rattle.uid_projection.specs.Listing.{AreFlagsLawful, AreNamesApplied, listing}
+use Rattle.uid_projection.specs.Listing.{AreFlagsLawful, AreNamesApplied}
 use Rattle.uid_projection.proofs.Keeping.{body_chosen, given_by, origin_there}
-use Rattle.uid_projection.proofs.Listed.{IsRowOf, row_in}
+use Rattle.uid_projection.proofs.Listed.{row_in}
 
 -- a present tag was added by an operation with its id
 own_there : (folder : List ℕ) (ops : List Op) (id : OpId) → (list_any (adds (MessageTag folder id)) ops) ≡ true → Has ops id

@@ -1,9 +1,9 @@
 use Rattle.std.specs.Str.{bytes_eq}
-use Rattle.std.proofs.Common.{◌≡◌, ◌↔◌, inl, inr, ℕ, ◌+◌, ◌*◌, ◌<◌, ◌≤◌, Bool, true, false, cond, List, [], ◌∷◌, ◌++◌, Option, Some, None, length, get_or, refl, sym, ap, ◌∙◌, subst, append_assoc, append-nil, arith}
+use Rattle.std.proofs.Common.{◌≡◌, inl, inr, ℕ, ◌+◌, ◌*◌, ◌<◌, ◌≤◌, Bool, true, false, cond, List, [], ◌∷◌, ◌++◌, Option, Some, None, length, get_or, refl, sym, ap, ◌∙◌, subst, append_assoc, append-nil, arith}
 use Rattle.std.proofs.lemmas.Bool.{cases_Bool, false≢true, false_from_ne_true}
 use Rattle.std.proofs.lemmas.Slice.Eq.{bytes_eq-Decides}
 use Rattle.imap_types.specs.Names.{inbox}
-use Rattle.merge_laws.specs.Orders.{AreSound, IsCausal, IsIn, fold_of}
+use Rattle.merge_laws.specs.Orders.{AreSound, IsCausal, fold_of}
 use Rattle.merge_laws.proofs.Lists.{in_parts}
 use Rattle.crdt_ops.specs.declared.op.Op.{Op}
 use Rattle.crdt_ops.specs.Sound.{IsSound}
@@ -14,10 +14,10 @@ use Rattle.uid_projection.specs.declared.charts.Charts.{Charts}
 use Rattle.uid_projection.specs.declared.start.Start.{Start}
 use Rattle.uid_projection.specs.Applied.{IsApplied}
 use Rattle.uid_projection.specs.Chart.{IsChart}
-use Rattle.uid_projection.specs.Exhaustion.{Exhausts, IsExhausted}
+use Rattle.uid_projection.specs.Exhaustion.{IsExhausted}
 use Rattle.uid_projection.specs.Following.{Follows, IsReadyFor}
 use Rattle.uid_projection.specs.Incarnations.{is_there, k_of, uidvalidity_of}
-use Rattle.uid_projection.specs.Lines.{concerns_by, first_uid}
+use Rattle.uid_projection.specs.Lines.{concerns_by}
 use Rattle.uid_projection.specs.Readiness.{less_room}
 use Rattle.uid_projection.specs.Shown.{Shows}
 use Rattle.uid_projection.specs.Table.{HasRooms, IsNextOn, IsTable, IsUpTo}

@@ -1,6 +1,5 @@
-use Rattle.std.specs.Prelude.{◌≡◌, ℕ, ◌+◌, ◌≤◌, true, List, [], ◌∷◌, ◌++◌, length}
-use Rattle.std.proofs.Common.{inl, arith, ap, sym, subst, append_assoc, ◌∙◌}
-use Rattle.merge_laws.specs.Orders.{IsIn}
+use Rattle.std.specs.Prelude.{ℕ, ◌≤◌, List, [], ◌∷◌, ◌++◌, length}
+use Rattle.std.proofs.Common.{arith, ap, sym, subst, append_assoc, ◌∙◌}
 use Rattle.merge_laws.proofs.Causal.{causal_front}
 use Rattle.merge_laws.proofs.Lists.{in_front}
 use Rattle.crdt_ops.specs.declared.op.Op.{Op}
@@ -8,10 +7,8 @@ use Rattle.crdt_ops.specs.Tags.{name_of}
 use Rattle.uid_projection.specs.declared.charts.Charts.{Charts}
 use Rattle.uid_projection.specs.declared.chart.Chart.{Chart}
 use Rattle.uid_projection.specs.Applied.{IsApplied}
-use Rattle.uid_projection.specs.Exhaustion.{Exhausts}
 use Rattle.uid_projection.specs.Following.{IsReadyFor}
-use Rattle.uid_projection.specs.Lines.{concerns_by}
-use Rattle.uid_projection.specs.Table.{HasRooms, IsRoomy}
+use Rattle.uid_projection.specs.Table.{HasRooms}
 
 -- Room for more operations is room for fewer.
 pub less_room : (m n : ℕ) (folder : List ℕ) (charts : List Chart) → m ≤ n → HasRooms n folder charts → HasRooms m folder charts

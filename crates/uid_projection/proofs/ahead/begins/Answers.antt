@@ -1,4 +1,4 @@
-use Rattle.std.proofs.Common.{◌≡◌, ◌++◌, ◌&&◌, not, sym, ap, ◌∙◌}
+use Rattle.std.proofs.Common.{◌++◌, ◌&&◌, not, sym, ap, ◌∙◌}
 use Rattle.uid_projection.specs.Incarnations.{is_there}
 use Rattle.uid_projection.proofs.Coming.{applied_before, begins_told, there_as}
 use Rattle.uid_projection.proofs.ahead.begins.Goals as goal

@@ -1,4 +1,4 @@
-use Rattle.std.proofs.Common.{inl, inr, true, ◌≡◌, sym, ◌∙◌}
+use Rattle.std.proofs.Common.{inl, inr, sym, ◌∙◌}
 use Rattle.std.proofs.lemmas.Bool.{false≢true}
 use Rattle.uid_projection.proofs.Coming.{applied_before}
 use Rattle.uid_projection.proofs.ahead.lacks.Goals as goal

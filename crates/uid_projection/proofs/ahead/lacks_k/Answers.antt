@@ -1,4 +1,3 @@
-use Rattle.std.proofs.Common.{◌∙◌}
 use Rattle.uid_projection.proofs.Coming.{applied_before, k_far, k_near}
 use Rattle.uid_projection.proofs.ahead.lacks_k.Goals as goal
 

@@ -1,5 +1,5 @@
-use Rattle.std.proofs.Common.{◌≡◌, ◌≤◌, ◌+◌, ◌++◌, take, sym, ap, ◌∙◌, arith}
-use Rattle.uid_projection.proofs.Coming.{applied_before, applied_take, take_op, there_as, uid_told}
+use Rattle.std.proofs.Common.{◌+◌, ◌++◌, take, arith}
+use Rattle.uid_projection.proofs.Coming.{applied_take, take_op, there_as, uid_told}
 use Rattle.uid_projection.proofs.ahead.uid_after.Goals as goal
 
 pub loop-at-preserved : goal.loop-at-preserved

@@ -1,4 +1,4 @@
-use Rattle.std.proofs.Common.{◌≡◌, ◌++◌, ◌∷◌, [], true, sym, ap, ◌∙◌, subst}
+use Rattle.std.proofs.Common.{◌≡◌, ◌++◌, ◌∷◌, [], true, sym, ◌∙◌, subst}
 use Rattle.uid_projection.specs.Incarnations.{is_there}
 use Rattle.uid_projection.proofs.Tables.{IsOpen, moved_up, now_open, still_open}
 use Rattle.uid_projection.proofs.chart.step.Goals.{then-not-chart, else-not-chart}

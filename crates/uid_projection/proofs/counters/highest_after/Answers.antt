@@ -1,6 +1,4 @@
-use Rattle.std.proofs.Common.{◌≡◌, ◌≤◌, ◌+◌, ◌++◌, ap, ◌∙◌, take, arith}
-use Rattle.std.proofs.lemmas.List.{take_all}
-use Rattle.uid_projection.specs.Lines.{concerns_by, highest_modseq_of}
+use Rattle.std.proofs.Common.{◌+◌, ◌++◌, take, arith}
 use Rattle.uid_projection.proofs.Coming.{applied_take, take_op, there_as}
 use Rattle.uid_projection.proofs.LaterNumbers.{highest_told}
 use Rattle.uid_projection.proofs.counters.highest_after.Goals as goal

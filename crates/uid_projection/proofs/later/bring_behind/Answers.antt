@@ -1,8 +1,7 @@
-use Rattle.std.proofs.Common.{◌≡◌, ◌++◌, ◌∷◌, [], ◌+◌, sym, ap, ◌∙◌, subst}
+use Rattle.std.proofs.Common.{◌≡◌, ◌++◌, sym, ap, ◌∙◌, subst}
 use Rattle.uid_projection.specs.Incarnations.{is_there}
 use Rattle.uid_projection.specs.Applied.{IsApplied}
 use Rattle.uid_projection.specs.Table.{IsUpTo}
-use Rattle.crdt_ops.specs.declared.op.Op.{Op}
 use Rattle.uid_projection.proofs.Coming.{behind, there_as}
 use Rattle.uid_projection.proofs.LaterCharts.{k_begins, next_k_behind}
 use Rattle.uid_projection.proofs.later.bring_behind.Goals as goal

@@ -1,4 +1,4 @@
-use Rattle.std.proofs.Common.{◌≡◌, ◌++◌, ◌∷◌, [], sym, ◌∙◌, arith}
+use Rattle.std.proofs.Common.{sym, ◌∙◌, arith}
 use Rattle.uid_projection.specs.Shown.{takes_uid}
 use Rattle.uid_projection.proofs.LaterCharts.{k_left, k_within, uid_left, uid_within}
 use Rattle.uid_projection.proofs.Tables.{other_shows}

@@ -1,4 +1,4 @@
-use Rattle.std.proofs.Common.{◌≡◌, ◌++◌, ◌∷◌, [], ◌+◌, ◌-◌, length, take, sym, ap, ◌∙◌, subst, append-nil, arith, refl}
+use Rattle.std.proofs.Common.{◌≡◌, ◌++◌, ◌+◌, ◌-◌, length, take, sym, ap, ◌∙◌, subst, append-nil, arith}
 use Rattle.std.proofs.lemmas.List.{take_all}
 use Rattle.uid_projection.specs.History.{counted_all}
 use Rattle.uid_projection.specs.Incarnations.{begins}

@@ -1,4 +1,4 @@
-use Rattle.std.proofs.Common.{◌≡◌, ◌∙◌}
+use Rattle.std.proofs.Common.{◌∙◌}
 use Rattle.uid_projection.proofs.Asked.{if_ok, up_at}
 use Rattle.uid_projection.proofs.LaterCharts.{alike_up, away_up}
 use Rattle.uid_projection.proofs.later.copied_chart.Goals as goal

@@ -1,4 +1,3 @@
-use Rattle.std.proofs.Common.{sym, ◌∙◌}
 use Rattle.merge_laws.proofs.Pairs.{on_ok}
 use Rattle.uid_projection.proofs.Tables.{rooms_made, rooms_roomier, table_roomier}
 use Rattle.uid_projection.proofs.room.make_room.Goals as goal

@@ -1,4 +1,4 @@
-use Rattle.std.proofs.Common.{◌≡◌, Some, None, Option, cond, ap, ◌∙◌, sym}
+use Rattle.std.proofs.Common.{Some, None, Option, cond, ap, ◌∙◌, sym}
 use Rattle.std.proofs.lemmas.Bool.{eq-eqb, ne_eqb}
 use Rattle.uid_projection.specs.declared.entry.Entry.{Entry}
 use Rattle.uid_projection.proofs.RowLemmas.{entry_found, found_with}

@@ -1,4 +1,4 @@
-use Rattle.std.proofs.Common.{◌≡◌, ap, ◌∙◌, sym}
+use Rattle.std.proofs.Common.{ap, ◌∙◌, sym}
 use Rattle.folder_state.specs.Tables.{contents_of}
 use Rattle.uid_projection.proofs.RowLemmas.{found_row, row_then}
 use Rattle.uid_projection.proofs.rows.row_with.Goals as goal

@@ -1,4 +1,4 @@
-use Rattle.std.proofs.Common.{◌≡◌, ◌∷◌, [], ◌++◌, ◌+◌, List, Some, None, Option, Vec, Global, true, not, cond, map, drop, is_ok, subst, sym, ap, ◌∙◌, append-nil, append_assoc}
+use Rattle.std.proofs.Common.{◌≡◌, ◌∷◌, [], ◌++◌, ◌+◌, List, Vec, Global, true, not, cond, map, drop, is_ok, subst, sym, ap, ◌∙◌, append-nil, append_assoc}
 use Rattle.std.specs.List.{filter_map}
 use Rattle.std.specs.Option.{option_map}
 use Rattle.folder_state.specs.Later.{after}

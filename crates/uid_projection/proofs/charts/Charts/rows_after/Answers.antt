@@ -1,5 +1,5 @@
 use Rattle.std.specs.List.{filter_map}
-use Rattle.std.proofs.Common.{◌≡◌, ◌+◌, ◌++◌, cond, sym, subst, ap, ◌∙◌}
+use Rattle.std.proofs.Common.{◌+◌, ◌++◌, cond, sym, subst, ap, ◌∙◌}
 use Rattle.folder_state.specs.Later.{after}
 use Rattle.folder_state.specs.Tables.{contents_of}
 use Rattle.folder_state.proofs.LaterLemmas.{made_after}

@@ -1,4 +1,4 @@
-use Rattle.std.proofs.Common.{◌≡◌, ◌≤◌, sym, subst, ◌∙◌, arith}
+use Rattle.std.proofs.Common.{◌≤◌, sym, subst, ◌∙◌, arith}
 use Rattle.uid_projection.specs.Lines.{first_uid, uidnext_of}
 use Rattle.uid_projection.specs.Table.{IsTable}
 use Rattle.uid_projection.proofs.LaterNumbers.{uidnext_within}

@@ -1,0 +1,82 @@
+-- Worked examples of what STORE, UID EXPUNGE and COPY want and tell.
+use Rattle.std.proofs.Common.{◌≡◌, refl, ℕ, Bool, true, false, List, [], ◌∷◌, Option, Some, None}
+use Rattle.std.specs.Prelude.{Ok, Err}
+use Rattle.crdt_ops.specs.declared.kind.Kind.TheVariants as kind
+use Rattle.imap_answers.specs.declared.answer.Answer.{Answer}
+use Rattle.imap_answers.specs.declared.answer.Answer.TheVariants.{Fetch}
+use Rattle.imap_answers.specs.declared.codes.Code.TheVariants.{CopyUid, ExpungeIssued, Modified}
+use Rattle.imap_answers.specs.declared.words.Refusal.TheVariants.{NoSuchMessage, ReadOnly}
+use Rattle.imap_grammar.specs.declared.store.StoreMode.TheVariants.{Add, Remove}
+use Rattle.imap_types.specs.declared.flags.Flags.{Flags}
+use Rattle.imap_types.specs.declared.sequence_set.SequenceBound.TheVariants.{Number}
+use Rattle.imap_types.specs.declared.sequence_set.SequenceRange.{SequenceRange}
+use Rattle.mail_listing.specs.Listed.{Listed}
+use Rattle.session_view.specs.Views.{same_flags}
+use Rattle.session_view.specs.declared.entry.Entry.{Entry}
+use Rattle.tags_clocks.specs.declared.id.OpId.{OpId}
+use Rattle.imap_commands.specs.Changing.{changed_flags}
+use Rattle.imap_commands.specs.Copying.{copy_tells}
+use Rattle.imap_commands.specs.Expunging.{uid_expunge_tells}
+use Rattle.imap_commands.specs.Storing.{store_tells, store_wants}
+
+abbrev bare : Flags
+bare = record { answered = false; flagged = false; deleted = false; seen = false; draft = false; keywords = [] }
+
+abbrev flagged : Flags
+flagged = record bare { flagged = true }
+
+abbrev message : ℕ → ℕ → OpId → Flags → Listed
+message uid modseq id flags = record { uid = uid; modseq = modseq; id = id; origin = id; flags = flags; date = []; text = [] }
+
+abbrev shown : ℕ → Entry
+shown uid = record { uid = uid; flags = bare }
+
+abbrev from_to : ℕ → ℕ → List SequenceRange
+from_to a b = record { first = Number a; last = Number b } ∷ []
+
+abbrev modseq_alone : ℕ → ℕ → Answer
+modseq_alone n modseq = Fetch n (record { uid = None; flags = None; date = None; size = None; modseq = Some modseq; sections = [] })
+
+module _ (a b c d e : OpId) (folder : List ℕ) where
+  -- Three messages, of which the second changed after mod-sequence 4.
+  abbrev before : List Listed
+  before = message 1 2 a bare ∷ message 2 5 b (record bare { seen = true }) ∷ message 3 4 c bare ∷ []
+
+  abbrev after : List Listed
+  after = message 1 6 d flagged ∷ message 2 5 b (record bare { seen = true }) ∷ message 3 7 e flagged ∷ []
+
+  abbrev view : List Entry
+  view = shown 1 ∷ shown 2 ∷ shown 3 ∷ []
+
+  -- STORE 1:3 (UNCHANGEDSINCE 4) +FLAGS.SILENT (\Flagged)
+  stores_two : store_wants folder before view false false (from_to 1 3) (Some 4) Add flagged ≡ Ok (kind.Store folder flagged a a ∷ kind.Store folder flagged c c ∷ [])
+  unfolding changed_flags same_flags
+  stores_two = refl
+
+  tells_modseqs : store_tells before after view true false (from_to 1 3) (Some 4) Add true flagged ≡ record {
+    own = modseq_alone 1 6 ∷ modseq_alone 3 7 ∷ [];
+    silent = record { number = 1; flags = flagged } ∷ record { number = 3; flags = flagged } ∷ [];
+    code = Some (Modified (2 ∷ []));
+  }
+  unfolding changed_flags
+  tells_modseqs = refl
+
+  -- -FLAGS (\Flagged) of messages that lack it issues nothing.
+  stores_none : store_wants folder before view false true (from_to 1 9) None Remove flagged ≡ Ok []
+  unfolding changed_flags same_flags
+  stores_none = refl
+
+  -- A number that no message has is told before EXAMINE is.
+  out_of_range_first : store_wants folder before view true false (from_to 3 4) None Add flagged ≡ Err NoSuchMessage
+  out_of_range_first = refl
+
+  read_only_next : store_wants folder before view true false (from_to 1 3) None Add flagged ≡ Err ReadOnly
+  read_only_next = refl
+
+  -- The view has a message with UID 4, which is gone.
+  gone_is_told : uid_expunge_tells before (shown 3 ∷ shown 4 ∷ []) (from_to 4 4) ≡ record { own = []; silent = []; code = Some ExpungeIssued }
+  gone_is_told = refl
+
+  -- COPY 1:2 into a mailbox whose next UID was 7, where UIDs 7 and 8 are then.
+  copies_are_told : copy_tells before view false (from_to 1 2) 65537 7 (message 5 2 a bare ∷ message 7 3 d bare ∷ message 8 4 e bare ∷ []) ≡ record { own = []; silent = []; code = Some (CopyUid 65537 (1 ∷ 2 ∷ []) (7 ∷ 8 ∷ [])) }
+  copies_are_told = refl

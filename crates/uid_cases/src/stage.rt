@@ -1,0 +1,113 @@
+//! What a case works on.
+
+ghost use Rattle.std.specs.Prelude.{◌≡◌, ◌≤◌, IfOk};
+ghost use Rattle.folder_state.specs.Contents.{IsMadeBy, no_contents};
+ghost use Rattle.folder_state.specs.Tables.{contents_of};
+ghost use Rattle.subs_state.specs.Subscriptions.{no_subscriptions};
+ghost use Rattle.subs_state.specs.Table.{subscriptions_of};
+ghost use Rattle.uid_projection.specs.Following.{Follows};
+ghost use Rattle.uid_projection.specs.Listing.{listing};
+
+use causal_inbox::{DeliverFault, Delivered, Inbox, IssueFault};
+use crdt_ops::SoundOp;
+use folder_state::Folders;
+use imap_types::Name;
+use mail_listing::Rows;
+use merge_laws::{OnFirst, Pair};
+use std::alloc::{AllocError, Global};
+use subs_state::Subs;
+use tags_clocks::ReplicaId;
+use uid_projection::{Charts, Start};
+
+/// Folders and subscriptions.
+pub type Mailboxes = Pair<Folders, Subs>;
+
+/// A replica's inbox, whose charts follow its folders.
+pub type Node = Inbox<Mailboxes, OnFirst<Charts>>;
+
+/// What a case works on: an inbox, and operations that come next.
+#[derive(Drop)]
+pub struct Stage {
+    /// The inbox.
+    pub inbox: Node,
+    /// Operations that come next, in this order.
+    pub next: Vec<SoundOp>,
+}
+
+impl Stage {
+    /// An inbox that received nothing, whose counters begin so, and no operations. An error says that there is no memory.
+    pub fn new(alloc: Global, start: Start) -> Result<Stage, AllocError>
+        requires { 1 ≤ start.uid }
+    {
+        match node(alloc, start) {
+            Ok(inbox) => Ok(Stage {
+                inbox,
+                next: Vec::new(alloc),
+            }),
+            Err(AllocError) => Err(AllocError),
+        }
+    }
+}
+
+/// The counters of this replica, from 1 on.
+pub fn usual(replica: ReplicaId) -> Start
+    ensures { result ≡ record { replica = replica; uid = 1; k = 1 } }
+{
+    Start {
+        replica,
+        uid: 1,
+        k: 1,
+    }
+}
+
+/// Folders and subscriptions, with nothing in them.
+fn empty(alloc: Global) -> Mailboxes
+    ensures folders { contents_of result.first ≡ no_contents }
+    ensures subs { subscriptions_of result.second ≡ no_subscriptions }
+{
+    Pair {
+        first: Folders::new(alloc),
+        second: Subs::new(alloc),
+    }
+}
+
+/// An inbox that received nothing. An error says that there is no memory.
+fn node(alloc: Global, start: Start) -> Result<Node, AllocError>
+    requires { 1 ≤ start.uid }
+{
+    let charts = Charts::new(alloc, start)?;
+    Inbox::new(alloc, empty(alloc), OnFirst { follower: charts })
+}
+
+/// Delivers an operation.
+pub fn deliver(alloc: Global, inbox: &mut Node, op: SoundOp) -> Result<Delivered, DeliverFault> {
+    inbox.deliver(alloc, op)
+}
+
+/// Makes the inbox ready for operations of its own.
+pub fn make_ready(alloc: Global, inbox: &mut Node, ops: &[SoundOp]) -> Result<(), IssueFault> {
+    inbox.ready(alloc, ops)
+}
+
+/// The charts that follow the inbox's folders.
+pub fn charts(inbox: &Node) -> &Charts
+    ensures follows { Follows result.now inbox.now.seen.applied }
+    ensures start { result.now.start ≡ inbox.now.seen.start }
+{
+    &inbox.follower().follower
+}
+
+/// The inbox's folders.
+pub fn folders(inbox: &Node) -> &Folders
+    ensures { IsMadeBy (contents_of result.now) inbox.now.seen.applied }
+{
+    let _applied = inbox.op_list();
+    &inbox.value().first
+}
+
+/// The folder's listing, of the operations that the inbox applied; `Err` where there is no memory for it.
+pub fn listing<'a>(alloc: Global, inbox: &'a Node, name: &Name) -> Result<Rows<'a>, AllocError>
+    ensures { IfOk result (λ rows. rows ≡ listing inbox.now.seen.start name.now inbox.now.seen.applied) }
+{
+    charts(inbox).rows(alloc, folders(inbox), name)
+}
