@@ -15,4 +15,5 @@ pub mod PrintSynced
 pub mod PrintAsked
 pub mod PrintSearched
 pub mod PrintCopied
+pub mod PrintSpelled
 mod StoreExamples

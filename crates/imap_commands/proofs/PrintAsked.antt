@@ -33,7 +33,7 @@ only_printable answers h = record { own = h; code = tt }
 -- ---- LIST
 
 -- INBOX in capitals stays so
-folded_again : (name : List ℕ) → IsFolded (folded_name name)
+pub folded_again : (name : List ℕ) → IsFolded (folded_name name)
 folded_again name =
     elim (cases_Bool (is_inbox name)) [
       | inl t ↦ rw t refl

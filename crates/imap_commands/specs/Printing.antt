@@ -1,7 +1,10 @@
 use Rattle.std.specs.Prelude.{◌≡◌, ℕ, Bool, ◌<◌, List, length}
-use Rattle.imap_answers.specs.Printable.{AreFlags, Each, IsCode, IsModSeq, IsNonzero, IsPrintable, IsSection, IsSmall, IsWide, Where}
+use Rattle.imap_answers.specs.Printable.{AreFlags, Each, IsCode, IsFolded, IsModSeq, IsNonzero, IsPrintable, IsSection, IsSmall, IsWide, Where}
+use Rattle.imap_grammar.specs.declared.command.Command.{Command}
+use Rattle.imap_grammar.specs.declared.command.Command.TheVariants as commands
 use Rattle.imap_grammar.specs.declared.fetch.FetchItem.{FetchItem}
 use Rattle.imap_grammar.specs.declared.fetch.FetchItem.TheVariants.{Body, Flags, InternalDate, ModSeq, Size, Uid}
+use Rattle.imap_query.specs.Keys.{IsKey}
 use Rattle.imap_query.specs.declared.mailbox_status.Marks.{Marks}
 use Rattle.imap_types.specs.DateTimes.{IsDateTime}
 use Rattle.imap_types.specs.declared.sequence_set.SequenceRange.{SequenceRange}
@@ -61,3 +64,12 @@ pub record AreTellable (items : List FetchItem) : Type 0 where
 -- As many messages have come into the destination as the command copies (RFC 9051, section 7.1, COPYUID).
 abbrev pub AreAsMany : List Listed → List Entry → Bool → List SequenceRange → ℕ → List Listed → Type 0
 AreAsMany before view by_uid set uidnext landed = length (sources_of before view (resolved by_uid set view)) ≡ length (copies_in uidnext landed)
+
+-- What a command asks can be told: its names have INBOX in capitals, its items are some and can be told, and its steps are a key's.
+abbrev pub IsAnswerable : Command → Type 0
+IsAnswerable (commands.Select name condstore) = IsFolded name
+IsAnswerable (commands.Examine name condstore) = IsFolded name
+IsAnswerable (commands.Status name items) = IsFolded name × (0 < length items)
+IsAnswerable (commands.Search by_uid options steps) = IsKey steps
+IsAnswerable (commands.Fetch by_uid messages items changed_since) = AreTellable items
+IsAnswerable _ = Unit {0}

@@ -1,7 +1,7 @@
 //! What commands tell can be printed: laws over `specs/Printing.antt`, one for each family.
 
 ghost use Rattle.std.specs.Prelude.{ℕ, ◌<◌, Bool, List, Option, length};
-ghost use Rattle.imap_answers.specs.Printable.{Each, IsFolded, IsNonzero, IsPrintable, IsTag};
+ghost use Rattle.imap_answers.specs.Printable.{Each, IsFolded, IsNonzero, IsPrintable, IsTag, IsWide};
 ghost use Rattle.imap_commands.specs.Appending.{append_tells};
 ghost use Rattle.imap_commands.specs.Asking.{ListTells, capability_tells, idle_tells, logout_tells, namespace_tells, status_tells};
 ghost use Rattle.imap_commands.specs.Copying.{copy_tells, move_tells};
@@ -18,9 +18,11 @@ ghost use Rattle.imap_query.specs.Keys.{IsKey};
 ghost use Rattle.imap_commands.specs.Storing.{store_tells};
 ghost use Rattle.imap_grammar.specs.declared.store.StoreMode.{StoreMode};
 ghost use Rattle.imap_types.specs.declared.flags.Flags.{Flags};
+ghost use Rattle.imap_grammar.specs.Commands.{IsSpelled};
+ghost use Rattle.imap_grammar.specs.declared.command.Tagged.{Tagged as Asked};
 ghost use Rattle.imap_grammar.specs.declared.fetch.FetchItem.{FetchItem};
 ghost use Rattle.imap_types.specs.declared.sequence_set.SequenceRange.{SequenceRange};
-ghost use Rattle.imap_commands.specs.Printing.{AreAsMany, AreNonzeroMarks, AreShowable, AreTellable, IsNumbered, IsPrintableTelling};
+ghost use Rattle.imap_commands.specs.Printing.{AreAsMany, AreNonzeroMarks, AreShowable, AreTellable, IsNumbered, IsAnswerable, IsPrintableTelling};
 ghost use Rattle.imap_commands.specs.Selecting.{select_tells};
 ghost use Rattle.imap_query.specs.declared.mailbox_status.Marks.{Marks};
 ghost use Rattle.mail_listing.specs.Listed.{Listed};
@@ -103,4 +105,9 @@ pub fn copies_are_printable()
 /// What APPEND tells.
 pub fn append_is_printable()
     ensures { (uidvalidity uid : ℕ) → IsNonzero uidvalidity → IsNonzero uid → IsPrintableTelling (append_tells uidvalidity uid) }
+{}
+
+/// A frame spells a tag and a command whose parts can be told.
+pub fn spelled_commands_are_answerable()
+    ensures { (tagged : Asked) (octets : List ℕ) → IsSpelled tagged octets → IsWide (length octets) → IsTag tagged.tag × IsAnswerable tagged.command }
 {}
