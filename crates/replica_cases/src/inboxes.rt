@@ -8,7 +8,7 @@ use crate::issuing::tell_issue;
 use crate::operations::operation;
 use crate::stage::{Mailboxes, Node, deliver};
 use crate::trouble::Trouble;
-use causal_inbox::{Arrival, DeliverFault, Delivered};
+use causal_inbox::{Arrival, DeliverFault, Delivered, HeldOps};
 use crdt_ops::{SoundOp, copied_ops};
 use imap_types::Name;
 use std::alloc::AllocError;
@@ -48,7 +48,7 @@ pub fn answer_inbox(
         InboxWord::Issue => tell_issue(inbox, fields, answer)?,
         InboxWord::Since => tell_since(inbox, fields, answer)?,
         InboxWord::Folder => tell_named(inbox.value(), fields, answer)?,
-        InboxWord::Show => tell_received(inbox.op_list(), inbox.held(), answer),
+        InboxWord::Show => tell_received(inbox.op_list(), &inbox.held(), answer),
         InboxWord::List => tell_applied(inbox.op_list(), answer),
         InboxWord::Told => tell_state(inbox.value(), answer),
     }
@@ -101,11 +101,11 @@ fn tell_fault(fault: DeliverFault, answer: &mut Answer) {
     }
 }
 
-fn tell_received(applied: &[SoundOp], held: &[SoundOp], answer: &mut Answer) {
+fn tell_received(applied: &[SoundOp], held: &HeldOps<'_, SoundOp>, answer: &mut Answer) {
     answer.word("applied");
     tell_ids_of(applied, answer);
     answer.word("held");
-    tell_ids_of(held, answer);
+    tell_held_ids(held, answer);
 }
 
 fn tell_ids_of(ops: &[SoundOp], answer: &mut Answer) {
@@ -113,6 +113,15 @@ fn tell_ids_of(ops: &[SoundOp], answer: &mut Answer) {
         answer.word("-");
     }
     for op in ops {
+        answer.id(op.op().id);
+    }
+}
+
+fn tell_held_ids(held: &HeldOps<'_, SoundOp>, answer: &mut Answer) {
+    if held.is_empty() {
+        answer.word("-");
+    }
+    for op in held.iter() {
         answer.id(op.op().id);
     }
 }

@@ -6,7 +6,7 @@ ghost use Rattle.folder_state.specs.Tables.{contents_of};
 ghost use Rattle.subs_state.specs.Subscriptions.{no_subscriptions};
 ghost use Rattle.subs_state.specs.Table.{subscriptions_of};
 
-use crate::telling::{tell_delivered, tell_drained, tell_ids};
+use crate::telling::{tell_delivered, tell_drained, tell_held_ids, tell_ids, tell_stall};
 use causal_inbox::Inbox;
 use crdt_ops::{Op, OpFault, SoundOp, check, read_op};
 use folder_state::Folders;
@@ -77,7 +77,7 @@ pub fn empty(alloc: Global) -> Mailboxes
     }
 }
 
-/// Delivers the operation of each line, or drains or shows the ids, and tells what comes of it, a line each.
+/// Delivers the operation of each line, or drains, asks why one stalls or shows the ids, and tells what comes of it, a line each.
 pub fn play_all<R: Replicated<Op = SoundOp>, F: Follower<R>>(
     alloc: Global,
     inbox: &mut Inbox<R, F>,
@@ -90,7 +90,7 @@ pub fn play_all<R: Replicated<Op = SoundOp>, F: Follower<R>>(
     Ok(())
 }
 
-/// Delivers the operation of a line, or drains or shows the ids, and tells what comes of it in a line.
+/// Delivers the operation of a line, or drains, asks why one stalls or shows the ids, and tells what comes of it in a line.
 pub fn play<R: Replicated<Op = SoundOp>, F: Follower<R>>(
     alloc: Global,
     inbox: &mut Inbox<R, F>,
@@ -99,6 +99,7 @@ pub fn play<R: Replicated<Op = SoundOp>, F: Follower<R>>(
 ) -> Result<(), Trouble> {
     match line {
         "drain" => tell_drained(text, inbox.drain(alloc))?,
+        "stall" => tell_stall(text, inbox.stall(alloc))?,
         "show" => show(inbox, text)?,
         _ => deliver(alloc, inbox, line, text)?,
     }
@@ -110,7 +111,7 @@ fn show<R: Replicated<Op = SoundOp>, F: Follower<R>>(
     text: &mut String,
 ) -> Result<(), AllocError> {
     tell_ids("applied", inbox.op_list(), text)?;
-    tell_ids("held", inbox.held(), text)
+    tell_held_ids(&inbox.held(), text)
 }
 
 fn deliver<R: Replicated<Op = SoundOp>, F: Follower<R>>(

@@ -1,9 +1,13 @@
 //! The laws can be called: each is the contract of a function that does nothing.
 
 use crate::fixtures::Mailboxes;
+use causal_inbox::{
+    delivery_is_received, issue_is_received, nothing_ripe_is_left, release_loses_nothing,
+    what_is_received_is_consistent,
+};
 use crdt_ops::one_operation;
 use folder_state::{contents_follow_the_set, folders_for_all_orders};
-use merge_laws::same_for_all_orders;
+use merge_laws::{Unfollowed, same_for_all_orders};
 use subs_state::{subs_for_all_orders, subscriptions_follow_the_set, whole_state_for_all_orders};
 
 #[test]
@@ -31,4 +35,13 @@ fn subscriptions() {
 #[test]
 fn both() {
     whole_state_for_all_orders();
+}
+
+#[test]
+fn inboxes() {
+    delivery_is_received::<Mailboxes, Unfollowed>();
+    release_loses_nothing::<Mailboxes, Unfollowed>();
+    issue_is_received::<Mailboxes, Unfollowed>();
+    what_is_received_is_consistent::<Mailboxes, Unfollowed>();
+    nothing_ripe_is_left::<Mailboxes, Unfollowed>();
 }

@@ -7,6 +7,8 @@ mod calls;
 #[cfg(test)]
 mod fixtures;
 #[cfg(test)]
+mod holding;
+#[cfg(test)]
 mod laws;
 #[cfg(test)]
 mod refusals;

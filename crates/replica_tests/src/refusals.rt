@@ -77,6 +77,7 @@ const CHAIN: &[&str] = &[
     "1:1 - create a",
     "show",
     "1:1 - create a",
+    "stall",
     "drain",
     "show",
 ];
@@ -85,19 +86,19 @@ const CHAIN: &[&str] = &[
 const REFUSED: &[(u32, &str)] = &[
     (
         0,
-        "Held\nHeld\napplied\nheld 1:2 1:3\nNoMemory\napplied\nheld 1:2 1:3\nApplied 3\ndrained 0\napplied 1:1 1:2 1:3\nheld\n",
+        "Held\nHeld\napplied\nheld 1:2 1:3\nNoMemory\napplied\nheld 1:2 1:3\nApplied 3\nnone\ndrained 0\napplied 1:1 1:2 1:3\nheld\n",
     ),
     (
         1,
-        "Held\nHeld\napplied\nheld 1:2 1:3\nApplied 1 stalled\napplied 1:1\nheld 1:2 1:3\nRepeat stalled\ndrained 2\napplied 1:1 1:2 1:3\nheld\n",
+        "Held\nHeld\napplied\nheld 1:2 1:3\nApplied 1 stalled\napplied 1:1\nheld 1:2 1:3\nRepeat stalled\nDrainable\ndrained 2\napplied 1:1 1:2 1:3\nheld\n",
     ),
     (
         2,
-        "Held\nHeld\napplied\nheld 1:2 1:3\nApplied 2 stalled\napplied 1:1 1:2\nheld 1:3\nRepeat stalled\ndrained 1\napplied 1:1 1:2 1:3\nheld\n",
+        "Held\nHeld\napplied\nheld 1:2 1:3\nApplied 2 stalled\napplied 1:1 1:2\nheld 1:3\nRepeat stalled\nDrainable\ndrained 1\napplied 1:1 1:2 1:3\nheld\n",
     ),
     (
         3,
-        "Held\nHeld\napplied\nheld 1:2 1:3\nApplied 3\napplied 1:1 1:2 1:3\nheld\nRepeat\ndrained 0\napplied 1:1 1:2 1:3\nheld\n",
+        "Held\nHeld\napplied\nheld 1:2 1:3\nApplied 3\napplied 1:1 1:2 1:3\nheld\nRepeat\nnone\ndrained 0\napplied 1:1 1:2 1:3\nheld\n",
     ),
 ];
 
@@ -152,6 +153,7 @@ const USED_UP: &[&str] = &[
     "1:2 1=1 create b",
     "1:1 - create a",
     "drain",
+    "stall",
     "show",
     "3:2 3=1 create e",
     "1:3 1=2 create x",
@@ -161,19 +163,19 @@ const USED_UP: &[&str] = &[
 const COUNTED: &[(usize, &str)] = &[
     (
         0,
-        "Held\nHeld\nExhausted\ndrained 0\napplied\nheld 1:2 1:3\nHeld\nConflict 1:3\n",
+        "Held\nHeld\nExhausted\ndrained 0\nnone\napplied\nheld 1:2 1:3\nHeld\nConflict 1:3\n",
     ),
     (
         1,
-        "Held\nHeld\nApplied 1 stalled\ndrained 0 stalled\napplied 1:1\nheld 1:2 1:3\nHeld stalled\nConflict 1:3\n",
+        "Held\nHeld\nApplied 1 stalled\ndrained 0 stalled\nExhausted\napplied 1:1\nheld 1:2 1:3\nHeld stalled\nConflict 1:3\n",
     ),
     (
         2,
-        "Held\nHeld\nApplied 2 stalled\ndrained 0 stalled\napplied 1:1 1:2\nheld 1:3\nHeld stalled\nConflict 1:3\n",
+        "Held\nHeld\nApplied 2 stalled\ndrained 0 stalled\nExhausted\napplied 1:1 1:2\nheld 1:3\nHeld stalled\nConflict 1:3\n",
     ),
     (
         3,
-        "Held\nHeld\nApplied 3\ndrained 0\napplied 1:1 1:2 1:3\nheld\nHeld\nConflict 1:3\n",
+        "Held\nHeld\nApplied 3\ndrained 0\nnone\napplied 1:1 1:2 1:3\nheld\nHeld\nConflict 1:3\n",
     ),
 ];
 

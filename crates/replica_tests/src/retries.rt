@@ -2,8 +2,8 @@
 
 use crate::fixtures::{Mailboxes, Trouble, empty, operation, play};
 use crate::reluctant::{Hesitant, Reluctant};
-use crate::telling::{lines_of, told_of};
-use causal_inbox::{DeliverFault, Delivered, Inbox};
+use crate::telling::{lines_of, lines_of_held, told_of};
+use causal_inbox::{DeliverFault, Delivered, HeldOps, Inbox};
 use crdt_ops::SoundOp;
 use folder_state::Folders;
 use merge_laws::{Pair, Unfollowed};
@@ -15,13 +15,13 @@ use subs_state::Subs;
 fn shown_of(
     alloc: Global,
     applied: &[SoundOp],
-    held: &[SoundOp],
+    held: &HeldOps<'_, SoundOp>,
     folders: &Folders,
     subs: &Subs,
 ) -> Result<Vec<u8>, AllocError> {
     let mut text = lines_of(alloc, applied)?;
     text.extend_from_slice(b"held\n")?;
-    text.extend_from_slice(&lines_of(alloc, held)?)?;
+    text.extend_from_slice(&lines_of_held(alloc, held)?)?;
     text.extend_from_slice(&told_of(alloc, folders, subs)?)?;
     Ok(text)
 }
@@ -124,7 +124,7 @@ fn shown_wary(alloc: Global, inbox: &Wary) -> Result<Vec<u8>, AllocError> {
     shown_of(
         alloc,
         inbox.op_list(),
-        inbox.held(),
+        &inbox.held(),
         &value.first.value,
         &value.second.value,
     )
@@ -258,7 +258,7 @@ fn shown(alloc: Global, inbox: &Node) -> Result<Vec<u8>, AllocError> {
     shown_of(
         alloc,
         inbox.op_list(),
-        inbox.held(),
+        &inbox.held(),
         &value.first,
         &value.second,
     )

@@ -1,6 +1,6 @@
 //! Answers and states as lines.
 
-use causal_inbox::{Arrival, DeliverFault, Delivered, Drained};
+use causal_inbox::{Arrival, DeliverFault, Delivered, Drained, HeldOps, Stall};
 use crdt_ops::{Message, SoundOp, write_flags, write_id, write_ids, write_op};
 use folder_state::Folders;
 use imap_types::{Escape, Name, write_escaped};
@@ -12,10 +12,23 @@ use subs_state::Subs;
 pub fn lines_of(alloc: Global, ops: &[SoundOp]) -> Result<Vec<u8>, AllocError> {
     let mut text = Vec::new(alloc);
     for op in ops {
-        write_op(alloc, op, &mut text)?;
-        text.extend_from_slice(b"\n")?;
+        write_line(alloc, op, &mut text)?;
     }
     Ok(text)
+}
+
+/// The lines of held operations.
+pub fn lines_of_held(alloc: Global, held: &HeldOps<'_, SoundOp>) -> Result<Vec<u8>, AllocError> {
+    let mut text = Vec::new(alloc);
+    for op in held.iter() {
+        write_line(alloc, op, &mut text)?;
+    }
+    Ok(text)
+}
+
+fn write_line(alloc: Global, op: &SoundOp, text: &mut Vec<u8>) -> Result<(), AllocError> {
+    write_op(alloc, op, text)?;
+    text.extend_from_slice(b"\n")
 }
 
 /// What these folders and these subscriptions tell, as the lines of a dump.
@@ -109,6 +122,15 @@ pub fn tell_drained(text: &mut String, drained: Drained) -> Result<(), AllocErro
     tell_stalled(text, drained.stalled)
 }
 
+/// Why a ripe operation is held, as a line.
+pub fn tell_stall(text: &mut String, stall: Option<Stall>) -> Result<(), AllocError> {
+    text.push_str(match stall {
+        None => "none\n",
+        Some(Stall::Exhausted) => "Exhausted\n",
+        Some(Stall::Drainable) => "Drainable\n",
+    })
+}
+
 /// The answer to a delivery, as a line.
 pub fn tell_delivered(
     text: &mut String,
@@ -150,8 +172,21 @@ fn tell_fault(text: &mut String, fault: DeliverFault) -> Result<(), AllocError> 
 pub fn tell_ids(word: &str, ops: &[SoundOp], text: &mut String) -> Result<(), AllocError> {
     text.push_str(word)?;
     for op in ops {
-        let id = op.op().id;
-        write!(text, " {}:{}", id.replica.get(), id.number.get())?;
+        tell_id(op, text)?;
     }
     text.push_str("\n")
+}
+
+/// The ids of held operations, as a line.
+pub fn tell_held_ids(held: &HeldOps<'_, SoundOp>, text: &mut String) -> Result<(), AllocError> {
+    text.push_str("held")?;
+    for op in held.iter() {
+        tell_id(op, text)?;
+    }
+    text.push_str("\n")
+}
+
+fn tell_id(op: &SoundOp, text: &mut String) -> Result<(), AllocError> {
+    let id = op.op().id;
+    write!(text, " {}:{}", id.replica.get(), id.number.get())
 }
