@@ -1,2 +1,5 @@
 pub mod NextLemmas
 pub mod CanLemmas
+pub mod ShownLemmas
+pub mod ThereLemmas
+pub mod PrintLemmas
