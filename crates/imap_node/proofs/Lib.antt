@@ -3,3 +3,4 @@ pub mod CanLemmas
 pub mod ShownLemmas
 pub mod ThereLemmas
 pub mod PrintLemmas
+pub mod PrintReplies

@@ -90,10 +90,10 @@ module _ (start : Start) (before issued : List Op) (p : IsShowable start (before
       subst IsPrintableTelling (sym h) (selected_printable state _ v (λ view read_only k. uid_expunge_printable (rows_for start before view) view.entries uids))
   tells_printable (commands.Fetch by_uid set items changed_since) state modseq tag told t a v n l h =
       subst IsPrintableTelling (sym h) (selected_printable state _ v (λ view read_only k.
-          fetch_printable (rows_for start before view) (rows_for start (before ++ issued) view) view.entries read_only modseq by_uid set items changed_since (rows_showable start (before ++ issued) view p) k a))
+      fetch_printable (rows_for start before view) (rows_for start (before ++ issued) view) view.entries read_only modseq by_uid set items changed_since (rows_showable start (before ++ issued) view p) k a))
   tells_printable (commands.Store by_uid set unchanged_since action flags) state modseq tag told t a v n l h =
       subst IsPrintableTelling (sym h) (selected_printable state _ v (λ view read_only k.
-          store_printable (rows_for start before view) (rows_for start (before ++ issued) view) view.entries modseq by_uid set unchanged_since action.mode action.silent flags (rows_showable start (before ++ issued) view p) k))
+      store_printable (rows_for start before view) (rows_for start (before ++ issued) view) view.entries modseq by_uid set unchanged_since action.mode action.silent flags (rows_showable start (before ++ issued) view p) k))
   tells_printable (commands.Copy by_uid set name) (Selected view read_only) modseq tag told t a v n l h =
       subst IsPrintableTelling (sym h)
       (copy_printable (rows_for start before view) view.entries by_uid set (validity_of start name (before ++ issued)) (uidnext_of start name before) (listing start name (before ++ issued)) v

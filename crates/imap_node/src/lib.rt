@@ -24,7 +24,7 @@ pub use imap_commands::{Credentials, Session, State};
 pub use input::Input;
 pub use node::Node;
 pub use planning::Plan;
-pub use printable::listings_are_showable;
+pub use printable::{answers_are_printable, listings_are_showable};
 pub use replica::Replica;
 pub use reply::{Answers, Issued, Reply, Silents};
 pub use sessions::{Auth, MAX_SESSIONS, OpenFault, SessionNo};

@@ -1,6 +1,4 @@
-use Rattle.imap_node.proofs.PrintLemmas.{course_well, tells_printable}
 use Rattle.imap_node.proofs.ShownLemmas.{listing_showable, rows_showable}
-use Rattle.imap_node.proofs.ThereLemmas.{stays_there}
 use Rattle.imap_node.proofs.printable.listings_are_showable.Goals as goal
 
 pub returns : goal.returns
