@@ -47,8 +47,9 @@ pub use mailboxes::{
 };
 pub use printable::{
     append_is_printable, constant_answers_are_printable, copies_are_printable, fetch_is_printable,
-    list_is_printable, search_is_printable, select_is_printable, spelled_commands_are_answerable, status_is_printable,
-    store_is_printable, sync_is_printable, uid_expunge_is_printable, views_stay_numbered,
+    list_is_printable, search_is_printable, select_is_printable, spelled_commands_are_answerable,
+    status_is_printable, store_is_printable, sync_is_printable, uid_expunge_is_printable,
+    views_stay_numbered,
 };
 pub use searching::{search_tells, search_wants};
 pub use selecting::{select_tells, select_wants};
