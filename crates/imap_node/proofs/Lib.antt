@@ -4,3 +4,5 @@ pub mod ShownLemmas
 pub mod ThereLemmas
 pub mod PrintLemmas
 pub mod PrintReplies
+pub mod LandingLemmas
+mod PrintExamples

@@ -1,20 +1,12 @@
-use Rattle.std.proofs.Common.{◌≡◌, ◌⊎◌, inl, inr, ℕ, Bool, true, false, not, ◌&&◌, List, [], ◌∷◌, ◌++◌, Option, Some, None, nat_eq, refl, sym, ap, ◌∙◌, subst, if◌then◌else◌}
-use Rattle.std.specs.Prelude.{nat_lt, length, Result, Ok, Err}
-use Rattle.std.specs.List.{list_all}
+use Rattle.std.proofs.Common.{◌≡◌, inl, inr, ℕ, Bool, true, false, List, ◌++◌, Option, Some, None, nat_eq, sym, subst}
 use Rattle.std.proofs.lemmas.Bool.{cases_Bool}
-use Rattle.merge_laws.specs.Orders.{IsIn}
-use Rattle.crdt_ops.specs.declared.kind.Kind.{Kind}
-use Rattle.crdt_ops.specs.declared.kind.Kind.TheVariants as kinds
 use Rattle.crdt_ops.specs.declared.op.Op.{Op}
 use Rattle.crdt_ops.specs.Sets.{folders_of, subscribed_of}
 use Rattle.imap_answers.specs.declared.answer.Answer.{Answer}
 use Rattle.imap_answers.specs.declared.codes.Code.{Code}
 use Rattle.imap_answers.specs.Printable.{Each, IsCode, IsModSeq, IsPrintable, IsTag, Where}
-use Rattle.imap_commands.specs.Appending.{given_date}
-use Rattle.imap_commands.specs.Issued.{AreIssuable, HaveLawfulFlags, IsIssuable}
-use Rattle.imap_commands.specs.Printing.{AreShowable, IsAnswerable, IsNumbered, IsPrintableTelling}
+use Rattle.imap_commands.specs.Printing.{AreAsMany, IsAnswerable, IsNumbered, IsPrintableTelling}
 use Rattle.imap_commands.specs.Told.{Telling, nothing_told}
-use Rattle.imap_commands.specs.declared.session.Session.{Session}
 use Rattle.imap_commands.specs.declared.session.State.{State}
 use Rattle.imap_commands.specs.declared.session.State.TheVariants.{NotAuthenticated, Authenticated, Selected, LoggedOut}
 use Rattle.imap_commands.proofs.PrintAsked.{capability_printable, enable_printable, idle_printable, list_printable, logout_printable, namespace_printable, status_printable}
@@ -35,10 +27,10 @@ use Rattle.uid_projection.specs.declared.start.Start.{Start}
 use Rattle.uid_projection.specs.Incarnations.{is_there, uidvalidity_of}
 use Rattle.uid_projection.specs.Lines.{highest_modseq_of, uidnext_of}
 use Rattle.uid_projection.specs.Listing.{listing}
-use Rattle.imap_node.specs.Commands.{Tells, highest_of, highest_told, is_idle, is_selected, moves_to, notice, tells_selected, turns_on, word_of}
+use Rattle.imap_node.specs.Commands.{Tells, highest_of, highest_told, is_idle, is_selected, moves_to, notice, tells_selected, turns_on}
 use Rattle.imap_node.specs.Endings.{Course, Ending, answers_of_course, ending, ending_of}
 use Rattle.imap_node.specs.Mailboxes.{marks_of, rows_for, validity_of}
-use Rattle.imap_node.specs.Printing.{IsAnswerableIn, IsShowable, LandsAll, SeesNumbered}
+use Rattle.imap_node.specs.Printing.{IsShowable, SeesNumbered}
 use Rattle.imap_node.specs.Respond.{tail_of}
 use Rattle.imap_node.proofs.ShownLemmas.{folders_folded, highest_nonzero, listing_showable, marks_nonzero, next_nonzero, rows_showable, shown_before, subscriptions_folded, validity_nonzero}
 
@@ -53,6 +45,14 @@ NamesThere after (commands.Append name flags date text) state = is_there name af
 NamesThere after (commands.Copy by_uid set name) (Selected view read_only) = is_there name after ≡ true
 NamesThere after (commands.Move by_uid set name) (Selected view read_only) = is_there name after ≡ true
 NamesThere after _ _ = Unit {0}
+
+-- where messages are copied, as many come into the destination
+abbrev pub LandsAll : Start → List Op → List Op → State → Command → Type 0
+LandsAll start before after (Selected view read_only) (commands.Copy by_uid set name) =
+    AreAsMany (rows_for start before view) view.entries by_uid set (uidnext_of start name before) (listing start name after)
+LandsAll start before after (Selected view read_only) (commands.Move by_uid set name) =
+    AreAsMany (rows_for start before view) view.entries by_uid set (uidnext_of start name before) (listing start name after)
+LandsAll start before after _ _ = Unit {0}
 
 nothing_printable : IsPrintableTelling nothing_told
 nothing_printable = record { own = tt; code = tt }

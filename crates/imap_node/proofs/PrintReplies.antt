@@ -1,6 +1,8 @@
-use Rattle.std.proofs.Common.{◌≡◌, ◌⊎◌, inl, inr, ℕ, Bool, true, false, List, [], ◌∷◌, ◌++◌, Option, Some, None, nat_eq, refl, sym, ap, ◌∙◌, subst, map, if◌then◌else◌}
-use Rattle.std.specs.Prelude.{nat_lt, length, Result, Ok, Err}
-use Rattle.std.specs.List.{list_all}
+use Rattle.std.proofs.Common.{◌≡◌, inl, inr, ℕ, List, [], ◌∷◌, ◌++◌, ◌≤◌, arith, Option, Some, None, nat_eq, sym, ap, ◌∙◌, subst, map, if◌then◌else◌}
+use Rattle.std.specs.Prelude.{nat_lt, length, Ok}
+use Rattle.std.specs.List.{filter, list_all}
+use Rattle.crdt_ops.proofs.Presence.{Has}
+use Rattle.uid_projection.specs.Lines.{uidnext_of}
 use Rattle.std.proofs.lemmas.Bool.{cases_Bool}
 use Rattle.merge_laws.specs.Orders.{IsIn}
 use Rattle.crdt_ops.specs.declared.kind.Kind.{Kind}
@@ -13,9 +15,7 @@ use Rattle.imap_answers.specs.declared.words.Refusal.{Refusal}
 use Rattle.imap_answers.specs.Printable.{Each, IsPrintable, IsTag, IsWide, Where}
 use Rattle.imap_commands.specs.Appending.{given_date}
 use Rattle.imap_commands.specs.Copying.{appends_of, removals_of}
-use Rattle.imap_commands.specs.Issued.{AreIssuable, HaveLawfulFlags, IsIssuable}
-use Rattle.imap_commands.specs.Printing.{IsAnswerable, IsPrintableTelling}
-use Rattle.imap_commands.specs.Told.{Telling}
+use Rattle.imap_commands.specs.Issued.{HaveLawfulFlags, IsIssuable}
 use Rattle.imap_commands.specs.declared.session.Session.{Session}
 use Rattle.imap_commands.specs.declared.session.State.{State}
 use Rattle.imap_commands.specs.declared.session.State.TheVariants.{NotAuthenticated, Authenticated, Selected, LoggedOut}
@@ -36,19 +36,20 @@ use Rattle.uid_projection.specs.declared.start.Start.{Start}
 use Rattle.uid_projection.specs.Applied.{IsApplied}
 use Rattle.uid_projection.specs.Incarnations.{is_there, uidvalidity_of}
 use Rattle.uid_projection.specs.Listing.{listing}
-use Rattle.uid_projection.proofs.ListingLaws.{flags_lawful}
+use Rattle.uid_projection.proofs.ListingLaws.{flags_lawful, names_applied}
 use Rattle.imap_node.specs.declared.input.Input.{Input}
 use Rattle.imap_node.specs.declared.input.Input.TheVariants as inputs
-use Rattle.imap_node.specs.Commands.{is_idle, is_known, moves_to, notice, wants}
+use Rattle.imap_node.specs.Commands.{is_idle, is_known, notice, wants}
 use Rattle.imap_node.specs.Endings.{Course, answers_of_course}
 use Rattle.imap_node.specs.Mailboxes.{rows_for}
 use Rattle.imap_node.specs.Nodes.{NodeState}
-use Rattle.imap_node.specs.Printing.{IsAnswerableIn, IsAnsweredWell, IsShowable, LandsAll, SeesNumbered}
-use Rattle.imap_node.specs.Respond.{Carries, begun, course_of, ends_idling, idle_tail, idling_after, is_on, leaves, left, session_after, synced_course, tail_of}
-use Rattle.imap_node.proofs.PrintLemmas.{NamesThere, course_well, moved_numbered, notice_printable, tail_printable, tells_printable}
+use Rattle.imap_node.specs.Printing.{IsAnswerableIn, IsAnsweredWell, IsShowable, SeesNumbered}
+use Rattle.imap_node.specs.Respond.{Carries, begun, course_of, ends_idling, idle_tail, is_on, leaves, left, session_after, synced_course}
+use Rattle.imap_node.proofs.PrintLemmas.{LandsAll, NamesThere, course_well, moved_numbered, notice_printable, tail_printable, tells_printable}
 use Rattle.imap_node.specs.Sessions.{with_session}
-use Rattle.imap_node.proofs.ShownLemmas.{shown_before}
-use Rattle.imap_node.proofs.ThereLemmas.{IsNoDelete, append_there, copy_there, move_there, stays_there, wanted_there}
+use Rattle.imap_node.proofs.LandingLemmas.{IsCopying, appends_copying, appends_counted, appends_to, copies_landed, more_counted, removals_copying, removals_counted}
+use Rattle.imap_node.proofs.ShownLemmas.{next_nonzero, shown_before}
+use Rattle.imap_node.proofs.ThereLemmas.{IsNoDelete, append_there, copy_is, copy_there, move_is, move_there, stays_there, wanted_there}
 
 -- ---- the mailbox that a command names is there behind it
 
@@ -109,6 +110,50 @@ module _ (start : Start) (before issued : List Op) (stamp : List ℕ) (wanted : 
   names_there (commands.Move by_uid set name) LoggedOut w = tt
   names_there _ state w = tt
 
+-- ---- as many come into the destination as are copied
+
+under_has : (before : List Op) (uidvalidity : ℕ) (now : Option ℕ) (rows : List Listed) → ((row : Listed) → IsIn row rows → Has before row.id) → (row : Listed) → IsIn row (rows_under uidvalidity now rows) → Has before row.id
+under_has before uidvalidity None rows h = λ row i. absurd i
+under_has before uidvalidity (Some now) rows h =
+    elim (cases_Bool (nat_eq now uidvalidity)) [
+      | inl t ↦ rw t h
+      | inr f ↦ rw f (λ row i. absurd i)
+    ]
+
+rows_had : (start : Start) (ops : List Op) (view : Seen) → IsApplied ops → (row : Listed) → IsIn row (rows_for start ops view) → Has ops row.id
+rows_had start ops view a = under_has ops view.uidvalidity (uidvalidity_of start view.name ops) (listing start view.name ops) (λ row i. (names_applied start view.name ops row a i).0)
+
+module _ (start : Start) (before issued : List Op) (stamp : List ℕ) (wanted : List Kind) (p : IsShowable start (before ++ issued)) (m : map (λ (o : Op). o.kind) issued ≡ wanted) where
+  at_least : (name : List ℕ) → 1 ≤ uidnext_of start name before
+  at_least name = let n = (next_nonzero start name before (shown_before start before issued p)).0 in omega (arith, n)
+
+  pub lands_all : (state : State) (command : Command) → wants start before stamp state command ≡ Ok wanted → LandsAll start before (before ++ issued) state command
+  lands_all (NotAuthenticated credentials) command w = tt
+  lands_all Authenticated command w = tt
+  lands_all LoggedOut command w = tt
+  lands_all (Selected view read_only) (commands.Copy by_uid set name) w =
+      let rows = rows_for start before view in
+      let numbers = resolved by_uid set view.entries in
+      let appends = appends_of name rows view.entries numbers in
+      let t = copy_there (is_in_range by_uid set view.entries) (is_there name before) appends wanted w in
+      let is = copy_is (is_in_range by_uid set view.entries) (is_there name before) appends wanted w in
+      copies_landed start name before issued wanted rows view.entries by_uid set (at_least name) p.lasting.applied t m (subst (Each (IsCopying before)) (sym is) (appends_copying before name rows view.entries numbers))
+      (ap (λ ks. length (filter (appends_to name) ks)) is ∙ appends_counted name rows view.entries numbers)
+  lands_all (Selected view read_only) (commands.Move by_uid set name) w =
+      let rows = rows_for start before view in
+      let numbers = resolved by_uid set view.entries in
+      let appends = appends_of name rows view.entries numbers in
+      let removals = removals_of view.name rows view.entries numbers in
+      let t = move_there (is_in_range by_uid set view.entries) read_only (is_there name before) (appends ++ removals) wanted w in
+      let is = move_is (is_in_range by_uid set view.entries) read_only (is_there name before) (appends ++ removals) wanted w in
+      let had = rows_had start before view (shown_before start before issued p).lasting.applied in
+      let copying = each_append (IsCopying before) appends removals (appends_copying before name rows view.entries numbers) (removals_copying before view.name rows view.entries numbers had) in
+      let both = ap (λ ks. length (filter (appends_to name) ks)) is ∙ more_counted (appends_to name) appends removals in
+      let one = appends_counted name rows view.entries numbers in
+      let none = removals_counted view.name name rows view.entries numbers in
+      copies_landed start name before issued wanted rows view.entries by_uid set (at_least name) p.lasting.applied t m (subst (Each (IsCopying before)) (sym is) copying) (omega (arith, both, one, none))
+  lands_all (Selected view read_only) _ w = tt
+
 -- ---- replies
 
 begun_tag : (tagged : Tagged) → IsTag tagged.tag → Where IsTag (begun tagged)
@@ -148,14 +193,14 @@ module _ (old new : NodeState) (n : ℕ) (session : Session) (answers : List Ans
         answerable = record { state = w.sees; idling = s.idling };
       }
 
-  pub command_answered : (moment : ℕ) (tagged : Tagged) (octets : List ℕ) → IsSpelled tagged octets → IsWide (length octets) → LandsAll old.start old.applied new.applied session.state tagged.command
+  pub command_answered : (moment : ℕ) (tagged : Tagged) (octets : List ℕ) → IsSpelled tagged octets → IsWide (length octets)
       → Carries old n session (inputs.Command moment tagged) answers silent issued new → IsAnsweredWell old.sessions n answers new.sessions
-  command_answered moment tagged octets spelled wide lands c =
+  command_answered moment tagged octets spelled wide c =
       let input = inputs.Command moment tagged in
       let shown = shown_after input c in
       let after = old.applied ++ issued in
       let g = spelled_answerable tagged octets spelled wide in
-      let landed = subst (λ (ops : List Op). LandsAll old.start old.applied ops session.state tagged.command) c.becomes.applied lands in
+      let landed = lands_all old.start old.applied issued c.stamp c.kinds shown c.next.of_kinds session.state tagged.command c.wanted in
       let first = shown_before old.start old.applied issued shown in
       let there = names_there old.start old.applied issued c.stamp c.kinds shown.lasting.applied first.lasting.applied c.next.of_kinds tagged.command session.state c.wanted in
       let told = c.taken.0 in

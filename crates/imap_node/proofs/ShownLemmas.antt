@@ -1,11 +1,10 @@
 use Rattle.std.specs.Str.{bytes_eq}
 use Rattle.std.specs.List.{list_all, list_any}
 use Rattle.std.specs.Option.{unwrap_or}
-use Rattle.std.proofs.Common.{◌≡◌, ◌⊎◌, inl, inr, ℕ, ◌+◌, ◌*◌, ◌<◌, ◌≤◌, Bool, true, false, not, ◌&&◌, ◌||◌, ◌==◌, List, [], ◌∷◌, ◌++◌, length, length-append, Option, Some, None, nat_eq, refl, sym, ap, ◌∙◌, subst, append_assoc, append-nil, arith}
+use Rattle.std.proofs.Common.{◌≡◌, inl, inr, ℕ, ◌+◌, ◌*◌, true, not, List, [], ◌∷◌, ◌++◌, length-append, Option, Some, None, nat_eq, refl, sym, ap, ◌∙◌, subst, append_assoc, arith}
 use Rattle.std.proofs.lemmas.Bool.{and_parts, cases_Bool, false≢true}
-use Rattle.std.proofs.lemmas.Slice.Eq.{bytes_eq-Decides}
-use Rattle.imap_answers.specs.Printable.{Each, IsAtom, IsFolded, IsModSeq, IsNonzero, IsWide}
-use Rattle.imap_types.specs.Names.{IsLawfulName, inbox}
+use Rattle.imap_answers.specs.Printable.{Each, IsAtom, IsFolded, IsModSeq, IsNonzero}
+use Rattle.imap_types.specs.Names.{inbox}
 use Rattle.mail_listing.specs.Listed.{Listed}
 use Rattle.merge_laws.specs.Orders.{AreSound, IsIn}
 use Rattle.merge_laws.proofs.Lists.{in_front}
@@ -25,8 +24,6 @@ use Rattle.imap_commands.specs.Printing.{AreNonzeroMarks, AreShowable}
 use Rattle.imap_commands.specs.Printing.{IsShowable as IsRowShowable}
 use Rattle.imap_commands.proofs.PrintSelected.{each_of}
 use Rattle.uid_projection.specs.declared.start.Start.{Start}
-use Rattle.uid_projection.specs.Applied.{IsApplied}
-use Rattle.uid_projection.specs.Exhaustion.{Exhausts}
 use Rattle.uid_projection.specs.Incarnations.{is_there, k_of, uidvalidity_of}
 use Rattle.uid_projection.specs.Lines.{uidnext_of}
 use Rattle.uid_projection.specs.Listing.{listing}

@@ -38,7 +38,7 @@ own_tag name id (kinds.Unsubscribe folder seen) k h = absurd (false≢true h)
 added_there : (ops : List Op) (o : Op) (t : Tag) → IsApplied (ops ++ o ∷ []) → adds t o ≡ true → is_present (ops ++ o ∷ []) t ≡ true
 added_there ops o t a e = presence_step ops o t a ∙ ap (λ b. b || (not (removes t o) && is_present ops t)) e
 
-kept_one : (name : List ℕ) (ops : List Op) (o : Op) → IsApplied (ops ++ o ∷ []) → IsNoDelete o.kind → is_there name ops ≡ true → is_there name (ops ++ o ∷ []) ≡ true
+pub kept_one : (name : List ℕ) (ops : List Op) (o : Op) → IsApplied (ops ++ o ∷ []) → IsNoDelete o.kind → is_there name ops ≡ true → is_there name (ops ++ o ∷ []) ≡ true
 kept_one name ops o a k t =
     elim (cases_Bool (concerns_by name o.kind)) [
       | inl about ↦ elim (own_tag name o.id o.kind k about) [
@@ -55,7 +55,7 @@ kept_all name (o ∷ more) ops a k t =
     let b : IsApplied ((ops ++ o ∷ []) ++ more) = subst IsApplied (sym same) a in
     ap (is_there name) (sym same) ∙ kept_all name more (ops ++ o ∷ []) b (λ p i. k p (inr i)) (kept_one name ops o (applied_front (ops ++ o ∷ []) more b) (k o (inl refl)) t)
 
-mapped_in : (ops : List Op) (o : Op) → IsIn o ops → IsIn o.kind (map (λ (x : Op). x.kind) ops)
+pub mapped_in : (ops : List Op) (o : Op) → IsIn o ops → IsIn o.kind (map (λ (x : Op). x.kind) ops)
 mapped_in [] o i = absurd i
 mapped_in (x ∷ ops) o i = elim i [ inl e ↦ inl (ap (λ (x : Op). x.kind) e) | inr t ↦ inr (mapped_in ops o t) ]
 
@@ -96,3 +96,15 @@ move_there true false true kinds wanted e = refl
 move_there true false false kinds wanted e = absurd cc
 move_there true true there kinds wanted e = absurd cc
 move_there false read_only there kinds wanted e = absurd cc
+
+-- and what they issue
+pub copy_is : (in_range there : Bool) (appends wanted : List Kind) → ◌≡◌ {A = Wanted} (if not in_range then Err NoSuchMessage else (if not there then Err NoDestination else Ok appends)) (Ok wanted) → wanted ≡ appends
+copy_is true true appends wanted e = cc
+copy_is true false appends wanted e = absurd cc
+copy_is false there appends wanted e = absurd cc
+
+pub move_is : (in_range read_only there : Bool) (kinds wanted : List Kind) → ◌≡◌ {A = Wanted} (if not in_range then Err NoSuchMessage else (if read_only then Err ReadOnly else (if not there then Err NoDestination else Ok kinds))) (Ok wanted) → wanted ≡ kinds
+move_is true false true kinds wanted e = cc
+move_is true false false kinds wanted e = absurd cc
+move_is true true there kinds wanted e = absurd cc
+move_is false read_only there kinds wanted e = absurd cc

@@ -2,18 +2,12 @@ use Rattle.std.specs.Prelude.{◌≡◌, ℕ, ◌+◌, List, length, Some}
 use Rattle.crdt_ops.specs.declared.op.Op.{Op}
 use Rattle.imap_answers.specs.declared.answer.Answer.{Answer}
 use Rattle.imap_answers.specs.Printable.{Each, IsPrintable, IsTag, IsWide, Where}
-use Rattle.imap_commands.specs.Printing.{AreAsMany, IsNumbered}
+use Rattle.imap_commands.specs.Printing.{IsNumbered}
 use Rattle.imap_commands.specs.declared.session.Session.{Session}
 use Rattle.imap_commands.specs.declared.session.State.{State}
 use Rattle.imap_commands.specs.declared.session.State.TheVariants.{Selected}
-use Rattle.imap_grammar.specs.declared.command.Command.{Command}
-use Rattle.imap_grammar.specs.declared.command.Command.TheVariants as commands
 use Rattle.uid_projection.specs.declared.start.Start.{Start}
 use Rattle.uid_projection.specs.Bounds.{AreWritable, IsLasting, IsLawfulStart}
-use Rattle.uid_projection.specs.Lines.{uidnext_of}
-use Rattle.uid_projection.specs.Listing.{listing}
-use Rattle.imap_node.specs.Mailboxes.{rows_for}
-use Rattle.imap_node.specs.Nodes.{NodeState}
 use Rattle.imap_node.specs.Sessions.{Places, with_session}
 
 -- What a node has applied can be shown: its counters began lawfully and none was at its end, and its operations can be written and counted.
@@ -32,14 +26,6 @@ SeesNumbered _ = Unit {0}
 pub record IsAnswerableIn (session : Session) : Type 0 where
   pub state : SeesNumbered session.state
   pub idling : Where IsTag session.idling
-
--- Where messages are copied, as many come into the destination (RFC 9051, section 7.1, COPYUID).
-abbrev pub LandsAll : Start → List Op → List Op → State → Command → Type 0
-LandsAll start before after (Selected view read_only) (commands.Copy by_uid set name) =
-    AreAsMany (rows_for start before view) view.entries by_uid set (uidnext_of start name before) (listing start name after)
-LandsAll start before after (Selected view read_only) (commands.Move by_uid set name) =
-    AreAsMany (rows_for start before view) view.entries by_uid set (uidnext_of start name before) (listing start name after)
-LandsAll start before after _ _ = Unit {0}
 
 -- All answers can be printed, and the session that is left can be answered again.
 pub record IsAnsweredWell (old : Places) (n : ℕ) (answers : List Answer) (new : Places) : Type 0 where

@@ -13,7 +13,7 @@ ghost use Rattle.imap_grammar.specs.declared.command.Tagged.{Tagged as Asked};
 ghost use Rattle.imap_grammar.specs.declared.idle.IdleLine.{IdleLine as OneLine};
 ghost use Rattle.imap_commands.specs.Printing.{AreShowable};
 ghost use Rattle.imap_node.specs.Mailboxes.{rows_for};
-ghost use Rattle.imap_node.specs.Printing.{IsAnswerableIn, IsAnsweredWell, IsShowable, LandsAll};
+ghost use Rattle.imap_node.specs.Printing.{IsAnswerableIn, IsAnsweredWell, IsShowable};
 ghost use Rattle.imap_node.specs.Nodes.{NodeState};
 ghost use Rattle.imap_node.specs.Respond.{Carries, left};
 ghost use Rattle.imap_node.specs.declared.input.Input.{Input as OneInput};
@@ -31,11 +31,10 @@ pub fn listings_are_showable()
 
 /// Whatever a session sends, it is answered by answers that can be printed, so that the reader of answers finds them again: the answers
 /// to a command that a frame spells, to a line while it idles, and to a poll, as long as what the node has applied can be shown and the
-/// session can be answered. The session that is left can be answered again. Of COPY and MOVE it is taken here that as many messages come
-/// into the destination as are copied. And where an input is refused, its tagged line can be printed, and CLOSED in front of it.
+/// session can be answered. The session that is left can be answered again. And where an input is refused, its tagged line can be printed, and CLOSED in front of it.
 pub fn answers_are_printable()
     ensures commands { (old new : NodeState) (n : ℕ) (session : OneSession) (answers : List OneAnswer) (silent : List Set) (issued : List Operation) → IsAnswerableIn session → IsShowable old.start new.applied
-        → (moment : ℕ) (tagged : Asked) (octets : List ℕ) → IsSpelled tagged octets → IsWide (length octets) → LandsAll old.start old.applied new.applied session.state tagged.command
+        → (moment : ℕ) (tagged : Asked) (octets : List ℕ) → IsSpelled tagged octets → IsWide (length octets)
         → Carries old n session (inputs.Command moment tagged) answers silent issued new → IsAnsweredWell old.sessions n answers new.sessions }
     ensures lines { (old new : NodeState) (n : ℕ) (session : OneSession) (answers : List OneAnswer) (silent : List Set) (issued : List Operation) → IsAnswerableIn session → IsShowable old.start new.applied
         → (line : OneLine) → Carries old n session (inputs.Line line) answers silent issued new → IsAnsweredWell old.sessions n answers new.sessions }
