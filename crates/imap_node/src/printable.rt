@@ -30,8 +30,9 @@ pub fn listings_are_showable()
 {}
 
 /// Whatever a session sends, it is answered by answers that can be printed, so that the reader of answers finds them again: the answers
-/// to a command that a frame spells, to a line while it idles, and to a poll, as long as what the node has applied can be shown and the
-/// session can be answered. The session that is left can be answered again. And where an input is refused, its tagged line can be printed, and CLOSED in front of it.
+/// to a command that a frame spells, to a line while it idles, and to a poll, as long as what the node has applied then can be shown and
+/// the session can be answered. The session that is left can be answered again, also by a refusal. And where a command is refused, its
+/// tagged line can be printed, and CLOSED in front of it.
 pub fn answers_are_printable()
     ensures commands { (old new : NodeState) (n : ℕ) (session : OneSession) (answers : List OneAnswer) (silent : List Set) (issued : List Operation) → IsAnswerableIn session → IsShowable old.start new.applied
         → (moment : ℕ) (tagged : Asked) (octets : List ℕ) → IsSpelled tagged octets → IsWide (length octets)
