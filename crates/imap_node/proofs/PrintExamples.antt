@@ -3,14 +3,14 @@ use Rattle.crdt_ops.specs.declared.op.Op.{Op}
 use Rattle.imap_types.specs.declared.flags.Flags.{Flags}
 use Rattle.imap_commands.specs.declared.session.State.TheVariants.{Selected}
 use Rattle.uid_projection.proofs.Coming.{none_exhausted}
-use Rattle.imap_node.specs.Printing.{IsAnswerableIn, IsShowable}
+use Rattle.imap_node.specs.Printing.{IsAnswerableIn, IsPresentable}
 
 -- a node that has applied nothing can be shown
 no_cut : (front : List Op) (o : Op) (back : List Op) → [] ≡ front ++ o ∷ back → ⊥
 no_cut [] o back e = cc
 no_cut (x ∷ front) o back e = cc
 
-pub fresh_shown : IsShowable (record { replica = 1; uid = 1; k = 1 }) []
+pub fresh_shown : IsPresentable (record { replica = 1; uid = 1; k = 1 }) []
 fresh_shown = record {
   lawful = record { named = omega arith; replica = omega arith; first = omega arith; uid = omega arith };
   lasting = record {

@@ -30,7 +30,7 @@ use Rattle.uid_projection.specs.Listing.{listing}
 use Rattle.imap_node.specs.Commands.{Tells, highest_of, highest_told, is_idle, is_selected, moves_to, notice, tells_selected, turns_on}
 use Rattle.imap_node.specs.Endings.{Course, Ending, answers_of_course, ending, ending_of}
 use Rattle.imap_node.specs.Mailboxes.{marks_of, rows_for, validity_of}
-use Rattle.imap_node.specs.Printing.{IsShowable, SeesNumbered}
+use Rattle.imap_node.specs.Printing.{IsPresentable, SeesNumbered}
 use Rattle.imap_node.specs.Respond.{tail_of}
 use Rattle.imap_node.proofs.ShownLemmas.{folders_folded, highest_nonzero, listing_showable, marks_nonzero, next_nonzero, rows_showable, shown_before, subscriptions_folded, validity_nonzero}
 
@@ -63,8 +63,8 @@ selected_printable Authenticated tell v h = nothing_printable
 selected_printable (Selected view read_only) tell v h = h view read_only v
 selected_printable LoggedOut tell v h = nothing_printable
 
-module _ (start : Start) (before issued : List Op) (p : IsShowable start (before ++ issued)) where
-  before_shown : IsShowable start before
+module _ (start : Start) (before issued : List Op) (p : IsPresentable start (before ++ issued)) where
+  before_shown : IsPresentable start before
   before_shown = shown_before start before issued p
 
   pub tells_printable : (command : Command) (state : State) (modseq : Bool) (tag : List ℕ) (told : Telling) → IsTag tag → IsAnswerable command → SeesNumbered state → NamesThere (before ++ issued) command state
@@ -125,13 +125,13 @@ highest_printable : (uidvalidity : ℕ) (now : Option ℕ) (highest : ℕ) → I
 highest_printable uidvalidity None highest h = tt
 highest_printable uidvalidity (Some now) highest h = elim (cases_Bool (nat_eq now uidvalidity)) [ inl t ↦ rw t (h, tt) | inr f ↦ rw f tt ]
 
-state_highest : (start : Start) (ops : List Op) (state : State) → IsShowable start ops → Each IsPrintable (highest_of start ops state)
+state_highest : (start : Start) (ops : List Op) (state : State) → IsPresentable start ops → Each IsPrintable (highest_of start ops state)
 state_highest start ops (Selected view read_only) p = highest_printable view.uidvalidity (uidvalidity_of start view.name ops) (highest_modseq_of view.name ops) (highest_nonzero start view.name ops p)
 state_highest start ops (NotAuthenticated credentials) p = tt
 state_highest start ops Authenticated p = tt
 state_highest start ops LoggedOut p = tt
 
-pub notice_printable : (start : Start) (ops : List Op) (state : State) (condstore : Bool) (command : Command) → IsShowable start ops → Each IsPrintable (notice start ops state condstore command)
+pub notice_printable : (start : Start) (ops : List Op) (state : State) (condstore : Bool) (command : Command) → IsPresentable start ops → Each IsPrintable (notice start ops state condstore command)
 notice_printable start ops state condstore command p =
     elim (cases_Bool (turns_on condstore command)) [ inl t ↦ rw t (state_highest start ops state p) | inr f ↦ rw f tt ]
 
@@ -153,7 +153,7 @@ record EndsWell (end : Ending) : Type 0 where
   printable : Each IsPrintable end.answers
   sees : SeesNumbered end.state
 
-ends_well : (start : Start) (ops : List Op) (sync : Option SyncKind) (modseq : Bool) (state : State) (silent : List Silent) (own : List Answer) → IsShowable start ops → SeesNumbered state → EndsWell (ending start ops sync modseq state silent own)
+ends_well : (start : Start) (ops : List Op) (sync : Option SyncKind) (modseq : Bool) (state : State) (silent : List Silent) (own : List Answer) → IsPresentable start ops → SeesNumbered state → EndsWell (ending start ops sync modseq state silent own)
 ends_well start ops sync modseq (NotAuthenticated credentials) silent own p v = record { printable = tt; sees = tt }
 ends_well start ops sync modseq Authenticated silent own p v = record { printable = tt; sees = tt }
 ends_well start ops sync modseq LoggedOut silent own p v = record { printable = tt; sees = tt }
@@ -175,7 +175,7 @@ pub record IsCourseWell (start : Start) (ops : List Op) (course : Course) : Type
   pub printable : Each IsPrintable (answers_of_course start ops course)
   pub sees : SeesNumbered (ending_of start ops course).state
 
-pub course_well : (start : Start) (ops : List Op) (course : Course) → IsShowable start ops → Each IsPrintable course.own → Each IsPrintable course.tail → SeesNumbered course.state → IsCourseWell start ops course
+pub course_well : (start : Start) (ops : List Op) (course : Course) → IsPresentable start ops → Each IsPrintable course.own → Each IsPrintable course.tail → SeesNumbered course.state → IsCourseWell start ops course
 course_well start ops course p own tail v =
     let e = ends_well start ops course.sync course.modseq course.state course.silent course.own p v in
     record {

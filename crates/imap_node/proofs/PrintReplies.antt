@@ -43,7 +43,7 @@ use Rattle.imap_node.specs.Commands.{is_idle, is_known, notice, wants}
 use Rattle.imap_node.specs.Endings.{Course, answers_of_course}
 use Rattle.imap_node.specs.Mailboxes.{rows_for}
 use Rattle.imap_node.specs.Nodes.{NodeState}
-use Rattle.imap_node.specs.Printing.{IsAnswerableIn, IsAnsweredWell, IsShowable, SeesNumbered}
+use Rattle.imap_node.specs.Printing.{IsAnswerableIn, IsAnsweredWell, IsPresentable, SeesNumbered}
 use Rattle.imap_node.specs.Respond.{Carries, begun, course_of, ends_idling, idle_tail, is_on, leaves, left, session_after, synced_course}
 use Rattle.imap_node.proofs.PrintLemmas.{LandsAll, NamesThere, course_well, moved_numbered, notice_printable, tail_printable, tells_printable}
 use Rattle.imap_node.specs.Sessions.{with_session}
@@ -123,7 +123,7 @@ under_has before uidvalidity (Some now) rows h =
 rows_had : (start : Start) (ops : List Op) (view : Seen) → IsApplied ops → (row : Listed) → IsIn row (rows_for start ops view) → Has ops row.id
 rows_had start ops view a = under_has ops view.uidvalidity (uidvalidity_of start view.name ops) (listing start view.name ops) (λ row i. (names_applied start view.name ops row a i).0)
 
-module _ (start : Start) (before issued : List Op) (stamp : List ℕ) (wanted : List Kind) (p : IsShowable start (before ++ issued)) (m : map (λ (o : Op). o.kind) issued ≡ wanted) where
+module _ (start : Start) (before issued : List Op) (stamp : List ℕ) (wanted : List Kind) (p : IsPresentable start (before ++ issued)) (m : map (λ (o : Op). o.kind) issued ≡ wanted) where
   at_least : (name : List ℕ) → 1 ≤ uidnext_of start name before
   at_least name = let n = (next_nonzero start name before (shown_before start before issued p)).0 in omega (arith, n)
 
@@ -163,9 +163,9 @@ idle_printable : (idling : Option (List ℕ)) → Where IsTag idling → Each Is
 idle_printable None h = tt
 idle_printable (Some tag) h = ((h, tt), tt)
 
-module _ (old new : NodeState) (n : ℕ) (session : Session) (answers : List Answer) (silent : List Silent) (issued : List Op) (s : IsAnswerableIn session) (p : IsShowable old.start new.applied) where
-  shown_after : (input : Input) → Carries old n session input answers silent issued new → IsShowable old.start (old.applied ++ issued)
-  shown_after input c = subst (IsShowable old.start) c.becomes.applied p
+module _ (old new : NodeState) (n : ℕ) (session : Session) (answers : List Answer) (silent : List Silent) (issued : List Op) (s : IsAnswerableIn session) (p : IsPresentable old.start new.applied) where
+  shown_after : (input : Input) → Carries old n session input answers silent issued new → IsPresentable old.start (old.applied ++ issued)
+  shown_after input c = subst (IsPresentable old.start) c.becomes.applied p
 
   pub line_answered : (line : IdleLine) → Carries old n session (inputs.Line line) answers silent issued new → IsAnsweredWell old.sessions n answers new.sessions
   line_answered line c =

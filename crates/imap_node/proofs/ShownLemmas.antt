@@ -31,7 +31,7 @@ use Rattle.uid_projection.proofs.BoundLemmas.{bounds, rows_written}
 use Rattle.uid_projection.proofs.Noted.{validity_inbox, validity_there}
 use Rattle.uid_projection.proofs.Presence.{applied_front}
 use Rattle.imap_node.specs.Mailboxes.{marks_of, rows_for, validity_of}
-use Rattle.imap_node.specs.Printing.{IsShowable}
+use Rattle.imap_node.specs.Printing.{IsPresentable}
 
 -- ---- listings
 
@@ -39,7 +39,7 @@ words_atoms : (keywords : List (List ℕ)) → list_all is_word keywords ≡ tru
 words_atoms [] h = tt
 words_atoms (keyword ∷ keywords) h = let both = and_parts (is_word keyword) (list_all is_word keywords) h in (both.0, words_atoms keywords both.1)
 
-pub listing_showable : (start : Start) (name : List ℕ) (ops : List Op) → IsShowable start ops → AreShowable (listing start name ops)
+pub listing_showable : (start : Start) (name : List ℕ) (ops : List Op) → IsPresentable start ops → AreShowable (listing start name ops)
 listing_showable start name ops p =
     let b = bounds start name ops p.lawful p.lasting in
     let count = p.count in
@@ -70,19 +70,19 @@ under_showable uidvalidity (Some now) rows h =
       | inr f ↦ rw f (record { each = tt; rising = tt })
     ]
 
-pub rows_showable : (start : Start) (ops : List Op) (view : Seen) → IsShowable start ops → AreShowable (rows_for start ops view)
+pub rows_showable : (start : Start) (ops : List Op) (view : Seen) → IsPresentable start ops → AreShowable (rows_for start ops view)
 rows_showable start ops view p = under_showable view.uidvalidity (uidvalidity_of start view.name ops) (listing start view.name ops) (listing_showable start view.name ops p)
 
 -- ---- a mailbox's numbers
 
-pub next_nonzero : (start : Start) (name : List ℕ) (ops : List Op) → IsShowable start ops → IsNonzero (uidnext_of start name ops)
+pub next_nonzero : (start : Start) (name : List ℕ) (ops : List Op) → IsPresentable start ops → IsNonzero (uidnext_of start name ops)
 next_nonzero start name ops p =
     let b = bounds start name ops p.lawful p.lasting in
     let first = b.uidnext_from in
     let last = b.uidnext in
     (omega (arith, first), omega (arith, last))
 
-validity_by : (start : Start) (name : List ℕ) (ops : List Op) (o : Option ℕ) (u : ℕ) → IsShowable start ops → uidvalidity_of start name ops ≡ o → o ≡ Some u → IsNonzero (unwrap_or o 0)
+validity_by : (start : Start) (name : List ℕ) (ops : List Op) (o : Option ℕ) (u : ℕ) → IsPresentable start ops → uidvalidity_of start name ops ≡ o → o ≡ Some u → IsNonzero (unwrap_or o 0)
 validity_by start name ops None u p e s = absurd (none s)
   where
     none : ◌≡◌ {A = Option ℕ} None (Some u) → ⊥
@@ -94,14 +94,14 @@ validity_by start name ops (Some v) u p e s =
     (omega (arith, first), omega (arith, last))
 
 -- a mailbox that is there has a UIDVALIDITY
-pub validity_nonzero : (start : Start) (name : List ℕ) (ops : List Op) → IsShowable start ops → is_there name ops ≡ true → IsNonzero (validity_of start name ops)
+pub validity_nonzero : (start : Start) (name : List ℕ) (ops : List Op) → IsPresentable start ops → is_there name ops ≡ true → IsNonzero (validity_of start name ops)
 validity_nonzero start name ops p t =
     elim (cases_Bool (bytes_eq name inbox)) [
       | inl own ↦ validity_by start name ops (uidvalidity_of start name ops) start.replica p refl (sym (validity_inbox start ops name own))
       | inr other ↦ validity_by start name ops (uidvalidity_of start name ops) (65536 * k_of start name ops + start.replica) p refl (sym (validity_there start ops name other t (k_of start name ops) refl))
     ]
 
-pub highest_nonzero : (start : Start) (name : List ℕ) (ops : List Op) → IsShowable start ops → IsModSeq (marks_of start name ops).highest_modseq
+pub highest_nonzero : (start : Start) (name : List ℕ) (ops : List Op) → IsPresentable start ops → IsModSeq (marks_of start name ops).highest_modseq
 highest_nonzero start name ops p =
     let b = bounds start name ops p.lawful p.lasting in
     let first = b.highest_from in
@@ -109,12 +109,12 @@ highest_nonzero start name ops p =
     let count = p.count in
     (omega (arith, first), omega (arith, last, count))
 
-pub marks_nonzero : (start : Start) (name : List ℕ) (ops : List Op) → IsShowable start ops → is_there name ops ≡ true → AreNonzeroMarks (marks_of start name ops)
+pub marks_nonzero : (start : Start) (name : List ℕ) (ops : List Op) → IsPresentable start ops → is_there name ops ≡ true → AreNonzeroMarks (marks_of start name ops)
 marks_nonzero start name ops p t = record { uidnext = next_nonzero start name ops p; uidvalidity = validity_nonzero start name ops p t; highest = highest_nonzero start name ops p }
 
 -- ---- what was there before
 
-pub shown_before : (start : Start) (ops more : List Op) → IsShowable start (ops ++ more) → IsShowable start ops
+pub shown_before : (start : Start) (ops more : List Op) → IsPresentable start (ops ++ more) → IsPresentable start ops
 shown_before start ops more p =
     let count = p.count in
     let l = length-append ops more in

@@ -11,7 +11,7 @@ use Rattle.uid_projection.specs.Bounds.{AreWritable, IsLasting, IsLawfulStart}
 use Rattle.imap_node.specs.Sessions.{Places, with_session}
 
 -- What a node has applied can be shown: its counters began lawfully and none was at its end, and its operations can be written and counted.
-pub record IsShowable (start : Start) (ops : List Op) : Type 0 where
+pub record IsPresentable (start : Start) (ops : List Op) : Type 0 where
   pub lawful : IsLawfulStart start
   pub lasting : IsLasting start ops
   pub writable : AreWritable ops
