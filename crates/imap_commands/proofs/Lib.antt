@@ -7,4 +7,13 @@ pub mod ChangingLemmas
 pub mod IssuedLemmas
 pub mod NamedLemmas
 pub mod PlaceLemmas
+pub mod PrintSelected
+pub mod PrintViews
+pub mod PrintFetched
+pub mod PrintStored
+pub mod PrintSynced
+pub mod PrintAsked
+pub mod PrintSearched
+pub mod PrintCopied
+pub mod PrintSpelled
 mod StoreExamples

@@ -21,19 +21,19 @@ use Rattle.imap_commands.specs.Told.{entry_at}
 abbrev pub least : Bool → ℕ → ℕ → ℕ
 least by_uid n low = if by_uid then low else n
 
-rising_lower : (low high : ℕ) (numbers : List ℕ) → low ≤ high → AreRisingFrom high numbers → AreRisingFrom low numbers
+pub rising_lower : (low high : ℕ) (numbers : List ℕ) → low ≤ high → AreRisingFrom high numbers → AreRisingFrom low numbers
 rising_lower low high [] l h = tt
 rising_lower low high (n ∷ numbers) l h = (omega (arith, h.0), h.1)
 
-least_lower : (by_uid : Bool) (n low uid : ℕ) → low ≤ uid → least by_uid n low ≤ least by_uid (n + 1) (uid + 1)
+pub least_lower : (by_uid : Bool) (n low uid : ℕ) → low ≤ uid → least by_uid n low ≤ least by_uid (n + 1) (uid + 1)
 least_lower true n low uid l = omega arith
 least_lower false n low uid l = omega arith
 
-least_first : (by_uid : Bool) (n low uid name : ℕ) → name ≡ (if by_uid then uid else n) → low ≤ uid → least by_uid n low ≤ name
+pub least_first : (by_uid : Bool) (n low uid name : ℕ) → name ≡ (if by_uid then uid else n) → low ≤ uid → least by_uid n low ≤ name
 least_first true n low uid name e l = omega (arith, e)
 least_first false n low uid name e l = omega (arith, e)
 
-least_next : (by_uid : Bool) (n uid name : ℕ) → name ≡ (if by_uid then uid else n) → least by_uid (n + 1) (uid + 1) ≡ name + 1
+pub least_next : (by_uid : Bool) (n uid name : ℕ) → name ≡ (if by_uid then uid else n) → least by_uid (n + 1) (uid + 1) ≡ name + 1
 least_next true n uid name e = ap (λ k. k + 1) (sym e)
 least_next false n uid name e = ap (λ k. k + 1) (sym e)
 

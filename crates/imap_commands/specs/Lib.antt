@@ -11,6 +11,7 @@ pub mod Issued
 pub mod Lawful
 pub mod Mailboxes
 pub mod Named
+pub mod Printing
 pub mod Searching
 pub mod Selecting
 pub mod Storing

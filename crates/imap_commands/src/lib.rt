@@ -17,6 +17,7 @@ mod issued;
 mod laws;
 mod mailboxes;
 mod named;
+mod printable;
 mod searching;
 mod selecting;
 mod session;
@@ -43,6 +44,12 @@ pub use issued::{
 pub use laws::{lawful_name_is, listed_keywords_are_borne, one_set_of_keywords};
 pub use mailboxes::{
     create_wants, created_name, delete_wants, is_lawful_name, subscribe_wants, unsubscribe_wants,
+};
+pub use printable::{
+    append_is_printable, constant_answers_are_printable, copies_are_printable, fetch_is_printable,
+    list_is_printable, search_is_printable, select_is_printable, spelled_commands_are_answerable,
+    status_is_printable, store_is_printable, sync_is_printable, uid_expunge_is_printable,
+    views_stay_numbered,
 };
 pub use searching::{search_tells, search_wants};
 pub use selecting::{select_tells, select_wants};

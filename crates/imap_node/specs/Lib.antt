@@ -6,5 +6,6 @@ pub mod Mailboxes
 pub mod Commands
 pub mod Endings
 pub mod Respond
+pub mod Printing
 pub mod Plans
 pub mod Deliveries

@@ -17,3 +17,4 @@ pub mod Noted
 pub mod LaterCharts
 pub mod LaterNumbers
 pub mod ListingLaws
+pub mod BoundLemmas

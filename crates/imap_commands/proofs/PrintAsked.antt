@@ -1,0 +1,174 @@
+use Rattle.std.proofs.Common.{◌≡◌, sym, subst, refl, arith, ℕ, ◌≤◌, ◌<◌, ◌⊎◌, inl, inr, Bool, true, false, ◌||◌, List, [], ◌∷◌, ◌++◌, length, map}
+use Rattle.std.specs.Prelude.{is_some, min}
+use Rattle.std.specs.List.{filter, sum_by}
+use Rattle.std.proofs.lemmas.Bool.{cases_Bool, false≢true}
+use Rattle.imap_answers.specs.declared.answer.Answer.{Answer}
+use Rattle.imap_answers.specs.Printable.{AreStatusItems, Each, IsFolded, IsModSeq, IsNonzero, IsPrintable, IsSmall, IsWide, Where, tells_of_mailbox}
+use Rattle.imap_answers.specs.declared.mailbox.StatusItems.{StatusItems}
+use Rattle.imap_grammar.specs.declared.status.StatusItem.{StatusItem}
+use Rattle.imap_grammar.specs.declared.status.StatusItem.TheVariants as item
+use Rattle.imap_grammar.specs.declared.flags.SystemFlag.TheVariants as system
+use Rattle.imap_query.specs.Listing.{AreListed}
+use Rattle.imap_query.specs.Messages.{is_flagged}
+use Rattle.imap_query.specs.Naming.{ShowsMatched, ShowsNames, name_answer, subscribed_answer}
+use Rattle.imap_query.specs.Patterns as patterns
+use Rattle.imap_query.specs.Status.{is_asked, size_of, status_of, where_asked}
+use Rattle.imap_query.specs.declared.listing.ListEntry.{ListEntry}
+use Rattle.imap_query.specs.declared.mailbox_status.Marks.{Marks}
+use Rattle.imap_query.specs.declared.naming.ListMode.{ListMode}
+use Rattle.imap_types.specs.Names.{folded_name, is_inbox}
+use Rattle.mail_listing.specs.Listed.{Listed}
+use Rattle.merge_laws.specs.Orders.{IsIn}
+use Rattle.imap_commands.specs.Asking.{ListTells, capability_tells, idle_tells, logout_tells, namespace_tells, status_tells}
+use Rattle.imap_commands.specs.Enabling.{enable_tells}
+use Rattle.imap_commands.specs.Printing.{AreNonzeroMarks, AreShowable, IsPrintableTelling}
+use Rattle.imap_commands.specs.Told.{Telling, only_told}
+use Rattle.imap_commands.proofs.PrintSelected.{each_in, each_of, rows_small}
+
+-- ---- answers alone
+
+pub only_printable : (answers : List Answer) → Each IsPrintable answers → IsPrintableTelling (only_told answers)
+only_printable answers h = record { own = h; code = tt }
+
+-- ---- LIST
+
+-- INBOX in capitals stays so
+pub folded_again : (name : List ℕ) → IsFolded (folded_name name)
+folded_again name =
+    elim (cases_Bool (is_inbox name)) [
+      | inl t ↦ rw t refl
+      | inr f ↦ rw (f, f) refl
+    ]
+
+in_list : {X : Type 0} (x : X) (xs : List X) → patterns.IsIn x xs → IsIn x xs
+in_list x [] h = absurd h
+in_list x (y ∷ ys) h = elim h [ inl e ↦ inl e | inr t ↦ inr (in_list x ys t) ]
+
+of_list : {X : Type 0} (x : X) (xs : List X) → IsIn x xs → patterns.IsIn x xs
+of_list x [] h = absurd h
+of_list x (y ∷ ys) h = elim h [ inl e ↦ inl e | inr t ↦ inr (of_list x ys t) ]
+
+each_mapped : {X Y : Type 0} (Q : X → Type 0) (P : Y → Type 0) (f : X → Y) (xs : List X) → ((x : X) → Q x → P (f x)) → Each Q xs → Each P (map f xs)
+each_mapped Q P f [] g h = tt
+each_mapped Q P f (x ∷ xs) g h = (g x h.0, each_mapped Q P f xs g h.1)
+
+entry_folded : (pattern : List ℕ) (folders : List (List ℕ)) (entries : List ListEntry) → Each IsFolded folders → AreListed folders pattern entries → (entry : ListEntry) → IsIn entry entries → IsFolded entry.name
+entry_folded pattern folders entries all h entry i =
+    elim (((h.exactly entry).0 (of_list entry entries i)).1) [
+      | inl m ↦ each_in IsFolded folders entry.name all (in_list entry.name folders m.1)
+      | inr l ↦ subst IsFolded (sym l.2.4) (folded_again l.2.0)
+    ]
+
+matched_printable : (only returned : Bool) (pattern : List ℕ) (folders subscriptions : List (List ℕ)) (answers : List Answer) → Each IsFolded folders → Each IsFolded subscriptions
+    → ShowsMatched only returned pattern folders subscriptions answers → Each IsPrintable answers
+matched_printable true returned pattern folders subscriptions answers f s h =
+    let names = h.0 in
+    let folded : Each IsFolded names = each_of IsFolded names (λ name i. each_in IsFolded subscriptions name s (in_list name subscriptions ((h.1.exactly name).0 (of_list name names i)).1)) in
+    subst (Each IsPrintable) (sym h.2) (each_mapped IsFolded IsPrintable (subscribed_answer folders) names (λ name k. k) folded)
+matched_printable false returned pattern folders subscriptions answers f s h =
+    let entries = h.0 in
+    let folded : Each (λ (entry : ListEntry). IsFolded entry.name) entries = each_of (λ (entry : ListEntry). IsFolded entry.name) entries (entry_folded pattern folders entries f h.1) in
+    subst (Each IsPrintable) (sym h.2) (each_mapped (λ (entry : ListEntry). IsFolded entry.name) IsPrintable (name_answer returned subscriptions) entries (λ entry k. k) folded)
+
+names_printable : (mode : ListMode) (reference pattern : List ℕ) (folders subscriptions : List (List ℕ)) (answers : List Answer) → Each IsFolded folders → Each IsFolded subscriptions
+    → ShowsNames mode reference pattern folders subscriptions answers → Each IsPrintable answers
+names_printable mode reference [] folders subscriptions answers f s h = subst (Each IsPrintable) (sym h) (refl, tt)
+names_printable mode reference (octet ∷ pattern) folders subscriptions answers f s h =
+    matched_printable mode.subscribed_only mode.return_subscribed (reference ++ octet ∷ pattern) folders subscriptions answers f s h
+
+pub list_printable : (mode : ListMode) (reference pattern : List ℕ) (folders subscriptions : List (List ℕ)) (told : Telling) → Each IsFolded folders → Each IsFolded subscriptions
+    → ListTells mode reference pattern folders subscriptions told → IsPrintableTelling told
+list_printable mode reference pattern folders subscriptions told f s h =
+    subst IsPrintableTelling (sym h.only) (only_printable told.own (names_printable mode reference pattern folders subscriptions told.own f s h.names))
+
+-- ---- STATUS
+
+abbrev IsOneOf : Bool → Bool → Bool → Bool → Bool → Bool → Bool → Type 0
+IsOneOf a b c d e f g = (a ≡ true) ⊎ ((b ≡ true) ⊎ ((c ≡ true) ⊎ ((d ≡ true) ⊎ ((e ≡ true) ⊎ ((f ≡ true) ⊎ (g ≡ true))))))
+
+any_of : (a b c d e f g : Bool) → IsOneOf a b c d e f g → (a || b || c || d || e || f || g) ≡ true
+any_of true b c d e f g h = refl
+any_of false true c d e f g h = refl
+any_of false false true d e f g h = refl
+any_of false false false true e f g h = refl
+any_of false false false false true f g h = refl
+any_of false false false false false true g h = refl
+any_of false false false false false false true h = refl
+any_of false false false false false false false h =
+    elim h [
+      | inl x ↦ absurd (false≢true x)
+      | inr s ↦ elim s [
+        | inl x ↦ absurd (false≢true x)
+        | inr t ↦ elim t [
+          | inl x ↦ absurd (false≢true x)
+          | inr u ↦ elim u [
+            | inl x ↦ absurd (false≢true x)
+            | inr v ↦ elim v [
+              | inl x ↦ absurd (false≢true x)
+              | inr w ↦ elim w [ inl x ↦ absurd (false≢true x) | inr x ↦ absurd (false≢true x) ]
+            ]
+          ]
+        ]
+      ]
+    ]
+
+mailbox_told : (told : StatusItems)
+    → IsOneOf (is_some told.messages) (is_some told.uidnext) (is_some told.uidvalidity) (is_some told.unseen) (is_some told.deleted) (is_some told.size) (is_some told.highest_modseq) → tells_of_mailbox told ≡ true
+mailbox_told told h = any_of (is_some told.messages) (is_some told.uidnext) (is_some told.uidvalidity) (is_some told.unseen) (is_some told.deleted) (is_some told.size) (is_some told.highest_modseq) h
+
+one_asked : (one : StatusItem) (items : List StatusItem) (marks : Marks) (rows : List Listed) → tells_of_mailbox (status_of (one ∷ items) marks rows) ≡ true
+one_asked item.Messages items marks rows = mailbox_told (status_of (item.Messages ∷ items) marks rows) (inl refl)
+one_asked item.UidNext items marks rows = mailbox_told (status_of (item.UidNext ∷ items) marks rows) (inr (inl refl))
+one_asked item.UidValidity items marks rows = mailbox_told (status_of (item.UidValidity ∷ items) marks rows) (inr (inr (inl refl)))
+one_asked item.Unseen items marks rows = mailbox_told (status_of (item.Unseen ∷ items) marks rows) (inr (inr (inr (inl refl))))
+one_asked item.Deleted items marks rows = mailbox_told (status_of (item.Deleted ∷ items) marks rows) (inr (inr (inr (inr (inl refl)))))
+one_asked item.Size items marks rows = mailbox_told (status_of (item.Size ∷ items) marks rows) (inr (inr (inr (inr (inr (inl refl))))))
+one_asked item.HighestModSeq items marks rows = mailbox_told (status_of (item.HighestModSeq ∷ items) marks rows) (inr (inr (inr (inr (inr (inr refl))))))
+
+all_asked : (items : List StatusItem) (marks : Marks) (rows : List Listed) → 0 < length items → tells_of_mailbox (status_of items marks rows) ≡ true
+all_asked [] marks rows l = absurd (omega (arith, l))
+all_asked (one ∷ items) marks rows l = one_asked one items marks rows
+
+asked_is : (P : ℕ → Type 0) (one : StatusItem) (items : List StatusItem) (number : ℕ) → P number → Where P (where_asked one items number)
+asked_is P one items number h = elim (cases_Bool (is_asked one items)) [ inl t ↦ rw t h | inr f ↦ rw f tt ]
+
+filter_fewer : {X : Type 0} (test : X → Bool) (xs : List X) → length (filter test xs) ≤ length xs
+filter_fewer test [] = omega arith
+filter_fewer test (x ∷ xs) =
+    let more = filter_fewer test xs in
+    elim (cases_Bool (test x)) [ inl t ↦ rw t (omega (arith, more)) | inr f ↦ rw f (omega (arith, more)) ]
+
+pub status_printable : (name : List ℕ) (items : List StatusItem) (marks : Marks) (rows : List Listed) → IsFolded name → 0 < length items → AreNonzeroMarks marks → AreShowable rows
+    → IsPrintableTelling (status_tells name items marks rows)
+status_printable name items marks rows f l m r =
+    let n : length rows < 4294967296 = rows_small rows r in
+    let unseen = filter_fewer (is_flagged system.Seen false) rows in
+    let deleted = filter_fewer (is_flagged system.Deleted true) rows in
+    let told : AreStatusItems (status_of items marks rows) = record {
+      some = all_asked items marks rows l;
+      messages = asked_is IsSmall item.Messages items (length rows) n;
+      uidnext = asked_is IsNonzero item.UidNext items marks.uidnext m.uidnext;
+      uidvalidity = asked_is IsNonzero item.UidValidity items marks.uidvalidity m.uidvalidity;
+      unseen = asked_is IsSmall item.Unseen items (length (filter (is_flagged system.Seen false) rows)) (omega (arith, n, unseen));
+      deleted = asked_is IsSmall item.Deleted items (length (filter (is_flagged system.Deleted true) rows)) (omega (arith, n, deleted));
+      size = asked_is IsWide item.Size items (min (sum_by size_of rows) 18446744073709551615) (omega arith);
+      highest_modseq = asked_is IsModSeq item.HighestModSeq items marks.highest_modseq m.highest;
+    } in
+    only_printable (_ ∷ []) ((f, told), tt)
+
+-- ---- ENABLE, and what is always the same
+
+pub enable_printable : (names : List (List ℕ)) → IsPrintableTelling (enable_tells names)
+enable_printable names = record { own = (tt, tt); code = tt }
+
+pub capability_printable : IsPrintableTelling capability_tells
+capability_printable = record { own = (tt, tt); code = tt }
+
+pub namespace_printable : IsPrintableTelling namespace_tells
+namespace_printable = record { own = (tt, tt); code = tt }
+
+pub logout_printable : IsPrintableTelling logout_tells
+logout_printable = record { own = (tt, tt); code = tt }
+
+pub idle_printable : IsPrintableTelling idle_tells
+idle_printable = record { own = (tt, tt); code = tt }

@@ -1,0 +1,79 @@
+use Rattle.std.proofs.Common.{◌≡◌, arith, ℕ, ◌-◌, Bool, true, not, List, [], ◌∷◌, length, map, nat_lt, Option}
+use Rattle.imap_answers.specs.declared.codes.Code.{Code}
+use Rattle.imap_answers.specs.Printable.{Each, IsCode, IsCopied, IsNonzero, IsPrintable, IsSmall, Where}
+use Rattle.imap_types.specs.Numbers.{AreRisingFrom}
+use Rattle.imap_types.specs.declared.sequence_set.SequenceRange.{SequenceRange}
+use Rattle.mail_listing.specs.Listed.{Listed}
+use Rattle.mail_listing.specs.Listing.{beyond}
+use Rattle.session_view.specs.Sets.{resolved}
+use Rattle.session_view.specs.declared.entry.Entry.{Entry}
+use Rattle.imap_commands.specs.Appending.{append_tells}
+use Rattle.imap_commands.specs.Copying.{copied_code, copies_in, copy_tells, move_tells, moved_answers, sources_of}
+use Rattle.imap_commands.specs.Named.{those_there}
+use Rattle.imap_commands.specs.Printing.{AreAsMany, AreShowable, IsNumbered, IsPrintableTelling, IsShowable}
+use Rattle.imap_commands.specs.Told.{gone_code, is_gone, message_at}
+use Rattle.imap_commands.proofs.NamedLemmas.{beyond_rising, names_rising}
+use Rattle.imap_commands.proofs.PrintFetched.{gone_printable}
+use Rattle.imap_commands.proofs.PrintSearched.{set_of}
+use Rattle.imap_commands.proofs.PrintSelected.{each_filtered}
+use Rattle.imap_commands.proofs.PrintViews.{names_small, numbers_nonzero}
+
+-- ---- where copies are
+
+-- UIDs that ascend in 32 bits
+record AreUids (uids : List ℕ) : Type 0 where
+  rising : AreRisingFrom 1 uids
+  small : Each IsSmall uids
+
+copied_is : (uidvalidity source copy : ℕ) (sources copies : List ℕ) → IsNonzero uidvalidity → AreUids (source ∷ sources) → AreUids (copy ∷ copies) → length (source ∷ sources) ≡ length (copy ∷ copies) → IsCopied uidvalidity (source ∷ sources) (copy ∷ copies)
+copied_is uidvalidity source copy sources copies u s c e = record { validity = u; sources = set_of source sources s.rising s.small; copied = set_of copy copies c.rising c.small; alike = e }
+
+copied_printable : (uidvalidity : ℕ) (sources copies : List ℕ) (code : Option Code) → IsNonzero uidvalidity → AreUids sources → AreUids copies → length sources ≡ length copies → Where IsCode code → Where IsCode (copied_code uidvalidity sources copies code)
+copied_printable uidvalidity [] copies code u s c e h = h
+copied_printable uidvalidity (n ∷ sources) [] code u s c e h = absurd (omega (arith, e))
+copied_printable uidvalidity (n ∷ sources) (m ∷ copies) code u s c e h = copied_is uidvalidity n m sources copies u s c e
+
+moved_printable : (uidvalidity : ℕ) (sources copies : List ℕ) → IsNonzero uidvalidity → AreUids sources → AreUids copies → length sources ≡ length copies → Each IsPrintable (moved_answers uidvalidity sources copies)
+moved_printable uidvalidity [] copies u s c e = tt
+moved_printable uidvalidity (n ∷ sources) [] u s c e = absurd (omega (arith, e))
+moved_printable uidvalidity (n ∷ sources) (m ∷ copies) u s c e = (copied_is uidvalidity n m sources copies u s c e, tt)
+
+sources_uids : (before : List Listed) (view : List Entry) (by_uid : Bool) (set : List SequenceRange) → IsNumbered view → AreUids (sources_of before view (resolved by_uid set view))
+sources_uids before view by_uid set v =
+    let there : ℕ → Bool = λ n. not (is_gone (message_at before view n)) in
+    let numbers = resolved by_uid set view in
+    record {
+      rising = names_rising true by_uid set there view v.rising;
+      small = names_small true view (those_there before view numbers) v.small (each_filtered IsNonzero there numbers (numbers_nonzero by_uid set view v));
+    }
+
+uids_small : (rows : List Listed) → Each IsShowable rows → Each IsSmall (map (λ (row : Listed). row.uid) rows)
+uids_small [] h = tt
+uids_small (row ∷ rows) h = (h.0.uid.1, uids_small rows h.1)
+
+copies_uids : (uidnext : ℕ) (landed : List Listed) → AreShowable landed → AreUids (copies_in uidnext landed)
+copies_uids uidnext landed r = record {
+  rising = beyond_rising (uidnext - 1) 1 landed r.rising;
+  small = uids_small (beyond (uidnext - 1) landed) (each_filtered IsShowable (λ (row : Listed). nat_lt (uidnext - 1) row.uid) landed r.each);
+}
+
+-- ---- COPY, MOVE and APPEND
+
+pub copy_printable : (before : List Listed) (view : List Entry) (by_uid : Bool) (set : List SequenceRange) (uidvalidity uidnext : ℕ) (landed : List Listed)
+    → IsNumbered view → IsNonzero uidvalidity → AreShowable landed → AreAsMany before view by_uid set uidnext landed → IsPrintableTelling (copy_tells before view by_uid set uidvalidity uidnext landed)
+copy_printable before view by_uid set uidvalidity uidnext landed v u r e = record {
+  own = tt;
+  code =
+      copied_printable uidvalidity (sources_of before view (resolved by_uid set view)) (copies_in uidnext landed) (gone_code before view (resolved by_uid set view)) u (sources_uids before view by_uid set v)
+      (copies_uids uidnext landed r) e (gone_printable before view (resolved by_uid set view));
+}
+
+pub move_printable : (before : List Listed) (view : List Entry) (by_uid : Bool) (set : List SequenceRange) (uidvalidity uidnext : ℕ) (landed : List Listed)
+    → IsNumbered view → IsNonzero uidvalidity → AreShowable landed → AreAsMany before view by_uid set uidnext landed → IsPrintableTelling (move_tells before view by_uid set uidvalidity uidnext landed)
+move_printable before view by_uid set uidvalidity uidnext landed v u r e = record {
+  own = moved_printable uidvalidity (sources_of before view (resolved by_uid set view)) (copies_in uidnext landed) u (sources_uids before view by_uid set v) (copies_uids uidnext landed r) e;
+  code = gone_printable before view (resolved by_uid set view);
+}
+
+pub append_printable : (uidvalidity uid : ℕ) → IsNonzero uidvalidity → IsNonzero uid → IsPrintableTelling (append_tells uidvalidity uid)
+append_printable uidvalidity uid v u = record { own = tt; code = (v, u) }

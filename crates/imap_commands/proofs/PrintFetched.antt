@@ -1,0 +1,254 @@
+use Rattle.std.proofs.Common.{◌≡◌, ap, refl, arith, ℕ, zero, suc, ◌+◌, ◌≤◌, ◌<◌, ◌⊎◌, inl, inr, Bool, true, false, not, ◌||◌, List, [], ◌∷◌, ◌++◌, length, length-append, take, drop, Option, Some, None, nat_eq, flat_map, map}
+use Rattle.std.specs.Prelude.{is_some}
+use Rattle.std.specs.List.{concat}
+use Rattle.std.proofs.Math.Dec.{eqb-suc-zero}
+use Rattle.std.proofs.lemmas.Bool.{cases_Bool, false≢true}
+use Rattle.imap_answers.specs.declared.fetched.FetchItems.{FetchItems}
+use Rattle.imap_answers.specs.Printable.{AreFetchItems, AreFlags, Each, IsCode, IsModSeq, IsNonzero, IsPart, IsPrintable, IsSmall, IsWide, Where, tells_of_message}
+use Rattle.imap_grammar.specs.declared.fetch.FetchItem.{FetchItem}
+use Rattle.imap_grammar.specs.declared.fetch.FetchItem.TheVariants as item
+use Rattle.imap_grammar.specs.declared.fetch.Partial.{Partial}
+use Rattle.imap_query.specs.Fetching.{answer_of, are_sections, cut, is_kept, items_of, origin_of, section_of, section_part, tells_flags, tells_modseq, where_told}
+use Rattle.imap_query.specs.declared.fetching.FetchMode.{FetchMode}
+use Rattle.imap_query.specs.declared.shown.Shown.{Shown}
+use Rattle.imap_types.specs.DateTimes.{IsDateTime}
+use Rattle.imap_types.specs.declared.section.Section.{Section}
+use Rattle.imap_types.specs.declared.section.Section.TheVariants as section
+use Rattle.imap_types.specs.declared.sequence_set.SequenceRange.{SequenceRange}
+use Rattle.mail_listing.specs.Listed.{Listed}
+use Rattle.mail_listing.specs.Listing.{row_of}
+use Rattle.mail_text.specs.Fields.{asked_in, empty_line, field_lines, fields_in, fields_of, first_asked, goes_on}
+use Rattle.mail_text.specs.Fields.{asks as asks_field}
+use Rattle.mail_text.specs.Lines.{body_lines, header_lines, in_first, is_empty_line, lines_of}
+use Rattle.mail_text.proofs.LineLemmas.{lines-joined}
+use Rattle.session_view.specs.Sets.{resolved}
+use Rattle.session_view.specs.declared.entry.Entry.{Entry}
+use Rattle.imap_commands.specs.Fetching.{fetch_tells, mode_of, shown_at, shown_of}
+use Rattle.imap_commands.specs.Printing.{AreShowable, AreTellable, IsNumbered, IsPrintableTelling, IsShowable, IsTellable}
+use Rattle.imap_commands.specs.Told.{are_some_gone, entry_at, gone_code}
+use Rattle.imap_commands.proofs.PrintSelected.{each_append}
+use Rattle.imap_commands.proofs.PrintViews.{numbers_nonzero, row_showable}
+
+-- ---- what may be told
+
+pub each_flat : {X Y : Type 0} (Q : X → Type 0) (P : Y → Type 0) (f : X → List Y) (xs : List X) → ((x : X) → Q x → Each P (f x)) → Each Q xs → Each P (flat_map f xs)
+each_flat Q P f [] g h = tt
+each_flat Q P f (x ∷ xs) g h = each_append P (f x) (flat_map f xs) (g x h.0) (each_flat Q P f xs g h.1)
+
+pub where_is : {X : Type 0} (P : X → Type 0) (told : Bool) (x : X) → P x → Where P (where_told told x)
+where_is P true x h = h
+where_is P false x h = tt
+
+is_told : {X : Type 0} (told : Bool) (x : X) → told ≡ true → is_some (where_told told x) ≡ true
+is_told true x h = refl
+is_told false x h = absurd (false≢true h)
+
+pub or_right : (a b : Bool) → b ≡ true → (a || b) ≡ true
+or_right true b h = refl
+or_right false b h = h
+
+abbrev pub IsOne : Bool → Bool → Bool → Bool → Bool → Bool → Type 0
+IsOne a b c d e f = (a ≡ true) ⊎ ((b ≡ true) ⊎ ((c ≡ true) ⊎ ((d ≡ true) ⊎ ((e ≡ true) ⊎ (f ≡ true)))))
+
+pub any_told : (a b c d e f : Bool) → IsOne a b c d e f → (a || b || c || d || e || f) ≡ true
+any_told true b c d e f h = refl
+any_told false true c d e f h = refl
+any_told false false true d e f h = refl
+any_told false false false true e f h = refl
+any_told false false false false true f h = refl
+any_told false false false false false true h = refl
+any_told false false false false false false h =
+    elim h [
+      | inl x ↦ absurd (false≢true x)
+      | inr s ↦ elim s [
+        | inl x ↦ absurd (false≢true x)
+        | inr t ↦ elim t [
+          | inl x ↦ absurd (false≢true x)
+          | inr u ↦ elim u [
+            | inl x ↦ absurd (false≢true x)
+            | inr v ↦ elim v [ inl x ↦ absurd (false≢true x) | inr x ↦ absurd (false≢true x) ]
+          ]
+        ]
+      ]
+    ]
+
+-- the code that tells of messages that are gone
+pub gone_printable : (rows : List Listed) (view : List Entry) (numbers : List ℕ) → Where IsCode (gone_code rows view numbers)
+gone_printable rows view numbers =
+    elim (cases_Bool (are_some_gone rows view numbers)) [
+      | inl t ↦ rw t tt
+      | inr f ↦ rw f tt
+    ]
+
+-- ---- how long what is told of a text is
+
+header_short : (lines : List (List ℕ)) → length (concat (header_lines lines)) ≤ length (concat lines)
+header_short [] = omega arith
+header_short (line ∷ lines) =
+    let more = header_short lines in
+    let whole = length-append line (concat lines) in
+    elim (cases_Bool (is_empty_line line)) [
+      | inl t ↦ rw t (let one = length-append line [] in omega (arith, whole, one))
+      | inr f ↦ rw f (let one = length-append line (concat (header_lines lines)) in omega (arith, whole, one, more))
+    ]
+
+body_short : (lines : List (List ℕ)) → length (concat (body_lines lines)) ≤ length (concat lines)
+body_short [] = omega arith
+body_short (line ∷ lines) =
+    let more = body_short lines in
+    let whole = length-append line (concat lines) in
+    elim (cases_Bool (is_empty_line line)) [
+      | inl t ↦ rw t (omega (arith, whole))
+      | inr f ↦ rw f (omega (arith, whole, more))
+    ]
+
+joined_first : (line : List ℕ) (fields : List (List (List ℕ))) → length (concat (map concat (in_first line fields))) ≡ length line + length (concat (map concat fields))
+joined_first line [] = let a = length-append (line ++ []) [] in let b = length-append line [] in omega (arith, a, b)
+joined_first line (field ∷ fields) =
+    let a = length-append (line ++ concat field) (concat (map concat fields)) in
+    let b = length-append line (concat field) in
+    let c = length-append (concat field) (concat (map concat fields)) in
+    omega (arith, a, b, c)
+
+joined_fields : (lines : List (List ℕ)) → length (concat (map concat (fields_in lines))) ≡ length (concat lines)
+joined_fields [] = refl
+joined_fields (line ∷ []) = let a = length-append (line ++ []) [] in omega (arith, a)
+joined_fields (line ∷ next ∷ lines) =
+    let more = joined_fields (next ∷ lines) in
+    let whole = length-append line (concat (next ∷ lines)) in
+    elim (cases_Bool (goes_on next)) [
+      | inl t ↦ rw t (let one = joined_first line (fields_in (next ∷ lines)) in omega (arith, more, whole, one))
+      | inr f ↦ rw f (
+          let a = length-append (line ++ []) (concat (map concat (fields_in (next ∷ lines)))) in
+          let b = length-append line [] in
+          omega (arith, more, whole, a, b))
+    ]
+
+asked_short : (asked : List ℕ → Bool) (fields : List (List (List ℕ))) → length (asked_in asked fields) ≤ length (concat (map concat fields))
+asked_short asked [] = omega arith
+asked_short asked (field ∷ fields) =
+    let more = asked_short asked fields in
+    let whole = length-append (concat field) (concat (map concat fields)) in
+    elim (cases_Bool (first_asked asked field)) [
+      | inl t ↦ rw t (let one = length-append (concat field) (asked_in asked fields) in omega (arith, more, whole, one))
+      | inr f ↦ rw f (omega (arith, more, whole))
+    ]
+
+parts_short : (lines : List (List ℕ)) → length (concat (field_lines lines)) + length (empty_line lines) ≤ length (concat lines)
+parts_short [] = omega arith
+parts_short (line ∷ lines) =
+    let more = parts_short lines in
+    let whole = length-append line (concat lines) in
+    elim (cases_Bool (is_empty_line line)) [
+      | inl t ↦ rw t (omega (arith, whole))
+      | inr f ↦ rw f (let one = length-append line (concat (field_lines lines)) in omega (arith, more, whole, one))
+    ]
+
+fields_short : (named : Bool) (names : List (List ℕ)) (text : List ℕ) → length (fields_of named names text) ≤ length text
+fields_short named names text =
+    let lines = lines_of text in
+    let fields = fields_in (field_lines lines) in
+    let a = length-append (asked_in (asks_field named names) fields) (empty_line lines) in
+    let b = asked_short (asks_field named names) fields in
+    let c = joined_fields (field_lines lines) in
+    let d = parts_short lines in
+    let w = ap length (lines-joined text) in
+    omega (arith, a, b, c, d, w)
+
+section_short : (this : Section) (text : List ℕ) → length (section_of this text) ≤ length text
+section_short section.Whole text = omega arith
+section_short section.Header text = let h = header_short (lines_of text) in let w = ap length (lines-joined text) in omega (arith, h, w)
+section_short section.Text text = let h = body_short (lines_of text) in let w = ap length (lines-joined text) in omega (arith, h, w)
+section_short (section.Fields names) text = fields_short true names text
+section_short (section.FieldsNot names) text = fields_short false names text
+
+take_short : (n : ℕ) (octets : List ℕ) → length (take n octets) ≤ length octets
+take_short zero octets = omega arith
+take_short (suc n) [] = omega arith
+take_short (suc n) (octet ∷ octets) = let t = take_short n octets in omega (arith, t)
+
+drop_short : (n : ℕ) (octets : List ℕ) → length (drop n octets) ≤ length octets
+drop_short zero octets = omega arith
+drop_short (suc n) [] = omega arith
+drop_short (suc n) (octet ∷ octets) = let t = drop_short n octets in omega (arith, t)
+
+cut_short : (partial : Option Partial) (octets : List ℕ) → length (cut partial octets) ≤ length octets
+cut_short None octets = omega arith
+cut_short (Some range) octets = let t = take_short range.count (drop range.start octets) in let d = drop_short range.start octets in omega (arith, t, d)
+
+-- ---- what FETCH tells of a message
+
+origin_small : (partial : Option Partial) → Where (λ (range : Partial). IsSmall range.start) partial → Where IsSmall (origin_of partial)
+origin_small None h = tt
+origin_small (Some range) h = h
+
+part_is : (text : List ℕ) (one : FetchItem) → IsWide (length text) → IsTellable one → Each IsPart (section_part text one)
+part_is text item.Uid w h = tt
+part_is text item.Flags w h = tt
+part_is text item.InternalDate w h = tt
+part_is text item.Size w h = tt
+part_is text item.ModSeq w h = tt
+part_is text (item.Body peek this partial) w h =
+    let c = cut_short partial (section_of this text) in
+    let s = section_short this text in
+    (record { section = h.0; origin = origin_small partial h.1; octets = omega (arith, w, c, s) }, tt)
+
+abbrev pub IsToldOf : FetchItems → Type 0
+IsToldOf told = IsOne (is_some told.uid) (is_some told.flags) (is_some told.date) (is_some told.size) (is_some told.modseq) (not (nat_eq (length told.sections) 0))
+
+pub told_at : (told : FetchItems) → IsToldOf told → tells_of_message told ≡ true
+told_at told h = any_told (is_some told.uid) (is_some told.flags) (is_some told.date) (is_some told.size) (is_some told.modseq) (not (nat_eq (length told.sections) 0)) h
+
+one_told : (one : FetchItem) (items : List FetchItem) (mode : FetchMode) (old row : Listed) → tells_of_message (items_of (one ∷ items) mode old row) ≡ true
+one_told item.Uid items mode old row = told_at (items_of (item.Uid ∷ items) mode old row) (inl (is_told (mode.by_uid || true) row.uid (or_right mode.by_uid true refl)))
+one_told item.Flags items mode old row = told_at (items_of (item.Flags ∷ items) mode old row) (inr (inl (is_told (tells_flags (item.Flags ∷ items) mode old) row.flags refl)))
+one_told item.InternalDate items mode old row = told_at (items_of (item.InternalDate ∷ items) mode old row) (inr (inr (inl (is_told true row.date refl))))
+one_told item.Size items mode old row = told_at (items_of (item.Size ∷ items) mode old row) (inr (inr (inr (inl (is_told true (length row.text) refl)))))
+one_told item.ModSeq items mode old row = told_at (items_of (item.ModSeq ∷ items) mode old row) (inr (inr (inr (inr (inl (is_told true row.modseq refl))))))
+one_told (item.Body peek this partial) items mode old row = told_at (items_of (item.Body peek this partial ∷ items) mode old row) (inr (inr (inr (inr (inr (ap not (eqb-suc-zero (length (are_sections row.text items)))))))))
+
+all_told : (items : List FetchItem) (mode : FetchMode) (old row : Listed) → 0 < length items → tells_of_message (items_of items mode old row) ≡ true
+all_told [] mode old row l = absurd (omega (arith, l))
+all_told (one ∷ items) mode old row l = one_told one items mode old row
+
+items_printable : (items : List FetchItem) (mode : FetchMode) (old row : Listed) → AreTellable items → IsShowable row → AreFetchItems (items_of items mode old row)
+items_printable items mode old row t h = record {
+  some = all_told items mode old row t.some;
+  uid = where_is IsNonzero _ row.uid h.uid;
+  flags = where_is AreFlags (tells_flags items mode old) row.flags h.flags;
+  date = where_is IsDateTime _ row.date h.date;
+  size = where_is IsWide _ (length row.text) h.text;
+  modseq = where_is IsModSeq (tells_modseq items mode (tells_flags items mode old)) row.modseq h.modseq;
+  sections = each_flat IsTellable IsPart (section_part row.text) items (λ one k. part_is row.text one h.text k) t.each;
+}
+
+answer_printable : (items : List FetchItem) (mode : FetchMode) (shown : Shown) (old row : Option Listed) → AreTellable items → IsNonzero shown.number → Where IsShowable row → Each IsPrintable (answer_of items mode shown old row)
+answer_printable items mode shown None row t n h = tt
+answer_printable items mode shown (Some old) None t n h = tt
+answer_printable items mode shown (Some old) (Some row) t n h =
+    elim (cases_Bool (is_kept mode.changed_since old)) [
+      | inl k ↦ rw k ((n, items_printable items mode old row t h), tt)
+      | inr f ↦ rw f tt
+    ]
+
+-- ---- FETCH
+
+abbrev IsNumberNonzero : Shown → Type 0
+IsNumberNonzero shown = IsNonzero shown.number
+
+shown_nonzero : (n : ℕ) (e : Option Entry) → IsNonzero n → Each IsNumberNonzero (shown_at n e)
+shown_nonzero n None h = tt
+shown_nonzero n (Some e) h = (h, tt)
+
+pub fetch_printable : (before after : List Listed) (view : List Entry) (read_only condstore by_uid : Bool) (set : List SequenceRange) (items : List FetchItem) (changed_since : Option ℕ)
+    → AreShowable after → IsNumbered view → AreTellable items → IsPrintableTelling (fetch_tells before after view read_only condstore by_uid set items changed_since)
+fetch_printable before after view read_only condstore by_uid set items changed_since r v t =
+    let numbers = resolved by_uid set view in
+    let mode = mode_of by_uid condstore read_only changed_since in
+    record {
+      own =
+          each_flat IsNumberNonzero IsPrintable (λ shown. answer_of items mode shown (row_of shown.uid before) (row_of shown.uid after)) (shown_of view numbers)
+          (λ shown n. answer_printable items mode shown (row_of shown.uid before) (row_of shown.uid after) t n (row_showable shown.uid after r.each))
+          (each_flat IsNonzero IsNumberNonzero (λ n. shown_at n (entry_at view n)) numbers (λ n h. shown_nonzero n (entry_at view n) h) (numbers_nonzero by_uid set view v));
+      code = gone_printable before view numbers;
+    }

@@ -1,0 +1,93 @@
+use Rattle.std.proofs.Common.{◌≡◌, ◌∙◌, sym, subst, refl, arith, ℕ, ◌+◌, ◌≤◌, ◌<◌, inl, inr, Bool, true, false, List, [], ◌∷◌, ◌++◌, length}
+use Rattle.std.specs.List.{filter, list_all}
+use Rattle.std.proofs.lemmas.Bool.{and_parts, cases_Bool}
+use Rattle.std.proofs.lemmas.Slice.Eq.{bytes_eq-Decides}
+use Rattle.imap_answers.specs.Printable.{AreFlags, Each, IsAtom, IsCode, IsFolded, IsPrintable, IsSmall, Where}
+use Rattle.imap_types.specs.declared.flags.Flags.{Flags}
+use Rattle.imap_types.specs.Keywords.{is_lowered, lowered}
+use Rattle.imap_query.specs.declared.mailbox_status.Marks.{Marks}
+use Rattle.mail_listing.specs.Listed.{Listed}
+use Rattle.mail_listing.specs.Listing.{AreRisingRows}
+use Rattle.merge_laws.specs.Orders.{IsIn}
+use Rattle.imap_commands.specs.Printing.{AreNonzeroMarks, AreShowable, IsPrintableTelling, IsShowable}
+use Rattle.imap_commands.specs.Selecting.{access_code, closed_answers, flags_in_use, listed_keywords, mailbox_answers, permanent_flags, select_tells}
+use Rattle.imap_commands.proofs.BorneLemmas.{borne}
+
+-- ---- each of a list
+
+pub each_of : {X : Type 0} (P : X → Type 0) (xs : List X) → ((x : X) → IsIn x xs → P x) → Each P xs
+each_of P [] h = tt
+each_of P (x ∷ xs) h = (h x (inl refl), each_of P xs (λ y i. h y (inr i)))
+
+pub each_in : {X : Type 0} (P : X → Type 0) (xs : List X) (x : X) → Each P xs → IsIn x xs → P x
+each_in P [] x h i = absurd i
+each_in P (y ∷ ys) x h i = elim i [ inl e ↦ subst P e h.0 | inr t ↦ each_in P ys x h.1 t ]
+
+pub each_append : {X : Type 0} (P : X → Type 0) (xs ys : List X) → Each P xs → Each P ys → Each P (xs ++ ys)
+each_append P [] ys h k = k
+each_append P (x ∷ xs) ys h k = (h.0, each_append P xs ys h.1 k)
+
+pub each_filtered : {X : Type 0} (P : X → Type 0) (test : X → Bool) (xs : List X) → Each P xs → Each P (filter test xs)
+each_filtered P test [] h = tt
+each_filtered P test (x ∷ xs) h =
+    elim (cases_Bool (test x)) [
+      | inl t ↦ rw t (h.0, each_filtered P test xs h.1)
+      | inr f ↦ rw f (each_filtered P test xs h.1)
+    ]
+
+all_in : {X : Type 0} (test : X → Bool) (xs : List X) (x : X) → list_all test xs ≡ true → IsIn x xs → test x ≡ true
+all_in test [] x h i = absurd i
+all_in test (y ∷ ys) x h i =
+    let both = and_parts (test y) (list_all test ys) h in
+    elim i [ inl e ↦ subst (λ z. test z ≡ true) e both.0 | inr t ↦ all_in test ys x both.1 t ]
+
+-- ---- how many messages a listing has
+
+pub row_count : (low : ℕ) (rows : List Listed) → AreRisingRows low rows → Each IsShowable rows → low ≤ 4294967296 → low + length rows ≤ 4294967296
+row_count low [] r h l = omega (arith, l)
+row_count low (row ∷ rows) r h l =
+    let u : row.uid < 4294967296 = h.0.uid.1 in
+    let n = row_count (row.uid + 1) rows r.1 h.1 (omega (arith, u)) in
+    let first : low ≤ row.uid = r.0 in
+    omega (arith, n, first)
+
+pub rows_small : (rows : List Listed) → AreShowable rows → IsSmall (length rows)
+rows_small rows h = let n = row_count 1 rows h.rising h.each (omega arith) in omega (arith, n)
+
+-- ---- SELECT and EXAMINE
+
+use_atoms : (rows : List Listed) → Each IsShowable rows → Each IsAtom (listed_keywords rows)
+use_atoms rows h =
+    each_of IsAtom (listed_keywords rows) (λ word i.
+    let b = ((borne rows).exactly word).0 i in
+    let f = (each_in IsShowable rows b.0 h b.1).flags in
+    let low : is_lowered b.2.0 ≡ true = all_in is_lowered b.0.flags.keywords b.2.0 f.0.0 b.2.1 in
+    let same : lowered b.2.0 ≡ b.2.0 = (bytes_eq-Decides (lowered b.2.0) b.2.0).0 low in
+    subst IsAtom (sym same ∙ b.2.2) (each_in IsAtom b.0.flags.keywords b.2.0 f.1 b.2.1))
+
+use_flags : (rows : List Listed) → Each IsShowable rows → AreFlags (flags_in_use rows)
+use_flags rows h = ((borne rows).set, use_atoms rows h)
+
+permanent : (read_only : Bool) (flags : Flags) → AreFlags flags → Where AreFlags (permanent_flags read_only flags)
+permanent true flags h = tt
+permanent false flags h = h
+
+closed : (was_selected : Bool) → Each IsPrintable (closed_answers was_selected)
+closed true = (tt, tt)
+closed false = tt
+
+access : (read_only : Bool) → IsCode (access_code read_only)
+access true = tt
+access false = tt
+
+opened : (read_only : Bool) (name : List ℕ) (marks : Marks) (rows : List Listed) → IsFolded name → AreNonzeroMarks marks → AreShowable rows → Each IsPrintable (mailbox_answers read_only name marks rows)
+opened read_only name marks rows f m h =
+    let flags = use_flags rows h.each in
+    (flags, (rows_small rows h, (f, (m.uidvalidity, (m.uidnext, (permanent read_only (flags_in_use rows) flags, (m.highest, tt)))))))
+
+pub select_printable : (was_selected read_only : Bool) (name : List ℕ) (marks : Marks) (rows : List Listed) → IsFolded name → AreNonzeroMarks marks → AreShowable rows
+    → IsPrintableTelling (select_tells was_selected read_only name marks rows)
+select_printable was_selected read_only name marks rows f m h = record {
+  own = each_append IsPrintable (closed_answers was_selected) (mailbox_answers read_only name marks rows) (closed was_selected) (opened read_only name marks rows f m h);
+  code = access read_only;
+}

@@ -1,0 +1,91 @@
+use Rattle.std.proofs.Common.{◌≡◌, refl, arith, ℕ, inl, inr, Bool, true, false, ◌||◌, List, [], ◌∷◌, Option, Some, None, flat_map}
+use Rattle.std.specs.Prelude.{is_some}
+use Rattle.std.proofs.lemmas.Bool.{false≢true}
+use Rattle.imap_answers.specs.declared.codes.Code.{Code}
+use Rattle.imap_answers.specs.declared.fetched.FetchItems.{FetchItems}
+use Rattle.imap_answers.specs.Printable.{AreFetchItems, AreFlags, Each, IsCode, IsModSeq, IsNonzero, IsPrintable, IsSmall, Where}
+use Rattle.imap_grammar.specs.declared.store.StoreMode.{StoreMode}
+use Rattle.imap_query.specs.Fetching.{where_told}
+use Rattle.imap_types.specs.Numbers.{AreRisingFrom}
+use Rattle.imap_types.specs.declared.flags.Flags.{Flags}
+use Rattle.imap_types.specs.declared.sequence_set.SequenceRange.{SequenceRange}
+use Rattle.mail_listing.specs.Listed.{Listed}
+use Rattle.session_view.specs.Sets.{resolved}
+use Rattle.session_view.specs.declared.entry.Entry.{Entry}
+use Rattle.imap_commands.specs.Expunging.{uid_expunge_tells}
+use Rattle.imap_commands.specs.Named.{names_of}
+use Rattle.imap_commands.specs.Printing.{AreShowable, IsNumbered, IsPrintableTelling, IsShowable}
+use Rattle.imap_commands.specs.Storing.{is_refused, is_taken, modified_code, store_tells, stored_answer, stored_answers, those_refused, those_taken}
+use Rattle.imap_commands.specs.Told.{entry_at, gone_code, message_at, row_for}
+use Rattle.imap_commands.proofs.NamedLemmas.{names_rising}
+use Rattle.imap_commands.proofs.PrintFetched.{IsToldOf, each_flat, gone_printable, told_at, where_is}
+use Rattle.imap_commands.proofs.PrintSelected.{each_filtered}
+use Rattle.imap_commands.proofs.PrintViews.{greatest_small, names_small, numbers_nonzero, row_showable}
+
+-- ---- the messages that STORE takes
+
+pub message_showable : (rows : List Listed) (e : Option Entry) → Each IsShowable rows → Where IsShowable (row_for rows e)
+message_showable rows None h = tt
+message_showable rows (Some e) h = row_showable e.uid rows h
+
+-- what is told of one of them
+abbrev stored_items : Bool → Bool → Bool → Listed → FetchItems
+stored_items by_uid with_flags with_modseq row =
+    record { uid = where_told by_uid row.uid; flags = where_told with_flags row.flags; date = None; size = None; modseq = where_told with_modseq row.modseq; sections = [] }
+
+-- flags are, or else the mod-sequence is
+stored_some : (by_uid with_flags with_modseq : Bool) (row : Listed) → (with_flags || with_modseq) ≡ true → IsToldOf (stored_items by_uid with_flags with_modseq row)
+stored_some by_uid true with_modseq row e = inr (inl refl)
+stored_some by_uid false true row e = inr (inr (inr (inr (inl refl))))
+stored_some by_uid false false row e = absurd (false≢true e)
+
+stored_one : (by_uid with_flags with_modseq : Bool) (n : ℕ) (row : Option Listed) → (with_flags || with_modseq) ≡ true → IsNonzero n → Where IsShowable row → Each IsPrintable (stored_answer by_uid with_flags with_modseq n row)
+stored_one by_uid with_flags with_modseq n None e k h = tt
+stored_one by_uid with_flags with_modseq n (Some row) e k h =
+    let items : AreFetchItems (stored_items by_uid with_flags with_modseq row) = record {
+      some = told_at (stored_items by_uid with_flags with_modseq row) (stored_some by_uid with_flags with_modseq row e);
+      uid = where_is IsNonzero by_uid row.uid h.uid;
+      flags = where_is AreFlags with_flags row.flags h.flags;
+      date = tt;
+      size = tt;
+      modseq = where_is IsModSeq with_modseq row.modseq h.modseq;
+      sections = tt;
+    } in
+    ((k, items), tt)
+
+stored_each : (after : List Listed) (view : List Entry) (by_uid with_flags with_modseq : Bool) (taken : List ℕ) → (with_flags || with_modseq) ≡ true → AreShowable after → Each IsNonzero taken
+    → Each IsPrintable (flat_map (λ n. stored_answer by_uid with_flags with_modseq n (message_at after view n)) taken)
+stored_each after view by_uid with_flags with_modseq taken e r k =
+    each_flat IsNonzero IsPrintable (λ n. stored_answer by_uid with_flags with_modseq n (message_at after view n)) taken
+    (λ n h. stored_one by_uid with_flags with_modseq n (message_at after view n) e h (message_showable after (entry_at view n) r.each)) k
+
+stored_printable : (after : List Listed) (view : List Entry) (condstore by_uid : Bool) (since : Option ℕ) (silent : Bool) (taken : List ℕ) → AreShowable after → Each IsNonzero taken
+    → Each IsPrintable (stored_answers after view condstore by_uid since silent taken)
+stored_printable after view condstore by_uid since false taken r k = stored_each after view by_uid true (is_some since || condstore) taken refl r k
+stored_printable after view condstore by_uid None true taken r k = tt
+stored_printable after view condstore by_uid (Some modseq) true taken r k = stored_each after view by_uid false true taken refl r k
+
+-- ---- those that it refuses
+
+modified_printable : (refused : List ℕ) (code : Option Code) → AreRisingFrom 1 refused → Each IsSmall refused → Where IsCode code → Where IsCode (modified_code refused code)
+modified_printable [] code r s h = h
+modified_printable (n ∷ refused) code r s h = record { filled = omega arith; rising = r; small = greatest_small (n ∷ refused) s }
+
+pub store_printable : (before after : List Listed) (view : List Entry) (condstore by_uid : Bool) (set : List SequenceRange) (since : Option ℕ) (mode : StoreMode) (silent : Bool) (given : Flags)
+    → AreShowable after → IsNumbered view → IsPrintableTelling (store_tells before after view condstore by_uid set since mode silent given)
+store_printable before after view condstore by_uid set since mode silent given r v =
+    let numbers = resolved by_uid set view in
+    let named = numbers_nonzero by_uid set view v in
+    let taken : ℕ → Bool = λ n. is_taken since (message_at before view n) in
+    let refused : ℕ → Bool = λ n. is_refused since (message_at before view n) in
+    record {
+      own = stored_printable after view condstore by_uid since silent (those_taken before view since numbers) r (each_filtered IsNonzero taken numbers named);
+      code =
+          modified_printable (names_of by_uid view (those_refused before view since numbers)) (gone_code before view numbers) (names_rising by_uid by_uid set refused view v.rising)
+          (names_small by_uid view (those_refused before view since numbers) v.small (each_filtered IsNonzero refused numbers named)) (gone_printable before view numbers);
+    }
+
+-- ---- UID EXPUNGE
+
+pub uid_expunge_printable : (before : List Listed) (view : List Entry) (set : List SequenceRange) → IsPrintableTelling (uid_expunge_tells before view set)
+uid_expunge_printable before view set = record { own = tt; code = gone_printable before view (resolved true set view) }

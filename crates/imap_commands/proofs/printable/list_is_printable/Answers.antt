@@ -1,0 +1,5 @@
+use Rattle.imap_commands.proofs.PrintAsked.{list_printable}
+use Rattle.imap_commands.proofs.printable.list_is_printable.Goals as goal
+
+pub returns : goal.returns
+returns c = list_printable

@@ -1,0 +1,5 @@
+use Rattle.imap_commands.proofs.PrintSearched.{search_printable}
+use Rattle.imap_commands.proofs.printable.search_is_printable.Goals as goal
+
+pub returns : goal.returns
+returns c = search_printable

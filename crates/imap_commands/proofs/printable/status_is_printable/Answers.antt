@@ -1,0 +1,5 @@
+use Rattle.imap_commands.proofs.PrintAsked.{status_printable}
+use Rattle.imap_commands.proofs.printable.status_is_printable.Goals as goal
+
+pub returns : goal.returns
+returns c = status_printable

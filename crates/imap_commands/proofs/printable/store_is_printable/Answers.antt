@@ -1,0 +1,5 @@
+use Rattle.imap_commands.proofs.PrintStored.{store_printable}
+use Rattle.imap_commands.proofs.printable.store_is_printable.Goals as goal
+
+pub returns : goal.returns
+returns c = store_printable

@@ -1,0 +1,5 @@
+use Rattle.imap_commands.proofs.PrintSynced.{sync_printable}
+use Rattle.imap_commands.proofs.printable.sync_is_printable.Goals as goal
+
+pub returns : goal.returns
+returns c = sync_printable

@@ -1,0 +1,75 @@
+use Rattle.std.specs.Prelude.{◌≡◌, ℕ, Bool, ◌<◌, List, length}
+use Rattle.imap_answers.specs.Printable.{AreFlags, Each, IsCode, IsFolded, IsModSeq, IsNonzero, IsPrintable, IsSection, IsSmall, IsWide, Where}
+use Rattle.imap_grammar.specs.declared.command.Command.{Command}
+use Rattle.imap_grammar.specs.declared.command.Command.TheVariants as commands
+use Rattle.imap_grammar.specs.declared.fetch.FetchItem.{FetchItem}
+use Rattle.imap_grammar.specs.declared.fetch.FetchItem.TheVariants.{Body, Flags, InternalDate, ModSeq, Size, Uid}
+use Rattle.imap_query.specs.Keys.{IsKey}
+use Rattle.imap_query.specs.declared.mailbox_status.Marks.{Marks}
+use Rattle.imap_types.specs.DateTimes.{IsDateTime}
+use Rattle.imap_types.specs.declared.sequence_set.SequenceRange.{SequenceRange}
+use Rattle.mail_listing.specs.Listed.{Listed}
+use Rattle.mail_listing.specs.Listing.{AreRisingRows}
+use Rattle.session_view.specs.Sets.{resolved}
+use Rattle.session_view.specs.Views.{AreRising}
+use Rattle.session_view.specs.declared.entry.Entry.{Entry}
+use Rattle.imap_commands.specs.Copying.{copies_in, sources_of}
+use Rattle.imap_commands.specs.Told.{Telling}
+
+-- What a command tells can be printed: its own answers, and the code of its tagged line.
+pub record IsPrintableTelling (told : Telling) : Type 0 where
+  pub own : Each IsPrintable told.own
+  pub code : Where IsCode told.code
+
+-- A message that can be shown: its UID and mod-sequence are numbers from 1 on of 32 and 64 bits, its keywords are atoms in their one
+-- spelling, its date is a date-time, and its octets can be counted (RFC 9051, section 9; RFC 7162, section 7).
+pub record IsShowable (row : Listed) : Type 0 where
+  pub uid : IsNonzero row.uid
+  pub modseq : IsModSeq row.modseq
+  pub flags : AreFlags row.flags
+  pub date : IsDateTime row.date
+  pub text : IsWide (length row.text)
+
+-- A listing that can be shown: each message can, and their UIDs ascend (RFC 9051, section 2.3.1.1).
+pub record AreShowable (rows : List Listed) : Type 0 where
+  pub each : Each IsShowable rows
+  pub rising : AreRisingRows 1 rows
+
+-- A view whose messages have ascending UIDs, from 1 on in 32 bits.
+pub record IsNumbered (view : List Entry) : Type 0 where
+  pub small : Each (λ e. IsSmall e.uid) view
+  pub rising : AreRising 1 view
+
+-- The numbers of a mailbox are from 1 on in their bits.
+pub record AreNonzeroMarks (marks : Marks) : Type 0 where
+  pub uidnext : IsNonzero marks.uidnext
+  pub uidvalidity : IsNonzero marks.uidvalidity
+  pub highest : IsModSeq marks.highest_modseq
+
+-- What FETCH asks can be told: a section's names of fields are some, and can be counted; a partial begins at a number of 32 bits
+-- (RFC 9051, section 9, fetch-att).
+abbrev pub IsTellable : FetchItem → Type 0
+IsTellable Uid = Unit {0}
+IsTellable Flags = Unit {0}
+IsTellable InternalDate = Unit {0}
+IsTellable Size = Unit {0}
+IsTellable ModSeq = Unit {0}
+IsTellable (Body peek section partial) = IsSection section × Where (λ cut. IsSmall cut.start) partial
+
+-- The items of a FETCH can be told, and are one at least.
+pub record AreTellable (items : List FetchItem) : Type 0 where
+  pub some : 0 < length items
+  pub each : Each IsTellable items
+
+-- As many messages have come into the destination as the command copies (RFC 9051, section 7.1, COPYUID).
+abbrev pub AreAsMany : List Listed → List Entry → Bool → List SequenceRange → ℕ → List Listed → Type 0
+AreAsMany before view by_uid set uidnext landed = length (sources_of before view (resolved by_uid set view)) ≡ length (copies_in uidnext landed)
+
+-- What a command asks can be told: its names have INBOX in capitals, its items are some and can be told, and its steps are a key's.
+abbrev pub IsAnswerable : Command → Type 0
+IsAnswerable (commands.Select name condstore) = IsFolded name
+IsAnswerable (commands.Examine name condstore) = IsFolded name
+IsAnswerable (commands.Status name items) = IsFolded name × (0 < length items)
+IsAnswerable (commands.Search by_uid options steps) = IsKey steps
+IsAnswerable (commands.Fetch by_uid messages items changed_since) = AreTellable items
+IsAnswerable _ = Unit {0}

@@ -1,0 +1,35 @@
+use Rattle.std.specs.Prelude.{◌≡◌, ℕ, ◌+◌, List, length, Some}
+use Rattle.crdt_ops.specs.declared.op.Op.{Op}
+use Rattle.imap_answers.specs.declared.answer.Answer.{Answer}
+use Rattle.imap_answers.specs.Printable.{Each, IsPrintable, IsTag, IsWide, Where}
+use Rattle.imap_commands.specs.Printing.{IsNumbered}
+use Rattle.imap_commands.specs.declared.session.Session.{Session}
+use Rattle.imap_commands.specs.declared.session.State.{State}
+use Rattle.imap_commands.specs.declared.session.State.TheVariants.{Selected}
+use Rattle.uid_projection.specs.declared.start.Start.{Start}
+use Rattle.uid_projection.specs.Bounds.{AreWritable, IsLasting, IsLawfulStart}
+use Rattle.imap_node.specs.Sessions.{Places, with_session}
+
+-- What a node has applied can be shown: its counters began lawfully and none was at its end, and its operations can be written and counted.
+pub record IsPresentable (start : Start) (ops : List Op) : Type 0 where
+  pub lawful : IsLawfulStart start
+  pub lasting : IsLasting start ops
+  pub writable : AreWritable ops
+  pub count : IsWide (1 + length ops)
+
+-- The messages that are seen have ascending UIDs in 32 bits.
+abbrev pub SeesNumbered : State → Type 0
+SeesNumbered (Selected view read_only) = IsNumbered view.entries
+SeesNumbered _ = Unit {0}
+
+-- A session can be answered: the messages that it sees can be named, and the IDLE that it is in has a tag.
+pub record IsAnswerableIn (session : Session) : Type 0 where
+  pub state : SeesNumbered session.state
+  pub idling : Where IsTag session.idling
+
+-- All answers can be printed, and the session that is left can be answered again.
+pub record IsAnsweredWell (old : Places) (n : ℕ) (answers : List Answer) (new : Places) : Type 0 where
+  pub printable : Each IsPrintable answers
+  pub next : Session
+  pub sessions : new ≡ with_session old n (Some next)
+  pub answerable : IsAnswerableIn next
