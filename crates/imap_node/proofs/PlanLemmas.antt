@@ -65,24 +65,23 @@ module _ (old : NodeState) (n : ℕ) (session : Session) (input : Input) (at : s
   done_responds p h = λ new k.
       let after : Session = session_after old.start (old.applied ++ p.ops) session input h.answered.course in
       let place : place_next (session_at old.sessions n) (Becomes p.answered.session) ≡ Some after =
-      ap (λ (s : Option Session). place_next s (Becomes p.answered.session)) at ∙ ap (λ (s : Session). Some s) h.answered.becomes in
-      (
+      ap (λ (s : Option Session). place_next s (Becomes p.answered.session)) at ∙ ap (λ (s : Session). Some s) h.answered.becomes in (
         session,
         at,
         subst (λ (os : List Op). Carries old n session input p.answered.answers p.answered.silent os new) (sym h.copies)
-        (record {
-          stamp = h.stamp;
-          stamped = h.stamped;
-          kinds = h.kinds;
-          wanted = h.wanted;
-          next = h.next;
-          lasts = h.lasts;
-          course = h.answered.course;
-          taken = h.answered.taken;
-          answers_are = h.answered.answers;
-          silent_is = h.answered.silent;
-          becomes = subst (λ (s : Option Session). Holds old p.ops (with_session old.sessions n s) new) place k;
-        }),
+            (record {
+              stamp = h.stamp;
+              stamped = h.stamped;
+              kinds = h.kinds;
+              wanted = h.wanted;
+              next = h.next;
+              lasts = h.lasts;
+              course = h.answered.course;
+              taken = h.answered.taken;
+              answers_are = h.answered.answers;
+              silent_is = h.answered.silent;
+              becomes = subst (λ (s : Option Session). Holds old p.ops (with_session old.sessions n s) new) place k;
+            }),
       )
 
   refused_responds : (why : Refusal) → IsRefused old.start old.applied session.state input why → Planned old n input (plan_by n session.state input (Err why))

@@ -64,11 +64,7 @@ pub fn course_of(
 }
 
 /// A full sync alone, with this behind it.
-fn synced_course(
-    alloc: Global,
-    session: &Session,
-    tail: Vec<Answer>,
-) -> Result<Course, AllocError>
+fn synced_course(alloc: Global, session: &Session, tail: Vec<Answer>) -> Result<Course, AllocError>
     ensures { IfOk result (λ course. course ≡ synced_course session.now tail.items) }
 {
     Ok(Course {

@@ -37,9 +37,7 @@ pub enum Next {
     /// It no longer idles.
     Wakes,
     /// It is this.
-    Becomes {
-        session: Session,
-    },
+    Becomes { session: Session },
 }
 
 /// What a node will do with an input, with all memory that it takes.

@@ -235,7 +235,8 @@ impl Replica {
         requires { IsReady self.now ops.now }
         ensures { result ≡ uidvalidity_of self.now.start name.now (self.now.applied ++ ops.now) }
     {
-        self.charts_now().uidvalidity_after(self.folders_now(), name, ops)
+        self.charts_now()
+            .uidvalidity_after(self.folders_now(), name, ops)
     }
 
     /// The UIDNEXT that the mailbox has behind these operations.
@@ -243,7 +244,8 @@ impl Replica {
         requires { IsReady self.now ops.now }
         ensures { result ≡ uidnext_of self.now.start name.now (self.now.applied ++ ops.now) }
     {
-        self.charts_now().uidnext_after(self.folders_now(), name, ops)
+        self.charts_now()
+            .uidnext_after(self.folders_now(), name, ops)
     }
 
     /// The HIGHESTMODSEQ that the mailbox has behind these operations.
@@ -251,7 +253,8 @@ impl Replica {
         requires { IsReady self.now ops.now }
         ensures { result ≡ highest_modseq_of name.now (self.now.applied ++ ops.now) }
     {
-        self.charts_now().highest_after(self.folders_now(), name, ops)
+        self.charts_now()
+            .highest_after(self.folders_now(), name, ops)
     }
 
     /// The listing that the mailbox has behind these operations; `Err` where there is no memory for it.

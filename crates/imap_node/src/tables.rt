@@ -65,7 +65,8 @@ pub fn is_enabling(command: &Command) -> bool
             ..
         } => fetch_asks_modseq(items.as_slice(), *changed_since),
         Command::Store {
-            unchanged_since, ..
+            unchanged_since,
+            ..
         } => unchanged_since.is_some(),
         _ => false,
     }

@@ -224,7 +224,11 @@ fn tells_append(alloc: Global, replica: &Replica, ops: &[SoundOp], name: &Name) 
     requires { IsReady replica.now ops.now }
     ensures { result ≡ append_tells (validity_of replica.now.start name.now (replica.now.applied ++ ops.now)) (uidnext_of replica.now.start name.now replica.now.applied) }
 {
-    append_tells(alloc, validity_after(replica, ops, name), replica.uidnext(name))
+    append_tells(
+        alloc,
+        validity_after(replica, ops, name),
+        replica.uidnext(name),
+    )
 }
 
 fn tells_list(

@@ -46,8 +46,12 @@ pub fn wants_of(
 {
     match input {
         Input::Command { tagged, .. } => wants(alloc, replica, stamp, state, &tagged.command),
-        Input::Line { line: IdleLine::Done } => Ok(Vec::new(alloc)),
-        Input::Line { line: IdleLine::Other } => Err(Refusal::DoneExpected),
+        Input::Line {
+            line: IdleLine::Done,
+        } => Ok(Vec::new(alloc)),
+        Input::Line {
+            line: IdleLine::Other,
+        } => Err(Refusal::DoneExpected),
         Input::Poll => Ok(Vec::new(alloc)),
     }
 }
@@ -94,7 +98,15 @@ fn wants(
             messages,
             items,
             changed_since,
-        } => wants_fetch(alloc, replica, state, *by_uid, messages, items.as_slice(), *changed_since),
+        } => wants_fetch(
+            alloc,
+            replica,
+            state,
+            *by_uid,
+            messages,
+            items.as_slice(),
+            *changed_since,
+        ),
         Command::Store {
             by_uid,
             messages,
@@ -320,11 +332,7 @@ fn wants_uid_expunge(
     uid_expunge_wants(alloc, view.name(), &rows, view, *read_only, uids)
 }
 
-fn wants_search(
-    alloc: Global,
-    state: &State,
-    steps: &[SearchStep],
-) -> Result<Vec<Kind>, Refusal>
+fn wants_search(alloc: Global, state: &State, steps: &[SearchStep]) -> Result<Vec<Kind>, Refusal>
     ensures { Gives (λ kinds. kinds.items) result (when_selected state.now (λ view read_only. search_wants view.entries steps.now)) }
 {
     let State::Selected { view, .. } = state else {
@@ -405,7 +413,15 @@ fn wants_copy(
         return Err(Refusal::NotNow);
     };
     let rows = rows_before(alloc, replica, view)?;
-    copy_wants(alloc, name, replica.exists(name), &rows, view, by_uid, messages)
+    copy_wants(
+        alloc,
+        name,
+        replica.exists(name),
+        &rows,
+        view,
+        by_uid,
+        messages,
+    )
 }
 
 fn wants_move(
