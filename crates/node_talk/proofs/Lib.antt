@@ -1,0 +1,11 @@
+mod AmidLemmas
+mod DumpLemmas
+mod EndLemmas
+pub mod FaultLemmas
+mod PlaceLemmas
+mod PrintableLemmas
+mod ReplyLemmas
+mod RequestLemmas
+pub mod StreamLemmas
+pub mod TalkLemmas
+pub mod TurnLemmas

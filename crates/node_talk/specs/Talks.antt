@@ -1,0 +1,84 @@
+use Rattle.std.specs.Prelude.{◌≡◌, ℕ, List, [], ◌∷◌, ◌++◌, Option, Some, None, Result, Err, IsOk, IsErr, option_to_list}
+use Rattle.imap_lex.specs.Reading.{Cut, Progress}
+use Rattle.imap_lex.specs.declared.fault.Fault.{Fault}
+use Rattle.imap_lex.specs.declared.fault.Fault.TheVariants.{LineTooLong, LiteralTooLong, NulByte, NoMemory, Failed}
+use Rattle.imap_answers.specs.declared.answer.Answer.{Answer}
+use Rattle.imap_answers.specs.declared.answer.Answer.TheVariants.{Bye}
+use Rattle.imap_answers.specs.declared.words.ByeReason.TheVariants as reasons
+use Rattle.imap_node.specs.Nodes.{IsGoing, NodeState, closed}
+use Rattle.imap_node.specs.Respond.{Responds}
+use Rattle.imap_node.specs.declared.input.Input.TheVariants.{Poll}
+use Rattle.imap_node.specs.declared.reply.Reply.{Reply}
+use Rattle.node_talk.specs.Conversation.{BreaksOff, Converses, IsFront, Timed, sent, timed_at}
+use Rattle.node_talk.specs.Replies.{polled_answers}
+use Rattle.node_talk.specs.declared.turn.TalkFaultKind.{TalkFaultKind}
+use Rattle.node_talk.specs.declared.turn.TalkFaultKind.TheVariants as kinds
+use Rattle.node_talk.specs.declared.turn.Turn.{Turn}
+
+-- The items that octets complete, each with the moment at which it came, and what is left of the octets.
+abbrev pub TimedCut : Type 0
+TimedCut = List Timed × Result Progress Fault
+
+-- A cut of octets that came at one moment.
+abbrev pub cut_at : ℕ → Cut → TimedCut
+cut_at moment cut = (timed_at moment cut.0, cut.1)
+
+-- Some items begin the others.
+abbrev pub IsPrefix : List Timed → List Timed → Type 0
+IsPrefix front items = (back : List Timed) × (items ≡ front ++ back)
+
+-- The BYE that ends a connection for a fault of the framer.
+abbrev pub goodbye_of : Fault → Option Answer
+goodbye_of LineTooLong = Some (Bye reasons.LineTooLong)
+goodbye_of LiteralTooLong = Some (Bye reasons.LiteralTooLong)
+goodbye_of NulByte = Some (Bye reasons.NulInText)
+goodbye_of NoMemory = None
+goodbye_of Failed = None
+
+-- The turns that a fault of the framer adds.
+abbrev pub goodbyes : Fault → List Turn
+goodbyes why = sent (option_to_list (goodbye_of why))
+
+-- How a conversation ends at a fault of the framer: with its BYE, or where that finds no memory, for want of memory.
+abbrev pub SaysGoodbye : Fault → TalkFaultKind → List Turn → List Turn → Type 0
+SaysGoodbye why (kinds.Framing fault) old new = (fault ≡ why) × (new ≡ old ++ goodbyes why)
+SaysGoodbye why kinds.NoMemory old new = new ≡ old
+SaysGoodbye why kinds.LineRefused old new = ⊥
+
+-- How a conversation ends at a line of IDLE that was refused for want of memory: with a BYE, or where that finds no memory, without.
+abbrev pub SaysRefused : TalkFaultKind → List Turn → List Turn → Type 0
+SaysRefused kinds.LineRefused old new = new ≡ old ++ sent (Bye reasons.NoMemory ∷ [])
+SaysRefused kinds.NoMemory old new = new ≡ old
+SaysRefused (kinds.Framing why) old new = ⊥
+
+-- What a piece of input makes of a session: the turns of the conversation over the items that the piece completes. Where
+-- the session goes on, the framer has what is left of the piece.
+abbrev pub Talks : NodeState → ℕ → TimedCut → List Turn → NodeState → Result Progress Fault → Type 0
+Talks old session cut turns new state = Converses old session cut.0 turns new × (IsGoing new session → (state ≡ cut.1) × IsOk state)
+
+-- How a conversation ends that a piece of input ends.
+abbrev pub EndsTalk : TalkFaultKind → NodeState → ℕ → Result Progress Fault → TimedCut → List Turn → NodeState → Type 0
+-- for want of memory, behind some of the items
+EndsTalk kinds.NoMemory old session state cut turns new =
+    (items : List Timed) × IsPrefix items cut.0 × BreaksOff kinds.NoMemory old session items turns new
+-- for want of memory at a line of IDLE, behind the items before it
+EndsTalk kinds.LineRefused old session state cut turns new =
+    (items : List Timed) × IsPrefix items cut.0 × BreaksOff kinds.LineRefused old session items turns new
+-- for a fault of the framer, behind the items before it
+EndsTalk (kinds.Framing NoMemory) old session state cut turns new =
+    (items : List Timed) × (mid : NodeState) × IsPrefix items cut.0 × Converses old session items turns mid × IsGoing mid session × (new ≡ closed mid session)
+EndsTalk (kinds.Framing Failed) old session state cut turns new = IsErr state × (turns ≡ []) × (new ≡ closed old session)
+EndsTalk (kinds.Framing why) old session state cut turns new =
+    (cut.1 ≡ Err why) × (mid : NodeState) × (before : List Turn) × Converses old session cut.0 before mid × IsGoing mid session
+    × (turns ≡ before ++ goodbyes why) × (new ≡ closed mid session)
+
+-- ---- polls
+
+-- A session is polled: the turns are the answers that it is sent, and none where the poll is refused.
+abbrev pub Polls : NodeState → ℕ → List Turn → NodeState → Type 0
+Polls old session turns new = (reply : Reply) × Responds old session Poll reply new × (turns ≡ sent (polled_answers reply))
+
+-- Memory breaks off the answers to a poll, which was carried out: some of them are sent, and the session is closed.
+abbrev pub BreaksPoll : NodeState → ℕ → List Turn → NodeState → Type 0
+BreaksPoll old session turns new =
+    (reply : Reply) × (mid : NodeState) × Responds old session Poll reply mid × IsFront turns (sent (polled_answers reply)) × (new ≡ closed mid session)
