@@ -17,7 +17,7 @@ use Rattle.imap_node.specs.Nodes.{IsGoing, NodeKept, NodeState, closed}
 use Rattle.imap_node.specs.Sessions.{IsOpen, Opens}
 use Rattle.imap_node.specs.declared.sessions.Auth.TheVariants.{Preauth}
 use Rattle.mail_replay.specs.Deliveries.{DeliversTo, DrainsAt, ForgesAt, Issued, with_node}
-use Rattle.mail_replay.specs.Stage.{Scene, replica_place, session_place}
+use Rattle.mail_replay.specs.Stage.{IsNew, Scene, replica_place, session_place}
 use Rattle.mail_replay.specs.Transcript.{transcript}
 use Rattle.mail_replay.specs.declared.stage.Connection.{Connection}
 use Rattle.mail_replay.specs.declared.stage.Replica.{Replica}
@@ -38,13 +38,7 @@ crlf = 13 ∷ 10 ∷ []
 abbrev pub start_at : ℕ → ℕ → ℕ → Start
 start_at name uid k = record { replica = name; uid = uid; k = k }
 
--- A replica that has received nothing, and whose counters begin so.
-pub record IsNew (first : Start) (replica : Replica) : Type 0 where
-  pub name : replica.name ≡ first.replica
-  pub node : replica.node.state ≡ record { start = first; applied = []; held = []; sessions = [] }
-  pub issued : replica.issued ≡ []
-
--- A replica of this name is declared.
+-- A replica is declared whose counters begin so.
 abbrev pub Declares : Scene → Start → Scene → Type 0
 Declares old first new =
     (replica_place old.replicas first.replica ≡ None)
@@ -199,7 +193,7 @@ FeedsInPart scene name octets more =
 
 -- The turns that a poll makes: all of them, or those in front of the one for which there is no memory.
 abbrev pub HasPolledTurns : NodeState → ℕ → List Turn → Type 0
-HasPolledTurns old session turns = (new : NodeState) × (Polls old session turns new ⊎ BreaksPoll old session turns new)
+HasPolledTurns old session turns = ((new : NodeState) × Polls old session turns new) ⊎ ((new : NodeState) × BreaksPoll old session turns new)
 
 -- A session is polled, and some of the first answers are printed.
 abbrev pub PollsInPart : Scene → List ℕ → List ℕ → Type 0

@@ -1,6 +1,6 @@
 //! What each line of a script does.
 
-ghost use Rattle.std.specs.Prelude.{◌≡◌, ◌⊎◌, ◌++◌, ◌∷◌, [], ℕ, List, None, Some, Err, IfOk, IfErr, IsTrue, IsSome, IsNone, ◌↔◌, OnOk, OnErr, codes, take};
+ghost use Rattle.std.specs.Prelude.{◌≡◌, ◌≤◌, ◌⊎◌, ◌++◌, ◌∷◌, [], ℕ, List, None, Some, Err, IfOk, IfErr, IsTrue, IsSome, IsNone, ◌↔◌, OnOk, OnErr, codes, take};
 ghost use Rattle.imap_answers.specs.Printed.{printed as text_of};
 ghost use Rattle.imap_answers.specs.declared.answer.Answer.{Answer as OneAnswer};
 ghost use Rattle.imap_answers.specs.declared.answer.Answer.TheVariants.{Bye, Greeting};
@@ -21,7 +21,7 @@ ghost use Rattle.node_talk.specs.Talks.{Polls};
 ghost use Rattle.node_talk.specs.declared.turn.Turn.{Turn as OneTurn};
 
 use crate::deliveries::{deliver, drain, forge};
-use crate::stage::{Connection, IssuedOps, Replica, Session, Stage, replica_place, session_place};
+use crate::stage::{Connection, Replica, Session, Stage, replica_place, session_place};
 use crate::transcript::{write_answer, write_turns};
 use imap_lex::{Fault, Framer, Limits};
 use imap_print::{Answer, ByeReason, Login};
@@ -153,13 +153,11 @@ fn declare(alloc: Global, stage: &mut Stage, start: Start) -> Result<(), ServeFa
     ensures bad { result ≡ Err BadScript ↔ IsSome (replica_place stage.old.replicas.items start.replica) }
     ensures err { OnErr result (scene_of stage.new ≡ scene_of stage.old) }
 {
-    let name = start.replica;
-    if replica_place(&stage.replicas, name).is_some() {
+    if replica_place(&stage.replicas, start.replica).is_some() {
         return Err(ServeFault::BadScript);
     }
-    let node = Node::new(alloc, start)?;
-    let issued = IssuedOps::new(alloc);
-    stage.replicas.push(Replica { name, node, issued })?;
+    let replica = Replica::new(alloc, start)?;
+    stage.replicas.push(replica)?;
     Ok(())
 }
 
@@ -367,12 +365,12 @@ fn poll_node(
         return Err(ServeFault::BadScript);
     }
     match poll_turns(alloc, node, session) {
-        Ok(turns) => {
-            write_turns(name, &turns, printed)?;
+        Ok(answers) => {
+            write_turns(name, &answers, printed)?;
             Ok(())
         }
-        Err(fault) => {
-            write_turns(name, &fault.turns, printed)?;
+        Err(broken) => {
+            write_turns(name, &broken.turns, printed)?;
             Err(ServeFault::NoMemory)
         }
     }

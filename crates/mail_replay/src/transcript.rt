@@ -9,8 +9,8 @@ ghost use Rattle.node_talk.specs.declared.turn.Turn.{Turn as OneTurn};
 
 use imap_print::{Answer, print};
 use mail_script::{SessionName, Speaker, write_transcript_line};
-use std::alloc::{AllocError, Global};
 use node_talk::Turn;
+use std::alloc::{AllocError, Global};
 
 /// Appends a line for each turn; `Err` behind some of them, where there is no memory for the next.
 pub fn write_turns(

@@ -70,29 +70,21 @@ const LOGIN: [(&str, &str); 12] = [
     ("i LOGIN joe secret\r\n", "i BAD not now|"),
     ("j CREATE work\r\n", "j OK CREATE completed|"),
     ("k FETCH 1 FLAGS\r\n", "k BAD not now|"),
-    (
-        "l LOGOUT\r\n",
-        "* BYE logging out|l OK LOGOUT completed|",
-    ),
+    ("l LOGOUT\r\n", "* BYE logging out|l OK LOGOUT completed|"),
 ];
 
 /// LOGOUT may come before LOGIN.
-const AT_ONCE: [(&str, &str); 1] = [(
-    "a LOGOUT\r\n",
-    "* BYE logging out|a OK LOGOUT completed|",
-)];
+const AT_ONCE: [(&str, &str); 1] = [("a LOGOUT\r\n", "* BYE logging out|a OK LOGOUT completed|")];
 
 /// The place of the first line, in a new session of joe's, that is answered otherwise.
 fn first_wrong(alloc: Global, lines: &[(&str, &str)]) -> Option<usize> {
     let Some(mut talk) = begin(alloc, "joe", "secret") else {
         return Some(lines.len());
     };
-    lines
-        .iter()
-        .position(|line| match answers(alloc, &mut talk, line.0) {
-            Some(told) => told.as_slice() != line.1.as_bytes(),
-            None => true,
-        })
+    lines.iter().position(|line| match answers(alloc, &mut talk, line.0) {
+        Some(told) => told.as_slice() != line.1.as_bytes(),
+        None => true,
+    })
 }
 
 /// Whether the session goes on behind these lines.

@@ -42,7 +42,7 @@ returns-in_err-add_behind-clause-memory c =
       connection_is = search rules;
     } in
     let told = c.in_ok-session.ensures.ok in
-    λ e. (_, (t, told.0, length told.0, whole_talk _ _ _ _ _ _ told.1, refl), told.2 ∙ ap (λ (ts : List Turn). c.args.printed.now.items ++ transcript c.args.name.now ts) (sym (take-length told.0)))
+    λ e. (_, (t, told.0, length told.0, whole_talk _ _ _ _ _ _ _ told.1, refl), told.2 ∙ ap (λ (ts : List Turn). c.args.printed.now.items ++ transcript c.args.name.now ts) (sym (take-length told.0)))
 
 pub returns-clause-ok : goal.returns-clause-ok
 returns-clause-ok c =
