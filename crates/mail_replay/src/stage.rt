@@ -12,10 +12,10 @@ use imap_lex::Framer;
 use imap_types::Moment;
 use mail_script::SessionName;
 use merge_laws::Caused;
+use node_talk::{Node, SessionNo};
 use std::alloc::{AllocError, Global};
 use std::marker::Model;
 use tags_clocks::{OpId, ReplicaId};
-use world_core::{Node, SessionNo};
 
 /// The operations that the sessions of a replica issued, in their order, as copies of those that it applied. Forged ones that
 /// bear its name aren't among them.

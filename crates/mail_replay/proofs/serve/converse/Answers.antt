@@ -1,7 +1,7 @@
 use Rattle.std.proofs.Common.{inr, List, ◌++◌, length, ap, sym, ◌∙◌}
 use Rattle.std.proofs.Math.Seq.{take-length}
 use Rattle.mail_replay.specs.Transcript.{transcript}
-use Rattle.world_core.specs.declared.turn.Turn.{Turn}
+use Rattle.node_talk.specs.declared.turn.Turn.{Turn}
 use Rattle.mail_replay.proofs.serve.converse.Goals as goal
 
 pub returns-in-Framing-NoMemory-clause-memory : goal.returns-in-Framing-NoMemory-clause-memory

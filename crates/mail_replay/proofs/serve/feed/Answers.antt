@@ -5,7 +5,7 @@ use Rattle.mail_replay.proofs.StageLemmas.{stands_at}
 use Rattle.mail_replay.specs.Lines.{Talking}
 use Rattle.mail_replay.specs.Transcript.{transcript}
 use Rattle.mail_replay.specs.Stage.{scene_of}
-use Rattle.world_core.specs.declared.turn.Turn.{Turn}
+use Rattle.node_talk.specs.declared.turn.Turn.{Turn}
 use Rattle.mail_replay.proofs.serve.feed.Goals as goal
 
 pub returns-in_err-session-clause-memory : goal.returns-in_err-session-clause-memory
