@@ -6,14 +6,14 @@ use Rattle.tags_clocks.specs.declared.id.OpId.{OpId}
 use Rattle.imap_types.specs.Escape.{AreOctets, escaped}
 use Rattle.imap_types.specs.declared.escape.Escape.TheVariants.{Text}
 use Rattle.mail_script.specs.Fields.{IsFirstK, IsFirstUid, IsNumber, IsReplica, id_text, is_session_name}
-use Rattle.mail_script.specs.Reading.{◌>>=◌, Gives, cut_at, deliver_at, fields_at, first_numbers_at, forge_at, id_at, keyword_at, line_at, moment_at, node_at, open_at, replica_at, session_at, spoken_at, words_at}
+use Rattle.mail_script.specs.Reading.{◌>>=◌, Gives, agree_at, cut_at, deliver_at, fields_at, first_numbers_at, forge_at, id_at, keyword_at, line_at, moment_at, node_at, open_at, replica_at, session_at, spoken_at, word_or_words_at, words_at}
 use Rattle.mail_script.specs.Script.{Says, first_numbers_text}
 use Rattle.mail_script.specs.declared.script.Keyword.{Keyword}
-use Rattle.mail_script.specs.declared.script.Keyword.TheVariants.{Node as NodeWord, Now as NowWord, Open as OpenWord, Line as LineWord, Send as SendWord, Poll as PollWord, Close as CloseWord, Show as ShowWord, Deliver as DeliverWord, Forge as ForgeWord, Drain as DrainWord}
+use Rattle.mail_script.specs.declared.script.Keyword.TheVariants.{Node as NodeWord, Now as NowWord, Open as OpenWord, Line as LineWord, Send as SendWord, Poll as PollWord, Close as CloseWord, Show as ShowWord, Deliver as DeliverWord, Forge as ForgeWord, Drain as DrainWord, Agree as AgreeWord}
 use Rattle.mail_script.specs.declared.script.LineFault.{LineFault}
 use Rattle.mail_script.specs.declared.script.LineFault.TheVariants.{NotALine, NoMemory}
 use Rattle.mail_script.specs.declared.script.ScriptLine.{ScriptLine}
-use Rattle.mail_script.specs.declared.script.ScriptLine.TheVariants.{Blank, Node, Now, Open, Line, Send, Poll, Close, Show, Deliver, Forge, Drain}
+use Rattle.mail_script.specs.declared.script.ScriptLine.TheVariants.{Blank, Node, Now, Open, Line, Send, Poll, Close, Show, Deliver, Forge, Drain, Settle, Agree}
 use Rattle.text_fields.proofs.FieldLemmas.{bind_some, bound, chosen, cut_again, cut_takes, decimal_lacks, id_again, id_lacks, id_takes, replica_again, replica_takes}
 use Rattle.mail_script.proofs.FieldLemmas.{cut_none, first_numbers_again, first_numbers_takes, moment_again, moment_takes, session_again, session_takes, spoken_again, spoken_takes, numbers_text}
 use Rattle.std.specs.Prelude.{codes}
@@ -31,6 +31,7 @@ keyword_text ShowWord = codes "show"
 keyword_text DeliverWord = codes "deliver"
 keyword_text ForgeWord = codes "forge"
 keyword_text DrainWord = codes "drain"
+keyword_text AgreeWord = codes "agree"
 
 -- a word of the table, or one behind it
 picked : (word text : List ℕ) (k : Keyword) (next : Option Keyword) (keyword : Keyword) → text ≡ keyword_text k → cond (bytes_eq word text) (Some k) next ≡ Some keyword → (next ≡ Some keyword → word ≡ keyword_text keyword) → word ≡ keyword_text keyword
@@ -54,7 +55,8 @@ keyword_takes word keyword h =
     picked word (codes "deliver") DeliverWord _ keyword refl h (λ h.
     picked word (codes "forge") ForgeWord _ keyword refl h (λ h.
     picked word (codes "drain") DrainWord _ keyword refl h (λ h.
-    absurd (let k = h in cc))))))))))))
+    picked word (codes "agree") AgreeWord _ keyword refl h (λ h.
+    absurd (let k = h in cc)))))))))))))
 
 -- what is read behind each word is said
 node_takes : (fields : List ℕ) (cut : Option (List ℕ × List ℕ)) (said : ScriptLine) → ((parts : List ℕ × List ℕ) → cut ≡ Some parts → fields ≡ parts.0 ++ 32 ∷ parts.1) → node_at cut fields ≡ Some said → Says (codes "node " ++ fields) said
@@ -96,6 +98,18 @@ deliver_takes fields said h =
     let u = replica_takes c.0.1 r.0 r.1 in
     let text : fields ≡ id_text n.0 ++ 32 ∷ decimal r.0 = cut_takes 32 fields c.0 c.1 ∙ (λ i. t.1 i ++ 32 ∷ u.1 i) in
     subst (Says (codes "deliver " ++ fields)) e (t.0.0, t.0.1, u.0, ap (λ (t : List ℕ). codes "deliver " ++ t) text)
+
+agree_takes : (fields : List ℕ) (said : ScriptLine) → agree_at fields ≡ Some said → Says (codes "agree " ++ fields) said
+unfolding agree_at
+agree_takes fields said h =
+    let c = bind_some (cut_at 32 fields) _ said h in
+    let r = bind_some (replica_at c.0.0) _ said c.2 in
+    let s = bind_some (replica_at c.0.1) _ said r.2 in
+    let e : Agree r.0 s.0 ≡ said = let k = s.2 in cc in
+    let t = replica_takes c.0.0 r.0 r.1 in
+    let u = replica_takes c.0.1 s.0 s.1 in
+    let text : fields ≡ decimal r.0 ++ 32 ∷ decimal s.0 = cut_takes 32 fields c.0 c.1 ∙ (λ i. t.1 i ++ 32 ∷ u.1 i) in
+    subst (Says (codes "agree " ++ fields)) e (t.0, u.0, ap (λ (t : List ℕ). codes "agree " ++ t) text)
 
 forge_takes : (fields : List ℕ) (said : ScriptLine) → forge_at fields ≡ Some said → Says (codes "forge " ++ fields) said
 unfolding forge_at
@@ -154,6 +168,7 @@ fields_takes ShowWord fields said h = replica_said (codes "show") fields Show sa
 fields_takes DeliverWord fields said h = deliver_takes fields said h
 fields_takes ForgeWord fields said h = forge_takes fields said h
 fields_takes DrainWord fields said h = replica_said (codes "drain") fields Drain said (λ r i e. (i, ap (λ (t : List ℕ). codes "drain " ++ t) e)) h
+fields_takes AgreeWord fields said h = agree_takes fields said h
 
 words_takes : (line : List ℕ) (said : ScriptLine) → words_at line ≡ Some said → Says line said
 unfolding words_at
@@ -163,21 +178,31 @@ words_takes line said h =
     let text : line ≡ keyword_text k.0 ++ 32 ∷ c.0.1 = cut_takes 32 line c.0 c.1 ∙ ap (λ (w : List ℕ). w ++ 32 ∷ c.0.1) (keyword_takes c.0.0 k.0 k.1) in
     subst (λ (t : List ℕ). Says t said) (sym text) (fields_takes k.0 c.0.1 said k.2)
 
+line_of_words : (line : List ℕ) (said : ScriptLine) → word_or_words_at line ≡ Some said → Says line said
+unfolding word_or_words_at
+line_of_words line said h =
+    elim (chosen (bytes_eq line (codes "settle")) (Some Settle) (words_at line) (Some said) h) [
+      | inl t ↦
+          let e : Settle ≡ said = let k = t.1 in cc in
+          subst (Says line) e ((bytes_eq-Decides line (codes "settle")).0 t.0)
+      | inr f ↦ words_takes line said f.1
+    ]
+
 -- what is read of a line is what it says
 pub line_takes : (line : List ℕ) (said : ScriptLine) → line_at line ≡ Some said → Says line said
 line_takes [] said h = let e : Blank ≡ said = cc in subst (Says []) e (inl refl)
 line_takes (octet ∷ octets) said h =
-    elim (chosen (eqb octet 35) (Some Blank) (words_at (octet ∷ octets)) (Some said) h) [
+    elim (chosen (eqb octet 35) (Some Blank) (word_or_words_at (octet ∷ octets)) (Some said) h) [
       | inl t ↦
           let e : Blank ≡ said = let k = t.1 in cc in
           let s : octet ≡ 35 = eqb-true octet 35 t.0 in
           subst (Says (octet ∷ octets)) e (inr (octets, (λ i. s i ∷ octets)))
-      | inr f ↦ words_takes (octet ∷ octets) said f.1
+      | inr f ↦ line_of_words (octet ∷ octets) said f.1
     ]
 
 -- the word of a line leads to its fields
 read_on : (keyword : Keyword) (fields : List ℕ) → line_at (keyword_text keyword ++ 32 ∷ fields) ≡ fields_at keyword fields
-unfolding words_at keyword_at
+unfolding word_or_words_at words_at keyword_at
 read_on NodeWord fields = refl
 read_on NowWord fields = refl
 read_on OpenWord fields = refl
@@ -189,6 +214,7 @@ read_on ShowWord fields = refl
 read_on DeliverWord fields = refl
 read_on ForgeWord fields = refl
 read_on DrainWord fields = refl
+read_on AgreeWord fields = refl
 
 read_of : (keyword : Keyword) (line fields : List ℕ) (said : ScriptLine) → line ≡ keyword_text keyword ++ 32 ∷ fields → fields_at keyword fields ≡ Some said → line_at line ≡ Some said
 read_of keyword line fields said e h = ap line_at e ∙ read_on keyword fields ∙ h
@@ -221,6 +247,18 @@ deliver_again id r i n s =
     ∙ bound (id_at (id_text id)) _ id (id_again id (i, n))
     ∙ bound (replica_at (decimal r)) _ r (replica_again r s)
 
+agree_again : (r s : ℕ) → IsReplica r → IsReplica s → agree_at (decimal r ++ 32 ∷ decimal s) ≡ Some (Agree r s)
+unfolding agree_at
+agree_again r s i j =
+    bound (cut_at 32 (decimal r ++ 32 ∷ decimal s)) _ (decimal r, decimal s) (cut_again 32 (decimal r) (decimal s) (decimal_lacks 32 r refl (omega arith)))
+    ∙ bound (replica_at (decimal r)) _ r (replica_again r i)
+    ∙ bound (replica_at (decimal s)) _ s (replica_again s j)
+
+-- the line of one word
+settle_again : line_at (codes "settle") ≡ Some Settle
+unfolding word_or_words_at
+settle_again = refl
+
 forge_again : (r : ℕ) (operation : List ℕ) → IsReplica r → forge_at (decimal r ++ 32 ∷ operation) ≡ Some (Forge r operation)
 unfolding forge_at
 forge_again r operation i =
@@ -245,6 +283,8 @@ line_again line (Show r) h = read_of ShowWord line (decimal r) (Show r) h.1 (bou
 line_again line (Deliver id r) h = read_of DeliverWord line (id_text id ++ 32 ∷ decimal r) (Deliver id r) h.3 (deliver_again id r h.0 h.1 h.2)
 line_again line (Forge r op) h = read_of ForgeWord line (decimal r ++ 32 ∷ op) (Forge r op) h.1 (forge_again r op h.0)
 line_again line (Drain r) h = read_of DrainWord line (decimal r) (Drain r) h.1 (bound (replica_at (decimal r)) _ r (replica_again r h.0))
+line_again line Settle h = ap line_at h ∙ settle_again
+line_again line (Agree r s) h = read_of AgreeWord line (decimal r ++ 32 ∷ decimal s) (Agree r s) h.2 (agree_again r s h.0 h.1)
 
 pub found_by : (line : List ℕ) (r : Result ScriptLine LineFault) → Gives (λ said. said) r (line_at line) → IfOk r (λ said. Says line said)
 found_by line (Ok said) g = line_takes line said g

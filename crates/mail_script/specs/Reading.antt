@@ -5,11 +5,11 @@ use Rattle.imap_types.specs.declared.escape.Escape.TheVariants.{Text}
 use Rattle.mail_script.specs.Fields.{is_session_name}
 pub use Rattle.text_fields.specs.Reading.{◌>>=◌, cut_at, id_at, in_front, number_at, positive, replica_at}
 use Rattle.mail_script.specs.declared.script.Keyword.{Keyword}
-use Rattle.mail_script.specs.declared.script.Keyword.TheVariants.{Node as NodeWord, Now as NowWord, Open as OpenWord, Line as LineWord, Send as SendWord, Poll as PollWord, Close as CloseWord, Show as ShowWord, Deliver as DeliverWord, Forge as ForgeWord, Drain as DrainWord}
+use Rattle.mail_script.specs.declared.script.Keyword.TheVariants.{Node as NodeWord, Now as NowWord, Open as OpenWord, Line as LineWord, Send as SendWord, Poll as PollWord, Close as CloseWord, Show as ShowWord, Deliver as DeliverWord, Forge as ForgeWord, Drain as DrainWord, Agree as AgreeWord}
 use Rattle.mail_script.specs.declared.script.LineFault.{LineFault}
 use Rattle.mail_script.specs.declared.script.LineFault.TheVariants.{NotALine, NoMemory}
 use Rattle.mail_script.specs.declared.script.ScriptLine.{ScriptLine}
-use Rattle.mail_script.specs.declared.script.ScriptLine.TheVariants.{Blank, Node, Now, Open, Line, Send, Poll, Close, Show, Deliver, Forge, Drain}
+use Rattle.mail_script.specs.declared.script.ScriptLine.TheVariants.{Blank, Node, Now, Open, Line, Send, Poll, Close, Show, Deliver, Forge, Drain, Settle, Agree}
 
 -- How the readers below take a line apart. What a line says is told by `Says`, and the laws join the two.
 
@@ -75,7 +75,8 @@ keyword_at word =
     else (if bytes_eq word (codes "deliver") then Some DeliverWord
     else (if bytes_eq word (codes "forge") then Some ForgeWord
     else (if bytes_eq word (codes "drain") then Some DrainWord
-    else None))))))))))
+    else (if bytes_eq word (codes "agree") then Some AgreeWord
+    else None)))))))))))
 
 -- What the fields behind `node` say.
 unfoldable pub node_at : Option (List ℕ × List ℕ) → List ℕ → Option ScriptLine
@@ -101,6 +102,14 @@ deliver_at fields = do
   replica ← replica_at parts.1
   Some (Deliver id replica)
 
+-- What the fields behind `agree` say.
+unfoldable pub agree_at : List ℕ → Option ScriptLine
+agree_at fields = do
+  parts ← cut_at 32 fields
+  first ← replica_at parts.0
+  second ← replica_at parts.1
+  Some (Agree first second)
+
 -- What the fields behind `forge` say.
 unfoldable pub forge_at : List ℕ → Option ScriptLine
 forge_at fields = do
@@ -121,15 +130,20 @@ fields_at ShowWord fields = replica_at fields >>= (λ replica. Some (Show replic
 fields_at DeliverWord fields = deliver_at fields
 fields_at ForgeWord fields = forge_at fields
 fields_at DrainWord fields = replica_at fields >>= (λ replica. Some (Drain replica))
+fields_at AgreeWord fields = agree_at fields
 
--- What a line that isn't blank says.
+-- What a line of a word and its fields says.
 unfoldable pub words_at : List ℕ → Option ScriptLine
 words_at line = do
   parts ← cut_at 32 line
   keyword ← keyword_at parts.0
   fields_at keyword parts.1
 
+-- What a line that isn't blank says.
+unfoldable pub word_or_words_at : List ℕ → Option ScriptLine
+word_or_words_at line = if bytes_eq line (codes "settle") then Some Settle else words_at line
+
 -- What a line says.
 abbrev pub line_at : List ℕ → Option ScriptLine
 line_at [] = Some Blank
-line_at (octet ∷ octets) = if octet == 35 then Some Blank else words_at (octet ∷ octets)
+line_at (octet ∷ octets) = if octet == 35 then Some Blank else word_or_words_at (octet ∷ octets)

@@ -4,7 +4,7 @@ use Rattle.imap_types.specs.Escape.{AreOctets, escaped}
 use Rattle.imap_types.specs.declared.escape.Escape.TheVariants.{Text}
 use Rattle.mail_script.specs.Fields.{IsFirstK, IsFirstUid, IsMoment, IsNumber, IsReplica, id_text, is_session_name}
 use Rattle.mail_script.specs.declared.script.ScriptLine.{ScriptLine}
-use Rattle.mail_script.specs.declared.script.ScriptLine.TheVariants.{Blank, Node, Now, Open, Line, Send, Poll, Close, Show, Deliver, Forge, Drain}
+use Rattle.mail_script.specs.declared.script.ScriptLine.TheVariants.{Blank, Node, Now, Open, Line, Send, Poll, Close, Show, Deliver, Forge, Drain, Settle, Agree}
 
 -- The numbers with which a replica's counters begin, behind its own.
 abbrev pub first_numbers_text : ℕ → ℕ → List ℕ
@@ -26,3 +26,5 @@ Says line (Show replica) = IsReplica replica × (line ≡ codes "show " ++ decim
 Says line (Deliver id replica) = IsReplica id.replica × IsNumber id.number × IsReplica replica × (line ≡ codes "deliver " ++ (id_text id ++ 32 ∷ decimal replica))
 Says line (Forge replica operation) = IsReplica replica × (line ≡ codes "forge " ++ (decimal replica ++ 32 ∷ operation))
 Says line (Drain replica) = IsReplica replica × (line ≡ codes "drain " ++ decimal replica)
+Says line Settle = line ≡ codes "settle"
+Says line (Agree first second) = IsReplica first × IsReplica second × (line ≡ codes "agree " ++ (decimal first ++ 32 ∷ decimal second))

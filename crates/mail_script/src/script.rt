@@ -3,7 +3,7 @@
 ghost use Rattle.std.specs.Prelude.{◌≡◌, ℕ, List, IfOk, MatchResult};
 ghost use Rattle.mail_script.specs.declared.script.ScriptLine.{ScriptLine as Meaning};
 ghost use Rattle.mail_script.specs.declared.script.LineFault.TheVariants.{NoMemory};
-ghost use Rattle.mail_script.specs.Reading.{Gives, cut_at, deliver_at, fields_at, forge_at, keyword_at, line_at, node_at, open_at, words_at};
+ghost use Rattle.mail_script.specs.Reading.{Gives, agree_at, cut_at, deliver_at, fields_at, forge_at, keyword_at, line_at, node_at, open_at, word_or_words_at, words_at};
 ghost use Rattle.mail_script.specs.Script.{Says};
 
 use crate::fields::{cut, first_numbers, id, moment, replica, session, spoken};
@@ -70,6 +70,13 @@ pub enum ScriptLine {
     Drain {
         replica: ReplicaId,
     },
+    /// `settle` exchanges all operations between all replicas, in the order in which they were declared.
+    Settle,
+    /// `agree R S` asks whether two replicas applied the same operations.
+    Agree {
+        first: ReplicaId,
+        second: ReplicaId,
+    },
 }
 
 /// Why a line isn't read.
@@ -122,6 +129,7 @@ pub enum Keyword {
     Deliver,
     Forge,
     Drain,
+    Agree,
 }
 
 /// What a line says, which is given without its LF; a CR before the LF belongs to it. `NotALine` exactly where the line
@@ -147,9 +155,19 @@ fn said(alloc: Global, line: &[u8]) -> Result<ScriptLine, LineFault>
             if *first == b'#' {
                 return Ok(ScriptLine::Blank);
             }
-            words(alloc, line)
+            word_or_words(alloc, line)
         }
     }
+}
+
+#[tactic(auto, unfolding(crate::specs::Reading::word_or_words_at))]
+fn word_or_words(alloc: Global, line: &[u8]) -> Result<ScriptLine, LineFault>
+    ensures { Gives (λ said. said) result (word_or_words_at line.now) }
+{
+    if line == b"settle".as_slice() {
+        return Ok(ScriptLine::Settle);
+    }
+    words(alloc, line)
 }
 
 #[tactic(auto, unfolding(crate::specs::Reading::words_at))]
@@ -187,6 +205,8 @@ fn read_keyword(word: &[u8]) -> Result<Keyword, LineFault>
         Ok(Keyword::Forge)
     } else if word == b"drain".as_slice() {
         Ok(Keyword::Drain)
+    } else if word == b"agree".as_slice() {
+        Ok(Keyword::Agree)
     } else {
         Err(LineFault::NotALine)
     }
@@ -228,6 +248,7 @@ fn after_keyword(alloc: Global, keyword: Keyword, fields: &[u8]) -> Result<Scrip
             let replica = replica(fields)?;
             Ok(ScriptLine::Drain { replica })
         }
+        Keyword::Agree => agree(fields),
     }
 }
 
@@ -270,6 +291,16 @@ fn deliver(fields: &[u8]) -> Result<ScriptLine, LineFault>
     let id = id(name)?;
     let replica = replica(number)?;
     Ok(ScriptLine::Deliver { id, replica })
+}
+
+#[tactic(auto, unfolding(crate::specs::Reading::agree_at))]
+fn agree(fields: &[u8]) -> Result<ScriptLine, LineFault>
+    ensures { Gives (λ said. said) result (agree_at fields.now) }
+{
+    let (one, other) = cut(b' ', fields)?;
+    let first = replica(one)?;
+    let second = replica(other)?;
+    Ok(ScriptLine::Agree { first, second })
 }
 
 #[tactic(auto, unfolding(crate::specs::Reading::forge_at))]
