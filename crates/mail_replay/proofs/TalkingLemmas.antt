@@ -10,7 +10,7 @@ use Rattle.mail_replay.specs.declared.stage.Session.{Session}
 use Rattle.mail_replay.proofs.StageLemmas.{some_same}
 use Rattle.mail_script.specs.Script.{Says}
 use Rattle.mail_script.specs.declared.script.ScriptLine.{ScriptLine}
-use Rattle.mail_script.specs.declared.script.ScriptLine.TheVariants.{Blank, Node, Now, Open, Line, Send, Poll, Close, Show, Deliver, Forge, Drain}
+use Rattle.mail_script.specs.declared.script.ScriptLine.TheVariants.{Blank, Node, Now, Open, Line, Send, Poll, Close, Show, Deliver, Forge, Drain, Settle, Agree}
 
 -- a session has one connection, with one replica
 pub one_talking : (scene : Scene) (name : List ℕ) (t u : Talking scene name) → (u.replica ≡ t.replica) × (u.connection ≡ t.connection)
@@ -50,3 +50,5 @@ says_first_uid line (Show replica) h = tt
 says_first_uid line (Deliver id replica) h = tt
 says_first_uid line (Forge replica operation) h = tt
 says_first_uid line (Drain replica) h = tt
+says_first_uid line Settle h = tt
+says_first_uid line (Agree first second) h = tt

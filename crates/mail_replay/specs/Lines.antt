@@ -11,7 +11,7 @@ use Rattle.imap_answers.specs.declared.words.Login.TheVariants.{Given}
 use Rattle.mail_script.specs.Script.{Says}
 use Rattle.mail_script.specs.Transcript.{transcript_line}
 use Rattle.mail_script.specs.declared.script.ScriptLine.{ScriptLine}
-use Rattle.mail_script.specs.declared.script.ScriptLine.TheVariants.{Blank, Node, Now, Open, Line, Send, Poll, Close, Show, Deliver, Forge, Drain}
+use Rattle.mail_script.specs.declared.script.ScriptLine.TheVariants.{Blank, Node, Now, Open, Line, Send, Poll, Close, Show, Deliver, Forge, Drain, Settle, Agree}
 use Rattle.mail_script.specs.declared.transcript.Speaker.TheVariants.{Server}
 use Rattle.imap_node.specs.Nodes.{IsGoing, NodeKept, NodeState, closed}
 use Rattle.imap_node.specs.Sessions.{IsOpen, Opens}
@@ -156,9 +156,12 @@ Serves old (Show replica) more new = Shows old replica more × (new ≡ old)
 Serves old (Deliver id replica) more new = DeliversTo old id replica more new
 Serves old (Forge replica operation) more new = ForgesAt old replica operation more new
 Serves old (Drain replica) more new = DrainsAt old replica more new
+Serves old Settle more new = ⊥
+Serves old (Agree first second) more new = ⊥
 
 -- A line that can't be served where it stands: it names what isn't declared, or declares what is, or names a session that
--- has ended or an operation that was never issued, or polls a session that doesn't idle, or its text is none of an operation's.
+-- has ended or an operation that was never issued, or polls a session that doesn't idle, or its text is none of an operation's. Lines that
+-- settle or compare replicas aren't served yet.
 abbrev pub IsMisplaced : Scene → ScriptLine → Type 0
 IsMisplaced scene Blank = ⊥
 IsMisplaced scene (Node replica uid k) = IsSome (replica_place scene.replicas replica)
@@ -172,6 +175,8 @@ IsMisplaced scene (Show replica) = IsNone (replica_place scene.replicas replica)
 IsMisplaced scene (Deliver id replica) = IsNone (replica_place scene.replicas replica) ⊎ ((op : Op) → Issued scene id op → ⊥)
 IsMisplaced scene (Forge replica operation) = IsNone (replica_place scene.replicas replica) ⊎ ((op : Op) → IsSpelled op operation → ⊥)
 IsMisplaced scene (Drain replica) = IsNone (replica_place scene.replicas replica)
+IsMisplaced scene Settle = Unit {0}
+IsMisplaced scene (Agree first second) = Unit {0}
 
 -- A line that isn't served: it says nothing that could be, where it stands.
 abbrev pub IsBad : Scene → List ℕ → Type 0

@@ -134,6 +134,7 @@ fn serve(
             forge(alloc, stage, replica, operation.as_bytes(), printed)
         }
         ScriptLine::Drain { replica } => drain(alloc, stage, replica, printed),
+        ScriptLine::Settle | ScriptLine::Agree { .. } => Err(ServeFault::BadScript),
     }
 }
 
