@@ -1,4 +1,5 @@
 mod LineLemmas
 mod PartLemmas
 mod StageLemmas
+mod TalkingLemmas
 mod WholeLemmas

@@ -19,7 +19,7 @@ has_id_in : (ops : List Op) (op : Op) (id : OpId) → IsIn op ops → op.id ≡ 
 has_id_in [] op id h e = absurd h
 has_id_in (o ∷ ops) op id h e = elim h [ inl k ↦ inl (subst (λ (p : Op). p.id ≡ id) (sym k) e) | inr t ↦ inr (has_id_in ops op id t e) ]
 
-some_same : {X : Type 0} (o : Option X) (x y : X) → o ≡ Some x → o ≡ Some y → x ≡ y
+pub some_same : {X : Type 0} (o : Option X) (x y : X) → o ≡ Some x → o ≡ Some y → x ≡ y
 some_same o x y e f = same_Some x y (sym e ∙ f)
 
 -- a replica that has issued none with this id has issued no such operation

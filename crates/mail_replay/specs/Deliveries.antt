@@ -9,6 +9,8 @@ use Rattle.crdt_ops.specs.Sound.{IsFirstFault, IsSound}
 use Rattle.crdt_ops.specs.declared.op.Op.{Op}
 use Rattle.crdt_ops.specs.declared.soundness.Unsound.{Unsound as Fault}
 use Rattle.crdt_ops.specs.declared.soundness.Unsound.TheVariants.{OwnClockEntry, UncoveredId, UnlawfulName, UnlawfulFlags, DeleteOfInbox}
+use Rattle.imap_node.specs.Deliveries.{Delivers, Drains, HoldsRipe, IsRefusedAt}
+use Rattle.imap_node.specs.Nodes.{NodeKept, NodeState}
 use Rattle.mail_script.specs.Outcomes.{outcome_line}
 use Rattle.mail_script.specs.declared.outcome.BrokenRule.{BrokenRule}
 use Rattle.mail_script.specs.declared.outcome.BrokenRule.TheVariants as rules
@@ -22,8 +24,6 @@ use Rattle.mail_replay.specs.declared.deliveries.Source.TheVariants as sources
 use Rattle.mail_replay.specs.declared.stage.Replica.{Replica}
 use Rattle.merge_laws.specs.Orders.{IsIn}
 use Rattle.tags_clocks.specs.declared.id.OpId.{OpId}
-use Rattle.world_core.specs.Deliveries.{Delivers, Drains, HoldsRipe, IsRefusedAt}
-use Rattle.world_core.specs.Nodes.{NodeState}
 
 -- ---- what a line tells of a delivery
 
@@ -55,22 +55,22 @@ rule_told DeleteOfInbox = rules.InboxDeleted
 
 -- What a node answers to an operation that is handed to it, and what it is then.
 abbrev pub Answers : NodeState → Op → Result Answer DeliverFault → NodeState → Type 0
-Answers old op (Ok answer) new = Delivers old op answer.arrival new × (IsTrue answer.stalled ↔ HoldsRipe new.applied new.held)
-Answers old op (Err why) new = IsRefusedAt old.applied old.held op why × (new ≡ old)
+Answers old op (Ok answer) new = Delivers old op answer.arrival new × (IsTrue answer.stalled ↔ HoldsRipe new)
+Answers old op (Err why) new = IsRefusedAt old op why × (new ≡ old)
 
 -- The replica with this name is declared: it stands at this place.
 abbrev pub StandsAt : Scene → ℕ → ℕ → Replica → Type 0
 StandsAt scene name at replica = (replica_place scene.replicas name ≡ Some at) × (slice_get scene.replicas at ≡ Some replica)
 
 -- The scene with this node in place of a replica's.
-abbrev pub with_node : Scene → ℕ → Replica → NodeState → Scene
+abbrev pub with_node : Scene → ℕ → Replica → NodeKept → Scene
 with_node scene at replica node = record scene { replicas = slice_set scene.replicas at (record replica { node = node }) }
 
 -- An operation is handed to a replica, and this is told of it.
 abbrev pub Hands : Scene → ℕ → Op → DeliveryResult → Scene → Type 0
 Hands old name op told new =
-    (at : ℕ) × (replica : Replica) × (node : NodeState) × (answer : Result Answer DeliverFault)
-    × StandsAt old name at replica × Answers replica.node op answer node × (told ≡ answer_told answer) × (new ≡ with_node old at replica node)
+    (at : ℕ) × (replica : Replica) × (node : NodeKept) × (answer : Result Answer DeliverFault)
+    × StandsAt old name at replica × Answers replica.node.state op answer node.state × (told ≡ answer_told answer) × (new ≡ with_node old at replica node)
 
 -- The replica that an id names issued this operation with it.
 abbrev pub Issued : Scene → OpId → Op → Type 0
@@ -102,6 +102,6 @@ ForgesAt old name text more new = (op : Op) × IsSpelled op text × Forges old n
 -- A replica goes on with the operations that it holds.
 abbrev pub DrainsAt : Scene → ℕ → List ℕ → Scene → Type 0
 DrainsAt old name more new =
-    (at : ℕ) × (replica : Replica) × (node : NodeState) × (count : ℕ) × (stalled : Bool)
-    × StandsAt old name at replica × Drains replica.node count node × (IsTrue stalled ↔ HoldsRipe node.applied node.held)
+    (at : ℕ) × (replica : Replica) × (node : NodeKept) × (count : ℕ) × (stalled : Bool)
+    × StandsAt old name at replica × Drains replica.node.state count node.state × (IsTrue stalled ↔ HoldsRipe node.state)
     × (more ≡ outcome_line (Drained name count stalled)) × (new ≡ with_node old at replica node)

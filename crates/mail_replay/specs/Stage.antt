@@ -1,8 +1,9 @@
-use Rattle.std.specs.Prelude.{ℕ, ◌+◌, ◌==◌, List, [], ◌∷◌, Option, Some, None, if◌then◌else◌}
+use Rattle.std.specs.Prelude.{◌≡◌, ℕ, ◌+◌, ◌==◌, List, [], ◌∷◌, Option, Some, None, if◌then◌else◌}
 use Rattle.std.specs.Str.{bytes_eq}
 use Rattle.mail_replay.specs.declared.stage.Replica.{Replica}
 use Rattle.mail_replay.specs.declared.stage.Session.{Session}
 use Rattle.mail_replay.specs.declared.stage.Stage.{Stage}
+use Rattle.uid_projection.specs.declared.start.Start.{Start}
 
 -- What a script has declared: the moment that its clock shows, the replicas in the order in which they were declared, and
 -- the sessions in the order in which they were opened.
@@ -14,6 +15,12 @@ pub record Scene : Type 0 where
 -- What stands on a stage.
 abbrev pub scene_of : Stage → Scene
 scene_of stage = record { moment = stage.moment; replicas = stage.replicas.items; sessions = stage.sessions.items }
+
+-- A replica that has received nothing, and whose counters begin so.
+abbrev pub IsNew : Start → Replica → Type 0
+IsNew first replica =
+    (replica.name ≡ first.replica)
+    × (replica.node.state ≡ record { start = first; applied = []; held = []; sessions = [] }) × (replica.issued ≡ [])
 
 -- The place of the first replica with this name, where the first of the list has this place.
 abbrev pub replica_from : ℕ → List Replica → ℕ → Option ℕ

@@ -2,8 +2,8 @@ use Rattle.std.specs.Prelude.{ℕ, List}
 use Rattle.std.specs.List.{flat_map}
 use Rattle.mail_script.specs.Transcript.{transcript_line}
 use Rattle.mail_script.specs.declared.transcript.Speaker.TheVariants.{Client, Server}
-use Rattle.world_core.specs.declared.turn.Turn.{Turn}
-use Rattle.world_core.specs.declared.turn.Turn.TheVariants.{Got, Sent}
+use Rattle.node_talk.specs.declared.turn.Turn.{Turn}
+use Rattle.node_talk.specs.declared.turn.Turn.TheVariants.{Got, Sent}
 
 -- The line of a transcript that one turn makes: a command is the client's, an answer the server's.
 abbrev pub turn_line : List ℕ → Turn → List ℕ

@@ -1,6 +1,6 @@
 //! What each line of a script does.
 
-ghost use Rattle.std.specs.Prelude.{◌≡◌, ◌⊎◌, ◌++◌, ◌∷◌, [], ℕ, List, None, Some, Err, IfOk, IfErr, IsTrue, IsSome, IsNone, ◌↔◌, OnOk, OnErr, codes, take};
+ghost use Rattle.std.specs.Prelude.{◌≡◌, ◌≤◌, ◌⊎◌, ◌++◌, ◌∷◌, [], ℕ, List, None, Some, Err, IfOk, IfErr, IsTrue, IsSome, IsNone, ◌↔◌, OnOk, OnErr, codes, take};
 ghost use Rattle.imap_answers.specs.Printed.{printed as text_of};
 ghost use Rattle.imap_answers.specs.declared.answer.Answer.{Answer as OneAnswer};
 ghost use Rattle.imap_answers.specs.declared.answer.Answer.TheVariants.{Bye, Greeting};
@@ -10,26 +10,31 @@ ghost use Rattle.mail_script.specs.Script.{Says};
 ghost use Rattle.mail_script.specs.Transcript.{transcript_line};
 ghost use Rattle.mail_script.specs.declared.script.ScriptLine.{ScriptLine as Meaning};
 ghost use Rattle.mail_script.specs.declared.transcript.Speaker.TheVariants.{Server};
-ghost use Rattle.mail_replay.specs.Lines.{Begins, Closes, Feeds, FeedsInPart, HasTurns, IsBad, IsMisplaced, IsTalking, OpensAt, PrintsInPart, Serves, ServesInPart, Shows, TalksOn, crlf, new_replica};
+ghost use Rattle.imap_node.specs.Nodes.{IsGoing, closed};
+ghost use Rattle.imap_node.specs.Sessions.{IsOpen};
+ghost use Rattle.mail_replay.specs.Lines.{Begins, Closes, Declares, Feeds, FeedsInPart, HasFirstUid, HasPolledTurns, HasTurns, IsBad, IsIdling, IsMisplaced, IsTalking, OpensAt, PollsAt, PollsInPart, PrintsInPart, Serves, ServesInPart, Shows, TalksOn, crlf};
 ghost use Rattle.mail_replay.specs.Stage.{Scene, replica_place, scene_of, session_place};
 ghost use Rattle.mail_replay.specs.Transcript.{transcript};
 ghost use Rattle.mail_replay.specs.declared.serve.ServeFault.TheVariants.{BadScript, NoMemory};
-ghost use Rattle.world_core.specs.Nodes.{IsGoing, closed};
-ghost use Rattle.world_core.specs.declared.turn.Turn.{Turn as OneTurn};
+ghost use Rattle.node_talk.specs.Replies.{idling_at};
+ghost use Rattle.node_talk.specs.Talks.{Polls};
+ghost use Rattle.node_talk.specs.declared.turn.Turn.{Turn as OneTurn};
 
 use crate::deliveries::{deliver, drain, forge};
-use crate::stage::{Connection, IssuedOps, Replica, Session, Stage, replica_place, session_place};
+use crate::stage::{Connection, Replica, Session, Stage, replica_place, session_place};
 use crate::transcript::{write_answer, write_turns};
 use imap_lex::{Fault, Framer, Limits};
 use imap_print::{Answer, ByeReason, Login};
 use imap_types::{Moment, Octets};
 use mail_script::{LineFault, ScriptLine, SessionName, read_line};
+use node_talk::{
+    Auth, Node, OpenFault, SessionNo, State, TalkFault, TalkFaultKind, Turn, poll_turns, talk,
+    write_dump,
+};
 use std::alloc::{AllocError, AllocFailed, Global};
 use tags_clocks::ReplicaId;
 use thiserror::Error;
-use world_core::{
-    Node, OpenFault, SessionNo, SessionState, TalkFault, TalkFaultKind, Turn, talk, write_dump,
-};
+use uid_projection::Start;
 
 /// Why a line isn't served.
 #[derive(Clone, Copy, Debug, PartialEq, Eq, Error)]
@@ -80,7 +85,7 @@ impl From<LineFault> for ServeFault {
 
 /// Serves a line of the script, given without its LF, and appends what it prints. `BadScript` says that the line can't be
 /// served where it stands, and then nothing is printed; `NoMemory` may come behind a part of what the line prints: the first
-/// answer of a session that is opened, or some of the first turns of one that is fed.
+/// answer of a session that is opened, or some of the first turns of one that is fed or polled.
 pub fn serve_line(
     alloc: Global,
     stage: &mut Stage,
@@ -101,13 +106,14 @@ fn serve(
     said: ScriptLine,
     printed: &mut Vec<u8>,
 ) -> Result<(), ServeFault>
+    requires { HasFirstUid said }
     ensures ok { OnOk result ((more : List ℕ) × Serves (scene_of stage.old) said more (scene_of stage.new) × (printed.new.items ≡ printed.old.items ++ more)) }
     ensures bad { result ≡ Err BadScript → IsMisplaced (scene_of stage.old) said × (printed.new.items ≡ printed.old.items) }
     ensures memory { result ≡ Err NoMemory → (more : List ℕ) × ((more ≡ []) ⊎ PrintsInPart (scene_of stage.old) said more) × (printed.new.items ≡ printed.old.items ++ more) }
 {
     match said {
         ScriptLine::Blank => Ok(()),
-        ScriptLine::Node { replica } => declare(alloc, stage, replica),
+        ScriptLine::Node { replica, uid, k } => declare(alloc, stage, Start { replica, uid, k }),
         ScriptLine::Now { moment } => {
             stage.moment = moment;
             Ok(())
@@ -120,6 +126,7 @@ fn serve(
         ScriptLine::Send { session, text } => {
             feed(alloc, stage, &session, text.as_bytes(), printed)
         }
+        ScriptLine::Poll { session } => poll(alloc, stage, &session, printed),
         ScriptLine::Close { session } => close(stage, &session),
         ScriptLine::Show { replica } => show(alloc, stage, replica, printed),
         ScriptLine::Deliver { id, replica } => deliver(alloc, stage, id, replica, printed),
@@ -127,6 +134,7 @@ fn serve(
             forge(alloc, stage, replica, operation.as_bytes(), printed)
         }
         ScriptLine::Drain { replica } => drain(alloc, stage, replica, printed),
+        ScriptLine::Settle | ScriptLine::Agree { .. } => Err(ServeFault::BadScript),
     }
 }
 
@@ -139,18 +147,18 @@ fn with_line_end(text: Octets) -> Result<Vec<u8>, AllocError>
     Ok(octets)
 }
 
-/// Declares a replica, which has received nothing.
-fn declare(alloc: Global, stage: &mut Stage, name: ReplicaId) -> Result<(), ServeFault>
-    ensures ok { OnOk result (IsNone (replica_place stage.old.replicas.items name) × (scene_of stage.new ≡ record (scene_of stage.old) { replicas = stage.old.replicas.items ++ new_replica name ∷ [] })) }
-    ensures bad { result ≡ Err BadScript ↔ IsSome (replica_place stage.old.replicas.items name) }
+/// Declares a replica, which has received nothing, and whose counters begin so.
+fn declare(alloc: Global, stage: &mut Stage, start: Start) -> Result<(), ServeFault>
+    requires { 1 ≤ start.uid }
+    ensures ok { OnOk result (Declares (scene_of stage.old) start (scene_of stage.new)) }
+    ensures bad { result ≡ Err BadScript ↔ IsSome (replica_place stage.old.replicas.items start.replica) }
     ensures err { OnErr result (scene_of stage.new ≡ scene_of stage.old) }
 {
-    if replica_place(&stage.replicas, name).is_some() {
+    if replica_place(&stage.replicas, start.replica).is_some() {
         return Err(ServeFault::BadScript);
     }
-    let node = Node::new(alloc, name)?;
-    let issued = IssuedOps::new(alloc);
-    stage.replicas.push(Replica { name, node, issued })?;
+    let replica = Replica::new(alloc, start)?;
+    stage.replicas.push(replica)?;
     Ok(())
 }
 
@@ -190,11 +198,11 @@ fn begin(
     name: &SessionName,
     printed: &mut Vec<u8>,
 ) -> Result<Option<Connection>, ServeFault>
-    ensures ok { IfOk result (λ connection. (answer : OneAnswer) × Begins node.old answer node.new connection × (printed.new.items ≡ printed.old.items ++ transcript_line name.now Server (text_of answer))) }
+    ensures ok { IfOk result (λ connection. (answer : OneAnswer) × Begins node.old.state answer node.new.state connection × (printed.new.items ≡ printed.old.items ++ transcript_line name.now Server (text_of answer))) }
     ensures err { IfErr result (λ fault. fault ≡ NoMemory) }
     ensures kept { OnErr result (printed.new.items ≡ printed.old.items) }
 {
-    match node.open() {
+    match node.open(Auth::Preauth) {
         Ok(number) => {
             greet(alloc, name, printed)?;
             let framer = Framer::new(alloc, Limits::STANDARD);
@@ -268,7 +276,7 @@ fn feed(
     Ok(())
 }
 
-/// Feeds a connection these octets, and prints the turns that they make; gives the connection back where it goes on.
+/// Feeds a connection these octets, which come at the moment, and prints the turns that they make; gives the connection back where it goes on.
 fn converse(
     alloc: Global,
     node: &mut Node,
@@ -278,9 +286,9 @@ fn converse(
     name: &SessionName,
     printed: &mut Vec<u8>,
 ) -> Result<Option<Connection>, ServeFault>
-    ensures ok { IfOk result (λ left. (turns : List OneTurn) × TalksOn node.old connection octets.now turns node.new left × (printed.new.items ≡ printed.old.items ++ transcript name.now turns)) }
-    ensures bad { result ≡ Err BadScript → (IsGoing node.old connection.number → ⊥) × (printed.new.items ≡ printed.old.items) }
-    ensures memory { result ≡ Err NoMemory → (turns : List OneTurn) × (count : ℕ) × HasTurns node.old connection octets.now turns × (printed.new.items ≡ printed.old.items ++ transcript name.now (take count turns)) }
+    ensures ok { IfOk result (λ left. (turns : List OneTurn) × TalksOn node.old.state connection moment octets.now turns node.new.state left × (printed.new.items ≡ printed.old.items ++ transcript name.now turns)) }
+    ensures bad { result ≡ Err BadScript → (IsGoing node.old.state connection.number → ⊥) × (printed.new.items ≡ printed.old.items) }
+    ensures memory { result ≡ Err NoMemory → (turns : List OneTurn) × (count : ℕ) × HasTurns node.old.state connection moment octets.now turns × (printed.new.items ≡ printed.old.items ++ transcript name.now (take count turns)) }
 {
     let Connection { number, mut framer } = connection;
     if !is_going(node, number) {
@@ -301,7 +309,7 @@ fn converse(
                 TalkFaultKind::Framing(Fault::NoMemory) | TalkFaultKind::NoMemory => {
                     Err(ServeFault::NoMemory)
                 }
-                TalkFaultKind::Framing(_) => Ok(None),
+                TalkFaultKind::Framing(_) | TalkFaultKind::LineRefused => Ok(None),
             }
         }
     }
@@ -309,9 +317,75 @@ fn converse(
 
 /// Whether the session is open and hasn't logged out.
 fn is_going(node: &Node, session: SessionNo) -> bool
-    ensures { IsTrue result ↔ IsGoing node.now session }
+    ensures { IsTrue result ↔ IsGoing node.now.state session }
 {
-    node.session(session) == Some(SessionState::Authenticated)
+    match node.session(session) {
+        Some(session) => !matches!(session.state, State::LoggedOut),
+        None => false,
+    }
+}
+
+/// Polls a session that idles, and prints the answers that tell it what changed.
+fn poll(
+    alloc: Global,
+    stage: &mut Stage,
+    name: &SessionName,
+    printed: &mut Vec<u8>,
+) -> Result<(), ServeFault>
+    ensures ok { OnOk result ((more : List ℕ) × PollsAt (scene_of stage.old) name.now more (scene_of stage.new) × (printed.new.items ≡ printed.old.items ++ more)) }
+    ensures bad { result ≡ Err BadScript → (IsIdling (scene_of stage.old) name.now → ⊥) × (printed.new.items ≡ printed.old.items) }
+    ensures memory { result ≡ Err NoMemory → (more : List ℕ) × PollsInPart (scene_of stage.old) name.now more × (printed.new.items ≡ printed.old.items ++ more) }
+{
+    let Some(place) = session_place(&stage.sessions, name) else {
+        return Err(ServeFault::BadScript);
+    };
+    let session = &stage.sessions[place];
+    let Some(at) = replica_place(&stage.replicas, session.replica) else {
+        return Err(ServeFault::BadScript);
+    };
+    let Some(connection) = &session.connection else {
+        return Err(ServeFault::BadScript);
+    };
+    let node = &mut stage.replicas[at].node;
+    poll_node(alloc, node, connection.number, name, printed)
+}
+
+/// Polls a session of a node, and prints the answers; a bad script where it doesn't idle.
+fn poll_node(
+    alloc: Global,
+    node: &mut Node,
+    session: SessionNo,
+    name: &SessionName,
+    printed: &mut Vec<u8>,
+) -> Result<(), ServeFault>
+    ensures ok { OnOk result ((turns : List OneTurn) × Polls node.old.state session turns node.new.state × (printed.new.items ≡ printed.old.items ++ transcript name.now turns)) }
+    ensures bad { result ≡ Err BadScript → IsNone (idling_at node.old.state session) × (printed.new.items ≡ printed.old.items) }
+    ensures memory { result ≡ Err NoMemory → (turns : List OneTurn) × (count : ℕ) × HasPolledTurns node.old.state session turns × (printed.new.items ≡ printed.old.items ++ transcript name.now (take count turns)) }
+{
+    if !is_idling(node, session) {
+        return Err(ServeFault::BadScript);
+    }
+    match poll_turns(alloc, node, session) {
+        Ok(answers) => {
+            write_turns(name, &answers, printed)?;
+            Ok(())
+        }
+        Err(broken) => {
+            write_turns(name, &broken.turns, printed)?;
+            Err(ServeFault::NoMemory)
+        }
+    }
+}
+
+/// Whether the session is open and idles.
+fn is_idling(node: &Node, session: SessionNo) -> bool
+    ensures idling { IsTrue result ↔ IsSome (idling_at node.now.state session) }
+    ensures open { IsTrue result → IsOpen node.now.state.sessions session }
+{
+    match node.session(session) {
+        Some(session) => session.idling.is_some(),
+        None => false,
+    }
 }
 
 /// Closes a session.

@@ -1,10 +1,10 @@
 //! What a script has declared so far.
 
-ghost use Rattle.std.specs.Prelude.{◌≡◌, ◌<◌, ◌++◌, [], IfSome, MatchOption, OnOk, drop, length};
+ghost use Rattle.std.specs.Prelude.{◌≡◌, ◌<◌, ◌≤◌, ◌++◌, [], IfOk, IfSome, MatchOption, OnOk, drop, length};
 ghost use Rattle.std.specs.Str.{bytes_eq};
 ghost use Rattle.crdt_ops.specs.declared.op.Op.{Op as Operation};
 ghost use Rattle.merge_laws.specs.Orders.{HasId, IsIn};
-ghost use Rattle.mail_replay.specs.Stage.{replica_place, scene_of, session_place};
+ghost use Rattle.mail_replay.specs.Stage.{IsNew, replica_place, scene_of, session_place};
 
 use causal_inbox::find_in;
 use crdt_ops::SoundOp;
@@ -12,10 +12,11 @@ use imap_lex::Framer;
 use imap_types::Moment;
 use mail_script::SessionName;
 use merge_laws::Caused;
+use node_talk::{Node, SessionNo};
 use std::alloc::{AllocError, Global};
 use std::marker::Model;
 use tags_clocks::{OpId, ReplicaId};
-use world_core::{Node, SessionNo};
+use uid_projection::Start;
 
 /// The operations that the sessions of a replica issued, in their order, as copies of those that it applied. Forged ones that
 /// bear its name aren't among them.
@@ -84,6 +85,20 @@ pub struct Replica {
     pub node: Node,
     /// What its sessions issued.
     pub issued: IssuedOps,
+}
+
+impl Replica {
+    /// One that has received nothing, and whose counters begin so, UIDs from 1 on; `Err` where there is no memory for it.
+    pub fn new(alloc: Global, start: Start) -> Result<Replica, AllocError>
+        requires { 1 ≤ start.uid }
+        ensures { IfOk result (IsNew start) }
+    {
+        Ok(Replica {
+            name: start.replica,
+            node: Node::new(alloc, start)?,
+            issued: IssuedOps::new(alloc),
+        })
+    }
 }
 
 /// An open session's connection with its replica.

@@ -5,12 +5,12 @@ ghost use Rattle.imap_answers.specs.Printed.{printed as text_of};
 ghost use Rattle.mail_script.specs.Transcript.{transcript_line};
 ghost use Rattle.mail_script.specs.declared.transcript.Speaker.TheVariants.{Server};
 ghost use Rattle.mail_replay.specs.Transcript.{transcript, turn_line};
-ghost use Rattle.world_core.specs.declared.turn.Turn.{Turn as OneTurn};
+ghost use Rattle.node_talk.specs.declared.turn.Turn.{Turn as OneTurn};
 
 use imap_print::{Answer, print};
 use mail_script::{SessionName, Speaker, write_transcript_line};
+use node_talk::Turn;
 use std::alloc::{AllocError, Global};
-use world_core::Turn;
 
 /// Appends a line for each turn; `Err` behind some of them, where there is no memory for the next.
 pub fn write_turns(

@@ -1,21 +1,21 @@
-use Rattle.std.proofs.Common.{◌≡◌, ◌++◌, ◌⊎◌, inl, inr, ℕ, cond, eqb, eqb-true, List, [], ◌∷◌, Option, Some, None, Result, Ok, Err, IfOk, MatchResult, IsTrue, refl, sym, ap, ◌∙◌, subst, arith}
+use Rattle.std.proofs.Common.{◌≡◌, ◌++◌, inl, inr, ℕ, cond, eqb, eqb-true, List, [], ◌∷◌, Option, Some, None, Result, Ok, Err, IfOk, MatchResult, IsTrue, refl, sym, ap, ◌∙◌, subst, arith}
 use Rattle.std.proofs.lemmas.Slice.Eq.{bytes_eq-Decides}
 use Rattle.std.specs.Fmt.{decimal}
 use Rattle.std.specs.Str.{bytes_eq}
 use Rattle.tags_clocks.specs.declared.id.OpId.{OpId}
 use Rattle.imap_types.specs.Escape.{AreOctets, escaped}
 use Rattle.imap_types.specs.declared.escape.Escape.TheVariants.{Text}
-use Rattle.mail_script.specs.Fields.{IsNumber, IsReplica, id_text, is_session_name}
-use Rattle.mail_script.specs.Reading.{◌>>=◌, Gives, cut_at, deliver_at, fields_at, forge_at, id_at, keyword_at, line_at, moment_at, open_at, replica_at, session_at, spoken_at, words_at}
-use Rattle.mail_script.specs.Script.{Says}
+use Rattle.mail_script.specs.Fields.{IsFirstK, IsFirstUid, IsNumber, IsReplica, id_text, is_session_name}
+use Rattle.mail_script.specs.Reading.{◌>>=◌, Gives, agree_at, cut_at, deliver_at, fields_at, first_numbers_at, forge_at, id_at, keyword_at, line_at, moment_at, node_at, open_at, replica_at, session_at, spoken_at, word_or_words_at, words_at}
+use Rattle.mail_script.specs.Script.{Says, first_numbers_text}
 use Rattle.mail_script.specs.declared.script.Keyword.{Keyword}
-use Rattle.mail_script.specs.declared.script.Keyword.TheVariants.{Node as NodeWord, Now as NowWord, Open as OpenWord, Line as LineWord, Send as SendWord, Close as CloseWord, Show as ShowWord, Deliver as DeliverWord, Forge as ForgeWord, Drain as DrainWord}
+use Rattle.mail_script.specs.declared.script.Keyword.TheVariants.{Node as NodeWord, Now as NowWord, Open as OpenWord, Line as LineWord, Send as SendWord, Poll as PollWord, Close as CloseWord, Show as ShowWord, Deliver as DeliverWord, Forge as ForgeWord, Drain as DrainWord, Agree as AgreeWord}
 use Rattle.mail_script.specs.declared.script.LineFault.{LineFault}
 use Rattle.mail_script.specs.declared.script.LineFault.TheVariants.{NotALine, NoMemory}
 use Rattle.mail_script.specs.declared.script.ScriptLine.{ScriptLine}
-use Rattle.mail_script.specs.declared.script.ScriptLine.TheVariants.{Blank, Node, Now, Open, Line, Send, Close, Show, Deliver, Forge, Drain}
+use Rattle.mail_script.specs.declared.script.ScriptLine.TheVariants.{Blank, Node, Now, Open, Line, Send, Poll, Close, Show, Deliver, Forge, Drain, Settle, Agree}
 use Rattle.text_fields.proofs.FieldLemmas.{bind_some, bound, chosen, cut_again, cut_takes, decimal_lacks, id_again, id_lacks, id_takes, replica_again, replica_takes}
-use Rattle.mail_script.proofs.FieldLemmas.{moment_again, moment_takes, session_again, session_takes, spoken_again, spoken_takes}
+use Rattle.mail_script.proofs.FieldLemmas.{cut_none, first_numbers_again, first_numbers_takes, moment_again, moment_takes, session_again, session_takes, spoken_again, spoken_takes, numbers_text}
 use Rattle.std.specs.Prelude.{codes}
 
 -- how each word is spelled
@@ -25,61 +25,56 @@ keyword_text NowWord = codes "now"
 keyword_text OpenWord = codes "open"
 keyword_text LineWord = codes "line"
 keyword_text SendWord = codes "send"
+keyword_text PollWord = codes "poll"
 keyword_text CloseWord = codes "close"
 keyword_text ShowWord = codes "show"
 keyword_text DeliverWord = codes "deliver"
 keyword_text ForgeWord = codes "forge"
 keyword_text DrainWord = codes "drain"
+keyword_text AgreeWord = codes "agree"
 
-picked : (word text : List ℕ) (k : Keyword) (next : Option Keyword) (keyword : Keyword) → text ≡ keyword_text k → cond (bytes_eq word text) (Some k) next ≡ Some keyword → (word ≡ keyword_text keyword) ⊎ (next ≡ Some keyword)
-picked word text k next keyword s h =
+-- a word of the table, or one behind it
+picked : (word text : List ℕ) (k : Keyword) (next : Option Keyword) (keyword : Keyword) → text ≡ keyword_text k → cond (bytes_eq word text) (Some k) next ≡ Some keyword → (next ≡ Some keyword → word ≡ keyword_text keyword) → word ≡ keyword_text keyword
+picked word text k next keyword s h behind =
     elim (chosen (bytes_eq word text) (Some k) next (Some keyword) h) [
-      | inl t ↦ inl ((bytes_eq-Decides word text).0 t.0 ∙ s ∙ ap keyword_text (let e = t.1 in cc))
-      | inr f ↦ inr f.1
+      | inl t ↦ (bytes_eq-Decides word text).0 t.0 ∙ s ∙ ap keyword_text (let e = t.1 in cc)
+      | inr f ↦ behind f.1
     ]
 
 keyword_takes : (word : List ℕ) (keyword : Keyword) → keyword_at word ≡ Some keyword → word ≡ keyword_text keyword
 unfolding keyword_at
 keyword_takes word keyword h =
-    elim (picked word (codes "node") NodeWord _ keyword refl h) [
-      | inl e ↦ e
-      | inr h ↦
-          elim (picked word (codes "now") NowWord _ keyword refl h) [
-            | inl e ↦ e
-            | inr h ↦
-                elim (picked word (codes "open") OpenWord _ keyword refl h) [
-                  | inl e ↦ e
-                  | inr h ↦
-                      elim (picked word (codes "line") LineWord _ keyword refl h) [
-                        | inl e ↦ e
-                        | inr h ↦
-                            elim (picked word (codes "send") SendWord _ keyword refl h) [
-                              | inl e ↦ e
-                              | inr h ↦
-                                  elim (picked word (codes "close") CloseWord _ keyword refl h) [
-                                    | inl e ↦ e
-                                    | inr h ↦
-                                        elim (picked word (codes "show") ShowWord _ keyword refl h) [
-                                          | inl e ↦ e
-                                          | inr h ↦
-                                              elim (picked word (codes "deliver") DeliverWord _ keyword refl h) [
-                                                | inl e ↦ e
-                                                | inr h ↦
-                                                    elim (picked word (codes "forge") ForgeWord _ keyword refl h) [
-                                                      | inl e ↦ e
-                                                      | inr h ↦
-                                                          elim (picked word (codes "drain") DrainWord _ keyword refl h) [ inl e ↦ e | inr h ↦ absurd (let k = h in cc) ]
-                                                    ]
-                                              ]
-                                        ]
-                                  ]
-                            ]
-                      ]
-                ]
-          ]
-    ]
+    picked word (codes "node") NodeWord _ keyword refl h (λ h.
+    picked word (codes "now") NowWord _ keyword refl h (λ h.
+    picked word (codes "open") OpenWord _ keyword refl h (λ h.
+    picked word (codes "line") LineWord _ keyword refl h (λ h.
+    picked word (codes "send") SendWord _ keyword refl h (λ h.
+    picked word (codes "poll") PollWord _ keyword refl h (λ h.
+    picked word (codes "close") CloseWord _ keyword refl h (λ h.
+    picked word (codes "show") ShowWord _ keyword refl h (λ h.
+    picked word (codes "deliver") DeliverWord _ keyword refl h (λ h.
+    picked word (codes "forge") ForgeWord _ keyword refl h (λ h.
+    picked word (codes "drain") DrainWord _ keyword refl h (λ h.
+    picked word (codes "agree") AgreeWord _ keyword refl h (λ h.
+    absurd (let k = h in cc)))))))))))))
 
 -- what is read behind each word is said
+node_takes : (fields : List ℕ) (cut : Option (List ℕ × List ℕ)) (said : ScriptLine) → ((parts : List ℕ × List ℕ) → cut ≡ Some parts → fields ≡ parts.0 ++ 32 ∷ parts.1) → node_at cut fields ≡ Some said → Says (codes "node " ++ fields) said
+unfolding node_at
+node_takes fields None said c h =
+    let r = bind_some (replica_at fields) _ said h in
+    let e : Node r.0 1 1 ≡ said = let k = r.2 in cc in
+    let t = replica_takes fields r.0 r.1 in
+    subst (Says (codes "node " ++ fields)) e (t.0, (omega arith, omega arith), (omega arith, omega arith), inr (ap (λ (t : List ℕ). codes "node " ++ t) t.1, refl, refl))
+node_takes fields (Some parts) said c h =
+    let r = bind_some (replica_at parts.0) _ said h in
+    let n = bind_some (first_numbers_at parts.1) _ said r.2 in
+    let e : Node r.0 n.0.0 n.0.1 ≡ said = let k = n.2 in cc in
+    let t = replica_takes parts.0 r.0 r.1 in
+    let u = first_numbers_takes parts.1 n.0 n.1 in
+    let text : fields ≡ decimal r.0 ++ first_numbers_text n.0.0 n.0.1 = c parts refl ∙ (λ i. t.1 i ++ u.2 i) in
+    subst (Says (codes "node " ++ fields)) e (t.0, u.0, u.1, inl (ap (λ (t : List ℕ). codes "node " ++ t) text))
+
 open_takes : (fields : List ℕ) (said : ScriptLine) → open_at fields ≡ Some said → Says (codes "open " ++ fields) said
 unfolding open_at
 open_takes fields said h =
@@ -103,6 +98,18 @@ deliver_takes fields said h =
     let u = replica_takes c.0.1 r.0 r.1 in
     let text : fields ≡ id_text n.0 ++ 32 ∷ decimal r.0 = cut_takes 32 fields c.0 c.1 ∙ (λ i. t.1 i ++ 32 ∷ u.1 i) in
     subst (Says (codes "deliver " ++ fields)) e (t.0.0, t.0.1, u.0, ap (λ (t : List ℕ). codes "deliver " ++ t) text)
+
+agree_takes : (fields : List ℕ) (said : ScriptLine) → agree_at fields ≡ Some said → Says (codes "agree " ++ fields) said
+unfolding agree_at
+agree_takes fields said h =
+    let c = bind_some (cut_at 32 fields) _ said h in
+    let r = bind_some (replica_at c.0.0) _ said c.2 in
+    let s = bind_some (replica_at c.0.1) _ said r.2 in
+    let e : Agree r.0 s.0 ≡ said = let k = s.2 in cc in
+    let t = replica_takes c.0.0 r.0 r.1 in
+    let u = replica_takes c.0.1 s.0 s.1 in
+    let text : fields ≡ decimal r.0 ++ 32 ∷ decimal s.0 = cut_takes 32 fields c.0 c.1 ∙ (λ i. t.1 i ++ 32 ∷ u.1 i) in
+    subst (Says (codes "agree " ++ fields)) e (t.0, u.0, ap (λ (t : List ℕ). codes "agree " ++ t) text)
 
 forge_takes : (fields : List ℕ) (said : ScriptLine) → forge_at fields ≡ Some said → Says (codes "forge " ++ fields) said
 unfolding forge_at
@@ -135,6 +142,13 @@ now_said fields said h =
     let t = moment_takes fields m.0 m.1 in
     subst (Says (codes "now " ++ fields)) e (t.0, ap (λ (t : List ℕ). codes "now " ++ t) t.1)
 
+poll_said : (fields : List ℕ) (said : ScriptLine) → (session_at fields >>= (λ s. Some (Poll s))) ≡ Some said → Says (codes "poll " ++ fields) said
+poll_said fields said h =
+    let s = bind_some (session_at fields) (λ s. Some (Poll s)) said h in
+    let e : Poll s.0 ≡ said = let k = s.2 in cc in
+    let t = session_takes fields s.0 s.1 in
+    subst (Says (codes "poll " ++ fields)) e (t.0, ap (λ (t : List ℕ). codes "poll " ++ t) t.1)
+
 close_said : (fields : List ℕ) (said : ScriptLine) → (session_at fields >>= (λ s. Some (Close s))) ≡ Some said → Says (codes "close " ++ fields) said
 close_said fields said h =
     let s = bind_some (session_at fields) (λ s. Some (Close s)) said h in
@@ -143,16 +157,18 @@ close_said fields said h =
     subst (Says (codes "close " ++ fields)) e (t.0, ap (λ (t : List ℕ). codes "close " ++ t) t.1)
 
 fields_takes : (keyword : Keyword) (fields : List ℕ) (said : ScriptLine) → fields_at keyword fields ≡ Some said → Says (keyword_text keyword ++ 32 ∷ fields) said
-fields_takes NodeWord fields said h = replica_said (codes "node") fields Node said (λ r i e. (i, ap (λ (t : List ℕ). codes "node " ++ t) e)) h
+fields_takes NodeWord fields said h = node_takes fields (cut_at 32 fields) said (λ parts c. cut_takes 32 fields parts c) h
 fields_takes NowWord fields said h = now_said fields said h
 fields_takes OpenWord fields said h = open_takes fields said h
 fields_takes LineWord fields said h = spoken_said (codes "line") fields Line said (λ s t i a e. (i, a, ap (λ (t : List ℕ). codes "line " ++ t) e)) h
 fields_takes SendWord fields said h = spoken_said (codes "send") fields Send said (λ s t i a e. (i, a, ap (λ (t : List ℕ). codes "send " ++ t) e)) h
+fields_takes PollWord fields said h = poll_said fields said h
 fields_takes CloseWord fields said h = close_said fields said h
 fields_takes ShowWord fields said h = replica_said (codes "show") fields Show said (λ r i e. (i, ap (λ (t : List ℕ). codes "show " ++ t) e)) h
 fields_takes DeliverWord fields said h = deliver_takes fields said h
 fields_takes ForgeWord fields said h = forge_takes fields said h
 fields_takes DrainWord fields said h = replica_said (codes "drain") fields Drain said (λ r i e. (i, ap (λ (t : List ℕ). codes "drain " ++ t) e)) h
+fields_takes AgreeWord fields said h = agree_takes fields said h
 
 words_takes : (line : List ℕ) (said : ScriptLine) → words_at line ≡ Some said → Says line said
 unfolding words_at
@@ -162,34 +178,60 @@ words_takes line said h =
     let text : line ≡ keyword_text k.0 ++ 32 ∷ c.0.1 = cut_takes 32 line c.0 c.1 ∙ ap (λ (w : List ℕ). w ++ 32 ∷ c.0.1) (keyword_takes c.0.0 k.0 k.1) in
     subst (λ (t : List ℕ). Says t said) (sym text) (fields_takes k.0 c.0.1 said k.2)
 
+line_of_words : (line : List ℕ) (said : ScriptLine) → word_or_words_at line ≡ Some said → Says line said
+unfolding word_or_words_at
+line_of_words line said h =
+    elim (chosen (bytes_eq line (codes "settle")) (Some Settle) (words_at line) (Some said) h) [
+      | inl t ↦
+          let e : Settle ≡ said = let k = t.1 in cc in
+          subst (Says line) e ((bytes_eq-Decides line (codes "settle")).0 t.0)
+      | inr f ↦ words_takes line said f.1
+    ]
+
 -- what is read of a line is what it says
 pub line_takes : (line : List ℕ) (said : ScriptLine) → line_at line ≡ Some said → Says line said
 line_takes [] said h = let e : Blank ≡ said = cc in subst (Says []) e (inl refl)
 line_takes (octet ∷ octets) said h =
-    elim (chosen (eqb octet 35) (Some Blank) (words_at (octet ∷ octets)) (Some said) h) [
+    elim (chosen (eqb octet 35) (Some Blank) (word_or_words_at (octet ∷ octets)) (Some said) h) [
       | inl t ↦
           let e : Blank ≡ said = let k = t.1 in cc in
           let s : octet ≡ 35 = eqb-true octet 35 t.0 in
           subst (Says (octet ∷ octets)) e (inr (octets, (λ i. s i ∷ octets)))
-      | inr f ↦ words_takes (octet ∷ octets) said f.1
+      | inr f ↦ line_of_words (octet ∷ octets) said f.1
     ]
 
 -- the word of a line leads to its fields
 read_on : (keyword : Keyword) (fields : List ℕ) → line_at (keyword_text keyword ++ 32 ∷ fields) ≡ fields_at keyword fields
-unfolding words_at keyword_at
+unfolding word_or_words_at words_at keyword_at
 read_on NodeWord fields = refl
 read_on NowWord fields = refl
 read_on OpenWord fields = refl
 read_on LineWord fields = refl
 read_on SendWord fields = refl
+read_on PollWord fields = refl
 read_on CloseWord fields = refl
 read_on ShowWord fields = refl
 read_on DeliverWord fields = refl
 read_on ForgeWord fields = refl
 read_on DrainWord fields = refl
+read_on AgreeWord fields = refl
 
 read_of : (keyword : Keyword) (line fields : List ℕ) (said : ScriptLine) → line ≡ keyword_text keyword ++ 32 ∷ fields → fields_at keyword fields ≡ Some said → line_at line ≡ Some said
 read_of keyword line fields said e h = ap line_at e ∙ read_on keyword fields ∙ h
+
+node_again : (r uid k : ℕ) → IsReplica r → IsFirstUid uid → IsFirstK k → node_at (cut_at 32 (decimal r ++ 32 ∷ numbers_text uid k)) (decimal r ++ 32 ∷ numbers_text uid k) ≡ Some (Node r uid k)
+unfolding node_at
+node_again r uid k i u f =
+    ap (λ (c : Option (List ℕ × List ℕ)). node_at c (decimal r ++ 32 ∷ numbers_text uid k)) (cut_again 32 (decimal r) (numbers_text uid k) (decimal_lacks 32 r refl (omega arith)))
+    ∙ bound (replica_at (decimal r)) _ r (replica_again r i)
+    ∙ bound (first_numbers_at (numbers_text uid k)) _ (uid, k) (first_numbers_again uid k u f)
+
+plain_node_again : (r uid k : ℕ) → IsReplica r → uid ≡ 1 → k ≡ 1 → node_at (cut_at 32 (decimal r)) (decimal r) ≡ Some (Node r uid k)
+unfolding node_at
+plain_node_again r uid k i u f =
+    ap (λ (c : Option (List ℕ × List ℕ)). node_at c (decimal r)) (cut_none 32 (decimal r) (decimal_lacks 32 r refl (omega arith)))
+    ∙ bound (replica_at (decimal r)) _ r (replica_again r i)
+    ∙ (λ j. Some (Node r (sym u j) (sym f j)))
 
 open_again : (r : ℕ) (session : List ℕ) → IsReplica r → IsTrue (is_session_name session) → open_at (decimal r ++ 32 ∷ session) ≡ Some (Open r session)
 unfolding open_at
@@ -205,6 +247,18 @@ deliver_again id r i n s =
     ∙ bound (id_at (id_text id)) _ id (id_again id (i, n))
     ∙ bound (replica_at (decimal r)) _ r (replica_again r s)
 
+agree_again : (r s : ℕ) → IsReplica r → IsReplica s → agree_at (decimal r ++ 32 ∷ decimal s) ≡ Some (Agree r s)
+unfolding agree_at
+agree_again r s i j =
+    bound (cut_at 32 (decimal r ++ 32 ∷ decimal s)) _ (decimal r, decimal s) (cut_again 32 (decimal r) (decimal s) (decimal_lacks 32 r refl (omega arith)))
+    ∙ bound (replica_at (decimal r)) _ r (replica_again r i)
+    ∙ bound (replica_at (decimal s)) _ s (replica_again s j)
+
+-- the line of one word
+settle_again : line_at (codes "settle") ≡ Some Settle
+unfolding word_or_words_at
+settle_again = refl
+
 forge_again : (r : ℕ) (operation : List ℕ) → IsReplica r → forge_at (decimal r ++ 32 ∷ operation) ≡ Some (Forge r operation)
 unfolding forge_at
 forge_again r operation i =
@@ -214,16 +268,23 @@ forge_again r operation i =
 -- what a line says is read of it
 pub line_again : (line : List ℕ) (said : ScriptLine) → Says line said → line_at line ≡ Some said
 line_again line Blank h = elim h [ inl e ↦ ap line_at e | inr c ↦ ap line_at c.1 ]
-line_again line (Node r) h = read_of NodeWord line (decimal r) (Node r) h.1 (bound (replica_at (decimal r)) _ r (replica_again r h.0))
+line_again line (Node r uid k) h =
+    elim (h.3) [
+      | inl e ↦ read_of NodeWord line (decimal r ++ 32 ∷ numbers_text uid k) (Node r uid k) e (node_again r uid k h.0 h.1 h.2)
+      | inr e ↦ read_of NodeWord line (decimal r) (Node r uid k) e.0 (plain_node_again r uid k h.0 e.1 e.2)
+    ]
 line_again line (Now m) h = read_of NowWord line (decimal m) (Now m) h.1 (bound (moment_at (decimal m)) _ m (moment_again m h.0))
 line_again line (Open r s) h = read_of OpenWord line (decimal r ++ 32 ∷ s) (Open r s) h.2 (open_again r s h.0 h.1)
 line_again line (Line s t) h = read_of LineWord line (s ++ 32 ∷ escaped Text t) (Line s t) h.2 (bound (spoken_at (s ++ 32 ∷ escaped Text t)) _ (s, t) (spoken_again s t h.0 h.1))
 line_again line (Send s t) h = read_of SendWord line (s ++ 32 ∷ escaped Text t) (Send s t) h.2 (bound (spoken_at (s ++ 32 ∷ escaped Text t)) _ (s, t) (spoken_again s t h.0 h.1))
+line_again line (Poll s) h = read_of PollWord line s (Poll s) h.1 (bound (session_at s) _ s (session_again s h.0))
 line_again line (Close s) h = read_of CloseWord line s (Close s) h.1 (bound (session_at s) _ s (session_again s h.0))
 line_again line (Show r) h = read_of ShowWord line (decimal r) (Show r) h.1 (bound (replica_at (decimal r)) _ r (replica_again r h.0))
 line_again line (Deliver id r) h = read_of DeliverWord line (id_text id ++ 32 ∷ decimal r) (Deliver id r) h.3 (deliver_again id r h.0 h.1 h.2)
 line_again line (Forge r op) h = read_of ForgeWord line (decimal r ++ 32 ∷ op) (Forge r op) h.1 (forge_again r op h.0)
 line_again line (Drain r) h = read_of DrainWord line (decimal r) (Drain r) h.1 (bound (replica_at (decimal r)) _ r (replica_again r h.0))
+line_again line Settle h = ap line_at h ∙ settle_again
+line_again line (Agree r s) h = read_of AgreeWord line (decimal r ++ 32 ∷ decimal s) (Agree r s) h.2 (agree_again r s h.0 h.1)
 
 pub found_by : (line : List ℕ) (r : Result ScriptLine LineFault) → Gives (λ said. said) r (line_at line) → IfOk r (λ said. Says line said)
 found_by line (Ok said) g = line_takes line said g

@@ -6,8 +6,10 @@ use Rattle.mail_script.specs.declared.outcome.BrokenRule.{BrokenRule}
 use Rattle.mail_script.specs.declared.outcome.BrokenRule.TheVariants.{OwnEntry, UncoveredId, UnlawfulName, UnlawfulFlags, InboxDeleted}
 use Rattle.mail_script.specs.declared.outcome.DeliveryResult.{DeliveryResult}
 use Rattle.mail_script.specs.declared.outcome.DeliveryResult.TheVariants.{Applied, Held, Repeat, Conflict, HeldFull, Exhausted, NoMemory as NoMemoryForIt}
+use Rattle.mail_script.specs.declared.outcome.SettleResult.{SettleResult}
+use Rattle.mail_script.specs.declared.outcome.SettleResult.TheVariants.{Done, Conflict as ConflictOfTwo, Exhausted as ExhaustedInIt, NoMemory as NoMemoryToSettle}
 use Rattle.mail_script.specs.declared.outcome.OutcomeLine.{OutcomeLine}
-use Rattle.mail_script.specs.declared.outcome.OutcomeLine.TheVariants.{Delivered, Forged, Unsound, Drained, BadScript, CannotRead, NoMemory}
+use Rattle.mail_script.specs.declared.outcome.OutcomeLine.TheVariants.{Delivered, Forged, Unsound, Drained, Settled, Agreed, BadScript, CannotRead, NoMemory}
 
 -- Says that a ripe operation stays held.
 abbrev pub stalled_text : Bool → List ℕ
@@ -40,12 +42,30 @@ rule_text InboxDeleted = codes "U5"
 abbrev pub delivery_text : OpId → ℕ → List ℕ
 delivery_text id replica = id_text id ++ (32 ∷ (decimal replica ++ codes ": "))
 
+-- The result of an exchange between all replicas.
+abbrev pub settled_text : SettleResult → List ℕ
+settled_text Done = codes "Ok"
+settled_text (ConflictOfTwo id) = codes "Conflict " ++ id_text id
+settled_text ExhaustedInIt = codes "Exhausted"
+settled_text NoMemoryToSettle = codes "NoMemory"
+
+-- Two replicas that are compared.
+abbrev pub compared_text : ℕ → ℕ → List ℕ
+compared_text first second = decimal first ++ (32 ∷ (decimal second ++ codes ": "))
+
+-- Whether both are the same.
+abbrev pub yes_or_no : Bool → List ℕ
+yes_or_no true = codes "yes"
+yes_or_no false = codes "no"
+
 -- What a line that tells an outcome says.
 abbrev pub outcome_text : OutcomeLine → List ℕ
 outcome_text (Delivered id replica result) = codes "deliver " ++ (delivery_text id replica ++ result_text result)
 outcome_text (Forged id replica result) = codes "forge " ++ (delivery_text id replica ++ result_text result)
 outcome_text (Unsound rule) = codes "forge: Unsound " ++ rule_text rule
 outcome_text (Drained replica count stalled) = codes "drain " ++ (decimal replica ++ (codes ": " ++ applied_text count stalled))
+outcome_text (Settled result) = codes "settle: " ++ settled_text result
+outcome_text (Agreed first second same) = codes "agree " ++ (compared_text first second ++ yes_or_no same)
 outcome_text (BadScript line) = codes "bad script: line " ++ decimal line
 outcome_text CannotRead = codes "cannot read"
 outcome_text NoMemory = codes "no memory"

@@ -3,13 +3,13 @@ use Rattle.std.specs.Str.{bytes_eq}
 use Rattle.imap_types.specs.Escape.{unescaped}
 use Rattle.imap_types.specs.declared.escape.Escape.TheVariants.{Text}
 use Rattle.mail_script.specs.Fields.{is_session_name}
-pub use Rattle.text_fields.specs.Reading.{◌>>=◌, cut_at, id_at, in_front, number_at, replica_at}
+pub use Rattle.text_fields.specs.Reading.{◌>>=◌, cut_at, id_at, in_front, number_at, positive, replica_at}
 use Rattle.mail_script.specs.declared.script.Keyword.{Keyword}
-use Rattle.mail_script.specs.declared.script.Keyword.TheVariants.{Node as NodeWord, Now as NowWord, Open as OpenWord, Line as LineWord, Send as SendWord, Close as CloseWord, Show as ShowWord, Deliver as DeliverWord, Forge as ForgeWord, Drain as DrainWord}
+use Rattle.mail_script.specs.declared.script.Keyword.TheVariants.{Node as NodeWord, Now as NowWord, Open as OpenWord, Line as LineWord, Send as SendWord, Poll as PollWord, Close as CloseWord, Show as ShowWord, Deliver as DeliverWord, Forge as ForgeWord, Drain as DrainWord, Agree as AgreeWord}
 use Rattle.mail_script.specs.declared.script.LineFault.{LineFault}
 use Rattle.mail_script.specs.declared.script.LineFault.TheVariants.{NotALine, NoMemory}
 use Rattle.mail_script.specs.declared.script.ScriptLine.{ScriptLine}
-use Rattle.mail_script.specs.declared.script.ScriptLine.TheVariants.{Blank, Node, Now, Open, Line, Send, Close, Show, Deliver, Forge, Drain}
+use Rattle.mail_script.specs.declared.script.ScriptLine.TheVariants.{Blank, Node, Now, Open, Line, Send, Poll, Close, Show, Deliver, Forge, Drain, Settle, Agree}
 
 -- How the readers below take a line apart. What a line says is told by `Says`, and the laws join the two.
 
@@ -39,6 +39,28 @@ spoken_at text = do
   spoken ← unescaped Text parts.1
   Some (session, spoken)
 
+-- The text behind a word and a space.
+unfoldable pub behind_at : List ℕ → List ℕ → Option (List ℕ)
+behind_at word text = do
+  parts ← cut_at 32 text
+  if bytes_eq parts.0 word then Some parts.1 else None
+
+-- The number from 1 to the limit that a field tells.
+unfoldable pub counted_at : ℕ → List ℕ → Option ℕ
+counted_at limit text = do
+  number ← number_at limit text
+  positive number
+
+-- The numbers with which a replica's counters begin.
+unfoldable pub first_numbers_at : List ℕ → Option (ℕ × ℕ)
+first_numbers_at text = do
+  numbers ← behind_at (codes "uid") text
+  parts ← cut_at 32 numbers
+  uid ← counted_at 4294967295 parts.0
+  last ← behind_at (codes "k") parts.1
+  k ← counted_at 65536 last
+  Some (uid, k)
+
 -- The word that begins a line.
 unfoldable pub keyword_at : List ℕ → Option Keyword
 keyword_at word =
@@ -47,12 +69,22 @@ keyword_at word =
     else (if bytes_eq word (codes "open") then Some OpenWord
     else (if bytes_eq word (codes "line") then Some LineWord
     else (if bytes_eq word (codes "send") then Some SendWord
+    else (if bytes_eq word (codes "poll") then Some PollWord
     else (if bytes_eq word (codes "close") then Some CloseWord
     else (if bytes_eq word (codes "show") then Some ShowWord
     else (if bytes_eq word (codes "deliver") then Some DeliverWord
     else (if bytes_eq word (codes "forge") then Some ForgeWord
     else (if bytes_eq word (codes "drain") then Some DrainWord
-    else None)))))))))
+    else (if bytes_eq word (codes "agree") then Some AgreeWord
+    else None)))))))))))
+
+-- What the fields behind `node` say.
+unfoldable pub node_at : Option (List ℕ × List ℕ) → List ℕ → Option ScriptLine
+node_at None fields = replica_at fields >>= (λ replica. Some (Node replica 1 1))
+node_at (Some parts) fields = do
+  replica ← replica_at parts.0
+  numbers ← first_numbers_at parts.1
+  Some (Node replica numbers.0 numbers.1)
 
 -- What the fields behind `open` say.
 unfoldable pub open_at : List ℕ → Option ScriptLine
@@ -70,6 +102,14 @@ deliver_at fields = do
   replica ← replica_at parts.1
   Some (Deliver id replica)
 
+-- What the fields behind `agree` say.
+unfoldable pub agree_at : List ℕ → Option ScriptLine
+agree_at fields = do
+  parts ← cut_at 32 fields
+  first ← replica_at parts.0
+  second ← replica_at parts.1
+  Some (Agree first second)
+
 -- What the fields behind `forge` say.
 unfoldable pub forge_at : List ℕ → Option ScriptLine
 forge_at fields = do
@@ -79,25 +119,31 @@ forge_at fields = do
 
 -- What the fields behind a word say.
 abbrev pub fields_at : Keyword → List ℕ → Option ScriptLine
-fields_at NodeWord fields = replica_at fields >>= (λ replica. Some (Node replica))
+fields_at NodeWord fields = node_at (cut_at 32 fields) fields
 fields_at NowWord fields = moment_at fields >>= (λ moment. Some (Now moment))
 fields_at OpenWord fields = open_at fields
 fields_at LineWord fields = spoken_at fields >>= (λ spoken. Some (Line spoken.0 spoken.1))
 fields_at SendWord fields = spoken_at fields >>= (λ spoken. Some (Send spoken.0 spoken.1))
+fields_at PollWord fields = session_at fields >>= (λ session. Some (Poll session))
 fields_at CloseWord fields = session_at fields >>= (λ session. Some (Close session))
 fields_at ShowWord fields = replica_at fields >>= (λ replica. Some (Show replica))
 fields_at DeliverWord fields = deliver_at fields
 fields_at ForgeWord fields = forge_at fields
 fields_at DrainWord fields = replica_at fields >>= (λ replica. Some (Drain replica))
+fields_at AgreeWord fields = agree_at fields
 
--- What a line that isn't blank says.
+-- What a line of a word and its fields says.
 unfoldable pub words_at : List ℕ → Option ScriptLine
 words_at line = do
   parts ← cut_at 32 line
   keyword ← keyword_at parts.0
   fields_at keyword parts.1
 
+-- What a line that isn't blank says.
+unfoldable pub word_or_words_at : List ℕ → Option ScriptLine
+word_or_words_at line = if bytes_eq line (codes "settle") then Some Settle else words_at line
+
 -- What a line says.
 abbrev pub line_at : List ℕ → Option ScriptLine
 line_at [] = Some Blank
-line_at (octet ∷ octets) = if octet == 35 then Some Blank else words_at (octet ∷ octets)
+line_at (octet ∷ octets) = if octet == 35 then Some Blank else word_or_words_at (octet ∷ octets)

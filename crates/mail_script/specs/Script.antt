@@ -2,21 +2,29 @@ use Rattle.std.specs.Prelude.{◌≡◌, ℕ, ◌⊎◌, ◌++◌, List, [], ◌
 use Rattle.std.specs.Fmt.{decimal}
 use Rattle.imap_types.specs.Escape.{AreOctets, escaped}
 use Rattle.imap_types.specs.declared.escape.Escape.TheVariants.{Text}
-use Rattle.mail_script.specs.Fields.{IsMoment, IsNumber, IsReplica, id_text, is_session_name}
+use Rattle.mail_script.specs.Fields.{IsFirstK, IsFirstUid, IsMoment, IsNumber, IsReplica, id_text, is_session_name}
 use Rattle.mail_script.specs.declared.script.ScriptLine.{ScriptLine}
-use Rattle.mail_script.specs.declared.script.ScriptLine.TheVariants.{Blank, Node, Now, Open, Line, Send, Close, Show, Deliver, Forge, Drain}
+use Rattle.mail_script.specs.declared.script.ScriptLine.TheVariants.{Blank, Node, Now, Open, Line, Send, Poll, Close, Show, Deliver, Forge, Drain, Settle, Agree}
+
+-- The numbers with which a replica's counters begin, behind its own.
+abbrev pub first_numbers_text : ℕ → ℕ → List ℕ
+first_numbers_text uid k = codes " uid " ++ (decimal uid ++ (codes " k " ++ decimal k))
 
 -- What a line of a replay script says: a word and its fields, one space (32) between them. A `#` (35) begins a comment.
+-- A replica whose first numbers aren't told begins with 1 and 1.
 -- A TEXT is the rest of the line in the escape in which the space stands for itself.
 abbrev pub Says : List ℕ → ScriptLine → Type 0
 Says line Blank = (line ≡ []) ⊎ ((comment : List ℕ) × (line ≡ 35 ∷ comment))
-Says line (Node replica) = IsReplica replica × (line ≡ codes "node " ++ decimal replica)
+Says line (Node replica uid k) = IsReplica replica × IsFirstUid uid × IsFirstK k × ((line ≡ codes "node " ++ (decimal replica ++ first_numbers_text uid k)) ⊎ ((line ≡ codes "node " ++ decimal replica) × (uid ≡ 1) × (k ≡ 1)))
 Says line (Now moment) = IsMoment moment × (line ≡ codes "now " ++ decimal moment)
 Says line (Open replica session) = IsReplica replica × IsTrue (is_session_name session) × (line ≡ codes "open " ++ (decimal replica ++ 32 ∷ session))
 Says line (Line session text) = IsTrue (is_session_name session) × AreOctets text × (line ≡ codes "line " ++ (session ++ 32 ∷ escaped Text text))
 Says line (Send session text) = IsTrue (is_session_name session) × AreOctets text × (line ≡ codes "send " ++ (session ++ 32 ∷ escaped Text text))
+Says line (Poll session) = IsTrue (is_session_name session) × (line ≡ codes "poll " ++ session)
 Says line (Close session) = IsTrue (is_session_name session) × (line ≡ codes "close " ++ session)
 Says line (Show replica) = IsReplica replica × (line ≡ codes "show " ++ decimal replica)
 Says line (Deliver id replica) = IsReplica id.replica × IsNumber id.number × IsReplica replica × (line ≡ codes "deliver " ++ (id_text id ++ 32 ∷ decimal replica))
 Says line (Forge replica operation) = IsReplica replica × (line ≡ codes "forge " ++ (decimal replica ++ 32 ∷ operation))
 Says line (Drain replica) = IsReplica replica × (line ≡ codes "drain " ++ decimal replica)
+Says line Settle = line ≡ codes "settle"
+Says line (Agree first second) = IsReplica first × IsReplica second × (line ≡ codes "agree " ++ (decimal first ++ 32 ∷ decimal second))

@@ -1,6 +1,6 @@
 //! The fields of a line: numbers, names, ids and texts.
 
-ghost use Rattle.mail_script.specs.Reading.{Gives, cut_at, id_at, moment_at, replica_at, session_at, spoken_at};
+ghost use Rattle.mail_script.specs.Reading.{Gives, behind_at, counted_at, cut_at, first_numbers_at, id_at, moment_at, replica_at, session_at, spoken_at};
 
 use crate::script::LineFault;
 use crate::session_name::{SessionName, is_session_name};
@@ -71,4 +71,41 @@ pub fn spoken(alloc: Global, fields: &[u8]) -> Result<(SessionName, Octets), Lin
     let session = session(alloc, name)?;
     let text = read_escaped(alloc, Escape::Text, text)?;
     Ok((session, text))
+}
+
+/// The numbers with which a replica's counters begin: `uid U k K`.
+#[tactic(auto, unfolding(crate::specs::Reading::first_numbers_at))]
+pub fn first_numbers(text: &[u8]) -> Result<(u32, u32), LineFault>
+    ensures { Gives (λ numbers. (numbers.0, numbers.1)) result (first_numbers_at text.now) }
+{
+    let numbers = behind(b"uid", text)?;
+    let (first, rest) = cut(b' ', numbers)?;
+    let uid = counted(first, 4_294_967_295)?;
+    let last = behind(b"k", rest)?;
+    let k = counted(last, 65_536)?;
+    Ok((uid, k))
+}
+
+/// The text behind a word and a space.
+#[tactic(auto, unfolding(crate::specs::Reading::behind_at))]
+fn behind<'a>(word: &[u8], text: &'a [u8]) -> Result<&'a [u8], LineFault>
+    ensures { Gives (λ rest. rest.now) result (behind_at word.now text.now) }
+{
+    let (first, rest) = cut(b' ', text)?;
+    if first != word {
+        return Err(LineFault::NotALine);
+    }
+    Ok(rest)
+}
+
+/// The number from 1 to the limit that a field tells.
+#[tactic(auto, unfolding(crate::specs::Reading::counted_at))]
+fn counted(text: &[u8], limit: u32) -> Result<u32, LineFault>
+    ensures { Gives (λ number. number) result (counted_at limit text.now) }
+{
+    match text_fields::number(text, u64::from(limit)) {
+        None => Err(LineFault::NotALine),
+        Some(0) => Err(LineFault::NotALine),
+        Some(number) => Ok(number as u32),
+    }
 }

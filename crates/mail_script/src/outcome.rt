@@ -3,7 +3,7 @@
 ghost use Rattle.std.specs.Prelude.{◌≡◌, ◌++◌, ℕ, List, [], ◌∷◌, OnErr, OnOk};
 ghost use Rattle.std.specs.Fmt.{decimal};
 ghost use Rattle.mail_script.specs.Fields.{id_text};
-ghost use Rattle.mail_script.specs.Outcomes.{outcome_line, outcome_text, applied_text, delivery_text, result_text, rule_text, stalled_text};
+ghost use Rattle.mail_script.specs.Outcomes.{outcome_line, outcome_text, applied_text, compared_text, delivery_text, result_text, rule_text, settled_text, stalled_text, yes_or_no};
 
 use std::alloc::AllocError;
 use tags_clocks::{OpId, ReplicaId};
@@ -22,6 +22,19 @@ pub enum DeliveryResult {
     Conflict { id: OpId },
     /// It came early, and no more can wait.
     HeldFull,
+    /// A counter is at its end.
+    Exhausted,
+    /// There is no memory for it.
+    NoMemory,
+}
+
+/// What came of an exchange of all operations between all replicas.
+#[derive(Clone, Copy, Debug, PartialEq, Eq)]
+pub enum SettleResult {
+    /// All replicas applied the same operations.
+    Done,
+    /// Two replicas received different operations with this id, the least such; nothing was delivered.
+    Conflict { id: OpId },
     /// A counter is at its end.
     Exhausted,
     /// There is no memory for it.
@@ -67,6 +80,16 @@ pub enum OutcomeLine {
         replica: ReplicaId,
         count: u64,
         stalled: bool,
+    },
+    /// `settle: Ok` and the like
+    Settled {
+        result: SettleResult,
+    },
+    /// `agree R S: yes` or `agree R S: no`; `same` says that both applied the same operations.
+    Agreed {
+        first: ReplicaId,
+        second: ReplicaId,
+        same: bool,
     },
     /// `bad script: line N`, lines from 1
     BadScript {
@@ -137,6 +160,19 @@ fn push_text(outcome: OutcomeLine, out: &mut Vec<u8>) -> Result<(), AllocError>
             push(b": ", out)?;
             push_applied(count, stalled, out)
         }
+        OutcomeLine::Settled { result } => {
+            push(b"settle: ", out)?;
+            push_settled(result, out)
+        }
+        OutcomeLine::Agreed {
+            first,
+            second,
+            same,
+        } => {
+            push(b"agree ", out)?;
+            push_compared(first, second, out)?;
+            push(yes_or_no(same), out)
+        }
         OutcomeLine::BadScript { line } => {
             push(b"bad script: line ", out)?;
             push_number(line, out)
@@ -189,6 +225,38 @@ fn push_result(delivery: DeliveryResult, out: &mut Vec<u8>) -> Result<(), AllocE
         DeliveryResult::Exhausted => push(b"Exhausted", out),
         DeliveryResult::NoMemory => push(b"NoMemory", out),
     }
+}
+
+fn push_settled(settled: SettleResult, out: &mut Vec<u8>) -> Result<(), AllocError>
+    ensures ok { OnOk result (out.new.items ≡ out.old.items ++ settled_text settled) }
+    ensures kept { (more : List ℕ) × (out.new.items ≡ out.old.items ++ more) }
+{
+    match settled {
+        SettleResult::Done => push(b"Ok", out),
+        SettleResult::Conflict { id } => {
+            push(b"Conflict ", out)?;
+            push_id(id, out)
+        }
+        SettleResult::Exhausted => push(b"Exhausted", out),
+        SettleResult::NoMemory => push(b"NoMemory", out),
+    }
+}
+
+/// Appends which two replicas are compared.
+fn push_compared(first: ReplicaId, second: ReplicaId, out: &mut Vec<u8>) -> Result<(), AllocError>
+    ensures ok { OnOk result (out.new.items ≡ out.old.items ++ compared_text first second) }
+    ensures kept { (more : List ℕ) × (out.new.items ≡ out.old.items ++ more) }
+{
+    push_number(u64::from(first.get()), out)?;
+    push(b" ", out)?;
+    push_number(u64::from(second.get()), out)?;
+    push(b": ", out)
+}
+
+fn yes_or_no(same: bool) -> &'static [u8]
+    ensures { result.now ≡ yes_or_no same }
+{
+    if same { b"yes" } else { b"no" }
 }
 
 fn push(octets: &[u8], out: &mut Vec<u8>) -> Result<(), AllocError>

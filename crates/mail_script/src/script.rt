@@ -3,23 +3,27 @@
 ghost use Rattle.std.specs.Prelude.{◌≡◌, ℕ, List, IfOk, MatchResult};
 ghost use Rattle.mail_script.specs.declared.script.ScriptLine.{ScriptLine as Meaning};
 ghost use Rattle.mail_script.specs.declared.script.LineFault.TheVariants.{NoMemory};
-ghost use Rattle.mail_script.specs.Reading.{Gives, deliver_at, fields_at, forge_at, keyword_at, line_at, open_at, words_at};
+ghost use Rattle.mail_script.specs.Reading.{Gives, agree_at, cut_at, deliver_at, fields_at, forge_at, keyword_at, line_at, node_at, open_at, word_or_words_at, words_at};
 ghost use Rattle.mail_script.specs.Script.{Says};
 
-use crate::fields::{cut, id, moment, replica, session, spoken};
+use crate::fields::{cut, first_numbers, id, moment, replica, session, spoken};
 use crate::session_name::SessionName;
 use imap_types::{EscapeFault, Moment, Octets};
 use std::alloc::{AllocError, Global};
 use tags_clocks::{OpId, ReplicaId};
+use text_fields::split;
 
 /// What a line of a script asks for.
 #[derive(Drop)]
 pub enum ScriptLine {
     /// Nothing: the line is empty or a comment.
     Blank,
-    /// `node R` declares a replica.
+    /// `node R uid U k K` declares a replica: U is INBOX's first UID, from 1, and K the k of the first incarnation of another
+    /// folder that begins there, from 1 to 65,536, which leaves none to begin. `node R` alone says 1 and 1.
     Node {
         replica: ReplicaId,
+        uid: u32,
+        k: u32,
     },
     /// `now N` sets the moment.
     Now {
@@ -39,6 +43,10 @@ pub enum ScriptLine {
     Send {
         session: SessionName,
         text: Octets,
+    },
+    /// `poll NAME` polls an idling session.
+    Poll {
+        session: SessionName,
     },
     /// `close NAME` closes a session.
     Close {
@@ -61,6 +69,13 @@ pub enum ScriptLine {
     /// `drain R` goes on with a replica's ripe held operations.
     Drain {
         replica: ReplicaId,
+    },
+    /// `settle` exchanges all operations between all replicas, in the order in which they were declared.
+    Settle,
+    /// `agree R S` asks whether two replicas applied the same operations.
+    Agree {
+        first: ReplicaId,
+        second: ReplicaId,
     },
 }
 
@@ -108,11 +123,13 @@ pub enum Keyword {
     Open,
     Line,
     Send,
+    Poll,
     Close,
     Show,
     Deliver,
     Forge,
     Drain,
+    Agree,
 }
 
 /// What a line says, which is given without its LF; a CR before the LF belongs to it. `NotALine` exactly where the line
@@ -138,9 +155,19 @@ fn said(alloc: Global, line: &[u8]) -> Result<ScriptLine, LineFault>
             if *first == b'#' {
                 return Ok(ScriptLine::Blank);
             }
-            words(alloc, line)
+            word_or_words(alloc, line)
         }
     }
+}
+
+#[tactic(auto, unfolding(crate::specs::Reading::word_or_words_at))]
+fn word_or_words(alloc: Global, line: &[u8]) -> Result<ScriptLine, LineFault>
+    ensures { Gives (λ said. said) result (word_or_words_at line.now) }
+{
+    if line == b"settle".as_slice() {
+        return Ok(ScriptLine::Settle);
+    }
+    words(alloc, line)
 }
 
 #[tactic(auto, unfolding(crate::specs::Reading::words_at))]
@@ -166,6 +193,8 @@ fn read_keyword(word: &[u8]) -> Result<Keyword, LineFault>
         Ok(Keyword::Line)
     } else if word == b"send".as_slice() {
         Ok(Keyword::Send)
+    } else if word == b"poll".as_slice() {
+        Ok(Keyword::Poll)
     } else if word == b"close".as_slice() {
         Ok(Keyword::Close)
     } else if word == b"show".as_slice() {
@@ -176,6 +205,8 @@ fn read_keyword(word: &[u8]) -> Result<Keyword, LineFault>
         Ok(Keyword::Forge)
     } else if word == b"drain".as_slice() {
         Ok(Keyword::Drain)
+    } else if word == b"agree".as_slice() {
+        Ok(Keyword::Agree)
     } else {
         Err(LineFault::NotALine)
     }
@@ -185,10 +216,7 @@ fn after_keyword(alloc: Global, keyword: Keyword, fields: &[u8]) -> Result<Scrip
     ensures { Gives (λ said. said) result (fields_at keyword fields.now) }
 {
     match keyword {
-        Keyword::Node => {
-            let replica = replica(fields)?;
-            Ok(ScriptLine::Node { replica })
-        }
+        Keyword::Node => node(fields),
         Keyword::Now => {
             let moment = moment(fields)?;
             Ok(ScriptLine::Now { moment })
@@ -201,6 +229,10 @@ fn after_keyword(alloc: Global, keyword: Keyword, fields: &[u8]) -> Result<Scrip
         Keyword::Send => {
             let (session, text) = spoken(alloc, fields)?;
             Ok(ScriptLine::Send { session, text })
+        }
+        Keyword::Poll => {
+            let session = session(alloc, fields)?;
+            Ok(ScriptLine::Poll { session })
         }
         Keyword::Close => {
             let session = session(alloc, fields)?;
@@ -215,6 +247,28 @@ fn after_keyword(alloc: Global, keyword: Keyword, fields: &[u8]) -> Result<Scrip
         Keyword::Drain => {
             let replica = replica(fields)?;
             Ok(ScriptLine::Drain { replica })
+        }
+        Keyword::Agree => agree(fields),
+    }
+}
+
+#[tactic(auto, unfolding(crate::specs::Reading::node_at))]
+fn node(fields: &[u8]) -> Result<ScriptLine, LineFault>
+    ensures { Gives (λ said. said) result (node_at (cut_at 32 fields.now) fields.now) }
+{
+    match split(b' ', fields) {
+        None => {
+            let replica = replica(fields)?;
+            Ok(ScriptLine::Node {
+                replica,
+                uid: 1,
+                k: 1,
+            })
+        }
+        Some((name, numbers)) => {
+            let replica = replica(name)?;
+            let (uid, k) = first_numbers(numbers)?;
+            Ok(ScriptLine::Node { replica, uid, k })
         }
     }
 }
@@ -237,6 +291,16 @@ fn deliver(fields: &[u8]) -> Result<ScriptLine, LineFault>
     let id = id(name)?;
     let replica = replica(number)?;
     Ok(ScriptLine::Deliver { id, replica })
+}
+
+#[tactic(auto, unfolding(crate::specs::Reading::agree_at))]
+fn agree(fields: &[u8]) -> Result<ScriptLine, LineFault>
+    ensures { Gives (λ said. said) result (agree_at fields.now) }
+{
+    let (one, other) = cut(b' ', fields)?;
+    let first = replica(one)?;
+    let second = replica(other)?;
+    Ok(ScriptLine::Agree { first, second })
 }
 
 #[tactic(auto, unfolding(crate::specs::Reading::forge_at))]

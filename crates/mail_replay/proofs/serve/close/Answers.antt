@@ -18,4 +18,4 @@ returns-clause-ok c =
       replica_is = stands_at _ _ _ _ c.deref-2.ensures.value c.in-Some-replica_place.ensures.within c.index_mut.ensures.value;
       connection_is = search rules;
     } in
-    (t, search rules)
+    (t, c.close.new.self, search rules, search rules)

@@ -5,7 +5,7 @@ use Rattle.mail_replay.proofs.StageLemmas.{stands_at}
 use Rattle.mail_replay.specs.Lines.{Talking}
 use Rattle.mail_replay.specs.Transcript.{transcript}
 use Rattle.mail_replay.specs.Stage.{scene_of}
-use Rattle.world_core.specs.declared.turn.Turn.{Turn}
+use Rattle.node_talk.specs.declared.turn.Turn.{Turn}
 use Rattle.mail_replay.proofs.serve.feed.Goals as goal
 
 pub returns-in_err-session-clause-memory : goal.returns-in_err-session-clause-memory
@@ -42,7 +42,7 @@ returns-in_err-add_behind-clause-memory c =
       connection_is = search rules;
     } in
     let told = c.in_ok-session.ensures.ok in
-    λ e. (_, (t, told.0, length told.0, whole_talk _ _ _ _ _ _ told.1, refl), told.2 ∙ ap (λ (ts : List Turn). c.args.printed.now.items ++ transcript c.args.name.now ts) (sym (take-length told.0)))
+    λ e. (_, (t, told.0, length told.0, whole_talk _ _ _ _ _ _ _ told.1, refl), told.2 ∙ ap (λ (ts : List Turn). c.args.printed.now.items ++ transcript c.args.name.now ts) (sym (take-length told.0)))
 
 pub returns-clause-ok : goal.returns-clause-ok
 returns-clause-ok c =

@@ -28,6 +28,20 @@ returns-in-Deliver-clause-ok c = rw c.in-Deliver.is c.deliver.ensures.ok
 pub returns-in-Drain-clause-ok : goal.returns-in-Drain-clause-ok
 returns-in-Drain-clause-ok c = rw c.in-Drain.is c.drain.ensures.ok
 
+pub declare-requires : goal.declare-requires
+declare-requires c = rw c.in-Node.is at c.requires
+
+pub returns-in-Node-clause-ok : goal.returns-in-Node-clause-ok
+returns-in-Node-clause-ok c = rw c.in-Node.is (on_ok c.declare.result (λ d. ([], (refl, d), sym (append-nil _))) c.declare.ensures.ok)
+
+pub returns-in-Poll-clause-ok : goal.returns-in-Poll-clause-ok
+returns-in-Poll-clause-ok c = rw c.in-Poll.is c.poll.ensures.ok
+
+pub returns-in-Poll-clause-memory : goal.returns-in-Poll-clause-memory
+returns-in-Poll-clause-memory c =
+    let polled = c.poll.ensures.memory in
+    rw c.in-Poll.is (λ f. let h = polled f in (h.0, inr h.1, h.2))
+
 pub returns-in-Node-clause-memory : goal.returns-in-Node-clause-memory
 returns-in-Node-clause-memory c = λ e. ([], inl refl, sym (append-nil _))
 

@@ -1,0 +1,85 @@
+//! A session of a new node, whose user has to log in, and what it is answered.
+
+ghost use Rattle.std.specs.Prelude.{IsTrue, ◌↔◌};
+ghost use Rattle.imap_node.specs.Nodes.{IsGoing};
+
+use imap_lex::{Framer, Limits};
+use imap_types::{Moment, Octets};
+use node_talk::{Auth, Credentials, Node, SessionNo, State, Turn, talk};
+use std::alloc::Global;
+use tags_clocks::ReplicaId;
+use uid_projection::Start;
+
+/// A session of a node of its own.
+#[derive(Drop)]
+pub struct Talk {
+    node: Node,
+    framer: Framer,
+    session: SessionNo,
+}
+
+/// A new node with a session whose user is to log in with these.
+pub fn begin(alloc: Global, user: &str, password: &str) -> Option<Talk> {
+    let start = Start {
+        replica: ReplicaId::new(1)?,
+        uid: 1,
+        k: 1,
+    };
+    let credentials = Credentials {
+        user: Octets::copied_from(alloc, user.as_bytes()).ok()?,
+        password: Octets::copied_from(alloc, password.as_bytes()).ok()?,
+    };
+    let mut node = Node::new(alloc, start).ok()?;
+    let session = node.open(Auth::Password { credentials }).ok()?;
+    Some(Talk {
+        node,
+        framer: Framer::new(alloc, Limits::STANDARD),
+        session,
+    })
+}
+
+/// What the session is answered to these octets, with a `|` behind each answer in place of its CRLF; none where it has ended.
+pub fn answers(alloc: Global, talk: &mut Talk, octets: &str) -> Option<Vec<u8>> {
+    let Talk {
+        node,
+        framer,
+        session,
+    } = talk;
+    let turns = turns_of(alloc, node, framer, *session, octets.as_bytes())?;
+    let mut told = Vec::new(alloc);
+    for turn in &turns {
+        if let Turn::Sent(answer) = turn {
+            let line = answer.as_bytes().strip_suffix(b"\r\n".as_slice())?;
+            told.extend_from_slice(line).ok()?;
+            told.push(b'|').ok()?;
+        }
+    }
+    Some(told)
+}
+
+fn turns_of(
+    alloc: Global,
+    node: &mut Node,
+    framer: &mut Framer,
+    session: SessionNo,
+    octets: &[u8],
+) -> Option<Vec<Turn>> {
+    if !is_going(node, session) {
+        return None;
+    }
+    talk(alloc, node, framer, session, Moment::epoch(), octets).ok()
+}
+
+/// Whether the session is open, and goes on.
+pub fn goes_on(talk: &Talk) -> bool {
+    is_going(&talk.node, talk.session)
+}
+
+fn is_going(node: &Node, session: SessionNo) -> bool
+    ensures { IsTrue result ↔ IsGoing node.now.state session }
+{
+    match node.session(session) {
+        Some(session) => !matches!(session.state, State::LoggedOut),
+        None => false,
+    }
+}
