@@ -146,13 +146,23 @@ impl Node {
         ensures planned { IsPlanned self.new result }
         ensures responds { Planned self.old.state session input result }
     {
+        let plan = self.plan_for(alloc, session, &input);
+        drop(input);
+        plan
+    }
+
+    /// As `plan`, for an input that is lent.
+    pub fn plan_for(&mut self, alloc: Global, session: SessionNo, input: &Input) -> Plan
+        requires { IsOpen self.old.state.sessions session }
+        ensures same { self.new.state ≡ self.old.state }
+        ensures planned { IsPlanned self.new result }
+        ensures responds { Planned self.old.state session input.now result }
+    {
         let Some(found) = self.sessions.get(session) else {
             unreachable!()
         };
-        let outcome = prepare(alloc, &mut self.replica, found, &input);
-        let plan = plan_by(alloc, session, &found.state, &input, outcome);
-        drop(input);
-        plan
+        let outcome = prepare(alloc, &mut self.replica, found, input);
+        plan_by(alloc, session, &found.state, input, outcome)
     }
 
     /// Does what was planned, where the node is as the plan left it; takes no memory.
