@@ -3,7 +3,7 @@
 ghost use Rattle.std.specs.Prelude.{◌≡◌, ◌↔◌, ℕ, ◌+◌, ◌<◌, ◌≤◌, true, false, List, [], ◌∷◌, ◌++◌, length, IfOk, IsOk, IsTrue, OnErr, Some, slice_get};
 ghost use Rattle.std.specs.Option.{option_map};
 ghost use Rattle.imap_node.specs.Nodes.{NodeState};
-ghost use Rattle.replica_lock.specs.Histories.{Leads, entry_at, is_poll, open_after, wanted};
+ghost use Rattle.replica_lock.specs.Histories.{Leads, IsStirred, entry_at, is_poll, open_after, wanted};
 ghost use Rattle.replica_lock.specs.Steps.{IsStep, ends_session, unused_node};
 
 use crate::event::BookEvent;
@@ -29,7 +29,7 @@ pub struct Book {
     node: Node,
     journal: Vec<Entry>,
     /// How many sessions are open. The journal has room for the close of each.
-    open: usize,
+    sessions: usize,
 }
 
 impl Model for Book {
@@ -41,7 +41,7 @@ impl Model for Book {
 
     ghost view = { λ b. record { node = b.node.state; journal = b.journal.items } };
 
-    ghost invariant = { λ b. record { history : Leads (unused_node b.node.state.start) b.journal.items b.node.state; counted : b.open ≡ open_count b.node.state.sessions; closes : b.open + vec_len b.journal ≤ vec_capacity b.journal } };
+    ghost invariant = { λ b. record { history : Leads (unused_node b.node.state.start) b.journal.items b.node.state; counted : b.sessions ≡ open_count b.node.state.sessions; closes : b.sessions + vec_len b.journal ≤ vec_capacity b.journal } };
 }
 
 impl Book {
@@ -54,7 +54,7 @@ impl Book {
         Book {
             node,
             journal: Vec::new(alloc),
-            open: 0,
+            sessions: 0,
         }
     }
 
@@ -83,12 +83,12 @@ impl Book {
         self.journal.get(place as usize - 1)
     }
 
-    /// Whether an entry behind the first `seen` is anything but a poll. It looks at the entries behind these.
-    pub fn stirred(&self, seen: u64) -> bool
-        ensures { IsTrue result ↔ ((k : ℕ) × (e : Entry) × (seen ≤ k) × (slice_get self.now.journal k ≡ Some e) × (is_poll e.event ≡ false)) }
+    /// Whether an entry behind the first `from`, among the first `to`, is anything but a poll. It looks at these entries.
+    pub fn stirred(&self, from: u64, to: u64) -> bool
+        ensures { IsTrue result ↔ IsStirred self.now.journal from to }
     {
-        for k in seen as usize..self.journal.len() {
-            if !is_poll(&self.journal[k].event) {
+        for place in from as usize..self.journal.len().min(to as usize) {
+            if !is_poll(&self.journal[place].event) {
                 return true;
             }
         }
@@ -103,7 +103,7 @@ impl Book {
         ensures no_room { OnErr result (self.new ≡ self.old) }
         ensures close { ends_session self.old.node event ≡ true → IsOk result }
     {
-        let places = places_for(self.open, &self.node, &event);
+        let places = places_for(self.sessions, &self.node, &event);
         let Ok(()) = self.journal.reserve(places) else {
             return Err(NoRoom);
         };
@@ -115,7 +115,7 @@ impl Book {
             outcome,
             copy,
         } = stepped;
-        self.open = open_after(self.open, &outcome);
+        self.sessions = open_after(self.sessions, &outcome);
         self.journal.push_reserved(Entry {
             event,
             outcome: copy,
@@ -134,30 +134,30 @@ fn is_poll(event: &BookEvent) -> bool
 }
 
 /// The places that an event wants in the journal, where so many sessions are open.
-fn places_for(open: usize, node: &Node, event: &BookEvent) -> usize
-    requires { open < 18446744073709551614 }
-    ensures { result ≡ wanted open node.now.state event.now }
+fn places_for(sessions: usize, node: &Node, event: &BookEvent) -> usize
+    requires { sessions < 18446744073709551614 }
+    ensures { result ≡ wanted sessions node.now.state event.now }
 {
     match event {
         BookEvent::Close { session } => {
             if node.is_open(*session) {
-                open
+                sessions
             } else {
-                open + 2
+                sessions + 2
             }
         }
-        _ => open + 2,
+        _ => sessions + 2,
     }
 }
 
 /// How many sessions are open behind a step, where so many were before it.
-fn open_after(open: usize, outcome: &Outcome) -> usize
-    requires bound { open < 18446744073709551615 }
-    ensures { result ≡ open_after open outcome.now }
+fn open_after(sessions: usize, outcome: &Outcome) -> usize
+    requires bound { sessions < 18446744073709551615 }
+    ensures { result ≡ open_after sessions outcome.now }
 {
     match outcome {
-        Outcome::Opened { answer: Ok(_) } => open + 1,
-        Outcome::Closed => open.saturating_sub(1),
-        _ => open,
+        Outcome::Opened { answer: Ok(_) } => sessions + 1,
+        Outcome::Closed => sessions.saturating_sub(1),
+        _ => sessions,
     }
 }

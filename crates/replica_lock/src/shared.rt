@@ -126,12 +126,7 @@ impl<L: Ledger> Shared<L> {
     }
 
     /// Tells the pass's session, in IDLE, what changed.
-    pub fn poll<R: Wait>(
-        &self,
-        rt: &R,
-        alloc: Global,
-        pass: &mut Pass<L>,
-    ) -> Result<(), CallFault>
+    pub fn poll<R: Wait>(&self, rt: &R, alloc: Global, pass: &mut Pass<L>) -> Result<(), CallFault>
         requires { IsSome pass.old.session }
         ensures called { OnOk result (IsCalled pass.old pass.new) }
         ensures unchanged { OnErr result (pass.new ≡ pass.old) }
@@ -159,12 +154,7 @@ impl<L: Ledger> Shared<L> {
     }
 
     /// Goes on with held operations whose causes were applied.
-    pub fn drain<R: Wait>(
-        &self,
-        rt: &R,
-        alloc: Global,
-        pass: &mut Pass<L>,
-    ) -> Result<(), CallFault>
+    pub fn drain<R: Wait>(&self, rt: &R, alloc: Global, pass: &mut Pass<L>) -> Result<(), CallFault>
         ensures called { OnOk result (IsCalled pass.old pass.new) }
         ensures unchanged { OnErr result (pass.new ≡ pass.old) }
         ensures refused { IfErr result (IsRefused pass.old.seen) }
@@ -173,12 +163,7 @@ impl<L: Ledger> Shared<L> {
     }
 
     /// Closes the pass's session.
-    pub fn close<R: Wait>(
-        &self,
-        rt: &R,
-        alloc: Global,
-        pass: &mut Pass<L>,
-    ) -> Result<(), CallFault>
+    pub fn close<R: Wait>(&self, rt: &R, alloc: Global, pass: &mut Pass<L>) -> Result<(), CallFault>
         requires { IsSome pass.old.session }
         ensures called { OnOk result (IsCalled pass.old pass.new) }
         ensures unchanged { OnErr result (pass.new ≡ pass.old) }
@@ -200,10 +185,10 @@ impl<L: Ledger> Shared<L> {
         locked.len()
     }
 
-    /// Whether an entry behind the first `seen` is anything but a poll, so that an idling session may have to be told of it. It makes no
-    /// entry.
-    pub fn stirred<R: Wait>(&self, rt: &R, seen: u64) -> bool {
-        self.locked.lock(rt).book().stirred(seen)
+    /// Whether an entry behind the first `from`, among the first `to`, is anything but a poll, so that an idling session may have to be told of
+    /// it. It makes no entry.
+    pub fn stirred<R: Wait>(&self, rt: &R, from: u64, to: u64) -> bool {
+        self.locked.lock(rt).book().stirred(from, to)
     }
 
     /// Takes the lock away and hands the book out, where the passes are all there. `Missing` where one is lacking, `Strange` where a pass
