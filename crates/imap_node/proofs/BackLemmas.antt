@@ -1,9 +1,11 @@
-use Rattle.std.proofs.Common.{◌≡◌, ◌⊎◌, inl, inr, ℕ, ◌+◌, ◌-◌, ◌<◌, ◌≤◌, Bool, true, false, ◌||◌, List, [], ◌∷◌, ◌++◌, length, take, map, Option, Some, None, append-nil, refl, sym, ap, ◌∙◌, subst, arith, if◌then◌else◌}
+use Rattle.std.proofs.Common.{◌≡◌, inl, inr, ℕ, ◌+◌, ◌-◌, ◌<◌, ◌≤◌, Bool, true, false, ◌||◌, List, [], ◌∷◌, ◌++◌, length, take, map, Option, Some, None, append-nil, refl, sym, ap, ◌∙◌, subst, arith, if◌then◌else◌}
 use Rattle.std.specs.Prelude.{Ok}
 use Rattle.std.proofs.Math.Seq.{take-length}
-use Rattle.std.proofs.lemmas.Bool.{cases_Bool, false≢true}
+use Rattle.std.proofs.lemmas.Bool.{false≢true}
 use Rattle.std.proofs.lemmas.Bool.Decides.{eqb_tells}
 use Rattle.causal_inbox.specs.Received.{HasGrown}
+use Rattle.causal_inbox.specs.declared.answers.Arrival.{Arrival}
+use Rattle.causal_inbox.proofs.Union.{arrival_grows, arrival_start, releases_grow, releases_start}
 use Rattle.crdt_ops.specs.declared.kind.Kind.{Kind}
 use Rattle.crdt_ops.specs.declared.op.Op.{Op}
 use Rattle.imap_answers.specs.declared.answer.Answer.{Answer}
@@ -17,12 +19,11 @@ use Rattle.imap_commands.specs.declared.session.State.TheVariants.{NotAuthentica
 use Rattle.imap_commands.proofs.PrintSelected.{each_append}
 use Rattle.imap_grammar.specs.declared.command.Command.{Command}
 use Rattle.imap_grammar.specs.declared.command.Command.TheVariants as commands
-use Rattle.imap_grammar.specs.declared.command.Tagged.{Tagged}
 use Rattle.imap_query.specs.declared.mailbox_status.Marks.{Marks}
 use Rattle.mail_listing.specs.Listed.{Listed}
 use Rattle.mail_listing.specs.Listing.{AreRisingRows, beyond}
 use Rattle.merge_laws.specs.Orders.{IsIn}
-use Rattle.session_view.specs.Replay.{after_answers, after_silent, replayed}
+use Rattle.session_view.specs.Replay.{after_answers, replayed}
 use Rattle.session_view.specs.Seen.{Seen}
 use Rattle.session_view.specs.Sync.{synced}
 use Rattle.session_view.specs.Views.{AreRising, Knows, entries_of}
@@ -34,16 +35,18 @@ use Rattle.session_view.proofs.ReplayLemmas.{replay_rising}
 use Rattle.session_view.proofs.SyncLemmas.{full_shows}
 use Rattle.uid_projection.specs.declared.start.Start.{Start}
 use Rattle.uid_projection.specs.Applied.{IsApplied}
+use Rattle.uid_projection.specs.Exhaustion.{Exhausts}
 use Rattle.uid_projection.specs.Incarnations.{is_there, uidvalidity_of}
-use Rattle.uid_projection.specs.Lines.{first_uid, uidnext_of}
+use Rattle.uid_projection.specs.Lines.{uidnext_of}
 use Rattle.uid_projection.specs.Listing.{listing}
 use Rattle.uid_projection.proofs.Presence.{applied_front}
 use Rattle.imap_node.specs.Commands.{Tells, is_selected, is_selecting, moves_to, notice, sync_of}
+use Rattle.imap_node.specs.Deliveries.{Delivers, Drains}
 use Rattle.imap_node.specs.Endings.{Course, ending, ending_of, synced_by}
 use Rattle.imap_node.specs.GoingBack.{GoesBack, ViewsGoBack, is_full, tells_all, tells_all_of, uids_of}
 use Rattle.imap_node.specs.Issues.{issued_by}
 use Rattle.imap_node.specs.Mailboxes.{marks_of, rows_for, validity_of}
-use Rattle.imap_node.specs.Nodes.{NodeState, closed}
+use Rattle.imap_node.specs.Nodes.{NodeState, closed, received}
 use Rattle.imap_node.specs.Replays.{ViewsAscend, selects, view_at, view_in, view_of}
 use Rattle.imap_node.specs.Respond.{Responds, TakesCourse, course_of, idle_tail, is_on, left, session_after, synced_course, wants_of}
 use Rattle.imap_node.specs.Sessions.{IsOpen, Opens, Places, opened}
@@ -378,3 +381,13 @@ grown_back old new s p g a h = λ m view e.
     let here : view_at old.sessions m ≡ Some view = ap (λ (places : Places). view_at places m) (sym p) ∙ e in
     subst (λ (x : Start). GoesBack x new.applied view) (sym s)
     (subst (λ (os : List Op). GoesBack old.start os view) (sym g.1) (goes_on old.start old.applied g.0 view (subst IsApplied g.1 a) (h m view here)))
+
+pub delivered_back : (old new : NodeState) (op : Op) (came : Arrival) → IsApplied new.applied → Delivers old op came new → ViewsGoBack old.start old.applied old.sessions → ViewsGoBack new.start new.applied new.sessions
+delivered_back old new op came a d =
+    grown_back old new (arrival_start (λ (o : Op). o.id) (λ (o : Op). o.clock) Exhausts (received old) (received new) op came d.arrives) d.sessions
+    (arrival_grows (λ (o : Op). o.id) (λ (o : Op). o.clock) Exhausts (received old) (received new) op came d.arrives) a
+
+pub drained_back : (old new : NodeState) (count : ℕ) → IsApplied new.applied → Drains old count new → ViewsGoBack old.start old.applied old.sessions → ViewsGoBack new.start new.applied new.sessions
+drained_back old new count a d =
+    grown_back old new (releases_start (λ (o : Op). o.id) (λ (o : Op). o.clock) Exhausts count (received old) (received new) d.released) d.sessions
+    (releases_grow (λ (o : Op). o.id) (λ (o : Op). o.clock) Exhausts count (received old) (received new) d.released) a

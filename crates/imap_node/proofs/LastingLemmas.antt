@@ -1,4 +1,4 @@
-use Rattle.std.proofs.Common.{◌≡◌, inl, inr, ℕ, ◌+◌, zero, suc, List, [], ◌∷◌, ◌++◌, append_assoc, append-nil, refl, sym, ap, ◌∙◌, subst}
+use Rattle.std.proofs.Common.{◌≡◌, inl, inr, ℕ, zero, suc, List, [], ◌∷◌, ◌++◌, append_assoc, append-nil, refl, sym, ap, subst}
 use Rattle.causal_inbox.specs.Delivery.{Arrives}
 use Rattle.causal_inbox.specs.Seen.{AreReleased, Seen}
 use Rattle.causal_inbox.specs.declared.answers.Arrival.{Arrival}

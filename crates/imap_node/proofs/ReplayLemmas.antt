@@ -1,5 +1,5 @@
-use Rattle.std.proofs.Common.{◌≡◌, ◌⊎◌, inl, inr, ℕ, ◌-◌, cond, eqb, get_or, ◌≤◌, Bool, true, false, List, [], ◌∷◌, ◌++◌, Option, Some, None, nat_eq, refl, sym, ap, ◌∙◌, subst, if◌then◌else◌}
-use Rattle.std.specs.Prelude.{Result, Ok, Err, ◌&&◌}
+use Rattle.std.proofs.Common.{◌≡◌, inl, inr, ℕ, ◌-◌, cond, eqb, get_or, ◌≤◌, Bool, true, false, List, [], ◌++◌, Option, Some, None, nat_eq, refl, sym, ap, ◌∙◌, subst, if◌then◌else◌}
+use Rattle.std.specs.Prelude.{Ok, ◌&&◌}
 use Rattle.std.proofs.lemmas.Bool.{cases_Bool}
 use Rattle.std.proofs.lemmas.Bool.Decides.{eqb_tells}
 use Rattle.crdt_ops.specs.declared.kind.Kind.{Kind}
@@ -18,7 +18,7 @@ use Rattle.mail_listing.specs.Listed.{Listed}
 use Rattle.mail_listing.specs.Listing.{AreRisingRows}
 use Rattle.session_view.specs.Replay.{after_answers, after_silent, replayed}
 use Rattle.session_view.specs.Seen.{Seen, rows_under}
-use Rattle.session_view.specs.Sync.{sync_answers, synced}
+use Rattle.session_view.specs.Sync.{sync_answers}
 use Rattle.session_view.specs.Views.{AreRising}
 use Rattle.session_view.specs.declared.entry.Entry.{Entry}
 use Rattle.session_view.specs.declared.entry.SyncKind.{SyncKind}
@@ -32,11 +32,11 @@ use Rattle.uid_projection.specs.Listing.{listing}
 use Rattle.uid_projection.proofs.ChartOf.{charted}
 use Rattle.uid_projection.proofs.RowLemmas.{rising_chart, rows_listed}
 use Rattle.imap_node.specs.Commands.{is_idle, is_selected, is_selecting, moves_to, wants}
-use Rattle.imap_node.specs.Endings.{Course, answers_by, answers_of_course, ending, ending_of, synced_by}
+use Rattle.imap_node.specs.Endings.{Course, answers_by, answers_of_course, ending, synced_by}
 use Rattle.imap_node.specs.Mailboxes.{rows_for}
 use Rattle.imap_node.specs.Nodes.{NodeState, closed}
 use Rattle.imap_node.specs.Replays.{ViewsAscend, base_of, based, replayed_on, selects, view_at, view_behind, view_in, view_of}
-use Rattle.imap_node.specs.Respond.{Carries, Holds, IsRefused, Responds, TakesCourse, closes, course_of, idle_tail, left, session_after, synced_course, tail_of, wants_of}
+use Rattle.imap_node.specs.Respond.{Carries, Holds, Responds, TakesCourse, idle_tail, left, session_after, tail_of, wants_of}
 use Rattle.imap_node.specs.Sessions.{IsOpen, Opens, OthersStay, Places, opened, session_at, with_session}
 use Rattle.imap_node.specs.declared.input.Input.{Input}
 use Rattle.imap_node.specs.declared.input.Input.TheVariants as inputs

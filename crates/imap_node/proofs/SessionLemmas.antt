@@ -1,7 +1,7 @@
-use Rattle.std.proofs.Common.{◌≡◌, inl, inr, ℕ, ◌-◌, ◌<◌, zero, suc, Bool, true, false, cond, eqb, [], ◌∷◌, get_or, set, ap, refl, sym, subst, arith, Option, None, Some, IsSome}
+use Rattle.std.proofs.Common.{◌≡◌, inl, inr, ℕ, ◌-◌, ◌<◌, zero, suc, Bool, true, false, cond, eqb, [], ◌∷◌, get_or, set, ap, refl, subst, arith, Option, None, Some, IsSome}
 use Rattle.std.proofs.lemmas.Bool.{cases_lt}
 use Rattle.imap_commands.specs.declared.session.Session.{Session}
-use Rattle.imap_node.specs.Sessions.{IsOpen, OthersStay, Places, session_at, with_session}
+use Rattle.imap_node.specs.Sessions.{OthersStay, Places, session_at, with_session}
 
 -- what is put in a place that is there stands in it
 put_there : (places : Places) (i : ℕ) (place : Option Session) (s : Session) → get_or places i None ≡ Some s → get_or (set places i place) i None ≡ place

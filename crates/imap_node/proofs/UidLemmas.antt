@@ -1,4 +1,4 @@
-use Rattle.std.proofs.Common.{◌≡◌, ◌⊎◌, inl, inr, ℕ, ◌+◌, ◌-◌, ◌<◌, ◌≤◌, Bool, true, false, List, [], ◌∷◌, ◌++◌, map, Option, Some, None, nat_eq, nat_lt, refl, sym, ap, ◌∙◌, subst, arith, eq-eqb, if◌then◌else◌}
+use Rattle.std.proofs.Common.{◌≡◌, ◌⊎◌, inl, inr, ℕ, ◌+◌, ◌-◌, ◌<◌, ◌≤◌, true, List, [], ◌∷◌, ◌++◌, map, Option, Some, None, nat_eq, nat_lt, refl, sym, ap, ◌∙◌, subst, arith, eq-eqb}
 use Rattle.std.proofs.lemmas.Bool.{cases_Bool}
 use Rattle.std.proofs.lemmas.Bool.Decides.{nat_tests}
 use Rattle.crdt_ops.proofs.Members.{any_in, in_filter}
@@ -15,7 +15,7 @@ use Rattle.session_view.specs.Seen.{rows_under}
 use Rattle.session_view.specs.Sync.{refreshed, refreshed_by, synced}
 use Rattle.session_view.specs.Views.{Knows, entries_of, entry_of, has_uid, last_from, last_uid}
 use Rattle.session_view.specs.declared.entry.Entry.{Entry}
-use Rattle.session_view.specs.declared.entry.SyncKind.TheVariants.{Full, Partial}
+use Rattle.session_view.specs.declared.entry.SyncKind.TheVariants.{Partial}
 use Rattle.session_view.specs.declared.replaying.Silent.{Silent}
 use Rattle.imap_node.specs.GoingBack.{uids_of}
 

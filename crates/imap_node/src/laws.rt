@@ -1,8 +1,8 @@
 //! What holds of whatever a node replies and receives. Laws without code: a contract each.
 
 ghost use Rattle.std.specs.Prelude.{◌≡◌, ℕ, ◌≤◌, true, List, [], None, Some};
-ghost use Rattle.causal_inbox.specs.declared.answers.Arrival.{Arrival as Came};
 ghost use Rattle.causal_inbox.specs.Received.{HasGrown};
+ghost use Rattle.causal_inbox.specs.declared.answers.Arrival.{Arrival as Came};
 ghost use Rattle.crdt_ops.specs.declared.op.Op.{Op as Operation};
 ghost use Rattle.imap_answers.specs.declared.answer.Answer.{Answer as OneAnswer};
 ghost use Rattle.imap_node.specs.Deliveries.{Delivers, Drains};
@@ -62,7 +62,7 @@ pub fn views_ascend()
 {}
 
 /// Each session's view goes back to an earlier moment of its mailbox's incarnation, whatever comes: what it lacks came after that. `grows`:
-/// more is applied, by deliveries and drains.
+/// more is applied, whichever way.
 pub fn views_go_back()
     ensures begins { (start : First) → ViewsGoBack start [] [] }
     ensures inputs { (old new : NodeState) (n : ℕ) (input : OneInput) (reply : OneReply) → 1 ≤ old.start.uid → IsApplied old.applied → ViewsAscend old.sessions → ViewsGoBack old.start old.applied old.sessions
@@ -70,6 +70,8 @@ pub fn views_go_back()
     ensures opens { (start : First) (ops : List Operation) (old new : Places) (auth : How) (n : ℕ) → Opens old auth n new → ViewsGoBack start ops old → ViewsGoBack start ops new }
     ensures closes { (start : First) (ops : List Operation) (old : NodeState) (n : ℕ) → IsOpen old.sessions n → ViewsGoBack start ops old.sessions → ViewsGoBack start ops (closed old n).sessions }
     ensures grows { (old new : NodeState) → new.start ≡ old.start → new.sessions ≡ old.sessions → HasGrown old.applied new.applied → IsApplied new.applied → ViewsGoBack old.start old.applied old.sessions → ViewsGoBack new.start new.applied new.sessions }
+    ensures deliveries { (old new : NodeState) (op : Operation) (came : Came) → IsApplied new.applied → Delivers old op came new → ViewsGoBack old.start old.applied old.sessions → ViewsGoBack new.start new.applied new.sessions }
+    ensures drains { (old new : NodeState) (count : ℕ) → IsApplied new.applied → Drains old count new → ViewsGoBack old.start old.applied old.sessions → ViewsGoBack new.start new.applied new.sessions }
 {}
 
 /// Behind a full sync, and behind a SELECT or an EXAMINE, a session sees what its mailbox lists, flags included; and nothing where its
