@@ -50,7 +50,7 @@ impl<'a, L: Ledger, R: Wait> ReplicaTaker<'a, L, R> {
 
     /// The pass, with all calls noted.
     pub fn into_pass(self) -> Pass<L>
-        ensures { result ≡ self }
+        ensures { result ≡ self.entry }
     {
         let ReplicaTaker {
             rt: _,
