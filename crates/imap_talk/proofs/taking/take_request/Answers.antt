@@ -1,0 +1,25 @@
+use Rattle.std.proofs.Common.{◌≡◌, ◌++◌, List, OnOk, false, sym, subst}
+use Rattle.std.specs.Prelude.{IfErr}
+use Rattle.imap_answers.specs.declared.answer.Answer.{Answer}
+use Rattle.imap_talk.specs.Requests.{Fails, Handles, texts}
+use Rattle.imap_talk.specs.declared.requests.Request.{Request}
+use Rattle.imap_talk.proofs.TalkLemmas.{told_err, told_ok}
+use Rattle.imap_talk.proofs.taking.take_request.Goals as goal
+
+pub returns-in-Told-clause-ok : goal.returns-in-Told-clause-ok
+returns-in-Told-clause-ok g c =
+    let p = c.args.port.now in
+    let idling = c.args.idling.now in
+    let before = c.args.text.now.items in
+    let after = c.tell_answer.new.text.items in
+    subst (λ (request : Request). OnOk c.tell_answer.result ((given : List Answer) × Handles g.P.Port.steps p idling request given p idling false × (after ≡ before ++ texts given))) (sym c.in-Told.is)
+    (told_ok g.P.Port.steps idling before after c.tell_answer.result p c.in-Told.answer c.tell_answer.ensures.ok)
+
+pub returns-in-Told-clause-err : goal.returns-in-Told-clause-err
+returns-in-Told-clause-err g c =
+    let p = c.args.port.now in
+    let idling = c.args.idling.now in
+    let before = c.args.text.now.items in
+    let after = c.tell_answer.new.text.items in
+    subst (λ (request : Request). IfErr c.tell_answer.result (λ ended. (given : List Answer) × Fails g.P.Port.steps p idling request ended given p × (after ≡ before ++ texts given))) (sym c.in-Told.is)
+    (told_err g.P.Port.steps idling before after c.tell_answer.result p c.in-Told.answer c.tell_answer.ensures.err)

@@ -1,0 +1,5 @@
+pub mod Asked
+pub mod Devices
+pub mod Endings
+pub mod Requests
+pub mod Talks
