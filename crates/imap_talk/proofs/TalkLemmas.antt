@@ -1,6 +1,7 @@
-use Rattle.std.proofs.Common.{◌≡◌, ◌⊎◌, inl, inr, ℕ, ◌+◌, ◌<◌, Bool, true, false, List, [], ◌∷◌, ◌++◌, suc, length, take, drop, get_or, add-one, Option, Some, None, Result, Ok, Err, IsOk, OnErr, OnOk, refl, sym, ap, ◌∙◌, subst, arith, append_assoc, append-nil}
-use Rattle.std.specs.Prelude.{IfErr}
+use Rattle.std.proofs.Common.{◌≡◌, ◌⊎◌, inl, inr, ℕ, ◌+◌, ◌<◌, Bool, true, false, List, [], ◌∷◌, ◌++◌, suc, length, take, drop, get_or, add-one, Option, Some, None, Result, Ok, Err, IsErr, IsOk, OnErr, OnOk, refl, sym, ap, ◌∙◌, subst, arith, append_assoc, append-nil}
+use Rattle.std.specs.Prelude.{IfErr, is_ok}
 use Rattle.std.proofs.lemmas.Grind.{common_steps}
+use Rattle.std.proofs.lemmas.Bool.{false≢true}
 use Rattle.std.proofs.lemmas.List.{take-append-drop}
 use Rattle.std.proofs.lemmas.List.Concat.{flat_map-append}
 use Rattle.imap_answers.specs.declared.answer.Answer.{Answer}
@@ -182,7 +183,7 @@ module _ {S : Type 0} (steps : S → Asked → Result Reply PortFault → S → 
       → Converses steps old idling (take (i + 1) items) (said ++ texts given) new after
   converses-more old idling items i item said mid between given new after h e c t =
       let at : take (i + 1) items ≡ take i items ++ item ∷ [] = grind (arith, common_steps) in
-      let one : Converses steps mid between (item ∷ []) (texts given) new after = (given, new, after, [], t, sym (append-nil (texts given)), refl, refl, refl) in
+      let one : Converses steps mid between (item ∷ []) (texts given) new after = (given, new, after, [], t, sym (append-nil (texts given)), (refl, refl, refl)) in
       subst (λ (xs : List Item). Converses steps old idling xs (said ++ texts given) new after) (sym at) (converses-append old idling (take i items) (item ∷ []) said mid between (texts given) new after c one)
 
   goes_behind : (old : S) (idling : Option (List ℕ)) (items more : List Item) (said : List ℕ) (mid : S) (between : Option (List ℕ)) (rest : List ℕ) (new : S)
@@ -276,6 +277,10 @@ module _ {S : Type 0} (steps : S → Asked → Result Reply PortFault → S → 
         | inr l ↦ inr (leaves_behind old idling items cut.0 ended said mid between rest new c l)
       ]
 
+  ok_or_err : (state : Result Progress Fault) → IsOk state → IsErr state → ⊥
+  ok_or_err (Ok p) o e = false≢true e
+  ok_or_err (Err why) o e = false≢true o
+
   goes_over : (old : S) (idling : Option (List ℕ)) (items : List Item) (cut : Cut) (said : List ℕ) (new : S) (after : Option (List ℕ)) → cut.0 ≡ items → Converses steps old idling items said new after → Goes steps old idling cut.0 said new
   goes_over old idling items cut said new after e c = record { after = after; answered = subst (λ (xs : List Item). Converses steps old idling xs said new after) (sym e) c }
 
@@ -286,8 +291,7 @@ module _ {S : Type 0} (steps : S → Asked → Result Reply PortFault → S → 
   cut_now LineTooLong old idling items state now cut said new after o f c = (ap (λ (k : Cut). k.1) f.2, goes_over old idling items cut said new after (ap (λ (k : Cut). k.0) f.2) c)
   cut_now LiteralTooLong old idling items state now cut said new after o f c = (ap (λ (k : Cut). k.1) f.2, goes_over old idling items cut said new after (ap (λ (k : Cut). k.0) f.2) c)
   cut_now NulByte old idling items state now cut said new after o f c = (ap (λ (k : Cut). k.1) f.2, goes_over old idling items cut said new after (ap (λ (k : Cut). k.0) f.2) c)
-  cut_now Failed old idling items (Ok p) now cut said new after o f c = absurd f.0
-  cut_now Failed old idling items (Err why) now cut said new after o f c = absurd o
+  cut_now Failed old idling items state now cut said new after o f c = absurd (ok_or_err state o f.0)
 
   pub halts_cut : (why : Fault) (old : S) (idling : Option (List ℕ)) (items : List Item) (state now : Result Progress Fault) (cut : Cut) (said : List ℕ) (new : S) (after : Option (List ℕ))
       → IsOk state → FaultsNow why items state now cut → Converses steps old idling items said new after → Halts steps old idling cut (Framing why) said new
@@ -324,8 +328,9 @@ module _ {S : Type 0} (steps : S → Asked → Result Reply PortFault → S → 
       (octets : List ℕ) × (said : List ℕ) × Gave left octets rest × Ends steps old (goes_on limits (Ok start) octets) ended at_end said new × IsSaid ended taken held said now text
 
   module _ {limits : Limits} {old : S} {left taken : Option (List ℕ)} {held : List ℕ} where
-    pub underway_first : Underway limits old left taken held old None left taken held (Ok start)
-    underway_first = record { octets = []; said = []; gave = gave-nil left; state_is = refl; going = tt; answered = (refl, refl, refl); said_is = said_nothing taken held }
+    pub underway_first : (idling : Option (List ℕ)) (state : Result Progress Fault) → state ≡ Ok start → idling ≡ None → Underway limits old left taken held old idling left taken held state
+    underway_first idling state s i =
+        record { octets = []; said = []; gave = gave-nil left; state_is = s; going = ap is_ok s; answered = (refl, refl, i); said_is = said_nothing taken held }
 
     pub underway_wrote : (new : S) (idling rest now then : Option (List ℕ)) (text none : List ℕ) (state : Result Progress Fault)
         → Underway limits old left taken held new idling rest now text state → Said now text [] then none → Underway limits old left taken held new idling rest then none state
@@ -426,7 +431,7 @@ module _ {S : Type 0} (steps : S → Asked → Result Reply PortFault → S → 
   pub broken : (old new : S) (request : Request) (all : List Answer) (behind : Option (List ℕ)) (out : Bool) → Handles steps old idling request all new behind out
       → ((front : List Answer) × (after ≡ before ++ texts front) × IsFront front all)
       → (given : List Answer) × Fails steps old idling request NoMemory given new × (after ≡ before ++ texts given)
-  broken old new request all behind out h f = (f.0, inr (inr (inl (refl, all, behind, out, h, f.2))), f.1)
+  broken old new request all behind out h f = (f.0, inr (inr (inl (refl, (all, behind, out, h, f.2)))), f.1)
 
   -- a line is refused for want of memory
   pub line_refused : (old new : S) (tag : List ℕ) (line : IdleLine) (reply : Reply) → steps old (asked.Line line) (Ok reply) new → is_without_memory reply ≡ true → after ≡ before

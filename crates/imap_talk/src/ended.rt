@@ -41,6 +41,7 @@ pub fn end_of(fault: PortFault) -> Ended
 }
 
 /// The BYE that names the end, with its line end; nothing where there is none to tell.
+#[tactic(auto, unfolding(imap_answers::specs::Printed::answer_text))]
 pub fn bye_text(ended: Ended) -> &'static [u8]
     ensures { result.now ≡ bye_text_of ended }
 {
@@ -53,6 +54,7 @@ pub fn bye_text(ended: Ended) -> &'static [u8]
     }
 }
 
+#[tactic(auto, unfolding(imap_answers::specs::Printed::answer_text))]
 fn framing_text(why: Fault) -> &'static [u8]
     ensures { result.now ≡ bye_text_of (EndsFraming why) }
 {

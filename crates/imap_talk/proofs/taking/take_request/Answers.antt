@@ -23,3 +23,17 @@ returns-in-Told-clause-err g c =
     let after = c.tell_answer.new.text.items in
     subst (λ (request : Request). IfErr c.tell_answer.result (λ ended. (given : List Answer) × Fails g.P.Port.steps p idling request ended given p × (after ≡ before ++ texts given))) (sym c.in-Told.is)
     (told_err g.P.Port.steps idling before after c.tell_answer.result p c.in-Told.answer c.tell_answer.ensures.err)
+
+pub returns-in-Said-clause-err : goal.returns-in-Said-clause-err
+returns-in-Said-clause-err g c =
+    let new = c.take_command.new in
+    let before = c.args.text.now.items in
+    subst (λ (request : Request). IfErr c.take_command.result (λ ended. (given : List Answer) × Fails g.P.Port.steps c.args.port.now c.args.idling.now request ended given new.port × (new.text.items ≡ before ++ texts given))) (sym c.in-Said.is)
+    c.take_command.ensures.err
+
+pub returns-in-Line-clause-err : goal.returns-in-Line-clause-err
+returns-in-Line-clause-err g c =
+    let new = c.take_line.new in
+    let before = c.args.text.now.items in
+    subst (λ (request : Request). IfErr c.take_line.result (λ ended. (given : List Answer) × Fails g.P.Port.steps c.args.port.now c.args.idling.now request ended given new.port × (new.text.items ≡ before ++ texts given))) (sym c.in-Line.is)
+    c.take_line.ensures.err
