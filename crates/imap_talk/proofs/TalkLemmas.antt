@@ -124,9 +124,9 @@ pub all_written : (ended result : Ended) (k l m : Option (List ℕ)) (said left 
 all_written ended result k l m said left bye h w f =
     elim h [
       | inl lost ↦ (
-        let r = f lost.0 in
-        inr (r.0, subst (λ (o : Option (List ℕ)). TookSome false k (said ++ bye) o) (sym r.1) (took_less k l said bye lost.1))
-      )
+          let r = f lost.0 in
+          inr (r.0, subst (λ (o : Option (List ℕ)). TookSome false k (said ++ bye) o) (sym r.1) (took_less k l said bye lost.1))
+          )
       | inr all ↦ elim (w (none_failed ended all.0)) [
         | inl done ↦ inl (done.0, said_took k l m [] said left bye all.1 done.1)
         | inr lost ↦ inr (lost.0, said_lost k l m [] said left bye all.1 lost.1)
@@ -361,7 +361,7 @@ module _ {S : Type 0} (steps : S → Asked → Result Reply PortFault → S → 
           state_is = n.0 ∙ ap (λ (r : Result Progress Fault). (goes_on limits r piece).1) u.state_is ∙ sym (ap (λ (k : Cut). k.1) whole);
           going = n.1;
           answered =
-            subst (λ (k : Cut). Converses steps old None k.0 (u.said ++ said) new after) (sym whole) (converses-append old None cut.0 (goes_on limits cut.1 piece).0 u.said mid idling said new after u.answered here);
+              subst (λ (k : Cut). Converses steps old None k.0 (u.said ++ said) new after) (sym whole) (converses-append old None cut.0 (goes_on limits cut.1 piece).0 u.said mid idling said new after u.answered here);
           said_is = said-append taken now then held u.said text said more_text u.said_is s;
         }
 

@@ -92,6 +92,18 @@ impl Written {
         &self.octets
     }
 
+    /// All of it, with its memory.
+    pub fn into_octets(self) -> Vec<u8>
+        ensures { result.items ≡ self.octets.items }
+    {
+        let Written {
+            octets,
+            room: _,
+            failed: _,
+        } = self;
+        octets
+    }
+
     /// How many writes failed.
     pub fn failed(&self) -> u64
         ensures { result ≡ self.now.failed }

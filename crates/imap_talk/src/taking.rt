@@ -119,12 +119,7 @@ fn is_done(reply: &Reply) -> bool
 }
 
 /// How a conversation goes on behind a command that was answered: in an IDLE with this tag, to its end, or neither.
-fn go_on(
-    idles: bool,
-    leaves: bool,
-    tag: Octets,
-    idling: &mut Option<Octets>,
-) -> Result<(), Ended>
+fn go_on(idles: bool, leaves: bool, tag: Octets, idling: &mut Option<Octets>) -> Result<(), Ended>
     ensures idling { idling.new ≡ (if idles then Some tag else None) }
     ensures ok { OnOk result (leaves ≡ false) }
     ensures err { IfErr result (λ ended. (ended ≡ Logout) × (leaves ≡ true)) }

@@ -7,36 +7,36 @@ pub returns-then-not-write_held-clause-talked : goal.returns-then-not-write_held
 returns-then-not-write_held-clause-talked g c =
     let at = c.loop in
     underway_write_failed g.P.Port.steps at.port at.idling (g.S.Source.left at.source) (g.K.Sink.taken at.sink) (g.K.Sink.taken c.write_held.new.sink) at.text.items c.write_held.new.text.items at.framer.state
-      (g.S.Source.is_ended at.source) at.invariant.2 c.if-not-write_held.ensures.said
+    (g.S.Source.is_ended at.source) at.invariant.2 c.if-not-write_held.ensures.said
 
 pub returns-in_default-clause-talked : goal.returns-in_default-clause-talked
 returns-in_default-clause-talked g c =
     let at = c.loop in
     let wrote =
     underway_wrote g.P.Port.steps at.port at.idling (g.S.Source.left at.source) (g.K.Sink.taken at.sink) (g.K.Sink.taken c.write_held.new.sink) at.text.items c.write_held.new.text.items at.framer.state
-      at.invariant.2 c.if-not-write_held.ensures.said in
+    at.invariant.2 c.if-not-write_held.ensures.said in
     underway_read_failed g.P.Port.steps at.port at.idling (g.S.Source.left at.source) (g.S.Source.left c.read.new.self) (g.K.Sink.taken c.write_held.new.sink) c.write_held.new.text.items at.framer.state
-      (g.S.Source.is_ended c.read.new.self) wrote c.in_default.ensures.same
+    (g.S.Source.is_ended c.read.new.self) wrote c.in_default.ensures.same
 
 pub returns-then-count-eq0-clause-talked : goal.returns-then-count-eq0-clause-talked
 returns-then-count-eq0-clause-talked g c =
     let at = c.loop in
     let wrote =
     underway_wrote g.P.Port.steps at.port at.idling (g.S.Source.left at.source) (g.K.Sink.taken at.sink) (g.K.Sink.taken c.write_held.new.sink) at.text.items c.write_held.new.text.items at.framer.state
-      at.invariant.2 c.if-not-write_held.ensures.said in
+    at.invariant.2 c.if-not-write_held.ensures.said in
     underway_closed g.P.Port.steps at.port at.idling (g.S.Source.left at.source) (g.S.Source.left c.read.new.self) (g.K.Sink.taken c.write_held.new.sink) c.write_held.new.text.items (take c.in-Some-read.count c.read.new.piece)
-      at.framer.state (g.S.Source.is_ended c.read.new.self) wrote (search rules) c.in-Some-read.ensures.octets (search rules)
+    at.framer.state (g.S.Source.is_ended c.read.new.self) wrote (search rules) c.in-Some-read.ensures.octets (search rules)
 
 pub returns-in-Err-clause-talked : goal.returns-in-Err-clause-talked
 returns-in-Err-clause-talked g c =
     let at = c.loop in
     let wrote =
     underway_wrote g.P.Port.steps at.port at.idling (g.S.Source.left at.source) (g.K.Sink.taken at.sink) (g.K.Sink.taken c.write_held.new.sink) at.text.items c.write_held.new.text.items at.framer.state
-      at.invariant.2 c.if-not-write_held.ensures.said in
+    at.invariant.2 c.if-not-write_held.ensures.said in
     let new = c.answer_piece.new in
     let o = c.in-Err.ensures.err in
     underway_ends g.P.Port.steps at.port new.port at.idling (g.S.Source.left at.source) (g.S.Source.left c.read.new.self) (g.K.Sink.taken c.write_held.new.sink) (g.K.Sink.taken new.sink)
-      c.write_held.new.text.items new.text.items (take c.in-Some-read.count c.read.new.piece) o.0 at.framer.state c.in-Err.ended (g.S.Source.is_ended c.read.new.self) wrote c.in-Some-read.ensures.octets (rw (← at.invariant.3) o.1) o.2
+    c.write_held.new.text.items new.text.items (take c.in-Some-read.count c.read.new.piece) o.0 at.framer.state c.in-Err.ended (g.S.Source.is_ended c.read.new.self) wrote c.in-Some-read.ensures.octets (rw (← at.invariant.3) o.1) o.2
 
 pub loop-init : goal.loop-init
 loop-init g c = (
@@ -54,13 +54,13 @@ loop-preserved g c =
     let at = c.loop in
     let wrote =
     underway_wrote g.P.Port.steps at.port at.idling (g.S.Source.left at.source) (g.K.Sink.taken at.sink) (g.K.Sink.taken c.write_held.new.sink) at.text.items c.write_held.new.text.items at.framer.state
-      at.invariant.2 c.if-not-write_held.ensures.said in
+    at.invariant.2 c.if-not-write_held.ensures.said in
     let new = c.answer_piece.new in
     let o = c.in-Ok.ensures.ok in (
       tt,
       tt,
       underway_on g.P.Port.steps at.port new.port at.idling new.idling (g.S.Source.left at.source) (g.S.Source.left c.read.new.self) (g.K.Sink.taken c.write_held.new.sink) (g.K.Sink.taken new.sink)
-        c.write_held.new.text.items new.text.items (take c.in-Some-read.count c.read.new.piece) o.0 at.framer.state new.framer.state wrote c.in-Some-read.ensures.octets (rw (← at.invariant.3) o.1) o.2 (rw (← at.invariant.3) c.in-Ok.ensures.state),
+          c.write_held.new.text.items new.text.items (take c.in-Some-read.count c.read.new.piece) o.0 at.framer.state new.framer.state wrote c.in-Some-read.ensures.octets (rw (← at.invariant.3) o.1) o.2 (rw (← at.invariant.3) c.in-Ok.ensures.state),
       search rules,
       search rules,
       search rules,

@@ -31,5 +31,5 @@ returns-clause-talked g c =
       all.2,
       all.3,
       all_written ended c.write_last-2.result (g.K.Sink.taken c.args.sink.now) (g.K.Sink.taken c.hold-ended.new.sink) (g.K.Sink.taken c.write_last-2.new.sink) all.1 c.hold-ended.new.text.items (bye_text_of ended)
-        all.4 c.write_last-2.ensures.written c.write_last-2.ensures.failed,
+          all.4 c.write_last-2.ensures.written c.write_last-2.ensures.failed,
     )

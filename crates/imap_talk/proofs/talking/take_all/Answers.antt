@@ -29,8 +29,8 @@ returns-then-not-write_much-clause-err g c =
     let all = said-append first taken taken c.args.text.now.items so.0 at.text.items (texts o.0) new.text.items so.2 (said_more taken at.text.items (texts o.0) new.text.items o.2) in (
       so.0 ++ texts o.0,
       fails_at g.P.Port.steps c.args.port.now c.args.idling.now c.args.items.now (at.item-index + 1) (so.0 ++ texts o.0) new.port new.idling (
-        converses-more g.P.Port.steps c.args.port.now c.args.idling.now c.args.items.now at.item-index c.item-item.result so.0 at.port at.idling o.0 new.port new.idling (omega arith) c.item-item.is so.1 o.1
-      ),
+          converses-more g.P.Port.steps c.args.port.now c.args.idling.now c.args.items.now at.item-index c.item-item.result so.0 at.port at.idling o.0 new.port new.idling (omega arith) c.item-item.is so.1 o.1
+          ),
       inl (refl, lost_now first taken (g.K.Sink.taken c.write_much.new.sink) c.args.text.now.items (so.0 ++ texts o.0) new.text.items all c.if-not-write_much.ensures.said),
     )
 
