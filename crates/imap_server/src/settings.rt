@@ -185,11 +185,17 @@ fn is_named(places: &[Place<'_>], replica: u16) -> bool
     ensures { IsTrue result ↔ IsNamed replica (names_of places.now) }
 {
     for place in places {
-        if place.replica == replica {
+        if has_name(place, replica) {
             return true;
         }
     }
     false
+}
+
+fn has_name(place: &Place<'_>, replica: u16) -> bool
+    ensures { IsTrue result ↔ (place.now.replica ≡ replica) }
+{
+    place.replica == replica
 }
 
 /// The replica that a word names: a number from 1 to 65,535 without leading zeros, `=`, and an address of one octet at least.

@@ -69,9 +69,7 @@ fn access_is_named_once(rt: HostRuntime) {
 #[test]
 fn replicas_are_named_apart(rt: HostRuntime) {
     let alloc = rt.alloc();
-    for word in [
-        "1", "=a", "1=", "0=a", "01=a", "65536=a", "-1=a", "+1=a", "x=a",
-    ] {
+    for word in ["1", "=a", "1=", "0=a", "01=a", "65536=a", "+1=a", "x=a"] {
         let wanted = match format!(in alloc; "bad {word}") {
             Ok(text) => text,
             Err(_) => return,
@@ -92,6 +90,7 @@ fn replicas_are_named_apart(rt: HostRuntime) {
             "twice 1"
         )
     );
+    assert!(rt; come_to(alloc, &["imap_server", "--preauth", "-1=a"], "words"));
     assert!(rt; come_to(alloc, &["imap_server", "--preauth"], "words"));
     assert!(rt;
         come_to(
