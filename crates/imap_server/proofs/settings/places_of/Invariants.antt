@@ -1,0 +1,5 @@
+use Rattle.imap_server.specs.Settings.{AreNames, names_of}
+use Rattle.imap_server.proofs.settings.places_of.Given as goal
+
+abbrev pub invariant-loop-text : goal.invariant-loop-text
+invariant-loop-text l = AreNames (names_of l.places.items)

@@ -1,0 +1,98 @@
+//! One connection.
+
+use crate::feeding::feed;
+use crate::house::House;
+use crate::outlet::Outlet;
+use crate::reading::Reader;
+use crate::session::SessionPort;
+use imap_talk::{Ended, Wire, converse};
+use log::{Log, info};
+use replica_links::Gate;
+use replica_lock::{Pass, Shared};
+use std::alloc::Global;
+use std::io::Write;
+use std::net::TcpStream;
+use std::rt::Clock;
+use std::sync::ledger::Ledger;
+use std::sync::{Mutex, Wait};
+use std::thread;
+use std::thread::Threads;
+
+/// What all connections of a replica have in common.
+#[derive(Drop)]
+pub struct Desk<'a, L: Ledger> {
+    /// What the threads of the server share.
+    pub house: &'a House<'a>,
+    /// The place of the replica's own link among all.
+    pub own: usize,
+    /// The replica.
+    pub shared: &'a Shared<L>,
+}
+
+/// Holds the conversation with the client of a connection, and gives its pass back. The gate is passed before each command, the first time
+/// with 1.
+pub fn connection_worker<
+    L: Ledger + Send + Sync,
+    R: Threads + Wait + Clock + Log + Sync,
+    G: Gate + Send,
+>(
+    rt: &R,
+    alloc: Global,
+    gate: &mut G,
+    desk: &Desk<'_, L>,
+    stream: &TcpStream,
+    pass: Pass<L>,
+) -> Pass<L> {
+    let _ = stream.set_nodelay(true);
+    let pass = Mutex::new(pass);
+    let outlet = Outlet::new();
+    let (ended, ()) = thread::join(
+        rt,
+        || talk(rt, alloc, gate, desk, stream, &pass, &outlet),
+        || feed(rt, alloc, desk.shared, &pass, &outlet, stream),
+    );
+    tell_end(rt, ended);
+    pass.into_inner()
+}
+
+fn talk<L: Ledger, R: Wait + Clock, G: Gate>(
+    rt: &R,
+    alloc: Global,
+    gate: &mut G,
+    desk: &Desk<'_, L>,
+    stream: &TcpStream,
+    pass: &Mutex<Pass<L>>,
+    outlet: &Outlet,
+) -> Ended {
+    let mut port = SessionPort::new(rt, desk.shared, pass, desk.house, desk.own, outlet, gate);
+    let mut source = Reader::new(rt, outlet, stream);
+    let mut sink = Wire::new(stream);
+    let ended = converse(rt, alloc, &mut source, &mut sink, &mut port);
+    drop(port);
+    outlet.end(rt);
+    ended
+}
+
+fn tell_end<R: Log>(rt: &R, ended: Ended) {
+    info!(rt; "connection ended: {}", name_of(ended));
+}
+
+/// The name of an end, for the log.
+fn name_of(ended: Ended) -> &'static str {
+    match ended {
+        Ended::Logout => "logout",
+        Ended::PeerClosed => "closed by the client",
+        Ended::TooManySessions => "too many sessions",
+        Ended::Framing(_) => "bad framing",
+        Ended::ReadFailed => "read failed",
+        Ended::WriteFailed => "write failed",
+        Ended::NoMemory => "no memory",
+        Ended::Torn => "replica changed",
+    }
+}
+
+/// Turns a client away for whom no pass is to be had.
+pub fn turn_away(stream: &TcpStream) {
+    let mut writer = stream;
+    let _ = writer.write_all(b"* BYE too many sessions\r\n");
+}

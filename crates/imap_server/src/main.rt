@@ -1,0 +1,20 @@
+//! A mail server of linked replicas: each listens at an address of its own, and clients of one see what clients of the others did.
+#![tactic(auto)]
+
+mod connection;
+mod feeding;
+mod house;
+mod outlet;
+mod program;
+mod reading;
+mod serving;
+mod session;
+mod settings;
+#[cfg(test)]
+mod tests;
+
+use std::process::ExitCode;
+
+fn main(rt: HostRuntime) -> ExitCode {
+    ExitCode::from(program::run(&rt))
+}

@@ -1,0 +1,230 @@
+//! The program's command line.
+
+ghost use Rattle.std.specs.Prelude.{◌≡◌, ◌++◌, ◌∷◌, [], IfOk, IfSome, OnOk, OnErr, IsTrue, ◌↔◌, ◌<◌, ◌≤◌, ◌≢◌};
+ghost use Rattle.imap_server.specs.Settings.{AreNames, IsNamed, names_of};
+
+use clap::builder::ValueParser;
+use clap::error::ErrorKind;
+use clap::{Arg, ArgAction, Command, Error};
+use std::alloc::{AllocError, Global};
+
+/// Who may use the server.
+#[derive(Clone, Copy, Debug, PartialEq, Eq)]
+pub enum Access<'a> {
+    /// Every user is known beforehand.
+    Preauth,
+    /// Whoever gives this user and this password.
+    Password {
+        /// The user.
+        user: &'a str,
+        /// The password.
+        pass: &'a str,
+    },
+}
+
+/// A replica, and where it listens.
+#[derive(Clone, Copy, Debug, PartialEq, Eq)]
+pub struct Place<'a> {
+    /// The replica's name, from 1 on.
+    pub replica: u16,
+    /// Its address, as it was given.
+    pub address: &'a str,
+}
+
+/// What the command line asks for.
+#[derive(Drop)]
+pub struct CommandLine<'a> {
+    /// Who may use the server.
+    pub access: Access<'a>,
+    /// Behind how many connections the server stops, if it does.
+    pub stop_after: Option<u32>,
+    /// The replicas in the order in which they were given, no two with one name.
+    pub places: Vec<Place<'a>>,
+}
+
+/// What is wrong with the command line.
+#[derive(Drop)]
+pub enum SettingsFault<'a> {
+    /// Its words, or it asks for help.
+    Words(Error),
+    /// It names no access, or two.
+    Access,
+    /// This word names no replica.
+    BadReplica(&'a str),
+    /// Two replicas have this name.
+    Twice(u16),
+    /// There was no memory for it.
+    NoMemory,
+}
+
+impl<'a> From<AllocError> for SettingsFault<'a> {
+    ghost use Rattle.imap_server.specs.declared.settings.SettingsFault.TheVariants.{NoMemory};
+
+    ghost from_gives = { λ _ fault. fault ≡ NoMemory };
+
+    fn from(_none: AllocError) -> SettingsFault<'a> {
+        SettingsFault::NoMemory
+    }
+}
+
+/// Reads the words of a command line, the program's name first. Its words are judged first, then the access, then the replicas in their order.
+/// The replicas' names are from 1 to 65,535, and no two are the same.
+pub fn settings<'a>(
+    alloc: Global,
+    words: &'a [String],
+) -> Result<CommandLine<'a>, SettingsFault<'a>>
+    ensures { IfOk result (λ settings. AreNames (names_of settings.places.items)) }
+{
+    let matches = match matched(alloc, words) {
+        Ok(matches) => matches,
+        Err(error) => return Err(SettingsFault::Words(error)),
+    };
+    let Some(access) = access_of(
+        matches.get_flag("preauth"),
+        matches.get_str("user"),
+        matches.get_str("pass"),
+    ) else {
+        return Err(SettingsFault::Access);
+    };
+    let stop_after = matches.get_one::<u32>("stop-after");
+    let places = match matches.get_strs("REPLICA") {
+        Some(texts) => places_of(alloc, texts)?,
+        None => Vec::new(alloc),
+    };
+    Ok(CommandLine {
+        access,
+        stop_after,
+        places,
+    })
+}
+
+fn matched<'a>(alloc: Global, words: &'a [String]) -> Result<clap::ArgMatches<'a>, Error> {
+    described(alloc)?.try_get_matches_from(words)
+}
+
+/// The words that the program knows.
+fn described<'a>(alloc: Global) -> Result<Command<'a>, AllocError> {
+    let preauth = Arg::new(alloc, "preauth")
+        .long("preauth")
+        .action(ArgAction::SetTrue)
+        .help("Every user is known beforehand");
+    let user = Arg::new(alloc, "user")
+        .long("user")
+        .action(ArgAction::Set)
+        .help("The user's name");
+    let pass = Arg::new(alloc, "pass")
+        .long("pass")
+        .action(ArgAction::Set)
+        .help("The user's password");
+    let stop = Arg::new(alloc, "stop-after")
+        .long("stop-after")
+        .action(ArgAction::Set)
+        .value_parser(ValueParser::unsigned(0, 4_294_967_295))
+        .help("Stop behind so many connections");
+    let replicas = Arg::new(alloc, "REPLICA")
+        .required(true)
+        .action(ArgAction::Append)
+        .num_args(1..)
+        .help("A replica and its address, as 1=127.0.0.1:1431");
+    Command::new(alloc, "imap_server")
+        .about("Serve mail from linked replicas")
+        .arg(preauth)?
+        .arg(user)?
+        .arg(pass)?
+        .arg(stop)?
+        .arg(replicas)
+}
+
+/// The access that these options name: `--preauth` alone, or `--user` and `--pass` without it.
+pub fn access_of<'a>(
+    preauth: bool,
+    user: Option<&'a str>,
+    pass: Option<&'a str>,
+) -> Option<Access<'a>> {
+    match (preauth, user, pass) {
+        (true, None, None) => Some(Access::Preauth),
+        (false, Some(user), Some(pass)) => Some(Access::Password { user, pass }),
+        _ => None,
+    }
+}
+
+/// The replicas that these words name, in their order.
+fn places_of<'a>(alloc: Global, texts: &[&'a str]) -> Result<Vec<Place<'a>>, SettingsFault<'a>>
+    ensures { IfOk result (λ places. AreNames (names_of places.items)) }
+{
+    let mut places = Vec::new(alloc);
+    for text in texts {
+        match add_place(&mut places, text) {
+            Ok(()) => {}
+            Err(fault) => return Err(fault),
+        }
+    }
+    Ok(places)
+}
+
+/// Adds the replica that a word names.
+fn add_place<'a>(places: &mut Vec<Place<'a>>, text: &'a str) -> Result<(), SettingsFault<'a>>
+    requires { AreNames (names_of places.old.items) }
+    ensures { OnOk result (AreNames (names_of places.new.items)) }
+{
+    let Some(place) = place_of(text) else {
+        return Err(SettingsFault::BadReplica(text));
+    };
+    let replica = place.replica;
+    if is_named(places, replica) {
+        return Err(SettingsFault::Twice(replica));
+    }
+    match places.push(place) {
+        Ok(()) => Ok(()),
+        Err(_) => Err(SettingsFault::NoMemory),
+    }
+}
+
+/// Whether a replica has this name.
+fn is_named(places: &[Place<'_>], replica: u16) -> bool
+    ensures { IsTrue result ↔ IsNamed replica (names_of places.now) }
+{
+    for place in places {
+        if has_name(place, replica) {
+            return true;
+        }
+    }
+    false
+}
+
+fn has_name(place: &Place<'_>, replica: u16) -> bool
+    ensures { IsTrue result ↔ (place.now.replica ≡ replica) }
+{
+    place.replica == replica
+}
+
+/// The replica that a word names: a number from 1 to 65,535 without leading zeros, `=`, and an address of one octet at least.
+pub fn place_of(text: &str) -> Option<Place<'_>>
+    ensures { IfSome result (λ place. 0 < place.replica) }
+{
+    let (name, address) = text.split_once('=')?;
+    if address.is_empty() {
+        return None;
+    }
+    let replica = name_of(name)?;
+    Some(Place { replica, address })
+}
+
+/// The name that these digits spell.
+fn name_of(digits: &str) -> Option<u16>
+    ensures { IfSome result (λ name. 0 < name) }
+{
+    if !digits.bytes().all(|octet| octet.is_ascii_digit()) || digits.starts_with('0') {
+        return None;
+    }
+    match digits.parse::<u16>() {
+        Ok(0) => None,
+        Ok(name) => Some(name),
+        Err(_) => None,
+    }
+}
+
+/// Whether the words ran out of memory.
+pub fn is_without_memory(error: &Error) -> bool {
+    error.kind() == ErrorKind::OutOfMemory
+}

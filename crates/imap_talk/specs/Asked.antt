@@ -1,0 +1,7 @@
+use Rattle.imap_grammar.specs.declared.command.Tagged.{Tagged}
+use Rattle.imap_grammar.specs.declared.idle.IdleLine.{IdleLine}
+
+-- What a session is asked: a command, or a line of IDLE.
+pub data Asked : Type 0 where
+  Command : Tagged → Asked
+  Line : IdleLine → Asked

@@ -1,0 +1,6 @@
+pub mod Asked
+pub mod Devices
+pub mod Endings
+pub mod NodePorts
+pub mod Requests
+pub mod Talks

@@ -1,0 +1,80 @@
+//! What a conversation stands between.
+
+ghost use Rattle.std.specs.Prelude.{◌≡◌, ◌≤◌, ◌<◌, ◌+◌, ℕ, List, length, take, Bool, true, IfSome, IfNone, MatchBool, MatchOption, Option, Result};
+ghost use Rattle.imap_talk.specs.Devices.{Gave, TookSome};
+
+use crate::fault::PortFault;
+use imap_answers::Login;
+use imap_grammar::{IdleLine, Tagged};
+use imap_node::Reply;
+use std::alloc::Global;
+
+/// What octets come from.
+pub trait Source {
+    /// The octets that are left, where they are known.
+    ghost left: { Self → Option (List ℕ) };
+
+    /// How many reads failed.
+    ghost failures: { Self → ℕ };
+
+    /// It told its end.
+    ghost is_ended: { Self → Bool };
+
+    /// Puts some octets at the beginning of the piece and tells how many: none at the end. `None` where the device failed.
+    fn read(&mut self, piece: &mut [u8]) -> Option<usize>
+        requires room { 0 < length piece.old }
+        requires count { failures self.old < 18446744073709551615 }
+        ensures count { IfSome result (λ n. n ≤ length piece.old) }
+        ensures octets { IfSome result (λ n. Gave (left self.old) (take n piece.new) (left self.new)) }
+        ensures end { IfSome result (λ n. n ≡ 0 → is_ended self.new ≡ true) }
+        ensures same { IfNone result (left self.new ≡ left self.old) }
+        ensures failed { MatchOption result (failures self.new ≡ failures self.old + 1) (λ n. failures self.new ≡ failures self.old) };
+}
+
+/// What octets go to.
+pub trait Sink {
+    /// The octets that it took, where they are known.
+    ghost taken: { Self → Option (List ℕ) };
+
+    /// How many writes failed.
+    ghost failures: { Self → ℕ };
+
+    /// Writes all octets; false where the device failed behind some of them.
+    fn write(&mut self, octets: &[u8]) -> bool
+        requires { failures self.old < 18446744073709551615 }
+        ensures octets { TookSome result (taken self.old) octets.now (taken self.new) }
+        ensures failed { MatchBool result (failures self.new ≡ failures self.old) (failures self.new ≡ failures self.old + 1) };
+}
+
+/// One session of a replica.
+pub trait Port {
+    ghost use Rattle.imap_answers.specs.declared.words.Login.{Login as Known};
+    ghost use Rattle.imap_node.specs.declared.reply.Reply.{Reply as Told};
+    ghost use Rattle.imap_talk.specs.Asked.{Asked, Command, Line};
+    ghost use Rattle.imap_talk.specs.declared.fault.PortFault.{PortFault as Fault};
+
+    /// What the beginning of a session makes of the port.
+    ghost opens: { Self → Result Known Fault → Self → Type 0 };
+
+    /// What a command or a line of IDLE makes of it.
+    ghost steps: { Self → Asked → Result Told Fault → Self → Type 0 };
+
+    /// What the end makes of it.
+    ghost closes: { Self → Self → Type 0 };
+
+    /// Begins the session, and tells whether the user is known.
+    fn open(&mut self, alloc: Global) -> Result<Login, PortFault>
+        ensures { opens self.old result self.new };
+
+    /// Gives the session a command.
+    fn command(&mut self, alloc: Global, tagged: Tagged) -> Result<Reply, PortFault>
+        ensures { steps self.old (Command tagged) result self.new };
+
+    /// Gives the session, which idles, a line (RFC 2177, section 3).
+    fn done(&mut self, alloc: Global, line: IdleLine) -> Result<Reply, PortFault>
+        ensures { steps self.old (Line line) result self.new };
+
+    /// Ends the session.
+    fn close(&mut self, alloc: Global)
+        ensures { closes self.old self.new };
+}

@@ -1,0 +1,172 @@
+//! One item of the framer: what the port is asked, and what is answered.
+
+ghost use Rattle.std.specs.Prelude.{◌≡◌, ◌++◌, ◌∷◌, [], true, false, Some, None, List, OnOk, IfErr, if◌then◌else◌};
+ghost use Rattle.imap_answers.specs.declared.answer.Answer.{Answer as OneAnswer};
+ghost use Rattle.imap_talk.specs.Endings.{failed_reads, failed_writes};
+ghost use Rattle.imap_talk.specs.Requests.{Fails, Handles, StopsAt, Takes, is_done, is_idle, is_logout, texts};
+ghost use Rattle.imap_talk.specs.declared.ended.Ended.TheVariants.{Logout, NoMemory};
+ghost use Rattle.imap_talk.specs.declared.requests.Request.TheVariants as requests;
+ghost use Rattle.node_talk.specs.Replies.{is_without_memory};
+
+use crate::ended::{Ended, end_of};
+use crate::ends::Port;
+use crate::requests::{Request, request_of};
+use crate::writing::tell_reply;
+use imap_answers::{Answer, Refusal};
+use imap_grammar::{Command, IdleLine, Tagged};
+use imap_lex::Item;
+use imap_node::Reply;
+use imap_print::print;
+use imap_types::Octets;
+use std::alloc::Global;
+
+/// Takes an item of a session that idles with this tag, or doesn't: asks the port, and adds the answers. `Err` where the conversation ends at
+/// it.
+pub fn take_item<P: Port>(
+    alloc: Global,
+    port: &mut P,
+    idling: &mut Option<Octets>,
+    item: &Item,
+    text: &mut Vec<u8>,
+) -> Result<(), Ended>
+    ensures ok { OnOk result ((given : List OneAnswer) × Takes P.steps port.old idling.old item.now given port.new idling.new false × (text.new.items ≡ text.old.items ++ texts given)) }
+    ensures err { IfErr result (λ ended. (given : List OneAnswer) × StopsAt P.steps port.old idling.old item.now ended given port.new × (text.new.items ≡ text.old.items ++ texts given)) }
+    ensures devices { IfErr result (λ ended. (failed_reads ended ≡ 0) × (failed_writes ended ≡ 0)) }
+{
+    let Ok(request) = request_of(alloc, idling, item) else {
+        return Err(Ended::NoMemory);
+    };
+    take_request(alloc, port, idling, request, text)
+}
+
+fn take_request<P: Port>(
+    alloc: Global,
+    port: &mut P,
+    idling: &mut Option<Octets>,
+    request: Request,
+    text: &mut Vec<u8>,
+) -> Result<(), Ended>
+    ensures ok { OnOk result ((given : List OneAnswer) × Handles P.steps port.old idling.old request given port.new idling.new false × (text.new.items ≡ text.old.items ++ texts given)) }
+    ensures err { IfErr result (λ ended. (given : List OneAnswer) × Fails P.steps port.old idling.old request ended given port.new × (text.new.items ≡ text.old.items ++ texts given)) }
+    ensures devices { IfErr result (λ ended. (failed_reads ended ≡ 0) × (failed_writes ended ≡ 0)) }
+{
+    match request {
+        Request::Told(answer) => tell_answer(answer, text),
+        Request::Said(tagged) => take_command(alloc, port, idling, tagged, text),
+        Request::Line { tag, line } => take_line(alloc, port, idling, tag, line, text),
+    }
+}
+
+/// Adds an answer; `NoMemory`, and no change, where there is no memory for it.
+fn tell_answer(answer: Answer, text: &mut Vec<u8>) -> Result<(), Ended>
+    ensures ok { OnOk result (text.new.items ≡ text.old.items ++ texts (answer ∷ [])) }
+    ensures err { IfErr result (λ ended. (ended ≡ NoMemory) × (text.new.items ≡ text.old.items)) }
+{
+    let told = print(&answer, text);
+    drop(answer);
+    match told {
+        Ok(()) => Ok(()),
+        Err(_) => Err(Ended::NoMemory),
+    }
+}
+
+/// Gives the session a command, and adds the answers.
+fn take_command<P: Port>(
+    alloc: Global,
+    port: &mut P,
+    idling: &mut Option<Octets>,
+    tagged: Tagged,
+    text: &mut Vec<u8>,
+) -> Result<(), Ended>
+    ensures ok { OnOk result ((given : List OneAnswer) × Handles P.steps port.old idling.old (requests.Said tagged) given port.new idling.new false × (text.new.items ≡ text.old.items ++ texts given)) }
+    ensures err { IfErr result (λ ended. (given : List OneAnswer) × Fails P.steps port.old idling.old (requests.Said tagged) ended given port.new × (text.new.items ≡ text.old.items ++ texts given)) }
+    ensures devices { IfErr result (λ ended. (failed_reads ended ≡ 0) × (failed_writes ended ≡ 0)) }
+{
+    // The command is given away, and its tag is wanted behind it.
+    let Ok(tag) = tagged.tag.copy(alloc) else {
+        return Err(Ended::NoMemory);
+    };
+    let idles = is_idle(&tagged.command);
+    let leaves = is_logout(&tagged.command);
+    let reply = match port.command(alloc, tagged) {
+        Ok(reply) => reply,
+        Err(fault) => return Err(end_of(fault)),
+    };
+    let Ok(()) = tell_reply(alloc, text, &tag, &reply) else {
+        return Err(Ended::NoMemory);
+    };
+    let done = is_done(&reply);
+    drop(reply);
+    go_on(idles && done, leaves && done, tag, idling)
+}
+
+fn is_idle(command: &Command) -> bool
+    ensures { result ≡ is_idle command.now }
+{
+    matches!(command, Command::Idle)
+}
+
+fn is_logout(command: &Command) -> bool
+    ensures { result ≡ is_logout command.now }
+{
+    matches!(command, Command::Logout)
+}
+
+fn is_done(reply: &Reply) -> bool
+    ensures { result ≡ is_done reply.now }
+{
+    matches!(reply, Reply::Done { .. })
+}
+
+/// How a conversation goes on behind a command that was answered: in an IDLE with this tag, to its end, or neither.
+fn go_on(idles: bool, leaves: bool, tag: Octets, idling: &mut Option<Octets>) -> Result<(), Ended>
+    ensures idling { idling.new ≡ (if idles then Some tag else None) }
+    ensures ok { OnOk result (leaves ≡ false) }
+    ensures err { IfErr result (λ ended. (ended ≡ Logout) × (leaves ≡ true)) }
+{
+    *idling = if idles { Some(tag) } else { None };
+    if leaves {
+        return Err(Ended::Logout);
+    }
+    Ok(())
+}
+
+/// Gives the session, whose IDLE has this tag, a line, and adds the answers.
+fn take_line<P: Port>(
+    alloc: Global,
+    port: &mut P,
+    idling: &mut Option<Octets>,
+    tag: Octets,
+    line: IdleLine,
+    text: &mut Vec<u8>,
+) -> Result<(), Ended>
+    ensures ok { OnOk result ((given : List OneAnswer) × Handles P.steps port.old idling.old (requests.Line tag line) given port.new idling.new false × (text.new.items ≡ text.old.items ++ texts given)) }
+    ensures err { IfErr result (λ ended. (given : List OneAnswer) × Fails P.steps port.old idling.old (requests.Line tag line) ended given port.new × (text.new.items ≡ text.old.items ++ texts given)) }
+    ensures devices { IfErr result (λ ended. (failed_reads ended ≡ 0) × (failed_writes ended ≡ 0)) }
+{
+    *idling = None;
+    let reply = match port.done(alloc, line) {
+        Ok(reply) => reply,
+        Err(fault) => return Err(end_of(fault)),
+    };
+    if is_without_memory(&reply) {
+        return Err(Ended::NoMemory);
+    }
+    let Ok(()) = tell_reply(alloc, text, &tag, &reply) else {
+        return Err(Ended::NoMemory);
+    };
+    drop(reply);
+    Ok(())
+}
+
+fn is_without_memory(reply: &Reply) -> bool
+    ensures { result ≡ is_without_memory reply.now }
+{
+    matches!(
+        reply,
+        Reply::Refused {
+            why: Refusal::NoMemory,
+            ..
+        }
+    )
+}

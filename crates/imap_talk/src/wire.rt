@@ -1,0 +1,73 @@
+//! A reader or a writer of std as a source or a sink.
+
+ghost use Rattle.std.specs.Prelude.{◌≡◌, ℕ, None, Bool};
+
+use crate::ends::{Sink, Source};
+use std::io::{Read, Write};
+
+/// A device with the count of its failures. Nothing is known of its octets.
+#[derive(Drop)]
+pub struct Wire<T> {
+    device: T,
+    failed: u64,
+    ended: bool,
+}
+
+impl<T> Wire<T> {
+    /// A device that hasn't failed.
+    pub fn new(device: T) -> Wire<T>
+        ensures { result.failed ≡ 0 }
+    {
+        Wire {
+            device,
+            failed: 0,
+            ended: false,
+        }
+    }
+
+    /// How many reads and writes failed.
+    pub fn failed(&self) -> u64
+        ensures { result ≡ self.now.failed }
+    {
+        self.failed
+    }
+}
+
+impl<T: Read> Source for Wire<T> {
+    ghost left = { λ w. None };
+
+    ghost failures = { λ w. w.failed };
+
+    ghost is_ended = { λ w. w.ended };
+
+    fn read(&mut self, piece: &mut [u8]) -> Option<usize> {
+        match self.device.read(piece) {
+            Ok(count) => {
+                if count == 0 {
+                    self.ended = true;
+                }
+                Some(count)
+            }
+            Err(_) => {
+                self.failed += 1;
+                None
+            }
+        }
+    }
+}
+
+impl<T: Write> Sink for Wire<T> {
+    ghost taken = { λ w. None };
+
+    ghost failures = { λ w. w.failed };
+
+    fn write(&mut self, octets: &[u8]) -> bool {
+        match self.device.write_all(octets) {
+            Ok(()) => true,
+            Err(_) => {
+                self.failed += 1;
+                false
+            }
+        }
+    }
+}

@@ -1,0 +1,134 @@
+//! Each read and each write failing in turn.
+
+use crate::made_up::MadeUp;
+use imap_lex::Fault;
+use imap_talk::{Ended, Given, Written, converse};
+use std::alloc::Global;
+use std::sync::Wait;
+use std::test::*;
+
+/// What the client sends: a line without a tag, commands in and out of the profile, a literal, an IDLE, and what comes behind a LOGOUT.
+const SAID: &[u8] =
+    b"a NOOP\r\n\r\nb XYZ\r\nc LOGIN {1}\r\nu p\r\nd IDLE\r\nDONE\r\ne IDLE\r\nx\r\nf LOGOUT\r\ng NOOP\r\n";
+
+/// What it is told.
+const TOLD: &[u8] =
+    b"* PREAUTH [CAPABILITY IMAP4rev2 IDLE CONDSTORE] ready\r\na OK NOOP completed\r\n* BAD no tag\r\nb BAD unknown command\r\n+ ready\r\nc OK NOOP completed\r\n+ idling\r\nd OK IDLE completed\r\n+ idling\r\ne BAD DONE expected\r\nf OK LOGOUT completed\r\n";
+
+/// How a conversation ended, and what came of its devices.
+#[derive(Drop)]
+struct Course {
+    ended: Ended,
+    told: Vec<u8>,
+    reads_failed: u64,
+    writes_failed: u64,
+    closed: u32,
+    commands: u32,
+}
+
+/// A conversation over what is said, in pieces of so many octets, with so many reads that are answered, and room for so many octets.
+fn held<R: Wait>(rt: &R, alloc: Global, said: &[u8], most: usize, reads: u64, room: u64) -> Course {
+    let mut source = Given::new(said, most, reads);
+    let mut sink = Written::new(Vec::new(alloc), room);
+    let mut port = MadeUp::new();
+    let ended = converse(rt, alloc, &mut source, &mut sink, &mut port);
+    let reads_failed = source.failed();
+    let writes_failed = sink.failed();
+    Course {
+        ended,
+        told: sink.into_octets(),
+        reads_failed,
+        writes_failed,
+        closed: port.closed,
+        commands: port.commands,
+    }
+}
+
+/// Whether a conversation is as it should be: a beginning of the text was told, a failed device alone ends it as such, and the session was
+/// closed.
+fn is_lawful(course: &Course, whole: &[u8]) -> bool {
+    whole.starts_with(&course.told)
+        && (course.ended == Ended::ReadFailed) == (course.reads_failed > 0)
+        && (course.ended == Ended::WriteFailed) == (course.writes_failed > 0)
+        && course.closed == 1
+}
+
+/// The first number of reads with which a conversation isn't as it should be.
+fn first_unlawful_read<R: Wait>(rt: &R, alloc: Global, most: usize) -> Option<u64> {
+    (0..200u64).find(|reads| !is_lawful(&held(rt, alloc, SAID, most, *reads, u64::MAX), TOLD))
+}
+
+/// The first room with which a conversation isn't as it should be.
+fn first_unlawful_room<R: Wait>(rt: &R, alloc: Global, most: usize) -> Option<u64> {
+    (0..400u64).find(|room| !is_lawful(&held(rt, alloc, SAID, most, u64::MAX, *room), TOLD))
+}
+
+/// Whether a conversation ends so and tells this text.
+fn ends_with<R: Wait>(rt: &R, alloc: Global, said: &[u8], ended: Ended, told: &[u8]) -> bool {
+    let course = held(rt, alloc, said, 4_096, u64::MAX, u64::MAX);
+    course.ended == ended && course.told.as_slice() == told && course.closed == 1
+}
+
+#[test]
+fn each_read_fails_in_turn(rt: HostRuntime) {
+    for most in [1usize, 3, 4_096] {
+        assert_eq!(rt; first_unlawful_read(&rt, rt.alloc(), most), None);
+    }
+}
+
+#[test]
+fn each_write_fails_in_turn(rt: HostRuntime) {
+    for most in [1usize, 17, 4_096] {
+        assert_eq!(rt; first_unlawful_room(&rt, rt.alloc(), most), None);
+    }
+}
+
+#[test]
+fn a_reader_fails_behind_a_command(rt: HostRuntime) {
+    let course = held(&rt, rt.alloc(), b"a NOOP\r\n", 4_096, 1, u64::MAX);
+    let told = b"* PREAUTH [CAPABILITY IMAP4rev2 IDLE CONDSTORE] ready\r\na OK NOOP completed\r\n";
+    assert!(rt; course.ended == Ended::ReadFailed);
+    assert!(rt; course.told.as_slice() == told.as_slice());
+    assert_eq!(rt; (course.commands, course.closed), (1, 1));
+}
+
+#[test]
+fn conversations_end(rt: HostRuntime) {
+    let alloc = rt.alloc();
+    assert!(rt; ends_with(&rt, alloc, SAID, Ended::Logout, TOLD));
+    let told = b"* PREAUTH [CAPABILITY IMAP4rev2 IDLE CONDSTORE] ready\r\na OK NOOP completed\r\n";
+    assert!(rt; ends_with(&rt, alloc, b"a NOOP\r\nb NO", Ended::PeerClosed, told));
+    let told =
+        b"* PREAUTH [CAPABILITY IMAP4rev2 IDLE CONDSTORE] ready\r\na OK NOOP completed\r\n* BYE NUL in text\r\n";
+    assert!(rt;
+        ends_with(
+            &rt,
+            alloc,
+            b"a NOOP\r\n\0",
+            Ended::Framing(Fault::NulByte),
+            told
+        )
+    );
+    let told =
+        b"* PREAUTH [CAPABILITY IMAP4rev2 IDLE CONDSTORE] ready\r\n* BYE literal too long\r\n";
+    assert!(rt;
+        ends_with(
+            &rt,
+            alloc,
+            b"a APPEND x {1048577+}\r\n",
+            Ended::Framing(Fault::LiteralTooLong),
+            told
+        )
+    );
+    let told =
+        b"* PREAUTH [CAPABILITY IMAP4rev2 IDLE CONDSTORE] ready\r\na NO [LIMIT] literal too long\r\nb OK NOOP completed\r\n";
+    assert!(rt;
+        ends_with(
+            &rt,
+            alloc,
+            b"a APPEND x {1048577}\r\nb NOOP\r\n",
+            Ended::PeerClosed,
+            told
+        )
+    );
+}

@@ -1,0 +1,121 @@
+//! A port without a replica.
+
+use imap_answers::{Answer, CommandWord, Continuation, Login, Notice, Refusal};
+use imap_grammar::{Command, IdleLine, Tagged};
+use imap_node::{Answers, Issued, Reply, Silents};
+use imap_talk::{Port, PortFault};
+use imap_types::Octets;
+use std::alloc::{AllocError, Global};
+
+/// A port that answers every command OK and counts its calls. It can't be opened twice.
+#[derive(Drop)]
+pub struct MadeUp {
+    /// How often it was opened.
+    pub opened: u32,
+    /// How many commands it was given.
+    pub commands: u32,
+    /// How many lines it was given.
+    pub lines: u32,
+    /// How often it was closed.
+    pub closed: u32,
+    tag: Option<Octets>,
+}
+
+impl MadeUp {
+    /// A port that wasn't called.
+    pub fn new() -> MadeUp {
+        MadeUp {
+            opened: 0,
+            commands: 0,
+            lines: 0,
+            closed: 0,
+            tag: None,
+        }
+    }
+}
+
+impl Port for MadeUp {
+    ghost opens = { λ s r t. Unit {0} };
+
+    ghost steps = { λ s a r t. Unit {0} };
+
+    ghost closes = { λ s t. Unit {0} };
+
+    fn open(&mut self, _alloc: Global) -> Result<Login, PortFault> {
+        if self.opened > 0 {
+            return Err(PortFault::TooManySessions);
+        }
+        self.opened = 1;
+        Ok(Login::Given)
+    }
+
+    fn command(&mut self, alloc: Global, tagged: Tagged) -> Result<Reply, PortFault> {
+        self.commands = self.commands.saturating_add(1);
+        let Tagged { tag, command } = tagged;
+        let kept = tag.copy(alloc);
+        let answer = answer_of(tag, &command);
+        drop(command);
+        self.tag = kept.ok();
+        replied(alloc, answer)
+    }
+
+    fn done(&mut self, alloc: Global, line: IdleLine) -> Result<Reply, PortFault> {
+        self.lines = self.lines.saturating_add(1);
+        let Some(tag) = self.tag.take() else {
+            return Err(PortFault::PassedOver);
+        };
+        match line {
+            IdleLine::Done => replied(
+                alloc,
+                Answer::Completed {
+                    tag,
+                    code: None,
+                    command: CommandWord::Idle,
+                },
+            ),
+            IdleLine::Other => Ok(Reply::Refused {
+                why: Refusal::DoneExpected,
+                closed: false,
+            }),
+        }
+    }
+
+    fn close(&mut self, _alloc: Global) {
+        self.closed = self.closed.saturating_add(1);
+    }
+}
+
+fn answer_of(tag: Octets, command: &Command) -> Answer {
+    match command {
+        Command::Idle => Answer::Continue {
+            with: Continuation::Idling,
+        },
+        Command::Logout => Answer::Completed {
+            tag,
+            code: None,
+            command: CommandWord::Logout,
+        },
+        _ => Answer::Completed {
+            tag,
+            code: None,
+            command: CommandWord::Noop,
+        },
+    }
+}
+
+fn replied(alloc: Global, answer: Answer) -> Result<Reply, PortFault> {
+    match reply_of(alloc, answer) {
+        Ok(reply) => Ok(reply),
+        Err(_) => Err(PortFault::NoMemory),
+    }
+}
+
+fn reply_of(alloc: Global, answer: Answer) -> Result<Reply, AllocError> {
+    let mut answers = Vec::new(alloc);
+    answers.push(answer)?;
+    Ok(Reply::Done {
+        answers: Answers::new(answers),
+        silent: Silents::new(Vec::new(alloc)),
+        issued: Issued::new(Vec::new(alloc)),
+    })
+}
