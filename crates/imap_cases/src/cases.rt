@@ -2,7 +2,7 @@
 
 use crate::repeats::{written_out, written_short};
 use crate::words::Words;
-use crate::{frames, numbers, round_trips, streams};
+use crate::{flag_orders, frames, numbers, round_trips, streams};
 use imap_lex::Limits;
 use imap_types::{Escape, EscapeFault, read_escaped, write_escaped};
 use std::alloc::{AllocError, Global};
@@ -60,6 +60,7 @@ fn put_answer(alloc: Global, words: &mut Words, kind: &str, input: &[u8]) {
         "narrow" => streams::put_stream(alloc, words, streams::NARROW, input),
         "answer" => round_trips::put_read(alloc, words, input),
         "mailbox" => round_trips::put_mailbox(alloc, words, input),
+        "flags" => flag_orders::put_shown(alloc, words, input),
         "numbers" => numbers::put_set(alloc, words, input),
         _ => words.put("no such kind"),
     }

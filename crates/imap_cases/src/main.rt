@@ -7,6 +7,7 @@
 mod answers;
 mod cases;
 mod commands;
+mod flag_orders;
 mod frames;
 mod keys;
 mod numbers;

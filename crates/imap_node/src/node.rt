@@ -47,7 +47,7 @@ impl Model for Node {
 impl Node {
     ghost use Rattle.crdt_ops.specs.Sound.{IsSound};
     ghost use Rattle.imap_node.specs.Deliveries.{Delivers, Drains, HoldsRipe, IsOrderly, IsRefusedAt, StallsAt};
-    ghost use Rattle.imap_node.specs.Nodes.{closed};
+    ghost use Rattle.imap_node.specs.Nodes.{Idles, closed};
     ghost use Rattle.imap_node.specs.Plans.{CommitsTo, IsPlanned, Planned};
     ghost use Rattle.imap_node.specs.Respond.{Responds};
     ghost use Rattle.imap_node.specs.Sessions.{IsOpen, Opens, session_at};
@@ -81,6 +81,16 @@ impl Node {
         ensures { IsTrue result ↔ IsOpen self.now.state.sessions session }
     {
         self.session(session).is_some()
+    }
+
+    /// Whether the session is open and idles: a DONE is awaited, and nothing else (RFC 2177, section 3).
+    pub fn is_idling(&self, session: SessionNo) -> bool
+        ensures { IsTrue result ↔ Idles self.now.state session }
+    {
+        match self.session(session) {
+            Some(found) => found.idling.is_some(),
+            None => false,
+        }
     }
 
     /// Opens a session, with the least number that isn't open: `TooManySessions` exactly where all numbers from 1 to 1,024 are, unless memory
@@ -146,13 +156,23 @@ impl Node {
         ensures planned { IsPlanned self.new result }
         ensures responds { Planned self.old.state session input result }
     {
+        let plan = self.plan_for(alloc, session, &input);
+        drop(input);
+        plan
+    }
+
+    /// As `plan`, for an input that is lent.
+    pub fn plan_for(&mut self, alloc: Global, session: SessionNo, input: &Input) -> Plan
+        requires { IsOpen self.old.state.sessions session }
+        ensures same { self.new.state ≡ self.old.state }
+        ensures planned { IsPlanned self.new result }
+        ensures responds { Planned self.old.state session input.now result }
+    {
         let Some(found) = self.sessions.get(session) else {
             unreachable!()
         };
-        let outcome = prepare(alloc, &mut self.replica, found, &input);
-        let plan = plan_by(alloc, session, &found.state, &input, outcome);
-        drop(input);
-        plan
+        let outcome = prepare(alloc, &mut self.replica, found, input);
+        plan_by(alloc, session, &found.state, input, outcome)
     }
 
     /// Does what was planned, where the node is as the plan left it; takes no memory.

@@ -1,0 +1,149 @@
+//! Which calls go on while a replica's lock is held.
+
+ghost use Rattle.std.specs.Prelude.{◌≡◌};
+
+use crate::fixtures::{fresh_book, open_one};
+use replica_lock::{Book, Gate, Pass, Shared};
+use std::alloc::Global;
+use std::marker::Brand;
+use std::sync::Wait;
+use std::sync::atomic::{AtomicU64, Ordering};
+use std::sync::ledger::{Blank, Ledger};
+use std::test::*;
+use std::thread;
+use std::thread::Threads;
+
+/// A gate that tells that it was reached, and looks for an answer for so many turns.
+#[derive(Drop)]
+struct Until<'a> {
+    reached: &'a AtomicU64,
+    answered: &'a AtomicU64,
+    turns: u64,
+    saw: bool,
+}
+
+impl<'a> Gate for Until<'a> {
+    fn pass(&mut self, n: u64) {
+        self.reached.store(n, Ordering::SeqCst);
+        for _ in 0..self.turns {
+            if self.answered.load(Ordering::SeqCst) != 0 {
+                self.saw = true;
+                return;
+            }
+            thread::yield_now();
+        }
+    }
+}
+
+/// Holds the lock, and says whether the answer came meanwhile.
+fn held<L: Ledger, R: Wait>(
+    rt: &R,
+    shared: &Shared<L>,
+    reached: &AtomicU64,
+    answered: &AtomicU64,
+    turns: u64,
+) -> bool {
+    let mut gate = Until {
+        reached,
+        answered,
+        turns,
+        saw: false,
+    };
+    shared.hold(rt, &mut gate, 1);
+    gate.saw
+}
+
+/// Opens a session once the gate was reached, and tells that it was answered.
+fn opened<L: Ledger, R: Wait>(
+    rt: &R,
+    alloc: Global,
+    shared: &Shared<L>,
+    pass: &mut Pass<L>,
+    reached: &AtomicU64,
+    answered: &AtomicU64,
+) -> bool {
+    for _ in rt.forever() {
+        if reached.load(Ordering::SeqCst) != 0 {
+            break;
+        }
+        thread::yield_now();
+    }
+    let done = open_one(rt, alloc, shared, pass);
+    answered.store(1, Ordering::SeqCst);
+    done
+}
+
+/// Whether a call at the other replica was answered while a lock was held, and whether one at the same replica was; and that both were
+/// answered in the end.
+fn gates<L: Ledger + Send + Sync, M: Ledger + Send + Sync, R: Threads + Wait + Sync>(
+    rt: &R,
+    alloc: Global,
+    blank: Blank,
+    other_blank: Blank,
+    books: (Book, Book),
+) -> (bool, bool, bool, bool)
+    requires one { (blank.name ≡ L.name) × (blank.parts ≡ L.parts) × (L.parts ≡ 4294967295) }
+    requires two { (other_blank.name ≡ M.name) × (other_blank.parts ≡ M.parts) × (M.parts ≡ 4294967295) }
+{
+    let (one, mut pass) = Shared::<L>::new(blank, books.0);
+    let (other, mut far) = Shared::<M>::new(other_blank, books.1);
+    let reached = AtomicU64::new(0);
+    let answered = AtomicU64::new(0);
+    let (apart, done) = thread::join(
+        rt,
+        || held(rt, &one, &reached, &answered, 1_000_000),
+        || opened(rt, alloc, &other, &mut far, &reached, &answered),
+    );
+    let reached = AtomicU64::new(0);
+    let answered = AtomicU64::new(0);
+    let (same, after) = thread::join(
+        rt,
+        || held(rt, &one, &reached, &answered, 100_000),
+        || opened(rt, alloc, &one, &mut pass, &reached, &answered),
+    );
+    (apart, done, same, after)
+}
+
+/// The same at two new replicas.
+fn gates_of_two<R: Threads + Wait + Sync>(
+    rt: &R,
+    alloc: Global,
+) -> Option<(bool, bool, bool, bool)> {
+    let books = (fresh_book(alloc, 1)?, fresh_book(alloc, 2)?);
+    let whole = 4_294_967_295;
+    Some(gates::<Brand, Brand, R>(rt, alloc, Blank::new(whole), Blank::new(whole), books))
+}
+
+#[test]
+fn locks_are_apart(rt: HostRuntime) {
+    let told = gates_of_two(&rt, rt.alloc());
+    assert_eq!(rt; told, Some((true, true, false, true)));
+}
+
+/// Waits for the first entry while another thread makes it.
+fn changes<L: Ledger + Send + Sync, R: Threads + Wait + Sync>(
+    rt: &R,
+    alloc: Global,
+    blank: Blank,
+    book: Book,
+) -> (u64, bool)
+    requires { (blank.name ≡ L.name) × (blank.parts ≡ L.parts) × (L.parts ≡ 4294967295) }
+{
+    let (one, mut pass) = Shared::<L>::new(blank, book);
+    thread::join(
+        rt,
+        || one.wait_change(rt, 0),
+        || open_one(rt, alloc, &one, &mut pass),
+    )
+}
+
+/// The same at a new replica.
+fn change_at_one<R: Threads + Wait + Sync>(rt: &R, alloc: Global) -> Option<(u64, bool)> {
+    let book = fresh_book(alloc, 1)?;
+    Some(changes::<Brand, R>(rt, alloc, Blank::new(4_294_967_295), book))
+}
+
+#[test]
+fn a_change_ends_the_wait(rt: HostRuntime) {
+    assert_eq!(rt; change_at_one(&rt, rt.alloc()), Some((1, true)));
+}

@@ -1,0 +1,81 @@
+//! A replica behind its lock that takes operations.
+
+ghost use Rattle.std.specs.Prelude.{◌≡◌};
+ghost use Rattle.replica_links.specs.Links.{IsTakenBy, took_of};
+
+use crate::handing::Taker;
+use crate::took::Took;
+use causal_inbox::{Arrival, DeliverFault};
+use crdt_ops::SoundOp;
+use replica_lock::{Outcome, Pass, Shared};
+use std::alloc::Global;
+use std::sync::Wait;
+use std::sync::ledger::Ledger;
+
+/// Delivers operations to a replica behind its lock, each by one call that its pass notes.
+#[derive(Drop)]
+pub struct ReplicaTaker<'a, L: Ledger, R: Wait> {
+    rt: &'a R,
+    alloc: Global,
+    shared: &'a Shared<L>,
+    pass: Pass<L>,
+}
+
+impl<'a, L: Ledger, R: Wait> ReplicaTaker<'a, L, R> {
+    /// Deliveries to this replica, noted in this pass.
+    pub fn new(
+        rt: &'a R,
+        alloc: Global,
+        shared: &'a Shared<L>,
+        pass: Pass<L>,
+    ) -> ReplicaTaker<'a, L, R> {
+        ReplicaTaker {
+            rt,
+            alloc,
+            shared,
+            pass,
+        }
+    }
+
+    /// The pass, with all calls noted.
+    pub fn into_pass(self) -> Pass<L> {
+        let ReplicaTaker {
+            rt: _,
+            alloc: _,
+            shared: _,
+            pass,
+        } = self;
+        pass
+    }
+}
+
+impl<'a, L: Ledger, R: Wait> Taker for ReplicaTaker<'a, L, R> {
+    ghost takes = { λ s op took t. IsTakenBy s.pass took t.pass };
+
+    fn deliver(&mut self, op: SoundOp) -> Took {
+        let called = self.shared.deliver(self.rt, self.alloc, &mut self.pass, op);
+        if called.is_err() {
+            return Took::lacking();
+        }
+        match self.pass.last() {
+            Some(outcome) => took_of(outcome),
+            None => Took::lacking(),
+        }
+    }
+}
+
+/// What became of a delivery with this outcome.
+fn took_of(outcome: &Outcome) -> Took
+    ensures { result ≡ took_of outcome.now }
+{
+    match outcome {
+        Outcome::Delivered { answer: Ok(told) } => Took {
+            lacking: told.arrival == Arrival::Held,
+            stalled: told.stalled,
+        },
+        Outcome::Delivered {
+            answer: Err(DeliverFault::Conflict { .. }),
+        } => Took::nothing(),
+        _ => Took::lacking(),
+    }
+}

@@ -1,0 +1,25 @@
+//! A replica behind a lock, with the journal of what happened there.
+//!
+//! A [`Book`] is a replica and its journal, and grows by one entry a step. [`Shared`] keeps it under a lock: threads that call it make a
+//! history that one thread could have made, and that history is the journal. Each caller has a [`Pass`], which counts its calls; the
+//! passes of a replica together count its journal's entries.
+#![tactic(auto)]
+
+mod book;
+mod comparing;
+mod event;
+mod faults;
+mod laws;
+mod locked;
+mod outcome;
+mod pass;
+mod shared;
+mod stepping;
+
+pub use book::{Book, Entry};
+pub use event::BookEvent;
+pub use faults::{CallFault, FinishFault, NoRoom};
+pub use laws::same_operations_hold_the_same;
+pub use outcome::Outcome;
+pub use pass::Pass;
+pub use shared::{Gate, Shared};

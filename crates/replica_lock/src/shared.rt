@@ -1,0 +1,212 @@
+//! A replica that threads share.
+
+ghost use Rattle.std.specs.Prelude.{◌≡◌, ◌≢◌, OnOk, OnErr, IfOk, IfErr, IsSome, List, None, length, false};
+
+use crate::book::Book;
+use crate::event::BookEvent;
+use crate::faults::{CallFault, FinishFault};
+use crate::locked::Locked;
+use crate::pass::Pass;
+use crdt_ops::SoundOp;
+use imap_grammar::{IdleLine, Tagged};
+use imap_node::Auth;
+use imap_types::Moment;
+use std::alloc::Global;
+use std::sync::ledger::{Blank, Ledger};
+use std::sync::{Condvar, Mutex, Wait};
+
+/// What is passed on the way, so that a test can say in which order threads go on.
+pub trait Gate {
+    /// Passes for the n-th time.
+    fn pass(&mut self, n: u64);
+}
+
+/// A replica under a lock. Each call takes the lock for one step of the replica, notes it in the caller's pass, and may wait for the lock.
+#[derive(Drop)]
+pub struct Shared<L: Ledger> {
+    locked: Mutex<Locked<L>>,
+    changed: Condvar,
+}
+
+impl<L: Ledger> Shared<L> {
+    ghost use Rattle.replica_lock.specs.Passes.{Denies, Fits, IsCalled, IsRefused, is_missing, parts_of, unused};
+    ghost use Rattle.replica_lock.specs.declared.book.Entry.{Entry as Record};
+
+    /// Puts a replica under a lock. The pass counts the entries that are there, and all others are cut from it.
+    pub fn new(blank: Blank, book: Book) -> (Shared<L>, Pass<L>)
+        requires name { blank.name ≡ L.name }
+        requires parts { (blank.parts ≡ L.parts) × (L.parts ≡ 4294967295) }
+        ensures { result.1 ≡ unused 4294967295 (length book.journal) }
+    {
+        let (calls, share) = blank.open::<L>();
+        let mut calls = calls;
+        let entries = book.len();
+        let pass = Pass::whole(&mut calls, share, entries);
+        let shared = Shared {
+            locked: Mutex::new(Locked::new(book, calls)),
+            changed: Condvar::new(),
+        };
+        (shared, pass)
+    }
+
+    fn call<R: Wait>(
+        &self,
+        rt: &R,
+        alloc: Global,
+        pass: &mut Pass<L>,
+        event: BookEvent,
+    ) -> Result<(), CallFault>
+        ensures called { OnOk result (IsCalled pass.old pass.new) }
+        ensures unchanged { OnErr result (pass.new ≡ pass.old) }
+        ensures refused { IfErr result (IsRefused pass.old.seen) }
+    {
+        let result = self.locked.lock(rt).call(alloc, pass, event);
+        self.changed.notify_all();
+        result
+    }
+
+    /// Opens a session, for a pass that has none.
+    pub fn open<R: Wait>(
+        &self,
+        rt: &R,
+        alloc: Global,
+        pass: &mut Pass<L>,
+        auth: Auth,
+    ) -> Result<(), CallFault>
+        requires { pass.old.session ≡ None }
+        ensures called { OnOk result (IsCalled pass.old pass.new) }
+        ensures unchanged { OnErr result (pass.new ≡ pass.old) }
+        ensures refused { IfErr result (IsRefused pass.old.seen) }
+    {
+        self.call(rt, alloc, pass, BookEvent::Open { auth })
+    }
+
+    /// Gives the pass's session a command, which came at this moment.
+    pub fn command<R: Wait>(
+        &self,
+        rt: &R,
+        alloc: Global,
+        pass: &mut Pass<L>,
+        moment: Moment,
+        tagged: Tagged,
+    ) -> Result<(), CallFault>
+        requires { IsSome pass.old.session }
+        ensures called { OnOk result (IsCalled pass.old pass.new) }
+        ensures unchanged { OnErr result (pass.new ≡ pass.old) }
+        ensures refused { IfErr result (IsRefused pass.old.seen) }
+    {
+        let Some(session) = pass.session() else {
+            unreachable!()
+        };
+        let event = BookEvent::Command {
+            session,
+            moment,
+            tagged,
+        };
+        self.call(rt, alloc, pass, event)
+    }
+
+    /// Gives the pass's session a line, in IDLE (RFC 2177, section 3).
+    pub fn done<R: Wait>(
+        &self,
+        rt: &R,
+        alloc: Global,
+        pass: &mut Pass<L>,
+        line: IdleLine,
+    ) -> Result<(), CallFault>
+        requires { IsSome pass.old.session }
+        ensures called { OnOk result (IsCalled pass.old pass.new) }
+        ensures unchanged { OnErr result (pass.new ≡ pass.old) }
+        ensures refused { IfErr result (IsRefused pass.old.seen) }
+    {
+        let Some(session) = pass.session() else {
+            unreachable!()
+        };
+        self.call(rt, alloc, pass, BookEvent::Line { session, line })
+    }
+
+    /// Tells the pass's session, in IDLE, what changed.
+    pub fn poll<R: Wait>(&self, rt: &R, alloc: Global, pass: &mut Pass<L>) -> Result<(), CallFault>
+        requires { IsSome pass.old.session }
+        ensures called { OnOk result (IsCalled pass.old pass.new) }
+        ensures unchanged { OnErr result (pass.new ≡ pass.old) }
+        ensures refused { IfErr result (IsRefused pass.old.seen) }
+    {
+        let Some(session) = pass.session() else {
+            unreachable!()
+        };
+        self.call(rt, alloc, pass, BookEvent::Poll { session })
+    }
+
+    /// Delivers an operation of another replica.
+    pub fn deliver<R: Wait>(
+        &self,
+        rt: &R,
+        alloc: Global,
+        pass: &mut Pass<L>,
+        op: SoundOp,
+    ) -> Result<(), CallFault>
+        ensures called { OnOk result (IsCalled pass.old pass.new) }
+        ensures unchanged { OnErr result (pass.new ≡ pass.old) }
+        ensures refused { IfErr result (IsRefused pass.old.seen) }
+    {
+        self.call(rt, alloc, pass, BookEvent::Deliver { op })
+    }
+
+    /// Goes on with held operations whose causes were applied.
+    pub fn drain<R: Wait>(&self, rt: &R, alloc: Global, pass: &mut Pass<L>) -> Result<(), CallFault>
+        ensures called { OnOk result (IsCalled pass.old pass.new) }
+        ensures unchanged { OnErr result (pass.new ≡ pass.old) }
+        ensures refused { IfErr result (IsRefused pass.old.seen) }
+    {
+        self.call(rt, alloc, pass, BookEvent::Drain)
+    }
+
+    /// Closes the pass's session.
+    pub fn close<R: Wait>(&self, rt: &R, alloc: Global, pass: &mut Pass<L>) -> Result<(), CallFault>
+        requires { IsSome pass.old.session }
+        ensures called { OnOk result (IsCalled pass.old pass.new) }
+        ensures unchanged { OnErr result (pass.new ≡ pass.old) }
+        ensures refused { IfErr result (IsRefused pass.old.seen) }
+    {
+        let Some(session) = pass.session() else {
+            unreachable!()
+        };
+        self.call(rt, alloc, pass, BookEvent::Close { session })
+    }
+
+    /// Waits until the journal's length isn't `seen`, and tells it.
+    pub fn wait_change<R: Wait>(&self, rt: &R, seen: u64) -> u64
+        ensures { result ≢ seen }
+    {
+        let locked = self
+            .changed
+            .wait_while(rt, self.locked.lock(rt), |locked| locked.len() == seen);
+        locked.len()
+    }
+
+    /// Whether an entry behind the first `from`, among the first `to`, is anything but a poll, so that an idling session may have to be told of
+    /// it. It makes no entry.
+    pub fn stirred<R: Wait>(&self, rt: &R, from: u64, to: u64) -> bool {
+        self.locked.lock(rt).book().stirred(from, to)
+    }
+
+    /// Takes the lock away and hands the book out, where the passes are all there. `Missing` where one is lacking, `Strange` where a pass
+    /// keeps another outcome than its call's.
+    pub fn finish(self, passes: Vec<Pass<L>>) -> Result<Book, FinishFault>
+        requires { L.parts ≡ 4294967295 }
+        ensures fits { IfOk result (λ book. Fits book.journal passes.items) }
+        ensures denied { IfErr result (λ fault. (journal : List Record) × Denies journal passes.items fault) }
+        ensures whole { parts_of passes.items ≡ 4294967295 → IfErr result (λ fault. is_missing fault ≡ false) }
+    {
+        let Shared { locked, changed: _ } = self;
+        locked.into_inner().settle(passes)
+    }
+
+    /// Passes a gate while the lock is held.
+    pub fn hold<R: Wait, G: Gate>(&self, rt: &R, gate: &mut G, n: u64) {
+        let locked = self.locked.lock(rt);
+        gate.pass(n);
+        drop(locked);
+    }
+}
