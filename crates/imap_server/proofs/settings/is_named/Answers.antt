@@ -1,4 +1,4 @@
-use Rattle.std.proofs.Common.{◌∙◌, arith, sym, true≢false}
+use Rattle.std.proofs.Common.{◌∙◌, arith, rules, sym, true≢false}
 use Rattle.imap_server.proofs.NameLemmas.{named_at, not_named_more}
 use Rattle.imap_server.proofs.settings.is_named.Goals as goal
 
