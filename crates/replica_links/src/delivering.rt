@@ -9,6 +9,7 @@ use causal_inbox::{Arrival, DeliverFault};
 use crdt_ops::SoundOp;
 use replica_lock::{Outcome, Pass, Shared};
 use std::alloc::Global;
+use std::marker::Model;
 use std::sync::Wait;
 use std::sync::ledger::Ledger;
 
@@ -21,6 +22,14 @@ pub struct ReplicaTaker<'a, L: Ledger, R: Wait> {
     pass: Pass<L>,
 }
 
+impl<'a, L: Ledger, R: Wait> Model for ReplicaTaker<'a, L, R> {
+    ghost use Rattle.replica_lock.specs.Passes.{Held};
+
+    ghost Value = { Held };
+
+    ghost view = { λ t. t.pass };
+}
+
 impl<'a, L: Ledger, R: Wait> ReplicaTaker<'a, L, R> {
     /// Deliveries to this replica, noted in this pass.
     pub fn new(
@@ -28,7 +37,9 @@ impl<'a, L: Ledger, R: Wait> ReplicaTaker<'a, L, R> {
         alloc: Global,
         shared: &'a Shared<L>,
         pass: Pass<L>,
-    ) -> ReplicaTaker<'a, L, R> {
+    ) -> ReplicaTaker<'a, L, R>
+        ensures { result ≡ pass }
+    {
         ReplicaTaker {
             rt,
             alloc,
@@ -38,7 +49,9 @@ impl<'a, L: Ledger, R: Wait> ReplicaTaker<'a, L, R> {
     }
 
     /// The pass, with all calls noted.
-    pub fn into_pass(self) -> Pass<L> {
+    pub fn into_pass(self) -> Pass<L>
+        ensures { result ≡ self.entry }
+    {
         let ReplicaTaker {
             rt: _,
             alloc: _,
@@ -50,7 +63,7 @@ impl<'a, L: Ledger, R: Wait> ReplicaTaker<'a, L, R> {
 }
 
 impl<'a, L: Ledger, R: Wait> Taker for ReplicaTaker<'a, L, R> {
-    ghost takes = { λ s op took t. IsTakenBy s.pass took t.pass };
+    ghost takes = { λ s op took t. IsTakenBy s took t };
 
     fn deliver(&mut self, op: SoundOp) -> Took {
         let called = self.shared.deliver(self.rt, self.alloc, &mut self.pass, op);

@@ -23,7 +23,7 @@ use Rattle.uid_projection.specs.Exhaustion.{Exhausts}
 use Rattle.uid_projection.specs.declared.start.Start.{Start}
 
 -- What every step keeps: the replica's first numbers, and the count of its open sessions.
-record Keeps (old : NodeState) (outcome : Outcome) (new : NodeState) : Type 0 where
+pub record Keeps (old : NodeState) (outcome : Outcome) (new : NodeState) : Type 0 where
   pub start : new.start ≡ old.start
   pub count : open_count new.sessions ≡ open_after (open_count old.sessions) outcome
 
@@ -147,5 +147,9 @@ step_fits old event outcome new h = by_end (ends_session old event) refl
     by_end true e = ending_fits old event outcome new h e
     by_end false e = let few = after_few (open_count old.sessions) outcome in omega arith
 
-pub closes_fit : (sessions wants places before room after room' : ℕ) → sessions + 1 ≤ wants → places ≡ wants → before + places ≤ room → after ≡ before + 1 → room' ≡ room → sessions + after ≤ room'
-closes_fit sessions wants places before room after room' a b c d e = omega arith
+pub closes_fit : (count sessions wants places before room after room' : ℕ) → count ≡ sessions → sessions + 1 ≤ wants → places ≡ wants → before + places ≤ room → after ≡ before + 1 → room' ≡ room → count + after ≤ room'
+closes_fit count sessions wants places before room after room' t a b c d e = omega arith
+
+-- there is room for the entry
+pub entry_fits : (sessions wants places before room : ℕ) → sessions + 1 ≤ wants → places ≡ wants → before + places ≤ room → before < room
+entry_fits sessions wants places before room a b c = omega arith

@@ -1,15 +1,17 @@
 //! One event at a node, with a copy of its outcome for the journal.
 
-ghost use Rattle.std.specs.Prelude.{◌≡◌, ◌↔◌, IfOk, IsOk, IsTrue, OnErr};
+ghost use Rattle.std.specs.Prelude.{◌≡◌, ◌↔◌, ℕ, IfOk, IsOk, IsTrue, OnErr};
 ghost use Rattle.imap_node.specs.Sessions.{IsOpen};
 ghost use Rattle.replica_lock.specs.Steps.{Awaits, IsStep, TakesInput, event_of};
 ghost use Rattle.replica_lock.specs.declared.event.BookEvent.TheVariants as events;
+ghost use Rattle.replica_lock.specs.declared.outcome.Outcome.TheVariants as outcomes;
 
 use crate::event::{BookEvent, event_of};
 use crate::faults::NoRoom;
 use crate::outcome::Outcome;
+use causal_inbox::{DeliverFault, Delivered};
 use crdt_ops::SoundOp;
-use imap_node::{Auth, Input, Node, SessionNo};
+use imap_node::{Auth, Input, Node, OpenFault, SessionNo};
 use merge_laws::Caused;
 use std::alloc::{AllocError, Global};
 
@@ -61,9 +63,15 @@ fn open_step(alloc: Global, node: &mut Node, auth: Auth) -> Result<Stepped, NoRo
     let answer = node.open(auth);
     Ok(Stepped {
         event: BookEvent::Open { auth: kept },
-        outcome: Outcome::Opened { answer },
-        copy: Outcome::Opened { answer },
+        outcome: opened(&answer),
+        copy: opened(&answer),
     })
+}
+
+fn opened(answer: &Result<SessionNo, OpenFault>) -> Outcome
+    ensures { result ≡ outcomes.Opened answer.now }
+{
+    Outcome::Opened { answer: *answer }
 }
 
 /// Equal; `Err` where there is no memory for it.
@@ -136,9 +144,15 @@ fn deliver_step(alloc: Global, node: &mut Node, op: SoundOp) -> Result<Stepped, 
     let answer = node.deliver(alloc, op);
     Ok(Stepped {
         event: BookEvent::Deliver { op: kept },
-        outcome: Outcome::Delivered { answer },
-        copy: Outcome::Delivered { answer },
+        outcome: delivered(&answer),
+        copy: delivered(&answer),
     })
+}
+
+fn delivered(answer: &Result<Delivered, DeliverFault>) -> Outcome
+    ensures { result ≡ outcomes.Delivered answer.now }
+{
+    Outcome::Delivered { answer: *answer }
 }
 
 /// Goes on with held operations.
