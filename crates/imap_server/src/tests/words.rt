@@ -66,16 +66,24 @@ fn access_is_named_once(rt: HostRuntime) {
     );
 }
 
+/// Whether this word, behind a replica, is told as a bad one.
+fn is_bad(alloc: Global, word: &str) -> bool {
+    match format!(in alloc; "bad {word}") {
+        Ok(wanted) => come_to(alloc, &["imap_server", "--preauth", "7=b", word], &wanted),
+        Err(_) => false,
+    }
+}
+
+#[test]
+fn replicas_are_named_well(rt: HostRuntime) {
+    for word in ["1", "=a", "1=", "0=a", "01=a", "65536=a", "+1=a", "x=a"] {
+        assert!(rt; is_bad(rt.alloc(), word));
+    }
+}
+
 #[test]
 fn replicas_are_named_apart(rt: HostRuntime) {
     let alloc = rt.alloc();
-    for word in ["1", "=a", "1=", "0=a", "01=a", "65536=a", "+1=a", "x=a"] {
-        let wanted = match format!(in alloc; "bad {word}") {
-            Ok(text) => text,
-            Err(_) => return,
-        };
-        assert!(rt; come_to(alloc, &["imap_server", "--preauth", "7=b", word], &wanted));
-    }
     assert!(rt;
         come_to(
             alloc,
@@ -90,32 +98,27 @@ fn replicas_are_named_apart(rt: HostRuntime) {
             "twice 1"
         )
     );
-    assert!(rt; come_to(alloc, &["imap_server", "--preauth", "-1=a"], "words"));
+}
+
+#[test]
+fn other_words_are_refused(rt: HostRuntime) {
+    let alloc = rt.alloc();
+    let bound = [
+        "imap_server",
+        "--preauth",
+        "--stop-after",
+        "4294967295",
+        "1=a",
+    ];
+    let beyond = [
+        "imap_server",
+        "--preauth",
+        "--stop-after",
+        "4294967296",
+        "1=a",
+    ];
+    assert!(rt; come_to(alloc, &bound, "preauth 1 true"));
+    assert!(rt; come_to(alloc, &beyond, "words"));
     assert!(rt; come_to(alloc, &["imap_server", "--preauth"], "words"));
-    assert!(rt;
-        come_to(
-            alloc,
-            &[
-                "imap_server",
-                "--preauth",
-                "--stop-after",
-                "4294967296",
-                "1=a"
-            ],
-            "words"
-        )
-    );
-    assert!(rt;
-        come_to(
-            alloc,
-            &[
-                "imap_server",
-                "--preauth",
-                "--stop-after",
-                "4294967295",
-                "1=a"
-            ],
-            "preauth 1 true"
-        )
-    );
+    assert!(rt; come_to(alloc, &["imap_server", "--preauth", "-1=a"], "words"));
 }
