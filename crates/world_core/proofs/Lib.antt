@@ -1,9 +1,9 @@
-mod AmidLemmas
-pub mod DeleteLemmas
-mod DumpLemmas
-mod EndLemmas
-pub mod FaultLemmas
-pub mod StreamLemmas
-pub mod TalkLemmas
-pub mod TurnLemmas
-pub mod ReplyLemmas
+pub mod NamedLemmas
+pub mod OriginLemmas
+pub mod NodeLemmas
+pub mod StepLemmas
+pub mod FairLemmas
+pub mod MoveLemmas
+pub mod LastLemmas
+pub mod HeadLemmas
+pub mod BeginLemmas

@@ -1,22 +1,21 @@
-//! Replicas with their sessions, and the way from the octets of a connection to its answers.
+//! Worlds of replicas: events at any of them, one after another, and what holds whatever comes.
+//!
+//! A world is nodes of different names. Sessions open and close, send commands, lines and polls, and any operation that some replica issued
+//! is delivered at any node, at any time after, any number of times. `run` takes a list of such events, and its contract is the promise
+//! for which the project exists.
 #![tactic(auto)]
 
-mod dump;
+mod agreeing;
+mod event;
 mod laws;
-mod node;
-mod replica;
-mod reply;
-mod sessions;
-mod talking;
-mod turn;
+mod places;
+mod running;
+mod stepping;
+mod taking;
+mod world;
 
-pub use dump::write_dump;
-pub use laws::{
-    answers_are_printable, commands_are_answered, faults_end_the_stream, issued_are_sound_and_new,
-    one_dump, others_come_between, pieces_are_one_stream,
-};
-pub use node::Node;
-pub use reply::{Answers, Issued, Reply};
-pub use sessions::{MAX_SESSIONS, OpenFault, SessionNo, SessionState, Sessions};
-pub use talking::talk;
-pub use turn::{TalkFault, TalkFaultKind, Turn};
+pub use agreeing::{Agreement, agree};
+pub use event::{Event, Outcome};
+pub use laws::worlds_keep_their_promises;
+pub use running::{Outcomes, run};
+pub use world::{World, WorldFault};

@@ -1,4 +1,0 @@
-mod LineLemmas
-mod PartLemmas
-mod StageLemmas
-mod WholeLemmas

@@ -1,6 +1,0 @@
-pub mod Deliveries
-pub mod Faults
-pub mod Lines
-pub mod Replays
-pub mod Stage
-pub mod Transcript
