@@ -1,4 +1,7 @@
-use Rattle.std.proofs.Common.{◌≡◌, ◌⊎◌, inl, inr, ℕ, ◌≤◌, Bool, true, false, Option, None, Some, List, [], ◌∷◌, ◌++◌, map, refl, sym, ap, ◌∙◌, subst}
+use Rattle.std.proofs.Common.{◌≡◌, ◌≢◌, ◌⊎◌, inl, inr, ℕ, suc, ◌+◌, ◌<◌, ◌≤◌, Bool, true, false, Option, None, Some, List, [], ◌∷◌, ◌++◌, length, drop, map, refl, sym, ap, ◌∙◌, subst}
+use Rattle.std.proofs.Common.{add-one, get_or}
+use Rattle.std.proofs.Math.Seq.{drop-cons}
+use Rattle.world_core.proofs.PlaceLemmas.{in_at}
 use Rattle.std.specs.Prelude.{◌==◌, if◌then◌else◌}
 use Rattle.std.proofs.lemmas.Bool.Decides.{eqb_tells}
 use Rattle.merge_laws.specs.Orders.{IsIn}
@@ -13,12 +16,23 @@ use Rattle.uid_projection.specs.declared.start.Start.{Start}
 use Rattle.world_core.specs.Moments.{IsFair, clock_of, id_of}
 use Rattle.world_core.specs.Replicas.{IsAt, Replicas, blank, by_name}
 use Rattle.world_core.specs.Sights.{seen_at, seen_by, sight}
-use Rattle.world_core.specs.Worlds.{AreFromOne}
+use Rattle.world_core.specs.Worlds.{AreApart, AreFromOne}
 use Rattle.world_core.proofs.NamedLemmas.{by_here, by_past, named_there, some_same}
 
 from_one_in : (starts : List Start) (s : Start) → AreFromOne starts → IsIn s starts → 1 ≤ s.uid
 from_one_in [] s h i = absurd i
 from_one_in (x ∷ xs) s h i = elim i [ inl e ↦ subst (λ (y : Start). 1 ≤ y.uid) e h.0 | inr t ↦ from_one_in xs s h.1 t ]
+
+pub from_one_at : (starts : List Start) (i : ℕ) (s : Start) → AreFromOne starts → i < length starts → s ≡ get_or starts i s → 1 ≤ s.uid
+from_one_at starts i s h l is = from_one_in starts s h (in_at starts i s s l is refl)
+
+drop_next : {X : Type 0} (xs : List X) (i : ℕ) (x : X) → i < length xs → x ≡ get_or xs i x → drop i xs ≡ x ∷ drop (i + 1) xs
+drop_next xs i x l is = rw add-one (drop-cons xs i x l ∙ ap (λ y. y ∷ drop (suc i) xs) (sym is))
+
+pub apart_next : (starts : List Start) (i : ℕ) (s : Start) → i < length starts → s ≡ get_or starts i s → (rest : List Start) → rest ≡ drop (i + 1) starts → ((o : Start) → IsIn o rest → o.replica ≢ s.replica)
+    → (AreApart (drop i starts) → AreApart starts) → AreApart (drop (i + 1) starts) → AreApart starts
+apart_next starts i s l is rest e other goes h =
+    goes (subst AreApart (sym (drop_next starts i s l is)) ((λ o j. other o (subst (IsIn o) (sym e) j)), h))
 
 blank_at : (starts : List Start) (name : ℕ) (node : NodeState) → by_name (map blank starts) name ≡ Some node → (s : Start) × IsIn s starts × (blank s ≡ node)
 blank_at [] name node h = absurd cc

@@ -1,4 +1,6 @@
 pub mod NamedLemmas
+pub mod PlaceLemmas
+pub mod AgreeLemmas
 pub mod OriginLemmas
 pub mod NodeLemmas
 pub mod StepLemmas
@@ -7,3 +9,4 @@ pub mod MoveLemmas
 pub mod LastLemmas
 pub mod HeadLemmas
 pub mod BeginLemmas
+pub mod RunLemmas

@@ -182,9 +182,10 @@ begun_is start before ops stamp state _ given e = refl
 took : (start : Start) (before ops : List Op) (stamp : List ℕ) (session : Session) (input : Input) (given : List Kind) (course : Course)
     → wants_of start before stamp session.state input ≡ Ok given → TakesCourse start before ops session input course
     → IsTail course.tail × (seen_in course.state ≡ begun start ops (seen_in session.state) input)
-took start before ops stamp session (inputs.Command moment tagged) given course w t =
-    (subst (λ (c : Course). IsTail c.tail) (sym t.2) (tail_command tagged.tag tagged.command t.0.code),
-    ap (λ (c : Course). seen_in c.state) t.2 ∙ begun_is start before ops stamp session.state tagged.command given w)
+took start before ops stamp session (inputs.Command moment tagged) given course w t = (
+  subst (λ (c : Course). IsTail c.tail) (sym t.2) (tail_command tagged.tag tagged.command t.0.code),
+  ap (λ (c : Course). seen_in c.state) t.2 ∙ begun_is start before ops stamp session.state tagged.command given w,
+)
 took start before ops stamp session (inputs.Line line) given course w t =
     (subst (λ (c : Course). IsTail c.tail) (sym t) (tail_idle session.idling), ap (λ (c : Course). seen_in c.state) t)
 took start before ops stamp session inputs.Poll given course w t =
@@ -318,9 +319,13 @@ module _ (issued : Op → Type 0) (name : ℕ) (old new : NodeState) (named : ol
             | inl v ↦ inl (inl v)
             | inr v ↦
                 let cut = split_at o ops v in
-                inr (inr (issue_sound old.start old.applied a c.stamp session.state input c.kinds c.wanted ops c.next o v,
-                ((c.next.next cut.0 o cut.1 cut.2).own ∙ named,
-                (u, issue_bears old.start old.applied a c.stamp session.state input c.kinds c.wanted ops c.next o v))))
+                inr (inr (
+                  issue_sound old.start old.applied a c.stamp session.state input c.kinds c.wanted ops c.next o v,
+                  (
+                    (c.next.next cut.0 o cut.1 cut.2).own ∙ named,
+                    (u, issue_bears old.start old.applied a c.stamp session.state input c.kinds c.wanted ops c.next o v),
+                  ),
+                ))
           ]
           | inr u ↦ inl (inr ((kept_held ops old.held new.held h.held o).0 u).0)
         ];

@@ -36,6 +36,7 @@ use Rattle.world_core.specs.Replicas.{IsAt, IsIssuedIn, MovesAt, Replicas, by_na
 use Rattle.world_core.specs.Sights.{IsOf, seen_after, seen_by}
 use Rattle.world_core.specs.Steps.{AnswersBy, Awaits, ClosesBy, DrainsBy, NodeSteps, OpensBy, Steps, TakesBy, TakesOne, at_of}
 use Rattle.world_core.proofs.NamedLemmas.{at_place, same_there, set_place}
+use Rattle.world_core.proofs.PlaceLemmas.{item_at}
 use Rattle.world_core.proofs.NodeLemmas.{Gathers, after_rises, answered, others_stay, responds_gathers, session_else, session_put}
 
 -- ---- cases
@@ -114,8 +115,9 @@ step_start issued old (events.Close at session) outcome new h = closes_start old
 
 -- an event at the node of a place is one in the world
 pub moved : (nodes new : List NodeKept) (event : Event) (outcome : Outcome) (place : ℕ) (m n : NodeKept) → IsPlace nodes (at_of event) place → m ≡ get_or nodes place m → new ≡ set nodes place n
-    → NodeSteps (IsIssuedIn (by_name (states_of nodes))) m.state event outcome n.state → Steps (by_name (states_of nodes)) event outcome (by_name (states_of new))
-moved nodes new event outcome place m n p at is h =
+    → NodeSteps (IsIssuedIn (by_name (states_of nodes))) (get_or nodes place m).state event outcome n.state → Steps (by_name (states_of nodes)) event outcome (by_name (states_of new))
+moved nodes new event outcome place m n p at is given =
+    let h = subst (λ (k : NodeKept). NodeSteps (IsIssuedIn (by_name (states_of nodes))) k.state event outcome n.state) (sym at) given in
     let start = step_start (IsIssuedIn (by_name (states_of nodes))) m.state event outcome n.state h in
     inr (record {
       before = m.state;
@@ -136,6 +138,23 @@ unmoved nodes new event outcome place m p at is h =
       moves = h;
       rest = ap (λ (ns : List NodeKept). by_name (states_of ns)) is ∙ same_there (by_name (states_of nodes)) (at_of event) m.state (at_place nodes (at_of event) place p m at);
     })
+
+pub unmoved_at : (nodes : List NodeKept) (event : Event) (outcome : Outcome) (place : ℕ) → IsPlace nodes (at_of event) place
+    → ((m : NodeState) → NodeSteps (IsIssuedIn (by_name (states_of nodes))) m event outcome m) → Steps (by_name (states_of nodes)) event outcome (by_name (states_of nodes))
+unmoved_at nodes event outcome place p h =
+    let m = item_at nodes place p.within in
+    unmoved nodes nodes event outcome place m.0 p m.1 refl (h m.0.state)
+
+-- what is taken of an operation that was issued
+pub takes_from : (issued : Op → Type 0) (old : NodeState) (id : OpId) (outcome : Outcome) (new : NodeState) (op : Op) → issued op → op.id ≡ id → TakesOne old op outcome new → TakesBy issued old id outcome new
+takes_from issued old id PassedOver new op i e h = absurd h
+takes_from issued old id (Opened session) new op i e h = absurd h
+takes_from issued old id (TurnedAway fault) new op i e h = absurd h
+takes_from issued old id (Replied reply) new op i e h = absurd h
+takes_from issued old id (Came delivered) new op i e h = (op, i, e, inr h)
+takes_from issued old id (NotTaken fault) new op i e h = (op, i, e, inr h)
+takes_from issued old id (Drained drained) new op i e h = absurd h
+takes_from issued old id Closed new op i e h = absurd h
 
 -- an event of a replica that isn't there is passed over
 pub nowhere : (nodes new : List NodeKept) (event : Event) (outcome : Outcome) → by_name (states_of nodes) (at_of event) ≡ None → outcome ≡ PassedOver → new ≡ nodes → Steps (by_name (states_of nodes)) event outcome (by_name (states_of new))
@@ -260,16 +279,18 @@ module _ (issued : Op → Type 0) (old : NodeState) (k : IsConsistent id_of cloc
 
   takes_one_to : (op : Op) (outcome : Outcome) (new : NodeState) → issued op → TakesOne old op outcome new → Gathers issued old.start.replica old new × ((n : ℕ) → seen_by (session_at new.sessions n) ≡ seen_by (session_at old.sessions n))
   takes_one_to op (Came delivered) new i h =
-      let arrives = h.0.arrives in
-      (record {
-        start = arrival_start id_of clock_of Exhausts (received old) (received new) op delivered.arrival arrives;
-        grown = arrival_grows id_of clock_of Exhausts (received old) (received new) op delivered.arrival arrives;
-        consistent = arrival_consistent id_of clock_of Exhausts (received old) (received new) op delivered.arrival arrives k;
-        came = λ o t. elim ((arrival_unites id_of clock_of Exhausts (received old) (received new) op delivered.arrival arrives o).0 t) [
-          | inl u ↦ inl u
-          | inr e ↦ inr (inl (subst issued e i))
-        ];
-      }, same_sessions new h.0.sessions)
+      let arrives = h.0.arrives in (
+        record {
+          start = arrival_start id_of clock_of Exhausts (received old) (received new) op delivered.arrival arrives;
+          grown = arrival_grows id_of clock_of Exhausts (received old) (received new) op delivered.arrival arrives;
+          consistent = arrival_consistent id_of clock_of Exhausts (received old) (received new) op delivered.arrival arrives k;
+          came = λ o t. elim ((arrival_unites id_of clock_of Exhausts (received old) (received new) op delivered.arrival arrives o).0 t) [
+            | inl u ↦ inl u
+            | inr e ↦ inr (inl (subst issued e i))
+          ];
+        },
+        same_sessions new h.0.sessions,
+      )
   takes_one_to op (NotTaken fault) new i h = (gathers_same new h.1, still new h.1)
   takes_one_to op _ new i h = absurd h
 
@@ -281,13 +302,15 @@ module _ (issued : Op → Type 0) (old : NodeState) (k : IsConsistent id_of cloc
 
   drains_to : (outcome : Outcome) (new : NodeState) → DrainsBy old outcome new → Gathers issued old.start.replica old new × ((n : ℕ) → seen_by (session_at new.sessions n) ≡ seen_by (session_at old.sessions n))
   drains_to (Drained drained) new h =
-      let released = h.0.released in
-      (record {
-        start = releases_start id_of clock_of Exhausts drained.applied (received old) (received new) released;
-        grown = releases_grow id_of clock_of Exhausts drained.applied (received old) (received new) released;
-        consistent = releases_consistent id_of clock_of Exhausts drained.applied (received old) (received new) released k;
-        came = λ o t. inl ((releases_stay id_of clock_of Exhausts drained.applied (received old) (received new) released o).0 t);
-      }, same_sessions new h.0.sessions)
+      let released = h.0.released in (
+        record {
+          start = releases_start id_of clock_of Exhausts drained.applied (received old) (received new) released;
+          grown = releases_grow id_of clock_of Exhausts drained.applied (received old) (received new) released;
+          consistent = releases_consistent id_of clock_of Exhausts drained.applied (received old) (received new) released k;
+          came = λ o t. inl ((releases_stay id_of clock_of Exhausts drained.applied (received old) (received new) released o).0 t);
+        },
+        same_sessions new h.0.sessions,
+      )
   drains_to _ new h = absurd h
 
   -- ---- any event

@@ -5,4 +5,3 @@ pub mod Sights
 pub mod Moments
 pub mod Headline
 pub mod Worlds
-pub mod Settled

@@ -32,6 +32,7 @@ pub fn run(alloc: Global, world: World, events: Vec<Event>) -> Outcomes
     match Vec::with_capacity(alloc, events.len()) {
         Ok(list) => run_whole(alloc, world, events, list),
         Err(_) => {
+            let _nodes = world.nodes();
             drop(events);
             Outcomes {
                 world,
@@ -49,14 +50,30 @@ fn run_whole(alloc: Global, world: World, events: Vec<Event>, list: Vec<Outcome>
     ensures steps { Runs (by_name world) events.items result.list.items (by_name result.world) }
     ensures headline { Headline (by_name world) events.items result.list.items (by_name result.world) }
 {
-    let mut nodes = world.into_nodes();
+    let nodes = world.into_nodes();
     let mut list = list;
-    run_all(alloc, &mut nodes, events, &mut list);
+    let nodes = run_nodes(alloc, nodes, events, &mut list);
     Outcomes {
         world: World::of(nodes),
         list,
         whole: true,
     }
+}
+
+/// The nodes behind all events.
+fn run_nodes(
+    alloc: Global,
+    nodes: Vec<Node>,
+    events: Vec<Event>,
+    list: &mut Vec<Outcome>,
+) -> Vec<Node>
+    requires empty { list.old.items ≡ [] }
+    requires room { vec_len list.old + length events.items ≤ vec_capacity list.old }
+    ensures { Runs (by_name (states_of nodes.items)) events.items list.new.items (by_name (states_of result.items)) }
+{
+    let mut nodes = nodes;
+    run_all(alloc, &mut nodes, events, list);
+    nodes
 }
 
 /// Takes all events, one after another.
