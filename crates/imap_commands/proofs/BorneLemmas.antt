@@ -18,7 +18,7 @@ has_by Less x w v vs behind more h = h
 has_by Equal x w v vs behind more h = inr h
 has_by Greater x w v vs behind more h = elim h [ inl e ↦ inr (inl e) | inr t ↦ elim (more t) [ inl e ↦ inl e | inr u ↦ inr (inr u) ] ]
 
-text_has : (x w : List ℕ) (vs : List (List ℕ)) → IsIn x (with_text w vs) → (w ≡ x) ⊎ IsIn x vs
+pub text_has : (x w : List ℕ) (vs : List (List ℕ)) → IsIn x (with_text w vs) → (w ≡ x) ⊎ IsIn x vs
 text_has x w [] h = h
 text_has x w (v ∷ vs) h = has_by (compared w v) x w v vs (with_text w vs) (text_has x w vs) h
 
@@ -27,7 +27,7 @@ keeps_by Less x w v vs behind more h = inr h
 keeps_by Equal x w v vs behind more h = h
 keeps_by Greater x w v vs behind more h = elim h [ inl e ↦ inl e | inr t ↦ inr (more t) ]
 
-text_keeps : (x w : List ℕ) (vs : List (List ℕ)) → IsIn x vs → IsIn x (with_text w vs)
+pub text_keeps : (x w : List ℕ) (vs : List (List ℕ)) → IsIn x vs → IsIn x (with_text w vs)
 text_keeps x w [] h = absurd h
 text_keeps x w (v ∷ vs) h = keeps_by (compared w v) x w v vs (with_text w vs) (text_keeps x w vs) h
 
@@ -36,7 +36,7 @@ new_by Less w v vs behind e more = inl refl
 new_by Equal w v vs behind e more = inl (sym (exact_bytes w v e))
 new_by Greater w v vs behind e more = inr more
 
-text_new : (w : List ℕ) (vs : List (List ℕ)) → IsIn w (with_text w vs)
+pub text_new : (w : List ℕ) (vs : List (List ℕ)) → IsIn w (with_text w vs)
 text_new w [] = inl refl
 text_new w (v ∷ vs) = new_by (compared w v) w v vs (with_text w vs) refl (text_new w vs)
 

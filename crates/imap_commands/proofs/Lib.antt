@@ -4,6 +4,7 @@ pub mod KeywordSteps
 pub mod LawfulLemmas
 pub mod NameLemmas
 pub mod ChangingLemmas
+pub mod FlagSetLemmas
 pub mod IssuedLemmas
 pub mod NamedLemmas
 pub mod PlaceLemmas

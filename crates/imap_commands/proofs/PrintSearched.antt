@@ -1,5 +1,7 @@
-use Rattle.std.proofs.Common.{◌≡◌, sym, subst, refl, arith, ℕ, ◌+◌, ◌≤◌, ◌<◌, ◌⊎◌, inl, inr, Bool, true, false, not, ◌&&◌, ◌||◌, List, [], ◌∷◌, ◌++◌, length, map, nat_eq, Option, Some, None, if◌then◌else◌}
+use Rattle.std.proofs.Common.{◌≡◌, ◌∙◌, ap, sym, subst, refl, arith, ℕ, ◌+◌, ◌≤◌, ◌<◌, ◌⊎◌, inl, inr, Bool, true, false, not, ◌&&◌, ◌||◌, List, [], ◌∷◌, ◌++◌, length, map, nat_eq, Option, Some, None, if◌then◌else◌}
 use Rattle.std.proofs.lemmas.Bool.{cases_Bool, false≢true}
+use Rattle.imap_answers.specs.declared.answer.Answer.TheVariants.{Search}
+use Rattle.imap_answers.specs.declared.mailbox.SearchResults.{SearchResults}
 use Rattle.imap_answers.specs.Printable.{AreHits, AreResults, Each, IsModSeq, IsNonzero, IsSet, IsSmall, IsTag, IsWide, Where}
 use Rattle.imap_grammar.specs.declared.search.SearchOption.{SearchOption}
 use Rattle.imap_grammar.specs.declared.search.SearchOption.TheVariants as option
@@ -16,7 +18,7 @@ use Rattle.session_view.specs.Views.{AreRising}
 use Rattle.session_view.specs.declared.entry.Entry.{Entry}
 use Rattle.imap_commands.specs.Printing.{AreShowable, IsNumbered, IsPrintableTelling, IsShowable}
 use Rattle.imap_commands.specs.Searching.{SearchTells, shown_from}
-use Rattle.imap_commands.specs.Told.{Telling}
+use Rattle.imap_commands.specs.Told.{Telling, only_told}
 use Rattle.imap_commands.proofs.NamedLemmas.{least, least_first, least_lower, least_next, rising_lower}
 use Rattle.imap_commands.proofs.PrintAsked.{only_printable}
 use Rattle.imap_commands.proofs.PrintFetched.{each_flat, or_right}
@@ -222,4 +224,4 @@ search_printable rows view tag by_uid options steps told t k r v s =
     let both = all_both 1 1 view (omega arith) (omega arith) (omega (arith, l)) v.rising v.small in
     let rising = from_one by_uid (map number_at found) (hits_rising by_uid k.key (last_shown shown) rows 1 1 view v.rising) in
     let results = results_printable options (asks_modseq k.key) found rising (all_hits_told by_uid k.key (last_shown shown) rows shown r.each both) in
-    subst IsPrintableTelling (sym (s k.key k.steps_are)) (only_printable (_ ∷ []) ((t, results), tt))
+    subst IsPrintableTelling (sym (s.only ∙ ap (λ (found : SearchResults). only_told (Search tag by_uid found ∷ [])) (s.found k.key k.steps_are))) (only_printable (_ ∷ []) ((t, results), tt))

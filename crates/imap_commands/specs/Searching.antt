@@ -2,6 +2,7 @@ use Rattle.std.specs.Prelude.{◌≡◌, ℕ, ◌+◌, Bool, true, false, List, 
 use Rattle.std.specs.List.{list_all}
 use Rattle.crdt_ops.specs.declared.kind.Kind.{Kind}
 use Rattle.imap_answers.specs.declared.answer.Answer.TheVariants.{Search}
+use Rattle.imap_answers.specs.declared.mailbox.SearchResults.{SearchResults}
 use Rattle.imap_answers.specs.declared.words.Refusal.{Refusal}
 use Rattle.imap_answers.specs.declared.words.Refusal.TheVariants.{NoSuchMessage}
 use Rattle.imap_grammar.specs.declared.search.SearchOption.{SearchOption}
@@ -46,8 +47,8 @@ abbrev pub shown_from : ℕ → List Entry → List Shown
 shown_from n [] = []
 shown_from n (e ∷ es) = record { number = n; uid = e.uid } ∷ shown_from (n + 1) es
 
--- What SEARCH tells, by the key that its steps are (RFC 9051, section 6.4.4; RFC 7162, section 3.1.5).
-abbrev pub SearchTells : List Listed → List Entry → List ℕ → Bool → List SearchOption → List SearchStep → Telling → Type 0
-SearchTells rows view tag by_uid options steps told =
-    (key : Key) → steps ≡ steps_of key
-    → told ≡ only_told (Search tag by_uid (results_of options (asks_modseq key) (hits_in by_uid key rows (shown_from 1 view))) ∷ [])
+-- What SEARCH tells: one answer, with the results of the key that its steps are (RFC 9051, section 6.4.4; RFC 7162, section 3.1.5).
+pub record SearchTells (rows : List Listed) (view : List Entry) (tag : List ℕ) (by_uid : Bool) (options : List SearchOption) (steps : List SearchStep) (told : Telling) : Type 0 where
+  pub results : SearchResults
+  pub only : told ≡ only_told (Search tag by_uid results ∷ [])
+  pub found : (key : Key) → steps ≡ steps_of key → results ≡ results_of options (asks_modseq key) (hits_in by_uid key rows (shown_from 1 view))

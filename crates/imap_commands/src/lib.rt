@@ -13,6 +13,7 @@ mod enabling;
 mod entering;
 mod expunging;
 mod fetching;
+mod flag_sets;
 mod issued;
 mod laws;
 mod mailboxes;
@@ -37,6 +38,10 @@ pub use enabling::{
 pub use entering::login_wants;
 pub use expunging::{close_wants, expunge_wants, uid_expunge_tells, uid_expunge_wants};
 pub use fetching::{fetch_tells, fetch_wants};
+pub use flag_sets::{
+    added_flags_are_the_union, changed_flags_are_spelled, removed_flags_are_the_difference,
+    replaced_flags_are_those_given,
+};
 pub use issued::{
     copies_are_issuable, expunges_are_issuable, moves_are_issuable, seen_stores_are_issuable,
     stores_are_issuable,

@@ -1,5 +1,5 @@
-use Rattle.std.proofs.Common.{◌≡◌, ◌⊎◌, inl, inr, ◌↔◌, ℕ, Bool, true, false, List, [], ◌∷◌, Option, Some, None, arith, refl, sym, ap, ◌∙◌, subst}
-use Rattle.std.specs.Prelude.{Result, Ok, Err, not, ◌&&◌, nat_lt, length, ◌==◌, ◌<◌, zero, suc, slice_index, if◌then◌else◌}
+use Rattle.std.proofs.Common.{◌≡◌, inl, inr, ℕ, Bool, true, false, List, [], ◌∷◌, Option, Some, None, arith, refl, sym, ap, subst}
+use Rattle.std.specs.Prelude.{Result, Ok, Err, not, nat_lt, length, ◌==◌, ◌<◌, zero, suc, slice_index, if◌then◌else◌}
 use Rattle.std.specs.List.{filter_map, list_all, list_any}
 use Rattle.std.specs.Str.{bytes_eq}
 use Rattle.std.proofs.lemmas.Bool.{and_parts, false≢true}
@@ -182,18 +182,18 @@ covers_none ops = λ kind i. absurd i
 covers_one : (ops : List Op) (kind : Kind) → ((clock : List (ℕ × ℕ)) → IsClockOf (λ (o : Op). o.id) ops clock → CoversNamed clock kind) → Covers ops (kind ∷ [])
 covers_one ops kind h = λ k i. elim i [ inl e ↦ λ clock counts. subst (λ (x : Kind). CoversNamed clock x) e (h clock counts) | inr t ↦ absurd t ]
 
-ok_is : (wanted given : List Kind) → ◌≡◌ {A = Result (List Kind) Refusal} (Ok wanted) (Ok given) → wanted ≡ given
+pub ok_is : (wanted given : List Kind) → ◌≡◌ {A = Result (List Kind) Refusal} (Ok wanted) (Ok given) → wanted ≡ given
 ok_is wanted given e = cc
 
-not_ok : {X : Type 0} (why : Refusal) (given : List Kind) → ◌≡◌ {A = Result (List Kind) Refusal} (Err why) (Ok given) → X
+pub not_ok : {X : Type 0} (why : Refusal) (given : List Kind) → ◌≡◌ {A = Result (List Kind) Refusal} (Err why) (Ok given) → X
 not_ok why given e = absurd cc
 
 -- where a test lets it be
-where_true : (test : Bool) (want : Result (List Kind) Refusal) (why : Refusal) (given : List Kind) → (if test then want else Err why) ≡ Ok given → (test ≡ true) × (want ≡ Ok given)
+pub where_true : (test : Bool) (want : Result (List Kind) Refusal) (why : Refusal) (given : List Kind) → (if test then want else Err why) ≡ Ok given → (test ≡ true) × (want ≡ Ok given)
 where_true true want why given e = (refl, e)
 where_true false want why given e = not_ok why given e
 
-where_false : (test : Bool) (want : Result (List Kind) Refusal) (why : Refusal) (given : List Kind) → (if test then Err why else want) ≡ Ok given → (test ≡ false) × (want ≡ Ok given)
+pub where_false : (test : Bool) (want : Result (List Kind) Refusal) (why : Refusal) (given : List Kind) → (if test then Err why else want) ≡ Ok given → (test ≡ false) × (want ≡ Ok given)
 where_false true want why given e = not_ok why given e
 where_false false want why given e = (refl, e)
 
@@ -252,7 +252,7 @@ under_in uidvalidity None rows row i = absurd i
 under_in uidvalidity (Some now) rows row i = chosen (now == uidvalidity) rows row i
 
 module _ (start : Start) (ops : List Op) (a : IsApplied ops) where
-  view_row : (view : Seen) (row : Listed) → IsIn row (rows_for start ops view) → IsIn row (listing start view.name ops)
+  pub view_row : (view : Seen) (row : Listed) → IsIn row (rows_for start ops view) → IsIn row (listing start view.name ops)
   view_row view row i = under_in view.uidvalidity (uidvalidity_of start view.name ops) (listing start view.name ops) row i
 
   pub view_flags : (view : Seen) → HaveLawfulFlags (rows_for start ops view)
@@ -313,16 +313,16 @@ move_there folder name there rows view read_only by_uid set given e =
 
 -- ---- what each command wants
 
-known_wants : (state : State) (want : Result (List Kind) Refusal) (given : List Kind) → when_known state want ≡ Ok given → want ≡ Ok given
+pub known_wants : (state : State) (want : Result (List Kind) Refusal) (given : List Kind) → when_known state want ≡ Ok given → want ≡ Ok given
 known_wants state want given e = (where_true (is_known state) want refusals.NotNow given e).1
 
-selected_wants : (state : State) (want : Seen → Bool → Result (List Kind) Refusal) (given : List Kind) → when_selected state want ≡ Ok given → (view : Seen) × (read_only : Bool) × (want view read_only ≡ Ok given)
+pub selected_wants : (state : State) (want : Seen → Bool → Result (List Kind) Refusal) (given : List Kind) → when_selected state want ≡ Ok given → (view : Seen) × (read_only : Bool) × (want view read_only ≡ Ok given)
 selected_wants (NotAuthenticated credentials) want given e = not_ok refusals.NotNow given e
 selected_wants Authenticated want given e = not_ok refusals.NotNow given e
 selected_wants (Selected view read_only) want given e = (view, read_only, e)
 selected_wants LoggedOut want given e = not_ok refusals.NotNow given e
 
-new_wants : (state : State) (want : Credentials → Result (List Kind) Refusal) (given : List Kind) → when_new state want ≡ Ok given → (credentials : Credentials) × (want credentials ≡ Ok given)
+pub new_wants : (state : State) (want : Credentials → Result (List Kind) Refusal) (given : List Kind) → when_new state want ≡ Ok given → (credentials : Credentials) × (want credentials ≡ Ok given)
 new_wants (NotAuthenticated credentials) want given e = (credentials, e)
 new_wants Authenticated want given e = not_ok refusals.NotNow given e
 new_wants (Selected view read_only) want given e = not_ok refusals.NotNow given e

@@ -8,3 +8,12 @@ pub mod PrintLemmas
 pub mod PrintReplies
 pub mod LandingLemmas
 mod PrintExamples
+pub mod SessionLemmas
+pub mod IssueLemmas
+pub mod ReplayLemmas
+pub mod UidLemmas
+pub mod MomentLemmas
+pub mod QuietLemmas
+pub mod BackLemmas
+pub mod LastingLemmas
+pub mod OriginLemmas

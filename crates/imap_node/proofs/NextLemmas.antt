@@ -1,5 +1,5 @@
 use Rattle.std.proofs.Common.{◌≡◌, ◌⊎◌, inl, inr, ℕ, ◌+◌, ◌≤◌, List, [], ◌∷◌, ◌++◌, length, map, append_assoc, append-nil, arith, refl, sym, ap, ◌∙◌, subst}
-use Rattle.std.proofs.Common.{◌-◌, max, if◌then◌else◌}
+use Rattle.std.proofs.Common.{max, if◌then◌else◌}
 use Rattle.std.proofs.Math.Dec.{eqb}
 use Rattle.std.proofs.lemmas.Bool.{cases_lt}
 use Rattle.std.proofs.lemmas.Bool.Decides.{eqb_tells}
@@ -8,13 +8,13 @@ use Rattle.crdt_ops.specs.declared.kind.Kind.{Kind}
 use Rattle.crdt_ops.specs.declared.kind.Kind.TheVariants.{Append, Create, Delete, Expunge, Store, Subscribe, Unsubscribe}
 use Rattle.crdt_ops.specs.declared.op.Op.{Op}
 use Rattle.causal_inbox.specs.Seen.{AreIssued, IsClockOf}
-use Rattle.merge_laws.specs.Orders.{AreSound, HasId, IsCausal, IsIn, IsRipe}
+use Rattle.merge_laws.specs.Orders.{AreSound, IsCausal, IsIn, IsRipe}
 use Rattle.merge_laws.proofs.Causal.{causal_append}
 use Rattle.merge_laws.proofs.Lists.{id_in_front}
 use Rattle.causal_inbox.proofs.Clocks.{clock_step}
 use Rattle.tags_clocks.specs.Clock.{IsCause, IsRaised, count_of}
 use Rattle.tags_clocks.specs.declared.id.OpId.{OpId}
-use Rattle.imap_node.specs.Operations.{AreNext, CanIssue, CanIssueAll, CanIssueBy, IsFresh, IsNext}
+use Rattle.imap_node.specs.Operations.{AreNext, CanIssue, CanIssueAll, CanIssueBy, IsNext}
 use Rattle.uid_projection.specs.Applied.{IsApplied}
 
 -- an operation that comes next is ripe

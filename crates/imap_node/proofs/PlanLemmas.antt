@@ -1,4 +1,4 @@
-use Rattle.std.proofs.Common.{◌≡◌, ◌⊎◌, inl, inr, ℕ, Bool, true, false, List, [], ◌∷◌, ◌++◌, Option, Some, None, Vec, Global, refl, sym, ap, ◌∙◌, subst, append-nil, IfOk, IfErr}
+use Rattle.std.proofs.Common.{◌≡◌, ◌⊎◌, inl, inr, ℕ, Bool, true, false, List, [], ◌∷◌, ◌++◌, Option, Some, None, Vec, Global, refl, sym, ap, ◌∙◌, subst, IfOk, IfErr}
 use Rattle.std.specs.Prelude.{Result, Ok, Err, MatchResult, ◌&&◌, if◌then◌else◌}
 use Rattle.std.specs.Prelude.{length, ◌==◌}
 use Rattle.std.proofs.lemmas.Bool.{false≢true}

@@ -1,4 +1,4 @@
-use Rattle.std.specs.Prelude.{◌≡◌, ◌==◌, ℕ, Bool, true, false, not, ◌||◌, ◌&&◌, List, [], ◌∷◌, ◌++◌, Option, Some, None, is_some, Result, Ok, Err, if◌then◌else◌}
+use Rattle.std.specs.Prelude.{◌≡◌, ◌==◌, ℕ, Bool, true, false, not, ◌&&◌, List, [], ◌∷◌, Option, Some, None, is_some, Result, Ok, Err, if◌then◌else◌}
 use Rattle.crdt_ops.specs.declared.kind.Kind.{Kind}
 use Rattle.crdt_ops.specs.declared.op.Op.{Op}
 use Rattle.crdt_ops.specs.Sets.{delete_set_of, folders_of, subscribed_of, subscription_tags_of}
@@ -22,7 +22,6 @@ use Rattle.imap_commands.specs.Selecting.{select_tells, select_wants}
 use Rattle.imap_commands.specs.Storing.{store_tells, store_wants}
 use Rattle.imap_commands.specs.Told.{Telling, nothing_told}
 use Rattle.imap_commands.specs.declared.session.Credentials.{Credentials}
-use Rattle.imap_commands.specs.declared.session.Session.{Session}
 use Rattle.imap_commands.specs.declared.session.State.{State}
 use Rattle.imap_commands.specs.declared.session.State.TheVariants.{NotAuthenticated, Authenticated, Selected, LoggedOut}
 use Rattle.imap_grammar.specs.declared.command.Command.{Command}

@@ -9,3 +9,6 @@ pub mod Respond
 pub mod Printing
 pub mod Plans
 pub mod Deliveries
+pub mod Replays
+pub mod Issues
+pub mod GoingBack

@@ -45,6 +45,10 @@ replica_received replica = record { start = replica.start; applied = replica.app
 abbrev pub IsIdling : Session → Type 0
 IsIdling session = IsSome session.idling
 
+-- The session is open, and idles.
+abbrev pub Idles : NodeState → ℕ → Type 0
+Idles node n = (session : Session) × (session_at node.sessions n ≡ Some session) × IsIdling session
+
 -- The session's LOGOUT was answered OK.
 abbrev pub HasLoggedOut : NodeState → ℕ → Type 0
 HasLoggedOut node n = (session : Session) × (session_at node.sessions n ≡ Some session) × (session.state ≡ LoggedOut)

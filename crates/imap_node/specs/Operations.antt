@@ -1,4 +1,4 @@
-use Rattle.std.specs.Prelude.{◌≡◌, ◌⊎◌, ℕ, ◌+◌, ◌<◌, List, [], ◌∷◌, ◌++◌, length, map}
+use Rattle.std.specs.Prelude.{◌≡◌, ◌⊎◌, ℕ, ◌+◌, ◌<◌, List, ◌∷◌, ◌++◌, length, map}
 use Rattle.causal_inbox.specs.Seen.{IsClockOf}
 use Rattle.crdt_ops.specs.declared.kind.Kind.{Kind}
 use Rattle.crdt_ops.specs.declared.op.Op.{Op}

@@ -47,7 +47,7 @@ impl Model for Node {
 impl Node {
     ghost use Rattle.crdt_ops.specs.Sound.{IsSound};
     ghost use Rattle.imap_node.specs.Deliveries.{Delivers, Drains, HoldsRipe, IsOrderly, IsRefusedAt, StallsAt};
-    ghost use Rattle.imap_node.specs.Nodes.{closed};
+    ghost use Rattle.imap_node.specs.Nodes.{Idles, closed};
     ghost use Rattle.imap_node.specs.Plans.{CommitsTo, IsPlanned, Planned};
     ghost use Rattle.imap_node.specs.Respond.{Responds};
     ghost use Rattle.imap_node.specs.Sessions.{IsOpen, Opens, session_at};
@@ -81,6 +81,16 @@ impl Node {
         ensures { IsTrue result ↔ IsOpen self.now.state.sessions session }
     {
         self.session(session).is_some()
+    }
+
+    /// Whether the session is open and idles: a DONE is awaited, and nothing else (RFC 2177, section 3).
+    pub fn is_idling(&self, session: SessionNo) -> bool
+        ensures { IsTrue result ↔ Idles self.now.state session }
+    {
+        match self.session(session) {
+            Some(found) => found.idling.is_some(),
+            None => false,
+        }
     }
 
     /// Opens a session, with the least number that isn't open: `TooManySessions` exactly where all numbers from 1 to 1,024 are, unless memory

@@ -16,7 +16,7 @@ use crate::ending::ending;
 use crate::input::Input;
 use crate::issuing::readied;
 use crate::replica::Replica;
-use crate::reply::{Answers, Issued, Reply, Silents};
+use crate::reply::{Answers, Issued, Reply, Silents, copied_ops};
 use crate::sessions::SessionNo;
 use crate::wanting::wants_of;
 use crdt_ops::{Kind, SoundOp};
@@ -24,7 +24,6 @@ use imap_answers::Refusal;
 use imap_commands::Session;
 use imap_types::DateTime;
 use mail_text::civil;
-use merge_laws::Caused;
 use std::alloc::{AllocError, Global};
 
 /// What becomes of a session.
@@ -191,14 +190,4 @@ fn followed(
         silent: Silents::new(silent),
         session,
     })
-}
-
-fn copied_ops(alloc: Global, ops: &[SoundOp]) -> Result<Vec<SoundOp>, AllocError>
-    ensures { IfOk result (λ copies. copies.items ≡ ops.now) }
-{
-    let mut copies = Vec::with_capacity(alloc, ops.len())?;
-    for op in ops {
-        copies.push(op.copy(alloc)?)?;
-    }
-    Ok(copies)
 }

@@ -4,6 +4,7 @@ ghost use Rattle.std.specs.Prelude.{◌≡◌, IfOk};
 
 use crdt_ops::SoundOp;
 use imap_answers::{Answer, Refusal};
+use merge_laws::Caused;
 use session_view::Silent;
 use std::alloc::{AllocError, Global};
 use std::marker::Model;
@@ -37,6 +38,15 @@ impl Answers {
     {
         &self.answers
     }
+
+    /// Equal answers; `Err` where there is no memory for them.
+    pub fn copy(&self, alloc: Global) -> Result<Answers, AllocError>
+        ensures { IfOk result (λ copied. copied ≡ self.now) }
+    {
+        Ok(Answers {
+            answers: copied_answers(alloc, &self.answers)?,
+        })
+    }
 }
 
 /// Flags that a session set in silence, in their order (RFC 9051, section 6.4.6).
@@ -67,6 +77,15 @@ impl Silents {
         ensures { result.now ≡ self.now }
     {
         &self.silents
+    }
+
+    /// Equal ones; `Err` where there is no memory for them.
+    pub fn copy(&self, alloc: Global) -> Result<Silents, AllocError>
+        ensures { IfOk result (λ copied. copied ≡ self.now) }
+    {
+        Ok(Silents {
+            silents: copied_silents(alloc, &self.silents)?,
+        })
     }
 }
 
@@ -100,6 +119,15 @@ impl Issued {
         &self.ops
     }
 
+    /// Equal operations; `Err` where there is no memory for them.
+    pub fn copy(&self, alloc: Global) -> Result<Issued, AllocError>
+        ensures { IfOk result (λ copied. copied ≡ self.now) }
+    {
+        Ok(Issued {
+            ops: copied_ops(alloc, &self.ops)?,
+        })
+    }
+
     /// The operations, with their memory.
     pub fn into_vec(self) -> Vec<SoundOp>
         ensures { result.items ≡ self }
@@ -129,4 +157,61 @@ pub enum Reply {
         /// Whether `* OK [CLOSED] ok` goes in front of the tagged line, since a mailbox was left (RFC 9051, section 7.1, CLOSED).
         closed: bool,
     },
+}
+
+impl Reply {
+    /// An equal reply; `Err` where there is no memory for it.
+    pub fn copy(&self, alloc: Global) -> Result<Reply, AllocError>
+        ensures { IfOk result (λ copied. copied ≡ self.now) }
+    {
+        Ok(match self {
+            Reply::Done {
+                answers,
+                silent,
+                issued,
+            } => Reply::Done {
+                answers: answers.copy(alloc)?,
+                silent: silent.copy(alloc)?,
+                issued: issued.copy(alloc)?,
+            },
+            Reply::Refused { why, closed } => Reply::Refused {
+                why: *why,
+                closed: *closed,
+            },
+        })
+    }
+}
+
+fn copied_answers(alloc: Global, answers: &[Answer]) -> Result<Vec<Answer>, AllocError>
+    ensures { IfOk result (λ copies. copies.items ≡ answers.now) }
+{
+    let mut copies = Vec::with_capacity(alloc, answers.len())?;
+    for answer in answers {
+        copies.push(answer.copy(alloc)?)?;
+    }
+    Ok(copies)
+}
+
+fn copied_silents(alloc: Global, silents: &[Silent]) -> Result<Vec<Silent>, AllocError>
+    ensures { IfOk result (λ copies. copies.items ≡ silents.now) }
+{
+    let mut copies = Vec::with_capacity(alloc, silents.len())?;
+    for silent in silents {
+        copies.push(Silent {
+            number: silent.number,
+            flags: silent.flags.copy(alloc)?,
+        })?;
+    }
+    Ok(copies)
+}
+
+/// Equal operations, in their order.
+pub fn copied_ops(alloc: Global, ops: &[SoundOp]) -> Result<Vec<SoundOp>, AllocError>
+    ensures { IfOk result (λ copies. copies.items ≡ ops.now) }
+{
+    let mut copies = Vec::with_capacity(alloc, ops.len())?;
+    for op in ops {
+        copies.push(op.copy(alloc)?)?;
+    }
+    Ok(copies)
 }

@@ -1,4 +1,4 @@
-use Rattle.std.proofs.Common.{◌≡◌, ℕ, ◌+◌, ◌<◌, ◌≤◌, List, [], ◌∷◌, ◌++◌, length, arith, sym, ap, ◌∙◌, subst}
+use Rattle.std.proofs.Common.{◌≡◌, ℕ, ◌+◌, ◌<◌, ◌≤◌, List, ◌∷◌, length, arith, sym, ap, ◌∙◌, subst}
 use Rattle.crdt_ops.specs.declared.kind.Kind.{Kind as Action}
 use Rattle.crdt_ops.specs.declared.op.Op.{Op as Operation}
 use Rattle.std.proofs.lemmas.List.{nil_from_length}

@@ -1,0 +1,78 @@
+use Rattle.std.proofs.Common.{◌≡◌, inl, inr, ℕ, zero, suc, List, [], ◌∷◌, ◌++◌, append_assoc, append-nil, refl, sym, ap, subst}
+use Rattle.causal_inbox.specs.Delivery.{Arrives}
+use Rattle.causal_inbox.specs.Seen.{AreReleased, Seen}
+use Rattle.causal_inbox.specs.declared.answers.Arrival.{Arrival}
+use Rattle.causal_inbox.specs.declared.answers.Arrival.TheVariants.{Applied, Held, Repeat}
+use Rattle.crdt_ops.specs.declared.op.Op.{Op}
+use Rattle.imap_node.specs.Deliveries.{Delivers, Drains}
+use Rattle.imap_node.specs.Issues.{issued_by}
+use Rattle.imap_node.specs.Nodes.{NodeState, received}
+use Rattle.imap_node.specs.Respond.{Responds}
+use Rattle.imap_node.specs.declared.input.Input.{Input}
+use Rattle.imap_node.specs.declared.reply.Reply.{Reply}
+use Rattle.imap_node.proofs.IssueLemmas.{issues_well}
+use Rattle.imap_node.proofs.NextLemmas.{last_cut, no_cut}
+use Rattle.uid_projection.specs.declared.start.Start.{Start}
+use Rattle.uid_projection.specs.Applied.{IsApplied}
+use Rattle.uid_projection.specs.Bounds.{IsLasting}
+use Rattle.uid_projection.specs.Exhaustion.{Exhausts, IsExhausted}
+
+-- one operation more, for which no counter was at its end
+lasts_one : (start : Start) (ops : List Op) (o : Op) → (Exhausts start [] ops → ⊥) → (Exhausts start ops (o ∷ []) → ⊥) → Exhausts start [] (ops ++ o ∷ []) → ⊥
+lasts_one start ops o l n (front, p, back, e, x) =
+    elim (last_cut ops front back o p e) [
+      | inl t ↦
+          let here : IsExhausted start ops o = subst (λ (q : Op). IsExhausted start ops q) (sym t.1) (subst (λ (xs : List Op). IsExhausted start xs p) (sym t.0) x) in
+          n ([], o, [], refl, subst (λ (xs : List Op). IsExhausted start xs o) (sym (append-nil ops)) here)
+      | inr t ↦ l (front, p, t.0, t.1, x)
+    ]
+
+-- and several
+lasts_more : (start : Start) (more ops : List Op) → (Exhausts start [] ops → ⊥) → (Exhausts start ops more → ⊥) → Exhausts start [] (ops ++ more) → ⊥
+lasts_more start [] ops l n = subst (λ (xs : List Op). Exhausts start [] xs → ⊥) (sym (append-nil ops)) l
+lasts_more start (o ∷ more) ops l n =
+    let one = lasts_one start ops o l (λ (front, p, back, e, x). n (first_of front p back e x)) in
+    subst (λ (xs : List Op). Exhausts start [] xs → ⊥) (append_assoc ops (o ∷ []) more)
+    (lasts_more start more (ops ++ o ∷ []) one (λ (front, p, back, e, x).
+    n (o ∷ front, p, back, ap (λ (xs : List Op). o ∷ xs) e, subst (λ (xs : List Op). IsExhausted start xs p) (append_assoc ops (o ∷ []) front) x)))
+  where
+    first_of : (front : List Op) (p : Op) (back : List Op) → o ∷ [] ≡ front ++ p ∷ back → IsExhausted start (ops ++ front) p → Exhausts start ops (o ∷ more)
+    first_of [] p back e x = let k : o ≡ p = cc in ([], o, more, refl, subst (λ (q : Op). IsExhausted start (ops ++ []) q) (sym k) x)
+    first_of (y ∷ []) p back e x = absurd cc
+    first_of (y ∷ z ∷ front) p back e x = absurd cc
+
+released_lasts : (count : ℕ) (old new : Seen Start Op) → AreReleased (λ (o : Op). o.id) (λ o. o.clock) Exhausts count old new → (Exhausts old.start [] old.applied → ⊥) → Exhausts new.start [] new.applied → ⊥
+released_lasts zero old new h l = subst (λ (s : Seen Start Op). Exhausts s.start [] s.applied → ⊥) (sym h) l
+released_lasts (suc count) old new (before, r, s) l =
+    let early = released_lasts count old before r l in
+    subst (λ (x : Start). Exhausts x [] new.applied → ⊥) (sym s.start)
+    (subst (λ (xs : List Op). Exhausts before.start [] xs → ⊥) (sym s.applied) (lasts_one before.start before.applied s.op early s.in_reach))
+
+arrived_lasts : (old new : Seen Start Op) (op : Op) (came : Arrival) → Arrives (λ (o : Op). o.id) (λ o. o.clock) Exhausts old op came new → (Exhausts old.start [] old.applied → ⊥) → Exhausts new.start [] new.applied → ⊥
+arrived_lasts old new op Repeat h l = subst (λ (s : Seen Start Op). Exhausts s.start [] s.applied → ⊥) (sym h.1) l
+arrived_lasts old new op Held (is_new, holds, start, applied, held) l =
+    subst (λ (x : Start). Exhausts x [] new.applied → ⊥) (sym start) (subst (λ (xs : List Op). Exhausts old.start [] xs → ⊥) (sym applied) l)
+arrived_lasts old new op (Applied n) (is_new, applies, released) l =
+    released_lasts released.0 (record { start = old.start; applied = old.applied ++ op ∷ []; held = old.held }) new released.2 (lasts_one old.start old.applied op l applies.1)
+
+pub input_lasts : (old new : NodeState) (n : ℕ) (input : Input) (reply : Reply) → IsLasting old.start old.applied → Responds old n input reply new → IsLasting new.start new.applied
+input_lasts old new n input reply l r =
+    let issues = issues_well old new n input reply l.applied r in
+    record {
+      applied = issues.whole;
+      lasts =
+          subst (λ (x : Start). Exhausts x [] new.applied → ⊥) (sym issues.start)
+          (subst (λ (xs : List Op). Exhausts old.start [] xs → ⊥) (sym issues.applied) (lasts_more old.start (issued_by reply) old.applied l.lasts issues.lasts));
+    }
+
+pub delivery_lasts : (old new : NodeState) (op : Op) (came : Arrival) → IsApplied new.applied → IsLasting old.start old.applied → Delivers old op came new → IsLasting new.start new.applied
+delivery_lasts old new op came a l d = record { applied = a; lasts = arrived_lasts (received old) (received new) op came d.arrives l.lasts }
+
+pub drain_lasts : (old new : NodeState) (count : ℕ) → IsApplied new.applied → IsLasting old.start old.applied → Drains old count new → IsLasting new.start new.applied
+drain_lasts old new count a l d = record { applied = a; lasts = released_lasts count (received old) (received new) d.released l.lasts }
+
+pub begins_lasting : (start : Start) → IsLasting start []
+begins_lasting start = record {
+  applied = record { sound = λ o i. absurd i; causal = λ front o back e. absurd (no_cut front o back e) };
+  lasts = λ (front, o, back, k, x). absurd (no_cut front o back k);
+}

@@ -1,0 +1,159 @@
+use Rattle.std.specs.Option.{unwrap_or}
+use Rattle.std.specs.Str.{bytes_eq}
+use Rattle.std.proofs.Common.{◌≡◌, ◌≢◌, ◌⊎◌, inl, inr, ℕ, ◌+◌, ◌*◌, ◌<◌, ◌≤◌, Bool, true, List, [], ◌∷◌, ◌++◌, Option, Some, None, append_assoc, append-nil, refl, sym, ap, ◌∙◌, subst, arith, eq-eqb, if◌then◌else◌}
+use Rattle.std.proofs.lemmas.Bool.{cases_Bool}
+use Rattle.std.proofs.lemmas.Bool.Decides.{eqb_tells}
+use Rattle.crdt_ops.specs.declared.op.Op.{Op}
+use Rattle.imap_types.specs.Names.{inbox}
+use Rattle.mail_listing.specs.Listed.{Listed}
+use Rattle.merge_laws.specs.Orders.{IsIn}
+use Rattle.session_view.specs.Seen.{Seen, rows_under}
+use Rattle.session_view.specs.declared.entry.Entry.{Entry}
+use Rattle.uid_projection.specs.declared.start.Start.{Start}
+use Rattle.uid_projection.specs.Applied.{IsApplied}
+use Rattle.uid_projection.specs.Incarnations.{is_there, k_of, uidvalidity_of}
+use Rattle.uid_projection.specs.Lines.{uidnext_of}
+use Rattle.uid_projection.specs.Listing.{listing}
+use Rattle.uid_projection.proofs.Keeping.{for_good, uid_below}
+use Rattle.uid_projection.proofs.Lasting.{Stays, stays_there}
+use Rattle.uid_projection.proofs.Listed.{row_in}
+use Rattle.uid_projection.proofs.Noted.{validity_inbox, validity_there}
+use Rattle.uid_projection.proofs.Steps.{k_here}
+use Rattle.imap_node.specs.GoingBack.{GoesBack, uids_of}
+use Rattle.imap_node.specs.Mailboxes.{rows_for, validity_of}
+use Rattle.imap_node.proofs.UidLemmas.{IsKnown}
+
+-- ---- UIDVALIDITY while an incarnation goes on
+
+stays_now : (start : Start) (folder : List ℕ) (more ops : List Op) → Stays start folder ops more → is_there folder ops ≡ true
+stays_now start folder [] ops s = s
+stays_now start folder (o ∷ more) ops s = s.0
+
+validity_once : (start : Start) (folder : List ℕ) (ops : List Op) (o : Op) → is_there folder ops ≡ true → is_there folder (ops ++ o ∷ []) ≡ true → uidvalidity_of start folder ops ≡ uidvalidity_of start folder (ops ++ o ∷ [])
+validity_once start folder ops o t u =
+    elim (cases_Bool (bytes_eq folder inbox)) [
+      | inl own ↦ sym (validity_inbox start ops folder own) ∙ validity_inbox start (ops ++ o ∷ []) folder own
+      | inr other ↦ sym (validity_there start ops folder other t (k_of start folder ops) refl) ∙ validity_there start (ops ++ o ∷ []) folder other u (k_of start folder ops) (sym (k_here start folder ops o u))
+    ]
+
+validity_stays : (start : Start) (folder : List ℕ) (back more ops : List Op) → Stays start folder ops (back ++ more) → uidvalidity_of start folder ops ≡ uidvalidity_of start folder (ops ++ back)
+validity_stays start folder [] more ops s = ap (uidvalidity_of start folder) (sym (append-nil ops))
+validity_stays start folder (o ∷ back) more ops s =
+    validity_once start folder ops o s.0 (stays_now start folder (back ++ more) (ops ++ o ∷ []) s.1)
+    ∙ validity_stays start folder back more (ops ++ o ∷ []) s.1
+    ∙ ap (uidvalidity_of start folder) (append_assoc ops (o ∷ []) back)
+
+-- between two moments of one incarnation it is the same
+validity_between : (start : Start) (folder : List ℕ) (front back more : List Op) (v : ℕ) → IsApplied ((front ++ back) ++ more) → uidvalidity_of start folder front ≡ Some v → uidvalidity_of start folder ((front ++ back) ++ more) ≡ Some v
+    → uidvalidity_of start folder (front ++ back) ≡ Some v
+validity_between start folder front back more v a t e =
+    let whole : (front ++ back) ++ more ≡ front ++ (back ++ more) = append_assoc front back more in
+    let s = stays_there start folder front (back ++ more) v (subst IsApplied whole a) t (subst (λ (os : List Op). uidvalidity_of start folder os ≡ Some v) whole e) in
+    sym (validity_stays start folder back more front s) ∙ t
+
+-- a mailbox that is there has one
+pub validity_is : (start : Start) (name : List ℕ) (ops : List Op) → is_there name ops ≡ true → uidvalidity_of start name ops ≡ Some (validity_of start name ops)
+validity_is start name ops t =
+    elim (cases_Bool (bytes_eq name inbox)) [
+      | inl own ↦ some_own (uidvalidity_of start name ops) start.replica (sym (validity_inbox start ops name own))
+      | inr other ↦ some_own (uidvalidity_of start name ops) (65536 * k_of start name ops + start.replica) (sym (validity_there start ops name other t (k_of start name ops) refl))
+    ]
+  where
+    some_own : (o : Option ℕ) (v : ℕ) → o ≡ Some v → o ≡ Some (unwrap_or o 0)
+    some_own None v e = let k : ◌≡◌ {A = Option ℕ} None (Some v) = e in cc
+    some_own (Some u) v e = refl
+
+-- ---- a view that goes back, later
+
+pub goes_on : (start : Start) (ops more : List Op) (view : Seen) → IsApplied (ops ++ more) → GoesBack start ops view → GoesBack start (ops ++ more) view
+goes_on start ops more view a g =
+    let still : uidvalidity_of start view.name (ops ++ more) ≡ Some view.uidvalidity → uidvalidity_of start view.name ops ≡ Some view.uidvalidity = λ e.
+    subst (λ (os : List Op). uidvalidity_of start view.name os ≡ Some view.uidvalidity) (sym g.split)
+    (validity_between start view.name g.front g.back more view.uidvalidity (subst (λ (os : List Op). IsApplied (os ++ more)) g.split a) g.there
+    (subst (λ (os : List Op). uidvalidity_of start view.name (os ++ more) ≡ Some view.uidvalidity) g.split e)) in
+    record {
+      front = g.front;
+      back = g.back ++ more;
+      split = ap (λ (os : List Op). os ++ more) g.split ∙ append_assoc g.front g.back more;
+      there = g.there;
+      has = λ e. g.has (still e);
+      below = λ e. g.below (still e);
+    }
+
+-- the UIDs alone matter
+pub back_by_uids : (start : Start) (ops : List Op) (view : Seen) (es : List Entry) → uids_of es ≡ uids_of view.entries → GoesBack start ops view → GoesBack start ops (record view { entries = es })
+back_by_uids start ops view es u g = record {
+  front = g.front;
+  back = g.back;
+  split = g.split;
+  there = g.there;
+  has = λ e row i. subst (IsIn row.uid) (sym u) (g.has e row i);
+  below = λ e uid i. g.below e uid (subst (IsIn uid) u i);
+}
+
+-- ---- what the listing has that such a view lacks came after it
+
+listed_or_not : (uid : ℕ) (rows : List Listed) → ((a : Listed) × IsIn a rows × (a.uid ≡ uid)) ⊎ ((a : Listed) → IsIn a rows → a.uid ≢ uid)
+listed_or_not uid [] = inr (λ a i. absurd i)
+listed_or_not uid (row ∷ rows) =
+    elim (eqb_tells row.uid uid) [
+      | inl t ↦ inl (row, inl refl, t.1)
+      | inr f ↦ elim (listed_or_not uid rows) [
+        | inl w ↦ inl (w.0, inr w.1, w.2)
+        | inr none ↦ inr (λ a i. elim i [ inl e ↦ subst (λ (x : Listed). x.uid ≢ uid) e f.1 | inr t ↦ none a t ])
+      ]
+    ]
+
+known_since : (start : Start) (folder : List ℕ) (front back : List Op) (v : ℕ) (uids : List ℕ) → IsApplied (front ++ back) → uidvalidity_of start folder front ≡ Some v → uidvalidity_of start folder (front ++ back) ≡ Some v
+    → ((row : Listed) → IsIn row (listing start folder front) → IsIn row.uid uids) → ((uid : ℕ) → IsIn uid uids → uid < uidnext_of start folder front)
+    → (row : Listed) → IsIn row (listing start folder (front ++ back)) → IsKnown uids row.uid
+known_since start folder front back v uids a t e has below row i =
+    let good = for_good start folder front back v a t e in
+    elim (listed_or_not row.uid (listing start folder front)) [
+      | inl w ↦ inl (subst (λ (u : ℕ). IsIn u uids) w.2 (has w.0 w.1))
+      | inr none ↦ let from = (good.fresh row i none).0 in inr (λ uid j. let l = below uid j in omega (arith, l, from))
+    ]
+
+pub known : (start : Start) (ops : List Op) (view : Seen) → IsApplied ops → GoesBack start ops view → uidvalidity_of start view.name ops ≡ Some view.uidvalidity → (row : Listed) → IsIn row (listing start view.name ops) → IsKnown (uids_of view.entries) row.uid
+known start ops view a g e =
+    subst (λ (os : List Op). (row : Listed) → IsIn row (listing start view.name os) → IsKnown (uids_of view.entries) row.uid) (sym g.split)
+    (known_since start view.name g.front g.back view.uidvalidity (uids_of view.entries) (subst IsApplied g.split a) g.there (subst (λ (os : List Op). uidvalidity_of start view.name os ≡ Some view.uidvalidity) g.split e) (g.has e) (g.below e))
+
+-- UIDNEXT grows
+pub next_grown : (start : Start) (ops : List Op) (view : Seen) → IsApplied ops → (g : GoesBack start ops view) → uidvalidity_of start view.name ops ≡ Some view.uidvalidity → uidnext_of start view.name g.front ≤ uidnext_of start view.name ops
+next_grown start ops view a g e =
+    subst (λ (os : List Op). uidnext_of start view.name g.front ≤ uidnext_of start view.name os) (sym g.split)
+    (for_good start view.name g.front g.back view.uidvalidity (subst IsApplied g.split a) g.there (subst (λ (os : List Op). uidvalidity_of start view.name os ≡ Some view.uidvalidity) g.split e)).uidnext
+
+-- ---- a view that is brought up to now
+
+pub row_below : (start : Start) (folder : List ℕ) (ops : List Op) (row : Listed) → IsApplied ops → IsIn row (listing start folder ops) → row.uid < uidnext_of start folder ops
+row_below start folder ops row a i =
+    let w = row_in start folder ops row i in
+    let u : row.uid ≡ _ = ap (λ (r : Listed). r.uid) w.2.is in
+    let below = uid_below start folder ops a w.0 w.2.present in
+    omega (arith, u, below)
+
+pub is_or_not : (o : Option ℕ) (v : ℕ) → (o ≡ Some v) ⊎ ((o ≡ Some v) → ⊥)
+is_or_not None v = inr (λ e. let k : ◌≡◌ {A = Option ℕ} None (Some v) = e in cc)
+is_or_not (Some u) v =
+    elim (eqb_tells u v) [
+      | inl t ↦ inl (ap (λ (n : ℕ). Some n) t.1)
+      | inr f ↦ inr (λ e. f.1 (let same : u ≡ v = cc in same))
+    ]
+
+-- the rows of the view's own incarnation
+pub rows_are : (start : Start) (ops : List Op) (view : Seen) → uidvalidity_of start view.name ops ≡ Some view.uidvalidity → rows_for start ops view ≡ listing start view.name ops
+rows_are start ops view e =
+    ap (λ (now : Option ℕ). rows_under view.uidvalidity now (listing start view.name ops)) e
+    ∙ ap (λ (b : Bool). if b then listing start view.name ops else []) (eq-eqb view.uidvalidity view.uidvalidity refl)
+
+pub brought_back : (start : Start) (ops : List Op) (view : Seen) (es : List Entry) → GoesBack start ops view
+    → (uidvalidity_of start view.name ops ≡ Some view.uidvalidity → (row : Listed) → IsIn row (listing start view.name ops) → IsIn row.uid (uids_of es))
+    → (uidvalidity_of start view.name ops ≡ Some view.uidvalidity → (uid : ℕ) → IsIn uid (uids_of es) → uid < uidnext_of start view.name ops)
+    → GoesBack start ops (record view { entries = es })
+brought_back start ops view es g has below =
+    elim (is_or_not (uidvalidity_of start view.name ops) view.uidvalidity) [
+      | inl e ↦ record { front = ops; back = []; split = sym (append-nil ops); there = e; has = has; below = below }
+      | inr ended ↦ record { front = g.front; back = g.back; split = g.split; there = g.there; has = λ e. absurd (ended e); below = λ e. absurd (ended e) }
+    ]

@@ -1,0 +1,51 @@
+use Rattle.std.specs.Prelude.{◌≡◌, ℕ, ◌<◌, Bool, true, false, ◌||◌, List, ◌++◌, map, Option, Some, None}
+use Rattle.crdt_ops.specs.declared.op.Op.{Op}
+use Rattle.imap_grammar.specs.declared.command.Command.{Command}
+use Rattle.mail_listing.specs.Listed.{Listed}
+use Rattle.merge_laws.specs.Orders.{IsIn}
+use Rattle.session_view.specs.Seen.{Seen}
+use Rattle.session_view.specs.declared.entry.Entry.{Entry}
+use Rattle.session_view.specs.declared.entry.SyncKind.{SyncKind}
+use Rattle.session_view.specs.declared.entry.SyncKind.TheVariants.{Full, Partial}
+use Rattle.imap_node.specs.Commands.{is_selecting, sync_of}
+use Rattle.imap_node.specs.Replays.{view_at}
+use Rattle.imap_node.specs.Sessions.{Places}
+use Rattle.imap_node.specs.declared.input.Input.{Input}
+use Rattle.imap_node.specs.declared.input.Input.TheVariants as inputs
+use Rattle.uid_projection.specs.declared.start.Start.{Start}
+use Rattle.uid_projection.specs.Incarnations.{uidvalidity_of}
+use Rattle.uid_projection.specs.Lines.{uidnext_of}
+use Rattle.uid_projection.specs.Listing.{listing}
+
+-- The UIDs of a view's messages.
+abbrev pub uids_of : List Entry → List ℕ
+uids_of view = map (λ e. e.uid) view
+
+-- A view goes back to an earlier moment of its mailbox's incarnation: as long as that incarnation goes on, the view has each message that
+-- was listed at the moment, and no UID but those that were given before it (RFC 9051, section 2.3.1.1).
+pub record GoesBack (start : Start) (ops : List Op) (view : Seen) : Type 0 where
+  pub front : List Op
+  pub back : List Op
+  pub split : ops ≡ front ++ back
+  pub there : uidvalidity_of start view.name front ≡ Some view.uidvalidity
+  pub has : uidvalidity_of start view.name ops ≡ Some view.uidvalidity → (row : Listed) → IsIn row (listing start view.name front) → IsIn row.uid (uids_of view.entries)
+  pub below : uidvalidity_of start view.name ops ≡ Some view.uidvalidity → (uid : ℕ) → IsIn uid (uids_of view.entries) → uid < uidnext_of start view.name front
+
+-- The view of each session does.
+abbrev pub ViewsGoBack : Start → List Op → Places → Type 0
+ViewsGoBack start ops places = (n : ℕ) (view : Seen) → view_at places n ≡ Some view → GoesBack start ops view
+
+-- A full sync.
+abbrev pub is_full : Option SyncKind → Bool
+is_full None = false
+is_full (Some Full) = true
+is_full (Some Partial) = false
+
+-- The inputs whose replies leave nothing untold: those with a full sync, and SELECT and EXAMINE, which tell the whole mailbox.
+abbrev pub tells_all_of : Command → Bool
+tells_all_of command = is_full (sync_of command) || is_selecting command
+
+abbrev pub tells_all : Input → Bool
+tells_all (inputs.Command moment tagged) = tells_all_of tagged.command
+tells_all (inputs.Line line) = true
+tells_all inputs.Poll = true

@@ -1,0 +1,68 @@
+use Rattle.std.specs.Prelude.{◌≡◌, ℕ, Bool, false, List, [], Option, Some, None, if◌then◌else◌}
+use Rattle.crdt_ops.specs.declared.op.Op.{Op}
+use Rattle.imap_answers.specs.declared.answer.Answer.{Answer}
+use Rattle.imap_commands.specs.declared.session.Session.{Session}
+use Rattle.imap_commands.specs.declared.session.State.{State}
+use Rattle.imap_commands.specs.declared.session.State.TheVariants.{Selected}
+use Rattle.imap_grammar.specs.declared.command.Command.{Command}
+use Rattle.imap_grammar.specs.declared.command.Command.TheVariants as commands
+use Rattle.session_view.specs.Replay.{replayed}
+use Rattle.session_view.specs.Seen.{Seen}
+use Rattle.session_view.specs.Views.{AreRising}
+use Rattle.session_view.specs.declared.replaying.Silent.{Silent}
+use Rattle.imap_node.specs.Commands.{is_selecting}
+use Rattle.imap_node.specs.Mailboxes.{rows_for, validity_of}
+use Rattle.imap_node.specs.Sessions.{Places, session_at}
+use Rattle.imap_node.specs.declared.input.Input.{Input}
+use Rattle.imap_node.specs.declared.input.Input.TheVariants as inputs
+use Rattle.imap_node.specs.declared.reply.Reply.{Reply}
+use Rattle.imap_node.specs.declared.reply.Reply.TheVariants.{Done, Refused}
+use Rattle.uid_projection.specs.declared.start.Start.{Start}
+
+-- What a session sees in this state: nothing where no mailbox is selected.
+abbrev pub view_of : State → Option Seen
+view_of (Selected view read_only) = Some view
+view_of _ = None
+
+abbrev pub view_in : Option Session → Option Seen
+view_in None = None
+view_in (Some session) = view_of session.state
+
+-- What the session with this number sees: nothing where it isn't open, or has no mailbox selected.
+abbrev pub view_at : Places → ℕ → Option Seen
+view_at places n = view_in (session_at places n)
+
+-- The view on which the answers of a command that is carried out are replayed: of a mailbox that is selected anew one without messages;
+-- none behind CLOSE, UNSELECT and LOGOUT (RFC 9051, sections 6.1.3, 6.3.2, 6.4.1 and 6.4.2); else the view before.
+abbrev pub base_of : Start → List Op → Option Seen → Command → Option Seen
+base_of start ops view (commands.Select name condstore) = Some (record { name = name; uidvalidity = validity_of start name ops; entries = [] })
+base_of start ops view (commands.Examine name condstore) = Some (record { name = name; uidvalidity = validity_of start name ops; entries = [] })
+base_of start ops view commands.Logout = None
+base_of start ops view commands.Unselect = None
+base_of start ops view commands.Close = None
+base_of start ops view _ = view
+
+abbrev pub based : Start → List Op → Option Seen → Input → Option Seen
+based start ops view (inputs.Command moment tagged) = base_of start ops view tagged.command
+based start ops view (inputs.Line line) = view
+based start ops view inputs.Poll = view
+
+-- A view with flags set in silence and answers replayed, over what its mailbox has now.
+abbrev pub replayed_on : Start → List Op → Option Seen → List Silent → List Answer → Option Seen
+replayed_on start ops None silent answers = None
+replayed_on start ops (Some view) silent answers = Some (record view { entries = replayed (rows_for start ops view) view.entries silent answers })
+
+-- A SELECT or an EXAMINE, which leaves the selected mailbox also where it is refused (RFC 9051, section 6.3.2).
+abbrev pub selects : Input → Bool
+selects (inputs.Command moment tagged) = is_selecting tagged.command
+selects (inputs.Line line) = false
+selects inputs.Poll = false
+
+-- What a reply to an input makes of a view, by these operations: its silent flags and answers, replayed.
+abbrev pub view_behind : Start → List Op → Option Seen → Input → Reply → Option Seen
+view_behind start ops view input (Done answers silent issued) = replayed_on start ops (based start ops view input) silent answers
+view_behind start ops view input (Refused why closed) = if selects input then None else view
+
+-- The UIDs of each session's view ascend strictly (RFC 9051, section 2.3.1.1).
+abbrev pub ViewsAscend : Places → Type 0
+ViewsAscend places = (n : ℕ) (view : Seen) → view_at places n ≡ Some view → AreRising 1 view.entries
