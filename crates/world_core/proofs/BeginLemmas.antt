@@ -10,12 +10,15 @@ use Rattle.causal_inbox.specs.Received.{IsConsistent}
 use Rattle.causal_inbox.specs.Seen.{IsReceived}
 use Rattle.crdt_ops.specs.declared.op.Op.{Op}
 use Rattle.imap_node.specs.Nodes.{NodeState, received}
-use Rattle.imap_node.specs.Sessions.{session_at}
+use Rattle.imap_node.specs.GoingBack.{ViewsGoBack}
+use Rattle.imap_node.specs.Replays.{view_at}
+use Rattle.imap_node.proofs.BackLemmas.{begins_back}
+use Rattle.imap_node.proofs.ReplayLemmas.{nothing_seen}
 use Rattle.session_view.specs.Seen.{Seen}
 use Rattle.uid_projection.specs.declared.start.Start.{Start}
 use Rattle.world_core.specs.Moments.{IsFair, clock_of, id_of}
 use Rattle.world_core.specs.Replicas.{IsAt, Replicas, blank, by_name}
-use Rattle.world_core.specs.Sights.{seen_at, seen_by, sight}
+use Rattle.world_core.specs.Sights.{seen_at, sight}
 use Rattle.world_core.specs.Worlds.{AreApart, AreFromOne}
 use Rattle.world_core.proofs.NamedLemmas.{by_here, by_past, named_there, some_same}
 
@@ -41,13 +44,6 @@ blank_at (x ∷ xs) name node h = elim (eqb_tells name x.replica) [
   | inr f ↦ let w = blank_at xs name node (sym (by_past (blank x) (map blank xs) name f.1) ∙ h) in (w.0, inr w.1, w.2)
 ]
 
-none_either : (b : Bool) → seen_by (if b then None else None) ≡ None
-none_either true = refl
-none_either false = refl
-
-none_open : (n : ℕ) → seen_by (session_at [] n) ≡ None
-none_open n = none_either (n == 0)
-
 blank_consistent : (s : Start) → IsConsistent id_of clock_of (received (blank s))
 blank_consistent s = record {
   causal = λ front o back e. absurd (subst (IsIn o) (sym e) (in_middle o front back));
@@ -68,7 +64,7 @@ module _ (starts : List Start) (first : AreFromOne starts) where
   none_seen name n None e seen h = absurd cc
   none_seen name n (Some node) e seen h =
       let w = blank_at starts name node e in
-      let z : None ≡ Some seen = sym (none_open n) ∙ ap (λ (k : NodeState). seen_by (session_at k.sessions n)) w.2 ∙ h in absurd cc
+      let z : None ≡ Some seen = sym (nothing_seen n) ∙ ap (λ (k : NodeState). view_at k.sessions n) w.2 ∙ h in absurd cc
 
   -- a world whose nodes have received nothing is fair
   pub begins_fair : IsFair (by_name (map blank starts))
@@ -84,4 +80,7 @@ module _ (starts : List Start) (first : AreFromOne starts) where
     issued = λ name node at o t. absurd (none_received name node at o t);
     origins = λ o h. absurd (none_received o.id.replica h.issuer h.there o (inl h.applied));
     ascending = λ name n seen e. absurd (none_seen name n (by_name (map blank starts) name) refl seen e);
+    back = λ name node at.
+        let w = blank_at starts name node at in
+        subst (λ (n : NodeState). ViewsGoBack n.start n.applied n.sessions) w.2 (begins_back w.0);
   }

@@ -33,11 +33,19 @@ use Rattle.world_core.specs.declared.event.Outcome.TheVariants.{Opened, TurnedAw
 use Rattle.world_core.specs.Moments.{clock_of, id_of}
 use Rattle.world_core.specs.Places.{IsPlace}
 use Rattle.world_core.specs.Replicas.{IsAt, IsIssuedIn, MovesAt, Replicas, by_name, states_of, with_node}
-use Rattle.world_core.specs.Sights.{IsOf, seen_after, seen_by}
+use Rattle.imap_node.specs.GoingBack.{ViewsGoBack, tells_all}
+use Rattle.imap_node.specs.Mailboxes.{rows_for}
+use Rattle.imap_node.specs.Replays.{ViewsAscend, view_at, view_behind, view_in}
+use Rattle.imap_node.proofs.BackLemmas.{closes_back, delivered_back, drained_back, inputs_back, inputs_show, opens_back}
+use Rattle.imap_node.proofs.ReplayLemmas.{ascend_behind, closes_ascend, opens_ascend, others_as_before, replies_replay}
+use Rattle.imap_node.proofs.SessionLemmas.{others_stay, session_put}
+use Rattle.session_view.specs.Views.{entries_of}
+use Rattle.uid_projection.specs.declared.start.Start.{Start}
+use Rattle.world_core.specs.Sights.{IsOf}
 use Rattle.world_core.specs.Steps.{AnswersBy, Awaits, ClosesBy, DrainsBy, NodeSteps, OpensBy, Steps, TakesBy, TakesOne, at_of}
 use Rattle.world_core.proofs.NamedLemmas.{at_place, same_there, set_place}
 use Rattle.world_core.proofs.PlaceLemmas.{item_at}
-use Rattle.world_core.proofs.NodeLemmas.{Gathers, after_rises, answered, others_stay, responds_gathers, session_else, session_put}
+use Rattle.world_core.proofs.NodeLemmas.{Gathers, responds_gathers}
 
 -- ---- cases
 
@@ -49,7 +57,7 @@ some_is : {X : Type 0} (o : Option X) → IsSome o → (x : X) × (o ≡ Some x)
 some_is None h = let z : false ≡ true = h in absurd cc
 some_is (Some x) h = (x, refl)
 
-opened_unseen : (auth : Auth) → seen_by (Some (opened auth)) ≡ None
+opened_unseen : (auth : Auth) → view_in (Some (opened auth)) ≡ None
 opened_unseen Preauth = refl
 opened_unseen (Password credentials) = refl
 
@@ -164,8 +172,8 @@ nowhere nodes new event outcome none over is = inl (none, over, ap (λ (ns : Lis
 
 -- What an answer makes of what its session sees.
 abbrev pub IsAnsweredAt : NodeState → ℕ → Input → Outcome → NodeState → Type 0
-IsAnsweredAt old n input (Replied reply) new = seen_by (session_at new.sessions n) ≡ seen_after new.start new.applied (seen_by (session_at old.sessions n)) input reply
-IsAnsweredAt old n input _ new = seen_by (session_at new.sessions n) ≡ seen_by (session_at old.sessions n)
+IsAnsweredAt old n input (Replied reply) new = view_at new.sessions n ≡ view_behind new.start new.applied (view_at old.sessions n) input reply
+IsAnsweredAt old n input _ new = view_at new.sessions n ≡ view_at old.sessions n
 
 abbrev pub IsToldAt : NodeState → Event → Outcome → NodeState → Type 0
 IsToldAt old (events.Command at session moment tagged) outcome new = IsAnsweredAt old session (inputs.Command moment tagged) outcome new
@@ -173,15 +181,28 @@ IsToldAt old (events.IdleLine at session line) outcome new = IsAnsweredAt old se
 IsToldAt old (events.Poll at session) outcome new = IsAnsweredAt old session inputs.Poll outcome new
 IsToldAt old _ outcome new = Unit {0}
 
--- All that a session may see has ascending UIDs.
-abbrev pub Ascend : NodeState → Type 0
-Ascend node = (n : ℕ) (view : Seen) → seen_by (session_at node.sessions n) ≡ Some view → AreRising 1 view.entries
+-- Behind a full sync it sees the listing.
+abbrev pub IsShownBehind : ℕ → Input → Reply → NodeState → Type 0
+IsShownBehind n input (Done answers silent issued) new = tells_all input ≡ true → (view : Seen) → view_at new.sessions n ≡ Some view → view.entries ≡ entries_of (rows_for new.start new.applied view)
+IsShownBehind n input (Refused why closed) new = Unit {0}
+
+abbrev pub IsShownThere : ℕ → Input → Outcome → NodeState → Type 0
+IsShownThere n input (Replied reply) new = IsShownBehind n input reply new
+IsShownThere n input _ new = Unit {0}
+
+abbrev pub IsShownAt : Event → Outcome → NodeState → Type 0
+IsShownAt (events.Command at session moment tagged) outcome new = IsShownThere session (inputs.Command moment tagged) outcome new
+IsShownAt (events.IdleLine at session line) outcome new = IsShownThere session (inputs.Line line) outcome new
+IsShownAt (events.Poll at session) outcome new = IsShownThere session inputs.Poll outcome new
+IsShownAt _ outcome new = Unit {0}
 
 pub record StepsTo (issued : Op → Type 0) (old : NodeState) (event : Event) (outcome : Outcome) (new : NodeState) : Type 0 where
   pub gathers : Gathers issued old.start.replica old new
   pub told : IsToldAt old event outcome new
-  pub others : (n : ℕ) → ¬ IsOf event (at_of event) n → seen_by (session_at new.sessions n) ≡ seen_by (session_at old.sessions n)
-  pub ascends : 1 ≤ new.start.uid → IsApplied new.applied → Ascend old → Ascend new
+  pub others : (n : ℕ) → ¬ IsOf event (at_of event) n → view_at new.sessions n ≡ view_at old.sessions n
+  pub ascends : 1 ≤ old.start.uid → ViewsAscend old.sessions → ViewsAscend new.sessions
+  pub goes_back : 1 ≤ old.start.uid → IsApplied new.applied → ViewsAscend old.sessions → ViewsGoBack old.start old.applied old.sessions → ViewsGoBack new.start new.applied new.sessions
+  pub shown : 1 ≤ old.start.uid → ViewsAscend old.sessions → ViewsGoBack old.start old.applied old.sessions → IsShownAt event outcome new
 
 module _ (issued : Op → Type 0) (old : NodeState) (k : IsConsistent id_of clock_of (received old)) (a : IsApplied old.applied) where
   gathers_alike : (new : NodeState) → new.start ≡ old.start → new.applied ≡ old.applied → new.held ≡ old.held → Gathers issued old.start.replica old new
@@ -198,11 +219,25 @@ module _ (issued : Op → Type 0) (old : NodeState) (k : IsConsistent id_of cloc
   gathers_same new e = gathers_alike new (ap (λ (s : NodeState). s.start) e) (ap (λ (s : NodeState). s.applied) e) (ap (λ (s : NodeState). s.held) e)
 
   -- where what each session sees stays
-  ascends_still : (new : NodeState) → ((n : ℕ) → seen_by (session_at new.sessions n) ≡ seen_by (session_at old.sessions n)) → Ascend old → Ascend new
+  ascends_still : (new : NodeState) → ((n : ℕ) → view_at new.sessions n ≡ view_at old.sessions n) → ViewsAscend old.sessions → ViewsAscend new.sessions
   ascends_still new same h n view e = h n view (sym (same n) ∙ e)
 
-  still : (new : NodeState) → new ≡ old → (n : ℕ) → seen_by (session_at new.sessions n) ≡ seen_by (session_at old.sessions n)
-  still new e n = ap (λ (s : NodeState). seen_by (session_at s.sessions n)) e
+  still : (new : NodeState) → new ≡ old → (n : ℕ) → view_at new.sessions n ≡ view_at old.sessions n
+  still new e n = ap (λ (s : NodeState). view_at s.sessions n) e
+
+  -- A view that went back to an earlier moment does so still.
+  abbrev GoesOn : NodeState → Type 0
+  GoesOn new = IsApplied new.applied → ViewsGoBack old.start old.applied old.sessions → ViewsGoBack new.start new.applied new.sessions
+
+  back_same : (new : NodeState) → new ≡ old → GoesOn new
+  back_same new e applied back = subst (λ (s : NodeState). ViewsGoBack s.start s.applied s.sessions) (sym e) back
+
+  -- What an event makes of a node where no session's view changes.
+  abbrev Quiet : NodeState → Type 0
+  Quiet new = Gathers issued old.start.replica old new × (((n : ℕ) → view_at new.sessions n ≡ view_at old.sessions n) × GoesOn new)
+
+  quiet_same : (new : NodeState) → new ≡ old → Quiet new
+  quiet_same new e = (gathers_same new e, (still new e, back_same new e))
 
   -- ---- answers
 
@@ -212,72 +247,81 @@ module _ (issued : Op → Type 0) (old : NodeState) (k : IsConsistent id_of cloc
   answers_gather n idles input _ new h = absurd h
 
   answers_tell : (n : ℕ) (idles : Bool) (input : Input) (outcome : Outcome) (new : NodeState) → AnswersBy old n idles input outcome new → IsAnsweredAt old n input outcome new
-  answers_tell n idles input (Replied reply) new h = answered old new n input reply h.1
+  answers_tell n idles input (Replied reply) new h = replies_replay old new n input reply h.1
   answers_tell n idles input PassedOver new h = still new h.1 n
   answers_tell n idles input _ new h = absurd h
 
-  answers_else : (n : ℕ) (idles : Bool) (input : Input) (outcome : Outcome) (new : NodeState) → AnswersBy old n idles input outcome new → (m : ℕ) → m ≢ n → seen_by (session_at new.sessions m) ≡ seen_by (session_at old.sessions m)
-  answers_else n idles input (Replied reply) new h m ne = ap seen_by (others_stay old new n input reply h.1 m ne)
+  answers_else : (n : ℕ) (idles : Bool) (input : Input) (outcome : Outcome) (new : NodeState) → AnswersBy old n idles input outcome new → (m : ℕ) → m ≢ n → view_at new.sessions m ≡ view_at old.sessions m
+  answers_else n idles input (Replied reply) new h m ne = ap view_in (others_as_before old new n input reply h.1 m ne)
   answers_else n idles input PassedOver new h m ne = still new h.1 m
   answers_else n idles input _ new h m ne = absurd h
 
-  answers_ascend : (n : ℕ) (idles : Bool) (input : Input) (outcome : Outcome) (new : NodeState) → AnswersBy old n idles input outcome new → 1 ≤ new.start.uid → IsApplied new.applied → Ascend old → Ascend new
-  answers_ascend n idles input (Replied reply) new h first applied up = λ m view e. elim (eqb_tells m n) [
-    | inl t ↦ after_rises new.start new.applied first applied (seen_by (session_at old.sessions n)) input reply (up n) view
-        (sym (answered old new n input reply h.1) ∙ sym (ap (λ q. seen_by (session_at new.sessions q)) t.1) ∙ e)
-    | inr t ↦ up m view (sym (ap seen_by (others_stay old new n input reply h.1 m t.1)) ∙ e)
-  ]
-  answers_ascend n idles input PassedOver new h first applied up = ascends_still new (still new h.1) up
-  answers_ascend n idles input _ new h first applied up = absurd h
+  answers_ascend : (n : ℕ) (idles : Bool) (input : Input) (outcome : Outcome) (new : NodeState) → AnswersBy old n idles input outcome new → 1 ≤ old.start.uid → ViewsAscend old.sessions → ViewsAscend new.sessions
+  answers_ascend n idles input (Replied reply) new h first up = ascend_behind old new n input reply first a h.1 up
+  answers_ascend n idles input PassedOver new h first up = ascends_still new (still new h.1) up
+  answers_ascend n idles input _ new h first up = absurd h
+
+  answers_back : (n : ℕ) (idles : Bool) (input : Input) (outcome : Outcome) (new : NodeState) → AnswersBy old n idles input outcome new → 1 ≤ old.start.uid → ViewsAscend old.sessions → GoesOn new
+  answers_back n idles input (Replied reply) new h first up = λ applied back. inputs_back old new n input reply first a up back h.1
+  answers_back n idles input PassedOver new h first up = back_same new h.1
+  answers_back n idles input _ new h first up = absurd h
+
+  answers_show : (n : ℕ) (idles : Bool) (input : Input) (outcome : Outcome) (new : NodeState) → AnswersBy old n idles input outcome new → 1 ≤ old.start.uid → ViewsAscend old.sessions → ViewsGoBack old.start old.applied old.sessions → IsShownThere n input outcome new
+  answers_show n idles input (Replied reply) new h first up back = by reply h.1
+    where
+      by : (r : Reply) → Responds old n input r new → IsShownBehind n input r new
+      by (Done answers silent ops) r = λ tells view e. inputs_show old new n input answers silent ops view first a up back r tells e
+      by (Refused why closed) r = tt
+  answers_show n idles input PassedOver new h first up back = tt
+  answers_show n idles input _ new h first up back = absurd h
 
   -- ---- sessions that open and close
 
-  opens_still : (auth : Auth) (n : ℕ) (new : NodeState) → Opens old.sessions auth n new.sessions → (m : ℕ) → seen_by (session_at new.sessions m) ≡ seen_by (session_at old.sessions m)
+  opens_still : (auth : Auth) (n : ℕ) (new : NodeState) → Opens old.sessions auth n new.sessions → (m : ℕ) → view_at new.sessions m ≡ view_at old.sessions m
   opens_still auth n new h m = elim (eqb_tells m n) [
     | inl t ↦
-        ap (λ q. seen_by (session_at new.sessions q)) t.1 ∙ ap seen_by h.open_now ∙ opened_unseen auth
-        ∙ sym (ap (λ q. seen_by (session_at old.sessions q)) t.1 ∙ ap seen_by (none_is (session_at old.sessions n) h.vacant))
-    | inr t ↦ ap seen_by (h.others m t.1)
+        ap (λ q. view_at new.sessions q) t.1 ∙ ap view_in h.open_now ∙ opened_unseen auth
+        ∙ sym (ap (λ q. view_at old.sessions q) t.1 ∙ ap view_in (none_is (session_at old.sessions n) h.vacant))
+    | inr t ↦ ap view_in (h.others m t.1)
   ]
 
-  opens_to : (at : ℕ) (auth : Auth) (outcome : Outcome) (new : NodeState) → OpensBy old auth outcome new → Gathers issued old.start.replica old new × ((m : ℕ) → seen_by (session_at new.sessions m) ≡ seen_by (session_at old.sessions m))
-  opens_to at auth (Opened n) new h =
-      (gathers_alike new (ap (λ (s : NodeState). s.start) h.1) (ap (λ (s : NodeState). s.applied) h.1) (ap (λ (s : NodeState). s.held) h.1), opens_still auth n new h.0)
-  opens_to at auth (TurnedAway opening.TooManySessions) new h = (gathers_same new h.1, still new h.1)
-  opens_to at auth (TurnedAway opening.NoMemory) new h = (gathers_same new h, still new h)
-  opens_to at auth _ new h = absurd h
+  opens_to : (auth : Auth) (outcome : Outcome) (new : NodeState) → OpensBy old auth outcome new → Quiet new
+  opens_to auth (Opened n) new h = (
+    gathers_alike new (ap (λ (s : NodeState). s.start) h.1) (ap (λ (s : NodeState). s.applied) h.1) (ap (λ (s : NodeState). s.held) h.1),
+    (opens_still auth n new h.0, λ applied back. subst (λ (s : NodeState). ViewsGoBack s.start s.applied new.sessions) (sym h.1) (opens_back old.start old.applied old.sessions new.sessions auth n h.0 back)),
+  )
+  opens_to auth (TurnedAway opening.TooManySessions) new h = quiet_same new h.1
+  opens_to auth (TurnedAway opening.NoMemory) new h = quiet_same new h
+  opens_to auth _ new h = absurd h
 
   closes_gather : (n : ℕ) (outcome : Outcome) (new : NodeState) → ClosesBy old n outcome new → Gathers issued old.start.replica old new
   closes_gather n Closed new h = gathers_alike new (ap (λ (s : NodeState). s.start) h.1) (ap (λ (s : NodeState). s.applied) h.1) (ap (λ (s : NodeState). s.held) h.1)
   closes_gather n PassedOver new h = gathers_same new h.1
   closes_gather n _ new h = absurd h
 
-  closes_else : (n : ℕ) (outcome : Outcome) (new : NodeState) → ClosesBy old n outcome new → (m : ℕ) → m ≢ n → seen_by (session_at new.sessions m) ≡ seen_by (session_at old.sessions m)
+  closes_else : (n : ℕ) (outcome : Outcome) (new : NodeState) → ClosesBy old n outcome new → (m : ℕ) → m ≢ n → view_at new.sessions m ≡ view_at old.sessions m
   closes_else n Closed new h m ne =
       let s = some_is (session_at old.sessions n) h.0 in
-      ap (λ (t : NodeState). seen_by (session_at t.sessions m)) h.1 ∙ ap seen_by (session_else old.sessions n None s.0 s.1 m ne)
+      ap (λ (t : NodeState). view_at t.sessions m) h.1 ∙ ap view_in (others_stay old.sessions n None s.0 s.1 m ne)
   closes_else n PassedOver new h m ne = still new h.1 m
   closes_else n _ new h m ne = absurd h
 
-  closed_unseen : (n : ℕ) (outcome : Outcome) (new : NodeState) → ClosesBy old n outcome new → (view : Seen) → seen_by (session_at new.sessions n) ≡ Some view → seen_by (session_at old.sessions n) ≡ Some view
-  closed_unseen n Closed new h view e =
-      let s = some_is (session_at old.sessions n) h.0 in
-      let z : None ≡ Some view = sym (ap (λ (t : NodeState). seen_by (session_at t.sessions n)) h.1 ∙ ap seen_by (session_put old.sessions n None s.0 s.1)) ∙ e in absurd cc
-  closed_unseen n PassedOver new h view e = sym (still new h.1 n) ∙ e
-  closed_unseen n _ new h view e = absurd h
+  closed_ascends : (n : ℕ) (outcome : Outcome) (new : NodeState) → ClosesBy old n outcome new → ViewsAscend old.sessions → ViewsAscend new.sessions
+  closed_ascends n Closed new h up = subst (λ (s : NodeState). ViewsAscend s.sessions) (sym h.1) (closes_ascend old n h.0 up)
+  closed_ascends n PassedOver new h up = subst (λ (s : NodeState). ViewsAscend s.sessions) (sym h.1) up
+  closed_ascends n _ new h up = absurd h
 
-  closes_ascend : (n : ℕ) (outcome : Outcome) (new : NodeState) → ClosesBy old n outcome new → Ascend old → Ascend new
-  closes_ascend n outcome new h up m view e = elim (eqb_tells m n) [
-    | inl t ↦ up n view (closed_unseen n outcome new h view (sym (ap (λ q. seen_by (session_at new.sessions q)) t.1) ∙ e))
-    | inr t ↦ up m view (sym (closes_else n outcome new h m t.1) ∙ e)
-  ]
+  closed_back : (n : ℕ) (outcome : Outcome) (new : NodeState) → ClosesBy old n outcome new → GoesOn new
+  closed_back n Closed new h = λ applied back. subst (λ (s : NodeState). ViewsGoBack s.start s.applied s.sessions) (sym h.1) (closes_back old.start old.applied old n h.0 back)
+  closed_back n PassedOver new h = back_same new h.1
+  closed_back n _ new h = absurd h
 
   -- ---- deliveries
 
-  same_sessions : (new : NodeState) → new.sessions ≡ old.sessions → (n : ℕ) → seen_by (session_at new.sessions n) ≡ seen_by (session_at old.sessions n)
-  same_sessions new e n = ap (λ (places : Places). seen_by (session_at places n)) e
+  same_sessions : (new : NodeState) → new.sessions ≡ old.sessions → (n : ℕ) → view_at new.sessions n ≡ view_at old.sessions n
+  same_sessions new e n = ap (λ (places : Places). view_at places n) e
 
-  takes_one_to : (op : Op) (outcome : Outcome) (new : NodeState) → issued op → TakesOne old op outcome new → Gathers issued old.start.replica old new × ((n : ℕ) → seen_by (session_at new.sessions n) ≡ seen_by (session_at old.sessions n))
+  takes_one_to : (op : Op) (outcome : Outcome) (new : NodeState) → issued op → TakesOne old op outcome new → Quiet new
   takes_one_to op (Came delivered) new i h =
       let arrives = h.0.arrives in (
         record {
@@ -289,18 +333,18 @@ module _ (issued : Op → Type 0) (old : NodeState) (k : IsConsistent id_of cloc
             | inr e ↦ inr (inl (subst issued e i))
           ];
         },
-        same_sessions new h.0.sessions,
+        (same_sessions new h.0.sessions, λ applied back. delivered_back old new op delivered.arrival applied h.0 back),
       )
-  takes_one_to op (NotTaken fault) new i h = (gathers_same new h.1, still new h.1)
+  takes_one_to op (NotTaken fault) new i h = quiet_same new h.1
   takes_one_to op _ new i h = absurd h
 
-  takes_to : (id : OpId) (outcome : Outcome) (new : NodeState) → TakesBy issued old id outcome new → Gathers issued old.start.replica old new × ((n : ℕ) → seen_by (session_at new.sessions n) ≡ seen_by (session_at old.sessions n))
+  takes_to : (id : OpId) (outcome : Outcome) (new : NodeState) → TakesBy issued old id outcome new → Quiet new
   takes_to id outcome new h = elim (takes_parts issued old id outcome new h) [
-    | inl e ↦ (gathers_same new e, still new e)
-    | inr t ↦ elim t.3 [ inl e ↦ (gathers_same new e, still new e) | inr q ↦ takes_one_to t.0 outcome new t.1 q ]
+    | inl e ↦ quiet_same new e
+    | inr t ↦ elim t.3 [ inl e ↦ quiet_same new e | inr q ↦ takes_one_to t.0 outcome new t.1 q ]
   ]
 
-  drains_to : (outcome : Outcome) (new : NodeState) → DrainsBy old outcome new → Gathers issued old.start.replica old new × ((n : ℕ) → seen_by (session_at new.sessions n) ≡ seen_by (session_at old.sessions n))
+  drains_to : (outcome : Outcome) (new : NodeState) → DrainsBy old outcome new → Quiet new
   drains_to (Drained drained) new h =
       let released = h.0.released in (
         record {
@@ -309,37 +353,46 @@ module _ (issued : Op → Type 0) (old : NodeState) (k : IsConsistent id_of cloc
           consistent = releases_consistent id_of clock_of Exhausts drained.applied (received old) (received new) released k;
           came = λ o t. inl ((releases_stay id_of clock_of Exhausts drained.applied (received old) (received new) released o).0 t);
         },
-        same_sessions new h.0.sessions,
+        (same_sessions new h.0.sessions, λ applied back. drained_back old new drained.applied applied h.0 back),
       )
   drains_to _ new h = absurd h
 
   -- ---- any event
 
-  asked_to : (at n : ℕ) (idles : Bool) (input : Input) (outcome : Outcome) (new : NodeState) (event : Event) → AnswersBy old n idles input outcome new
-      → (IsAnsweredAt old n input outcome new → IsToldAt old event outcome new) → ((m : ℕ) → ¬ IsOf event (at_of event) m → m ≢ n) → StepsTo issued old event outcome new
-  asked_to at n idles input outcome new event h told apart = record {
+  asked_to : (n : ℕ) (idles : Bool) (input : Input) (outcome : Outcome) (new : NodeState) (event : Event) → AnswersBy old n idles input outcome new
+      → (IsAnsweredAt old n input outcome new → IsToldAt old event outcome new) → (IsShownThere n input outcome new → IsShownAt event outcome new) → ((m : ℕ) → ¬ IsOf event (at_of event) m → m ≢ n)
+      → StepsTo issued old event outcome new
+  asked_to n idles input outcome new event h told shown apart = record {
     gathers = answers_gather n idles input outcome new h;
     told = told (answers_tell n idles input outcome new h);
     others = λ m other. answers_else n idles input outcome new h m (apart m other);
-    ascends = λ first applied up. answers_ascend n idles input outcome new h first applied up;
+    ascends = λ first up. answers_ascend n idles input outcome new h first up;
+    goes_back = λ first applied up back. answers_back n idles input outcome new h first up applied back;
+    shown = λ first up back. shown (answers_show n idles input outcome new h first up back);
+  }
+
+  quiet_to : (event : Event) (outcome : Outcome) (new : NodeState) → Quiet new → IsToldAt old event outcome new → IsShownAt event outcome new → StepsTo issued old event outcome new
+  quiet_to event outcome new q told shown = record {
+    gathers = q.0;
+    told = told;
+    others = λ n apart. q.1.0 n;
+    ascends = λ first up. ascends_still new q.1.0 up;
+    goes_back = λ first applied up back. q.1.1 applied back;
+    shown = λ first up back. shown;
   }
 
   pub step_to : (event : Event) (outcome : Outcome) (new : NodeState) → NodeSteps issued old event outcome new → StepsTo issued old event outcome new
-  step_to (events.Open at auth) outcome new h =
-      let t = opens_to at auth outcome new h in
-      record { gathers = t.0; told = tt; others = λ n apart. t.1 n; ascends = λ first applied up. ascends_still new t.1 up }
-  step_to (events.Command at session moment tagged) outcome new h = asked_to at session false (inputs.Command moment tagged) outcome new (events.Command at session moment tagged) h (λ t. t) (λ m apart e. apart (refl, e))
-  step_to (events.IdleLine at session line) outcome new h = asked_to at session true (inputs.Line line) outcome new (events.IdleLine at session line) h (λ t. t) (λ m apart e. apart (refl, e))
-  step_to (events.Poll at session) outcome new h = asked_to at session true inputs.Poll outcome new (events.Poll at session) h (λ t. t) (λ m apart e. apart (refl, e))
-  step_to (events.Deliver at id) outcome new h =
-      let t = takes_to id outcome new h in
-      record { gathers = t.0; told = tt; others = λ n apart. t.1 n; ascends = λ first applied up. ascends_still new t.1 up }
-  step_to (events.Drain at) outcome new h =
-      let t = drains_to outcome new h in
-      record { gathers = t.0; told = tt; others = λ n apart. t.1 n; ascends = λ first applied up. ascends_still new t.1 up }
+  step_to (events.Open at auth) outcome new h = quiet_to (events.Open at auth) outcome new (opens_to auth outcome new h) tt tt
+  step_to (events.Command at session moment tagged) outcome new h = asked_to session false (inputs.Command moment tagged) outcome new (events.Command at session moment tagged) h (λ t. t) (λ t. t) (λ m apart e. apart (refl, e))
+  step_to (events.IdleLine at session line) outcome new h = asked_to session true (inputs.Line line) outcome new (events.IdleLine at session line) h (λ t. t) (λ t. t) (λ m apart e. apart (refl, e))
+  step_to (events.Poll at session) outcome new h = asked_to session true inputs.Poll outcome new (events.Poll at session) h (λ t. t) (λ t. t) (λ m apart e. apart (refl, e))
+  step_to (events.Deliver at id) outcome new h = quiet_to (events.Deliver at id) outcome new (takes_to id outcome new h) tt tt
+  step_to (events.Drain at) outcome new h = quiet_to (events.Drain at) outcome new (drains_to outcome new h) tt tt
   step_to (events.Close at session) outcome new h = record {
     gathers = closes_gather session outcome new h;
     told = tt;
     others = λ n apart. closes_else session outcome new h n (λ e. apart (refl, e));
-    ascends = λ first applied up. closes_ascend session outcome new h up;
+    ascends = λ first up. closed_ascends session outcome new h up;
+    goes_back = λ first applied up back. closed_back session outcome new h applied back;
+    shown = λ first up back. tt;
   }

@@ -31,7 +31,7 @@ BetweenAll Holds (moment ∷ moments) = ((later : Replicas) → IsIn later momen
 -- The promise for which all this stands. The events are run one after another, each as the rules for it say. At every moment, over
 -- everything issued an id determines the operation and each is sound; two replicas that applied the same operations hold the same folders,
 -- messages, flags and subscriptions, which are those that the set of operations defines; and the UIDs that a session sees ascend. Each
--- session's untagged answers, replayed, give what it sees. And between any two moments UIDs and mod-sequences are for good.
+-- session's untagged answers, replayed, give what it sees, and after a full sync it sees what its mailbox lists. And between any two moments UIDs and mod-sequences are for good.
 pub record Headline (old : Replicas) (events : List Event) (outcomes : List Outcome) (new : Replicas) : Type 0 where
   pub moments : List Replicas
   pub trace : IsTrace old events outcomes moments

@@ -9,6 +9,7 @@ use Rattle.crdt_ops.specs.Sound.{IsSound}
 use Rattle.crdt_ops.specs.declared.kind.Kind.{Kind}
 use Rattle.crdt_ops.specs.declared.kind.Kind.TheVariants.{Store}
 use Rattle.crdt_ops.specs.declared.op.Op.{Op}
+use Rattle.imap_node.specs.GoingBack.{ViewsGoBack}
 use Rattle.imap_node.specs.Nodes.{NodeState, received}
 use Rattle.uid_projection.specs.ForGood.{AreForGood, HasTrueOrigins}
 use Rattle.world_core.specs.Replicas.{IsAt, IsIssuedIn, Replicas}
@@ -38,8 +39,9 @@ pub record IsFair (replicas : Replicas) : Type 0 where
   pub issued : (name : ℕ) (node : NodeState) → IsAt replicas name node → (op : Op) → IsReceived (received node) op → IsIssuedIn replicas op
   -- each Store bears the origin of the message that it changes
   pub origins : (op : Op) → IsIssuedIn replicas op → BearsIssued (IsIssuedIn replicas) op.kind
-  -- the UIDs that a session sees ascend
+  -- the UIDs that a session sees ascend, and what it lacks came after what it has
   pub ascending : SightsAscend replicas
+  pub back : (name : ℕ) (node : NodeState) → IsAt replicas name node → ViewsGoBack node.start node.applied node.sessions
 
 -- Over everything that was issued an id determines the operation.
 abbrev pub IssuedAreDetermined : Replicas → Type 0
