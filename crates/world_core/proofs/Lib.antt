@@ -1,0 +1,12 @@
+pub mod NamedLemmas
+pub mod PlaceLemmas
+pub mod AgreeLemmas
+pub mod OriginLemmas
+pub mod NodeLemmas
+pub mod StepLemmas
+pub mod FairLemmas
+pub mod MoveLemmas
+pub mod LastLemmas
+pub mod HeadLemmas
+pub mod BeginLemmas
+pub mod RunLemmas

@@ -1,0 +1,21 @@
+//! Worlds of replicas: events at any of them, one after another, and what holds whatever comes.
+//!
+//! A world is nodes of different names. Sessions open and close, send commands, lines and polls, and any operation that some replica issued
+//! is delivered at any node, at any time after, any number of times. `run` takes a list of such events, and its contract is the promise
+//! for which the project exists.
+#![tactic(auto)]
+
+mod agreeing;
+mod event;
+mod laws;
+mod places;
+mod running;
+mod stepping;
+mod taking;
+mod world;
+
+pub use agreeing::{Agreement, agree};
+pub use event::{Event, Outcome};
+pub use laws::worlds_keep_their_promises;
+pub use running::{Outcomes, run};
+pub use world::{World, WorldFault};
