@@ -1,7 +1,7 @@
 //! The program's command line.
 
-ghost use Rattle.std.specs.Prelude.{◌≡◌, ◌++◌, ◌∷◌, [], IfOk, IfSome, OnOk, OnErr, IsTrue, ◌↔◌, ◌<◌, ◌≤◌, ◌≢◌};
-ghost use Rattle.imap_server.specs.Settings.{AreNames, IsNamed, names_of};
+ghost use Rattle.std.specs.Prelude.{◌≡◌, ◌++◌, ◌∷◌, ◌<◌, [], true, IfOk, IfSome, OnOk};
+ghost use Rattle.imap_server.specs.Settings.{AreNames, names_of};
 
 use clap::builder::ValueParser;
 use clap::error::ErrorKind;
@@ -152,9 +152,10 @@ pub fn access_of<'a>(
 fn places_of<'a>(alloc: Global, texts: &[&'a str]) -> Result<Vec<Place<'a>>, SettingsFault<'a>>
     ensures { IfOk result (λ places. AreNames (names_of places.items)) }
 {
+    let mut names = Vec::new(alloc);
     let mut places = Vec::new(alloc);
     for text in texts {
-        match add_place(&mut places, text) {
+        match add_place(&mut names, &mut places, text) {
             Ok(()) => {}
             Err(fault) => return Err(fault),
         }
@@ -162,17 +163,25 @@ fn places_of<'a>(alloc: Global, texts: &[&'a str]) -> Result<Vec<Place<'a>>, Set
     Ok(places)
 }
 
-/// Adds the replica that a word names.
-fn add_place<'a>(places: &mut Vec<Place<'a>>, text: &'a str) -> Result<(), SettingsFault<'a>>
-    requires { AreNames (names_of places.old.items) }
-    ensures { OnOk result (AreNames (names_of places.new.items)) }
+/// Adds the replica that a word names, and its name.
+fn add_place<'a>(
+    names: &mut Vec<u16>,
+    places: &mut Vec<Place<'a>>,
+    text: &'a str,
+) -> Result<(), SettingsFault<'a>>
+    requires names { AreNames names.old.items }
+    requires same { names_of places.old.items ≡ names.old.items }
+    ensures names { OnOk result (AreNames names.new.items) }
+    ensures same { OnOk result (names_of places.new.items ≡ names.new.items) }
 {
     let Some(place) = place_of(text) else {
         return Err(SettingsFault::BadReplica(text));
     };
     let replica = place.replica;
-    if is_named(places, replica) {
-        return Err(SettingsFault::Twice(replica));
+    match add_name(names, replica) {
+        Ok(true) => {}
+        Ok(false) => return Err(SettingsFault::Twice(replica)),
+        Err(_) => return Err(SettingsFault::NoMemory),
     }
     match places.push(place) {
         Ok(()) => Ok(()),
@@ -180,22 +189,21 @@ fn add_place<'a>(places: &mut Vec<Place<'a>>, text: &'a str) -> Result<(), Setti
     }
 }
 
-/// Whether a replica has this name.
-fn is_named(places: &[Place<'_>], replica: u16) -> bool
-    ensures { IsTrue result ↔ IsNamed replica (names_of places.now) }
+/// Adds a name, unless it is there; false where it is.
+#[tactic(auto, using(crate::proofs::NameLemmas::names_more))]
+fn add_name(names: &mut Vec<u16>, name: u16) -> Result<bool, AllocError>
+    requires positive { 0 < name }
+    requires names { AreNames names.old.items }
+    ensures names { IfOk result (λ is_new. is_new ≡ true → AreNames names.new.items) }
+    ensures items { IfOk result (λ is_new. is_new ≡ true → names.new.items ≡ names.old.items ++ name ∷ []) }
 {
-    for place in places {
-        if has_name(place, replica) {
-            return true;
-        }
+    if names.contains(&name) {
+        return Ok(false);
     }
-    false
-}
-
-fn has_name(place: &Place<'_>, replica: u16) -> bool
-    ensures { IsTrue result ↔ (place.now.replica ≡ replica) }
-{
-    place.replica == replica
+    match names.push(name) {
+        Ok(()) => Ok(true),
+        Err(_) => Err(AllocError),
+    }
 }
 
 /// The replica that a word names: a number from 1 to 65,535 without leading zeros, `=`, and an address of one octet at least.

@@ -1,5 +1,10 @@
+use Rattle.std.proofs.Common.{◌≡◌}
 use Rattle.imap_server.specs.Settings.{AreNames, names_of}
 use Rattle.imap_server.proofs.settings.places_of.Given as goal
 
 abbrev pub invariant-loop-text : goal.invariant-loop-text
-invariant-loop-text l = AreNames (names_of l.places.items)
+invariant-loop-text l =
+    record {
+      names : AreNames l.names.items;
+      same : names_of l.places.items ≡ l.names.items;
+    }
