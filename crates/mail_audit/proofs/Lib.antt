@@ -1,0 +1,9 @@
+mod Deciding
+mod Examples
+mod GoneLemmas
+mod Hearing
+mod Rooms
+mod RunLemmas
+mod RunningLemmas
+mod Stepping
+mod ToldLemmas
