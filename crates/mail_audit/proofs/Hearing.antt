@@ -30,7 +30,7 @@ module _ (one_command : (this that : Tagged) (frame : List ℕ) → IsSpelled th
       let t : x.0 ≡ y.0 = (one_answer x.0 y.0 [] [] x.1 y.1 (ap (λ (o : List ℕ). o ++ []) (sym x.2 ∙ y.2))).0 in
       (x.4 ∙ ap (running_after running) t ∙ sym y.4, x.5 ∙ ap event_of t ∙ sym y.5)
 
-  one_heard : (running : List Running) (speaker : Speaker) (octets : List ℕ) (a b : List Running) (e f : SlotEvent) → IsHeard running speaker octets a e → IsHeard running speaker octets b f → (a ≡ b) × (e ≡ f)
+  pub one_heard : (running : List Running) (speaker : Speaker) (octets : List ℕ) (a b : List Running) (e f : SlotEvent) → IsHeard running speaker octets a e → IsHeard running speaker octets b f → (a ≡ b) × (e ≡ f)
   one_heard running Client octets a b e f h k = one_asked running octets a b e f h k
   one_heard running Server octets a b e f h k = one_answered running octets a b e f h k
 

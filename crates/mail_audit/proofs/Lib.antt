@@ -1,7 +1,9 @@
 mod Deciding
+mod DumpLemmas
 mod Examples
 mod GoneLemmas
 mod Hearing
+mod HearingLemmas
 mod Rooms
 mod RunLemmas
 mod RunningLemmas

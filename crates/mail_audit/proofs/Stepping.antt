@@ -22,7 +22,7 @@ pub explained_front : (front back : List SlotEvent) → IsExplained (front ++ ba
 explained_front front back h = (h.0, h.1, fitting_front [] h.0 front back h.2)
 
 -- events pass where the first fits and the others pass then
-passes_one : (known : Known) (event : SlotEvent) (events : List SlotEvent) → PassesFrom known.there known.slots (event ∷ events) ↔ (Fits known event × PassesFrom (next known event).there (next known event).slots events)
+pub passes_one : (known : Known) (event : SlotEvent) (events : List SlotEvent) → PassesFrom known.there known.slots (event ∷ events) ↔ (Fits known event × PassesFrom (next known event).there (next known event).slots events)
 passes_one known Selects events = (λ p. (tt, p), λ p. p.1)
 passes_one known (Exists n) events = (λ p. ((p.0, p.1), p.2), λ p. (p.0.0, p.0.1, p.1))
 passes_one known (Expunge k) events = (λ p. p, λ p. p)

@@ -8,7 +8,7 @@ use Rattle.crdt_ops.specs.Form.{IsInForm, IsSpelled}
 use Rattle.crdt_ops.specs.Order.{id_order}
 use Rattle.crdt_ops.specs.Sound.{IsSound}
 use Rattle.crdt_ops.specs.declared.op.Op.{Op}
-use Rattle.merge_laws.specs.Orders.{AreSound, IsIn}
+use Rattle.merge_laws.specs.Orders.{AreSound, IsCausal, IsIn}
 use Rattle.mail_audit.specs.Audits.{IsNoEnd, text_of}
 use Rattle.mail_audit.specs.Dumps.{AreDumped, AreOrdered, HasCauses, inside_text, op_line, state_text}
 use Rattle.mail_audit.specs.declared.applying.Expected.{Expected}
@@ -54,6 +54,13 @@ abbrev pub IsExpected : List Op → Expected → Type 0
 IsExpected ops (Lines lines) = HasCauses ops × AreSound IsSound ops × (lines.items ≡ state_text ops ++ (codes "end" ++ 10 ∷ []))
 IsExpected ops (Stuck place) = place < length ops
 
+-- What is to follow these applied operations.
+abbrev pub IsExpectedOf : List Op → Expected → Type 0
+IsExpectedOf applied (Lines lines) =
+    AreSound IsSound applied × IsCausal (λ (o : Op). o.id) (λ o. o.clock) applied
+    × (lines.items ≡ state_text applied ++ (codes "end" ++ 10 ∷ []))
+IsExpectedOf applied (Stuck place) = ⊥
+
 -- The lines of a dump behind its first that came so far.
 abbrev pub OpsStand : List (List ℕ) → OpLines → Type 0
 OpsStand inside lines =
@@ -67,6 +74,18 @@ PhaseStands inside (Ops lines) = OpsStand inside lines
 PhaseStands inside (State comparison) =
     (ops : List Op) × AreDumped ops × (comparison.came ≤ length comparison.lines.items)
     × (text_of inside ++ drop comparison.came comparison.lines.items ≡ inside_text ops)
+
+-- What is to follow the op lines that came, or where they are wrong.
+abbrev pub IsClosed : List (List ℕ) → Expected → Type 0
+IsClosed inside (Lines lines) = (ops : List Op) × AreDumped ops × (text_of inside ++ lines.items ≡ inside_text ops)
+IsClosed inside (Stuck place) = place ≤ length inside
+
+-- What comes of a line that can't be read behind op lines.
+abbrev pub IsEarly : ℕ → OpLines → Step → Type 0
+IsEarly first lines GoesOn = ⊥
+IsEarly first lines Ends = ⊥
+IsEarly first lines (Wrong number) = (first < number) × (number ≤ first + 1 + length lines.ops.items)
+IsEarly first lines Unreadable = Unit {0}
 
 -- What comes of a line of a dump that has these inside, whose first line has this number.
 abbrev pub IsStep : ℕ → List (List ℕ) → List ℕ → Phase → Step → Type 0

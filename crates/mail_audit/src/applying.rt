@@ -6,7 +6,7 @@ ghost use Rattle.causal_inbox.specs.Seen.{IsReceived};
 ghost use Rattle.tags_clocks.specs.Clock.{IsCause};
 ghost use Rattle.crdt_ops.specs.Order.{IsAscending, id_order};
 ghost use Rattle.crdt_ops.specs.declared.op.Op.{Op as Operation};
-ghost use Rattle.mail_audit.specs.DumpLines.{HoldsOnly, IsExpected};
+ghost use Rattle.mail_audit.specs.DumpLines.{HoldsOnly, IsExpected, IsExpectedOf};
 
 use crate::state::state_lines;
 use causal_inbox::{DeliverFault, Inbox};
@@ -47,7 +47,10 @@ pub fn what_follows(alloc: Global, ops: &[SoundOp]) -> Result<Expected, AllocErr
 fn lines_of(
     alloc: Global,
     inbox: &Inbox<Pair<Folders, Subs>, Unfollowed>,
-) -> Result<Expected, AllocError> {
+) -> Result<Expected, AllocError>
+    ensures { IfOk result (IsExpectedOf inbox.now.seen.applied) }
+{
+    let _list = inbox.op_list();
     let value = inbox.value();
     let lines = state_lines(alloc, &value.first, &value.second)?;
     Ok(Expected::Lines(lines))

@@ -1,8 +1,11 @@
 //! A dump that is read line by line.
 
 ghost use Rattle.std.specs.Prelude.{◌≡◌, ◌+◌, ◌≤◌, ◌<◌, ◌^◌, ℕ, List, [], ◌∷◌, ◌++◌, IfOk, length};
-ghost use Rattle.mail_audit.specs.DumpLines.{IsCompared, IsStep, PhaseStands};
-ghost use Rattle.mail_audit.specs.declared.verdict.AuditEnd.TheVariants.{No as Refused};
+ghost use Rattle.mail_audit.specs.Audits.{Audits};
+ghost use Rattle.mail_audit.specs.DumpLines.{IsClosed, IsCompared, IsEarly, IsStep, OpsStand, PhaseStands};
+ghost use Rattle.mail_audit.specs.Dumps.{AreOrdered};
+ghost use Rattle.mail_audit.specs.Standing.{IsOpen};
+ghost use Rattle.mail_audit.specs.declared.sessions.Session.{Session};
 
 use crate::applying::{Expected, what_follows};
 use crate::forms::{DumpLine, dump_line, is_other};
@@ -79,32 +82,24 @@ impl OpenDump {
                     Ok(Step::GoesOn)
                 }
                 DumpLine::Unreadable => wrong_before(alloc, self.first, lines),
-                DumpLine::Other => self.close(alloc, line, number),
+                DumpLine::Other => match close(alloc, lines)? {
+                    Expected::Stuck(place) => Ok(Step::Wrong(self.first + 1 + place as u64)),
+                    Expected::Lines(lines) => {
+                        let mut comparison = Comparison { lines, came: 0 };
+                        let step = comparison.take(alloc, line, number)?;
+                        self.phase = Phase::State(comparison);
+                        Ok(step)
+                    }
+                },
             },
         }
     }
 
-    /// Takes the first line behind the op lines, which has this number.
-    fn close(&mut self, alloc: Global, line: &[u8], number: u64) -> Result<Step, AllocError> {
-        let Phase::Ops(lines) = &self.phase else {
-            return Ok(Step::Unreadable);
-        };
-        if let Some(place) = lines.first_wrong(alloc, false)? {
-            return Ok(Step::Wrong(self.first + 1 + place as u64));
-        }
-        match what_follows(alloc, &lines.ops)? {
-            Expected::Stuck(place) => Ok(Step::Wrong(self.first + 1 + place as u64)),
-            Expected::Lines(lines) => {
-                let mut comparison = Comparison { lines, came: 0 };
-                let step = comparison.take(alloc, line, number)?;
-                self.phase = Phase::State(comparison);
-                Ok(step)
-            }
-        }
-    }
-
     /// How an audit ends whose input ends here, with the line of this number.
-    pub fn end(self, alloc: Global, last: u64) -> Result<AuditEnd, AllocError> {
+    pub fn end(self, alloc: Global, last: u64) -> Result<AuditEnd, AllocError>
+        requires { (lines : List (List ℕ)) (sessions : List Session) × IsOpen lines sessions self × (last ≡ length lines) }
+        ensures { (lines : List (List ℕ)) (sessions : List Session) → IsOpen lines sessions self → last ≡ length lines → IfOk result (Audits lines) }
+    {
         match &self.phase {
             Phase::State(_) => Ok(AuditEnd::Unreadable(last)),
             Phase::Ops(lines) => match lines.first_wrong(alloc, true)? {
@@ -115,8 +110,22 @@ impl OpenDump {
     }
 }
 
+/// What is to follow op lines behind which others stand, or where they are wrong.
+fn close(alloc: Global, lines: &OpLines) -> Result<Expected, AllocError>
+    requires { AreOrdered lines.now.ops.items }
+    ensures { (inside : List (List ℕ)) → OpsStand inside lines.now → IfOk result (IsClosed inside) }
+{
+    match lines.first_wrong(alloc, false)? {
+        Some(place) => Ok(Expected::Stuck(place)),
+        None => what_follows(alloc, &lines.ops),
+    }
+}
+
 /// What comes of a line that can't be read where op lines may still come.
-fn wrong_before(alloc: Global, first: u64, lines: &OpLines) -> Result<Step, AllocError> {
+fn wrong_before(alloc: Global, first: u64, lines: &OpLines) -> Result<Step, AllocError>
+    requires { first + 1 + length lines.now.ops.items < 2 ^ 64 }
+    ensures { IfOk result (IsEarly first lines.now) }
+{
     match lines.first_wrong(alloc, true)? {
         Some(place) => Ok(Step::Wrong(first + 1 + place as u64)),
         None => Ok(Step::Unreadable),
