@@ -161,3 +161,11 @@ places_more from (g ∷ gone) came m a = append_assoc (upward from (g - from)) (
 pub gone_more : (from : ℕ) (gone : List ℕ) (came m : ℕ) → AreGone from gone came → AreGone from gone (came + m)
 gone_more from [] came m a = let l : from ≤ came = a in omega (arith, l)
 gone_more from (g ∷ gone) came m a = (a.0, gone_more (g + 1) gone came m a.1)
+
+-- ---- a search by halves
+
+pub front_so_far : (gone : List ℕ) (came skipped middle : ℕ) → AreGone 0 gone came → middle < length gone → get_or gone middle 0 ≤ skipped + middle → (i : ℕ) → i < middle + 1 → get_or gone i 0 ≤ skipped + i
+front_so_far gone came skipped middle a l h i k = let r = gone_apart 0 gone came i middle a (omega (arith, k)) l in omega (arith, r, h, k)
+
+pub behind_from : (gone : List ℕ) (came skipped middle : ℕ) → AreGone 0 gone came → middle < length gone → skipped + middle < get_or gone middle 0 → (i : ℕ) → middle ≤ i → i < length gone → skipped + i < get_or gone i 0
+behind_from gone came skipped middle a l h i k m = let r = gone_apart 0 gone came middle i a k m in omega (arith, r, h, k)

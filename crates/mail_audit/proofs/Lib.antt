@@ -7,5 +7,6 @@ mod HearingLemmas
 mod Rooms
 mod RunLemmas
 mod RunningLemmas
+mod SlotLemmas
 mod Stepping
 mod ToldLemmas

@@ -220,3 +220,27 @@ found_none place zero (x ∷ tolds) b p n =
     let ne : x.place ≡ place → ⊥ = n x refl in
     omega (arith, l, ne)
 found_none place (suc at) (x ∷ tolds) b p n = (below_of x.place place (p.0 0 x (omega arith) (omega arith)), found_none place at tolds (omega (arith, b)) (parts_rest place at x tolds p) n)
+
+-- ---- what stands at a place
+
+pub none_there : (tolds : List Told) (at : ℕ) (t : Told) → length tolds ≤ at → Some t ≡ slice_get tolds at → ⊥
+none_there [] at t l e = let n : Some t ≡ None = e in cc
+none_there (x ∷ tolds) zero t l e = omega (arith, l)
+none_there (x ∷ tolds) (suc at) t l e = none_there tolds at t (omega (arith, l)) e
+
+pub one_there : (tolds : List Told) (at : ℕ) (t : Told) → at < length tolds → t ≡ get_or tolds at t → Some t ≡ slice_get tolds at
+one_there [] at t l e = absurd (omega (arith, l))
+one_there (x ∷ tolds) zero t l e = ap Some e
+one_there (x ∷ tolds) (suc at) t l e = one_there tolds at t (omega (arith, l)) e
+
+same_there : (t u : Told) → Some t ≡ Some u → t ≡ u
+same_there t u e = cc
+
+pub untold_end : (place at : ℕ) (tolds : List Told) → at ≤ length tolds → Parts place tolds at → length tolds ≤ at → IsUntold at place tolds
+untold_end place at tolds b p l = found_none place at tolds b p (λ t e k. none_there tolds at t l e)
+
+pub untold_there : (place at : ℕ) (tolds : List Told) (u : Told) → at ≤ length tolds → Parts place tolds at → at < length tolds → u ≡ get_or tolds at u → (u.place ≡ place → ⊥) → IsUntold at place tolds
+untold_there place at tolds u b p l g n = found_none place at tolds b p (λ t e k. n (ap (λ (x : Told). x.place) (sym (same_there t u (e ∙ sym (one_there tolds at u l g)))) ∙ k))
+
+pub told_there : (place at : ℕ) (tolds : List Told) (u : Told) → Parts place tolds at → at < length tolds → u ≡ get_or tolds at u → u.place ≡ place → IsTold at place u.uid tolds
+told_there place at tolds u p l g k = found_told place at u tolds p (one_there tolds at u l g) k

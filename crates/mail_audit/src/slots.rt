@@ -131,6 +131,7 @@ impl Slots {
     fn place_of(&self, number: u32) -> u32
         requires { IsNumberOf number self.now.there }
         ensures place { result ≡ place_at self.now number }
+        ensures came { result < length self.now.slots }
     {
         let before = gone_before(&self.gone, number - 1);
         number - 1 + before as u32
@@ -145,19 +146,20 @@ impl Slots {
             return Ok(false);
         }
         let place = self.place_of(number);
-        self.tell_at(Told { place, uid })
+        self.tell_at(place, uid)
     }
 
     /// Takes note of the UID at a place, where its UID may be this.
-    fn tell_at(&mut self, told: Told) -> Result<bool, AllocError>
-        requires { told.place < length self.old.slots }
-        ensures fits { IfOk result (λ noted. IsTrue noted ↔ (MayBe (get_or self.old.slots told.place Unknown) told.uid × HasRoomAbove 0 (set self.old.slots told.place (Found told.uid)))) }
-        ensures next { IfOk result (λ noted. IsTrue noted → self.new ≡ record self.old { slots = set self.old.slots told.place (Found told.uid) }) }
+    fn tell_at(&mut self, place: u32, uid: u32) -> Result<bool, AllocError>
+        requires { place < length self.old.slots }
+        ensures fits { IfOk result (λ noted. IsTrue noted ↔ (MayBe (get_or self.old.slots place Unknown) uid × HasRoomAbove 0 (set self.old.slots place (Found uid)))) }
+        ensures next { IfOk result (λ noted. IsTrue noted → self.new ≡ record self.old { slots = set self.old.slots place (Found uid) }) }
     {
-        let at = find(&self.tolds, told.place);
-        if let Some(uid) = uid_at(&self.tolds, at, told.place) {
-            return Ok(uid == told.uid);
+        let at = find(&self.tolds, place);
+        if let Some(known) = uid_at(&self.tolds, at, place) {
+            return Ok(known == uid);
         }
+        let told = Told { place, uid };
         if !fits_between(&self.tolds, at, told, self.came) {
             return Ok(false);
         }
