@@ -26,13 +26,31 @@ counted_most p (r ∷ rs) =
     ]
 
 pub counted_more : (p : Running → Bool) (rs : List Running) (r : Running) → how_many p (rs ++ r ∷ []) ≡ how_many p rs + (if p r then 1 else 0)
-counted_more p [] r = omega arith
-counted_more p (x ∷ rs) r = let m = counted_more p rs r in omega (arith, m)
+counted_more p [] r =
+    elim (cases_Bool (p r)) [
+      | inl t ↦ rw t refl
+      | inr f ↦ rw f refl
+    ]
+counted_more p (x ∷ rs) r =
+    let m = counted_more p rs r in
+    elim (cases_Bool (p x)) [
+      | inl t ↦ rw t (omega (arith, m))
+      | inr f ↦ rw f m
+    ]
 
 pub counted_less : (p : Running → Bool) (rs : List Running) (i : ℕ) (d : Running) → i < length rs → how_many p (remove rs i) + (if p (get_or rs i d) then 1 else 0) ≡ how_many p rs
 counted_less p [] i d l = absurd (omega (arith, l))
-counted_less p (r ∷ rs) zero d l = omega arith
-counted_less p (r ∷ rs) (suc i) d l = let m = counted_less p rs i d (omega (arith, l)) in omega (arith, m)
+counted_less p (r ∷ rs) zero d l =
+    elim (cases_Bool (p r)) [
+      | inl t ↦ rw t (omega arith)
+      | inr f ↦ rw f (omega arith)
+    ]
+counted_less p (r ∷ rs) (suc i) d l =
+    let m = counted_less p rs i d (omega (arith, l)) in
+    elim (cases_Bool (p r)) [
+      | inl t ↦ rw t (omega (arith, m))
+      | inr f ↦ rw f m
+    ]
 
 -- where the first so many haven't the tag, the first that ends stands behind them
 pub ended_behind : (tag : List ℕ) (rs : List Running) (i : ℕ) (d : Running) → i < length rs → ((k : ℕ) → k < i → bytes_eq tag (get_or rs k d).tag ≡ false) → bytes_eq tag (get_or rs i d).tag ≡ true → ended tag rs ≡ remove rs i

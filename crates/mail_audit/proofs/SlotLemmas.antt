@@ -21,6 +21,9 @@ known_by gone tolds came = record { there = places_from 0 gone came; slots = slo
 pub iff_at : (b d : Bool) {P Q : Type 0} → b ≡ d → (IsTrue b ↔ P) → (P ↔ Q) → IsTrue d ↔ Q
 iff_at b d {P} {Q} e h k = subst (λ (x : Bool). IsTrue x ↔ Q) e (λ t. k.0 (h.0 t), λ q. h.1 (k.1 q))
 
+pub refuted : (b : Bool) {P : Type 0} → b ≡ false → (P → IsTrue b) → P → ⊥
+refuted b e h p = let f : IsTrue false = subst (λ (x : Bool). IsTrue x) e (h p) in search rules
+
 pub iff_both : {P Q R : Type 0} → (P ↔ Q) → (Q ↔ R) → P ↔ R
 iff_both h k = (λ p. k.0 (h.0 p), λ r. h.1 (k.1 r))
 

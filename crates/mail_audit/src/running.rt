@@ -1,6 +1,6 @@
 //! The commands of a session that are in progress.
 
-ghost use Rattle.std.specs.Prelude.{◌≡◌, ◌+◌, ◌<◌, ◌^◌, List, [], ◌∷◌, ◌++◌, OnOk, OnErr, MatchOption, length};
+ghost use Rattle.std.specs.Prelude.{◌≡◌, ◌+◌, ◌<◌, ◌^◌, List, [], ◌∷◌, ◌++◌, OnOk, MatchOption, length};
 ghost use Rattle.std.specs.List.{list_any, remove};
 ghost use Rattle.mail_audit.specs.Transcripts.{ended};
 
@@ -65,16 +65,13 @@ impl InProgress {
         0 < self.idling
     }
 
-    /// A command begins; `Err` where there is no memory for it, and then nothing changes.
+    /// A command begins; `Err` where there is no memory for it, and then the audit ends.
     pub fn begin(&mut self, command: Running) -> Result<(), AllocError>
-        ensures ok { OnOk result (self.new ≡ self.old ++ command ∷ []) }
-        ensures err { OnErr result (self.new ≡ self.old) }
+        ensures { OnOk result (self.new ≡ self.old ++ command ∷ []) }
     {
         let may_expunge = command.may_expunge;
         let idles = command.idles;
-        if self.commands.push(command).is_err() {
-            return Err(AllocError);
-        }
+        self.commands.push(command)?;
         self.expunging += usize::from(may_expunge);
         self.idling += usize::from(idles);
         Ok(())
