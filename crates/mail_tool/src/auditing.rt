@@ -4,10 +4,9 @@ ghost use Rattle.std.specs.Prelude.{◌≡◌};
 ghost use Rattle.mail_tool.specs.Endings.{audit_status_of};
 
 use mail_audit::{AuditEnd, audit};
-use std::fs;
-use std::io;
 use std::io::{BufWriter, Read, Write};
 use std::rt::Files;
+use std::{fs, io};
 
 /// The status with which the program ends: 0 where all is right, 1 where something isn't, else 3.
 pub fn status(end: AuditEnd) -> u8
