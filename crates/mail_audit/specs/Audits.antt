@@ -2,6 +2,7 @@ use Rattle.std.specs.Prelude.{◌≡◌, ◌⊎◌, ℕ, ◌+◌, ◌<◌, ◌�
 use Rattle.std.specs.List.{flat_map}
 use Rattle.std.specs.Str.{bytes_eq}
 use Rattle.std.specs.Fmt.{decimal}
+use Rattle.crdt_ops.specs.Form.{Each}
 use Rattle.imap_types.specs.Escape.{AreOctets, escaped}
 use Rattle.imap_types.specs.declared.escape.Escape.TheVariants.{Text}
 use Rattle.mail_script.specs.Fields.{is_session_name}
@@ -12,11 +13,6 @@ use Rattle.mail_audit.specs.Results.{IsResult}
 use Rattle.mail_audit.specs.Transcripts.{IsExplainedTranscript, Said}
 use Rattle.mail_audit.specs.declared.verdict.AuditEnd.{AuditEnd}
 use Rattle.mail_audit.specs.declared.verdict.AuditEnd.TheVariants.{Yes, No, Unreadable, ReadFailed, WriteFailed, NoMemory}
-
--- Each element has a property.
-abbrev pub Each : {X : Type 0} → (X → Type 0) → List X → Type 0
-Each P [] = Unit {0}
-Each P (x ∷ xs) = P x × Each P xs
 
 -- A line with its end, LF (10).
 abbrev pub ended_line : List ℕ → List ℕ

@@ -31,33 +31,26 @@ impl OpLines {
     /// Takes the operation of the next line. `Err` where there is no memory for it.
     pub fn push(&mut self, op: Op) -> Result<(), AllocError> {
         let id = op.id;
-        if self.is_bad {
-            self.others.push(id)?;
-            return Ok(());
+        if self.is_bad || !is_above(&self.ops, &id) {
+            drop(op);
+            return self.set_aside(&id);
         }
         match check(op) {
-            Err((op, _)) => {
-                drop(op);
-                self.is_bad = true;
-                self.others.push(id)?;
+            Ok(op) => {
+                self.ops.push(op)?;
                 Ok(())
             }
-            Ok(op) => self.push_sound(op),
+            Err((op, _)) => {
+                drop(op);
+                self.set_aside(&id)
+            }
         }
     }
 
-    /// Takes the sound operation of the next line, behind which no bad one stands.
-    fn push_sound(&mut self, op: SoundOp) -> Result<(), AllocError> {
-        let id = op.id();
-        if is_above(&self.ops, id) {
-            if self.ops.push(op).is_err() {
-                return Err(AllocError);
-            }
-            return Ok(());
-        }
-        drop(op);
+    /// Takes the id of a line that is bad, or behind one.
+    fn set_aside(&mut self, id: &OpId) -> Result<(), AllocError> {
         self.is_bad = true;
-        self.others.push(id)?;
+        self.others.push(*id)?;
         Ok(())
     }
 
@@ -69,7 +62,7 @@ impl OpLines {
             Some(op) if may_come => Some(op.id()),
             _ => None,
         };
-        Ok(match first_lacking(&self.ops, &there, last) {
+        Ok(match first_lacking(&self.ops, &there, &last) {
             Some(place) => Some(place),
             None if self.is_bad => Some(self.ops.len()),
             None => None,
@@ -95,16 +88,16 @@ impl OpLines {
 }
 
 /// Whether the id is above that of the last operation.
-fn is_above(ops: &[SoundOp], id: OpId) -> bool {
+fn is_above(ops: &[SoundOp], id: &OpId) -> bool {
     match ops.last() {
         None => true,
-        Some(op) => op.id() < id,
+        Some(op) => op.id() < *id,
     }
 }
 
 /// The place of the first operation with a cause that isn't counted; where op lines may still come behind an id, only with one
 /// that isn't above it.
-fn first_lacking(ops: &[SoundOp], there: &Clock, last: Option<OpId>) -> Option<usize> {
+fn first_lacking(ops: &[SoundOp], there: &Clock, last: &Option<OpId>) -> Option<usize> {
     for (place, op) in ops.iter().enumerate() {
         if lacks(op.clock(), there, last) {
             return Some(place);
@@ -114,7 +107,7 @@ fn first_lacking(ops: &[SoundOp], there: &Clock, last: Option<OpId>) -> Option<u
 }
 
 /// Whether a cause isn't counted; where op lines may still come behind an id, only one that isn't above it.
-fn lacks(clock: &Clock, there: &Clock, last: Option<OpId>) -> bool {
+fn lacks(clock: &Clock, there: &Clock, last: &Option<OpId>) -> bool {
     for (replica, count) in clock.entries() {
         let counted = there.get(*replica);
         if counted < *count && is_missed(*replica, counted, last) {
@@ -125,12 +118,12 @@ fn lacks(clock: &Clock, there: &Clock, last: Option<OpId>) -> bool {
 }
 
 /// Whether the replica's operation behind so many is missed where op lines may still come behind an id.
-fn is_missed(replica: ReplicaId, counted: u32, last: Option<OpId>) -> bool {
+fn is_missed(replica: ReplicaId, counted: u32, last: &Option<OpId>) -> bool {
     let (Some(last), Some(next)) = (last, counted.checked_add(1)) else {
         return true;
     };
     match OpId::new(replica, next) {
-        Some(cause) => cause <= last,
+        Some(cause) => cause <= *last,
         None => true,
     }
 }
