@@ -1,6 +1,8 @@
 use Rattle.std.specs.Prelude.{ℕ, Option, Some, None}
 use Rattle.mail_script.specs.declared.outcome.OutcomeLine.{OutcomeLine}
 use Rattle.mail_script.specs.declared.outcome.OutcomeLine.TheVariants as lines
+use Rattle.mail_audit.specs.declared.verdict.AuditEnd.{AuditEnd}
+use Rattle.mail_audit.specs.declared.verdict.AuditEnd.TheVariants as audits
 use Rattle.mail_replay.specs.declared.ending.ReplayEnd.{ReplayEnd}
 use Rattle.mail_replay.specs.declared.ending.ReplayEnd.TheVariants.{Done, BadScript, ReadFailed, WriteFailed, NoMemory}
 
@@ -19,3 +21,12 @@ last_line_of (BadScript line) = Some (lines.BadScript line)
 last_line_of ReadFailed = Some lines.CannotRead
 last_line_of WriteFailed = None
 last_line_of NoMemory = Some lines.NoMemory
+
+-- The program's status where it audits: 0 for a yes, 1 for a no, else 3.
+abbrev pub audit_status_of : AuditEnd → ℕ
+audit_status_of audits.Yes = 0
+audit_status_of (audits.No line) = 1
+audit_status_of (audits.Unreadable line) = 3
+audit_status_of audits.ReadFailed = 3
+audit_status_of audits.WriteFailed = 3
+audit_status_of audits.NoMemory = 3

@@ -8,16 +8,22 @@ use std::alloc::{AllocError, Global};
 pub enum Request<'a> {
     /// Replay the script in this file, or on the standard input.
     Replay { file: Option<&'a str> },
+    /// Audit what is in this file, or on the standard input.
+    Audit { file: Option<&'a str> },
 }
 
 /// Reads the words of a command line, the program's name first.
 pub fn read_words<'a>(alloc: Global, words: &'a [String]) -> Result<Request<'a>, Error> {
     let matches = described(alloc)?.try_get_matches_from(words)?;
-    let file = match matches.subcommand() {
-        Some((_, replay)) => replay.get_str("FILE"),
-        None => None,
-    };
-    Ok(Request::Replay { file })
+    Ok(match matches.subcommand() {
+        Some(("audit", audit)) => Request::Audit {
+            file: audit.get_str("FILE"),
+        },
+        Some((_, replay)) => Request::Replay {
+            file: replay.get_str("FILE"),
+        },
+        None => Request::Replay { file: None },
+    })
 }
 
 /// The words that the program knows.
@@ -26,7 +32,14 @@ fn described<'a>(alloc: Global) -> Result<Command<'a>, AllocError> {
     let replay = Command::new(alloc, "replay")
         .about("Run a replay script")
         .arg(file)?;
+    let input = Arg::new(alloc, "FILE").help(
+        "What a script printed; the standard input without it",
+    );
+    let audit = Command::new(alloc, "audit")
+        .about("Audit what a replay printed")
+        .arg(input)?;
     Command::new(alloc, "mail_tool")
         .subcommand_required(true)
-        .subcommand(replay)
+        .subcommand(replay)?
+        .subcommand(audit)
 }

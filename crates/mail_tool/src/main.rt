@@ -2,6 +2,7 @@
 #![tactic(auto)]
 
 mod arguments;
+mod auditing;
 mod ending;
 mod program;
 #[cfg(test)]

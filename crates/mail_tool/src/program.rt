@@ -1,6 +1,7 @@
 //! The program's way from its command line to its status.
 
 use crate::arguments::{Request, read_words};
+use crate::auditing::{audit_file, audit_from};
 use crate::ending::tell;
 use clap::Error;
 use clap::error::ErrorKind;
@@ -9,8 +10,9 @@ use std::io::{BufWriter, Read};
 use std::rt::{Env, Files};
 use std::{env, fs, io};
 
-/// Reads the command line, does what it asks for, and gives the program's status: 0 where a script was served to its end
-/// or help was asked for, 2 where the words ask for nothing, 3 where a script ended early.
+/// Reads the command line, does what it asks for, and gives the program's status: 0 where a script was served to its end,
+/// an audit answered yes or help was asked for, 1 where an audit answered no, 2 where the words ask for nothing, 3 where a script ended early or an
+/// input can't be audited.
 pub fn run<R: Env + Files + Input + Print + AllocGlobal>(rt: &R) -> u8 {
     match words(rt) {
         Ok(words) => obey(rt, &words),
@@ -30,6 +32,8 @@ fn obey<R: Files + Input + Print + AllocGlobal>(rt: &R, words: &[String]) -> u8 
             Ok(file) => replay_from(rt, file),
             Err(_) => end_at_once(rt, ReplayEnd::ReadFailed),
         },
+        Ok(Request::Audit { file: None }) => audit_from(rt, rt.reader()),
+        Ok(Request::Audit { file: Some(path) }) => audit_file(rt, path),
         Err(error) => explain(rt, error),
     }
 }

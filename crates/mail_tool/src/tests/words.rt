@@ -21,6 +21,17 @@ fn asks_for(alloc: Global, words: &[&str], file: Option<&str>) -> bool {
     }
 }
 
+/// Whether these words ask for the audit of this file.
+fn asks_for_audit(alloc: Global, words: &[&str], file: Option<&str>) -> bool {
+    let Ok(words) = owned(alloc, words) else {
+        return false;
+    };
+    match read_words(alloc, &words) {
+        Ok(request) => request == Request::Audit { file },
+        Err(_) => false,
+    }
+}
+
 /// Whether these words are refused for this, with status 2.
 fn are_refused(alloc: Global, words: &[&str], why: ErrorKind) -> bool {
     let Ok(words) = owned(alloc, words) else {
@@ -36,7 +47,9 @@ fn reads_each_line(alloc: Global) -> bool {
     asks_for(alloc, &["mail_tool", "replay"], None)
         && asks_for(alloc, &["mail_tool", "replay", "a file"], Some("a file"))
         && are_refused(alloc, &["mail_tool"], ErrorKind::MissingSubcommand)
-        && are_refused(alloc, &["mail_tool", "audit"], ErrorKind::InvalidSubcommand)
+        && are_refused(alloc, &["mail_tool", "check"], ErrorKind::InvalidSubcommand)
+        && asks_for_audit(alloc, &["mail_tool", "audit"], None)
+        && asks_for_audit(alloc, &["mail_tool", "audit", "a file"], Some("a file"))
         && are_refused(
             alloc,
             &["mail_tool", "replay", "a", "b"],

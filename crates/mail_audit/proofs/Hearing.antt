@@ -1,0 +1,54 @@
+use Rattle.std.proofs.Common.{◌≡◌, ◌⊎◌, inl, inr, ℕ, List, [], ◌∷◌, ◌++◌, refl, sym, ap, ◌∙◌, subst}
+use Rattle.imap_grammar.specs.Commands.{IsSpelled}
+use Rattle.imap_grammar.specs.declared.command.Tagged.{Tagged}
+use Rattle.imap_answers.specs.declared.answer.Answer.{Answer}
+use Rattle.imap_answers.specs.Printable.{IsPrintable}
+use Rattle.imap_answers.specs.Printed.{printed}
+use Rattle.mail_script.specs.declared.transcript.Speaker.{Speaker}
+use Rattle.mail_script.specs.declared.transcript.Speaker.TheVariants.{Client, Server}
+use Rattle.mail_audit.specs.declared.event.SlotEvent.{SlotEvent}
+use Rattle.mail_audit.specs.declared.running.Running.{Running}
+use Rattle.mail_audit.specs.Explained.{IsExplained}
+use Rattle.mail_audit.specs.Transcripts.{AreEvents, IsAnswered, IsAsked, IsExplainedTranscript, IsHeard, Said, event_by, event_of, running_after, running_by}
+use Rattle.mail_audit.proofs.Stepping.{explained_front}
+
+module _ (one_command : (this that : Tagged) (frame : List ℕ) → IsSpelled this frame → IsSpelled that frame → this ≡ that) (one_answer : (one other : Answer) (rest more : List ℕ) → IsPrintable one → IsPrintable other → printed one ++ rest ≡ printed other ++ more → (one ≡ other) × (rest ≡ more)) where
+  one_asked : (running : List Running) (frame : List ℕ) (a b : List Running) (e f : SlotEvent) → IsAsked running frame a e → IsAsked running frame b f → (a ≡ b) × (e ≡ f)
+  one_asked running frame a b e f h k =
+      elim h [
+        | inl x ↦ elim k [
+          | inl y ↦
+              let t : x.0 ≡ y.0 = one_command x.0 y.0 frame x.1.1 y.1.1 in
+              (x.2 ∙ ap (λ (t : Tagged). running ++ running_by t ∷ []) t ∙ sym y.2, x.3 ∙ ap (λ (t : Tagged). event_by t.command) t ∙ sym y.3)
+          | inr y ↦ absurd (y.0 x.0 x.1)
+        ]
+        | inr x ↦ elim k [ inl y ↦ absurd (x.0 y.0 y.1) | inr y ↦ (x.1 ∙ sym y.1, x.2 ∙ sym y.2) ]
+      ]
+
+  one_answered : (running : List Running) (octets : List ℕ) (a b : List Running) (e f : SlotEvent) → IsAnswered running octets a e → IsAnswered running octets b f → (a ≡ b) × (e ≡ f)
+  one_answered running octets a b e f x y =
+      let t : x.0 ≡ y.0 = (one_answer x.0 y.0 [] [] x.1 y.1 (ap (λ (o : List ℕ). o ++ []) (sym x.2 ∙ y.2))).0 in
+      (x.4 ∙ ap (running_after running) t ∙ sym y.4, x.5 ∙ ap event_of t ∙ sym y.5)
+
+  pub one_heard : (running : List Running) (speaker : Speaker) (octets : List ℕ) (a b : List Running) (e f : SlotEvent) → IsHeard running speaker octets a e → IsHeard running speaker octets b f → (a ≡ b) × (e ≡ f)
+  one_heard running Client octets a b e f h k = one_asked running octets a b e f h k
+  one_heard running Server octets a b e f h k = one_answered running octets a b e f h k
+
+  pub one_events : (running : List Running) (said : List Said) (these those : List SlotEvent) → AreEvents running said these → AreEvents running said those → these ≡ those
+  one_events running [] these those h k = h ∙ sym k
+  one_events running (s ∷ said) these those h k =
+      let o = one_heard running s.speaker s.octets h.0 k.0 h.1 k.1 h.3 k.3 in
+      let r = one_events k.0 said h.2 k.2 (subst (λ (a : List Running). AreEvents a said h.2) o.0 h.5) k.5 in
+      h.4 ∙ (λ i. o.1 i ∷ r i) ∙ sym k.4
+
+-- the events of a front are a front of the events
+events_front : (running : List Running) (front back : List Said) (events : List SlotEvent) → AreEvents running (front ++ back) events → (first : List SlotEvent) × (rest : List SlotEvent) × AreEvents running front first × (events ≡ first ++ rest)
+events_front running [] back events h = ([], events, refl, refl)
+events_front running (s ∷ front) back events h =
+    let r = events_front h.0 front back h.2 h.5 in
+    (h.1 ∷ r.0, r.1, (h.0, h.1, r.0, h.3, refl, r.2), h.4 ∙ ap (λ (es : List SlotEvent). h.1 ∷ es) r.3)
+
+pub transcript_front : (front back : List Said) → IsExplainedTranscript (front ++ back) → IsExplainedTranscript front
+transcript_front front back h =
+    let r = events_front [] front back h.0 h.1 in
+    (r.0, r.2, explained_front r.0 r.1 (subst IsExplained r.3 h.2))

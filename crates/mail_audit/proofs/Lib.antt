@@ -1,0 +1,10 @@
+mod Deciding
+mod Examples
+mod GoneLemmas
+mod Hearing
+mod HearingLemmas
+mod Rooms
+mod RunLemmas
+mod SlotLemmas
+mod Stepping
+mod ToldLemmas

@@ -1,0 +1,73 @@
+use Rattle.std.proofs.Common.{◌≡◌, ◌↔◌, ℕ, zero, suc, ◌+◌, ◌-◌, ◌<◌, ◌≤◌, List, [], ◌∷◌, ◌++◌, Option, Some, None, length, get_or, set, replicate, refl, sym, ap, ◌∙◌, subst, arith, append-nil}
+use Rattle.mail_audit.specs.declared.event.SlotEvent.{SlotEvent}
+use Rattle.mail_audit.specs.declared.event.SlotEvent.TheVariants.{Selects, Exists, Expunge, Names, Tells, Passes}
+use Rattle.mail_audit.specs.Explained.{AreFitting, AreUidsAbove, IsExplained, IsNumberOf, without}
+use Rattle.mail_audit.specs.Passing.{HasRoomAbove, MayBe, PassesFrom, upward}
+use Rattle.mail_audit.specs.Kept.{HaveGaps, slots_from}
+use Rattle.mail_audit.specs.Steps.{Fits, Known, after, next, nothing}
+use Rattle.mail_audit.specs.declared.slots.Told.{Told}
+use Rattle.mail_audit.proofs.Deciding.{explained}
+
+-- a front of explained events is explained
+fitting_front : (there coming : List ℕ) (front back : List SlotEvent) → AreFitting there coming (front ++ back) → AreFitting there coming front
+fitting_front there coming [] back f = tt
+fitting_front there coming (Selects ∷ front) back f = (f.0, f.1, fitting_front [] f.0 front back f.2)
+fitting_front there coming (Exists n ∷ front) back f = (f.0, f.1, fitting_front _ _ front back f.2)
+fitting_front there coming (Expunge k ∷ front) back f = (f.0, fitting_front _ _ front back f.1)
+fitting_front there coming (Names k ∷ front) back f = (f.0, fitting_front _ _ front back f.1)
+fitting_front there coming (Tells k uid ∷ front) back f = (f.0, f.1, fitting_front _ _ front back f.2)
+fitting_front there coming (Passes ∷ front) back f = fitting_front there coming front back f
+
+pub explained_front : (front back : List SlotEvent) → IsExplained (front ++ back) → IsExplained front
+explained_front front back h = (h.0, h.1, fitting_front [] h.0 front back h.2)
+
+-- events pass where the first fits and the others pass then
+pub passes_one : (known : Known) (event : SlotEvent) (events : List SlotEvent) → PassesFrom known.there known.slots (event ∷ events) ↔ (Fits known event × PassesFrom (next known event).there (next known event).slots events)
+passes_one known Selects events = (λ p. (tt, p), λ p. p.1)
+passes_one known (Exists n) events = (λ p. ((p.0, p.1), p.2), λ p. (p.0.0, p.0.1, p.1))
+passes_one known (Expunge k) events = (λ p. p, λ p. p)
+passes_one known (Names k) events = (λ p. p, λ p. p)
+passes_one known (Tells k uid) events = (λ p. ((p.0, p.1, p.2), p.3), λ p. (p.0.0, p.0.1, p.0.2, p.1))
+passes_one known Passes events = (λ p. (tt, p), λ p. p.1)
+
+passes_last : (known : Known) (events : List SlotEvent) (event : SlotEvent) → PassesFrom known.there known.slots (events ++ event ∷ []) ↔ (PassesFrom known.there known.slots events × Fits (after known events) event)
+passes_last known [] event = (λ p. (tt, ((passes_one known event []).0 p).0), λ p. (passes_one known event []).1 (p.1, tt))
+passes_last known (first ∷ events) event = (
+  λ p.
+      let q = (passes_one known first (events ++ event ∷ [])).0 p in
+      let r = (passes_last (next known first) events event).0 q.1 in
+      ((passes_one known first events).1 (q.0, r.0), r.1),
+  λ p.
+      let q = (passes_one known first events).0 p.0 in
+      (passes_one known first (events ++ event ∷ [])).1 (q.0, (passes_last (next known first) events event).1 (q.1, p.1)),
+)
+
+-- one event more is explained exactly where it fits
+pub explained_last : (events : List SlotEvent) (event : SlotEvent) → IsExplained events → IsExplained (events ++ event ∷ []) ↔ Fits (after nothing events) event
+explained_last events event h = (
+  λ g. ((passes_last nothing events event).0 ((explained (events ++ event ∷ [])).0 g)).1,
+  λ f. (explained (events ++ event ∷ [])).1 ((passes_last nothing events event).1 ((explained events).0 h, f)),
+)
+
+-- room behind slots of which nothing is known
+room_unknown : (low m : ℕ) (slots : List (Option ℕ)) → low ≤ 4294967295 → HasRoomAbove low (replicate m None ++ slots) ↔ ((low + m ≤ 4294967295) × HasRoomAbove (low + m) slots)
+room_unknown low zero slots l =
+    let e : low + zero ≡ low = omega arith in
+    (λ h. (omega (arith, l), subst (λ (n : ℕ). HasRoomAbove n slots) (sym e) h), λ h. subst (λ (n : ℕ). HasRoomAbove n slots) e h.1)
+room_unknown low (suc m) slots l =
+    let e : low + 1 + m ≡ low + suc m = omega arith in (
+      λ h. let r = (room_unknown (low + 1) m slots (omega (arith, h.0))).0 h.1 in (omega (arith, r.0), subst (λ (n : ℕ). HasRoomAbove n slots) e r.1),
+      λ h. (omega (arith, h.0), (room_unknown (low + 1) m slots (omega (arith, h.0))).1 (omega (arith, h.0), subst (λ (n : ℕ). HasRoomAbove n slots) (sym e) h.1)),
+    )
+
+-- there is room exactly where the gaps are wide enough
+pub room_in_gaps : (low from : ℕ) (tolds : List Told) (came : ℕ) → low ≤ 4294967295 → HasRoomAbove low (slots_from from tolds came) ↔ HaveGaps low from tolds came
+room_in_gaps low from [] came l =
+    let e : replicate (came - from) None ++ [] ≡ slots_from from [] came = append-nil (replicate (came - from) None) in
+    let r = room_unknown low (came - from) [] l in
+    (λ h. (r.0 (subst (HasRoomAbove low) (sym e) h)).0, λ h. subst (HasRoomAbove low) e (r.1 (h, tt)))
+room_in_gaps low from (t ∷ tolds) came l =
+    let r = room_unknown low (t.place - from) (Some t.uid ∷ slots_from (t.place + 1) tolds came) l in (
+      λ h. let q = (r.0 h).1 in (q.0, q.1, (room_in_gaps t.uid (t.place + 1) tolds came q.1).0 q.2),
+      λ h. r.1 (omega (arith, h.0, h.1), (h.0, h.1, (room_in_gaps t.uid (t.place + 1) tolds came h.1).1 h.2)),
+    )

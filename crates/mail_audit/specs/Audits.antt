@@ -1,0 +1,122 @@
+use Rattle.std.specs.Prelude.{◌≡◌, ◌⊎◌, ℕ, ◌+◌, ◌<◌, ◌≤◌, List, [], ◌∷◌, ◌++◌, length, codes, IsTrue, if◌then◌else◌}
+use Rattle.std.specs.List.{flat_map}
+use Rattle.std.specs.Str.{bytes_eq}
+use Rattle.std.specs.Fmt.{decimal}
+use Rattle.crdt_ops.specs.Form.{Each}
+use Rattle.imap_types.specs.Escape.{AreOctets, escaped}
+use Rattle.imap_types.specs.declared.escape.Escape.TheVariants.{Text}
+use Rattle.mail_script.specs.Fields.{is_session_name}
+use Rattle.mail_script.specs.Transcript.{mark_of}
+use Rattle.mail_script.specs.declared.transcript.Speaker.{Speaker}
+use Rattle.mail_audit.specs.Dumps.{IsRightDump, dump_line}
+use Rattle.mail_audit.specs.Results.{IsResult}
+use Rattle.mail_audit.specs.Transcripts.{IsExplainedTranscript, Said}
+use Rattle.mail_audit.specs.declared.verdict.AuditEnd.{AuditEnd}
+use Rattle.mail_audit.specs.declared.verdict.AuditEnd.TheVariants.{Yes, No, Unreadable, ReadFailed, WriteFailed, NoMemory}
+
+-- A line with its end, LF (10).
+abbrev pub ended_line : List ℕ → List ℕ
+ended_line line = line ++ 10 ∷ []
+
+-- Lines with their ends, one behind another.
+abbrev pub text_of : List (List ℕ) → List ℕ
+text_of lines = flat_map ended_line lines
+
+-- What an input is made of: lines of transcripts, lines that tell results, and whole dumps.
+pub data Part : Type 0 where
+  Spoken : List ℕ → Speaker → List ℕ → Part
+  Result : List ℕ → Part
+  Dumped : List ℕ → Part
+
+-- A line of a transcript: the session, who spoke, and what was said, which lacks its closing CRLF, in the escape in which
+-- the space stands for itself.
+abbrev pub spoken_line : List ℕ → Speaker → List ℕ → List ℕ
+spoken_line session speaker text = session ++ (mark_of speaker ++ escaped Text text)
+
+-- The text of a part.
+abbrev pub part_text : Part → List ℕ
+part_text (Spoken session speaker text) = ended_line (spoken_line session speaker text)
+part_text (Result line) = ended_line line
+part_text (Dumped text) = text
+
+-- The part is one that can be read, and a dump is right.
+abbrev pub IsRightPart : Part → Type 0
+IsRightPart (Spoken session speaker text) = IsTrue (is_session_name session) × AreOctets text
+IsRightPart (Result line) = IsResult line
+IsRightPart (Dumped text) = IsRightDump text
+
+-- What was said, with its closing CRLF (13, 10).
+abbrev pub said_by : Speaker → List ℕ → Said
+said_by speaker text = record { speaker = speaker; octets = text ++ 13 ∷ 10 ∷ [] }
+
+-- What was said in a session.
+abbrev pub said_in : List ℕ → List Part → List Said
+said_in session [] = []
+said_in session (Spoken other speaker text ∷ parts) = if bytes_eq session other then said_by speaker text ∷ said_in session parts else said_in session parts
+said_in session (Result line ∷ parts) = said_in session parts
+said_in session (Dumped text ∷ parts) = said_in session parts
+
+-- These lines are those of such parts, every dump is right, and every session's transcript is explained.
+pub record AreRight (lines : List (List ℕ)) (parts : List Part) : Type 0 where
+  pub whole : text_of lines ≡ flat_map part_text parts
+  pub right : Each IsRightPart parts
+  pub explained : (session : List ℕ) → IsExplainedTranscript (said_in session parts)
+
+-- The lines of an input of which the audit answers yes.
+abbrev pub IsRight : List (List ℕ) → Type 0
+IsRight lines = (parts : List Part) × AreRight lines parts
+
+-- The line of this number, from 1 on, is of a session's transcript, which isn't explained through it; all in front is right.
+pub record IsUnexplained (lines : List (List ℕ)) (number : ℕ) : Type 0 where
+  pub front : List (List ℕ)
+  pub back : List (List ℕ)
+  pub parts : List Part
+  pub session : List ℕ
+  pub speaker : Speaker
+  pub text : List ℕ
+  pub whole : lines ≡ front ++ spoken_line session speaker text ∷ back
+  pub count : number ≡ length front + 1
+  pub right : AreRight front parts
+  pub named : IsTrue (is_session_name session)
+  pub octets : AreOctets text
+  pub unexplained : ¬ IsExplainedTranscript (said_in session (parts ++ Spoken session speaker text ∷ []))
+
+-- The line is no end of a dump.
+abbrev pub IsNoEnd : List ℕ → Type 0
+IsNoEnd line = line ≡ codes "end" → ⊥
+
+-- The line of this number stands in a dump: all in front of the dump is right, and it doesn't end before the line.
+pub record IsInDump (lines : List (List ℕ)) (number : ℕ) : Type 0 where
+  pub front : List (List ℕ)
+  pub inside : List (List ℕ)
+  pub back : List (List ℕ)
+  pub parts : List Part
+  pub replica : ℕ
+  pub whole : lines ≡ front ++ dump_line replica ∷ (inside ++ back)
+  pub right : AreRight front parts
+  pub going_on : Each IsNoEnd inside
+  pub behind_first : length front + 1 < number
+  pub at_most : number ≤ length front + length inside + 2
+  pub there : number ≤ length lines
+
+-- A no at a line.
+abbrev pub IsNo : List (List ℕ) → ℕ → Type 0
+IsNo lines number = IsUnexplained lines number ⊎ IsInDump lines number
+
+-- What an audit's answer says of the lines of its input.
+abbrev pub Audits : List (List ℕ) → AuditEnd → Type 0
+Audits lines Yes = IsRight lines
+Audits lines (No number) = IsNo lines number
+Audits lines (Unreadable number) = (0 < number) × (number ≤ length lines)
+Audits lines ReadFailed = Unit {0}
+Audits lines WriteFailed = Unit {0}
+Audits lines NoMemory = Unit {0}
+
+-- What is written of an audit's answer.
+abbrev pub end_text : AuditEnd → List ℕ
+end_text Yes = codes "yes\n"
+end_text (No number) = codes "no: line " ++ (decimal number ++ 10 ∷ [])
+end_text (Unreadable number) = codes "unreadable: line " ++ (decimal number ++ 10 ∷ [])
+end_text ReadFailed = codes "cannot read\n"
+end_text WriteFailed = []
+end_text NoMemory = codes "no memory\n"

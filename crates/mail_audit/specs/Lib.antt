@@ -1,0 +1,10 @@
+pub mod Audits
+pub mod Dumps
+pub mod Explained
+pub mod Gaps
+pub mod Hearings
+pub mod Kept
+pub mod Passing
+pub mod Results
+pub mod Steps
+pub mod Transcripts

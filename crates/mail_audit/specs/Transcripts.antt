@@ -1,0 +1,102 @@
+use Rattle.std.specs.Prelude.{◌≡◌, ◌⊎◌, ℕ, Bool, true, false, ◌&&◌, List, [], ◌∷◌, ◌++◌, Option, Some, None, IsTrue, IsFalse, if◌then◌else◌}
+use Rattle.std.specs.List.{list_any}
+use Rattle.std.specs.Str.{bytes_eq}
+use Rattle.imap_grammar.specs.Commands.{IsSpelled}
+use Rattle.imap_grammar.specs.declared.command.Command.{Command}
+use Rattle.imap_grammar.specs.declared.command.Command.TheVariants as command
+use Rattle.imap_grammar.specs.declared.command.Tagged.{Tagged}
+use Rattle.imap_answers.specs.declared.answer.Answer.{Answer}
+use Rattle.imap_answers.specs.declared.answer.Answer.TheVariants as answer
+use Rattle.imap_answers.specs.Printable.{IsPrintable}
+use Rattle.imap_answers.specs.Printed.{printed}
+use Rattle.mail_script.specs.declared.transcript.Speaker.{Speaker}
+use Rattle.mail_script.specs.declared.transcript.Speaker.TheVariants.{Client, Server}
+use Rattle.mail_audit.specs.declared.event.SlotEvent.{SlotEvent}
+use Rattle.mail_audit.specs.declared.event.SlotEvent.TheVariants.{Selects, Exists, Expunge, Names, Tells, Passes}
+use Rattle.mail_audit.specs.declared.running.Running.{Running}
+use Rattle.mail_audit.specs.Explained.{IsExplained}
+
+-- EXPUNGE isn't told while FETCH, STORE or SEARCH by message numbers are in progress alone (RFC 9051, section 7.5.1).
+abbrev pub may_expunge : Command → Bool
+may_expunge (command.Fetch by_uid messages items changed_since) = by_uid
+may_expunge (command.Store by_uid messages unchanged_since action flags) = by_uid
+may_expunge (command.Search by_uid options steps) = by_uid
+may_expunge _ = true
+
+abbrev pub idles : Command → Bool
+idles command.Idle = true
+idles _ = false
+
+abbrev pub running_by : Tagged → Running
+running_by tagged = record { tag = tagged.tag; may_expunge = may_expunge tagged.command; idles = idles tagged.command }
+
+-- What a command does to the messages that the session sees: SELECT and EXAMINE start anew, also where they are refused later.
+abbrev pub event_by : Command → SlotEvent
+event_by (command.Select name condstore) = Selects
+event_by (command.Examine name condstore) = Selects
+event_by _ = Passes
+
+-- A frame begins a command: it spells one, and the session doesn't idle.
+abbrev pub Begins : List Running → List ℕ → Tagged → Type 0
+Begins running frame tagged = IsFalse (list_any (λ (r : Running). r.idles) running) × IsSpelled tagged frame
+
+-- What the client's frame does to the commands in progress and to the messages.
+abbrev pub IsAsked : List Running → List ℕ → List Running → SlotEvent → Type 0
+IsAsked running frame after event =
+    ((tagged : Tagged) × Begins running frame tagged × (after ≡ running ++ running_by tagged ∷ []) × (event ≡ event_by tagged.command))
+    ⊎ (((tagged : Tagged) → ¬ Begins running frame tagged) × (after ≡ running) × (event ≡ Passes))
+
+-- The commands without the first with this tag.
+abbrev pub ended : List ℕ → List Running → List Running
+ended tag [] = []
+ended tag (r ∷ running) = if bytes_eq tag r.tag then running else r ∷ ended tag running
+
+-- The commands in progress behind an answer: a tagged one ends its command.
+abbrev pub running_after : List Running → Answer → List Running
+running_after running (answer.Completed tag code done) = ended tag running
+running_after running (answer.Refused tag reason) = ended tag running
+running_after running _ = running
+
+abbrev pub event_of_uid : ℕ → Option ℕ → SlotEvent
+event_of_uid number None = Names number
+event_of_uid number (Some uid) = Tells number uid
+
+-- What an answer tells of the messages.
+abbrev pub event_of : Answer → SlotEvent
+event_of (answer.Exists count) = Exists count
+event_of (answer.Expunge number) = Expunge number
+event_of (answer.Fetch number items) = event_of_uid number items.uid
+event_of _ = Passes
+
+-- The answer may stand while these commands are in progress.
+abbrev pub MayStand : List Running → Answer → Type 0
+MayStand running (answer.Expunge number) = IsTrue (list_any (λ (r : Running). r.may_expunge) running)
+MayStand running _ = Unit {0}
+
+-- The octets are one printed answer, which may stand here; what it does to the commands in progress and to the messages.
+abbrev pub IsAnswered : List Running → List ℕ → List Running → SlotEvent → Type 0
+IsAnswered running octets after event =
+    (given : Answer) × IsPrintable given × (octets ≡ printed given) × MayStand running given
+    × (after ≡ running_after running given) × (event ≡ event_of given)
+
+-- What was said in a session: by whom, and the frame or answer.
+pub record Said : Type 0 where
+  pub speaker : Speaker
+  pub octets : List ℕ
+
+abbrev pub IsHeard : List Running → Speaker → List ℕ → List Running → SlotEvent → Type 0
+IsHeard running Client frame after event = IsAsked running frame after event
+IsHeard running Server octets after event = IsAnswered running octets after event
+
+-- The events of a session's transcript: every answer is printed, and EXPUNGE stands only where it may.
+abbrev pub AreEvents : List Running → List Said → List SlotEvent → Type 0
+AreEvents running [] events = events ≡ []
+AreEvents running (said ∷ more) events =
+    (after : List Running) × (event : SlotEvent) × (rest : List SlotEvent)
+    × IsHeard running said.speaker said.octets after event
+    × (events ≡ event ∷ rest)
+    × AreEvents after more rest
+
+-- A session's transcript is explained.
+abbrev pub IsExplainedTranscript : List Said → Type 0
+IsExplainedTranscript said = (events : List SlotEvent) × AreEvents [] said events × IsExplained events

@@ -1,0 +1,103 @@
+//! The state to which the op lines of a dump lead.
+
+use crate::state::state_lines;
+use causal_inbox::{DeliverFault, Inbox};
+use crdt_ops::SoundOp;
+use folder_state::Folders;
+use merge_laws::{Caused, Pair, Unfollowed};
+use std::alloc::{AllocError, Global};
+use subs_state::Subs;
+use tags_clocks::Clock;
+
+/// What is to follow the op lines of a dump.
+#[derive(Drop)]
+pub enum Expected {
+    /// These lines, each with its end.
+    Lines(Vec<u8>),
+    /// Nothing: behind so many op lines stands one that no replica can apply, whatever it applied of the others.
+    Stuck(usize),
+}
+
+/// What is to follow these op lines.
+pub fn what_follows(alloc: Global, ops: &[SoundOp]) -> Result<Expected, AllocError> {
+    let value = Pair {
+        first: Folders::new(alloc),
+        second: Subs::new(alloc),
+    };
+    let mut inbox = Inbox::new(alloc, value, Unfollowed)?;
+    apply_all(alloc, ops, &mut inbox)?;
+    match first_stuck(ops, inbox.clock()) {
+        Some(place) => Ok(Expected::Stuck(place)),
+        None => lines_of(alloc, &inbox),
+    }
+}
+
+/// What the inbox's operations define, as the lines that follow them.
+fn lines_of(
+    alloc: Global,
+    inbox: &Inbox<Pair<Folders, Subs>, Unfollowed>,
+) -> Result<Expected, AllocError> {
+    let _list = inbox.op_list();
+    let value = inbox.value();
+    let lines = state_lines(alloc, &value.first, &value.second)?;
+    Ok(Expected::Lines(lines))
+}
+
+/// Applies all that can be applied: goes over the operations until none is ripe.
+fn apply_all(
+    alloc: Global,
+    ops: &[SoundOp],
+    inbox: &mut Inbox<Pair<Folders, Subs>, Unfollowed>,
+) -> Result<(), AllocError> {
+    for _round in 0..ops.len() {
+        if !apply_ripe(alloc, ops, inbox)? {
+            return Ok(());
+        }
+    }
+    Ok(())
+}
+
+/// Goes over the operations once, and applies those that are ripe; tells whether one was.
+fn apply_ripe(
+    alloc: Global,
+    ops: &[SoundOp],
+    inbox: &mut Inbox<Pair<Folders, Subs>, Unfollowed>,
+) -> Result<bool, AllocError> {
+    let mut has_applied = false;
+    for op in ops {
+        if is_next(inbox.clock(), op) {
+            apply(alloc, op, inbox)?;
+            has_applied = true;
+        }
+    }
+    Ok(has_applied)
+}
+
+/// Whether the operation isn't counted and all its causes are.
+fn is_next(clock: &Clock, op: &SoundOp) -> bool {
+    !clock.covers(op.id()) && op.clock().is_within(clock)
+}
+
+/// Applies an operation that is ripe.
+fn apply(
+    alloc: Global,
+    op: &SoundOp,
+    inbox: &mut Inbox<Pair<Folders, Subs>, Unfollowed>,
+) -> Result<(), AllocError> {
+    causal_inbox::delivery_is_received::<Pair<Folders, Subs>, Unfollowed>();
+    let copy = op.copy(alloc)?;
+    match inbox.deliver(alloc, copy) {
+        Err(DeliverFault::NoMemory) => Err(AllocError),
+        _ => Ok(()),
+    }
+}
+
+/// How many operations stand before the first that the clock doesn't count.
+fn first_stuck(ops: &[SoundOp], clock: &Clock) -> Option<usize> {
+    for (place, op) in ops.iter().enumerate() {
+        if !clock.covers(op.id()) {
+            return Some(place);
+        }
+    }
+    None
+}

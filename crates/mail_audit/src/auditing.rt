@@ -1,0 +1,171 @@
+//! The audit of a reader's octets, told to a writer.
+
+ghost use Rattle.std.specs.Prelude.{◌≡◌, ◌≢◌, ◌++◌, ◌+◌, [], ◌∷◌, IfErr, IfOk, OnOk, length};
+ghost use Rattle.std.specs.Fmt.{decimal};
+ghost use Rattle.std.specs.Io.KnownBytes.{Appends, Keeps};
+ghost use Rattle.mail_audit.specs.Audits.{end_text};
+ghost use Rattle.mail_audit.specs.declared.verdict.AuditEnd.TheVariants.{WriteFailed as NotWritten};
+
+use crate::line_audit::Audit;
+use crate::verdict::AuditEnd;
+use itoa::Buffer;
+use mail_script::ScriptLines;
+use std::alloc::{AllocError, Global};
+use std::io::{ErrorKind, Read, Write};
+
+/// The most reads of one audit.
+pub const MAX_READS: u64 = 16_777_216;
+
+/// The most octets that one read gives.
+pub const PIECE_OCTETS: usize = 65_536;
+
+/// Audits what a script printed, and writes what came of it as one line.
+///
+/// It ends with `Yes` where every transcript is explained and every dump is right. `No` names the first line up to which that
+/// isn't so, `Unreadable` the first that is none that a script prints; `ReadFailed` says that the reader failed, or that
+/// the input has more pieces than 16,777,216; `WriteFailed` that the writer did; `NoMemory` that there was none.
+pub fn audit<R: Read, W: Write>(alloc: Global, reader: &mut R, writer: &mut W) -> AuditEnd
+    ensures { result ≢ NotWritten → Appends (W.contents writer.old) (W.contents writer.new) (end_text result) }
+{
+    let end = match room_for(alloc, PIECE_OCTETS) {
+        Ok(mut piece) => judge(alloc, reader, &mut piece),
+        Err(AllocError) => AuditEnd::NoMemory,
+    };
+    match tell(end, writer) {
+        Ok(()) => end,
+        Err(end) => end,
+    }
+}
+
+/// How far an audit's reading has come.
+#[derive(Drop)]
+struct Progress {
+    audit: Audit,
+    /// What was read of the input and isn't taken.
+    lines: ScriptLines,
+}
+
+/// Reads an input by pieces into this room, and audits its lines.
+fn judge<R: Read>(alloc: Global, reader: &mut R, piece: &mut [u8]) -> AuditEnd {
+    let mut progress = Progress {
+        audit: Audit::new(alloc),
+        lines: ScriptLines::new(alloc),
+    };
+    for _read in 0..MAX_READS {
+        match reader.read(piece) {
+            Ok(0) => return take_last(alloc, progress),
+            Ok(count) => {
+                if let Some(end) = take_piece(alloc, &mut progress, &piece[..count]) {
+                    return end;
+                }
+            }
+            Err(error) => {
+                if error.kind() != ErrorKind::Interrupted {
+                    return AuditEnd::ReadFailed;
+                }
+            }
+        }
+    }
+    AuditEnd::ReadFailed
+}
+
+/// Room for so many octets.
+fn room_for(alloc: Global, octets: usize) -> Result<Vec<u8>, AllocError>
+    ensures { IfOk result (λ room. length room.items ≡ octets) }
+{
+    vec![in alloc; 0u8; octets]
+}
+
+/// Takes the lines that a piece completes, and tells how the audit ends where it ends with one.
+fn take_piece(alloc: Global, progress: &mut Progress, piece: &[u8]) -> Option<AuditEnd> {
+    let Ok(()) = progress.lines.push(piece) else {
+        return Some(AuditEnd::NoMemory);
+    };
+    for _line in 0..piece.len() {
+        match progress.lines.next_line(alloc) {
+            Err(_) => return Some(AuditEnd::NoMemory),
+            Ok(None) => return None,
+            Ok(Some(line)) => {
+                if let Some(end) = take_line(alloc, &mut progress.audit, line.as_bytes()) {
+                    return Some(end);
+                }
+            }
+        }
+    }
+    None
+}
+
+/// Takes the next line, and tells how the audit ends where it ends with it.
+fn take_line(alloc: Global, audit: &mut Audit, line: &[u8]) -> Option<AuditEnd> {
+    match audit.take(alloc, line) {
+        Ok(end) => end,
+        Err(AllocError) => Some(AuditEnd::NoMemory),
+    }
+}
+
+/// Takes the last line, which has no LF, where there is one, and ends the audit.
+fn take_last(alloc: Global, progress: Progress) -> AuditEnd {
+    let Progress { mut audit, lines } = progress;
+    let line = lines.into_rest();
+    if !line.as_bytes().is_empty()
+        && let Some(end) = take_line(alloc, &mut audit, line.as_bytes())
+    {
+        return end;
+    }
+    end_of(alloc, audit)
+}
+
+/// How an audit ends whose input ends.
+fn end_of(alloc: Global, audit: Audit) -> AuditEnd {
+    match audit.end(alloc) {
+        Ok(end) => end,
+        Err(AllocError) => AuditEnd::NoMemory,
+    }
+}
+
+/// Writes what came of an audit.
+fn tell<W: Write>(end: AuditEnd, writer: &mut W) -> Result<(), AuditEnd>
+    ensures ok { OnOk result (Appends (W.contents writer.old) (W.contents writer.new) (end_text end)) }
+    ensures err { IfErr result (λ why. why ≡ NotWritten) }
+{
+    match end {
+        AuditEnd::Yes => write(b"yes\n", writer)?,
+        AuditEnd::No(line) => write_numbered(b"no: line ", line, writer)?,
+        AuditEnd::Unreadable(line) => write_numbered(b"unreadable: line ", line, writer)?,
+        AuditEnd::ReadFailed => write(b"cannot read\n", writer)?,
+        AuditEnd::WriteFailed => {}
+        AuditEnd::NoMemory => write(b"no memory\n", writer)?,
+    }
+    flush(writer)
+}
+
+/// Writes a word, the number of a line, and LF.
+fn write_numbered<W: Write>(word: &[u8], line: u64, writer: &mut W) -> Result<(), AuditEnd>
+    ensures ok { OnOk result (Appends (W.contents writer.old) (W.contents writer.new) (word.now ++ (decimal line ++ 10 ∷ []))) }
+    ensures err { IfErr result (λ why. why ≡ NotWritten) }
+{
+    write(word, writer)?;
+    let mut buffer = Buffer::new();
+    write(buffer.format(line).as_bytes(), writer)?;
+    write(b"\n", writer)
+}
+
+fn write<W: Write>(octets: &[u8], writer: &mut W) -> Result<(), AuditEnd>
+    ensures ok { OnOk result (Appends (W.contents writer.old) (W.contents writer.new) octets.now) }
+    ensures err { IfErr result (λ why. why ≡ NotWritten) }
+{
+    match writer.write_all(octets) {
+        Ok(()) => Ok(()),
+        Err(_) => Err(AuditEnd::WriteFailed),
+    }
+}
+
+fn flush<W: Write>(writer: &mut W) -> Result<(), AuditEnd>
+    ensures bytes { Keeps (W.contents writer.old) (W.contents writer.new) }
+    ensures err { IfErr result (λ why. why ≡ NotWritten) }
+{
+    match writer.flush() {
+        Ok(()) => Ok(()),
+        Err(_) => Err(AuditEnd::WriteFailed),
+    }
+}

@@ -1,0 +1,158 @@
+//! A dump that is read line by line.
+
+use crate::applying::{Expected, what_follows};
+use crate::forms::{DumpLine, dump_line, is_other};
+use crate::op_lines::OpLines;
+use crate::verdict::AuditEnd;
+use std::alloc::{AllocError, Global};
+use tags_clocks::ReplicaId;
+use text_fields::split;
+
+/// A dump that began and hasn't ended.
+#[derive(Drop)]
+pub struct OpenDump {
+    /// The number of its first line.
+    pub first: u64,
+    /// Whose it is.
+    pub replica: ReplicaId,
+    /// How far it came.
+    pub phase: Phase,
+}
+
+/// How far a dump came.
+#[derive(Drop)]
+pub enum Phase {
+    /// To its op lines.
+    Ops(OpLines),
+    /// To the lines behind them, which are to be these.
+    State(Comparison),
+}
+
+/// The lines that are to follow the op lines.
+#[derive(Drop)]
+pub struct Comparison {
+    /// Each with its end.
+    pub lines: Vec<u8>,
+    /// So many of their octets came.
+    pub came: usize,
+}
+
+/// What comes of a line of a dump.
+pub enum Step {
+    /// The dump goes on.
+    GoesOn,
+    /// It has ended, and is right.
+    Ends,
+    /// It is wrong at the line of this number.
+    Wrong(u64),
+    /// The line can't be read.
+    Unreadable,
+}
+
+impl OpenDump {
+    /// A dump that begins with the line of this number.
+    pub fn new(alloc: Global, first: u64, replica: ReplicaId) -> OpenDump {
+        OpenDump {
+            first,
+            replica,
+            phase: Phase::Ops(OpLines::new(alloc)),
+        }
+    }
+
+    /// Takes the next line, which has this number.
+    pub fn take(&mut self, alloc: Global, line: &[u8], number: u64) -> Result<Step, AllocError> {
+        match &mut self.phase {
+            Phase::State(comparison) => comparison.take(alloc, line, number),
+            Phase::Ops(lines) => match dump_line(alloc, line)? {
+                DumpLine::Op(op) => {
+                    lines.push(op)?;
+                    Ok(Step::GoesOn)
+                }
+                DumpLine::Unreadable => wrong_before(alloc, self.first, lines),
+                DumpLine::Other => match close(alloc, lines)? {
+                    Expected::Stuck(place) => Ok(Step::Wrong(line_behind(self.first, place))),
+                    Expected::Lines(lines) => {
+                        let mut comparison = Comparison { lines, came: 0 };
+                        let step = comparison.take(alloc, line, number)?;
+                        self.phase = Phase::State(comparison);
+                        Ok(step)
+                    }
+                },
+            },
+        }
+    }
+
+    /// How an audit ends whose input ends here, with the line of this number.
+    pub fn end(self, alloc: Global, last: u64) -> Result<AuditEnd, AllocError> {
+        match &self.phase {
+            Phase::State(_) => Ok(AuditEnd::Unreadable(last)),
+            Phase::Ops(lines) => match lines.first_wrong(alloc, true)? {
+                Some(place) => Ok(AuditEnd::No(line_behind(self.first, place))),
+                None => Ok(AuditEnd::Unreadable(last)),
+            },
+        }
+    }
+}
+
+/// The number of the line behind so many behind this one.
+fn line_behind(first: u64, place: usize) -> u64 {
+    first.saturating_add(1).saturating_add(place as u64)
+}
+
+/// What is to follow op lines behind which others stand, or where they are wrong.
+fn close(alloc: Global, lines: &OpLines) -> Result<Expected, AllocError> {
+    match lines.first_wrong(alloc, false)? {
+        Some(place) => Ok(Expected::Stuck(place)),
+        None => what_follows(alloc, &lines.ops),
+    }
+}
+
+/// What comes of a line that can't be read where op lines may still come.
+fn wrong_before(alloc: Global, first: u64, lines: &OpLines) -> Result<Step, AllocError> {
+    match lines.first_wrong(alloc, true)? {
+        Some(place) => Ok(Step::Wrong(line_behind(first, place))),
+        None => Ok(Step::Unreadable),
+    }
+}
+
+impl Comparison {
+    /// Takes the next line, which has this number.
+    fn take(&mut self, alloc: Global, line: &[u8], number: u64) -> Result<Step, AllocError> {
+        let start = self.came.min(self.lines.len());
+        let is_next = match split(b'\n', &self.lines[start..]) {
+            Some((next, _)) => next == line,
+            None => false,
+        };
+        if is_next {
+            self.came = start + line.len() + 1;
+            return Ok(self.step_behind(line, number));
+        }
+        if is_other(alloc, line)? || is_op(alloc, line)? {
+            Ok(Step::Wrong(number))
+        } else {
+            Ok(Step::Unreadable)
+        }
+    }
+
+    /// What comes of a line of this number that is the one that was to come.
+    fn step_behind(&self, line: &[u8], number: u64) -> Step {
+        if line != b"end".as_slice() {
+            Step::GoesOn
+        } else if self.came == self.lines.len() {
+            Step::Ends
+        } else {
+            Step::Wrong(number)
+        }
+    }
+}
+
+/// Whether the line is an op line.
+fn is_op(alloc: Global, line: &[u8]) -> Result<bool, AllocError> {
+    match dump_line(alloc, line)? {
+        DumpLine::Op(op) => {
+            drop(op);
+            Ok(true)
+        }
+        _ => Ok(false),
+    }
+}

@@ -1,0 +1,75 @@
+//! Whether UIDs are left between those that are known.
+
+ghost use Rattle.std.specs.Prelude.{◌≡◌, ◌↔◌, ℕ, ◌+◌, ◌-◌, ◌<◌, ◌≤◌, List, IsTrue, drop, length};
+ghost use Rattle.mail_audit.specs.Gaps.{FitsAt, FitsBehind, FitsInFront, HasRoomFor, Parts};
+ghost use Rattle.mail_audit.specs.Kept.{ArePlaces};
+
+use crate::slots::Told;
+
+/// The greatest UID (RFC 9051, section 2.3.1.1).
+const LAST_UID: u64 = 4_294_967_295;
+
+/// How many of the known messages have lesser places.
+pub fn find(tolds: &[Told], place: u32) -> usize
+    requires { (came : ℕ) × ArePlaces 0 tolds.now came }
+    ensures within { result ≤ length tolds.now }
+    ensures parts { Parts place tolds.now result }
+{
+    tolds.partition_point(|told| told.place < place)
+}
+
+/// Whether UIDs are left for so many messages behind the known ones.
+pub fn has_room(tolds: &[Told], came: u32) -> bool
+    ensures { IsTrue result ↔ HasRoomFor 0 0 tolds.now came }
+{
+    match tolds.last() {
+        None => true,
+        Some(told) => has_room_behind(*told, came),
+    }
+}
+
+/// Whether UIDs are left for so many messages behind a known one.
+fn has_room_behind(told: Told, came: u32) -> bool
+    ensures { IsTrue result ↔ (told.uid + (came - (told.place + 1)) ≤ 4294967295) }
+{
+    let from = u64::from(told.place) + 1;
+    u64::from(told.uid) + u64::from(came).saturating_sub(from) <= LAST_UID
+}
+
+/// Whether UIDs are left for the messages between two known ones.
+fn has_room_between(told: Told, next: Told) -> bool
+    ensures { IsTrue result ↔ (told.uid + (next.place - (told.place + 1)) < next.uid) }
+{
+    let from = u64::from(told.place) + 1;
+    u64::from(told.uid) + u64::from(next.place).saturating_sub(from) < u64::from(next.uid)
+}
+
+/// Whether UIDs are left on either side of one that is told, which stands behind so many known ones.
+pub fn fits_between(tolds: &[Told], at: usize, told: Told, came: u32) -> bool
+    requires { at ≤ length tolds.now }
+    ensures { IsTrue result ↔ FitsAt 0 0 at tolds.now told came }
+{
+    fits_behind(tolds, at, told) && fits_in_front(tolds, at, told, came)
+}
+
+/// Whether UIDs are left for the messages between the known one in front and this one.
+fn fits_behind(tolds: &[Told], at: usize, told: Told) -> bool
+    requires { at ≤ length tolds.now }
+    ensures { IsTrue result ↔ FitsBehind 0 0 at tolds.now told }
+{
+    match at.checked_sub(1) {
+        None => told.place < told.uid,
+        Some(before) => has_room_between(tolds[before], told),
+    }
+}
+
+/// Whether UIDs are left for the messages between this one and the known one behind it, or for all behind it.
+fn fits_in_front(tolds: &[Told], at: usize, told: Told, came: u32) -> bool
+    requires { at ≤ length tolds.now }
+    ensures { IsTrue result ↔ FitsInFront told (drop at tolds.now) came }
+{
+    match tolds.get(at) {
+        None => has_room_behind(told, came),
+        Some(next) => has_room_between(told, *next),
+    }
+}

@@ -1,0 +1,27 @@
+//! The audit of what a script printed: whether what clients were told, and what dumps show, can be right.
+//!
+//! It shares no code with the servers: it reads frames by the grammar, answers by their texts, and operations by theirs.
+#![tactic(auto)]
+
+mod applying;
+mod auditing;
+mod dump;
+mod event;
+mod forms;
+mod gaps;
+mod gone;
+mod laws;
+mod line_audit;
+mod lines;
+mod op_lines;
+mod results;
+mod running;
+mod sessions;
+mod slots;
+mod state;
+mod transcript;
+mod verdict;
+
+pub use auditing::{MAX_READS, audit};
+pub use laws::{explained_where_it_passes, heard_where_it_is_explained};
+pub use verdict::AuditEnd;

@@ -1,0 +1,74 @@
+//! The lines of transcripts, and the first lines of dumps.
+
+ghost use Rattle.std.specs.Prelude.{◌≡◌, ◌++◌, ◌∷◌, IfOk, IfSome};
+ghost use Rattle.imap_types.specs.Escape.{AreOctets, escaped};
+ghost use Rattle.imap_types.specs.declared.escape.Escape.TheVariants.{Text as Kept};
+ghost use Rattle.mail_script.specs.Transcript.{mark_of};
+
+use imap_types::{Escape, EscapeFault, Octets, read_escaped};
+use mail_script::{SessionName, Speaker};
+use std::alloc::{AllocError, Global};
+use tags_clocks::ReplicaId;
+use text_fields::split;
+
+/// What a line of a transcript tells.
+#[derive(Drop)]
+pub struct Spoken {
+    pub session: SessionName,
+    pub speaker: Speaker,
+    /// What was said, without its closing CRLF.
+    pub text: Octets,
+}
+
+/// What a line tells, where it is one of a transcript.
+pub fn read_spoken(alloc: Global, line: &[u8]) -> Result<Option<Spoken>, AllocError> {
+    let Some((name, said)) = split(b' ', line) else {
+        return Ok(None);
+    };
+    let Some((speaker, text)) = speech(said) else {
+        return Ok(None);
+    };
+    let Some(text) = unescaped(alloc, text)? else {
+        return Ok(None);
+    };
+    match SessionName::new(name.to_vec(alloc)?) {
+        None => Ok(None),
+        Some(session) => Ok(Some(Spoken {
+            session,
+            speaker,
+            text,
+        })),
+    }
+}
+
+/// Who spoke, and the text behind it.
+fn speech(said: &[u8]) -> Option<(Speaker, &[u8])>
+    ensures { IfSome result (λ speech. 32 ∷ said.now ≡ mark_of speech.0 ++ speech.1.now) }
+{
+    match said.strip_prefix(b"C: ".as_slice()) {
+        Some(frame) => Some((Speaker::Client, frame)),
+        None => match said.strip_prefix(b"S: ".as_slice()) {
+            Some(answer) => Some((Speaker::Server, answer)),
+            None => None,
+        },
+    }
+}
+
+/// What a text in the escape that keeps spaces stands for, where it is in it.
+fn unescaped(alloc: Global, text: &[u8]) -> Result<Option<Octets>, AllocError>
+    ensures { IfOk result (λ found. IfSome found (λ octets. AreOctets octets × (text.now ≡ escaped Kept octets))) }
+{
+    match read_escaped(alloc, Escape::Text, text) {
+        Ok(octets) => Ok(Some(octets)),
+        Err(EscapeFault::NotEscaped) => Ok(None),
+        Err(EscapeFault::NoMemory) => Err(AllocError),
+    }
+}
+
+/// The replica whose dump begins with this line, where one does.
+pub fn dump_begun(line: &[u8]) -> Option<ReplicaId> {
+    match line.strip_prefix(b"dump ".as_slice()) {
+        Some(number) => text_fields::replica(number),
+        None => None,
+    }
+}

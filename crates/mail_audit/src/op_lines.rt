@@ -1,0 +1,129 @@
+//! The op lines of a dump.
+
+ghost use Rattle.std.specs.Prelude.{◌≡◌, [], false};
+
+use crdt_ops::{Op, SoundOp, check};
+use merge_laws::Caused;
+use std::alloc::{AllocError, Global};
+use tags_clocks::{Clock, OpId, ReplicaId};
+
+/// The op lines of a dump: the operations of those before the first bad one, which isn't sound or not above the one in
+/// front of it; and the ids of those from there on.
+#[derive(Drop)]
+pub struct OpLines {
+    pub ops: Vec<SoundOp>,
+    pub is_bad: bool,
+    pub others: Vec<OpId>,
+}
+
+impl OpLines {
+    /// No lines.
+    pub fn new(alloc: Global) -> OpLines
+        ensures { (result.ops.items ≡ []) × (result.is_bad ≡ false) }
+    {
+        OpLines {
+            ops: Vec::new(alloc),
+            is_bad: false,
+            others: Vec::new(alloc),
+        }
+    }
+
+    /// Takes the operation of the next line. `Err` where there is no memory for it.
+    pub fn push(&mut self, op: Op) -> Result<(), AllocError> {
+        let id = op.id;
+        if self.is_bad || !is_above(&self.ops, &id) {
+            drop(op);
+            return self.set_aside(&id);
+        }
+        match check(op) {
+            Ok(op) => {
+                self.ops.push(op)?;
+                Ok(())
+            }
+            Err((op, _)) => {
+                drop(op);
+                self.set_aside(&id)
+            }
+        }
+    }
+
+    /// Takes the id of a line that is bad, or behind one.
+    fn set_aside(&mut self, id: &OpId) -> Result<(), AllocError> {
+        self.is_bad = true;
+        self.others.push(*id)?;
+        Ok(())
+    }
+
+    /// How many op lines stand before the first that makes the dump wrong, where one does: it is bad, or has a cause that no op
+    /// line has. Where op lines may still come, a cause may come with them whose id is above all.
+    pub fn first_wrong(&self, alloc: Global, may_come: bool) -> Result<Option<usize>, AllocError> {
+        let there = self.clock(alloc)?;
+        let last = match self.ops.last() {
+            Some(op) if may_come => Some(op.id()),
+            _ => None,
+        };
+        Ok(match first_lacking(&self.ops, &there, &last) {
+            Some(place) => Some(place),
+            None if self.is_bad => Some(self.ops.len()),
+            None => None,
+        })
+    }
+
+    /// The clock that counts for each replica the op lines with its numbers from 1 on, without a gap.
+    fn clock(&self, alloc: Global) -> Result<Clock, AllocError> {
+        let mut ids = Vec::with_capacity(alloc, self.others.len())?;
+        for op in &self.ops {
+            ids.push(op.id())?;
+        }
+        ids.extend_from_slice(&self.others)?;
+        ids.sort()?;
+        let mut clock = Clock::new(alloc);
+        for id in &ids {
+            if clock.get(id.replica) == id.number.get() - 1 {
+                clock.raise(id.replica, id.number.get())?;
+            }
+        }
+        Ok(clock)
+    }
+}
+
+/// Whether the id is above that of the last operation.
+fn is_above(ops: &[SoundOp], id: &OpId) -> bool {
+    match ops.last() {
+        None => true,
+        Some(op) => op.id() < *id,
+    }
+}
+
+/// The place of the first operation with a cause that isn't counted; where op lines may still come behind an id, only with one
+/// that isn't above it.
+fn first_lacking(ops: &[SoundOp], there: &Clock, last: &Option<OpId>) -> Option<usize> {
+    for (place, op) in ops.iter().enumerate() {
+        if lacks(op.clock(), there, last) {
+            return Some(place);
+        }
+    }
+    None
+}
+
+/// Whether a cause isn't counted; where op lines may still come behind an id, only one that isn't above it.
+fn lacks(clock: &Clock, there: &Clock, last: &Option<OpId>) -> bool {
+    for (replica, count) in clock.entries() {
+        let counted = there.get(*replica);
+        if counted < *count && is_missed(*replica, counted, last) {
+            return true;
+        }
+    }
+    false
+}
+
+/// Whether the replica's operation behind so many is missed where op lines may still come behind an id.
+fn is_missed(replica: ReplicaId, counted: u32, last: &Option<OpId>) -> bool {
+    let (Some(last), Some(next)) = (last, counted.checked_add(1)) else {
+        return true;
+    };
+    match OpId::new(replica, next) {
+        Some(cause) => cause <= *last,
+        None => true,
+    }
+}

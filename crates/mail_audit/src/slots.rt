@@ -1,0 +1,187 @@
+//! What is known of a session's messages.
+
+ghost use Rattle.std.specs.Prelude.{◌≡◌, ◌↔◌, ◌<◌, ◌≤◌, IfOk, IsTrue, MatchOption, None as Unknown, Some as Found, get_or, length, set};
+ghost use Rattle.mail_audit.specs.Explained.{IsNumberOf};
+ghost use Rattle.mail_audit.specs.Gaps.{IsTold, IsUntold, Parts};
+ghost use Rattle.mail_audit.specs.Passing.{HasRoomAbove, MayBe};
+ghost use Rattle.mail_audit.specs.Steps.{Fits, next, nothing, place_at, with_more};
+ghost use Rattle.mail_audit.specs.declared.event.SlotEvent.TheVariants.{Exists as CountTold, Expunge as GoneTold, Tells as UidTold};
+
+use crate::event::SlotEvent;
+use crate::gaps::{find, fits_between, has_room};
+use crate::gone::gone_before;
+use std::alloc::{AllocError, Global};
+use std::marker::Model;
+
+/// A message's place among all that came, from 0 on, and the UID that was told of it.
+#[derive(Clone, Copy, Debug, PartialEq, Eq)]
+pub struct Told {
+    pub place: u32,
+    pub uid: u32,
+}
+
+/// What is known of a session's messages: how many came, the places of those that are gone, and those whose UIDs were
+/// told, both by ascending places.
+#[derive(Drop)]
+pub struct Slots {
+    came: u32,
+    gone: Vec<u32>,
+    tolds: Vec<Told>,
+}
+
+impl Model for Slots {
+    ghost use Rattle.mail_audit.specs.Kept.{AreKept, places_from, slots_from};
+    ghost use Rattle.mail_audit.specs.Gaps.{IsTold, IsUntold, Parts};
+    ghost use Rattle.mail_audit.specs.Passing.{HasRoomAbove, MayBe};
+    ghost use Rattle.mail_audit.specs.Steps.{Known};
+
+    ghost Value = { Known };
+
+    ghost view = { λ s. record { there = places_from 0 s.gone.items s.came; slots = slots_from 0 s.tolds.items s.came } };
+
+    ghost invariant = { λ s. AreKept s.gone.items s.tolds.items s.came };
+}
+
+impl Slots {
+    /// Nothing is known, and no message came.
+    pub fn new(alloc: Global) -> Slots
+        ensures { result ≡ nothing }
+    {
+        Slots {
+            came: 0,
+            gone: Vec::new(alloc),
+            tolds: Vec::new(alloc),
+        }
+    }
+
+    /// Takes note of an event, where it fits what is known; else nothing changes. `Err` where there is no memory for it, and
+    /// then nothing changes either.
+    pub fn note(&mut self, alloc: Global, event: SlotEvent) -> Result<bool, AllocError>
+        ensures fits { IfOk result (λ noted. IsTrue noted ↔ Fits self.old event) }
+        ensures next { IfOk result (λ noted. IsTrue noted → self.new ≡ next self.old event) }
+    {
+        match event {
+            SlotEvent::Selects => {
+                *self = Slots::new(alloc);
+                Ok(true)
+            }
+            SlotEvent::Exists(count) => Ok(self.grow(count)),
+            SlotEvent::Expunge(number) => self.take_out(number),
+            SlotEvent::Names(number) => Ok(self.has(number)),
+            SlotEvent::Tells(number, uid) => self.tell(number, uid),
+            SlotEvent::Passes => Ok(true),
+        }
+    }
+
+    /// How many messages are there.
+    fn count(&self) -> u32
+        ensures { result ≡ length self.now.there }
+    {
+        self.came - self.gone.len() as u32
+    }
+
+    /// Whether a message has this number.
+    fn has(&self, number: u32) -> bool
+        ensures { IsTrue result ↔ IsNumberOf number self.now.there }
+    {
+        0 < number && number <= self.count()
+    }
+
+    /// Takes note that so many messages are there, where no more went and UIDs are left for those that came.
+    fn grow(&mut self, count: u32) -> bool
+        ensures fits { IsTrue result ↔ Fits self.old (CountTold count) }
+        ensures next { IsTrue result → self.new ≡ next self.old (CountTold count) }
+    {
+        let there = self.count();
+        if count < there {
+            return false;
+        }
+        self.add(count - there)
+    }
+
+    /// Takes note that so many more messages came, where UIDs are left for them.
+    fn add(&mut self, more: u32) -> bool
+        ensures fits { IsTrue result ↔ HasRoomAbove 0 (with_more self.old more).slots }
+        ensures next { IsTrue result → self.new ≡ with_more self.old more }
+    {
+        let Some(came) = self.came.checked_add(more) else {
+            return false;
+        };
+        if !has_room(&self.tolds, came) {
+            return false;
+        }
+        self.came = came;
+        true
+    }
+
+    /// Takes note that the message of this number went, where there is one.
+    fn take_out(&mut self, number: u32) -> Result<bool, AllocError>
+        ensures fits { IfOk result (λ noted. IsTrue noted ↔ Fits self.old (GoneTold number)) }
+        ensures next { IfOk result (λ noted. IsTrue noted → self.new ≡ next self.old (GoneTold number)) }
+    {
+        if !self.has(number) {
+            return Ok(false);
+        }
+        let before = gone_before(&self.gone, number - 1);
+        self.gone.insert(before, number - 1 + before as u32)?;
+        Ok(true)
+    }
+
+    /// The place of the message of this number.
+    fn place_of(&self, number: u32) -> u32
+        requires { IsNumberOf number self.now.there }
+        ensures place { result ≡ place_at self.now number }
+        ensures came { result < length self.now.slots }
+    {
+        let before = gone_before(&self.gone, number - 1);
+        number - 1 + before as u32
+    }
+
+    /// Takes note of the UID of the message of this number, where there is one and its UID may be this.
+    fn tell(&mut self, number: u32, uid: u32) -> Result<bool, AllocError>
+        ensures fits { IfOk result (λ noted. IsTrue noted ↔ Fits self.old (UidTold number uid)) }
+        ensures next { IfOk result (λ noted. IsTrue noted → self.new ≡ next self.old (UidTold number uid)) }
+    {
+        if !self.has(number) {
+            return Ok(false);
+        }
+        let place = self.place_of(number);
+        self.tell_at(place, uid)
+    }
+
+    /// Takes note of the UID at a place, where its UID may be this.
+    fn tell_at(&mut self, place: u32, uid: u32) -> Result<bool, AllocError>
+        requires { place < length self.old.slots }
+        ensures fits { IfOk result (λ noted. IsTrue noted ↔ (MayBe (get_or self.old.slots place Unknown) uid × HasRoomAbove 0 (set self.old.slots place (Found uid)))) }
+        ensures next { IfOk result (λ noted. IsTrue noted → self.new ≡ record self.old { slots = set self.old.slots place (Found uid) }) }
+    {
+        let at = find(&self.tolds, place);
+        if let Some(known) = uid_at(&self.tolds, at, place) {
+            return Ok(known == uid);
+        }
+        let told = Told { place, uid };
+        if !fits_between(&self.tolds, at, told, self.came) {
+            return Ok(false);
+        }
+        self.tolds.insert(at, told)?;
+        Ok(true)
+    }
+}
+
+/// The UID that was told of a place, where one was, behind so many of lesser places.
+fn uid_at(tolds: &[Told], at: usize, place: u32) -> Option<u32>
+    requires within { at ≤ length tolds.now }
+    requires parts { Parts place tolds.now at }
+    ensures { MatchOption result (IsUntold at place tolds.now) (λ uid. IsTold at place uid tolds.now) }
+{
+    match tolds.get(at) {
+        None => None,
+        Some(told) => {
+            if told.place == place {
+                Some(told.uid)
+            } else {
+                None
+            }
+        }
+    }
+}

@@ -1,0 +1,171 @@
+//! One session's transcript.
+
+ghost use Rattle.std.specs.Prelude.{◌≡◌};
+ghost use Rattle.mail_audit.specs.Transcripts.{event_by, event_of, idles, may_expunge};
+
+use crate::event::SlotEvent;
+use crate::running::{InProgress, Running};
+use crate::slots::Slots;
+use imap_answers::Answer;
+use imap_grammar::{Command, ParseFault, Tagged, parse};
+use imap_read::read;
+use mail_script::Speaker;
+use std::alloc::{AllocError, Global};
+
+/// What is known of a session from what was said in it.
+#[derive(Drop)]
+pub struct Transcript {
+    running: InProgress,
+    slots: Slots,
+}
+
+impl Transcript {
+    /// Nothing was said.
+    pub fn new(alloc: Global) -> Transcript {
+        Transcript {
+            running: InProgress::new(alloc),
+            slots: Slots::new(alloc),
+        }
+    }
+
+    /// Takes what was said, CRLF included, and tells whether it may follow what was said before.
+    pub fn hear(
+        &mut self,
+        alloc: Global,
+        speaker: Speaker,
+        octets: &[u8],
+    ) -> Result<bool, AllocError> {
+        match speaker {
+            Speaker::Client => {
+                self.ask(alloc, octets)?;
+                Ok(true)
+            }
+            Speaker::Server => self.answer(alloc, octets),
+        }
+    }
+
+    /// Takes a client's frame.
+    fn ask(&mut self, alloc: Global, frame: &[u8]) -> Result<(), AllocError> {
+        if self.running.idles() {
+            return Ok(());
+        }
+        match parse(alloc, frame) {
+            Ok(tagged) => self.begin(alloc, tagged),
+            Err(ParseFault::NoMemory) => Err(AllocError),
+            Err(_) => Ok(()),
+        }
+    }
+
+    /// A command begins.
+    fn begin(&mut self, alloc: Global, tagged: Tagged) -> Result<(), AllocError> {
+        let Tagged { tag, command } = tagged;
+        let may_expunge = may_expunge(&command);
+        let idles = idles(&command);
+        let event = event_by(&command);
+        drop(command);
+        self.running.begin(Running {
+            tag,
+            may_expunge,
+            idles,
+        })?;
+        let _noted = self.slots.note(alloc, event)?;
+        Ok(())
+    }
+
+    /// Takes what a server sent.
+    fn answer(&mut self, alloc: Global, octets: &[u8]) -> Result<bool, AllocError> {
+        match whole_answer(alloc, octets)? {
+            None => Ok(false),
+            Some(answer) => self.take(alloc, &answer),
+        }
+    }
+
+    /// Takes an answer.
+    fn take(&mut self, alloc: Global, answer: &Answer) -> Result<bool, AllocError> {
+        if !may_stand(&self.running, answer) {
+            return Ok(false);
+        }
+        if !self.slots.note(alloc, event_of(answer))? {
+            return Ok(false);
+        }
+        self.end(answer);
+        Ok(true)
+    }
+
+    /// A tagged answer ends its command.
+    fn end(&mut self, answer: &Answer) {
+        match answer {
+            Answer::Completed { tag, .. } => self.running.end(tag.as_bytes()),
+            Answer::Refused { tag, .. } => self.running.end(tag.as_bytes()),
+            _ => {}
+        }
+    }
+}
+
+/// The answer that these octets are, where they are one.
+fn whole_answer(alloc: Global, octets: &[u8]) -> Result<Option<Answer>, AllocError> {
+    match read(alloc, octets)? {
+        None => Ok(None),
+        Some((answer, length)) => {
+            if length == octets.len() {
+                Ok(Some(answer))
+            } else {
+                drop(answer);
+                Ok(None)
+            }
+        }
+    }
+}
+
+/// Whether EXPUNGE may be told while the command is in progress (RFC 9051, section 7.5.1).
+fn may_expunge(command: &Command) -> bool
+    ensures { result ≡ may_expunge command.now }
+{
+    match command {
+        Command::Fetch { by_uid, .. } => *by_uid,
+        Command::Store { by_uid, .. } => *by_uid,
+        Command::Search { by_uid, .. } => *by_uid,
+        _ => true,
+    }
+}
+
+/// Whether the session idles while the command is in progress (RFC 2177).
+fn idles(command: &Command) -> bool
+    ensures { result ≡ idles command.now }
+{
+    matches!(command, Command::Idle)
+}
+
+/// What the command's beginning does to the slots.
+fn event_by(command: &Command) -> SlotEvent
+    ensures { result ≡ event_by command.now }
+{
+    match command {
+        Command::Select { .. } => SlotEvent::Selects,
+        Command::Examine { .. } => SlotEvent::Selects,
+        _ => SlotEvent::Passes,
+    }
+}
+
+/// Whether the answer may stand while these commands are in progress.
+fn may_stand(running: &InProgress, answer: &Answer) -> bool {
+    match answer {
+        Answer::Expunge { .. } => running.may_expunge(),
+        _ => true,
+    }
+}
+
+/// What the answer tells of the slots.
+fn event_of(answer: &Answer) -> SlotEvent
+    ensures { result ≡ event_of answer.now }
+{
+    match answer {
+        Answer::Exists { count } => SlotEvent::Exists(*count),
+        Answer::Expunge { number } => SlotEvent::Expunge(*number),
+        Answer::Fetch { number, items } => match items.uid {
+            None => SlotEvent::Names(*number),
+            Some(uid) => SlotEvent::Tells(*number, uid),
+        },
+        _ => SlotEvent::Passes,
+    }
+}
