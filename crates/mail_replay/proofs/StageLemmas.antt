@@ -1,9 +1,13 @@
 use Rattle.std.proofs.Common.{◌≡◌, inl, inr, ℕ, ◌<◌, List, [], ◌∷◌, Option, Some, Result, Ok, Err, length, get_or, subst, sym, ap, ◌∙◌}
 use Rattle.std.specs.List.{slice_get}
-use Rattle.std.specs.Prelude.{OnOk}
+use Rattle.std.specs.Prelude.{◌↔◌, IfOk, IsTrue, MatchResult, OnErr, OnOk}
+use Rattle.causal_inbox.specs.declared.answers.DeliverFault.{DeliverFault}
+use Rattle.causal_inbox.specs.declared.answers.Delivered.{Delivered}
+use Rattle.imap_node.specs.Deliveries.{Delivers, HoldsRipe, IsRefusedAt}
+use Rattle.imap_node.specs.Nodes.{NodeState}
 use Rattle.std.proofs.lemmas.Option.{same_Some, slice_get-get_or}
 use Rattle.crdt_ops.specs.declared.op.Op.{Op}
-use Rattle.mail_replay.specs.Deliveries.{Issued}
+use Rattle.mail_replay.specs.Deliveries.{Answers, Issued}
 use Rattle.mail_replay.specs.Stage.{Scene, replica_place}
 use Rattle.mail_replay.specs.declared.stage.Replica.{Replica}
 use Rattle.merge_laws.specs.Orders.{HasId, IsIn}
@@ -30,6 +34,13 @@ never_issued scene id op at source place stands none i =
     let there : slice_get scene.replicas at ≡ Some i.1 = subst (λ (k : ℕ). slice_get scene.replicas k ≡ Some i.1) here i.2.1 in
     let same : i.1 ≡ source = some_same (slice_get scene.replicas at) i.1 source there stands in
     none (has_id_in source.issued op id (subst (λ (r : Replica). IsIn op r.issued) same i.3) i.4)
+
+-- what a node answers to a delivery
+pub answers_given : (old : NodeState) (op : Op) (answer : Result Delivered DeliverFault) (new : NodeState)
+    → MatchResult answer (λ d. Delivers old op d.arrival new) (λ e. IsRefusedAt old op e) → IfOk answer (λ d. IsTrue d.stalled ↔ HoldsRipe new) → OnErr answer (new ≡ old)
+    → Answers old op answer new
+answers_given old op (Ok d) new arrives stalled kept = (arrives, stalled)
+answers_given old op (Err why) new refused stalled kept = (refused, kept)
 
 -- what an answer leads to, where there is one
 pub on_ok : {T E : Type 0} (r : Result T E) {P Q : Type 0} → (P → Q) → OnOk r P → OnOk r Q
