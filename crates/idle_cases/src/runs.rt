@@ -30,15 +30,25 @@ pub fn played(alloc: Global, number: u64) -> Result<Ending, Trouble> {
     let mut chance = Chance::new(number);
     let name = if chance.is_one_in(2) { "INBOX" } else { "work" };
     let mut scene = Scene::new(alloc)?;
-    prepare(alloc, &mut chance, &mut scene, name)?;
     let mut watch = Watch::new(alloc);
-    begin(alloc, &mut scene, name, &mut watch)?;
+    play(alloc, &mut chance, &mut scene, name, &mut watch)
+}
+
+fn play(
+    alloc: Global,
+    chance: &mut Chance,
+    scene: &mut Scene,
+    name: &str,
+    watch: &mut Watch,
+) -> Result<Ending, Trouble> {
+    prepare(alloc, chance, scene, name)?;
+    begin(alloc, scene, name, watch)?;
     let steps = chance.below(24);
     for _ in 0..steps.saturating_add(8) {
-        step(alloc, &mut chance, &mut scene, name, &mut watch)?;
+        step(alloc, chance, scene, name, watch)?;
     }
-    end(alloc, &mut scene, &mut watch)?;
-    judged(alloc, &mut scene, name, &watch)
+    end(alloc, scene, watch)?;
+    judged(alloc, scene, name, watch)
 }
 
 /// Makes the mailboxes, and some messages, and lets some of it come to the other replica.
@@ -48,16 +58,21 @@ fn prepare(
     scene: &mut Scene,
     name: &str,
 ) -> Result<(), Trouble> {
-    drop(command(alloc, &mut scene.near, scene.near_hand, "a CREATE work\r\n")?);
     drop(command(
         alloc,
         &mut scene.near,
-        scene.near_hand,
+        scene.hands.near,
+        "a CREATE work\r\n",
+    )?);
+    drop(command(
+        alloc,
+        &mut scene.near,
+        scene.hands.near,
         "a CREATE other\r\n",
     )?);
     for _ in 0..chance.below(6) {
         let text = append(alloc, chance, name)?;
-        drop(command(alloc, &mut scene.near, scene.near_hand, text.as_str())?);
+        drop(command(alloc, &mut scene.near, scene.hands.near, text.as_str())?);
     }
     exchange(alloc, chance, &scene.near, &mut scene.far)
 }
@@ -72,7 +87,7 @@ fn begin(alloc: Global, scene: &mut Scene, name: &str, watch: &mut Watch) -> Res
 
 /// All clients hear what the watching session is answered.
 fn learn(alloc: Global, scene: &mut Scene, watch: &mut Watch, text: &str) -> Result<(), Trouble> {
-    match command(alloc, &mut scene.near, scene.watcher, text)? {
+    match command(alloc, &mut scene.near, scene.hands.watcher, text)? {
         Some(answers) => Ok(watch.hear_all(alloc, answers.as_slice())?),
         None => Err(Trouble::Unplayable),
     }
@@ -87,19 +102,19 @@ fn step(
     watch: &mut Watch,
 ) -> Result<(), Trouble> {
     match chance.below(8) {
-        0 | 1 | 2 => deed(alloc, chance, &mut scene.near, scene.near_hand, name),
-        3 | 4 => deed(alloc, chance, &mut scene.far, scene.far_hand, name),
+        0 | 1 | 2 => deed(alloc, chance, &mut scene.near, scene.hands.near, name),
+        3 | 4 => deed(alloc, chance, &mut scene.far, scene.hands.far, name),
         5 => exchange(alloc, chance, &scene.far, &mut scene.near),
         6 => exchange(alloc, chance, &scene.near, &mut scene.far),
         _ => {
-            let told = poll(alloc, &mut scene.near, scene.watcher)?;
+            let told = poll(alloc, &mut scene.near, scene.hands.watcher)?;
             hear(alloc, watch, told)
         }
     }
 }
 
 fn end(alloc: Global, scene: &mut Scene, watch: &mut Watch) -> Result<(), Trouble> {
-    let told = done(alloc, &mut scene.near, scene.watcher)?;
+    let told = done(alloc, &mut scene.near, scene.hands.watcher)?;
     hear(alloc, watch, told)
 }
 

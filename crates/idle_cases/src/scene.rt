@@ -9,19 +9,26 @@ use std::alloc::{AllocError, Global};
 use tags_clocks::ReplicaId;
 use uid_projection::Start;
 
-/// Two replicas, with a session that watches the first and one at each that works.
+/// Two replicas, and their sessions.
 #[derive(Drop)]
 pub struct Scene {
     /// Where the watching session is.
     pub near: Node,
     /// The other replica.
     pub far: Node,
+    /// The sessions.
+    pub hands: Hands,
+}
+
+/// The session that watches, and one at each replica that works.
+#[derive(Clone, Copy)]
+pub struct Hands {
     /// The session that watches, at `near`.
     pub watcher: SessionNo,
     /// The session at `near` that works.
-    pub near_hand: SessionNo,
+    pub near: SessionNo,
     /// The session at `far` that works.
-    pub far_hand: SessionNo,
+    pub far: SessionNo,
 }
 
 impl Scene {
@@ -29,17 +36,17 @@ impl Scene {
     pub fn new(alloc: Global) -> Result<Scene, Trouble> {
         let mut near = node(alloc, 1)?;
         let mut far = node(alloc, 2)?;
-        let watcher = session(&mut near)?;
-        let near_hand = session(&mut near)?;
-        let far_hand = session(&mut far)?;
-        Ok(Scene {
-            near,
-            far,
-            watcher,
-            near_hand,
-            far_hand,
-        })
+        let hands = open_hands(&mut near, &mut far)?;
+        Ok(Scene { near, far, hands })
     }
+}
+
+fn open_hands(near: &mut Node, far: &mut Node) -> Result<Hands, Trouble> {
+    Ok(Hands {
+        watcher: session(near)?,
+        near: session(near)?,
+        far: session(far)?,
+    })
 }
 
 fn node(alloc: Global, replica: u32) -> Result<Node, Trouble> {
@@ -78,10 +85,10 @@ pub fn command(
     session: SessionNo,
     text: &str,
 ) -> Result<Option<Answers>, Trouble> {
-    let tagged = spelled(alloc, text)?;
     if !node.is_open(session) {
         return Err(Trouble::Unplayable);
     }
+    let tagged = spelled(alloc, text)?;
     Ok(answers_in(node.command(alloc, session, Moment::epoch(), tagged)))
 }
 
