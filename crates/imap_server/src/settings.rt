@@ -190,7 +190,6 @@ fn add_place<'a>(
 }
 
 /// Adds a name, unless it is there; false where it is.
-#[tactic(auto, using(crate::proofs::NameLemmas::names_more))]
 fn add_name(names: &mut Vec<u16>, name: u16) -> Result<bool, AllocError>
     requires positive { 0 < name }
     requires names { AreNames names.old.items }
