@@ -54,7 +54,7 @@ follows old [] (outcome ∷ outcomes) moments f h = absurd h
 follows old (event ∷ events) [] moments f h = absurd h
 follows old (event ∷ events) (outcome ∷ outcomes) [] f h = absurd h
 
-last_in : (old : Replicas) (moments : List Replicas) → IsIn (last_of old moments) (old ∷ moments)
+pub last_in : (old : Replicas) (moments : List Replicas) → IsIn (last_of old moments) (old ∷ moments)
 last_in old [] = inl refl
 last_in old (next ∷ moments) = inr (last_in next moments)
 

@@ -2,11 +2,12 @@ use Rattle.std.proofs.Common.{◌≡◌, ℕ, ◌+◌, ◌≤◌, List, [], ◌�
 use Rattle.imap_node.specs.Nodes.{NodeState}
 use Rattle.world_core.specs.declared.event.Event.{Event}
 use Rattle.world_core.specs.declared.event.Outcome.{Outcome}
-use Rattle.world_core.specs.Headline.{Headline}
-use Rattle.world_core.specs.Moments.{IsFair}
+use Rattle.world_core.specs.Headline.{Headline, NumbersLast}
+use Rattle.world_core.specs.Moments.{Converges, IsFair, IssuedAreDetermined, IssuedAreSound}
 use Rattle.world_core.specs.Replicas.{Replicas, by_name}
-use Rattle.world_core.specs.Steps.{Runs, Steps}
-use Rattle.world_core.proofs.HeadLemmas.{run_fair, run_holds, run_length, run_more, run_none}
+use Rattle.world_core.specs.Sights.{SightsAscend}
+use Rattle.world_core.specs.Steps.{Runs, Steps, last_of}
+use Rattle.world_core.proofs.HeadLemmas.{last_in, run_fair, run_holds, run_lasts, run_length, run_more, run_none}
 use Rattle.world_core.proofs.PlaceLemmas.{take_whole}
 
 -- a run of the nodes of a world ends fair
@@ -19,6 +20,28 @@ ends_headline world before after end events outcomes e d f h =
     let r : Runs (by_name world) events outcomes (by_name end) =
     subst (λ (ns : List NodeState). Runs (by_name ns) events outcomes (by_name end)) e (subst (λ (ns : List NodeState). Runs (by_name before) events outcomes (by_name ns)) (sym d) h) in
     run_holds (by_name world) (by_name end) events outcomes f r
+
+pub ends_lasting : (world before after end : List NodeState) (events : List Event) (outcomes : List Outcome) → before ≡ world → end ≡ after → IsFair (by_name world) → Runs (by_name before) events outcomes (by_name after) → NumbersLast (by_name world) (by_name end)
+ends_lasting world before after end events outcomes e d f h =
+    run_lasts (by_name world) (by_name end) events outcomes f
+    (subst (λ (ns : List NodeState). Runs (by_name ns) events outcomes (by_name end)) e (subst (λ (ns : List NodeState). Runs (by_name before) events outcomes (by_name ns)) (sym d) h))
+
+pub stays_lasting : (world : List NodeState) → IsFair (by_name world) → NumbersLast (by_name world) (by_name world)
+stays_lasting world f = run_lasts (by_name world) (by_name world) [] [] f (run_none (by_name world) (by_name world) refl)
+
+-- what holds at every moment holds at the last one
+module _ (old new : Replicas) (events : List Event) (outcomes : List Outcome) (h : Headline old events outcomes new) where
+  pub determined_then : IssuedAreDetermined new
+  determined_then = subst IssuedAreDetermined (sym h.ends) (h.determined (last_of old h.moments) (last_in old h.moments))
+
+  pub sound_then : IssuedAreSound new
+  sound_then = subst IssuedAreSound (sym h.ends) (h.sound (last_of old h.moments) (last_in old h.moments))
+
+  pub converges_then : Converges new
+  converges_then = subst Converges (sym h.ends) (h.converges (last_of old h.moments) (last_in old h.moments))
+
+  pub ascending_then : SightsAscend new
+  ascending_then = subst SightsAscend (sym h.ends) (h.ascending (last_of old h.moments) (last_in old h.moments))
 
 -- all of its events were taken
 pub all_taken : (old new : Replicas) (events : List Event) (outcomes : List Outcome) → Runs old events outcomes new → take (length outcomes) events ≡ events
