@@ -1,13 +1,12 @@
-use Rattle.std.proofs.Common.{◌≡◌, ◌⊎◌, ◌↔◌, inl, inr, ℕ, ◌≤◌, Bool, true, false, Option, None, Some, List, [], ◌∷◌, ◌++◌, refl, sym, ap, ◌∙◌, subst}
+use Rattle.std.proofs.Common.{◌≡◌, inl, ℕ, Bool, true, false, Option, None, Some, List, ◌∷◌, refl, sym, ap, ◌∙◌, subst}
 use Rattle.std.specs.Prelude.{if◌then◌else◌}
 use Rattle.tags_clocks.specs.declared.id.OpId.{OpId}
 use Rattle.tags_clocks.specs.Clock.{IsCause}
 use Rattle.merge_laws.specs.Orders.{HasId, HaveSameElements, IsIn}
 use Rattle.merge_laws.proofs.Causal.{causal_determines}
 use Rattle.merge_laws.proofs.Lists.{element_of_id, id_of_element, in_front, split_at}
-use Rattle.causal_inbox.specs.Seen.{IsClockOf, IsReceived}
-use Rattle.crdt_ops.specs.Meanings.{MeansTheSame}
-use Rattle.crdt_ops.specs.Sets.{Body, body_by, body_from, first_given}
+use Rattle.causal_inbox.specs.Seen.{IsClockOf}
+use Rattle.crdt_ops.specs.Sets.{Body, body_by, body_from}
 use Rattle.crdt_ops.specs.Sound.{IsSound}
 use Rattle.crdt_ops.specs.Tags.{MessageTag, adds}
 use Rattle.crdt_ops.specs.TagLaws.{adds_own}
@@ -15,7 +14,7 @@ use Rattle.crdt_ops.specs.declared.kind.Kind.{Kind}
 use Rattle.crdt_ops.specs.declared.kind.Kind.TheVariants as kinds
 use Rattle.crdt_ops.specs.declared.op.Op.{Op}
 use Rattle.crdt_ops.proofs.MeaningLemmas.{one_set_means_one}
-use Rattle.imap_node.specs.Nodes.{NodeState, received}
+use Rattle.imap_node.specs.Nodes.{NodeState}
 use Rattle.uid_projection.specs.Applied.{IsApplied}
 use Rattle.uid_projection.specs.ForGood.{BearsOrigin, HasTrueOrigins}
 use Rattle.uid_projection.proofs.Keeping.{given_by}

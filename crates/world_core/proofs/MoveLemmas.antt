@@ -1,5 +1,4 @@
-use Rattle.std.proofs.Common.{◌≡◌, ◌≢◌, ◌⊎◌, inl, inr, ℕ, ◌≤◌, Option, None, Some, List, [], ◌++◌, refl, sym, ap, ◌∙◌, subst, append-nil}
-use Rattle.std.proofs.Math.Dec.{eqb}
+use Rattle.std.proofs.Common.{◌≡◌, ◌≢◌, inl, inr, ℕ, ◌≤◌, Option, Some, List, [], refl, sym, ap, ◌∙◌, subst, append-nil}
 use Rattle.std.proofs.lemmas.Bool.Decides.{eqb_tells}
 use Rattle.merge_laws.specs.Orders.{IsIn}
 use Rattle.merge_laws.proofs.Lists.{in_front}
@@ -14,8 +13,7 @@ use Rattle.imap_node.specs.GoingBack.{ViewsGoBack}
 use Rattle.imap_node.specs.Replays.{ViewsAscend, view_at, view_behind}
 use Rattle.imap_node.specs.declared.input.Input.{Input}
 use Rattle.imap_node.specs.declared.input.Input.TheVariants as inputs
-use Rattle.session_view.specs.Seen.{Seen}
-use Rattle.session_view.specs.Views.{AreRising, entries_of}
+use Rattle.session_view.specs.Views.{entries_of}
 use Rattle.imap_node.specs.Mailboxes.{rows_for}
 use Rattle.imap_node.specs.declared.reply.Reply.TheVariants.{Done, Refused}
 use Rattle.uid_projection.specs.Applied.{IsApplied}
@@ -30,7 +28,7 @@ use Rattle.world_core.specs.Steps.{NodeSteps, Steps, at_of}
 use Rattle.world_core.proofs.FairLemmas.{applied_at, issued_sound}
 use Rattle.world_core.proofs.NamedLemmas.{some_same, stands, stands_there, stays_there}
 use Rattle.world_core.proofs.NodeLemmas.{Gathers}
-use Rattle.world_core.proofs.StepLemmas.{IsAnsweredAt, IsShownAt, IsShownThere, IsToldAt, StepsTo, step_to}
+use Rattle.world_core.proofs.StepLemmas.{IsAnsweredAt, IsShownAt, IsShownThere, IsToldAt, step_to}
 
 bears_along : (P Q : Op → Type 0) → ((o : Op) → P o → Q o) → (kind : Kind) → BearsIssued P kind → BearsIssued Q kind
 bears_along P Q along (kinds.Create folder) h = tt

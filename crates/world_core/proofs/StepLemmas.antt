@@ -1,18 +1,13 @@
-use Rattle.std.proofs.Common.{◌≡◌, ◌≢◌, ◌⊎◌, inl, inr, ℕ, ◌<◌, ◌≤◌, Bool, true, false, Option, None, Some, IsSome, List, [], ◌∷◌, ◌++◌, refl, sym, ap, ◌∙◌, subst, append-nil}
+use Rattle.std.proofs.Common.{◌≡◌, ◌≢◌, ◌⊎◌, inl, inr, ℕ, ◌≤◌, Bool, true, false, Option, None, Some, IsSome, List, [], refl, sym, ap, ◌∙◌, subst, append-nil}
 use Rattle.std.proofs.Common.{get_or, set}
 use Rattle.std.specs.Option.{IsNone}
-use Rattle.std.proofs.Math.Dec.{eqb}
 use Rattle.std.proofs.lemmas.Bool.Decides.{eqb_tells}
-use Rattle.causal_inbox.specs.Received.{HasGrown, IsConsistent}
+use Rattle.causal_inbox.specs.Received.{IsConsistent}
 use Rattle.causal_inbox.specs.Seen.{IsReceived}
-use Rattle.causal_inbox.specs.declared.answers.DeliverFault.{DeliverFault}
-use Rattle.causal_inbox.specs.declared.answers.Delivered.{Delivered}
-use Rattle.causal_inbox.specs.declared.answers.Drained.{Drained as DrainedBy}
 use Rattle.causal_inbox.proofs.Union.{arrival_consistent, arrival_grows, arrival_start, arrival_unites, releases_consistent, releases_grow, releases_start, releases_stay}
 use Rattle.crdt_ops.specs.declared.op.Op.{Op}
-use Rattle.imap_commands.specs.declared.session.Session.{Session}
 use Rattle.imap_node.specs.Nodes.{NodeKept, NodeState, closed, received}
-use Rattle.imap_node.specs.Sessions.{Opens, Places, opened, session_at, with_session}
+use Rattle.imap_node.specs.Sessions.{Opens, Places, opened, session_at}
 use Rattle.imap_node.specs.declared.input.Input.{Input}
 use Rattle.imap_node.specs.declared.input.Input.TheVariants as inputs
 use Rattle.imap_node.specs.declared.reply.Reply.{Reply}
@@ -22,7 +17,6 @@ use Rattle.imap_node.specs.declared.sessions.Auth.TheVariants.{Preauth, Password
 use Rattle.imap_node.specs.declared.sessions.OpenFault.TheVariants as opening
 use Rattle.imap_node.specs.Respond.{Replies, Responds}
 use Rattle.session_view.specs.Seen.{Seen}
-use Rattle.session_view.specs.Views.{AreRising}
 use Rattle.tags_clocks.specs.declared.id.OpId.{OpId}
 use Rattle.uid_projection.specs.Applied.{IsApplied}
 use Rattle.uid_projection.specs.Exhaustion.{Exhausts}
@@ -32,17 +26,16 @@ use Rattle.world_core.specs.declared.event.Outcome.{Outcome}
 use Rattle.world_core.specs.declared.event.Outcome.TheVariants.{Opened, TurnedAway, Replied, Came, NotTaken, Drained, Closed, PassedOver}
 use Rattle.world_core.specs.Moments.{clock_of, id_of}
 use Rattle.world_core.specs.Places.{IsPlace}
-use Rattle.world_core.specs.Replicas.{IsAt, IsIssuedIn, MovesAt, Replicas, by_name, states_of, with_node}
+use Rattle.world_core.specs.Replicas.{IsIssuedIn, by_name, states_of}
 use Rattle.imap_node.specs.GoingBack.{ViewsGoBack, tells_all}
 use Rattle.imap_node.specs.Mailboxes.{rows_for}
 use Rattle.imap_node.specs.Replays.{ViewsAscend, view_at, view_behind, view_in}
 use Rattle.imap_node.proofs.BackLemmas.{closes_back, delivered_back, drained_back, inputs_back, inputs_show, opens_back}
-use Rattle.imap_node.proofs.ReplayLemmas.{ascend_behind, closes_ascend, opens_ascend, others_as_before, replies_replay}
-use Rattle.imap_node.proofs.SessionLemmas.{others_stay, session_put}
+use Rattle.imap_node.proofs.ReplayLemmas.{ascend_behind, closes_ascend, others_as_before, replies_replay}
+use Rattle.imap_node.proofs.SessionLemmas.{others_stay}
 use Rattle.session_view.specs.Views.{entries_of}
-use Rattle.uid_projection.specs.declared.start.Start.{Start}
 use Rattle.world_core.specs.Sights.{IsOf}
-use Rattle.world_core.specs.Steps.{AnswersBy, Awaits, ClosesBy, DrainsBy, NodeSteps, OpensBy, Steps, TakesBy, TakesOne, at_of}
+use Rattle.world_core.specs.Steps.{AnswersBy, ClosesBy, DrainsBy, NodeSteps, OpensBy, Steps, TakesBy, TakesOne, at_of}
 use Rattle.world_core.proofs.NamedLemmas.{at_place, same_there, set_place}
 use Rattle.world_core.proofs.PlaceLemmas.{item_at}
 use Rattle.world_core.proofs.NodeLemmas.{Gathers, responds_gathers}

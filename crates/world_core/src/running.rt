@@ -1,8 +1,10 @@
 //! Runs: events of a world, one after another.
 
 ghost use Rattle.std.specs.Prelude.{◌≡◌, ◌+◌, ◌≤◌, [], IsTrue, length, take, vec_capacity, vec_len};
-ghost use Rattle.world_core.specs.Headline.{Headline};
+ghost use Rattle.world_core.specs.Headline.{Headline, NumbersLast};
+ghost use Rattle.world_core.specs.Moments.{Converges, IssuedAreDetermined, IssuedAreSound};
 ghost use Rattle.world_core.specs.Replicas.{by_name, states_of};
+ghost use Rattle.world_core.specs.Sights.{SightsAscend};
 ghost use Rattle.world_core.specs.Steps.{Runs};
 
 use crate::event::{Event, Outcome};
@@ -27,6 +29,11 @@ pub struct Outcomes {
 pub fn run(alloc: Global, world: World, events: Vec<Event>) -> Outcomes
     ensures steps { Runs (by_name world) (take (length result.list.items) events.items) result.list.items (by_name result.world) }
     ensures whole { IsTrue result.whole → length result.list.items ≡ length events.items }
+    ensures determined { IssuedAreDetermined (by_name result.world) }
+    ensures sound { IssuedAreSound (by_name result.world) }
+    ensures converges { Converges (by_name result.world) }
+    ensures ascending { SightsAscend (by_name result.world) }
+    ensures for_good { NumbersLast (by_name world) (by_name result.world) }
     ensures headline { Headline (by_name world) (take (length result.list.items) events.items) result.list.items (by_name result.world) }
 {
     match Vec::with_capacity(alloc, events.len()) {
@@ -48,6 +55,7 @@ fn run_whole(alloc: Global, world: World, events: Vec<Event>, list: Vec<Outcome>
     requires empty { list.items ≡ [] }
     requires room { vec_len list + length events.items ≤ vec_capacity list }
     ensures steps { Runs (by_name world) events.items result.list.items (by_name result.world) }
+    ensures for_good { NumbersLast (by_name world) (by_name result.world) }
     ensures headline { Headline (by_name world) events.items result.list.items (by_name result.world) }
 {
     let nodes = world.into_nodes();
