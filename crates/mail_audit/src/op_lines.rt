@@ -119,7 +119,10 @@ fn lacks(clock: &Clock, there: &Clock, last: &Option<OpId>) -> bool {
 
 /// Whether the replica's operation behind so many is missed where op lines may still come behind an id.
 fn is_missed(replica: ReplicaId, counted: u32, last: &Option<OpId>) -> bool {
-    let (Some(last), Some(next)) = (last, counted.checked_add(1)) else {
+    let Some(last) = last else {
+        return true;
+    };
+    let Some(next) = counted.checked_add(1) else {
         return true;
     };
     match OpId::new(replica, next) {
