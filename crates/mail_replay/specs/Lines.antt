@@ -114,7 +114,7 @@ Feeds old name octets more new =
 -- A session that idles is polled: the answers that tell it what changed are printed.
 abbrev pub PollsAt : Scene → List ℕ → List ℕ → Scene → Type 0
 PollsAt old name more new =
-    (t : Talking old name) × (turns : List Turn) × (node : NodeKept)
+    (t : Talking old name) × (turns : List Turn) × (node : NodeKept) × IsSome (idling_at t.replica.node.state t.connection.number)
     × Polls t.replica.node.state t.connection.number turns node.state × (more ≡ transcript name turns) × (new ≡ with_node old t.at t.replica node)
 
 -- A session is closed.

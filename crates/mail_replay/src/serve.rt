@@ -358,7 +358,7 @@ fn poll_node(
     name: &SessionName,
     printed: &mut Vec<u8>,
 ) -> Result<(), ServeFault>
-    ensures ok { OnOk result ((turns : List OneTurn) × Polls node.old.state session turns node.new.state × (printed.new.items ≡ printed.old.items ++ transcript name.now turns)) }
+    ensures ok { OnOk result ((turns : List OneTurn) × IsSome (idling_at node.old.state session) × Polls node.old.state session turns node.new.state × (printed.new.items ≡ printed.old.items ++ transcript name.now turns)) }
     ensures bad { result ≡ Err BadScript → IsNone (idling_at node.old.state session) × (printed.new.items ≡ printed.old.items) }
     ensures memory { result ≡ Err NoMemory → (turns : List OneTurn) × (count : ℕ) × HasPolledTurns node.old.state session turns × (printed.new.items ≡ printed.old.items ++ transcript name.now (take count turns)) }
 {

@@ -20,7 +20,7 @@ returns-clause-ok c =
       replica_is = stands_at _ _ _ _ c.deref-2.ensures.value c.in-Some-replica_place.ensures.within c.index_mut.ensures.value;
       connection_is = search rules;
     } in
-    on_ok c.poll_node.result (λ h. (transcript c.args.name.now h.0, (t, h.0, c.poll_node.new.node, h.1, refl, search rules), h.2)) c.poll_node.ensures.ok
+    on_ok c.poll_node.result (λ h. (transcript c.args.name.now h.0, (t, h.0, c.poll_node.new.node, h.1, h.2, refl, search rules), h.3)) c.poll_node.ensures.ok
 
 pub returns-clause-bad : goal.returns-clause-bad
 returns-clause-bad c =
