@@ -27,9 +27,9 @@ invariant_of-self-2 c =
     let told : c.open_after-self-inside.result ≡ open_after (open_count old.sessions) outcome = c.open_after-self-inside.ensures ∙ ap (λ (n : ℕ). open_after n outcome) c.self.invariant.counted in
     record {
       history = history_grows old new journal c.push_reserved.new.self.items c.args.event outcome c.self.invariant.history step
-        (c.push_reserved.ensures.items ∙ (ap (λ (es : List Entry). es ++ kept ∷ []) c.reserve.ensures.items ∙ ap (λ (e : Entry). journal ++ e ∷ []) same));
+          (c.push_reserved.ensures.items ∙ (ap (λ (es : List Entry). es ++ kept ∷ []) c.reserve.ensures.items ∙ ap (λ (e : Entry). journal ++ e ∷ []) same));
       counted = told ∙ sym (step_keeps old c.args.event outcome new step).count;
       closes = closes_fit _ _ _ _ _ _ _ _ told (step_fits old c.args.event outcome new step)
-        (c.places_for-places.ensures ∙ ap (λ (n : ℕ). wanted n old c.args.event) c.self.invariant.counted)
-        c.in-Ok.ensures.ok c.push_reserved.ensures.len c.push_reserved.ensures.capacity;
+          (c.places_for-places.ensures ∙ ap (λ (n : ℕ). wanted n old c.args.event) c.self.invariant.counted)
+          c.in-Ok.ensures.ok c.push_reserved.ensures.len c.push_reserved.ensures.capacity;
     }
