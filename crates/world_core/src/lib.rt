@@ -6,10 +6,12 @@
 #![tactic(auto)]
 
 mod agreeing;
+mod conflicts;
 mod event;
 mod laws;
 mod places;
 mod running;
+mod settling;
 mod stepping;
 mod taking;
 mod world;
@@ -18,4 +20,5 @@ pub use agreeing::{Agreement, agree};
 pub use event::{Event, Outcome};
 pub use laws::worlds_keep_their_promises;
 pub use running::{Outcomes, run};
+pub use settling::{SettleFault, settle};
 pub use world::{World, WorldFault};
