@@ -77,19 +77,25 @@ module _ (A B C D E F : Op → Type 0)
   by_first : (x y : Option OpId) → IsLeastClash C D x → IsLeastClash E F y → ¬ Precedes y x → IsLeastClash A B x
   by_first None None h k n = agreed h k
   by_first None (Some j) h k n = absurd (n tt)
-  by_first (Some i) None h k n = (clash_first i h.0, λ m t. elim (clash_parts m t) [
-    | inl u ↦ h.1 m u
-    | inr u ↦ absurd (u.differ (k u.one u.other u.is_one u.is_other (u.one_named ∙ sym u.other_named)))
-  ])
+  by_first (Some i) None h k n = (
+    clash_first i h.0,
+    λ m t. elim (clash_parts m t) [
+      | inl u ↦ h.1 m u
+      | inr u ↦ absurd (u.differ (k u.one u.other u.is_one u.is_other (u.one_named ∙ sym u.other_named)))
+    ],
+  )
   by_first (Some i) (Some j) h k n = (clash_first i h.0, λ m t. elim (clash_parts m t) [ inl u ↦ h.1 m u | inr u ↦ not_less_on m j i (k.1 m u) n ])
 
   by_second : (x y : Option OpId) → IsLeastClash C D x → IsLeastClash E F y → Precedes y x → IsLeastClash A B y
   by_second None None h k p = absurd p
   by_second (Some i) None h k p = absurd p
-  by_second None (Some j) h k p = (clash_second j k.0, λ m t. elim (clash_parts m t) [
-    | inl u ↦ absurd (u.differ (h u.one u.other u.is_one u.is_other (u.one_named ∙ sym u.other_named)))
-    | inr u ↦ k.1 m u
-  ])
+  by_second None (Some j) h k p = (
+    clash_second j k.0,
+    λ m t. elim (clash_parts m t) [
+      | inl u ↦ absurd (u.differ (h u.one u.other u.is_one u.is_other (u.one_named ∙ sym u.other_named)))
+      | inr u ↦ k.1 m u
+    ],
+  )
   by_second (Some i) (Some j) h k p = (clash_second j k.0, λ m t. elim (clash_parts m t) [ inl u ↦ not_less_on m i j (h.1 m u) (not_back j i p) | inr u ↦ k.1 m u ])
 
   pub least_of : (x y z : Option OpId) → IsLeastClash C D x → IsLeastClash E F y → IsLesser x y z → IsLeastClash A B z

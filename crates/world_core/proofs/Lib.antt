@@ -12,4 +12,6 @@ pub mod BeginLemmas
 pub mod RunLemmas
 pub mod ConflictLemmas
 pub mod TakeLemmas
+pub mod ExchangeLemmas
 pub mod SettleLemmas
+pub mod SettledWorldLemmas

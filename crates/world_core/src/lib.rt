@@ -18,7 +18,7 @@ mod world;
 
 pub use agreeing::{Agreement, agree};
 pub use event::{Event, Outcome};
-pub use laws::worlds_keep_their_promises;
+pub use laws::{settling_keeps_promises, worlds_keep_their_promises};
 pub use running::{Outcomes, run};
 pub use settling::{SettleFault, settle};
 pub use world::{World, WorldFault};
