@@ -10,3 +10,8 @@ pub mod LastLemmas
 pub mod HeadLemmas
 pub mod BeginLemmas
 pub mod RunLemmas
+pub mod ConflictLemmas
+pub mod TakeLemmas
+pub mod ExchangeLemmas
+pub mod SettleLemmas
+pub mod SettledWorldLemmas

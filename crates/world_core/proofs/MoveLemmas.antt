@@ -30,7 +30,7 @@ use Rattle.world_core.proofs.NamedLemmas.{some_same, stands, stands_there, stays
 use Rattle.world_core.proofs.NodeLemmas.{Gathers}
 use Rattle.world_core.proofs.StepLemmas.{IsAnsweredAt, IsShownAt, IsShownThere, IsToldAt, step_to}
 
-bears_along : (P Q : Op → Type 0) → ((o : Op) → P o → Q o) → (kind : Kind) → BearsIssued P kind → BearsIssued Q kind
+pub bears_along : (P Q : Op → Type 0) → ((o : Op) → P o → Q o) → (kind : Kind) → BearsIssued P kind → BearsIssued Q kind
 bears_along P Q along (kinds.Create folder) h = tt
 bears_along P Q along (kinds.Delete folder seen) h = tt
 bears_along P Q along (kinds.Append folder flags date text) h = tt

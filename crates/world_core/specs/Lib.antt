@@ -5,3 +5,5 @@ pub mod Sights
 pub mod Moments
 pub mod Headline
 pub mod Worlds
+pub mod Settling
+pub mod Exchanges

@@ -6,16 +6,19 @@
 #![tactic(auto)]
 
 mod agreeing;
+mod conflicts;
 mod event;
 mod laws;
 mod places;
 mod running;
+mod settling;
 mod stepping;
 mod taking;
 mod world;
 
 pub use agreeing::{Agreement, agree};
 pub use event::{Event, Outcome};
-pub use laws::worlds_keep_their_promises;
+pub use laws::{settling_keeps_promises, worlds_keep_their_promises};
 pub use running::{Outcomes, run};
+pub use settling::{SettleFault, settle};
 pub use world::{World, WorldFault};
