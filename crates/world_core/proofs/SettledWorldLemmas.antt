@@ -1,18 +1,17 @@
-use Rattle.std.proofs.Common.{◌≡◌, ◌≢◌, inl, inr, ℕ, ◌≤◌, Option, None, Some, List, [], ◌∷◌, refl, sym, ap, ◌∙◌, subst}
+use Rattle.std.proofs.Common.{◌≡◌, inl, inr, ℕ, ◌≤◌, Option, None, Some, List, [], ◌∷◌, refl, sym, ap, ◌∙◌, subst}
 use Rattle.std.proofs.lemmas.Bool.Decides.{eqb_tells}
 use Rattle.merge_laws.specs.Orders.{IsIn}
-use Rattle.causal_inbox.specs.Seen.{IsReceived}
 use Rattle.crdt_ops.specs.Sound.{IsSound}
 use Rattle.crdt_ops.specs.declared.op.Op.{Op}
 use Rattle.imap_node.specs.Deliveries.{IsOrderly}
-use Rattle.imap_node.specs.Nodes.{NodeState, received}
+use Rattle.imap_node.specs.Nodes.{NodeState}
 use Rattle.imap_node.specs.Replays.{view_at}
 use Rattle.imap_node.specs.Sessions.{Places}
 use Rattle.imap_node.proofs.BackLemmas.{grown_back}
 use Rattle.session_view.specs.Seen.{Seen}
 use Rattle.session_view.specs.Views.{AreRising}
 use Rattle.uid_projection.specs.Applied.{IsApplied}
-use Rattle.world_core.specs.Moments.{AllGrow, IsFair, clock_of, id_of}
+use Rattle.world_core.specs.Moments.{AllGrow, IsFair}
 use Rattle.world_core.specs.Replicas.{IsAt, IsIssuedIn, by_name}
 use Rattle.world_core.specs.Settling.{AllTake, AreNamedApart, IsReceivedBy, Takes}
 use Rattle.world_core.specs.Sights.{seen_at}
