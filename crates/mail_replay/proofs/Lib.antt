@@ -1,3 +1,4 @@
+mod ExchangeLemmas
 mod LineLemmas
 mod PartLemmas
 mod StageLemmas

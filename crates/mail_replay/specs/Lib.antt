@@ -1,4 +1,5 @@
 pub mod Deliveries
+pub mod Exchanges
 pub mod Faults
 pub mod Lines
 pub mod Replays

@@ -17,6 +17,7 @@ use Rattle.imap_node.specs.Nodes.{IsGoing, NodeKept, NodeState, closed}
 use Rattle.imap_node.specs.Sessions.{IsOpen, Opens}
 use Rattle.imap_node.specs.declared.sessions.Auth.TheVariants.{Preauth}
 use Rattle.mail_replay.specs.Deliveries.{DeliversTo, DrainsAt, ForgesAt, Issued, with_node}
+use Rattle.mail_replay.specs.Exchanges.{Compares, Settles}
 use Rattle.mail_replay.specs.Stage.{IsNew, Scene, replica_place, session_place}
 use Rattle.mail_replay.specs.Transcript.{transcript}
 use Rattle.mail_replay.specs.declared.stage.Connection.{Connection}
@@ -156,12 +157,11 @@ Serves old (Show replica) more new = Shows old replica more × (new ≡ old)
 Serves old (Deliver id replica) more new = DeliversTo old id replica more new
 Serves old (Forge replica operation) more new = ForgesAt old replica operation more new
 Serves old (Drain replica) more new = DrainsAt old replica more new
-Serves old Settle more new = ⊥
-Serves old (Agree first second) more new = ⊥
+Serves old Settle more new = Settles old more new
+Serves old (Agree first second) more new = Compares old first second more × (new ≡ old)
 
 -- A line that can't be served where it stands: it names what isn't declared, or declares what is, or names a session that
--- has ended or an operation that was never issued, or polls a session that doesn't idle, or its text is none of an operation's. Lines that
--- settle or compare replicas aren't served yet.
+-- has ended or an operation that was never issued, or polls a session that doesn't idle, or its text is none of an operation's.
 abbrev pub IsMisplaced : Scene → ScriptLine → Type 0
 IsMisplaced scene Blank = ⊥
 IsMisplaced scene (Node replica uid k) = IsSome (replica_place scene.replicas replica)
@@ -175,8 +175,8 @@ IsMisplaced scene (Show replica) = IsNone (replica_place scene.replicas replica)
 IsMisplaced scene (Deliver id replica) = IsNone (replica_place scene.replicas replica) ⊎ ((op : Op) → Issued scene id op → ⊥)
 IsMisplaced scene (Forge replica operation) = IsNone (replica_place scene.replicas replica) ⊎ ((op : Op) → IsSpelled op operation → ⊥)
 IsMisplaced scene (Drain replica) = IsNone (replica_place scene.replicas replica)
-IsMisplaced scene Settle = Unit {0}
-IsMisplaced scene (Agree first second) = Unit {0}
+IsMisplaced scene Settle = ⊥
+IsMisplaced scene (Agree first second) = IsNone (replica_place scene.replicas first) ⊎ IsNone (replica_place scene.replicas second)
 
 -- A line that isn't served: it says nothing that could be, where it stands.
 abbrev pub IsBad : Scene → List ℕ → Type 0

@@ -3,6 +3,7 @@
 
 mod deliveries;
 mod ending;
+mod exchanges;
 mod replaying;
 mod serve;
 mod stage;

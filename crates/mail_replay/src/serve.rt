@@ -21,6 +21,7 @@ ghost use Rattle.node_talk.specs.Talks.{Polls};
 ghost use Rattle.node_talk.specs.declared.turn.Turn.{Turn as OneTurn};
 
 use crate::deliveries::{deliver, drain, forge};
+use crate::exchanges::{compare, exchange};
 use crate::stage::{Connection, Replica, Session, Stage, replica_place, session_place};
 use crate::transcript::{write_answer, write_turns};
 use imap_lex::{Fault, Framer, Limits};
@@ -134,7 +135,8 @@ fn serve(
             forge(alloc, stage, replica, operation.as_bytes(), printed)
         }
         ScriptLine::Drain { replica } => drain(alloc, stage, replica, printed),
-        ScriptLine::Settle | ScriptLine::Agree { .. } => Err(ServeFault::BadScript),
+        ScriptLine::Settle => exchange(alloc, stage, printed),
+        ScriptLine::Agree { first, second } => compare(stage, first, second, printed),
     }
 }
 

@@ -74,3 +74,9 @@ returns-in-Forge-clause-memory c = λ e. nothing_more _ _ _ _ _ (inl refl) c.for
 
 pub returns-in-Drain-clause-memory : goal.returns-in-Drain-clause-memory
 returns-in-Drain-clause-memory c = λ e. nothing_more _ _ _ _ _ (inl refl) c.drain.ensures.err e
+
+pub returns-in-Agree-clause-ok : goal.returns-in-Agree-clause-ok
+returns-in-Agree-clause-ok c = rw c.in-Agree.is (on_ok c.compare.result (λ h. (h.0, (h.1, refl), h.2)) c.compare.ensures.ok)
+
+pub returns-in-Agree-clause-memory : goal.returns-in-Agree-clause-memory
+returns-in-Agree-clause-memory c = λ e. nothing_more _ _ _ _ _ (inl refl) c.compare.ensures.err e
