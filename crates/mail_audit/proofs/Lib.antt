@@ -1,10 +1,12 @@
 mod Deciding
+mod DumpLemmas
 mod Examples
 mod GoneLemmas
 mod Hearing
 mod HearingLemmas
 mod Rooms
 mod RunLemmas
+mod RunningLemmas
 mod SlotLemmas
 mod Stepping
 mod ToldLemmas

@@ -1,4 +1,6 @@
 pub mod Audits
+pub mod Counts
+pub mod DumpLines
 pub mod Dumps
 pub mod Explained
 pub mod Gaps
@@ -6,5 +8,7 @@ pub mod Hearings
 pub mod Kept
 pub mod Passing
 pub mod Results
+pub mod Sessions
+pub mod Standing
 pub mod Steps
 pub mod Transcripts

@@ -46,3 +46,4 @@ after known (event ∷ events) = after (next known event) events
 
 abbrev pub nothing : Known
 nothing = record { there = []; slots = [] }
+

@@ -1,12 +1,21 @@
 //! The lines that tell what came of deliveries, drains, exchanges and comparisons.
 
+ghost use Rattle.std.specs.Prelude.{◌≡◌, ◌++◌, ◌∷◌, ℕ, List, IfOk, IfSome, IsTrue, OnOk, codes, if◌then◌else◌};
+ghost use Rattle.std.specs.Fmt.{decimal};
+ghost use Rattle.mail_script.specs.Fields.{id_text};
+ghost use Rattle.mail_script.specs.Outcomes.{outcome_text};
+ghost use Rattle.tags_clocks.specs.declared.id.OpId.{OpId as Id};
+ghost use Rattle.mail_audit.specs.Results.{IsAgreement, IsOfDelivery, IsResult, IsSettled};
+
 use mail_script::{BrokenRule, DeliveryResult, OutcomeLine, write_outcome};
 use std::alloc::{AllocError, Global};
 use tags_clocks::ReplicaId;
 use text_fields::{id, number, push_id, push_number, replica, split};
 
 /// Whether the line tells what came of a delivery, a drain, an exchange or a comparison.
-pub fn is_result(alloc: Global, line: &[u8]) -> Result<bool, AllocError> {
+pub fn is_result(alloc: Global, line: &[u8]) -> Result<bool, AllocError>
+    ensures { IfOk result (λ tells. IsTrue tells → IsResult line.now) }
+{
     if let Some(outcome) = delivery(line) {
         return is_told(alloc, outcome, line);
     }
@@ -17,7 +26,9 @@ pub fn is_result(alloc: Global, line: &[u8]) -> Result<bool, AllocError> {
 }
 
 /// Whether the line tells this outcome.
-fn is_told(alloc: Global, outcome: OutcomeLine, line: &[u8]) -> Result<bool, AllocError> {
+fn is_told(alloc: Global, outcome: OutcomeLine, line: &[u8]) -> Result<bool, AllocError>
+    ensures { IfOk result (λ tells. IsTrue tells → line.now ≡ outcome_text outcome) }
+{
     let mut text = Vec::new(alloc);
     write_outcome(outcome, &mut text)?;
     let mut whole = line.to_vec(alloc)?;
@@ -26,7 +37,9 @@ fn is_told(alloc: Global, outcome: OutcomeLine, line: &[u8]) -> Result<bool, All
 }
 
 /// The outcome of a delivery or a drain that the line seems to tell.
-fn delivery(line: &[u8]) -> Option<OutcomeLine> {
+fn delivery(line: &[u8]) -> Option<OutcomeLine>
+    ensures { IfSome result IsOfDelivery }
+{
     let (word, rest) = split(b' ', line)?;
     if word == b"deliver".as_slice() {
         delivered(rest)
@@ -42,7 +55,9 @@ fn delivery(line: &[u8]) -> Option<OutcomeLine> {
 }
 
 /// The outcome that these fields behind `deliver` seem to tell.
-fn delivered(fields: &[u8]) -> Option<OutcomeLine> {
+fn delivered(fields: &[u8]) -> Option<OutcomeLine>
+    ensures { IfSome result IsOfDelivery }
+{
     let (name, rest) = split(b' ', fields)?;
     let (number, text) = split(b':', rest)?;
     let id = id(name)?;
@@ -56,7 +71,9 @@ fn delivered(fields: &[u8]) -> Option<OutcomeLine> {
 }
 
 /// The outcome that these fields behind `forge` seem to tell.
-fn forged(fields: &[u8]) -> Option<OutcomeLine> {
+fn forged(fields: &[u8]) -> Option<OutcomeLine>
+    ensures { IfSome result IsOfDelivery }
+{
     let (name, rest) = split(b' ', fields)?;
     let (number, text) = split(b':', rest)?;
     let id = id(name)?;
@@ -70,7 +87,9 @@ fn forged(fields: &[u8]) -> Option<OutcomeLine> {
 }
 
 /// The outcome that these fields behind `forge:` seem to tell.
-fn unsound(fields: &[u8]) -> Option<OutcomeLine> {
+fn unsound(fields: &[u8]) -> Option<OutcomeLine>
+    ensures { IfSome result IsOfDelivery }
+{
     let rule = if fields == b"Unsound U1".as_slice() {
         BrokenRule::OwnEntry
     } else if fields == b"Unsound U2".as_slice() {
@@ -88,7 +107,9 @@ fn unsound(fields: &[u8]) -> Option<OutcomeLine> {
 }
 
 /// The outcome that these fields behind `drain` seem to tell.
-fn drained(fields: &[u8]) -> Option<OutcomeLine> {
+fn drained(fields: &[u8]) -> Option<OutcomeLine>
+    ensures { IfSome result IsOfDelivery }
+{
     let (number, text) = split(b':', fields)?;
     let replica = replica(number)?;
     let (word, stalled) = without_stall(text);
@@ -149,7 +170,9 @@ fn without_stall(text: &[u8]) -> (&[u8], bool) {
 }
 
 /// Whether the line tells what came of an exchange.
-fn is_settled(alloc: Global, line: &[u8]) -> Result<bool, AllocError> {
+fn is_settled(alloc: Global, line: &[u8]) -> Result<bool, AllocError>
+    ensures { IfOk result (λ tells. IsTrue tells → IsSettled line.now) }
+{
     if line == b"settle: Ok".as_slice() {
         return Ok(true);
     }
@@ -166,7 +189,9 @@ fn is_settled(alloc: Global, line: &[u8]) -> Result<bool, AllocError> {
 }
 
 /// Whether the line tells that two replicas had two operations with the id of this text.
-fn is_conflict(alloc: Global, name: &[u8], line: &[u8]) -> Result<bool, AllocError> {
+fn is_conflict(alloc: Global, name: &[u8], line: &[u8]) -> Result<bool, AllocError>
+    ensures { IfOk result (λ tells. IsTrue tells → (name : Id) × (line.now ≡ codes "settle: Conflict " ++ id_text name)) }
+{
     let Some(id) = id(name) else {
         return Ok(false);
     };
@@ -177,7 +202,9 @@ fn is_conflict(alloc: Global, name: &[u8], line: &[u8]) -> Result<bool, AllocErr
 }
 
 /// Whether the line, behind whose first word this stands, tells what came of a comparison.
-fn is_agreement(alloc: Global, between: &[u8], line: &[u8]) -> Result<bool, AllocError> {
+fn is_agreement(alloc: Global, between: &[u8], line: &[u8]) -> Result<bool, AllocError>
+    ensures { IfOk result (λ tells. IsTrue tells → IsAgreement line.now) }
+{
     let Some((one, rest)) = split(b' ', between) else {
         return Ok(false);
     };
@@ -194,7 +221,9 @@ fn is_agreement(alloc: Global, between: &[u8], line: &[u8]) -> Result<bool, Allo
 }
 
 /// The beginning of a line that tells what came of a comparison of these replicas.
-fn push_pair(one: ReplicaId, other: ReplicaId, text: &mut Vec<u8>) -> Result<(), AllocError> {
+fn push_pair(one: ReplicaId, other: ReplicaId, text: &mut Vec<u8>) -> Result<(), AllocError>
+    ensures { OnOk result (text.new.items ≡ text.old.items ++ (codes "agree " ++ (decimal one ++ 32 ∷ decimal other))) }
+{
     text.extend_from_slice(b"agree ")?;
     push_number(u64::from(one.get()), text)?;
     text.push(b' ')?;
@@ -203,10 +232,8 @@ fn push_pair(one: ReplicaId, other: ReplicaId, text: &mut Vec<u8>) -> Result<(),
 }
 
 /// The end of such a line.
-fn push_same(same: bool, text: &mut Vec<u8>) -> Result<(), AllocError> {
-    text.extend_from_slice(if same {
-        b": yes".as_slice()
-    } else {
-        b": no".as_slice()
-    })
+fn push_same(same: bool, text: &mut Vec<u8>) -> Result<(), AllocError>
+    ensures { OnOk result (text.new.items ≡ text.old.items ++ (if same then codes ": yes" else codes ": no")) }
+{
+    text.extend_from_slice(if same { b": yes".as_slice() } else { b": no".as_slice() })
 }
