@@ -115,11 +115,11 @@ module _ (same_name : (xs ys : List ℕ) → bytes_eq xs ys ≡ true → xs ≡ 
       | inl y ↦
           let e : other ≡ session = same_name other session y in
           subst (λ (ss : List Said). HearsAll unheard ss (hearing_of other new)) (sym (said_last other session speaker text parts y))
-            (hears_last unheard (said_in other parts) (hearing_of other old) (hearing_of other new) (said_by speaker text) (h.heard other)
-            (subst (λ (o : List ℕ). Hears (hearing_of o old) (said_by speaker text) (hearing_of o new)) (sym e) hears))
+          (hears_last unheard (said_in other parts) (hearing_of other old) (hearing_of other new) (said_by speaker text) (h.heard other)
+          (subst (λ (o : List ℕ). Hears (hearing_of o old) (said_by speaker text) (hearing_of o new)) (sym e) hears))
       | inr n ↦
           subst (λ (ss : List Said). HearsAll unheard ss (hearing_of other new)) (sym (said_elsewhere other session speaker text parts n))
-            (subst (λ (g : Hearing). HearsAll unheard (said_in other parts) g) (sym (others other n)) (h.heard other))
+          (subst (λ (g : Hearing). HearsAll unheard (said_in other parts) g) (sym (others other n)) (h.heard other))
     ];
   }
 

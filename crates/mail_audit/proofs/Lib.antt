@@ -1,3 +1,4 @@
+mod AuditingLemmas
 mod Deciding
 mod DumpLemmas
 mod Examples
@@ -7,6 +8,8 @@ mod HearingLemmas
 mod Rooms
 mod RunLemmas
 mod RunningLemmas
+mod SessionLemmas
 mod SlotLemmas
+mod StandingLemmas
 mod Stepping
 mod ToldLemmas

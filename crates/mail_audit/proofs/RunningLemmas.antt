@@ -1,4 +1,4 @@
-use Rattle.std.proofs.Common.{◌≡◌, ◌↔◌, inl, inr, ℕ, zero, suc, ◌+◌, ◌-◌, ◌<◌, ◌≤◌, Bool, true, false, ltb, List, [], ◌∷◌, ◌++◌, length, get_or, take, refl, sym, ap, ◌∙◌, arith, if◌then◌else◌, rules}
+use Rattle.std.proofs.Common.{◌≡◌, ◌↔◌, subst, inl, inr, ℕ, zero, suc, ◌+◌, ◌-◌, ◌<◌, ◌≤◌, Bool, true, false, ltb, List, [], ◌∷◌, ◌++◌, length, get_or, take, refl, sym, ap, ◌∙◌, arith, if◌then◌else◌, rules}
 use Rattle.std.specs.List.{list_any, remove}
 use Rattle.std.specs.Str.{bytes_eq}
 use Rattle.std.proofs.lemmas.Bool.{cases_Bool}
@@ -51,6 +51,10 @@ counted_less p (r ∷ rs) (suc i) d l =
       | inl t ↦ rw t (omega (arith, m))
       | inr f ↦ rw f m
     ]
+
+-- the number without the one that was taken out of a place
+pub counted_without : (p : Running → Bool) (rs : List Running) (i : ℕ) (r : Running) → i < length rs → r ≡ get_or rs i r → how_many p (remove rs i) + (if p r then 1 else 0) ≡ how_many p rs
+counted_without p rs i r l e = subst (λ (x : Running). how_many p (remove rs i) + (if p x then 1 else 0) ≡ how_many p rs) (sym e) (counted_less p rs i r l)
 
 -- where the first so many haven't the tag, the first that ends stands behind them
 pub ended_behind : (tag : List ℕ) (rs : List Running) (i : ℕ) (d : Running) → i < length rs → ((k : ℕ) → k < i → bytes_eq tag (get_or rs k d).tag ≡ false) → bytes_eq tag (get_or rs i d).tag ≡ true → ended tag rs ≡ remove rs i

@@ -116,19 +116,18 @@ module _ (gone : List ℕ) (tolds : List Told) (came at place uid : ℕ) (k : Ar
 
   pub tell_again : (known : ℕ) → IsTold at place known tolds → (known ≡ uid) ↔ (MayBe (get_or (slots_from 0 tolds came) place None) uid × HasRoomAbove 0 (set (slots_from 0 tolds came) place (Some uid)))
   tell_again known h =
-      let g : get_or (slots_from 0 tolds came) place None ≡ Some known = ap (λ (i : ℕ). get_or (slots_from 0 tolds came) i None) (sym from_start) ∙ slot_told 0 at place known tolds came k.places_ascend (omega arith) h in
-      (
+      let g : get_or (slots_from 0 tolds came) place None ≡ Some known = ap (λ (i : ℕ). get_or (slots_from 0 tolds came) i None) (sym from_start) ∙ slot_told 0 at place known tolds came k.places_ascend (omega arith) h in (
         λ e.
-          let s : set (slots_from 0 tolds came) place (Some uid) ≡ slots_from 0 tolds came =
-              ap (λ (i : ℕ). set (slots_from 0 tolds came) i (Some uid)) (sym from_start) ∙ set_told 0 at place uid tolds came k.places_ascend (omega arith) (subst (λ (u : ℕ). IsTold at place u tolds) e h) in
-          (subst (λ (o : Option ℕ). MayBe o uid) (sym g) (sym e), subst (HasRoomAbove 0) (sym s) room_now),
+            let s : set (slots_from 0 tolds came) place (Some uid) ≡ slots_from 0 tolds came =
+            ap (λ (i : ℕ). set (slots_from 0 tolds came) i (Some uid)) (sym from_start) ∙ set_told 0 at place uid tolds came k.places_ascend (omega arith) (subst (λ (u : ℕ). IsTold at place u tolds) e h) in
+            (subst (λ (o : Option ℕ). MayBe o uid) (sym g) (sym e), subst (HasRoomAbove 0) (sym s) room_now),
         λ m. sym (subst (λ (o : Option ℕ). MayBe o uid) g m.0),
       )
 
   pub tell_again_next : (known : ℕ) → IsTold at place known tolds → known ≡ uid → known_by gone tolds came ≡ record (known_by gone tolds came) { slots = set (slots_from 0 tolds came) place (Some uid) }
   tell_again_next known h e =
       let s : set (slots_from 0 tolds came) place (Some uid) ≡ slots_from 0 tolds came =
-          ap (λ (i : ℕ). set (slots_from 0 tolds came) i (Some uid)) (sym from_start) ∙ set_told 0 at place uid tolds came k.places_ascend (omega arith) (subst (λ (u : ℕ). IsTold at place u tolds) e h) in
+      ap (λ (i : ℕ). set (slots_from 0 tolds came) i (Some uid)) (sym from_start) ∙ set_told 0 at place uid tolds came k.places_ascend (omega arith) (subst (λ (u : ℕ). IsTold at place u tolds) e h) in
       λ i. record { there = places_from 0 gone came; slots = sym s i }
 
   module _ (untold : IsUntold at place tolds) (small : uid ≤ 4294967295) (inside : place < came) where
@@ -142,8 +141,7 @@ module _ (gone : List ℕ) (tolds : List Told) (came at place uid : ℕ) (k : Ar
     tell_first =
         let g : get_or (slots_from 0 tolds came) place None ≡ None = ap (λ (i : ℕ). get_or (slots_from 0 tolds came) i None) (sym from_start) ∙ slot_untold 0 at place tolds came k.places_ascend (omega arith) untold in
         let r = room_in_gaps 0 0 (insert tolds at now) came (omega arith) in
-        let w = gaps_with 0 0 at now tolds came small k.gaps untold in
-        (
+        let w = gaps_with 0 0 at now tolds came small k.gaps untold in (
           λ f. (subst (λ (o : Option ℕ). MayBe o uid) (sym g) tt, subst (HasRoomAbove 0) (sym slots_then) (r.1 (w.1 f))),
           λ m. w.0 (r.0 (subst (HasRoomAbove 0) slots_then m.1)),
         )

@@ -34,12 +34,12 @@ passes_last : (known : Known) (events : List SlotEvent) (event : SlotEvent) → 
 passes_last known [] event = (λ p. (tt, ((passes_one known event []).0 p).0), λ p. (passes_one known event []).1 (p.1, tt))
 passes_last known (first ∷ events) event = (
   λ p.
-    let q = (passes_one known first (events ++ event ∷ [])).0 p in
-    let r = (passes_last (next known first) events event).0 q.1 in
-    ((passes_one known first events).1 (q.0, r.0), r.1),
+      let q = (passes_one known first (events ++ event ∷ [])).0 p in
+      let r = (passes_last (next known first) events event).0 q.1 in
+      ((passes_one known first events).1 (q.0, r.0), r.1),
   λ p.
-    let q = (passes_one known first events).0 p.0 in
-    (passes_one known first (events ++ event ∷ [])).1 (q.0, (passes_last (next known first) events event).1 (q.1, p.1)),
+      let q = (passes_one known first events).0 p.0 in
+      (passes_one known first (events ++ event ∷ [])).1 (q.0, (passes_last (next known first) events event).1 (q.1, p.1)),
 )
 
 -- one event more is explained exactly where it fits
@@ -55,8 +55,7 @@ room_unknown low zero slots l =
     let e : low + zero ≡ low = omega arith in
     (λ h. (omega (arith, l), subst (λ (n : ℕ). HasRoomAbove n slots) (sym e) h), λ h. subst (λ (n : ℕ). HasRoomAbove n slots) e h.1)
 room_unknown low (suc m) slots l =
-    let e : low + 1 + m ≡ low + suc m = omega arith in
-    (
+    let e : low + 1 + m ≡ low + suc m = omega arith in (
       λ h. let r = (room_unknown (low + 1) m slots (omega (arith, h.0))).0 h.1 in (omega (arith, r.0), subst (λ (n : ℕ). HasRoomAbove n slots) e r.1),
       λ h. (omega (arith, h.0), (room_unknown (low + 1) m slots (omega (arith, h.0))).1 (omega (arith, h.0), subst (λ (n : ℕ). HasRoomAbove n slots) (sym e) h.1)),
     )
@@ -68,8 +67,7 @@ room_in_gaps low from [] came l =
     let r = room_unknown low (came - from) [] l in
     (λ h. (r.0 (subst (HasRoomAbove low) (sym e) h)).0, λ h. subst (HasRoomAbove low) e (r.1 (h, tt)))
 room_in_gaps low from (t ∷ tolds) came l =
-    let r = room_unknown low (t.place - from) (Some t.uid ∷ slots_from (t.place + 1) tolds came) l in
-    (
+    let r = room_unknown low (t.place - from) (Some t.uid ∷ slots_from (t.place + 1) tolds came) l in (
       λ h. let q = (r.0 h).1 in (q.0, q.1, (room_in_gaps t.uid (t.place + 1) tolds came q.1).0 q.2),
       λ h. r.1 (omega (arith, h.0, h.1), (h.0, h.1, (room_in_gaps t.uid (t.place + 1) tolds came h.1).1 h.2)),
     )

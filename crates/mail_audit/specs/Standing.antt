@@ -3,7 +3,6 @@ use Rattle.std.specs.Prelude.{◌≡◌, ℕ, ◌+◌, ◌≤◌, List, [], ◌�
 use Rattle.std.specs.List.{flat_map}
 use Rattle.crdt_ops.specs.Form.{IsReplica}
 use Rattle.mail_script.specs.Lines.{lines_of}
-use Rattle.mail_script.specs.Reading.{cut_at}
 use Rattle.mail_audit.specs.Audits.{Audits, Each, IsNoEnd, IsRightPart, Part, part_text, said_in, text_of}
 use Rattle.mail_audit.specs.DumpLines.{PhaseStands}
 use Rattle.mail_audit.specs.Dumps.{dump_line}
@@ -53,5 +52,4 @@ pub record Advances (front : List (List ℕ)) (old : Audit) (text : List ℕ) (n
   pub done : List (List ℕ)
   pub lines : (more : List ℕ) → lines_of (text ++ more) ≡ done ++ lines_of (left ++ more)
   pub stands : Stands (front ++ done) new
-  pub no_end : cut_at 10 left ≡ None
   pub fits : new.taken + length left ≤ old.taken + length text

@@ -46,4 +46,3 @@ after known (event ∷ events) = after (next known event) events
 
 abbrev pub nothing : Known
 nothing = record { there = []; slots = [] }
-

@@ -15,8 +15,6 @@ use itoa::Buffer;
 use mail_script::ScriptLines;
 use std::alloc::{AllocError, Global};
 use std::io::{ErrorKind, Read, Write};
-use std::mem;
-
 
 /// The most reads of one audit.
 pub const MAX_READS: u64 = 16_777_216;
@@ -89,7 +87,7 @@ fn room_for(alloc: Global, octets: usize) -> Result<Vec<u8>, AllocError>
 fn take_piece(alloc: Global, progress: &mut Progress, piece: &[u8]) -> Option<AuditEnd>
     requires room { progress.old.audit.taken + length progress.old.lines + length piece.now < 2 ^ 64 }
     requires stands { (front : List (List ℕ)) × Stands front progress.old.audit }
-    ensures { (front : List (List ℕ)) → Stands front progress.old.audit → MatchOption result (Advances front progress.old.audit (progress.old.lines ++ piece.now) progress.new.audit progress.new.lines) (EndsWithin front (progress.old.lines ++ piece.now)) }
+    ensures { (front : List (List ℕ)) → Stands front progress.old.audit → MatchOption result (Advances front progress.old.audit (progress.old.lines ++ piece.now) progress.new.audit progress.new.lines × (cut_at 10 progress.new.lines ≡ None)) (EndsWithin front (progress.old.lines ++ piece.now)) }
 {
     let Ok(()) = progress.lines.push(piece) else {
         return Some(AuditEnd::NoMemory);
@@ -128,12 +126,13 @@ fn take_last(alloc: Global, progress: Progress) -> AuditEnd
 {
     let Progress { mut audit, lines } = progress;
     let line = lines.into_rest();
-    if !line.as_bytes().is_empty()
-        && let Some(end) = take_line(alloc, &mut audit, line.as_bytes())
-    {
-        return end;
+    if line.as_bytes().is_empty() {
+        return end_of(alloc, audit);
     }
-    end_of(alloc, audit)
+    match take_line(alloc, &mut audit, line.as_bytes()) {
+        Some(end) => end,
+        None => end_of(alloc, audit),
+    }
 }
 
 /// How an audit ends whose input ends.

@@ -60,7 +60,7 @@ impl Audit {
         line: &[u8],
     ) -> Result<Option<AuditEnd>, AllocError>
         requires { (lines : List (List ℕ)) × IsOpen lines self.old.sessions dump × (self.old.taken ≡ length lines + 1) }
-        ensures { (lines : List (List ℕ)) → IsOpen lines self.old.sessions dump.entry → self.old.taken ≡ length lines + 1 → self.old.dump ≡ None → IfOk result (λ end. MatchOption end (Stands (lines ++ line.now ∷ []) self.new) (EndsAt lines line.now)) }
+        ensures { (lines : List (List ℕ)) → IsOpen lines self.old.sessions dump → self.old.taken ≡ length lines + 1 → self.old.dump ≡ None → IfOk result (λ end. MatchOption end (Stands (lines ++ line.now ∷ []) self.new) (EndsAt lines line.now)) }
     {
         let mut dump = dump;
         let step = dump.take(alloc, line, self.taken)?;
@@ -85,6 +85,8 @@ impl Audit {
             speaker,
             text,
         } = spoken;
+        imap_grammar::one_reading();
+        imap_read::one_reading();
         let octets = with_line_end(text)?;
         if self.sessions.hear(alloc, session, speaker, &octets)? {
             Ok(None)

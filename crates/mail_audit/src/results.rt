@@ -235,5 +235,9 @@ fn push_pair(one: ReplicaId, other: ReplicaId, text: &mut Vec<u8>) -> Result<(),
 fn push_same(same: bool, text: &mut Vec<u8>) -> Result<(), AllocError>
     ensures { OnOk result (text.new.items ≡ text.old.items ++ (if same then codes ": yes" else codes ": no")) }
 {
-    text.extend_from_slice(if same { b": yes".as_slice() } else { b": no".as_slice() })
+    text.extend_from_slice(if same {
+        b": yes".as_slice()
+    } else {
+        b": no".as_slice()
+    })
 }

@@ -72,9 +72,7 @@ impl Sessions {
             name: session,
             transcript,
         };
-        if self.sessions.push(session).is_err() {
-            return Err(AllocError);
-        }
+        self.sessions.push(session)?;
         Ok(place)
     }
 }

@@ -32,8 +32,8 @@ pub struct Slots {
 impl Model for Slots {
     ghost use Rattle.mail_audit.specs.Kept.{AreKept, places_from, slots_from};
     ghost use Rattle.mail_audit.specs.Gaps.{IsTold, IsUntold, Parts};
-ghost use Rattle.mail_audit.specs.Passing.{HasRoomAbove, MayBe};
-ghost use Rattle.mail_audit.specs.Steps.{Known};
+    ghost use Rattle.mail_audit.specs.Passing.{HasRoomAbove, MayBe};
+    ghost use Rattle.mail_audit.specs.Steps.{Known};
 
     ghost Value = { Known };
 

@@ -1,9 +1,10 @@
 //! One session's transcript.
 
-ghost use Rattle.std.specs.Prelude.{◌≡◌, ◌↔◌, ℕ, List, [], ◌∷◌, ◌++◌, IfOk, IfSome, IsTrue, OnOk, Some};
+ghost use Rattle.std.specs.Prelude.{◌≡◌, ◌≢◌, ◌↔◌, ℕ, List, [], ◌∷◌, ◌++◌, IfOk, IfSome, IsTrue, OnOk, Some};
 ghost use Rattle.imap_answers.specs.Printable.{IsPrintable};
 ghost use Rattle.imap_answers.specs.Printed.{printed};
 ghost use Rattle.imap_answers.specs.declared.answer.Answer.{Answer as AnAnswer};
+ghost use Rattle.imap_grammar.specs.declared.fault.ParseFault.TheVariants.{NoMemory as NoMemoryToParse};
 ghost use Rattle.mail_audit.specs.Hearings.{Hears, Tells, unheard};
 ghost use Rattle.mail_audit.specs.Steps.{Fits, next};
 ghost use Rattle.mail_audit.specs.Transcripts.{MayStand, event_by, event_of, idles, may_expunge, running_after, running_by};
@@ -72,8 +73,7 @@ impl Transcript {
         }
         match parse(alloc, frame) {
             Ok(tagged) => self.begin(alloc, tagged),
-            Err(ParseFault::NoMemory) => Err(AllocError),
-            Err(_) => Ok(()),
+            Err(fault) => pass_over(fault),
         }
     }
 
@@ -130,6 +130,16 @@ impl Transcript {
             Answer::Refused { tag, .. } => self.running.end(tag.as_bytes()),
             _ => {}
         }
+    }
+}
+
+/// Passes over a frame that spells no command; `Err` where there was no memory to see that.
+fn pass_over(fault: ParseFault) -> Result<(), AllocError>
+    ensures { OnOk result (fault ≢ NoMemoryToParse) }
+{
+    match fault {
+        ParseFault::NoMemory => Err(AllocError),
+        _ => Ok(()),
     }
 }
 

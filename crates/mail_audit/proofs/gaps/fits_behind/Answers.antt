@@ -12,4 +12,4 @@ returns-in-Some c =
     let e : c.args.at ≡ suc c.in-Some.before = omega (arith, low, one) in
     let l : c.in-Some.before < length c.args.tolds.now = omega (arith, low, one, most) in
     subst (λ (n : ℕ). IsTrue c.has_room_between.result ↔ FitsBehind 0 0 n c.args.tolds.now c.args.told) (sym e)
-        (subst (λ (P : Type 0). IsTrue c.has_room_between.result ↔ P) (sym (fits_behind_one 0 0 c.in-Some.before c.args.told (record { place = 0; uid = 0 }) c.args.tolds.now l)) c.has_room_between.ensures)
+    (subst (λ (P : Type 0). IsTrue c.has_room_between.result ↔ P) (sym (fits_behind_one 0 0 c.in-Some.before c.args.told (record { place = 0; uid = 0 }) c.args.tolds.now l)) c.has_room_between.ensures)
