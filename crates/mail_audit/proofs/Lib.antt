@@ -1,3 +1,4 @@
+mod AppliedLemmas
 mod Deciding
 mod DumpLemmas
 mod Examples
@@ -8,5 +9,6 @@ mod Rooms
 mod RunLemmas
 mod RunningLemmas
 mod SlotLemmas
+mod StepLemmas
 mod Stepping
 mod ToldLemmas

@@ -106,3 +106,10 @@ IsCompared old line number new GoesOn = Takes old line new × IsNoEnd line
 IsCompared old line number new Ends = Takes old line new × (new.came ≡ length new.lines.items)
 IsCompared old line number new (Wrong found) = found ≡ number
 IsCompared old line number new Unreadable = Unit {0}
+
+-- What comes of a line, of this number, that was the one to come.
+abbrev pub IsStepBehind : Comparison → List ℕ → ℕ → Step → Type 0
+IsStepBehind comparison line number GoesOn = IsNoEnd line
+IsStepBehind comparison line number Ends = comparison.came ≡ length comparison.lines.items
+IsStepBehind comparison line number (Wrong found) = found ≡ number
+IsStepBehind comparison line number Unreadable = ⊥

@@ -31,6 +31,7 @@ pub fn what_follows(alloc: Global, ops: &[SoundOp]) -> Result<Expected, AllocErr
     requires { IsAscending (λ (a b : Operation). id_order a.id b.id) ops.now }
     ensures { IfOk result (IsExpected ops.now) }
 {
+    crdt_ops::one_set_means_one();
     let value = Pair {
         first: Folders::new(alloc),
         second: Subs::new(alloc),

@@ -1,28 +1,23 @@
 //! The lines that tell what came of deliveries, drains, exchanges and comparisons.
 
-ghost use Rattle.std.specs.Prelude.{◌≡◌, ◌++◌, ◌∷◌, ℕ, List, IfOk, IfSome, IsTrue, OnOk, codes, if◌then◌else◌};
-ghost use Rattle.std.specs.Fmt.{decimal};
-ghost use Rattle.mail_script.specs.Fields.{id_text};
+ghost use Rattle.std.specs.Prelude.{◌≡◌, ◌++◌, ◌∷◌, [], IfOk, IfSome, IsTrue};
+ghost use Rattle.mail_script.specs.Fields.{IsId, IsReplica};
 ghost use Rattle.mail_script.specs.Outcomes.{outcome_text};
-ghost use Rattle.tags_clocks.specs.declared.id.OpId.{OpId as Id};
-ghost use Rattle.mail_audit.specs.Results.{IsAgreement, IsOfDelivery, IsResult, IsSettled};
+ghost use Rattle.mail_audit.specs.Results.{IsCount, IsDeliveryResult, IsPassedOver, IsResult, IsSettleResult};
 
-use mail_script::{BrokenRule, DeliveryResult, OutcomeLine, write_outcome};
+use mail_script::{BrokenRule, DeliveryResult, OutcomeLine, SettleResult, write_outcome};
 use std::alloc::{AllocError, Global};
-use tags_clocks::ReplicaId;
-use text_fields::{id, number, push_id, push_number, replica, split};
+use tags_clocks::{OpId, ReplicaId};
+use text_fields::{number, split};
 
 /// Whether the line tells what came of a delivery, a drain, an exchange or a comparison.
 pub fn is_result(alloc: Global, line: &[u8]) -> Result<bool, AllocError>
     ensures { IfOk result (λ tells. IsTrue tells → IsResult line.now) }
 {
-    if let Some(outcome) = delivery(line) {
-        return is_told(alloc, outcome, line);
+    match outcome(line) {
+        Some(outcome) => is_told(alloc, outcome, line),
+        None => Ok(false),
     }
-    if let Some(between) = line.strip_prefix(b"agree ".as_slice()) {
-        return is_agreement(alloc, between, line);
-    }
-    is_settled(alloc, line)
 }
 
 /// Whether the line tells this outcome.
@@ -31,14 +26,36 @@ fn is_told(alloc: Global, outcome: OutcomeLine, line: &[u8]) -> Result<bool, All
 {
     let mut text = Vec::new(alloc);
     write_outcome(outcome, &mut text)?;
-    let mut whole = line.to_vec(alloc)?;
-    whole.push(b'\n')?;
-    Ok(text == whole)
+    Ok(is_line(&text, line))
 }
 
-/// The outcome of a delivery or a drain that the line seems to tell.
-fn delivery(line: &[u8]) -> Option<OutcomeLine>
-    ensures { IfSome result IsOfDelivery }
+/// Whether the text is this line with its end.
+fn is_line(text: &[u8], line: &[u8]) -> bool
+    ensures { IsTrue result → text.now ≡ line.now ++ 10 ∷ [] }
+{
+    match text.split_last() {
+        Some((end, front)) => *end == b'\n' && front == line,
+        None => false,
+    }
+}
+
+/// The id that the text writes.
+fn id(text: &[u8]) -> Option<OpId>
+    ensures { IfSome result IsId }
+{
+    text_fields::id(text)
+}
+
+/// The replica that the text writes.
+fn replica(text: &[u8]) -> Option<ReplicaId>
+    ensures { IfSome result IsReplica }
+{
+    text_fields::replica(text)
+}
+
+/// The outcome that the line seems to tell.
+fn outcome(line: &[u8]) -> Option<OutcomeLine>
+    ensures { IfSome result IsPassedOver }
 {
     let (word, rest) = split(b' ', line)?;
     if word == b"deliver".as_slice() {
@@ -50,13 +67,26 @@ fn delivery(line: &[u8]) -> Option<OutcomeLine>
     } else if word == b"drain".as_slice() {
         drained(rest)
     } else {
+        settled_or_agreed(word, rest)
+    }
+}
+
+/// The outcome of an exchange or a comparison that the line seems to tell, which has this word and these fields.
+fn settled_or_agreed(word: &[u8], fields: &[u8]) -> Option<OutcomeLine>
+    ensures { IfSome result IsPassedOver }
+{
+    if word == b"settle:".as_slice() {
+        settled(fields)
+    } else if word == b"agree".as_slice() {
+        agreed(fields)
+    } else {
         None
     }
 }
 
 /// The outcome that these fields behind `deliver` seem to tell.
 fn delivered(fields: &[u8]) -> Option<OutcomeLine>
-    ensures { IfSome result IsOfDelivery }
+    ensures { IfSome result IsPassedOver }
 {
     let (name, rest) = split(b' ', fields)?;
     let (number, text) = split(b':', rest)?;
@@ -72,7 +102,7 @@ fn delivered(fields: &[u8]) -> Option<OutcomeLine>
 
 /// The outcome that these fields behind `forge` seem to tell.
 fn forged(fields: &[u8]) -> Option<OutcomeLine>
-    ensures { IfSome result IsOfDelivery }
+    ensures { IfSome result IsPassedOver }
 {
     let (name, rest) = split(b' ', fields)?;
     let (number, text) = split(b':', rest)?;
@@ -88,7 +118,7 @@ fn forged(fields: &[u8]) -> Option<OutcomeLine>
 
 /// The outcome that these fields behind `forge:` seem to tell.
 fn unsound(fields: &[u8]) -> Option<OutcomeLine>
-    ensures { IfSome result IsOfDelivery }
+    ensures { IfSome result IsPassedOver }
 {
     let rule = if fields == b"Unsound U1".as_slice() {
         BrokenRule::OwnEntry
@@ -108,7 +138,7 @@ fn unsound(fields: &[u8]) -> Option<OutcomeLine>
 
 /// The outcome that these fields behind `drain` seem to tell.
 fn drained(fields: &[u8]) -> Option<OutcomeLine>
-    ensures { IfSome result IsOfDelivery }
+    ensures { IfSome result IsPassedOver }
 {
     let (number, text) = split(b':', fields)?;
     let replica = replica(number)?;
@@ -122,7 +152,9 @@ fn drained(fields: &[u8]) -> Option<OutcomeLine>
 }
 
 /// The result that a text behind a colon seems to tell.
-fn delivery_result(text: &[u8]) -> Option<DeliveryResult> {
+fn delivery_result(text: &[u8]) -> Option<DeliveryResult>
+    ensures { IfSome result IsDeliveryResult }
+{
     let (word, stalled) = without_stall(text);
     if word == b" Held".as_slice() {
         Some(DeliveryResult::Held { stalled })
@@ -140,7 +172,9 @@ fn delivery_result(text: &[u8]) -> Option<DeliveryResult> {
 }
 
 /// The result with a number that a text behind a colon seems to tell.
-fn applied_or_refused(word: &[u8], stalled: bool) -> Option<DeliveryResult> {
+fn applied_or_refused(word: &[u8], stalled: bool) -> Option<DeliveryResult>
+    ensures { IfSome result IsDeliveryResult }
+{
     match word.strip_prefix(b" Conflict ".as_slice()) {
         Some(name) => {
             let id = id(name)?;
@@ -154,7 +188,9 @@ fn applied_or_refused(word: &[u8], stalled: bool) -> Option<DeliveryResult> {
 }
 
 /// How many operations a text behind a colon tells to have been applied.
-fn applied_count(word: &[u8]) -> Option<u64> {
+fn applied_count(word: &[u8]) -> Option<u64>
+    ensures { IfSome result IsCount }
+{
     match word.strip_prefix(b" Applied ".as_slice()) {
         Some(digits) => number(digits, u64::MAX),
         None => None,
@@ -169,71 +205,44 @@ fn without_stall(text: &[u8]) -> (&[u8], bool) {
     }
 }
 
-/// Whether the line tells what came of an exchange.
-fn is_settled(alloc: Global, line: &[u8]) -> Result<bool, AllocError>
-    ensures { IfOk result (λ tells. IsTrue tells → IsSettled line.now) }
+/// The outcome that these fields behind `settle:` seem to tell.
+fn settled(fields: &[u8]) -> Option<OutcomeLine>
+    ensures { IfSome result IsPassedOver }
 {
-    if line == b"settle: Ok".as_slice() {
-        return Ok(true);
-    }
-    if line == b"settle: Exhausted".as_slice() {
-        return Ok(true);
-    }
-    if line == b"settle: NoMemory".as_slice() {
-        return Ok(true);
-    }
-    match line.strip_prefix(b"settle: Conflict ".as_slice()) {
-        None => Ok(false),
-        Some(name) => is_conflict(alloc, name, line),
-    }
+    let result = settle_result(fields)?;
+    Some(OutcomeLine::Settled { result })
 }
 
-/// Whether the line tells that two replicas had two operations with the id of this text.
-fn is_conflict(alloc: Global, name: &[u8], line: &[u8]) -> Result<bool, AllocError>
-    ensures { IfOk result (λ tells. IsTrue tells → (name : Id) × (line.now ≡ codes "settle: Conflict " ++ id_text name)) }
+/// The result of an exchange that the text seems to tell.
+fn settle_result(text: &[u8]) -> Option<SettleResult>
+    ensures { IfSome result IsSettleResult }
 {
-    let Some(id) = id(name) else {
-        return Ok(false);
-    };
-    let mut text = Vec::new(alloc);
-    text.extend_from_slice(b"settle: Conflict ")?;
-    push_id(id, &mut text)?;
-    Ok(text.as_slice() == line)
+    if text == b"Ok".as_slice() {
+        return Some(SettleResult::Done);
+    }
+    if text == b"Exhausted".as_slice() {
+        return Some(SettleResult::Exhausted);
+    }
+    if text == b"NoMemory".as_slice() {
+        return Some(SettleResult::NoMemory);
+    }
+    let name = text.strip_prefix(b"Conflict ".as_slice())?;
+    let id = id(name)?;
+    Some(SettleResult::Conflict { id })
 }
 
-/// Whether the line, behind whose first word this stands, tells what came of a comparison.
-fn is_agreement(alloc: Global, between: &[u8], line: &[u8]) -> Result<bool, AllocError>
-    ensures { IfOk result (λ tells. IsTrue tells → IsAgreement line.now) }
+/// The outcome that these fields behind `agree` seem to tell.
+fn agreed(fields: &[u8]) -> Option<OutcomeLine>
+    ensures { IfSome result IsPassedOver }
 {
-    let Some((one, rest)) = split(b' ', between) else {
-        return Ok(false);
-    };
-    let Some((other, told)) = split(b':', rest) else {
-        return Ok(false);
-    };
-    let (Some(one), Some(other)) = (replica(one), replica(other)) else {
-        return Ok(false);
-    };
-    let mut text = Vec::new(alloc);
-    push_pair(one, other, &mut text)?;
-    push_same(told == b" yes".as_slice(), &mut text)?;
-    Ok(text.as_slice() == line)
-}
-
-/// The beginning of a line that tells what came of a comparison of these replicas.
-fn push_pair(one: ReplicaId, other: ReplicaId, text: &mut Vec<u8>) -> Result<(), AllocError>
-    ensures { OnOk result (text.new.items ≡ text.old.items ++ (codes "agree " ++ (decimal one ++ 32 ∷ decimal other))) }
-{
-    text.extend_from_slice(b"agree ")?;
-    push_number(u64::from(one.get()), text)?;
-    text.push(b' ')?;
-    push_number(u64::from(other.get()), text)?;
-    Ok(())
-}
-
-/// The end of such a line.
-fn push_same(same: bool, text: &mut Vec<u8>) -> Result<(), AllocError>
-    ensures { OnOk result (text.new.items ≡ text.old.items ++ (if same then codes ": yes" else codes ": no")) }
-{
-    text.extend_from_slice(if same { b": yes".as_slice() } else { b": no".as_slice() })
+    let (one, rest) = split(b' ', fields)?;
+    let (other, told) = split(b':', rest)?;
+    let first = replica(one)?;
+    let second = replica(other)?;
+    let same = told == b" yes".as_slice();
+    Some(OutcomeLine::Agreed {
+        first,
+        second,
+        same,
+    })
 }
