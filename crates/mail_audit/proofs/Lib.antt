@@ -5,6 +5,7 @@ mod Examples
 mod GoneLemmas
 mod Hearing
 mod HearingLemmas
+mod ResultLemmas
 mod Rooms
 mod RunLemmas
 mod RunningLemmas

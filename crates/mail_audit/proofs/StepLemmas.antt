@@ -1,4 +1,4 @@
-use Rattle.std.proofs.Common.{◌≡◌, inl, inr, ℕ, suc, ◌+◌, ◌-◌, ◌<◌, ◌≤◌, true, false, List, [], ◌∷◌, ◌++◌, length, length-append, length-drop, drop, Result, Ok, Err, IfOk, refl, sym, ap, ◌∙◌, subst, append_assoc, append-nil, drop-drop, arith, codes}
+use Rattle.std.proofs.Common.{◌≡◌, inl, inr, ℕ, suc, ◌+◌, ◌-◌, ◌<◌, ◌≤◌, true, false, List, [], ◌∷◌, ◌++◌, length, length-append, length-drop, drop, Option, Some, Result, Ok, Err, IfOk, refl, sym, ap, ◌∙◌, subst, append_assoc, append-nil, drop-drop, arith, codes}
 use Rattle.std.proofs.Math.Seq.{drop-append_seam}
 use Rattle.std.proofs.lemmas.Grind.{flat_map-append}
 use Rattle.std.proofs.lemmas.List.{drop_all}
@@ -8,8 +8,10 @@ use Rattle.crdt_ops.specs.Text.{op_text}
 use Rattle.crdt_ops.specs.declared.op.Op.{Op}
 use Rattle.merge_laws.proofs.Lists.{in_parts}
 use Rattle.merge_laws.specs.Orders.{AreSound, IsIn}
+use Rattle.text_fields.proofs.FieldLemmas.{cut_takes}
+use Rattle.text_fields.specs.Reading.{cut_at}
 use Rattle.mail_audit.specs.Audits.{IsNoEnd, ended_line, text_of}
-use Rattle.mail_audit.specs.DumpLines.{IsClosed, IsCompared, IsEarly, IsExpected, IsLonger, IsStep, OpsStand, PhaseStands, Takes}
+use Rattle.mail_audit.specs.DumpLines.{IsClosed, IsCompared, IsEarly, IsExpected, IsLonger, IsStep, IsStepBehind, OpsStand, PhaseStands, Takes}
 use Rattle.mail_audit.specs.Dumps.{AreDumped, AreOrdered, inside_text, op_line, state_text}
 use Rattle.mail_audit.specs.declared.applying.Expected.{Expected}
 use Rattle.mail_audit.specs.declared.applying.Expected.TheVariants.{Lines, Stuck}
@@ -121,3 +123,32 @@ closed_of inside lines (Ok (Lines expected)) s b h =
       record { in_form = good.1; sound = h.1; ascending = s.3; causes = h.0 },
       λ i. good.0 i ++ h.2 i,
     )
+
+-- ---- the beginning
+
+-- no line came
+pub none_stands : (lines : OpLines) → lines.ops.items ≡ [] → lines.is_bad ≡ false → OpsStand [] lines
+none_stands lines e b = (
+  omega (arith, ap length e),
+  λ t. absurd (let k : true ≡ false = sym t ∙ b in cc),
+  λ t. (sym (ap (flat_map op_line) e), subst (AreSound IsInForm) (sym e) (λ o h. absurd h)),
+  subst AreOrdered (sym e) tt,
+)
+
+-- ---- the line to come
+
+pub next_found : (text whole line : List ℕ) (came : ℕ) (parts : List ℕ × List ℕ) → text ≡ drop came whole → Some parts ≡ cut_at 10 text → parts.0 ≡ line → (rest : List ℕ) × (drop came whole ≡ line ++ 10 ∷ rest)
+next_found text whole line came parts t e q = (parts.1, sym t ∙ cut_takes 10 text parts (sym e) ∙ ap (λ (l : List ℕ). l ++ 10 ∷ parts.1) q)
+
+-- what comes of the line that was to come
+pub behind_compared : (old new : Comparison) (line : List ℕ) (number : ℕ) (step : Step) → Takes old line new → IsStepBehind new line number step → IsCompared old line number new step
+behind_compared old new line number GoesOn t s = (t, s)
+behind_compared old new line number Ends t s = (t, s)
+behind_compared old new line number (Wrong found) t s = s
+behind_compared old new line number Unreadable t s = tt
+
+-- the comparison begins
+pub closed_stands : (inside : List (List ℕ)) (closed : Expected) (comparison : Comparison) → closed ≡ Lines comparison.lines → comparison.came ≡ 0 → IsClosed inside closed → PhaseStands inside (State comparison)
+closed_stands inside closed comparison is none h =
+    let c : IsClosed inside (Lines comparison.lines) = subst (IsClosed inside) is h in
+    (c.0, c.1, omega (arith, none), ap (λ (n : ℕ). text_of inside ++ drop n comparison.lines.items) none ∙ c.2)

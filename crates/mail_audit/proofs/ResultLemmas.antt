@@ -1,0 +1,19 @@
+use Rattle.std.proofs.Common.{◌≡◌, ℕ, List, [], ◌∷◌, ◌++◌, Option, Some, None, sym, ◌∙◌}
+use Rattle.std.proofs.lemmas.List.{append_cancel_right}
+use Rattle.std.specs.Prelude.{IfSome}
+use Rattle.tags_clocks.specs.declared.id.OpId.{OpId}
+use Rattle.text_fields.proofs.FieldLemmas.{id_takes, replica_takes}
+use Rattle.text_fields.specs.Fields.{IsId, IsReplica}
+use Rattle.text_fields.specs.Reading.{id_at, replica_at}
+
+pub id_in_range : (text : List ℕ) (found : Option OpId) → found ≡ id_at text → IfSome found IsId
+id_in_range text None e = tt
+id_in_range text (Some id) e = (id_takes text id (sym e)).0
+
+pub replica_in_range : (text : List ℕ) (found : Option ℕ) → found ≡ replica_at text → IfSome found IsReplica
+replica_in_range text None e = tt
+replica_in_range text (Some replica) e = (replica_takes text replica (sym e)).0
+
+-- what is printed with its end is the line
+pub printed_line : (line text told : List ℕ) → text ≡ told ++ 10 ∷ [] → text ≡ line ++ 10 ∷ [] → line ≡ told
+printed_line line text told a b = append_cancel_right line told (10 ∷ []) (sym b ∙ a)
