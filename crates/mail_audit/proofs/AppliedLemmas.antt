@@ -1,16 +1,20 @@
-use Rattle.std.proofs.Common.{◌≡◌, ◌↔◌, inl, inr, ℕ, zero, suc, ◌+◌, ◌<◌, List, [], ◌∷◌, ◌++◌, length, get_or, take, Result, Ok, Err, IfOk, refl, sym, ap, ◌∙◌, subst, codes, arith}
+use Rattle.std.proofs.Common.{◌≡◌, ◌↔◌, inl, inr, ℕ, zero, suc, ◌+◌, ◌<◌, ◌≤◌, ◌⊎◌, List, [], ◌∷◌, ◌++◌, length, get_or, take, Result, Ok, Err, IfOk, refl, sym, ap, ◌∙◌, subst, codes, arith}
 use Rattle.std.proofs.lemmas.Cmp.{tied_itself}
 use Rattle.std.proofs.lemmas.List.{take_more}
 use Rattle.std.specs.List.{flat_map}
 use Rattle.std.specs.declared.cmp.Ordering.TheVariants.{Less, Equal}
-use Rattle.causal_inbox.specs.Seen.{IsClockOf, Seen}
+use Rattle.causal_inbox.specs.Seen.{IsClockOf, IsReceived, Seen}
 use Rattle.crdt_ops.proofs.OrderLemmas.{id_order_total}
 use Rattle.crdt_ops.specs.declared.op.Op.{Op}
 use Rattle.crdt_ops.specs.Meanings.{MeansTheSame}
 use Rattle.crdt_ops.specs.Order.{id_order}
+use Rattle.crdt_ops.specs.Sound.{IsSound}
 use Rattle.crdt_ops.specs.Text.{ids_text, name_text}
+use Rattle.folder_state.specs.Contents.{Contents, IsMadeBy, effect_of, no_contents}
 use Rattle.merge_laws.proofs.Lists.{element_of_id, id_in_front, id_of_element, in_parts, split_at}
-use Rattle.merge_laws.specs.Orders.{HasId, HaveSameElements, IdsDetermine, IsCausal, IsIn}
+use Rattle.merge_laws.proofs.Pairs.{fold_pair}
+use Rattle.merge_laws.specs.Orders.{AreSound, HasId, HaveSameElements, IdsDetermine, IsCausal, IsIn, fold_of}
+use Rattle.subs_state.specs.Subscriptions.{Subscriptions, IsMadeBy as AreMadeBy, effect_of as subscribed_by, no_subscriptions}
 use Rattle.tags_clocks.specs.Clock.{IsCause}
 use Rattle.tags_clocks.specs.declared.id.OpId.{OpId}
 use Rattle.mail_audit.specs.DumpLines.{HoldsOnly, IsExpected, IsExpectedOf, StandsBehind}
@@ -77,6 +81,27 @@ all_more P xs i x l is before here y h =
       | inl t ↦ before y t
       | inr t ↦ elim t [ inl k ↦ subst P k here | inr n ↦ absurd n ]
     ]
+
+in_at : {X : Type 0} (xs : List X) (i : ℕ) (x : X) → i < length xs → x ≡ get_or xs i x → IsIn x xs
+in_at [] i x l e = absurd (omega (arith, l))
+in_at (y ∷ xs) zero x l e = inl (sym e)
+in_at (y ∷ xs) (suc i) x l e = inr (in_at xs i x (omega (arith, l)) e)
+
+-- with one of the operations more, an inbox has only such operations
+pub holds_more : {S : Type 0} (ops : List Op) (old new : Seen S Op) (op : Op) (i : ℕ) → i < length ops → op ≡ get_or ops i op → HoldsOnly ops old → ((o : Op) → IsReceived new o → IsReceived old o ⊎ (o ≡ op)) → HoldsOnly ops new
+holds_more ops old new op i l is h grown o r =
+    elim (grown o r) [
+      | inl t ↦ h o t
+      | inr e ↦ subst (λ (p : Op). IsIn p ops) (sym e) (in_at ops i op l is)
+    ]
+
+-- what the applied operations made
+pub made_both : (contents : Contents) (subscriptions : Subscriptions) (applied : List Op) → ◌≡◌ {A = Contents × Subscriptions} (contents, subscriptions) (fold_of {V = Contents × Subscriptions} (λ v o. (effect_of v.0 o, subscribed_by v.1 o)) (no_contents, no_subscriptions) applied) → AreSound IsSound applied → IsCausal id_of clock_of applied → IsMadeBy contents applied × AreMadeBy subscriptions applied
+made_both contents subscriptions applied e sound causal =
+    let both = e ∙ fold_pair effect_of subscribed_by no_contents no_subscriptions applied in (
+      record { sound = sound; causal = causal; made = ap (λ (v : Contents × Subscriptions). v.0) both },
+      record { sound = sound; causal = causal; made = ap (λ (v : Contents × Subscriptions). v.1) both },
+    )
 
 -- ---- what one set means
 

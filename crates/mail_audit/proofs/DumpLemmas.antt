@@ -15,19 +15,19 @@ flat_map_both f [] ys = refl
 flat_map_both f (x ∷ xs) ys = ap (λ zs. f x ++ zs) (flat_map_both f xs ys) ∙ sym (append_assoc (f x) (flat_map f xs) (flat_map f ys))
 
 -- a dump goes on
-pub open_more : (lines : List (List ℕ)) (sessions : List Session) (old new : OpenDump) (line : List ℕ) → (open : IsOpen lines sessions old) → new.first ≡ old.first → new.replica ≡ old.replica → IsNoEnd line → PhaseStands (open.inside ++ line ∷ []) new.phase → IsOpen (lines ++ line ∷ []) sessions new
-open_more lines sessions old new line open f r n p = record {
-  front = open.front;
-  inside = open.inside ++ line ∷ [];
-  parts = open.parts;
+pub open_more : (lines : List (List ℕ)) (sessions : List Session) (old new : OpenDump) (line : List ℕ) → (begun : IsOpen lines sessions old) → new.first ≡ old.first → new.replica ≡ old.replica → IsNoEnd line → PhaseStands (begun.inside ++ line ∷ []) new.phase → IsOpen (lines ++ line ∷ []) sessions new
+open_more lines sessions old new line begun f r n p = record {
+  front = begun.front;
+  inside = begun.inside ++ line ∷ [];
+  parts = begun.parts;
   whole =
-  ap (λ (ls : List (List ℕ)). ls ++ line ∷ []) open.whole
-  ∙ append_assoc open.front (dump_line old.replica ∷ open.inside) (line ∷ [])
-  ∙ ap (λ (q : ℕ). open.front ++ dump_line q ∷ (open.inside ++ line ∷ [])) (sym r);
-  count = f ∙ open.count;
-  named = subst IsReplica (sym r) open.named;
-  heard = open.heard;
-  going_on = each_last IsNoEnd open.inside line open.going_on n;
+  ap (λ (ls : List (List ℕ)). ls ++ line ∷ []) begun.whole
+  ∙ append_assoc begun.front (dump_line old.replica ∷ begun.inside) (line ∷ [])
+  ∙ ap (λ (q : ℕ). begun.front ++ dump_line q ∷ (begun.inside ++ line ∷ [])) (sym r);
+  count = f ∙ begun.count;
+  named = subst IsReplica (sym r) begun.named;
+  heard = begun.heard;
+  going_on = each_last IsNoEnd begun.inside line begun.going_on n;
   phase = p;
 }
 
@@ -46,57 +46,57 @@ open_first lines parts sessions dump line h e r f p = record {
 }
 
 -- a dump ends
-pub open_last : (lines : List (List ℕ)) (sessions : List Session) (dump : OpenDump) (line : List ℕ) (ops : List Op) → (open : IsOpen lines sessions dump) → AreDumped ops → text_of (open.inside ++ line ∷ []) ≡ inside_text ops → AreHeard (lines ++ line ∷ []) (open.parts ++ Dumped (dump_text dump.replica ops) ∷ []) sessions
-open_last lines sessions dump line ops open dumped e = record {
+pub open_last : (lines : List (List ℕ)) (sessions : List Session) (dump : OpenDump) (line : List ℕ) (ops : List Op) → (begun : IsOpen lines sessions dump) → AreDumped ops → text_of (begun.inside ++ line ∷ []) ≡ inside_text ops → AreHeard (lines ++ line ∷ []) (begun.parts ++ Dumped (dump_text dump.replica ops) ∷ []) sessions
+open_last lines sessions dump line ops begun dumped e = record {
   whole =
   let text = dump_text dump.replica ops in
-  ap (λ (ls : List (List ℕ)). text_of (ls ++ line ∷ [])) open.whole
-  ∙ ap text_of (append_assoc open.front (dump_line dump.replica ∷ open.inside) (line ∷ []))
-  ∙ flat_map_both ended_line open.front (dump_line dump.replica ∷ (open.inside ++ line ∷ []))
-  ∙ (λ i. open.heard.whole i ++ (ended_line (dump_line dump.replica) ++ e i))
-  ∙ ap (λ (zs : List ℕ). flat_map part_text open.parts ++ zs) (append_assoc (dump_line dump.replica) (10 ∷ []) (inside_text ops))
-  ∙ sym (flat_map_last part_text open.parts (Dumped text));
-  right = each_last IsRightPart open.parts (Dumped (dump_text dump.replica ops)) open.heard.right (dump.replica, ops, open.named, dumped, refl);
-  heard = λ session. said_of_dump session (dump_text dump.replica ops) open.parts sessions (open.heard.heard session);
+  ap (λ (ls : List (List ℕ)). text_of (ls ++ line ∷ [])) begun.whole
+  ∙ ap text_of (append_assoc begun.front (dump_line dump.replica ∷ begun.inside) (line ∷ []))
+  ∙ flat_map_both ended_line begun.front (dump_line dump.replica ∷ (begun.inside ++ line ∷ []))
+  ∙ (λ i. begun.heard.whole i ++ (ended_line (dump_line dump.replica) ++ e i))
+  ∙ ap (λ (zs : List ℕ). flat_map part_text begun.parts ++ zs) (append_assoc (dump_line dump.replica) (10 ∷ []) (inside_text ops))
+  ∙ sym (flat_map_last part_text begun.parts (Dumped text));
+  right = each_last IsRightPart begun.parts (Dumped (dump_text dump.replica ops)) begun.heard.right (dump.replica, ops, begun.named, dumped, refl);
+  heard = λ session. said_of_dump session (dump_text dump.replica ops) begun.parts sessions (begun.heard.heard session);
 }
 
 -- a dump is wrong
-pub open_wrong : (lines more : List (List ℕ)) (sessions : List Session) (dump : OpenDump) (line : List ℕ) (number : ℕ) → (open : IsOpen lines sessions dump) → dump.first < number → number ≤ dump.first + 1 + length open.inside → IsNo (lines ++ line ∷ more) number
-open_wrong lines more sessions dump line number open a b =
-    let whole = ap (λ (ls : List (List ℕ)). ls ++ line ∷ more) open.whole ∙ append_assoc open.front (dump_line dump.replica ∷ open.inside) (line ∷ more) in
+pub open_wrong : (lines more : List (List ℕ)) (sessions : List Session) (dump : OpenDump) (line : List ℕ) (number : ℕ) → (begun : IsOpen lines sessions dump) → dump.first < number → number ≤ dump.first + 1 + length begun.inside → IsNo (lines ++ line ∷ more) number
+open_wrong lines more sessions dump line number begun a b =
+    let whole = ap (λ (ls : List (List ℕ)). ls ++ line ∷ more) begun.whole ∙ append_assoc begun.front (dump_line dump.replica ∷ begun.inside) (line ∷ more) in
     let n = ap length whole in
-    let m = length-append open.front (dump_line dump.replica ∷ (open.inside ++ line ∷ more)) in
-    let k = length-append open.inside (line ∷ more) in
-    let c = open.count in
+    let m = length-append begun.front (dump_line dump.replica ∷ (begun.inside ++ line ∷ more)) in
+    let k = length-append begun.inside (line ∷ more) in
+    let c = begun.count in
     inr (record {
-      front = open.front;
-      inside = open.inside;
+      front = begun.front;
+      inside = begun.inside;
       back = line ∷ more;
-      parts = open.parts;
+      parts = begun.parts;
       replica = dump.replica;
       whole = whole;
-      right = heard_right open.front open.parts sessions open.heard;
-      going_on = open.going_on;
+      right = heard_right begun.front begun.parts sessions begun.heard;
+      going_on = begun.going_on;
       behind_first = omega (arith, a, c);
       at_most = omega (arith, b, c);
       there = omega (arith, b, c, n, m, k);
     })
 
 -- the same where the input ends
-pub open_wrong_at_end : (lines : List (List ℕ)) (sessions : List Session) (dump : OpenDump) (number : ℕ) → (open : IsOpen lines sessions dump) → dump.first < number → number ≤ dump.first + length open.inside → IsNo lines number
-open_wrong_at_end lines sessions dump number open a b =
-    let n = ap length open.whole in
-    let m = length-append open.front (dump_line dump.replica ∷ open.inside) in
-    let c = open.count in
+pub open_wrong_at_end : (lines : List (List ℕ)) (sessions : List Session) (dump : OpenDump) (number : ℕ) → (begun : IsOpen lines sessions dump) → dump.first < number → number ≤ dump.first + length begun.inside → IsNo lines number
+open_wrong_at_end lines sessions dump number begun a b =
+    let n = ap length begun.whole in
+    let m = length-append begun.front (dump_line dump.replica ∷ begun.inside) in
+    let c = begun.count in
     inr (record {
-      front = open.front;
-      inside = open.inside;
+      front = begun.front;
+      inside = begun.inside;
       back = [];
-      parts = open.parts;
+      parts = begun.parts;
       replica = dump.replica;
-      whole = open.whole ∙ ap (λ (ls : List (List ℕ)). open.front ++ dump_line dump.replica ∷ ls) (sym (append-nil open.inside));
-      right = heard_right open.front open.parts sessions open.heard;
-      going_on = open.going_on;
+      whole = begun.whole ∙ ap (λ (ls : List (List ℕ)). begun.front ++ dump_line dump.replica ∷ ls) (sym (append-nil begun.inside));
+      right = heard_right begun.front begun.parts sessions begun.heard;
+      going_on = begun.going_on;
       behind_first = omega (arith, a, c);
       at_most = omega (arith, b, c);
       there = omega (arith, b, c, n, m);

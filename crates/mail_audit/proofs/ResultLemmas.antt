@@ -1,10 +1,11 @@
-use Rattle.std.proofs.Common.{◌≡◌, ℕ, List, [], ◌∷◌, ◌++◌, Option, Some, None, sym, ◌∙◌}
+use Rattle.std.proofs.Common.{◌≡◌, ℕ, List, [], ◌∷◌, ◌++◌, Option, Some, None, sym, ap, ◌∙◌, codes}
 use Rattle.std.proofs.lemmas.List.{append_cancel_right}
 use Rattle.std.specs.Prelude.{IfSome}
 use Rattle.tags_clocks.specs.declared.id.OpId.{OpId}
 use Rattle.text_fields.proofs.FieldLemmas.{id_takes, replica_takes}
 use Rattle.text_fields.specs.Fields.{IsId, IsReplica}
 use Rattle.text_fields.specs.Reading.{id_at, replica_at}
+use Rattle.mail_audit.specs.Dumps.{dump_line}
 
 pub id_in_range : (text : List ℕ) (found : Option OpId) → found ≡ id_at text → IfSome found IsId
 id_in_range text None e = tt
@@ -17,3 +18,8 @@ replica_in_range text (Some replica) e = (replica_takes text replica (sym e)).0
 -- what is printed with its end is the line
 pub printed_line : (line text told : List ℕ) → text ≡ told ++ 10 ∷ [] → text ≡ line ++ 10 ∷ [] → line ≡ told
 printed_line line text told a b = append_cancel_right line told (10 ∷ []) (sym b ∙ a)
+
+-- the first line of a dump
+pub dump_of : (line digits : List ℕ) (found : Option ℕ) → line ≡ codes "dump " ++ digits → found ≡ replica_at digits → IfSome found (λ replica. IsReplica replica × (line ≡ dump_line replica))
+dump_of line digits None l e = tt
+dump_of line digits (Some replica) l e = let t = replica_takes digits replica (sym e) in (t.0, l ∙ ap (λ (d : List ℕ). codes "dump " ++ d) t.1)

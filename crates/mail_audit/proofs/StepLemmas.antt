@@ -1,8 +1,10 @@
-use Rattle.std.proofs.Common.{◌≡◌, inl, inr, ℕ, suc, ◌+◌, ◌-◌, ◌<◌, ◌≤◌, true, false, List, [], ◌∷◌, ◌++◌, length, length-append, length-drop, drop, Option, Some, Result, Ok, Err, IfOk, refl, sym, ap, ◌∙◌, subst, append_assoc, append-nil, drop-drop, arith, codes}
+use Rattle.std.proofs.Common.{◌≡◌, inl, inr, ℕ, suc, ◌+◌, ◌-◌, ◌<◌, ◌≤◌, Bool, true, false, List, [], ◌∷◌, ◌++◌, length, length-append, length-drop, drop, Option, Some, None, Result, Ok, Err, IfOk, refl, sym, ap, ◌∙◌, subst, append_assoc, append-nil, drop-drop, arith, codes}
 use Rattle.std.proofs.Math.Seq.{drop-append_seam}
+use Rattle.std.proofs.lemmas.Bool.{cases_Bool}
 use Rattle.std.proofs.lemmas.Grind.{flat_map-append}
 use Rattle.std.proofs.lemmas.List.{drop_all}
 use Rattle.std.specs.List.{flat_map}
+use Rattle.std.specs.Prelude.{IfSome, IsSome}
 use Rattle.crdt_ops.specs.Form.{IsInForm, IsSpelled}
 use Rattle.crdt_ops.specs.Text.{op_text}
 use Rattle.crdt_ops.specs.declared.op.Op.{Op}
@@ -112,6 +114,22 @@ early_step first inside line lines phase (Wrong number) s e = (e.0, omega (arith
 early_step first inside line lines phase Unreadable s e = tt
 
 -- ---- the end of the op lines
+
+pub not_bad : (b : Bool) (found : Option ℕ) → found ≡ None → (b ≡ true → IsSome found) → b ≡ false
+not_bad false found e h = refl
+not_bad true found e h = absurd (let k : IsSome {T = ℕ} None = subst IsSome e (h refl) in cc)
+
+-- the first op line that makes a dump wrong is one of its lines
+pub within_lines : (inside : List (List ℕ)) (lines : OpLines) (found : Option ℕ) (place : ℕ) → OpsStand inside lines → found ≡ Some place → IfSome found (λ place. place ≤ length lines.ops.items) → (lines.is_bad ≡ false → IfSome found (λ place. place < length lines.ops.items)) → place < length inside
+within_lines inside lines found place s e w f =
+    let l : place ≤ length lines.ops.items = subst (λ (o : Option ℕ). IfSome o (λ place. place ≤ length lines.ops.items)) e w in
+    elim (cases_Bool lines.is_bad) [
+      | inl t ↦ let m = s.1 t in omega (arith, l, m)
+      | inr n ↦
+          let k : place < length lines.ops.items = subst (λ (o : Option ℕ). IfSome o (λ place. place < length lines.ops.items)) e (f n) in
+          let m = s.0 in
+          omega (arith, k, m)
+    ]
 
 -- what follows good op lines
 pub closed_of : {E : Type 0} (inside : List (List ℕ)) (lines : OpLines) (result : Result Expected E) → OpsStand inside lines → lines.is_bad ≡ false → IfOk result (IsExpected lines.ops.items) → IfOk result (IsClosed inside)

@@ -109,8 +109,9 @@ fn apply(
     causal_inbox::delivery_is_received::<Pair<Folders, Subs>, Unfollowed>();
     let copy = op.copy(alloc)?;
     match inbox.deliver(alloc, copy) {
+        Ok(_) => Ok(()),
         Err(DeliverFault::NoMemory) => Err(AllocError),
-        _ => Ok(()),
+        Err(_) => Ok(()),
     }
 }
 

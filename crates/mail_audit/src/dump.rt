@@ -97,7 +97,7 @@ impl OpenDump {
 
     /// How an audit ends whose input ends here, with the line of this number.
     pub fn end(self, alloc: Global, last: u64) -> Result<AuditEnd, AllocError>
-        requires { (lines : List (List ℕ)) (sessions : List Session) × IsOpen lines sessions self × (last ≡ length lines) }
+        requires { (lines : List (List ℕ)) × (sessions : List Session) × IsOpen lines sessions self × (last ≡ length lines) }
         ensures { (lines : List (List ℕ)) (sessions : List Session) → IsOpen lines sessions self → last ≡ length lines → IfOk result (Audits lines) }
     {
         match &self.phase {

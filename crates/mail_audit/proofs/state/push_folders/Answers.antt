@@ -13,5 +13,5 @@ loop-name-preserved c = λ ops made.
     let before = c.args.text.now.items in
     let inside : i < length names = omega arith in
     let next : take (i + 1) names ≡ take i names ++ name ∷ [] = take_more names i name inside ∙ ap (λ n. take i names ++ n ∷ []) (sym c.name-item.is) in
-    c.in_ok-push_folder.ensures ops made {u = tt} ∙ ap (λ text. text ++ line name) (c.loop-name.invariant ops made) ∙ flat_map_more line before (take i names) name
+    c.in_ok-push_folder.ensures ops made ∙ ap (λ text. text ++ line name) (c.loop-name.invariant ops made) ∙ flat_map_more line before (take i names) name
     ∙ ap (λ ns. before ++ flat_map line ns) (sym next)

@@ -17,4 +17,4 @@ line_of (Ok x) old mid new word name ids seen m i o =
 pub returns : goal.returns
 returns c = λ ops made.
     line_of c.push_tags.result c.args.text.now.items c.push_named.new.text.items c.push_tags.new.text.items (codes "subscribed ") (name_text c.args.name.now)
-    c.in_ok-tags.tags (subscription_tags_of ops c.args.name.now) (c.in_ok-push_named.ensures {u = tt}) (c.in_ok-tags.ensures.set ops made {u = tt}) c.push_tags.ensures
+    c.in_ok-tags.tags (subscription_tags_of ops c.args.name.now) (c.in_ok-push_named.ensures {u = tt}) (c.in_ok-tags.ensures.set ops made) c.push_tags.ensures
