@@ -21,9 +21,9 @@ open_more lines sessions old new line begun f r n p = record {
   inside = begun.inside ++ line ∷ [];
   parts = begun.parts;
   whole =
-  ap (λ (ls : List (List ℕ)). ls ++ line ∷ []) begun.whole
-  ∙ append_assoc begun.front (dump_line old.replica ∷ begun.inside) (line ∷ [])
-  ∙ ap (λ (q : ℕ). begun.front ++ dump_line q ∷ (begun.inside ++ line ∷ [])) (sym r);
+      ap (λ (ls : List (List ℕ)). ls ++ line ∷ []) begun.whole
+      ∙ append_assoc begun.front (dump_line old.replica ∷ begun.inside) (line ∷ [])
+      ∙ ap (λ (q : ℕ). begun.front ++ dump_line q ∷ (begun.inside ++ line ∷ [])) (sym r);
   count = f ∙ begun.count;
   named = subst IsReplica (sym r) begun.named;
   heard = begun.heard;
@@ -49,13 +49,13 @@ open_first lines parts sessions dump line h e r f p = record {
 pub open_last : (lines : List (List ℕ)) (sessions : List Session) (dump : OpenDump) (line : List ℕ) (ops : List Op) → (begun : IsOpen lines sessions dump) → AreDumped ops → text_of (begun.inside ++ line ∷ []) ≡ inside_text ops → AreHeard (lines ++ line ∷ []) (begun.parts ++ Dumped (dump_text dump.replica ops) ∷ []) sessions
 open_last lines sessions dump line ops begun dumped e = record {
   whole =
-  let text = dump_text dump.replica ops in
-  ap (λ (ls : List (List ℕ)). text_of (ls ++ line ∷ [])) begun.whole
-  ∙ ap text_of (append_assoc begun.front (dump_line dump.replica ∷ begun.inside) (line ∷ []))
-  ∙ flat_map_both ended_line begun.front (dump_line dump.replica ∷ (begun.inside ++ line ∷ []))
-  ∙ (λ i. begun.heard.whole i ++ (ended_line (dump_line dump.replica) ++ e i))
-  ∙ ap (λ (zs : List ℕ). flat_map part_text begun.parts ++ zs) (append_assoc (dump_line dump.replica) (10 ∷ []) (inside_text ops))
-  ∙ sym (flat_map_last part_text begun.parts (Dumped text));
+      let text = dump_text dump.replica ops in
+      ap (λ (ls : List (List ℕ)). text_of (ls ++ line ∷ [])) begun.whole
+      ∙ ap text_of (append_assoc begun.front (dump_line dump.replica ∷ begun.inside) (line ∷ []))
+      ∙ flat_map_both ended_line begun.front (dump_line dump.replica ∷ (begun.inside ++ line ∷ []))
+      ∙ (λ i. begun.heard.whole i ++ (ended_line (dump_line dump.replica) ++ e i))
+      ∙ ap (λ (zs : List ℕ). flat_map part_text begun.parts ++ zs) (append_assoc (dump_line dump.replica) (10 ∷ []) (inside_text ops))
+      ∙ sym (flat_map_last part_text begun.parts (Dumped text));
   right = each_last IsRightPart begun.parts (Dumped (dump_text dump.replica ops)) begun.heard.right (dump.replica, ops, begun.named, dumped, refl);
   heard = λ session. said_of_dump session (dump_text dump.replica ops) begun.parts sessions (begun.heard.heard session);
 }

@@ -45,11 +45,11 @@ longer_stands inside line spelled old new op s e p g =
             λ b. absurd (let t : false ≡ true = sym k.1 ∙ b in cc),
             λ b. (
               text_more inside line
-              ∙ (λ i. good.0 i ++ (e i ++ 10 ∷ []))
-              ∙ ap (λ (xs : List ℕ). flat_map op_line old.ops.items ++ (codes "op " ++ (xs ++ 10 ∷ []))) p.1
-              ∙ ap (λ (xs : List ℕ). flat_map op_line old.ops.items ++ xs) (sym (append-nil (op_line op)))
-              ∙ sym (flat_map-append op_line old.ops.items (op ∷ []))
-              ∙ ap (flat_map op_line) (sym k.2),
+                  ∙ (λ i. good.0 i ++ (e i ++ 10 ∷ []))
+                  ∙ ap (λ (xs : List ℕ). flat_map op_line old.ops.items ++ (codes "op " ++ (xs ++ 10 ∷ []))) p.1
+                  ∙ ap (λ (xs : List ℕ). flat_map op_line old.ops.items ++ xs) (sym (append-nil (op_line op)))
+                  ∙ sym (flat_map-append op_line old.ops.items (op ∷ []))
+                  ∙ ap (flat_map op_line) (sym k.2),
               subst (AreSound IsInForm) (sym k.2) (λ o h. elim (in_parts o old.ops.items (op ∷ []) h) [
                 | inl t ↦ good.1 o t
                 | inr t ↦ elim t [ inl q ↦ subst IsInForm q p.0 | inr n ↦ absurd n ]
@@ -100,8 +100,8 @@ compared_step first inside line number old new Ends s n c =
       s.0,
       s.1,
       sym (append-nil (text_of (inside ++ line ∷ [])))
-      ∙ ap (λ (xs : List ℕ). text_of (inside ++ line ∷ []) ++ xs) (sym none)
-      ∙ moved inside line (inside_text s.0) (drop old.came old.lines.items) (drop new.came old.lines.items) s.3 c.0.2,
+          ∙ ap (λ (xs : List ℕ). text_of (inside ++ line ∷ []) ++ xs) (sym none)
+          ∙ moved inside line (inside_text s.0) (drop old.came old.lines.items) (drop new.came old.lines.items) s.3 c.0.2,
     )
 compared_step first inside line number old new (Wrong found) s n c = (omega (arith, n, c), omega (arith, n, c))
 compared_step first inside line number old new Unreadable s n c = tt

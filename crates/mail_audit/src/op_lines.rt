@@ -1,7 +1,6 @@
 //! The op lines of a dump.
 
 ghost use Rattle.std.specs.Prelude.{◌≡◌, ◌↔◌, ◌≤◌, ◌<◌, [], true, false, IfOk, IfSome, IsSome, IsTrue, OnOk, length};
-
 ghost use Rattle.std.specs.declared.cmp.Ordering.TheVariants.{Less};
 ghost use Rattle.crdt_ops.specs.Order.{id_order};
 ghost use Rattle.mail_audit.specs.DumpLines.{IsLonger, StandsBehind};
