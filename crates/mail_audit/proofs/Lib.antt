@@ -5,6 +5,7 @@ mod Examples
 mod GoneLemmas
 mod Hearing
 mod HearingLemmas
+mod ReadingLemmas
 mod ResultLemmas
 mod Rooms
 mod RunLemmas

@@ -1,4 +1,4 @@
-use Rattle.std.proofs.Common.{◌≡◌, ℕ, List, [], ◌∷◌, ◌++◌, Option, Some, None, sym, ap, ◌∙◌, codes}
+use Rattle.std.proofs.Common.{◌≡◌, ◌↔◌, ℕ, List, [], ◌∷◌, ◌++◌, Option, Some, None, sym, ap, ◌∙◌, codes}
 use Rattle.std.proofs.lemmas.List.{append_cancel_right}
 use Rattle.std.specs.Prelude.{IfSome}
 use Rattle.tags_clocks.specs.declared.id.OpId.{OpId}
@@ -20,9 +20,12 @@ pub replica_in_range : (text : List ℕ) (found : Option ℕ) → found ≡ repl
 replica_in_range text None e = tt
 replica_in_range text (Some replica) e = (replica_takes text replica (sym e)).0
 
--- what is printed with its end is the line
-pub printed_line : (line text told : List ℕ) → text ≡ told ++ 10 ∷ [] → text ≡ line ++ 10 ∷ [] → line ≡ told
-printed_line line text told a b = append_cancel_right line told (10 ∷ []) (sym b ∙ a)
+-- what is printed, with its end, is the line with its end just where it is the line
+pub told_where : (line told text whole : List ℕ) → text ≡ told ++ 10 ∷ [] → whole ≡ line ++ 10 ∷ [] → (text ≡ whole) ↔ (line ≡ told)
+told_where line told text whole a b = (
+  λ e. append_cancel_right line told (10 ∷ []) (sym b ∙ sym e ∙ a),
+  λ e. a ∙ ap (λ (xs : List ℕ). xs ++ 10 ∷ []) (sym e) ∙ sym b,
+)
 
 -- the first line of a dump
 pub dump_of : (line digits : List ℕ) (found : Option ℕ) → line ≡ codes "dump " ++ digits → found ≡ replica_at digits → IfSome found (λ replica. IsReplica replica × (line ≡ dump_line replica))
