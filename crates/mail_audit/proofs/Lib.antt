@@ -1,3 +1,4 @@
+mod AppliedLemmas
 mod AuditingLemmas
 mod Deciding
 mod DumpLemmas
@@ -5,11 +6,14 @@ mod Examples
 mod GoneLemmas
 mod Hearing
 mod HearingLemmas
+mod ReadingLemmas
+mod ResultLemmas
 mod Rooms
 mod RunLemmas
 mod RunningLemmas
 mod SessionLemmas
 mod SlotLemmas
 mod StandingLemmas
+mod StepLemmas
 mod Stepping
 mod ToldLemmas

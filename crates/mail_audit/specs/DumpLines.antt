@@ -22,16 +22,17 @@ use Rattle.mail_audit.specs.declared.forms.DumpLine.{DumpLine}
 use Rattle.mail_audit.specs.declared.forms.DumpLine.TheVariants as line
 use Rattle.mail_audit.specs.declared.op_lines.OpLines.{OpLines}
 
--- Of a line `op ..` and of others it is told what they are: an op line spells its operation.
+-- What a text behind `op ` is: the text of an operation, or of none.
 abbrev pub IsOpLine : List ℕ → DumpLine → Type 0
 IsOpLine text (line.Op op) = IsSpelled op text
 IsOpLine text line.Other = ⊥
-IsOpLine text line.Unreadable = Unit {0}
+IsOpLine text line.Unreadable = (op : Op) → ¬ IsSpelled op text
 
+-- What a line of a dump is: an op line spells its operation, another line doesn't begin as one, and one that can't be read spells none.
 abbrev pub IsDumpLine : List ℕ → DumpLine → Type 0
 IsDumpLine text (line.Op op) = (spelled : List ℕ) × (text ≡ codes "op " ++ spelled) × IsSpelled op spelled
-IsDumpLine text line.Other = Unit {0}
-IsDumpLine text line.Unreadable = Unit {0}
+IsDumpLine text line.Other = (rest : List ℕ) → text ≡ codes "op " ++ rest → ⊥
+IsDumpLine text line.Unreadable = (op : Op) (spelled : List ℕ) → IsSpelled op spelled → text ≡ codes "op " ++ spelled → ⊥
 
 -- One op line more was taken: it is good and stands behind the others, or none is from there on.
 abbrev pub IsLonger : OpLines → Op → OpLines → Type 0
@@ -106,3 +107,10 @@ IsCompared old line number new GoesOn = Takes old line new × IsNoEnd line
 IsCompared old line number new Ends = Takes old line new × (new.came ≡ length new.lines.items)
 IsCompared old line number new (Wrong found) = found ≡ number
 IsCompared old line number new Unreadable = Unit {0}
+
+-- What comes of a line, of this number, that was the one to come.
+abbrev pub IsStepBehind : Comparison → List ℕ → ℕ → Step → Type 0
+IsStepBehind comparison line number GoesOn = IsNoEnd line
+IsStepBehind comparison line number Ends = comparison.came ≡ length comparison.lines.items
+IsStepBehind comparison line number (Wrong found) = found ≡ number
+IsStepBehind comparison line number Unreadable = ⊥

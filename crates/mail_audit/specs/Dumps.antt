@@ -24,9 +24,13 @@ op_line op = codes "op " ++ (op_text op ++ 10 ∷ [])
 abbrev pub folder_line : List Op → List ℕ → List ℕ
 folder_line ops folder = codes "folder " ++ (name_text folder ++ 32 ∷ (ids_text (folder_tags_of ops folder) ++ 10 ∷ []))
 
--- A message's flags, date and text, each behind a space (32) but the first, and the end of their line.
+-- A message's date and text, each behind a space (32), and the end of their line.
+abbrev pub dated_text : Message → List ℕ
+dated_text message = 32 ∷ (message.date ++ 32 ∷ (letter_text message.text ++ 10 ∷ []))
+
+-- A message's flags, date and text, and the end of their line.
 abbrev pub body_text : Message → List ℕ
-body_text message = flags_text message.flags ++ 32 ∷ (message.date ++ 32 ∷ (letter_text message.text ++ 10 ∷ []))
+body_text message = flags_text message.flags ++ dated_text message
 
 -- The line of a message.
 abbrev pub message_line : Message → List ℕ

@@ -7,6 +7,7 @@ pub mod Gaps
 pub mod Hearings
 pub mod Kept
 pub mod Passing
+pub mod ResultReading
 pub mod Results
 pub mod Sessions
 pub mod Standing

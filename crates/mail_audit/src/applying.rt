@@ -31,6 +31,7 @@ pub fn what_follows(alloc: Global, ops: &[SoundOp]) -> Result<Expected, AllocErr
     requires { IsAscending (λ (a b : Operation). id_order a.id b.id) ops.now }
     ensures { IfOk result (IsExpected ops.now) }
 {
+    crdt_ops::one_set_means_one();
     let value = Pair {
         first: Folders::new(alloc),
         second: Subs::new(alloc),
@@ -108,8 +109,9 @@ fn apply(
     causal_inbox::delivery_is_received::<Pair<Folders, Subs>, Unfollowed>();
     let copy = op.copy(alloc)?;
     match inbox.deliver(alloc, copy) {
+        Ok(_) => Ok(()),
         Err(DeliverFault::NoMemory) => Err(AllocError),
-        _ => Ok(()),
+        Err(_) => Ok(()),
     }
 }
 

@@ -1,8 +1,8 @@
 //! A dump that is read line by line.
 
-ghost use Rattle.std.specs.Prelude.{◌≡◌, ◌+◌, ◌≤◌, ◌<◌, ◌^◌, ℕ, List, [], ◌∷◌, ◌++◌, IfOk, length};
+ghost use Rattle.std.specs.Prelude.{◌≡◌, ◌+◌, ◌≤◌, ◌<◌, ◌^◌, ℕ, List, [], ◌∷◌, ◌++◌, IfOk, IsTrue, drop, length};
 ghost use Rattle.mail_audit.specs.Audits.{Audits};
-ghost use Rattle.mail_audit.specs.DumpLines.{IsClosed, IsCompared, IsEarly, IsStep, OpsStand, PhaseStands};
+ghost use Rattle.mail_audit.specs.DumpLines.{IsClosed, IsCompared, IsEarly, IsStep, IsStepBehind, OpsStand, PhaseStands};
 ghost use Rattle.mail_audit.specs.Dumps.{AreOrdered};
 ghost use Rattle.mail_audit.specs.Standing.{IsOpen};
 ghost use Rattle.mail_audit.specs.declared.sessions.Session.{Session};
@@ -97,7 +97,7 @@ impl OpenDump {
 
     /// How an audit ends whose input ends here, with the line of this number.
     pub fn end(self, alloc: Global, last: u64) -> Result<AuditEnd, AllocError>
-        requires { (lines : List (List ℕ)) (sessions : List Session) × IsOpen lines sessions self × (last ≡ length lines) }
+        requires { (lines : List (List ℕ)) × (sessions : List Session) × IsOpen lines sessions self × (last ≡ length lines) }
         ensures { (lines : List (List ℕ)) (sessions : List Session) → IsOpen lines sessions self → last ≡ length lines → IfOk result (Audits lines) }
     {
         match &self.phase {
@@ -136,13 +136,9 @@ impl Comparison {
     /// Takes the next line, which has this number.
     fn take(&mut self, alloc: Global, line: &[u8], number: u64) -> Result<Step, AllocError>
         requires { self.old.came ≤ length self.old.lines.items }
-        ensures { IfOk result (λ step. IsCompared self.old line.now number self.new step) }
+        ensures { IfOk result (IsCompared self.old line.now number self.new) }
     {
-        let is_next = match split(b'\n', &self.lines[self.came..]) {
-            Some((next, _)) => next == line,
-            None => false,
-        };
-        if is_next {
+        if self.has_next(line) {
             self.came += line.len() + 1;
             return Ok(self.step_behind(line, number));
         }
@@ -153,8 +149,21 @@ impl Comparison {
         }
     }
 
+    /// Whether this is the line that is to come.
+    fn has_next(&self, line: &[u8]) -> bool
+        requires { self.now.came ≤ length self.now.lines.items }
+        ensures { IsTrue result → (rest : List ℕ) × (drop self.now.came self.now.lines.items ≡ line.now ++ 10 ∷ rest) }
+    {
+        match split(b'\n', &self.lines[self.came..]) {
+            Some((next, _)) => next == line,
+            None => false,
+        }
+    }
+
     /// What comes of a line of this number that is the one that was to come.
-    fn step_behind(&self, line: &[u8], number: u64) -> Step {
+    fn step_behind(&self, line: &[u8], number: u64) -> Step
+        ensures { IsStepBehind self.now line.now number result }
+    {
         if line != b"end".as_slice() {
             Step::GoesOn
         } else if self.came == self.lines.len() {

@@ -1,6 +1,8 @@
 //! The op lines of a dump.
 
 ghost use Rattle.std.specs.Prelude.{◌≡◌, ◌↔◌, ◌≤◌, ◌<◌, [], true, false, IfOk, IfSome, IsSome, IsTrue, OnOk, length};
+ghost use Rattle.std.specs.declared.cmp.Ordering.TheVariants.{Less};
+ghost use Rattle.crdt_ops.specs.Order.{id_order};
 ghost use Rattle.mail_audit.specs.DumpLines.{IsLonger, StandsBehind};
 
 use crdt_ops::{Op, SoundOp, check};
@@ -51,7 +53,9 @@ impl OpLines {
     }
 
     /// Takes the id of a line that is bad, or behind one.
-    fn set_aside(&mut self, id: &OpId) -> Result<(), AllocError> {
+    fn set_aside(&mut self, id: &OpId) -> Result<(), AllocError>
+        ensures { OnOk result ((self.new.is_bad ≡ true) × (self.new.ops.items ≡ self.old.ops.items)) }
+    {
         self.is_bad = true;
         self.others.push(*id)?;
         Ok(())
@@ -100,8 +104,15 @@ fn is_above(ops: &[SoundOp], id: &OpId) -> bool
 {
     match ops.last() {
         None => true,
-        Some(op) => op.id() < *id,
+        Some(op) => is_below(op, id),
     }
+}
+
+/// Whether the operation's id is below this one.
+fn is_below(op: &SoundOp, id: &OpId) -> bool
+    ensures { IsTrue result ↔ (id_order op.now.id id.now ≡ Less) }
+{
+    op.id() < *id
 }
 
 /// The place of the first operation with a cause that isn't counted; where op lines may still come behind an id, only with one

@@ -10,7 +10,7 @@ ghost use Rattle.folder_state.specs.Contents.{IsMadeBy};
 ghost use Rattle.folder_state.specs.Tables.{contents_of};
 ghost use Rattle.subs_state.specs.Subscriptions.{IsMadeBy as AreMadeBy};
 ghost use Rattle.subs_state.specs.Table.{subscriptions_of};
-ghost use Rattle.mail_audit.specs.Dumps.{body_text, folder_line, folder_lines, message_line, state_text, subscription_line};
+ghost use Rattle.mail_audit.specs.Dumps.{body_text, dated_text, folder_line, folder_lines, message_line, state_text, subscription_line};
 
 use crdt_ops::{Ids, Message, write_flags, write_id, write_ids};
 use folder_state::Folders;
@@ -20,7 +20,7 @@ use subs_state::Subs;
 
 /// The lines of the folders, messages and subscriptions, with the line that ends the dump.
 pub fn state_lines(alloc: Global, folders: &Folders, subs: &Subs) -> Result<Vec<u8>, AllocError>
-    ensures { (ops : List Operation) → IsMadeBy (contents_of folders.now) ops → AreMadeBy (subscriptions_of subs.now) ops → IfOk result (λ text. text.items ≡ state_text ops ++ codes "end" ++ 10 ∷ []) }
+    ensures { (ops : List Operation) → IsMadeBy (contents_of folders.now) ops → AreMadeBy (subscriptions_of subs.now) ops → IfOk result (λ text. text.items ≡ state_text ops ++ (codes "end" ++ 10 ∷ [])) }
 {
     let mut text = Vec::new(alloc);
     push_folders(alloc, folders, &mut text)?;
@@ -105,6 +105,13 @@ fn push_body(message: &Message, text: &mut Vec<u8>) -> Result<(), AllocError>
     ensures { OnOk result (text.new.items ≡ text.old.items ++ body_text message.now) }
 {
     write_flags(&message.flags, text)?;
+    push_dated(message, text)
+}
+
+/// The date and the text of a message, each behind a space, and the end of its line.
+fn push_dated(message: &Message, text: &mut Vec<u8>) -> Result<(), AllocError>
+    ensures { OnOk result (text.new.items ≡ text.old.items ++ dated_text message.now) }
+{
     text.push(b' ')?;
     text.extend_from_slice(message.date.as_bytes())?;
     push_letter(&message.text, text)

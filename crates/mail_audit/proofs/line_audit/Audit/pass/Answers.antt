@@ -8,4 +8,4 @@ pub returns-then-branch : goal.returns-then-branch
 returns-then-branch c = λ lines parts heard count none.
     let audit = c.args.self.now in
     let line = c.args.line.now in
-    (one_more lines line audit.taken count, subst (λ (d : Option OpenDump). DumpStands (lines ++ line ∷ []) audit.sessions d) (sym none) (is_told lines parts audit.sessions heard line ((c.in_ok-is_result.ensures {u = tt}) (search rules))))
+    (one_more lines line audit.taken count, subst (λ (d : Option OpenDump). DumpStands (lines ++ line ∷ []) audit.sessions d) (sym none) (is_told lines parts audit.sessions heard line ((c.in_ok-is_result.ensures {u = tt}).0 (search rules))))
