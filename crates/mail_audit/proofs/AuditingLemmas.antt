@@ -155,8 +155,9 @@ module _ (start left : Option (List ℕ)) (audit : Audit) (text : List ℕ) (cam
 
 -- ---- the last line
 
-pub last_none : (front : List (List ℕ)) (text : List ℕ) (end : AuditEnd) → text ≡ [] → Audits front end → Audits (front ++ lines_of text) end
-last_none front text end e a = subst (λ (ls : List (List ℕ)). Audits ls end) (sym (ap (λ (zs : List ℕ). front ++ lines_of zs) e ∙ append-nil front)) a
+pub last_none : (front : List (List ℕ)) (text : List ℕ) (end : AuditEnd) → length text ≡ 0 → Audits front end → Audits (front ++ lines_of text) end
+last_none front [] end e a = subst (λ (ls : List (List ℕ)). Audits ls end) (sym (append-nil front)) a
+last_none front (octet ∷ octets) end e a = absurd (omega (arith, e))
 
 pub last_one : (front : List (List ℕ)) (text : List ℕ) (end : AuditEnd) → cut_at 10 text ≡ None → length text ≢ 0 → Audits (front ++ text ∷ []) end → Audits (front ++ lines_of text) end
 last_one front text end c n a = subst (λ (ls : List (List ℕ)). Audits ls end) (ap (λ (ls : List (List ℕ)). front ++ ls) (sym (lines_last text c (λ e. n (ap length e))))) a

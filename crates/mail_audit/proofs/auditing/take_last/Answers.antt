@@ -1,7 +1,12 @@
-use Rattle.std.proofs.Common.{rules, ◌≢◌, ◌++◌, ◌∷◌, [], ℕ, List, length, ap, subst, ◌∙◌}
+use Rattle.std.proofs.Common.{rules, ◌≡◌, ◌≢◌, ◌++◌, ◌∷◌, [], ℕ, List, length, ap, subst, ◌∙◌}
 use Rattle.mail_audit.specs.Audits.{Audits}
-use Rattle.mail_audit.proofs.AuditingLemmas.{last_one}
+use Rattle.mail_audit.proofs.AuditingLemmas.{last_none, last_one}
 use Rattle.mail_audit.proofs.auditing.take_last.Goals as goal
+
+pub returns-then-is_empty : goal.returns-then-is_empty
+returns-then-is_empty c = λ front s.
+    let none : length c.args.progress.lines ≡ 0 = search rules in
+    last_none front c.args.progress.lines c.end_of.result none (c.end_of.ensures front s)
 
 pub returns-in-Some : goal.returns-in-Some
 returns-in-Some c = λ front s.
