@@ -1,4 +1,4 @@
-use Rattle.std.proofs.Common.{◌≡◌, ℕ, ◌+◌, ◌<◌, ◌≤◌, Bool, true, false, List, [], ◌∷◌, ◌++◌, Some, None, length, length-append, IsTrue, arith, ap, refl, sym, subst}
+use Rattle.std.proofs.Common.{◌≡◌, inl, inr, ℕ, ◌+◌, ◌<◌, ◌≤◌, Bool, true, false, List, [], ◌∷◌, ◌++◌, Some, None, length, length-append, append_assoc, append-nil, IsTrue, arith, ap, refl, sym, subst, ◌∙◌}
 use Rattle.imap_types.specs.Escape.{AreOctets}
 use Rattle.std.specs.Str.{bytes_eq}
 use Rattle.imap_grammar.specs.Commands.{IsSpelled}
@@ -10,7 +10,7 @@ use Rattle.crdt_ops.specs.Form.{IsReplica}
 use Rattle.crdt_ops.specs.declared.op.Op.{Op}
 use Rattle.mail_script.specs.Fields.{is_session_name}
 use Rattle.mail_script.specs.declared.transcript.Speaker.{Speaker}
-use Rattle.mail_audit.specs.Audits.{Dumped, IsNoEnd, Part, Result, Spoken, said_by, spoken_line, text_of}
+use Rattle.mail_audit.specs.Audits.{Dumped, IsNoEnd, IsUnreadable, Part, Result, Spoken, said_by, spoken_line, text_of}
 use Rattle.mail_audit.specs.DumpLines.{PhaseStands}
 use Rattle.mail_audit.specs.Dumps.{AreDumped, dump_line, dump_text, inside_text}
 use Rattle.mail_audit.specs.Hearings.{Tells}
@@ -22,7 +22,7 @@ use Rattle.mail_audit.specs.declared.sessions.Session.{Session}
 use Rattle.mail_audit.specs.Transcripts.{Said}
 use Rattle.mail_audit.specs.declared.verdict.AuditEnd.TheVariants.{No, Unreadable}
 use Rattle.mail_audit.proofs.DumpLemmas.{open_first, open_last, open_more, open_wrong}
-use Rattle.mail_audit.proofs.HearingLemmas.{heard_more, heard_not, heard_result}
+use Rattle.mail_audit.proofs.HearingLemmas.{heard_more, heard_not, heard_result, heard_right}
 use Rattle.mail_audit.proofs.SessionLemmas.{own_name, same_name}
 
 -- the number of a line is that of all lines up to it
@@ -33,11 +33,36 @@ one_more lines line taken e =
     omega (arith, n, m, e)
 
 -- a line that can't be read
-pub unread : (lines : List (List ℕ)) (line : List ℕ) (taken : ℕ) → taken ≡ length lines + 1 → EndsAt lines line (Unreadable taken)
-unread lines line taken e more =
-    let n = length-append lines (line ∷ more) in
-    let m : length (line ∷ more) ≡ length more + 1 = let k : length (line ∷ more) ≡ length more + 1 = omega arith in k in
-    (omega (arith, e), omega (arith, n, m, e))
+pub unread : (lines : List (List ℕ)) (parts : List Part) (sessions : List Session) → AreHeard lines parts sessions → (line : List ℕ) (taken : ℕ) → taken ≡ length lines + 1 → (IsResult line → ⊥) → EndsAt lines line (Unreadable taken)
+unread lines parts sessions heard line taken e n more = inl (record {
+  front = lines;
+  line = line;
+  back = more;
+  parts = parts;
+  whole = refl;
+  count = e;
+  right = heard_right lines parts sessions heard;
+  no_result = n;
+})
+
+-- the input ends within a dump
+pub cut_short : (lines : List (List ℕ)) (sessions : List Session) (dump : OpenDump) (last : ℕ) → IsOpen lines sessions dump → last ≡ length lines → IsUnreadable lines last
+cut_short lines sessions dump last begun e =
+    let n = ap length begun.whole in
+    let m = length-append begun.front (dump_line dump.replica ∷ begun.inside) in
+    inr (record {
+      front = begun.front;
+      inside = begun.inside;
+      back = [];
+      parts = begun.parts;
+      replica = dump.replica;
+      whole = begun.whole ∙ ap (λ (ls : List (List ℕ)). begun.front ++ dump_line dump.replica ∷ ls) (sym (append-nil begun.inside));
+      right = heard_right begun.front begun.parts sessions begun.heard;
+      going_on = begun.going_on;
+      behind = omega (arith, n, m, e);
+      at_most = omega (arith, n, m, e);
+      there = omega (arith, e);
+    })
 
 -- ---- a line of a dump
 
@@ -57,6 +82,26 @@ module _ (lines : List (List ℕ)) (sessions : List Session) (old : OpenDump) (b
 
   pub is_wrong : (number : ℕ) → old.first < number → number ≤ old.first + 1 + length begun.inside → EndsAt lines line (No number)
   is_wrong number a b more = open_wrong lines more sessions old line number begun a b
+
+  pub unread_inside : EndsAt lines line (Unreadable taken)
+  unread_inside more =
+      let whole = ap (λ (ls : List (List ℕ)). ls ++ line ∷ more) begun.whole ∙ append_assoc begun.front (dump_line old.replica ∷ begun.inside) (line ∷ more) in
+      let n = ap length begun.whole in
+      let m = length-append begun.front (dump_line old.replica ∷ begun.inside) in
+      let k = length-append lines (line ∷ more) in
+      inr (record {
+        front = begun.front;
+        inside = begun.inside;
+        back = line ∷ more;
+        parts = begun.parts;
+        replica = old.replica;
+        whole = whole;
+        right = heard_right begun.front begun.parts sessions begun.heard;
+        going_on = begun.going_on;
+        behind = omega (arith, n, m, count);
+        at_most = omega (arith, n, m, count);
+        there = omega (arith, n, m, k, count);
+      })
 
 -- ---- another line
 
