@@ -2,7 +2,7 @@ use Rattle.std.specs.Prelude.{◌≡◌, ◌⊎◌, ℕ, ◌+◌, ◌<◌, ◌�
 use Rattle.std.specs.List.{flat_map}
 use Rattle.std.specs.Str.{bytes_eq}
 use Rattle.std.specs.Fmt.{decimal}
-use Rattle.crdt_ops.specs.Form.{Each}
+pub use Rattle.crdt_ops.specs.Form.{Each}
 use Rattle.imap_types.specs.Escape.{AreOctets, escaped}
 use Rattle.imap_types.specs.declared.escape.Escape.TheVariants.{Text}
 use Rattle.mail_script.specs.Fields.{is_session_name}
@@ -103,11 +103,41 @@ pub record IsInDump (lines : List (List ℕ)) (number : ℕ) : Type 0 where
 abbrev pub IsNo : List (List ℕ) → ℕ → Type 0
 IsNo lines number = IsUnexplained lines number ⊎ IsInDump lines number
 
+-- All in front of the line of this number is right, and it tells no result.
+pub record IsUnread (lines : List (List ℕ)) (number : ℕ) : Type 0 where
+  pub front : List (List ℕ)
+  pub line : List ℕ
+  pub back : List (List ℕ)
+  pub parts : List Part
+  pub whole : lines ≡ front ++ line ∷ back
+  pub count : number ≡ length front + 1
+  pub right : AreRight front parts
+  pub no_result : IsResult line → ⊥
+
+-- The line of this number is the first of a dump or stands in it: all in front of the dump is right, and it doesn't end
+-- before the line.
+pub record IsOfDump (lines : List (List ℕ)) (number : ℕ) : Type 0 where
+  pub front : List (List ℕ)
+  pub inside : List (List ℕ)
+  pub back : List (List ℕ)
+  pub parts : List Part
+  pub replica : ℕ
+  pub whole : lines ≡ front ++ dump_line replica ∷ (inside ++ back)
+  pub right : AreRight front parts
+  pub going_on : Each IsNoEnd inside
+  pub behind : length front < number
+  pub at_most : number ≤ length front + length inside + 2
+  pub there : number ≤ length lines
+
+-- A line that can't be read, or with which the input ends within a dump.
+abbrev pub IsUnreadable : List (List ℕ) → ℕ → Type 0
+IsUnreadable lines number = IsUnread lines number ⊎ IsOfDump lines number
+
 -- What an audit's answer says of the lines of its input.
 abbrev pub Audits : List (List ℕ) → AuditEnd → Type 0
 Audits lines Yes = IsRight lines
 Audits lines (No number) = IsNo lines number
-Audits lines (Unreadable number) = (0 < number) × (number ≤ length lines)
+Audits lines (Unreadable number) = IsUnreadable lines number
 Audits lines ReadFailed = Unit {0}
 Audits lines WriteFailed = Unit {0}
 Audits lines NoMemory = Unit {0}

@@ -28,13 +28,13 @@ folder_line ops folder = codes "folder " ++ (name_text folder ++ 32 ∷ (ids_tex
 abbrev pub dated_text : Message → List ℕ
 dated_text message = 32 ∷ (message.date ++ 32 ∷ (letter_text message.text ++ 10 ∷ []))
 
--- What a message's line says behind its id: its flags, its date and its text.
+-- A message's flags, date and text, and the end of their line.
 abbrev pub body_text : Message → List ℕ
 body_text message = flags_text message.flags ++ dated_text message
 
 -- The line of a message.
 abbrev pub message_line : Message → List ℕ
-message_line message = codes "message " ++ id_text message.id ++ 32 ∷ body_text message
+message_line message = codes "message " ++ (id_text message.id ++ 32 ∷ body_text message)
 
 -- The lines of a folder: its own, and those of its messages by their ids.
 abbrev pub folder_lines : List Op → List ℕ → List ℕ

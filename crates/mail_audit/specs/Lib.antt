@@ -1,10 +1,15 @@
 pub mod Audits
+pub mod Counts
+pub mod DumpLines
 pub mod Dumps
 pub mod Explained
 pub mod Gaps
 pub mod Hearings
 pub mod Kept
 pub mod Passing
+pub mod ResultReading
 pub mod Results
+pub mod Sessions
+pub mod Standing
 pub mod Steps
 pub mod Transcripts

@@ -1,30 +1,41 @@
-use Rattle.std.specs.Prelude.{◌≡◌, ◌⊎◌, ℕ, List, ◌∷◌, ◌++◌, codes}
-use Rattle.std.specs.Fmt.{decimal}
-use Rattle.tags_clocks.specs.declared.id.OpId.{OpId}
-use Rattle.mail_script.specs.Fields.{id_text}
+use Rattle.std.specs.Prelude.{◌≡◌, ℕ, ◌<◌, ◌^◌, List}
+use Rattle.mail_script.specs.Fields.{IsId, IsReplica}
 use Rattle.mail_script.specs.Outcomes.{outcome_text}
+use Rattle.mail_script.specs.declared.outcome.DeliveryResult.{DeliveryResult}
+use Rattle.mail_script.specs.declared.outcome.DeliveryResult.TheVariants.{Applied, Conflict}
 use Rattle.mail_script.specs.declared.outcome.OutcomeLine.{OutcomeLine}
-use Rattle.mail_script.specs.declared.outcome.OutcomeLine.TheVariants.{BadScript, CannotRead, NoMemory}
+use Rattle.mail_script.specs.declared.outcome.OutcomeLine.TheVariants.{Delivered, Forged, Unsound, Drained, Settled, Agreed, BadScript, CannotRead, NoMemory}
+use Rattle.mail_script.specs.declared.outcome.SettleResult.{SettleResult}
+use Rattle.mail_script.specs.declared.outcome.SettleResult.TheVariants.{Conflict as ConflictOfTwo}
 
--- The outcome is one of a delivery or a drain, and not of the script's end.
-abbrev pub IsOfDelivery : OutcomeLine → Type 0
-IsOfDelivery (BadScript line) = ⊥
-IsOfDelivery CannotRead = ⊥
-IsOfDelivery NoMemory = ⊥
-IsOfDelivery _ = Unit {0}
+-- A count of operations that a line may tell: one of 64 bits.
+abbrev pub IsCount : ℕ → Type 0
+IsCount count = count < 2 ^ 64
 
--- What came of an exchange between all replicas.
-abbrev pub IsSettled : List ℕ → Type 0
-IsSettled line =
-    (line ≡ codes "settle: Ok") ⊎ (line ≡ codes "settle: Exhausted") ⊎ (line ≡ codes "settle: NoMemory")
-    ⊎ ((id : OpId) × (line ≡ codes "settle: Conflict " ++ id_text id))
+-- What came of a delivery, with a count and an id that a line may tell.
+abbrev pub IsDeliveryResult : DeliveryResult → Type 0
+IsDeliveryResult (Applied count stalled) = IsCount count
+IsDeliveryResult (Conflict id) = IsId id
+IsDeliveryResult _ = Unit {0}
 
--- Whether two replicas applied the same operations.
-abbrev pub IsAgreement : List ℕ → Type 0
-IsAgreement line =
-    (one other : ℕ)
-    × ((line ≡ codes "agree " ++ (decimal one ++ 32 ∷ (decimal other ++ codes ": yes"))) ⊎ (line ≡ codes "agree " ++ (decimal one ++ 32 ∷ (decimal other ++ codes ": no"))))
+-- What came of an exchange, with an id that a line may tell.
+abbrev pub IsSettleResult : SettleResult → Type 0
+IsSettleResult (ConflictOfTwo id) = IsId id
+IsSettleResult _ = Unit {0}
+
+-- What came of a delivery, a drain, an exchange or a comparison, and not how a script ended; its ids, replicas and counts are ones
+-- that a line may tell.
+abbrev pub IsPassedOver : OutcomeLine → Type 0
+IsPassedOver (Delivered id replica result) = IsId id × IsReplica replica × IsDeliveryResult result
+IsPassedOver (Forged id replica result) = IsId id × IsReplica replica × IsDeliveryResult result
+IsPassedOver (Unsound rule) = Unit {0}
+IsPassedOver (Drained replica count stalled) = IsReplica replica × IsCount count
+IsPassedOver (Settled result) = IsSettleResult result
+IsPassedOver (Agreed first second same) = IsReplica first × IsReplica second
+IsPassedOver (BadScript line) = ⊥
+IsPassedOver CannotRead = ⊥
+IsPassedOver NoMemory = ⊥
 
 -- A line that tells what came of a delivery, a drain, an exchange or a comparison.
 abbrev pub IsResult : List ℕ → Type 0
-IsResult line = ((told : OutcomeLine) × IsOfDelivery told × (line ≡ outcome_text told)) ⊎ (IsSettled line ⊎ IsAgreement line)
+IsResult line = (told : OutcomeLine) × IsPassedOver told × (line ≡ outcome_text told)

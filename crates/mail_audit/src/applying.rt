@@ -1,5 +1,13 @@
 //! The state to which the op lines of a dump lead.
 
+ghost use Rattle.std.specs.Prelude.{◌≡◌, ◌⊎◌, ◌<◌, IfOk, MatchOption, length};
+ghost use Rattle.merge_laws.specs.Orders.{IsIn};
+ghost use Rattle.causal_inbox.specs.Seen.{IsReceived};
+ghost use Rattle.tags_clocks.specs.Clock.{IsCause};
+ghost use Rattle.crdt_ops.specs.Order.{IsAscending, id_order};
+ghost use Rattle.crdt_ops.specs.declared.op.Op.{Op as Operation};
+ghost use Rattle.mail_audit.specs.DumpLines.{HoldsOnly, IsExpected, IsExpectedOf};
+
 use crate::state::state_lines;
 use causal_inbox::{DeliverFault, Inbox};
 use crdt_ops::SoundOp;
@@ -19,7 +27,11 @@ pub enum Expected {
 }
 
 /// What is to follow these op lines.
-pub fn what_follows(alloc: Global, ops: &[SoundOp]) -> Result<Expected, AllocError> {
+pub fn what_follows(alloc: Global, ops: &[SoundOp]) -> Result<Expected, AllocError>
+    requires { IsAscending (λ (a b : Operation). id_order a.id b.id) ops.now }
+    ensures { IfOk result (IsExpected ops.now) }
+{
+    crdt_ops::one_set_means_one();
     let value = Pair {
         first: Folders::new(alloc),
         second: Subs::new(alloc),
@@ -36,7 +48,9 @@ pub fn what_follows(alloc: Global, ops: &[SoundOp]) -> Result<Expected, AllocErr
 fn lines_of(
     alloc: Global,
     inbox: &Inbox<Pair<Folders, Subs>, Unfollowed>,
-) -> Result<Expected, AllocError> {
+) -> Result<Expected, AllocError>
+    ensures { IfOk result (IsExpectedOf inbox.now.seen.applied) }
+{
     let _list = inbox.op_list();
     let value = inbox.value();
     let lines = state_lines(alloc, &value.first, &value.second)?;
@@ -48,7 +62,10 @@ fn apply_all(
     alloc: Global,
     ops: &[SoundOp],
     inbox: &mut Inbox<Pair<Folders, Subs>, Unfollowed>,
-) -> Result<(), AllocError> {
+) -> Result<(), AllocError>
+    requires { HoldsOnly ops.now inbox.old.seen }
+    ensures { HoldsOnly ops.now inbox.new.seen }
+{
     for _round in 0..ops.len() {
         if !apply_ripe(alloc, ops, inbox)? {
             return Ok(());
@@ -62,7 +79,10 @@ fn apply_ripe(
     alloc: Global,
     ops: &[SoundOp],
     inbox: &mut Inbox<Pair<Folders, Subs>, Unfollowed>,
-) -> Result<bool, AllocError> {
+) -> Result<bool, AllocError>
+    requires { HoldsOnly ops.now inbox.old.seen }
+    ensures { HoldsOnly ops.now inbox.new.seen }
+{
     let mut has_applied = false;
     for op in ops {
         if is_next(inbox.clock(), op) {
@@ -83,17 +103,22 @@ fn apply(
     alloc: Global,
     op: &SoundOp,
     inbox: &mut Inbox<Pair<Folders, Subs>, Unfollowed>,
-) -> Result<(), AllocError> {
+) -> Result<(), AllocError>
+    ensures { (o : Operation) → IsReceived inbox.new.seen o → IsReceived inbox.old.seen o ⊎ (o ≡ op.now) }
+{
     causal_inbox::delivery_is_received::<Pair<Folders, Subs>, Unfollowed>();
     let copy = op.copy(alloc)?;
     match inbox.deliver(alloc, copy) {
+        Ok(_) => Ok(()),
         Err(DeliverFault::NoMemory) => Err(AllocError),
-        _ => Ok(()),
+        Err(_) => Ok(()),
     }
 }
 
 /// How many operations stand before the first that the clock doesn't count.
-fn first_stuck(ops: &[SoundOp], clock: &Clock) -> Option<usize> {
+fn first_stuck(ops: &[SoundOp], clock: &Clock) -> Option<usize>
+    ensures { MatchOption result ((o : Operation) → IsIn o ops.now → IsCause clock.now o.id) (λ place. place < length ops.now) }
+{
     for (place, op) in ops.iter().enumerate() {
         if !clock.covers(op.id()) {
             return Some(place);

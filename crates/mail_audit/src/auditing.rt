@@ -1,9 +1,12 @@
 //! The audit of a reader's octets, told to a writer.
 
-ghost use Rattle.std.specs.Prelude.{◌≡◌, ◌≢◌, ◌++◌, ◌+◌, [], ◌∷◌, IfErr, IfOk, OnOk, length};
+ghost use Rattle.std.specs.Prelude.{◌≡◌, ◌≢◌, ◌++◌, ◌+◌, ◌^◌, ◌<◌, ℕ, List, [], ◌∷◌, None, Some, IfErr, IfOk, MatchOption, OnOk, length};
 ghost use Rattle.std.specs.Fmt.{decimal};
 ghost use Rattle.std.specs.Io.KnownBytes.{Appends, Keeps};
-ghost use Rattle.mail_audit.specs.Audits.{end_text};
+ghost use Rattle.mail_script.specs.Lines.{lines_of};
+ghost use Rattle.mail_script.specs.Reading.{cut_at};
+ghost use Rattle.mail_audit.specs.Audits.{Audits, end_text};
+ghost use Rattle.mail_audit.specs.Standing.{Advances, EndsAt, EndsWithin, Stands};
 ghost use Rattle.mail_audit.specs.declared.verdict.AuditEnd.TheVariants.{WriteFailed as NotWritten};
 
 use crate::line_audit::Audit;
@@ -25,7 +28,8 @@ pub const PIECE_OCTETS: usize = 65_536;
 /// isn't so, `Unreadable` the first that is none that a script prints; `ReadFailed` says that the reader failed, or that
 /// the input has more pieces than 16,777,216; `WriteFailed` that the writer did; `NoMemory` that there was none.
 pub fn audit<R: Read, W: Write>(alloc: Global, reader: &mut R, writer: &mut W) -> AuditEnd
-    ensures { result ≢ NotWritten → Appends (W.contents writer.old) (W.contents writer.new) (end_text result) }
+    ensures audits { (input : List ℕ) → R.remaining reader.old ≡ Some input → Audits (lines_of input) result }
+    ensures told { result ≢ NotWritten → Appends (W.contents writer.old) (W.contents writer.new) (end_text result) }
 {
     let end = match room_for(alloc, PIECE_OCTETS) {
         Ok(mut piece) => judge(alloc, reader, &mut piece),
@@ -46,7 +50,10 @@ struct Progress {
 }
 
 /// Reads an input by pieces into this room, and audits its lines.
-fn judge<R: Read>(alloc: Global, reader: &mut R, piece: &mut [u8]) -> AuditEnd {
+fn judge<R: Read>(alloc: Global, reader: &mut R, piece: &mut [u8]) -> AuditEnd
+    requires { length piece.old ≡ PIECE_OCTETS }
+    ensures { (input : List ℕ) → R.remaining reader.old ≡ Some input → Audits (lines_of input) result }
+{
     let mut progress = Progress {
         audit: Audit::new(alloc),
         lines: ScriptLines::new(alloc),
@@ -77,11 +84,15 @@ fn room_for(alloc: Global, octets: usize) -> Result<Vec<u8>, AllocError>
 }
 
 /// Takes the lines that a piece completes, and tells how the audit ends where it ends with one.
-fn take_piece(alloc: Global, progress: &mut Progress, piece: &[u8]) -> Option<AuditEnd> {
+fn take_piece(alloc: Global, progress: &mut Progress, piece: &[u8]) -> Option<AuditEnd>
+    requires room { progress.old.audit.taken + length progress.old.lines + length piece.now < 2 ^ 64 }
+    requires stands { (front : List (List ℕ)) × Stands front progress.old.audit }
+    ensures { (front : List (List ℕ)) → Stands front progress.old.audit → MatchOption result (Advances front progress.old.audit (progress.old.lines ++ piece.now) progress.new.audit progress.new.lines × (cut_at 10 progress.new.lines ≡ None)) (EndsWithin front (progress.old.lines ++ piece.now)) }
+{
     let Ok(()) = progress.lines.push(piece) else {
         return Some(AuditEnd::NoMemory);
     };
-    for _line in 0..piece.len() {
+    'lines: loop {
         match progress.lines.next_line(alloc) {
             Err(_) => return Some(AuditEnd::NoMemory),
             Ok(None) => return None,
@@ -92,11 +103,14 @@ fn take_piece(alloc: Global, progress: &mut Progress, piece: &[u8]) -> Option<Au
             }
         }
     }
-    None
 }
 
 /// Takes the next line, and tells how the audit ends where it ends with it.
-fn take_line(alloc: Global, audit: &mut Audit, line: &[u8]) -> Option<AuditEnd> {
+fn take_line(alloc: Global, audit: &mut Audit, line: &[u8]) -> Option<AuditEnd>
+    requires room { audit.old.taken + 1 < 2 ^ 64 }
+    requires stands { (lines : List (List ℕ)) × Stands lines audit.old }
+    ensures { (lines : List (List ℕ)) → Stands lines audit.old → MatchOption result (Stands (lines ++ line.now ∷ []) audit.new) (EndsAt lines line.now) }
+{
     match audit.take(alloc, line) {
         Ok(end) => end,
         Err(AllocError) => Some(AuditEnd::NoMemory),
@@ -104,19 +118,28 @@ fn take_line(alloc: Global, audit: &mut Audit, line: &[u8]) -> Option<AuditEnd> 
 }
 
 /// Takes the last line, which has no LF, where there is one, and ends the audit.
-fn take_last(alloc: Global, progress: Progress) -> AuditEnd {
+fn take_last(alloc: Global, progress: Progress) -> AuditEnd
+    requires room { progress.audit.taken + 1 < 2 ^ 64 }
+    requires rest { cut_at 10 progress.lines ≡ None }
+    requires stands { (front : List (List ℕ)) × Stands front progress.audit }
+    ensures { (front : List (List ℕ)) → Stands front progress.audit → Audits (front ++ lines_of progress.lines) result }
+{
     let Progress { mut audit, lines } = progress;
     let line = lines.into_rest();
-    if !line.as_bytes().is_empty()
-        && let Some(end) = take_line(alloc, &mut audit, line.as_bytes())
-    {
-        return end;
+    if line.as_bytes().is_empty() {
+        return end_of(alloc, audit);
     }
-    end_of(alloc, audit)
+    match take_line(alloc, &mut audit, line.as_bytes()) {
+        Some(end) => end,
+        None => end_of(alloc, audit),
+    }
 }
 
 /// How an audit ends whose input ends.
-fn end_of(alloc: Global, audit: Audit) -> AuditEnd {
+fn end_of(alloc: Global, audit: Audit) -> AuditEnd
+    requires { (lines : List (List ℕ)) × Stands lines audit }
+    ensures { (lines : List (List ℕ)) → Stands lines audit → Audits lines result }
+{
     match audit.end(alloc) {
         Ok(end) => end,
         Err(AllocError) => AuditEnd::NoMemory,

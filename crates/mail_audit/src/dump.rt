@@ -1,5 +1,12 @@
 //! A dump that is read line by line.
 
+ghost use Rattle.std.specs.Prelude.{◌≡◌, ◌+◌, ◌≤◌, ◌<◌, ◌^◌, ℕ, List, [], ◌∷◌, ◌++◌, IfOk, IsTrue, drop, length};
+ghost use Rattle.mail_audit.specs.Audits.{Audits};
+ghost use Rattle.mail_audit.specs.DumpLines.{IsClosed, IsCompared, IsEarly, IsStep, IsStepBehind, OpsStand, PhaseStands};
+ghost use Rattle.mail_audit.specs.Dumps.{AreOrdered};
+ghost use Rattle.mail_audit.specs.Standing.{IsOpen};
+ghost use Rattle.mail_audit.specs.declared.sessions.Session.{Session};
+
 use crate::applying::{Expected, what_follows};
 use crate::forms::{DumpLine, dump_line, is_other};
 use crate::op_lines::OpLines;
@@ -51,7 +58,9 @@ pub enum Step {
 
 impl OpenDump {
     /// A dump that begins with the line of this number.
-    pub fn new(alloc: Global, first: u64, replica: ReplicaId) -> OpenDump {
+    pub fn new(alloc: Global, first: u64, replica: ReplicaId) -> OpenDump
+        ensures { (result.first ≡ first) × (result.replica ≡ replica) × PhaseStands [] result.phase }
+    {
         OpenDump {
             first,
             replica,
@@ -60,7 +69,11 @@ impl OpenDump {
     }
 
     /// Takes the next line, which has this number.
-    pub fn take(&mut self, alloc: Global, line: &[u8], number: u64) -> Result<Step, AllocError> {
+    pub fn take(&mut self, alloc: Global, line: &[u8], number: u64) -> Result<Step, AllocError>
+        requires { (inside : List (List ℕ)) × PhaseStands inside self.old.phase × (number ≡ self.old.first + 1 + length inside) }
+        ensures place { (self.new.first ≡ self.old.first) × (self.new.replica ≡ self.old.replica) }
+        ensures step { (inside : List (List ℕ)) → PhaseStands inside self.old.phase → number ≡ self.old.first + 1 + length inside → IfOk result (IsStep self.old.first inside line.now self.new.phase) }
+    {
         match &mut self.phase {
             Phase::State(comparison) => comparison.take(alloc, line, number),
             Phase::Ops(lines) => match dump_line(alloc, line)? {
@@ -70,7 +83,7 @@ impl OpenDump {
                 }
                 DumpLine::Unreadable => wrong_before(alloc, self.first, lines),
                 DumpLine::Other => match close(alloc, lines)? {
-                    Expected::Stuck(place) => Ok(Step::Wrong(line_behind(self.first, place))),
+                    Expected::Stuck(place) => Ok(Step::Wrong(self.first + 1 + place as u64)),
                     Expected::Lines(lines) => {
                         let mut comparison = Comparison { lines, came: 0 };
                         let step = comparison.take(alloc, line, number)?;
@@ -83,24 +96,25 @@ impl OpenDump {
     }
 
     /// How an audit ends whose input ends here, with the line of this number.
-    pub fn end(self, alloc: Global, last: u64) -> Result<AuditEnd, AllocError> {
+    pub fn end(self, alloc: Global, last: u64) -> Result<AuditEnd, AllocError>
+        requires { (lines : List (List ℕ)) × (sessions : List Session) × IsOpen lines sessions self × (last ≡ length lines) }
+        ensures { (lines : List (List ℕ)) (sessions : List Session) → IsOpen lines sessions self → last ≡ length lines → IfOk result (Audits lines) }
+    {
         match &self.phase {
             Phase::State(_) => Ok(AuditEnd::Unreadable(last)),
             Phase::Ops(lines) => match lines.first_wrong(alloc, true)? {
-                Some(place) => Ok(AuditEnd::No(line_behind(self.first, place))),
+                Some(place) => Ok(AuditEnd::No(self.first + 1 + place as u64)),
                 None => Ok(AuditEnd::Unreadable(last)),
             },
         }
     }
 }
 
-/// The number of the line behind so many behind this one.
-fn line_behind(first: u64, place: usize) -> u64 {
-    first.saturating_add(1).saturating_add(place as u64)
-}
-
 /// What is to follow op lines behind which others stand, or where they are wrong.
-fn close(alloc: Global, lines: &OpLines) -> Result<Expected, AllocError> {
+fn close(alloc: Global, lines: &OpLines) -> Result<Expected, AllocError>
+    requires { AreOrdered lines.now.ops.items }
+    ensures { (inside : List (List ℕ)) → OpsStand inside lines.now → IfOk result (IsClosed inside) }
+{
     match lines.first_wrong(alloc, false)? {
         Some(place) => Ok(Expected::Stuck(place)),
         None => what_follows(alloc, &lines.ops),
@@ -108,23 +122,24 @@ fn close(alloc: Global, lines: &OpLines) -> Result<Expected, AllocError> {
 }
 
 /// What comes of a line that can't be read where op lines may still come.
-fn wrong_before(alloc: Global, first: u64, lines: &OpLines) -> Result<Step, AllocError> {
+fn wrong_before(alloc: Global, first: u64, lines: &OpLines) -> Result<Step, AllocError>
+    requires { first + 1 + length lines.now.ops.items < 2 ^ 64 }
+    ensures { IfOk result (IsEarly first lines.now) }
+{
     match lines.first_wrong(alloc, true)? {
-        Some(place) => Ok(Step::Wrong(line_behind(first, place))),
+        Some(place) => Ok(Step::Wrong(first + 1 + place as u64)),
         None => Ok(Step::Unreadable),
     }
 }
 
 impl Comparison {
     /// Takes the next line, which has this number.
-    fn take(&mut self, alloc: Global, line: &[u8], number: u64) -> Result<Step, AllocError> {
-        let start = self.came.min(self.lines.len());
-        let is_next = match split(b'\n', &self.lines[start..]) {
-            Some((next, _)) => next == line,
-            None => false,
-        };
-        if is_next {
-            self.came = start + line.len() + 1;
+    fn take(&mut self, alloc: Global, line: &[u8], number: u64) -> Result<Step, AllocError>
+        requires { self.old.came ≤ length self.old.lines.items }
+        ensures { IfOk result (IsCompared self.old line.now number self.new) }
+    {
+        if self.has_next(line) {
+            self.came += line.len() + 1;
             return Ok(self.step_behind(line, number));
         }
         if is_other(alloc, line)? || is_op(alloc, line)? {
@@ -134,8 +149,21 @@ impl Comparison {
         }
     }
 
+    /// Whether this is the line that is to come.
+    fn has_next(&self, line: &[u8]) -> bool
+        requires { self.now.came ≤ length self.now.lines.items }
+        ensures { IsTrue result → (rest : List ℕ) × (drop self.now.came self.now.lines.items ≡ line.now ++ 10 ∷ rest) }
+    {
+        match split(b'\n', &self.lines[self.came..]) {
+            Some((next, _)) => next == line,
+            None => false,
+        }
+    }
+
     /// What comes of a line of this number that is the one that was to come.
-    fn step_behind(&self, line: &[u8], number: u64) -> Step {
+    fn step_behind(&self, line: &[u8], number: u64) -> Step
+        ensures { IsStepBehind self.now line.now number result }
+    {
         if line != b"end".as_slice() {
             Step::GoesOn
         } else if self.came == self.lines.len() {

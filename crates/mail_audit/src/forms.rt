@@ -1,5 +1,8 @@
 //! Which lines can be read at all.
 
+ghost use Rattle.std.specs.Prelude.{IfOk};
+ghost use Rattle.mail_audit.specs.DumpLines.{IsDumpLine, IsOpLine};
+
 use crate::lines::{dump_begun, read_spoken};
 use crate::results::is_result;
 use crdt_ops::{Op, OpFault, read_op};
@@ -18,7 +21,9 @@ pub enum DumpLine {
 }
 
 /// What the line is that stands in a dump.
-pub fn dump_line(alloc: Global, line: &[u8]) -> Result<DumpLine, AllocError> {
+pub fn dump_line(alloc: Global, line: &[u8]) -> Result<DumpLine, AllocError>
+    ensures { IfOk result (IsDumpLine line.now) }
+{
     match line.strip_prefix(b"op ".as_slice()) {
         Some(text) => op_line(alloc, text),
         None => {
@@ -32,7 +37,9 @@ pub fn dump_line(alloc: Global, line: &[u8]) -> Result<DumpLine, AllocError> {
 }
 
 /// What a line is behind its `op `.
-fn op_line(alloc: Global, text: &[u8]) -> Result<DumpLine, AllocError> {
+fn op_line(alloc: Global, text: &[u8]) -> Result<DumpLine, AllocError>
+    ensures { IfOk result (λ line. IsOpLine text.now line) }
+{
     match read_op(alloc, text) {
         Ok(op) => Ok(DumpLine::Op(op)),
         Err(OpFault::NotTheForm) => Ok(DumpLine::Unreadable),

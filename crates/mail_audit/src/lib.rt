@@ -23,5 +23,5 @@ mod transcript;
 mod verdict;
 
 pub use auditing::{MAX_READS, audit};
-pub use laws::{explained_where_it_passes, heard_where_it_is_explained};
+pub use laws::explained_where_it_passes;
 pub use verdict::AuditEnd;

@@ -1,6 +1,10 @@
 //! The audit of an input, line by line.
 
-ghost use Rattle.std.specs.Prelude.{◌≡◌, ◌+◌, [], ◌∷◌, ◌++◌, IfOk};
+ghost use Rattle.std.specs.Prelude.{◌≡◌, ◌+◌, ◌<◌, ◌^◌, ℕ, List, [], ◌∷◌, ◌++◌, IfOk, IsTrue, MatchOption, None, length};
+ghost use Rattle.imap_types.specs.Escape.{AreOctets};
+ghost use Rattle.mail_script.specs.Fields.{is_session_name};
+ghost use Rattle.mail_audit.specs.Audits.{Audits, Part, spoken_line};
+ghost use Rattle.mail_audit.specs.Standing.{AreHeard, EndsAt, IsOpen, Stands};
 
 use crate::dump::{OpenDump, Step};
 use crate::lines::{Spoken, dump_begun, read_spoken};
@@ -22,7 +26,9 @@ pub struct Audit {
 
 impl Audit {
     /// No line was taken.
-    pub fn new(alloc: Global) -> Audit {
+    pub fn new(alloc: Global) -> Audit
+        ensures { Stands [] result }
+    {
         Audit {
             sessions: Sessions::new(alloc),
             dump: None,
@@ -31,8 +37,12 @@ impl Audit {
     }
 
     /// Takes the next line, and tells how the audit ends where it ends with it.
-    pub fn take(&mut self, alloc: Global, line: &[u8]) -> Result<Option<AuditEnd>, AllocError> {
-        self.taken = self.taken.saturating_add(1);
+    pub fn take(&mut self, alloc: Global, line: &[u8]) -> Result<Option<AuditEnd>, AllocError>
+        requires room { self.old.taken + 1 < 2 ^ 64 }
+        requires stands { (lines : List (List ℕ)) × Stands lines self.old }
+        ensures { (lines : List (List ℕ)) → Stands lines self.old → IfOk result (λ end. MatchOption end (Stands (lines ++ line.now ∷ []) self.new) (EndsAt lines line.now)) }
+    {
+        self.taken += 1;
         match self.dump.take() {
             Some(dump) => self.go_on(alloc, dump, line),
             None => match read_spoken(alloc, line)? {
@@ -48,7 +58,10 @@ impl Audit {
         alloc: Global,
         dump: OpenDump,
         line: &[u8],
-    ) -> Result<Option<AuditEnd>, AllocError> {
+    ) -> Result<Option<AuditEnd>, AllocError>
+        requires { (lines : List (List ℕ)) × IsOpen lines self.old.sessions dump × (self.old.taken ≡ length lines + 1) }
+        ensures { (lines : List (List ℕ)) → IsOpen lines self.old.sessions dump → self.old.taken ≡ length lines + 1 → self.old.dump ≡ None → IfOk result (λ end. MatchOption end (Stands (lines ++ line.now ∷ []) self.new) (EndsAt lines line.now)) }
+    {
         let mut dump = dump;
         let step = dump.take(alloc, line, self.taken)?;
         match step {
@@ -63,12 +76,17 @@ impl Audit {
     }
 
     /// Takes a line of a transcript.
-    fn hear(&mut self, alloc: Global, spoken: Spoken) -> Result<Option<AuditEnd>, AllocError> {
+    fn hear(&mut self, alloc: Global, spoken: Spoken) -> Result<Option<AuditEnd>, AllocError>
+        ensures { (lines : List (List ℕ)) (parts : List Part) → AreHeard lines parts self.old.sessions → self.old.taken ≡ length lines + 1 → self.old.dump ≡ None → IsTrue (is_session_name spoken.session) → AreOctets spoken.text
+            → IfOk result (λ end. MatchOption end (Stands (lines ++ spoken_line spoken.session spoken.speaker spoken.text ∷ []) self.new) (EndsAt lines (spoken_line spoken.session spoken.speaker spoken.text))) }
+    {
         let Spoken {
             session,
             speaker,
             text,
         } = spoken;
+        imap_grammar::one_reading();
+        imap_read::one_reading();
         let octets = with_line_end(text)?;
         if self.sessions.hear(alloc, session, speaker, &octets)? {
             Ok(None)
@@ -78,7 +96,9 @@ impl Audit {
     }
 
     /// Takes a line that is of no transcript and of no dump that began before it.
-    fn pass(&mut self, alloc: Global, line: &[u8]) -> Result<Option<AuditEnd>, AllocError> {
+    fn pass(&mut self, alloc: Global, line: &[u8]) -> Result<Option<AuditEnd>, AllocError>
+        ensures { (lines : List (List ℕ)) (parts : List Part) → AreHeard lines parts self.old.sessions → self.old.taken ≡ length lines + 1 → self.old.dump ≡ None → IfOk result (λ end. MatchOption end (Stands (lines ++ line.now ∷ []) self.new) (EndsAt lines line.now)) }
+    {
         if let Some(replica) = dump_begun(line) {
             self.dump = Some(OpenDump::new(alloc, self.taken, replica));
             return Ok(None);
@@ -91,7 +111,10 @@ impl Audit {
     }
 
     /// How the audit ends where the input does.
-    pub fn end(self, alloc: Global) -> Result<AuditEnd, AllocError> {
+    pub fn end(self, alloc: Global) -> Result<AuditEnd, AllocError>
+        requires { (lines : List (List ℕ)) × Stands lines self }
+        ensures { (lines : List (List ℕ)) → Stands lines self → IfOk result (Audits lines) }
+    {
         let Audit { dump, taken, .. } = self;
         match dump {
             None => Ok(AuditEnd::Yes),

@@ -1,9 +1,13 @@
 //! The lines of transcripts, and the first lines of dumps.
 
-ghost use Rattle.std.specs.Prelude.{◌≡◌, ◌++◌, ◌∷◌, IfOk, IfSome};
+ghost use Rattle.std.specs.Prelude.{◌≡◌, ◌++◌, ◌∷◌, ℕ, List, IfOk, IfSome, IsTrue, codes};
+ghost use Rattle.std.specs.Fmt.{decimal};
 ghost use Rattle.imap_types.specs.Escape.{AreOctets, escaped};
 ghost use Rattle.imap_types.specs.declared.escape.Escape.TheVariants.{Text as Kept};
+ghost use Rattle.mail_script.specs.Fields.{IsReplica, is_session_name};
 ghost use Rattle.mail_script.specs.Transcript.{mark_of};
+ghost use Rattle.mail_audit.specs.Audits.{spoken_line};
+ghost use Rattle.mail_audit.specs.Dumps.{dump_line};
 
 use imap_types::{Escape, EscapeFault, Octets, read_escaped};
 use mail_script::{SessionName, Speaker};
@@ -21,7 +25,9 @@ pub struct Spoken {
 }
 
 /// What a line tells, where it is one of a transcript.
-pub fn read_spoken(alloc: Global, line: &[u8]) -> Result<Option<Spoken>, AllocError> {
+pub fn read_spoken(alloc: Global, line: &[u8]) -> Result<Option<Spoken>, AllocError>
+    ensures { IfOk result (λ found. IfSome found (λ spoken. IsTrue (is_session_name spoken.session) × AreOctets spoken.text × (line.now ≡ spoken_line spoken.session spoken.speaker spoken.text))) }
+{
     let Some((name, said)) = split(b' ', line) else {
         return Ok(None);
     };
@@ -66,7 +72,9 @@ fn unescaped(alloc: Global, text: &[u8]) -> Result<Option<Octets>, AllocError>
 }
 
 /// The replica whose dump begins with this line, where one does.
-pub fn dump_begun(line: &[u8]) -> Option<ReplicaId> {
+pub fn dump_begun(line: &[u8]) -> Option<ReplicaId>
+    ensures { IfSome result (λ replica. IsReplica replica × (line.now ≡ dump_line replica)) }
+{
     match line.strip_prefix(b"dump ".as_slice()) {
         Some(number) => text_fields::replica(number),
         None => None,

@@ -1,6 +1,9 @@
 //! The op lines of a dump.
 
-ghost use Rattle.std.specs.Prelude.{◌≡◌, [], false};
+ghost use Rattle.std.specs.Prelude.{◌≡◌, ◌↔◌, ◌≤◌, ◌<◌, [], true, false, IfOk, IfSome, IsSome, IsTrue, OnOk, length};
+ghost use Rattle.std.specs.declared.cmp.Ordering.TheVariants.{Less};
+ghost use Rattle.crdt_ops.specs.Order.{id_order};
+ghost use Rattle.mail_audit.specs.DumpLines.{IsLonger, StandsBehind};
 
 use crdt_ops::{Op, SoundOp, check};
 use merge_laws::Caused;
@@ -29,7 +32,9 @@ impl OpLines {
     }
 
     /// Takes the operation of the next line. `Err` where there is no memory for it.
-    pub fn push(&mut self, op: Op) -> Result<(), AllocError> {
+    pub fn push(&mut self, op: Op) -> Result<(), AllocError>
+        ensures { OnOk result (IsLonger self.old op self.new) }
+    {
         let id = op.id;
         if self.is_bad || !is_above(&self.ops, &id) {
             drop(op);
@@ -48,7 +53,9 @@ impl OpLines {
     }
 
     /// Takes the id of a line that is bad, or behind one.
-    fn set_aside(&mut self, id: &OpId) -> Result<(), AllocError> {
+    fn set_aside(&mut self, id: &OpId) -> Result<(), AllocError>
+        ensures { OnOk result ((self.new.is_bad ≡ true) × (self.new.ops.items ≡ self.old.ops.items)) }
+    {
         self.is_bad = true;
         self.others.push(*id)?;
         Ok(())
@@ -56,7 +63,11 @@ impl OpLines {
 
     /// How many op lines stand before the first that makes the dump wrong, where one does: it is bad, or has a cause that no op
     /// line has. Where op lines may still come, a cause may come with them whose id is above all.
-    pub fn first_wrong(&self, alloc: Global, may_come: bool) -> Result<Option<usize>, AllocError> {
+    pub fn first_wrong(&self, alloc: Global, may_come: bool) -> Result<Option<usize>, AllocError>
+        ensures within { IfOk result (λ found. IfSome found (λ place. place ≤ length self.now.ops.items)) }
+        ensures bad { IfOk result (λ found. self.now.is_bad ≡ true → IsSome found) }
+        ensures at_end { IfOk result (λ found. self.now.is_bad ≡ false → IfSome found (λ place. place < length self.now.ops.items)) }
+    {
         let there = self.clock(alloc)?;
         let last = match self.ops.last() {
             Some(op) if may_come => Some(op.id()),
@@ -88,16 +99,27 @@ impl OpLines {
 }
 
 /// Whether the id is above that of the last operation.
-fn is_above(ops: &[SoundOp], id: &OpId) -> bool {
+fn is_above(ops: &[SoundOp], id: &OpId) -> bool
+    ensures { IsTrue result ↔ StandsBehind ops.now id.now }
+{
     match ops.last() {
         None => true,
-        Some(op) => op.id() < *id,
+        Some(op) => is_below(op, id),
     }
+}
+
+/// Whether the operation's id is below this one.
+fn is_below(op: &SoundOp, id: &OpId) -> bool
+    ensures { IsTrue result ↔ (id_order op.now.id id.now ≡ Less) }
+{
+    op.id() < *id
 }
 
 /// The place of the first operation with a cause that isn't counted; where op lines may still come behind an id, only with one
 /// that isn't above it.
-fn first_lacking(ops: &[SoundOp], there: &Clock, last: &Option<OpId>) -> Option<usize> {
+fn first_lacking(ops: &[SoundOp], there: &Clock, last: &Option<OpId>) -> Option<usize>
+    ensures { IfSome result (λ place. place < length ops.now) }
+{
     for (place, op) in ops.iter().enumerate() {
         if lacks(op.clock(), there, last) {
             return Some(place);

@@ -1,53 +1,124 @@
 //! The lines that tell what came of deliveries, drains, exchanges and comparisons.
 
-use mail_script::{BrokenRule, DeliveryResult, OutcomeLine, write_outcome};
+ghost use Rattle.std.specs.Prelude.{◌≡◌, ◌↔◌, IfOk, IfSome, IsTrue};
+ghost use Rattle.mail_script.specs.Fields.{IsId, IsReplica};
+ghost use Rattle.mail_script.specs.Outcomes.{outcome_text};
+ghost use Rattle.mail_script.specs.declared.outcome.OutcomeLine.TheVariants.{Unsound};
+ghost use Rattle.text_fields.specs.Reading.{id_at, replica_at};
+ghost use Rattle.mail_audit.specs.ResultReading.{agreed_at, applied_at, conflict_at, counted_at, delivered_at, drained_at, fields_at, forged_at, outcome_at, plain_at, result_at, settle_result_at, settled_at, settled_or_agreed_at, settled_plainly_at, unsound_at, valued_at};
+ghost use Rattle.mail_audit.specs.Results.{IsCount, IsDeliveryResult, IsPassedOver, IsResult, IsSettleResult};
+
+use mail_script::{BrokenRule, DeliveryResult, OutcomeLine, SettleResult, write_outcome};
 use std::alloc::{AllocError, Global};
-use tags_clocks::ReplicaId;
-use text_fields::{id, number, push_id, push_number, replica, split};
+use tags_clocks::{OpId, ReplicaId};
+use text_fields::{number, split};
+
+/// How many operations were applied, and whether one stays held whose causes were.
+#[derive(Clone, Copy)]
+struct AppliedCount {
+    count: u64,
+    stalled: bool,
+}
 
 /// Whether the line tells what came of a delivery, a drain, an exchange or a comparison.
-pub fn is_result(alloc: Global, line: &[u8]) -> Result<bool, AllocError> {
-    if let Some(outcome) = delivery(line) {
-        return is_told(alloc, outcome, line);
+pub fn is_result(alloc: Global, line: &[u8]) -> Result<bool, AllocError>
+    ensures { IfOk result (λ tells. IsTrue tells ↔ IsResult line.now) }
+{
+    match outcome(line) {
+        Some(outcome) => is_told(alloc, outcome, line),
+        None => Ok(false),
     }
-    if let Some(between) = line.strip_prefix(b"agree ".as_slice()) {
-        return is_agreement(alloc, between, line);
-    }
-    is_settled(alloc, line)
 }
 
 /// Whether the line tells this outcome.
-fn is_told(alloc: Global, outcome: OutcomeLine, line: &[u8]) -> Result<bool, AllocError> {
+fn is_told(alloc: Global, outcome: OutcomeLine, line: &[u8]) -> Result<bool, AllocError>
+    ensures { IfOk result (λ tells. IsTrue tells ↔ (line.now ≡ outcome_text outcome)) }
+{
     let mut text = Vec::new(alloc);
     write_outcome(outcome, &mut text)?;
     let mut whole = line.to_vec(alloc)?;
     whole.push(b'\n')?;
-    Ok(text == whole)
+    Ok(is_same(&text, &whole))
 }
 
-/// The outcome of a delivery or a drain that the line seems to tell.
-fn delivery(line: &[u8]) -> Option<OutcomeLine> {
-    let (word, rest) = split(b' ', line)?;
+fn is_same(one: &[u8], other: &[u8]) -> bool
+    ensures { IsTrue result ↔ (one.now ≡ other.now) }
+{
+    one == other
+}
+
+/// The id that the text writes.
+fn id(text: &[u8]) -> Option<OpId>
+    ensures read { result ≡ id_at text.now }
+    ensures range { IfSome result IsId }
+{
+    text_fields::id(text)
+}
+
+/// The replica that the text writes.
+fn replica(text: &[u8]) -> Option<ReplicaId>
+    ensures read { result ≡ replica_at text.now }
+    ensures range { IfSome result IsReplica }
+{
+    text_fields::replica(text)
+}
+
+/// The outcome that the line seems to tell.
+#[tactic(auto, unfolding(crate::specs::ResultReading::outcome_at))]
+fn outcome(line: &[u8]) -> Option<OutcomeLine>
+    ensures read { result ≡ outcome_at line.now }
+    ensures range { IfSome result IsPassedOver }
+{
+    let (word, fields) = split(b' ', line)?;
+    outcome_of(word, fields)
+}
+
+/// The outcome that a line of this word with these fields seems to tell.
+#[tactic(auto, unfolding(crate::specs::ResultReading::fields_at))]
+fn outcome_of(word: &[u8], fields: &[u8]) -> Option<OutcomeLine>
+    ensures read { result ≡ fields_at word.now fields.now }
+    ensures range { IfSome result IsPassedOver }
+{
     if word == b"deliver".as_slice() {
-        delivered(rest)
+        delivered(fields)
     } else if word == b"forge".as_slice() {
-        forged(rest)
+        forged(fields)
     } else if word == b"forge:".as_slice() {
-        unsound(rest)
+        unsound(fields)
     } else if word == b"drain".as_slice() {
-        drained(rest)
+        drained(fields)
+    } else {
+        settled_or_agreed(word, fields)
+    }
+}
+
+/// The outcome of an exchange or a comparison that a line of this word with these fields seems to tell.
+#[tactic(auto, unfolding(crate::specs::ResultReading::settled_or_agreed_at))]
+fn settled_or_agreed(word: &[u8], fields: &[u8]) -> Option<OutcomeLine>
+    ensures read { result ≡ settled_or_agreed_at word.now fields.now }
+    ensures range { IfSome result IsPassedOver }
+{
+    if word == b"settle:".as_slice() {
+        settled(fields)
+    } else if word == b"agree".as_slice() {
+        agreed(fields)
     } else {
         None
     }
 }
 
 /// The outcome that these fields behind `deliver` seem to tell.
-fn delivered(fields: &[u8]) -> Option<OutcomeLine> {
+#[tactic(auto, unfolding(crate::specs::ResultReading::delivered_at))]
+fn delivered(fields: &[u8]) -> Option<OutcomeLine>
+    ensures read { result ≡ delivered_at fields.now }
+    ensures range { IfSome result IsPassedOver }
+{
     let (name, rest) = split(b' ', fields)?;
     let (number, text) = split(b':', rest)?;
+    let (_space, told) = split(b' ', text)?;
     let id = id(name)?;
     let replica = replica(number)?;
-    let result = delivery_result(text)?;
+    let result = delivery_result(told)?;
     Some(OutcomeLine::Delivered {
         id,
         replica,
@@ -56,12 +127,17 @@ fn delivered(fields: &[u8]) -> Option<OutcomeLine> {
 }
 
 /// The outcome that these fields behind `forge` seem to tell.
-fn forged(fields: &[u8]) -> Option<OutcomeLine> {
+#[tactic(auto, unfolding(crate::specs::ResultReading::forged_at))]
+fn forged(fields: &[u8]) -> Option<OutcomeLine>
+    ensures read { result ≡ forged_at fields.now }
+    ensures range { IfSome result IsPassedOver }
+{
     let (name, rest) = split(b' ', fields)?;
     let (number, text) = split(b':', rest)?;
+    let (_space, told) = split(b' ', text)?;
     let id = id(name)?;
     let replica = replica(number)?;
-    let result = delivery_result(text)?;
+    let result = delivery_result(told)?;
     Some(OutcomeLine::Forged {
         id,
         replica,
@@ -70,143 +146,197 @@ fn forged(fields: &[u8]) -> Option<OutcomeLine> {
 }
 
 /// The outcome that these fields behind `forge:` seem to tell.
-fn unsound(fields: &[u8]) -> Option<OutcomeLine> {
-    let rule = if fields == b"Unsound U1".as_slice() {
-        BrokenRule::OwnEntry
+#[tactic(auto, unfolding(crate::specs::ResultReading::unsound_at))]
+fn unsound(fields: &[u8]) -> Option<OutcomeLine>
+    ensures read { result ≡ unsound_at fields.now }
+    ensures range { IfSome result IsPassedOver }
+{
+    if fields == b"Unsound U1".as_slice() {
+        Some(broken(BrokenRule::OwnEntry))
     } else if fields == b"Unsound U2".as_slice() {
-        BrokenRule::UncoveredId
+        Some(broken(BrokenRule::UncoveredId))
     } else if fields == b"Unsound U3".as_slice() {
-        BrokenRule::UnlawfulName
+        Some(broken(BrokenRule::UnlawfulName))
     } else if fields == b"Unsound U4".as_slice() {
-        BrokenRule::UnlawfulFlags
+        Some(broken(BrokenRule::UnlawfulFlags))
     } else if fields == b"Unsound U5".as_slice() {
-        BrokenRule::InboxDeleted
+        Some(broken(BrokenRule::InboxDeleted))
     } else {
-        return None;
-    };
-    Some(OutcomeLine::Unsound { rule })
+        None
+    }
+}
+
+fn broken(rule: BrokenRule) -> OutcomeLine
+    ensures { result ≡ Unsound rule }
+{
+    OutcomeLine::Unsound { rule }
 }
 
 /// The outcome that these fields behind `drain` seem to tell.
-fn drained(fields: &[u8]) -> Option<OutcomeLine> {
+#[tactic(auto, unfolding(crate::specs::ResultReading::drained_at))]
+fn drained(fields: &[u8]) -> Option<OutcomeLine>
+    ensures read { result ≡ drained_at fields.now }
+    ensures range { IfSome result IsPassedOver }
+{
     let (number, text) = split(b':', fields)?;
+    let (_space, told) = split(b' ', text)?;
+    let (_applied, value) = split(b' ', told)?;
     let replica = replica(number)?;
-    let (word, stalled) = without_stall(text);
-    let count = applied_count(word)?;
+    let counted = counted(value)?;
     Some(OutcomeLine::Drained {
         replica,
-        count,
-        stalled,
+        count: counted.count,
+        stalled: counted.stalled,
     })
 }
 
-/// The result that a text behind a colon seems to tell.
-fn delivery_result(text: &[u8]) -> Option<DeliveryResult> {
-    let (word, stalled) = without_stall(text);
-    if word == b" Held".as_slice() {
-        Some(DeliveryResult::Held { stalled })
-    } else if word == b" Repeat".as_slice() {
-        Some(DeliveryResult::Repeat { stalled })
-    } else if word == b" HeldFull".as_slice() {
+/// The result that a text seems to tell.
+#[tactic(auto, unfolding(crate::specs::ResultReading::result_at, crate::specs::ResultReading::result_by))]
+fn delivery_result(text: &[u8]) -> Option<DeliveryResult>
+    ensures read { result ≡ result_at text.now }
+    ensures range { IfSome result IsDeliveryResult }
+{
+    match split(b' ', text) {
+        None => plain_result(text),
+        Some((kind, value)) => valued_result(kind, value),
+    }
+}
+
+/// The result of one word.
+#[tactic(auto, unfolding(crate::specs::ResultReading::plain_at))]
+fn plain_result(word: &[u8]) -> Option<DeliveryResult>
+    ensures read { result ≡ plain_at word.now }
+    ensures range { IfSome result IsDeliveryResult }
+{
+    if word == b"Held".as_slice() {
+        Some(DeliveryResult::Held { stalled: false })
+    } else if word == b"Repeat".as_slice() {
+        Some(DeliveryResult::Repeat { stalled: false })
+    } else if word == b"HeldFull".as_slice() {
         Some(DeliveryResult::HeldFull)
-    } else if word == b" Exhausted".as_slice() {
+    } else if word == b"Exhausted".as_slice() {
         Some(DeliveryResult::Exhausted)
-    } else if word == b" NoMemory".as_slice() {
+    } else if word == b"NoMemory".as_slice() {
         Some(DeliveryResult::NoMemory)
     } else {
-        applied_or_refused(word, stalled)
+        None
     }
 }
 
-/// The result with a number that a text behind a colon seems to tell.
-fn applied_or_refused(word: &[u8], stalled: bool) -> Option<DeliveryResult> {
-    match word.strip_prefix(b" Conflict ".as_slice()) {
-        Some(name) => {
-            let id = id(name)?;
-            Some(DeliveryResult::Conflict { id })
-        }
-        None => {
-            let count = applied_count(word)?;
-            Some(DeliveryResult::Applied { count, stalled })
-        }
-    }
-}
-
-/// How many operations a text behind a colon tells to have been applied.
-fn applied_count(word: &[u8]) -> Option<u64> {
-    match word.strip_prefix(b" Applied ".as_slice()) {
-        Some(digits) => number(digits, u64::MAX),
-        None => None,
-    }
-}
-
-/// The text without its ` stalled`, and whether that was there.
-fn without_stall(text: &[u8]) -> (&[u8], bool) {
-    match text.strip_suffix(b" stalled".as_slice()) {
-        Some(word) => (word, true),
-        None => (text, false),
-    }
-}
-
-/// Whether the line tells what came of an exchange.
-fn is_settled(alloc: Global, line: &[u8]) -> Result<bool, AllocError> {
-    if line == b"settle: Ok".as_slice() {
-        return Ok(true);
-    }
-    if line == b"settle: Exhausted".as_slice() {
-        return Ok(true);
-    }
-    if line == b"settle: NoMemory".as_slice() {
-        return Ok(true);
-    }
-    match line.strip_prefix(b"settle: Conflict ".as_slice()) {
-        None => Ok(false),
-        Some(name) => is_conflict(alloc, name, line),
-    }
-}
-
-/// Whether the line tells that two replicas had two operations with the id of this text.
-fn is_conflict(alloc: Global, name: &[u8], line: &[u8]) -> Result<bool, AllocError> {
-    let Some(id) = id(name) else {
-        return Ok(false);
-    };
-    let mut text = Vec::new(alloc);
-    text.extend_from_slice(b"settle: Conflict ")?;
-    push_id(id, &mut text)?;
-    Ok(text.as_slice() == line)
-}
-
-/// Whether the line, behind whose first word this stands, tells what came of a comparison.
-fn is_agreement(alloc: Global, between: &[u8], line: &[u8]) -> Result<bool, AllocError> {
-    let Some((one, rest)) = split(b' ', between) else {
-        return Ok(false);
-    };
-    let Some((other, told)) = split(b':', rest) else {
-        return Ok(false);
-    };
-    let (Some(one), Some(other)) = (replica(one), replica(other)) else {
-        return Ok(false);
-    };
-    let mut text = Vec::new(alloc);
-    push_pair(one, other, &mut text)?;
-    push_same(told == b" yes".as_slice(), &mut text)?;
-    Ok(text.as_slice() == line)
-}
-
-/// The beginning of a line that tells what came of a comparison of these replicas.
-fn push_pair(one: ReplicaId, other: ReplicaId, text: &mut Vec<u8>) -> Result<(), AllocError> {
-    text.extend_from_slice(b"agree ")?;
-    push_number(u64::from(one.get()), text)?;
-    text.push(b' ')?;
-    push_number(u64::from(other.get()), text)?;
-    Ok(())
-}
-
-/// The end of such a line.
-fn push_same(same: bool, text: &mut Vec<u8>) -> Result<(), AllocError> {
-    text.extend_from_slice(if same {
-        b": yes".as_slice()
+/// The result of a word with what stands behind it.
+#[tactic(auto, unfolding(crate::specs::ResultReading::valued_at))]
+fn valued_result(kind: &[u8], value: &[u8]) -> Option<DeliveryResult>
+    ensures read { result ≡ valued_at kind.now value.now }
+    ensures range { IfSome result IsDeliveryResult }
+{
+    if kind == b"Held".as_slice() {
+        Some(DeliveryResult::Held { stalled: true })
+    } else if kind == b"Repeat".as_slice() {
+        Some(DeliveryResult::Repeat { stalled: true })
+    } else if kind == b"Conflict".as_slice() {
+        conflict(value)
+    } else if kind == b"Applied".as_slice() {
+        applied(value)
     } else {
-        b": no".as_slice()
+        None
+    }
+}
+
+/// The result that another operation has the id that the text writes.
+fn conflict(value: &[u8]) -> Option<DeliveryResult>
+    ensures read { result ≡ conflict_at value.now }
+    ensures range { IfSome result IsDeliveryResult }
+{
+    let id = id(value)?;
+    Some(DeliveryResult::Conflict { id })
+}
+
+/// The result that as many operations were applied as the text writes.
+fn applied(value: &[u8]) -> Option<DeliveryResult>
+    ensures read { result ≡ applied_at value.now }
+    ensures range { IfSome result IsDeliveryResult }
+{
+    let counted = counted(value)?;
+    Some(DeliveryResult::Applied {
+        count: counted.count,
+        stalled: counted.stalled,
+    })
+}
+
+/// The count that the text writes, and whether a word stands behind it.
+#[tactic(auto, unfolding(crate::specs::ResultReading::counted_at, crate::specs::ResultReading::counted_by))]
+fn counted(text: &[u8]) -> Option<AppliedCount>
+    ensures read { result ≡ counted_at text.now }
+    ensures range { IfSome result (λ counted. IsCount counted.count) }
+{
+    match split(b' ', text) {
+        None => Some(AppliedCount {
+            count: number(text, u64::MAX)?,
+            stalled: false,
+        }),
+        Some((digits, _)) => Some(AppliedCount {
+            count: number(digits, u64::MAX)?,
+            stalled: true,
+        }),
+    }
+}
+
+/// The outcome that these fields behind `settle:` seem to tell.
+#[tactic(auto, unfolding(crate::specs::ResultReading::settled_at))]
+fn settled(fields: &[u8]) -> Option<OutcomeLine>
+    ensures read { result ≡ settled_at fields.now }
+    ensures range { IfSome result IsPassedOver }
+{
+    let result = settle_result(fields)?;
+    Some(OutcomeLine::Settled { result })
+}
+
+/// The result of an exchange that the text seems to tell.
+#[tactic(auto, unfolding(crate::specs::ResultReading::settle_result_at, crate::specs::ResultReading::settle_result_by))]
+fn settle_result(text: &[u8]) -> Option<SettleResult>
+    ensures read { result ≡ settle_result_at text.now }
+    ensures range { IfSome result IsSettleResult }
+{
+    match split(b' ', text) {
+        None => settled_plainly(text),
+        Some((_, name)) => {
+            let id = id(name)?;
+            Some(SettleResult::Conflict { id })
+        }
+    }
+}
+
+/// The result of an exchange that tells no id.
+#[tactic(auto, unfolding(crate::specs::ResultReading::settled_plainly_at))]
+fn settled_plainly(word: &[u8]) -> Option<SettleResult>
+    ensures read { result ≡ settled_plainly_at word.now }
+    ensures range { IfSome result IsSettleResult }
+{
+    if word == b"Ok".as_slice() {
+        Some(SettleResult::Done)
+    } else if word == b"Exhausted".as_slice() {
+        Some(SettleResult::Exhausted)
+    } else if word == b"NoMemory".as_slice() {
+        Some(SettleResult::NoMemory)
+    } else {
+        None
+    }
+}
+
+/// The outcome that these fields behind `agree` seem to tell.
+#[tactic(auto, unfolding(crate::specs::ResultReading::agreed_at))]
+fn agreed(fields: &[u8]) -> Option<OutcomeLine>
+    ensures read { result ≡ agreed_at fields.now }
+    ensures range { IfSome result IsPassedOver }
+{
+    let (one, rest) = split(b' ', fields)?;
+    let (other, told) = split(b':', rest)?;
+    let first = replica(one)?;
+    let second = replica(other)?;
+    let same = told == b" yes".as_slice();
+    Some(OutcomeLine::Agreed {
+        first,
+        second,
+        same,
     })
 }

@@ -1,7 +1,12 @@
 //! The commands of a session that are in progress.
 
+ghost use Rattle.std.specs.Prelude.{◌≡◌, ◌+◌, ◌<◌, ◌^◌, List, [], ◌∷◌, ◌++◌, OnOk, MatchOption, length};
+ghost use Rattle.std.specs.List.{list_any, remove};
+ghost use Rattle.mail_audit.specs.Transcripts.{ended};
+
 use imap_types::Octets;
 use std::alloc::{AllocError, Global};
+use std::marker::Model;
 
 /// A command in progress: its tag, whether EXPUNGE may be told meanwhile (RFC 9051, section 7.5.1), and whether it is IDLE
 /// (RFC 2177).
@@ -22,9 +27,23 @@ pub struct InProgress {
     idling: usize,
 }
 
+impl Model for InProgress {
+    ghost use Rattle.std.specs.Prelude.{◌≡◌, List};
+    ghost use Rattle.mail_audit.specs.Counts.{how_many};
+    ghost use Rattle.mail_audit.specs.declared.running.Running.{Running as Command};
+
+    ghost Value = { List Command };
+
+    ghost view = { λ p. p.commands.items };
+
+    ghost invariant = { λ p. (p.expunging ≡ how_many (λ c. c.may_expunge) p.commands.items) × (p.idling ≡ how_many (λ c. c.idles) p.commands.items) };
+}
+
 impl InProgress {
     /// No commands.
-    pub fn new(alloc: Global) -> InProgress {
+    pub fn new(alloc: Global) -> InProgress
+        ensures { result ≡ [] }
+    {
         InProgress {
             commands: Vec::new(alloc),
             expunging: 0,
@@ -33,44 +52,51 @@ impl InProgress {
     }
 
     /// Whether EXPUNGE may be told now.
-    pub fn may_expunge(&self) -> bool {
+    pub fn may_expunge(&self) -> bool
+        ensures { result ≡ list_any (λ c. c.may_expunge) self.now }
+    {
         0 < self.expunging
     }
 
     /// Whether the session idles.
-    pub fn idles(&self) -> bool {
+    pub fn idles(&self) -> bool
+        ensures { result ≡ list_any (λ c. c.idles) self.now }
+    {
         0 < self.idling
     }
 
     /// A command begins; `Err` where there is no memory for it, and then the audit ends.
-    pub fn begin(&mut self, command: Running) -> Result<(), AllocError> {
+    pub fn begin(&mut self, command: Running) -> Result<(), AllocError>
+        ensures { OnOk result (self.new ≡ self.old ++ command ∷ []) }
+    {
         let may_expunge = command.may_expunge;
         let idles = command.idles;
         self.commands.push(command)?;
-        self.expunging = self.expunging.saturating_add(usize::from(may_expunge));
-        self.idling = self.idling.saturating_add(usize::from(idles));
+        self.expunging += usize::from(may_expunge);
+        self.idling += usize::from(idles);
         Ok(())
     }
 
     /// The first command with this tag ends, where there is one.
-    pub fn end(&mut self, tag: &[u8]) {
-        let place = place_of(&self.commands, tag);
-        if place < self.commands.len() {
+    pub fn end(&mut self, tag: &[u8])
+        ensures { self.new ≡ ended tag.now self.old }
+    {
+        if let Some(place) = place_of(&self.commands, tag) {
             let command = self.commands.remove(place);
-            self.expunging = self
-                .expunging
-                .saturating_sub(usize::from(command.may_expunge));
-            self.idling = self.idling.saturating_sub(usize::from(command.idles));
+            self.expunging -= usize::from(command.may_expunge);
+            self.idling -= usize::from(command.idles);
         }
     }
 }
 
-/// The place of the first command with this tag, or the number of commands.
-fn place_of(commands: &[Running], tag: &[u8]) -> usize {
+/// The place of the first command with this tag.
+fn place_of(commands: &[Running], tag: &[u8]) -> Option<usize>
+    ensures { MatchOption result (ended tag.now commands.now ≡ commands.now) (λ place. (place < length commands.now) × (ended tag.now commands.now ≡ remove commands.now place)) }
+{
     for (place, command) in commands.iter().enumerate() {
         if tag == command.tag.as_bytes() {
-            return place;
+            return Some(place);
         }
     }
-    commands.len()
+    None
 }

@@ -1,8 +1,14 @@
 //! The sessions whose transcripts are heard.
 
+ghost use Rattle.std.specs.Prelude.{◌≡◌, ◌<◌, ◌+◌, false, ℕ, List, [], ◌∷◌, ◌++◌, IfOk, length};
+ghost use Rattle.std.specs.Str.{bytes_eq};
+ghost use Rattle.mail_audit.specs.Hearings.{Tells};
+ghost use Rattle.mail_audit.specs.Sessions.{hearing_of, place_or_end};
+
 use crate::transcript::Transcript;
 use mail_script::{SessionName, Speaker};
 use std::alloc::{AllocError, Global};
+use std::marker::Model;
 
 /// A session, and what is known of it.
 #[derive(Drop)]
@@ -17,9 +23,20 @@ pub struct Sessions {
     sessions: Vec<Session>,
 }
 
+impl Model for Sessions {
+    ghost use Rattle.std.specs.Prelude.{List};
+    ghost use Rattle.mail_audit.specs.declared.sessions.Session.{Session as Known};
+
+    ghost Value = { List Known };
+
+    ghost view = { λ s. s.sessions.items };
+}
+
 impl Sessions {
     /// No session was heard.
-    pub fn new(alloc: Global) -> Sessions {
+    pub fn new(alloc: Global) -> Sessions
+        ensures { result ≡ [] }
+    {
         Sessions {
             sessions: Vec::new(alloc),
         }
@@ -32,16 +49,20 @@ impl Sessions {
         session: SessionName,
         speaker: Speaker,
         octets: &[u8],
-    ) -> Result<bool, AllocError> {
+    ) -> Result<bool, AllocError>
+        ensures said { IfOk result (λ heard. Tells (hearing_of session self.old) (record { speaker = speaker; octets = octets.now }) heard (hearing_of session self.new)) }
+        ensures others { IfOk result (λ heard. (other : List ℕ) → bytes_eq other session ≡ false → hearing_of other self.new ≡ hearing_of other self.old) }
+    {
         let place = self.place_of(alloc, session)?;
-        match self.sessions.get_mut(place) {
-            Some(session) => session.transcript.hear(alloc, speaker, octets),
-            None => Ok(false),
-        }
+        self.sessions[place].transcript.hear(alloc, speaker, octets)
     }
 
     /// The place of a session, which is put behind the others where it wasn't heard before.
-    fn place_of(&mut self, alloc: Global, session: SessionName) -> Result<usize, AllocError> {
+    fn place_of(&mut self, alloc: Global, session: SessionName) -> Result<usize, AllocError>
+        ensures there { IfOk result (λ place. place < length self.new) }
+        ensures first { IfOk result (λ place. place ≡ place_or_end session self.new) }
+        ensures same { IfOk result (λ place. (other : List ℕ) → hearing_of other self.new ≡ hearing_of other self.old) }
+    {
         let place = place_in(&self.sessions, &session);
         if place < self.sessions.len() {
             return Ok(place);
@@ -51,17 +72,17 @@ impl Sessions {
             name: session,
             transcript,
         };
-        if self.sessions.push(session).is_err() {
-            return Err(AllocError);
-        }
+        self.sessions.push(session)?;
         Ok(place)
     }
 }
 
 /// The place of the first session with this name, or the number of sessions.
-fn place_in(sessions: &[Session], name: &SessionName) -> usize {
+fn place_in(sessions: &[Session], name: &SessionName) -> usize
+    ensures { result ≡ place_or_end name.now sessions.now }
+{
     for (place, session) in sessions.iter().enumerate() {
-        if name.as_bytes() == session.name.as_bytes() {
+        if session.name.same(name) {
             return place;
         }
     }

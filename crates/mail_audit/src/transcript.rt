@@ -1,7 +1,14 @@
 //! One session's transcript.
 
-ghost use Rattle.std.specs.Prelude.{◌≡◌};
-ghost use Rattle.mail_audit.specs.Transcripts.{event_by, event_of, idles, may_expunge};
+ghost use Rattle.std.specs.Prelude.{◌≡◌, ◌≢◌, ◌↔◌, ℕ, List, [], ◌∷◌, ◌++◌, IfOk, IfSome, IsTrue, OnOk, Some};
+ghost use Rattle.imap_answers.specs.Printable.{IsPrintable};
+ghost use Rattle.imap_answers.specs.Printed.{printed};
+ghost use Rattle.imap_answers.specs.declared.answer.Answer.{Answer as AnAnswer};
+ghost use Rattle.imap_grammar.specs.declared.fault.ParseFault.TheVariants.{NoMemory as NoMemoryToParse};
+ghost use Rattle.mail_audit.specs.Hearings.{Hears, Tells, unheard};
+ghost use Rattle.mail_audit.specs.Steps.{Fits, next};
+ghost use Rattle.mail_audit.specs.Transcripts.{MayStand, event_by, event_of, idles, may_expunge, running_after, running_by};
+ghost use Rattle.mail_script.specs.declared.transcript.Speaker.TheVariants.{Client as Asking, Server as Answering};
 
 use crate::event::SlotEvent;
 use crate::running::{InProgress, Running};
@@ -11,6 +18,7 @@ use imap_grammar::{Command, ParseFault, Tagged, parse};
 use imap_read::read;
 use mail_script::Speaker;
 use std::alloc::{AllocError, Global};
+use std::marker::Model;
 
 /// What is known of a session from what was said in it.
 #[derive(Drop)]
@@ -19,9 +27,19 @@ pub struct Transcript {
     slots: Slots,
 }
 
+impl Model for Transcript {
+    ghost use Rattle.mail_audit.specs.Hearings.{Hearing};
+
+    ghost Value = { Hearing };
+
+    ghost view = { λ t. record { running = t.running; known = t.slots } };
+}
+
 impl Transcript {
     /// Nothing was said.
-    pub fn new(alloc: Global) -> Transcript {
+    pub fn new(alloc: Global) -> Transcript
+        ensures { result ≡ unheard }
+    {
         Transcript {
             running: InProgress::new(alloc),
             slots: Slots::new(alloc),
@@ -34,7 +52,9 @@ impl Transcript {
         alloc: Global,
         speaker: Speaker,
         octets: &[u8],
-    ) -> Result<bool, AllocError> {
+    ) -> Result<bool, AllocError>
+        ensures { IfOk result (λ heard. Tells self.old (record { speaker = speaker; octets = octets.now }) heard self.new) }
+    {
         match speaker {
             Speaker::Client => {
                 self.ask(alloc, octets)?;
@@ -45,19 +65,22 @@ impl Transcript {
     }
 
     /// Takes a client's frame.
-    fn ask(&mut self, alloc: Global, frame: &[u8]) -> Result<(), AllocError> {
+    fn ask(&mut self, alloc: Global, frame: &[u8]) -> Result<(), AllocError>
+        ensures { OnOk result (Hears self.old (record { speaker = Asking; octets = frame.now }) self.new) }
+    {
         if self.running.idles() {
             return Ok(());
         }
         match parse(alloc, frame) {
             Ok(tagged) => self.begin(alloc, tagged),
-            Err(ParseFault::NoMemory) => Err(AllocError),
-            Err(_) => Ok(()),
+            Err(fault) => pass_over(fault),
         }
     }
 
     /// A command begins.
-    fn begin(&mut self, alloc: Global, tagged: Tagged) -> Result<(), AllocError> {
+    fn begin(&mut self, alloc: Global, tagged: Tagged) -> Result<(), AllocError>
+        ensures { OnOk result ((self.new.running ≡ self.old.running ++ running_by tagged ∷ []) × (self.new.known ≡ next self.old.known (event_by tagged.command)) × Fits self.old.known (event_by tagged.command)) }
+    {
         let Tagged { tag, command } = tagged;
         let may_expunge = may_expunge(&command);
         let idles = idles(&command);
@@ -73,7 +96,9 @@ impl Transcript {
     }
 
     /// Takes what a server sent.
-    fn answer(&mut self, alloc: Global, octets: &[u8]) -> Result<bool, AllocError> {
+    fn answer(&mut self, alloc: Global, octets: &[u8]) -> Result<bool, AllocError>
+        ensures { IfOk result (λ heard. Tells self.old (record { speaker = Answering; octets = octets.now }) heard self.new) }
+    {
         match whole_answer(alloc, octets)? {
             None => Ok(false),
             Some(answer) => self.take(alloc, &answer),
@@ -81,7 +106,10 @@ impl Transcript {
     }
 
     /// Takes an answer.
-    fn take(&mut self, alloc: Global, answer: &Answer) -> Result<bool, AllocError> {
+    fn take(&mut self, alloc: Global, answer: &Answer) -> Result<bool, AllocError>
+        ensures fits { IfOk result (λ taken. IsTrue taken ↔ (MayStand self.old.running answer.now × Fits self.old.known (event_of answer.now))) }
+        ensures taken { IfOk result (λ taken. IsTrue taken → (self.new.running ≡ running_after self.old.running answer.now) × (self.new.known ≡ next self.old.known (event_of answer.now))) }
+    {
         if !may_stand(&self.running, answer) {
             return Ok(false);
         }
@@ -93,7 +121,10 @@ impl Transcript {
     }
 
     /// A tagged answer ends its command.
-    fn end(&mut self, answer: &Answer) {
+    fn end(&mut self, answer: &Answer)
+        ensures running { self.new.running ≡ running_after self.old.running answer.now }
+        ensures known { self.new.known ≡ self.old.known }
+    {
         match answer {
             Answer::Completed { tag, .. } => self.running.end(tag.as_bytes()),
             Answer::Refused { tag, .. } => self.running.end(tag.as_bytes()),
@@ -102,8 +133,21 @@ impl Transcript {
     }
 }
 
+/// Passes over a frame that spells no command; `Err` where there was no memory to see that.
+fn pass_over(fault: ParseFault) -> Result<(), AllocError>
+    ensures { OnOk result (fault ≢ NoMemoryToParse) }
+{
+    match fault {
+        ParseFault::NoMemory => Err(AllocError),
+        _ => Ok(()),
+    }
+}
+
 /// The answer that these octets are, where they are one.
-fn whole_answer(alloc: Global, octets: &[u8]) -> Result<Option<Answer>, AllocError> {
+fn whole_answer(alloc: Global, octets: &[u8]) -> Result<Option<Answer>, AllocError>
+    ensures found { IfOk result (λ found. IfSome found (λ answer. IsPrintable answer × (octets.now ≡ printed answer))) }
+    ensures only { IfOk result (λ found. (answer : AnAnswer) → IsPrintable answer → octets.now ≡ printed answer → found ≡ Some answer) }
+{
     match read(alloc, octets)? {
         None => Ok(None),
         Some((answer, length)) => {
@@ -148,7 +192,9 @@ fn event_by(command: &Command) -> SlotEvent
 }
 
 /// Whether the answer may stand while these commands are in progress.
-fn may_stand(running: &InProgress, answer: &Answer) -> bool {
+fn may_stand(running: &InProgress, answer: &Answer) -> bool
+    ensures { IsTrue result ↔ MayStand running.now answer.now }
+{
     match answer {
         Answer::Expunge { .. } => running.may_expunge(),
         _ => true,

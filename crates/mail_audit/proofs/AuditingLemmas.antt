@@ -1,0 +1,163 @@
+use Rattle.std.proofs.Common.{◌≡◌, ◌≢◌, ℕ, suc, ◌+◌, ◌≤◌, List, [], ◌∷◌, ◌++◌, Option, Some, None, length, length-append, append_assoc, append-nil, arith, ap, sym, refl, subst, ◌∙◌}
+use Rattle.std.specs.Io.KnownBytes.{Appends, Consumes, IsAtEnd, Keeps}
+use Rattle.text_fields.proofs.FieldLemmas.{cut_takes}
+use Rattle.mail_script.specs.Lines.{lines_of}
+use Rattle.mail_script.specs.Reading.{cut_at}
+use Rattle.mail_script.proofs.LineLemmas.{lines_last, lines_next}
+use Rattle.mail_audit.specs.Audits.{Audits}
+use Rattle.mail_audit.specs.Standing.{Advances, EndsAt, EndsWithin, Stands}
+use Rattle.mail_audit.specs.declared.line_audit.Audit.{Audit}
+use Rattle.mail_audit.specs.declared.verdict.AuditEnd.{AuditEnd}
+
+-- ---- what is written
+
+-- two additions are one
+pub appends_both : (a b c : Option (List ℕ)) (xs ys : List ℕ) → Appends a b xs → Appends b c ys → Appends a c (xs ++ ys)
+appends_both None b c xs ys h k = tt
+appends_both (Some as') None c xs ys h k = absurd h
+appends_both (Some as') (Some bs) None xs ys h k = absurd k
+appends_both (Some as') (Some bs) (Some cs) xs ys h k = k ∙ ap (λ zs. zs ++ ys) h ∙ append_assoc as' xs ys
+
+-- what is kept is added to by nothing
+pub keeps_appends : (a b : Option (List ℕ)) → Keeps a b → Appends a b []
+keeps_appends None b h = tt
+keeps_appends (Some xs) None h = absurd h
+keeps_appends (Some xs) (Some ys) h = h ∙ sym (append-nil xs)
+
+pub appends_none : (a : Option (List ℕ)) → Appends a a []
+appends_none None = tt
+appends_none (Some xs) = sym (append-nil xs)
+
+pub appends_kept : (a b c : Option (List ℕ)) (xs : List ℕ) → Appends a b xs → Keeps b c → Appends a c xs
+appends_kept a b c xs h k = subst (λ (zs : List ℕ). Appends a c zs) (append-nil xs) (appends_both a b c xs [] h (keeps_appends b c k))
+
+-- ---- lines of a text
+
+-- a line that is cut off, its end and the rest are the whole
+pub cut_parts : (text line rest : List ℕ) → cut_at 10 text ≡ Some (line, rest) → length text ≡ length line + 1 + length rest
+cut_parts text line rest e =
+    let n : length text ≡ length line + length (10 ∷ rest) = ap length (cut_takes 10 text (line, rest) e) ∙ length-append line (10 ∷ rest) in
+    let m : length (10 ∷ rest) ≡ suc (length rest) = refl in
+    omega (arith, n, m)
+
+pub advance_at_first : (front : List (List ℕ)) (audit : Audit) (text : List ℕ) → Stands front audit → Advances front audit text audit text
+advance_at_first front audit text s = record {
+  done = [];
+  lines = λ more. refl;
+  stands = subst (λ (ls : List (List ℕ)). Stands ls audit) (sym (append-nil front)) s;
+  fits = omega arith;
+}
+
+module _ (front : List (List ℕ)) (old : Audit) (text : List ℕ) (mid : Audit) (left : List ℕ) (a : Advances front old text mid left) (line rest : List ℕ) (cut : cut_at 10 left ≡ Some (line, rest)) where
+  -- the lines of a text where one more is cut off
+  lines_on : (more : List ℕ) → lines_of (text ++ more) ≡ a.done ++ line ∷ lines_of (rest ++ more)
+  lines_on more = a.lines more ∙ ap (λ (ls : List (List ℕ)). a.done ++ ls) (lines_next left line rest more cut)
+
+  -- one line more was taken
+  pub advance_on : (new : Audit) → Stands ((front ++ a.done) ++ line ∷ []) new → Advances front old text new rest
+  advance_on new s =
+      let n = cut_parts left line rest cut in
+      let k = length-append (front ++ a.done) (line ∷ []) in
+      let x : new.taken ≡ length ((front ++ a.done) ++ line ∷ []) = s.0 in
+      let y : mid.taken ≡ length (front ++ a.done) = a.stands.0 in
+      let f = a.fits in
+      record {
+        done = a.done ++ line ∷ [];
+        lines = λ more. lines_on more ∙ sym (append_assoc a.done (line ∷ []) (lines_of (rest ++ more)));
+        stands = subst (λ (ls : List (List ℕ)). Stands ls new) (append_assoc front a.done (line ∷ [])) s;
+        fits = omega (arith, n, k, x, y, f);
+      }
+
+  -- the audit ends with that line
+  pub ends_there : (end : AuditEnd) → EndsAt (front ++ a.done) line end → EndsWithin front text end
+  ends_there end e more =
+      subst (λ (ls : List (List ℕ)). Audits ls end)
+      (append_assoc front a.done (line ∷ lines_of (rest ++ more)) ∙ ap (λ (ls : List (List ℕ)). front ++ ls) (sym (lines_on more)))
+      (e (lines_of (rest ++ more)))
+
+  -- and there is a line, so that one more can be counted
+  pub line_fits : mid.taken + 1 ≤ old.taken + length text
+  line_fits = let n = cut_parts left line rest cut in let f = a.fits in omega (arith, n, f)
+
+-- ---- a reader's octets
+
+-- How far an audit came: of what was read the whole lines were taken, and the beginning of one is left.
+pub record Came (start left : Option (List ℕ)) (audit : Audit) (text : List ℕ) : Type 0 where
+  pub read : List ℕ
+  pub front : List (List ℕ)
+  pub lines : (more : List ℕ) → lines_of (read ++ more) ≡ front ++ lines_of (text ++ more)
+  pub stands : Stands front audit
+  pub known : (input : List ℕ) → start ≡ Some input → (rest : List ℕ) × (input ≡ read ++ rest) × (left ≡ Some rest)
+
+pub came_at_first : (start : Option (List ℕ)) (audit : Audit) (text : List ℕ) → Stands [] audit → text ≡ [] → Came start start audit text
+came_at_first start audit text s t = record {
+  read = [];
+  front = [];
+  lines = λ more. ap (λ (zs : List ℕ). lines_of (zs ++ more)) (sym t);
+  stands = s;
+  known = λ input e. (input, refl, e);
+}
+
+keeps_known : (rest : List ℕ) (left : Option (List ℕ)) → Keeps (Some rest) left → left ≡ Some rest
+keeps_known rest None k = absurd k
+keeps_known rest (Some xs) k = ap Some k
+
+consumes_known : (rest bs : List ℕ) (left : Option (List ℕ)) → Consumes (Some rest) left bs → (more : List ℕ) × (left ≡ Some more) × (rest ≡ bs ++ more)
+consumes_known rest bs None k = absurd k
+consumes_known rest bs (Some more) k = (more, refl, k)
+
+module _ (start left : Option (List ℕ)) (audit : Audit) (text : List ℕ) (came : Came start left audit text) where
+  -- a read that failed took nothing
+  pub came_kept : (left' : Option (List ℕ)) → Keeps left left' → Came start left' audit text
+  came_kept left' k = record {
+    read = came.read;
+    front = came.front;
+    lines = came.lines;
+    stands = came.stands;
+    known = λ input e. let q = came.known input e in (q.0, q.1, keeps_known q.0 left' (subst (λ (o : Option (List ℕ)). Keeps o left') q.2 k));
+  }
+
+  -- octets that are read stand behind those that were
+  joined : (bs more : List ℕ) → lines_of ((came.read ++ bs) ++ more) ≡ came.front ++ lines_of ((text ++ bs) ++ more)
+  joined bs more = ap lines_of (append_assoc came.read bs more) ∙ came.lines (bs ++ more) ∙ ap (λ (zs : List ℕ). came.front ++ lines_of zs) (sym (append_assoc text bs more))
+
+  -- the lines of the input where octets are read
+  behind : (bs : List ℕ) (left' : Option (List ℕ)) → Consumes left left' bs → (input : List ℕ) → start ≡ Some input → (more : List ℕ) × (left' ≡ Some more) × (input ≡ (came.read ++ bs) ++ more) × (lines_of input ≡ came.front ++ lines_of ((text ++ bs) ++ more))
+  behind bs left' k input e =
+      let q = came.known input e in
+      let p = consumes_known q.0 bs left' (subst (λ (o : Option (List ℕ)). Consumes o left' bs) q.2 k) in
+      let i : input ≡ (came.read ++ bs) ++ p.0 = q.1 ∙ ap (λ (zs : List ℕ). came.read ++ zs) p.2 ∙ sym (append_assoc came.read bs p.0) in
+      (p.0, p.1, i, ap lines_of i ∙ joined bs p.0)
+
+  -- lines of a piece that was read are taken
+  pub came_on : (bs : List ℕ) (left' : Option (List ℕ)) (audit' : Audit) (text' : List ℕ) → Consumes left left' bs → Advances came.front audit (text ++ bs) audit' text' → Came start left' audit' text'
+  came_on bs left' audit' text' k a = record {
+    read = came.read ++ bs;
+    front = came.front ++ a.done;
+    lines = λ more. joined bs more ∙ ap (λ (ls : List (List ℕ)). came.front ++ ls) (a.lines more) ∙ sym (append_assoc came.front a.done (lines_of (text' ++ more)));
+    stands = a.stands;
+    known = λ input e. let b = behind bs left' k input e in (b.0, b.2, b.1);
+  }
+
+  -- the audit ends within a piece that was read
+  pub came_to_line : (bs : List ℕ) (left' : Option (List ℕ)) (end : AuditEnd) → Consumes left left' bs → EndsWithin came.front (text ++ bs) end → (input : List ℕ) → start ≡ Some input → Audits (lines_of input) end
+  came_to_line bs left' end k w input e =
+      let b = behind bs left' k input e in
+      subst (λ (ls : List (List ℕ)). Audits ls end) (sym b.3) (w b.0)
+
+  -- the input ends
+  pub came_to_end : (left' : Option (List ℕ)) (end : AuditEnd) → Consumes left left' [] → IsAtEnd left' → Audits (came.front ++ lines_of text) end → (input : List ℕ) → start ≡ Some input → Audits (lines_of input) end
+  came_to_end left' end k at w input e =
+      let b = behind [] left' k input e in
+      let none : b.0 ≡ [] = subst (λ (o : Option (List ℕ)). IsAtEnd o) b.1 at in
+      let t : (text ++ []) ++ b.0 ≡ text = ap (λ (zs : List ℕ). (text ++ []) ++ zs) none ∙ append-nil (text ++ []) ∙ append-nil text in
+      subst (λ (ls : List (List ℕ)). Audits ls end) (sym (b.3 ∙ ap (λ (zs : List ℕ). came.front ++ lines_of zs) t)) w
+
+-- ---- the last line
+
+pub last_none : (front : List (List ℕ)) (text : List ℕ) (end : AuditEnd) → length text ≡ 0 → Audits front end → Audits (front ++ lines_of text) end
+last_none front [] end e a = subst (λ (ls : List (List ℕ)). Audits ls end) (sym (append-nil front)) a
+last_none front (octet ∷ octets) end e a = absurd (omega (arith, e))
+
+pub last_one : (front : List (List ℕ)) (text : List ℕ) (end : AuditEnd) → cut_at 10 text ≡ None → length text ≢ 0 → Audits (front ++ text ∷ []) end → Audits (front ++ lines_of text) end
+last_one front text end c n a = subst (λ (ls : List (List ℕ)). Audits ls end) (ap (λ (ls : List (List ℕ)). front ++ ls) (sym (lines_last text c (λ e. n (ap length e))))) a

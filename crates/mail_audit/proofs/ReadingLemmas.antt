@@ -1,0 +1,143 @@
+use Rattle.std.proofs.Common.{◌≡◌, ◌↔◌, ◌^◌, ◌<◌, ◌≤◌, ℕ, true, false, List, [], ◌∷◌, ◌++◌, Option, Some, None, Result, Ok, Err, IfOk, IsTrue, Bool, refl, sym, ap, ◌∙◌, append_assoc, append-nil, arith, codes}
+use Rattle.std.specs.Fmt.{decimal}
+use Rattle.mail_script.proofs.FieldLemmas.{cut_none}
+use Rattle.mail_script.specs.Fields.{IsId, IsReplica, id_text}
+use Rattle.mail_script.specs.Outcomes.{outcome_text, result_text, settled_text}
+use Rattle.mail_script.specs.declared.outcome.BrokenRule.TheVariants.{OwnEntry, UncoveredId, UnlawfulName, UnlawfulFlags, InboxDeleted}
+use Rattle.mail_script.specs.declared.outcome.DeliveryResult.{DeliveryResult}
+use Rattle.mail_script.specs.declared.outcome.DeliveryResult.TheVariants.{Applied, Held, Repeat, Conflict, HeldFull, Exhausted, NoMemory as NoMemoryForIt}
+use Rattle.mail_script.specs.declared.outcome.OutcomeLine.{OutcomeLine}
+use Rattle.mail_script.specs.declared.outcome.OutcomeLine.TheVariants.{Delivered, Forged, Unsound, Drained, Settled, Agreed, BadScript, CannotRead, NoMemory}
+use Rattle.mail_script.specs.declared.outcome.SettleResult.{SettleResult}
+use Rattle.mail_script.specs.declared.outcome.SettleResult.TheVariants.{Done, Conflict as ConflictOfTwo, Exhausted as ExhaustedInIt, NoMemory as NoMemoryToSettle}
+use Rattle.tags_clocks.specs.declared.id.OpId.{OpId}
+use Rattle.text_fields.proofs.FieldLemmas.{bound, cut_again, decimal_lacks, id_again, id_lacks, number_again, replica_again}
+use Rattle.text_fields.specs.Reading.{◌>>=◌, cut_at, id_at, number_at, replica_at}
+use Rattle.mail_audit.specs.ResultReading.{agreed_at, applied_at, counted_at, counted_by, delivered_at, drained_at, fields_at, forged_at, outcome_at, plain_at, result_at, result_by, settle_result_at, settle_result_by, settled_at, settled_or_agreed_at, settled_plainly_at, unsound_at, valued_at}
+use Rattle.mail_audit.specs.Results.{IsCount, IsDeliveryResult, IsPassedOver, IsResult, IsSettleResult}
+use Rattle.mail_audit.specs.declared.results.AppliedCount.{AppliedCount}
+
+-- What is printed of an outcome is read as that outcome.
+
+counted_alone : (n : ℕ) → IsCount n → counted_at (decimal n) ≡ Some (record { count = n; stalled = false })
+unfolding counted_at counted_by
+counted_alone n h =
+    ap (λ (cut : Option (List ℕ × List ℕ)). counted_by cut (decimal n)) (cut_none 32 (decimal n) (decimal_lacks 32 n refl h))
+    ∙ bound (number_at 18446744073709551615 (decimal n)) _ n (number_again 18446744073709551615 n (omega arith) (omega (arith, h)))
+
+counted_stalled : (n : ℕ) → IsCount n → counted_at (decimal n ++ codes " stalled") ≡ Some (record { count = n; stalled = true })
+unfolding counted_at counted_by
+counted_stalled n h =
+    ap (λ (cut : Option (List ℕ × List ℕ)). counted_by cut (decimal n ++ codes " stalled")) (cut_again 32 (decimal n) (codes "stalled") (decimal_lacks 32 n refl h))
+    ∙ bound (number_at 18446744073709551615 (decimal n)) _ n (number_again 18446744073709551615 n (omega arith) (omega (arith, h)))
+
+result_again : (result : DeliveryResult) → IsDeliveryResult result → result_at (result_text result) ≡ Some result
+unfolding result_at result_by plain_at valued_at
+result_again (Applied n true) h = bound (counted_at (decimal n ++ codes " stalled")) _ (record { count = n; stalled = true }) (counted_stalled n h)
+result_again (Applied n false) h =
+    ap applied_at (append-nil (decimal n)) ∙ bound (counted_at (decimal n)) _ (record { count = n; stalled = false }) (counted_alone n h)
+result_again (Held true) h = refl
+result_again (Held false) h = refl
+result_again (Repeat true) h = refl
+result_again (Repeat false) h = refl
+result_again (Conflict id) h = bound (id_at (id_text id)) _ id (id_again id h)
+result_again HeldFull h = refl
+result_again Exhausted h = refl
+result_again NoMemoryForIt h = refl
+
+-- an id, a replica and what is told, with what stands between them
+to_parts : (id : OpId) (r : ℕ) (told : List ℕ) → (id_text id ++ (32 ∷ (decimal r ++ codes ": "))) ++ told ≡ id_text id ++ 32 ∷ (decimal r ++ 58 ∷ 32 ∷ told)
+to_parts id r told = append_assoc (id_text id) (32 ∷ (decimal r ++ codes ": ")) told ∙ ap (λ (xs : List ℕ). id_text id ++ 32 ∷ xs) (append_assoc (decimal r) (codes ": ") told)
+
+delivered_again : (id : OpId) (r : ℕ) (result : DeliveryResult) → IsId id → IsReplica r → IsDeliveryResult result → delivered_at ((id_text id ++ (32 ∷ (decimal r ++ codes ": "))) ++ result_text result) ≡ Some (Delivered id r result)
+unfolding delivered_at
+delivered_again id r result i s h =
+    let told = result_text result in
+    let tail = decimal r ++ 58 ∷ 32 ∷ told in
+    ap delivered_at (to_parts id r told)
+    ∙ bound (cut_at 32 (id_text id ++ 32 ∷ tail)) _ (id_text id, tail) (cut_again 32 (id_text id) tail (id_lacks 32 id refl refl i))
+    ∙ bound (cut_at 58 tail) _ (decimal r, 32 ∷ told) (cut_again 58 (decimal r) (32 ∷ told) (decimal_lacks 58 r refl (omega (arith, s.1))))
+    ∙ bound (id_at (id_text id)) _ id (id_again id i)
+    ∙ bound (replica_at (decimal r)) _ r (replica_again r s)
+    ∙ bound (result_at told) _ result (result_again result h)
+
+forged_again : (id : OpId) (r : ℕ) (result : DeliveryResult) → IsId id → IsReplica r → IsDeliveryResult result → forged_at ((id_text id ++ (32 ∷ (decimal r ++ codes ": "))) ++ result_text result) ≡ Some (Forged id r result)
+unfolding forged_at
+forged_again id r result i s h =
+    let told = result_text result in
+    let tail = decimal r ++ 58 ∷ 32 ∷ told in
+    ap forged_at (to_parts id r told)
+    ∙ bound (cut_at 32 (id_text id ++ 32 ∷ tail)) _ (id_text id, tail) (cut_again 32 (id_text id) tail (id_lacks 32 id refl refl i))
+    ∙ bound (cut_at 58 tail) _ (decimal r, 32 ∷ told) (cut_again 58 (decimal r) (32 ∷ told) (decimal_lacks 58 r refl (omega (arith, s.1))))
+    ∙ bound (id_at (id_text id)) _ id (id_again id i)
+    ∙ bound (replica_at (decimal r)) _ r (replica_again r s)
+    ∙ bound (result_at told) _ result (result_again result h)
+
+drained_by : (r : ℕ) (value : List ℕ) (c : AppliedCount) → IsReplica r → counted_at value ≡ Some c → drained_at (decimal r ++ (codes ": " ++ (codes "Applied " ++ value))) ≡ Some (Drained r c.count c.stalled)
+unfolding drained_at
+drained_by r value c s h =
+    bound (cut_at 58 (decimal r ++ 58 ∷ 32 ∷ (codes "Applied " ++ value))) _ (decimal r, 32 ∷ (codes "Applied " ++ value)) (cut_again 58 (decimal r) (32 ∷ (codes "Applied " ++ value)) (decimal_lacks 58 r refl (omega (arith, s.1))))
+    ∙ bound (replica_at (decimal r)) _ r (replica_again r s)
+    ∙ bound (counted_at value) _ c h
+
+settled_again : (result : SettleResult) → IsSettleResult result → settled_at (settled_text result) ≡ Some (Settled result)
+unfolding settled_at settle_result_at settle_result_by settled_plainly_at
+settled_again Done h = refl
+settled_again (ConflictOfTwo id) h = ap (λ (o : Option SettleResult). o >>= (λ result. Some (Settled result))) (bound (id_at (id_text id)) (λ id. Some (ConflictOfTwo id)) id (id_again id h))
+settled_again ExhaustedInIt h = refl
+settled_again NoMemoryToSettle h = refl
+
+agreed_by : (r s : ℕ) (told : List ℕ) → agreed_at ((decimal r ++ (32 ∷ (decimal s ++ codes ": "))) ++ told) ≡ agreed_at (decimal r ++ 32 ∷ (decimal s ++ 58 ∷ 32 ∷ told))
+agreed_by r s told = ap agreed_at (append_assoc (decimal r) (32 ∷ (decimal s ++ codes ": ")) told ∙ ap (λ (xs : List ℕ). decimal r ++ 32 ∷ xs) (append_assoc (decimal s) (codes ": ") told))
+
+agreed_yes : (r s : ℕ) → IsReplica r → IsReplica s → agreed_at (decimal r ++ 32 ∷ (decimal s ++ 58 ∷ 32 ∷ codes "yes")) ≡ Some (Agreed r s true)
+unfolding agreed_at
+agreed_yes r s i j =
+    bound (cut_at 32 (decimal r ++ 32 ∷ (decimal s ++ 58 ∷ 32 ∷ codes "yes"))) _ (decimal r, decimal s ++ 58 ∷ 32 ∷ codes "yes") (cut_again 32 (decimal r) (decimal s ++ 58 ∷ 32 ∷ codes "yes") (decimal_lacks 32 r refl (omega (arith, i.1))))
+    ∙ bound (cut_at 58 (decimal s ++ 58 ∷ 32 ∷ codes "yes")) _ (decimal s, 32 ∷ codes "yes") (cut_again 58 (decimal s) (32 ∷ codes "yes") (decimal_lacks 58 s refl (omega (arith, j.1))))
+    ∙ bound (replica_at (decimal r)) _ r (replica_again r i)
+    ∙ bound (replica_at (decimal s)) _ s (replica_again s j)
+
+agreed_no : (r s : ℕ) → IsReplica r → IsReplica s → agreed_at (decimal r ++ 32 ∷ (decimal s ++ 58 ∷ 32 ∷ codes "no")) ≡ Some (Agreed r s false)
+unfolding agreed_at
+agreed_no r s i j =
+    bound (cut_at 32 (decimal r ++ 32 ∷ (decimal s ++ 58 ∷ 32 ∷ codes "no"))) _ (decimal r, decimal s ++ 58 ∷ 32 ∷ codes "no") (cut_again 32 (decimal r) (decimal s ++ 58 ∷ 32 ∷ codes "no") (decimal_lacks 32 r refl (omega (arith, i.1))))
+    ∙ bound (cut_at 58 (decimal s ++ 58 ∷ 32 ∷ codes "no")) _ (decimal s, 32 ∷ codes "no") (cut_again 58 (decimal s) (32 ∷ codes "no") (decimal_lacks 58 s refl (omega (arith, j.1))))
+    ∙ bound (replica_at (decimal r)) _ r (replica_again r i)
+    ∙ bound (replica_at (decimal s)) _ s (replica_again s j)
+
+pub outcome_again : (told : OutcomeLine) → IsPassedOver told → outcome_at (outcome_text told) ≡ Some told
+unfolding outcome_at fields_at settled_or_agreed_at unsound_at
+outcome_again (Delivered id r result) h = delivered_again id r result h.0 h.1 h.2
+outcome_again (Forged id r result) h = forged_again id r result h.0 h.1 h.2
+outcome_again (Unsound OwnEntry) h = refl
+outcome_again (Unsound UncoveredId) h = refl
+outcome_again (Unsound UnlawfulName) h = refl
+outcome_again (Unsound UnlawfulFlags) h = refl
+outcome_again (Unsound InboxDeleted) h = refl
+outcome_again (Drained r n true) h = drained_by r (decimal n ++ codes " stalled") (record { count = n; stalled = true }) h.0 (counted_stalled n h.1)
+outcome_again (Drained r n false) h = drained_by r (decimal n ++ []) (record { count = n; stalled = false }) h.0 (ap counted_at (append-nil (decimal n)) ∙ counted_alone n h.1)
+outcome_again (Settled result) h = settled_again result h
+outcome_again (Agreed r s true) h = agreed_by r s (codes "yes") ∙ agreed_yes r s h.0 h.1
+outcome_again (Agreed r s false) h = agreed_by r s (codes "no") ∙ agreed_no r s h.0 h.1
+outcome_again (BadScript line) h = absurd h
+outcome_again CannotRead h = absurd h
+outcome_again NoMemory h = absurd h
+
+-- where a line is read as an outcome, it tells a result just where it is that outcome's
+pub result_where : {E : Type 0} (line : List ℕ) (told : OutcomeLine) (result : Result Bool E) → Some told ≡ outcome_at line → IsPassedOver told → IfOk result (λ tells. IsTrue tells ↔ (line ≡ outcome_text told)) → IfOk result (λ tells. IsTrue tells ↔ IsResult line)
+result_where line told (Err e) s p h = tt
+result_where line told (Ok tells) s p h = (
+  λ t. (told, p, h.0 t),
+  λ r.
+      let both : ◌≡◌ {A = Option OutcomeLine} (Some told) (Some r.0) = s ∙ ap outcome_at r.2 ∙ outcome_again r.0 r.1 in
+      let same : told ≡ r.0 = cc in
+      h.1 (r.2 ∙ ap outcome_text (sym same)),
+)
+
+-- and where it is read as none, it tells none
+pub no_result : (line : List ℕ) → ◌≡◌ {A = Option OutcomeLine} None (outcome_at line) → IsTrue false ↔ IsResult line
+no_result line s = (
+  λ t. absurd (let k : false ≡ true = t in cc),
+  λ r. absurd (let k : ◌≡◌ {A = Option OutcomeLine} None (Some r.0) = s ∙ ap outcome_at r.2 ∙ outcome_again r.0 r.1 in cc),
+)

@@ -1,0 +1,17 @@
+use Rattle.std.proofs.Common.{rules, ◌≡◌, ℕ, ◌+◌, List, [], ◌∷◌, ◌++◌, Option, length, arith, ap, sym, subst, ◌∙◌}
+use Rattle.mail_audit.specs.Standing.{DumpStands}
+use Rattle.mail_audit.specs.declared.dump.OpenDump.{OpenDump}
+use Rattle.mail_audit.proofs.StandingLemmas.{is_told, one_more, unread}
+use Rattle.mail_audit.proofs.SlotLemmas.{refuted}
+use Rattle.mail_audit.proofs.line_audit.Audit.pass.Goals as goal
+
+pub returns-then-branch : goal.returns-then-branch
+returns-then-branch c = λ lines parts heard count none.
+    let audit = c.args.self.now in
+    let line = c.args.line.now in
+    (one_more lines line audit.taken count, subst (λ (d : Option OpenDump). DumpStands (lines ++ line ∷ []) audit.sessions d) (sym none) (is_told lines parts audit.sessions heard line ((c.in_ok-is_result.ensures {u = tt}).0 (search rules))))
+
+pub returns-else-branch : goal.returns-else-branch
+returns-else-branch c = λ lines parts heard count none.
+    let audit = c.args.self.now in
+    unread lines parts audit.sessions heard c.args.line.now audit.taken count (refuted c.in_ok-is_result.field-0 c.if-branch.false (c.in_ok-is_result.ensures {u = tt}).1)

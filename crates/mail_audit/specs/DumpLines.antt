@@ -1,0 +1,116 @@
+-- How a dump is read, line by line. What makes it right is told by `IsRightDump`.
+use Rattle.std.specs.Prelude.{◌≡◌, ◌⊎◌, ℕ, ◌+◌, ◌<◌, ◌≤◌, true, false, List, [], ◌∷◌, ◌++◌, length, drop, codes}
+use Rattle.std.specs.List.{flat_map}
+use Rattle.std.specs.declared.cmp.Ordering.TheVariants.{Less}
+use Rattle.tags_clocks.specs.declared.id.OpId.{OpId}
+use Rattle.causal_inbox.specs.Seen.{IsReceived, Seen}
+use Rattle.crdt_ops.specs.Form.{IsInForm, IsSpelled}
+use Rattle.crdt_ops.specs.Order.{id_order}
+use Rattle.crdt_ops.specs.Sound.{IsSound}
+use Rattle.crdt_ops.specs.declared.op.Op.{Op}
+use Rattle.merge_laws.specs.Orders.{AreSound, IsCausal, IsIn}
+use Rattle.mail_audit.specs.Audits.{IsNoEnd, text_of}
+use Rattle.mail_audit.specs.Dumps.{AreDumped, AreOrdered, HasCauses, inside_text, op_line, state_text}
+use Rattle.mail_audit.specs.declared.applying.Expected.{Expected}
+use Rattle.mail_audit.specs.declared.applying.Expected.TheVariants.{Lines, Stuck}
+use Rattle.mail_audit.specs.declared.dump.Comparison.{Comparison}
+use Rattle.mail_audit.specs.declared.dump.Phase.{Phase}
+use Rattle.mail_audit.specs.declared.dump.Phase.TheVariants.{Ops, State}
+use Rattle.mail_audit.specs.declared.dump.Step.{Step}
+use Rattle.mail_audit.specs.declared.dump.Step.TheVariants.{GoesOn, Ends, Wrong, Unreadable}
+use Rattle.mail_audit.specs.declared.forms.DumpLine.{DumpLine}
+use Rattle.mail_audit.specs.declared.forms.DumpLine.TheVariants as line
+use Rattle.mail_audit.specs.declared.op_lines.OpLines.{OpLines}
+
+-- What a text behind `op ` is: the text of an operation, or of none.
+abbrev pub IsOpLine : List ℕ → DumpLine → Type 0
+IsOpLine text (line.Op op) = IsSpelled op text
+IsOpLine text line.Other = ⊥
+IsOpLine text line.Unreadable = (op : Op) → ¬ IsSpelled op text
+
+-- What a line of a dump is: an op line spells its operation, another line doesn't begin as one, and one that can't be read spells none.
+abbrev pub IsDumpLine : List ℕ → DumpLine → Type 0
+IsDumpLine text (line.Op op) = (spelled : List ℕ) × (text ≡ codes "op " ++ spelled) × IsSpelled op spelled
+IsDumpLine text line.Other = (rest : List ℕ) → text ≡ codes "op " ++ rest → ⊥
+IsDumpLine text line.Unreadable = (op : Op) (spelled : List ℕ) → IsSpelled op spelled → text ≡ codes "op " ++ spelled → ⊥
+
+-- One op line more was taken: it is good and stands behind the others, or none is from there on.
+abbrev pub IsLonger : OpLines → Op → OpLines → Type 0
+IsLonger old op new =
+    ((old.is_bad ≡ false) × (new.is_bad ≡ false) × (new.ops.items ≡ old.ops.items ++ op ∷ []) × (AreOrdered old.ops.items → AreOrdered new.ops.items))
+    ⊎ ((new.is_bad ≡ true) × (new.ops.items ≡ old.ops.items))
+
+-- The id is above that of the last operation.
+abbrev pub StandsBehind : List Op → OpId → Type 0
+StandsBehind [] id = Unit {0}
+StandsBehind (op ∷ []) id = id_order op.id id ≡ Less
+StandsBehind (op ∷ next ∷ ops) id = StandsBehind (next ∷ ops) id
+
+-- What the inbox has received is of these operations.
+abbrev pub HoldsOnly : {S : Type 0} → List Op → Seen S Op → Type 0
+HoldsOnly ops seen = (o : Op) → IsReceived seen o → IsIn o ops
+
+-- What is to follow op lines: where their causes are among them, what the set of them defines.
+abbrev pub IsExpected : List Op → Expected → Type 0
+IsExpected ops (Lines lines) = HasCauses ops × AreSound IsSound ops × (lines.items ≡ state_text ops ++ (codes "end" ++ 10 ∷ []))
+IsExpected ops (Stuck place) = place < length ops
+
+-- What is to follow these applied operations.
+abbrev pub IsExpectedOf : List Op → Expected → Type 0
+IsExpectedOf applied (Lines lines) =
+    AreSound IsSound applied × IsCausal (λ (o : Op). o.id) (λ o. o.clock) applied
+    × (lines.items ≡ state_text applied ++ (codes "end" ++ 10 ∷ []))
+IsExpectedOf applied (Stuck place) = ⊥
+
+-- The lines of a dump behind its first that came so far.
+abbrev pub OpsStand : List (List ℕ) → OpLines → Type 0
+OpsStand inside lines =
+    (length lines.ops.items ≤ length inside)
+    × (lines.is_bad ≡ true → length lines.ops.items < length inside)
+    × (lines.is_bad ≡ false → (text_of inside ≡ flat_map op_line lines.ops.items) × AreSound IsInForm lines.ops.items)
+    × AreOrdered lines.ops.items
+
+abbrev pub PhaseStands : List (List ℕ) → Phase → Type 0
+PhaseStands inside (Ops lines) = OpsStand inside lines
+PhaseStands inside (State comparison) =
+    (ops : List Op) × AreDumped ops × (comparison.came ≤ length comparison.lines.items)
+    × (text_of inside ++ drop comparison.came comparison.lines.items ≡ inside_text ops)
+
+-- What is to follow the op lines that came, or where they are wrong.
+abbrev pub IsClosed : List (List ℕ) → Expected → Type 0
+IsClosed inside (Lines lines) = (ops : List Op) × AreDumped ops × (text_of inside ++ lines.items ≡ inside_text ops)
+IsClosed inside (Stuck place) = place ≤ length inside
+
+-- What comes of a line that can't be read behind op lines.
+abbrev pub IsEarly : ℕ → OpLines → Step → Type 0
+IsEarly first lines GoesOn = ⊥
+IsEarly first lines Ends = ⊥
+IsEarly first lines (Wrong number) = (first < number) × (number ≤ first + 1 + length lines.ops.items)
+IsEarly first lines Unreadable = Unit {0}
+
+-- What comes of a line of a dump that has these inside, whose first line has this number.
+abbrev pub IsStep : ℕ → List (List ℕ) → List ℕ → Phase → Step → Type 0
+IsStep first inside line phase GoesOn = PhaseStands (inside ++ line ∷ []) phase × IsNoEnd line
+IsStep first inside line phase Ends = (ops : List Op) × AreDumped ops × (text_of (inside ++ line ∷ []) ≡ inside_text ops)
+IsStep first inside line phase (Wrong number) = (first < number) × (number ≤ first + 1 + length inside)
+IsStep first inside line phase Unreadable = Unit {0}
+
+-- The next line was taken.
+abbrev pub Takes : Comparison → List ℕ → Comparison → Type 0
+Takes old line new =
+    (new.lines.items ≡ old.lines.items) × (new.came ≤ length new.lines.items)
+    × (drop old.came old.lines.items ≡ line ++ 10 ∷ drop new.came old.lines.items)
+
+-- What comes of a line, of this number, that is compared with the one to come.
+abbrev pub IsCompared : Comparison → List ℕ → ℕ → Comparison → Step → Type 0
+IsCompared old line number new GoesOn = Takes old line new × IsNoEnd line
+IsCompared old line number new Ends = Takes old line new × (new.came ≡ length new.lines.items)
+IsCompared old line number new (Wrong found) = found ≡ number
+IsCompared old line number new Unreadable = Unit {0}
+
+-- What comes of a line, of this number, that was the one to come.
+abbrev pub IsStepBehind : Comparison → List ℕ → ℕ → Step → Type 0
+IsStepBehind comparison line number GoesOn = IsNoEnd line
+IsStepBehind comparison line number Ends = comparison.came ≡ length comparison.lines.items
+IsStepBehind comparison line number (Wrong found) = found ≡ number
+IsStepBehind comparison line number Unreadable = ⊥
