@@ -2,6 +2,7 @@ mod AppliedLemmas
 mod Deciding
 mod DumpLemmas
 mod Examples
+mod FormLemmas
 mod GoneLemmas
 mod Hearing
 mod HearingLemmas
