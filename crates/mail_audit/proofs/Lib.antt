@@ -3,6 +3,7 @@ mod AuditingLemmas
 mod Deciding
 mod DumpLemmas
 mod Examples
+mod FormLemmas
 mod GoneLemmas
 mod Hearing
 mod HearingLemmas

@@ -3,6 +3,7 @@ pub mod Counts
 pub mod DumpLines
 pub mod Dumps
 pub mod Explained
+pub mod Forms
 pub mod Gaps
 pub mod Hearings
 pub mod Kept

@@ -1,7 +1,10 @@
 //! Which lines can be read at all.
 
-ghost use Rattle.std.specs.Prelude.{IfOk};
+ghost use Rattle.std.specs.Prelude.{◌++◌, IfOk, IsTrue};
+ghost use Rattle.crdt_ops.specs.Form.{IsSpelled};
+ghost use Rattle.crdt_ops.specs.declared.op.Op.{Op as Operation};
 ghost use Rattle.mail_audit.specs.DumpLines.{IsDumpLine, IsOpLine};
+ghost use Rattle.mail_audit.specs.Forms.{AreMessageFields, AreTagFields, IsOtherLine, IsSpokenLine, IsStateLine};
 
 use crate::lines::{dump_begun, read_spoken};
 use crate::results::is_result;
@@ -48,7 +51,9 @@ fn op_line(alloc: Global, text: &[u8]) -> Result<DumpLine, AllocError>
 }
 
 /// Whether a script may print this line, which is no op line.
-pub fn is_other(alloc: Global, line: &[u8]) -> Result<bool, AllocError> {
+pub fn is_other(alloc: Global, line: &[u8]) -> Result<bool, AllocError>
+    ensures { IfOk result (λ prints. IsTrue prints → IsOtherLine line.now) }
+{
     if line == b"end".as_slice() || dump_begun(line).is_some() {
         return Ok(true);
     }
@@ -61,31 +66,56 @@ pub fn is_other(alloc: Global, line: &[u8]) -> Result<bool, AllocError> {
     is_result(alloc, line)
 }
 
-fn is_spoken(alloc: Global, line: &[u8]) -> Result<bool, AllocError> {
-    let spoken = read_spoken(alloc, line)?;
-    Ok(spoken.is_some())
+/// Whether the line is one of a transcript.
+fn is_spoken(alloc: Global, line: &[u8]) -> Result<bool, AllocError>
+    ensures { IfOk result (λ spoken. IsTrue spoken → IsSpokenLine line.now) }
+{
+    match read_spoken(alloc, line)? {
+        Some(spoken) => {
+            drop(spoken);
+            Ok(true)
+        }
+        None => Ok(false),
+    }
 }
 
-/// Whether the line has the form of a folder's, a message's or a subscription's: whether its fields are those of an
-/// operation.
-fn is_state_line(alloc: Global, line: &[u8]) -> Result<bool, AllocError> {
+/// Whether the line has the form of a folder's, a message's or a subscription's.
+fn is_state_line(alloc: Global, line: &[u8]) -> Result<bool, AllocError>
+    ensures { IfOk result (λ has. IsTrue has → IsStateLine line.now) }
+{
     let Some((word, fields)) = split(b' ', line) else {
         return Ok(false);
     };
     if word == b"folder".as_slice() {
-        return is_spelled(alloc, b"1:1 - delete ", fields);
+        return are_delete_fields(alloc, fields);
     }
     if word == b"subscribed".as_slice() {
-        return is_spelled(alloc, b"1:1 - unsubscribe ", fields);
+        return are_unsubscribe_fields(alloc, fields);
     }
     if word == b"message".as_slice() {
-        return is_message(alloc, fields);
+        return are_message_fields(alloc, fields);
     }
     Ok(false)
 }
 
+/// Whether the fields are a name and ids, as a Delete has them.
+fn are_delete_fields(alloc: Global, fields: &[u8]) -> Result<bool, AllocError>
+    ensures { IfOk result (λ are. IsTrue are → AreTagFields fields.now) }
+{
+    is_spelled(alloc, b"1:1 - delete ", fields)
+}
+
+/// Whether the fields are a name and ids, as an Unsubscribe has them.
+fn are_unsubscribe_fields(alloc: Global, fields: &[u8]) -> Result<bool, AllocError>
+    ensures { IfOk result (λ are. IsTrue are → AreTagFields fields.now) }
+{
+    is_spelled(alloc, b"1:1 - unsubscribe ", fields)
+}
+
 /// Whether the fields are those of a message's line: an id, and what an Append has behind its folder.
-fn is_message(alloc: Global, fields: &[u8]) -> Result<bool, AllocError> {
+fn are_message_fields(alloc: Global, fields: &[u8]) -> Result<bool, AllocError>
+    ensures { IfOk result (λ are. IsTrue are → AreMessageFields fields.now) }
+{
     let Some((id, rest)) = split(b' ', fields) else {
         return Ok(false);
     };
@@ -95,7 +125,9 @@ fn is_message(alloc: Global, fields: &[u8]) -> Result<bool, AllocError> {
 }
 
 /// Whether an operation is spelled by these two, one behind the other.
-fn is_spelled(alloc: Global, front: &[u8], fields: &[u8]) -> Result<bool, AllocError> {
+fn is_spelled(alloc: Global, front: &[u8], fields: &[u8]) -> Result<bool, AllocError>
+    ensures { IfOk result (λ spelled. IsTrue spelled → (op : Operation) × IsSpelled op (front.now ++ fields.now)) }
+{
     let mut text = front.to_vec(alloc)?;
     text.extend_from_slice(fields)?;
     match read_op(alloc, &text) {

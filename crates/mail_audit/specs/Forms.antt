@@ -1,0 +1,44 @@
+use Rattle.std.specs.Prelude.{◌≡◌, ◌⊎◌, ℕ, List, ◌∷◌, ◌++◌, codes, IsTrue}
+use Rattle.imap_types.specs.DateTimes.{IsDateTime}
+use Rattle.imap_types.specs.Escape.{AreOctets}
+use Rattle.imap_types.specs.declared.flags.Flags.{Flags}
+use Rattle.tags_clocks.specs.declared.id.OpId.{OpId}
+use Rattle.crdt_ops.specs.Form.{AreIds, HasWords, IsId, IsReplica}
+use Rattle.crdt_ops.specs.Text.{flags_text, id_text, ids_text, letter_text, name_text}
+use Rattle.mail_script.specs.Fields.{is_session_name}
+use Rattle.mail_script.specs.declared.transcript.Speaker.{Speaker}
+use Rattle.mail_audit.specs.Audits.{spoken_line}
+use Rattle.mail_audit.specs.Dumps.{dump_line}
+use Rattle.mail_audit.specs.Results.{IsResult}
+
+-- Which lines a script may print besides op lines, whatever stands around them.
+
+-- A name with ids behind it.
+abbrev pub AreTagFields : List ℕ → Type 0
+AreTagFields fields = (name : List ℕ) × (ids : List OpId) × AreOctets name × AreIds ids × (fields ≡ name_text name ++ 32 ∷ ids_text ids)
+
+-- An id with flags, a date and a text behind it.
+abbrev pub AreMessageFields : List ℕ → Type 0
+AreMessageFields fields =
+    (id : OpId) × (flags : Flags) × (date : List ℕ) × (text : List ℕ)
+    × IsId id × HasWords flags × IsDateTime date × AreOctets text
+    × (fields ≡ id_text id ++ 32 ∷ (flags_text flags ++ 32 ∷ (date ++ 32 ∷ letter_text text)))
+
+-- A line in the form of a folder's, a message's or a subscription's.
+abbrev pub IsStateLine : List ℕ → Type 0
+IsStateLine line =
+    (fields : List ℕ)
+    × (((line ≡ codes "folder " ++ fields) × AreTagFields fields)
+    ⊎ (((line ≡ codes "message " ++ fields) × AreMessageFields fields)
+    ⊎ ((line ≡ codes "subscribed " ++ fields) × AreTagFields fields)))
+
+-- A line of a transcript.
+abbrev pub IsSpokenLine : List ℕ → Type 0
+IsSpokenLine line = (session : List ℕ) × (speaker : Speaker) × (text : List ℕ) × IsTrue (is_session_name session) × AreOctets text × (line ≡ spoken_line session speaker text)
+
+-- A dump's last line or its first, one of its folders, messages or subscriptions, a line of a transcript, or one that tells a result.
+abbrev pub IsOtherLine : List ℕ → Type 0
+IsOtherLine line =
+    (line ≡ codes "end")
+    ⊎ (((replica : ℕ) × IsReplica replica × (line ≡ dump_line replica))
+    ⊎ (IsStateLine line ⊎ (IsSpokenLine line ⊎ IsResult line)))
