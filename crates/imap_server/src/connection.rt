@@ -10,13 +10,14 @@ use log::{Log, info};
 use replica_links::Gate;
 use replica_lock::{Pass, Shared};
 use std::alloc::Global;
-use std::io::Write;
-use std::net::TcpStream;
+use std::io::{Read, Write};
+use std::net::{Shutdown, TcpStream};
 use std::rt::Clock;
 use std::sync::ledger::Ledger;
 use std::sync::{Mutex, Wait};
 use std::thread;
 use std::thread::Threads;
+use std::time::Duration;
 
 /// What all connections of a replica have in common.
 #[derive(Drop)]
@@ -29,8 +30,8 @@ pub struct Desk<'a, L: Ledger> {
     pub shared: &'a Shared<L>,
 }
 
-/// Holds the conversation with the client of a connection, and gives its pass back. The gate is passed before each command, the first time
-/// with 1.
+/// Holds the conversation with the client of a connection, takes leave of it, and gives its pass back. The gate is passed before each command, the
+/// first time with 1.
 pub fn connection_worker<
     L: Ledger + Send + Sync,
     R: Threads + Wait + Clock + Log + Sync,
@@ -52,6 +53,9 @@ pub fn connection_worker<
         || feed(rt, alloc, desk.shared, &pass, &outlet, stream),
     );
     tell_end(rt, ended);
+    if !is_gone(ended) {
+        take_leave(stream);
+    }
     pass.into_inner()
 }
 
@@ -88,6 +92,29 @@ fn name_of(ended: Ended) -> &'static str {
         Ended::WriteFailed => "write failed",
         Ended::NoMemory => "no memory",
         Ended::Torn => "replica changed",
+    }
+}
+
+/// Whether the client is gone, so that it can't be told any more.
+fn is_gone(ended: Ended) -> bool {
+    matches!(
+        ended,
+        Ended::PeerClosed | Ended::ReadFailed | Ended::WriteFailed
+    )
+}
+
+/// Tells the client that no more comes, and drops what it still sends, up to 16 MiB and until it pauses for a second: a connection that is closed
+/// while something is unread is reset, which may take the last answers from the client (RFC 9293, section 3.6.1).
+fn take_leave(stream: &TcpStream) {
+    let _ = stream.shutdown(Shutdown::Write);
+    let _ = stream.set_read_timeout(Some(Duration::from_secs(1)));
+    let mut piece = [0u8; 4_096];
+    let mut reader = stream;
+    for _ in 0..4_096u32 {
+        match reader.read(&mut piece) {
+            Ok(0) | Err(_) => return,
+            Ok(_) => {}
+        }
     }
 }
 

@@ -25,25 +25,63 @@ pub fn feed<L: Ledger, R: Wait>(
         if !outlet.await_idling(rt) {
             return;
         }
-        seen = seen_by(rt, pass, seen);
+        let Some(from) = seen_by(rt, pass, seen) else {
+            return;
+        };
+        seen = from;
         let now = shared.wait_change(rt, seen);
         if !outlet.await_idling(rt) {
             return;
         }
-        if shared.stirred(rt, seen, now) && !tell(rt, alloc, shared, pass, outlet, stream) {
-            let _ = stream.shutdown(Shutdown::Both);
-            return;
+        match tell_since(rt, alloc, shared, pass, outlet, stream, (seen, now)) {
+            Telling::Done => seen = now,
+            Telling::Busy => {}
+            Telling::Failed => {
+                let _ = stream.shutdown(Shutdown::Both);
+                return;
+            }
         }
-        seen = now;
     }
 }
 
-/// How far the session has seen the journal, or how far it was looked at.
-fn seen_by<L: Ledger, R: Wait>(rt: &R, pass: &Mutex<Pass<L>>, looked: u64) -> u64 {
-    pass.lock(rt).seen().max(looked)
+/// What became of telling an idling session what changed.
+#[derive(Clone, Copy, Debug, PartialEq, Eq)]
+enum Telling {
+    /// It was told, or there was nothing to tell.
+    Done,
+    /// The connection's thread was at work, and nothing was told.
+    Busy,
+    /// It can't be told.
+    Failed,
 }
 
-/// Polls the session, if it still idles, and writes the answers. False where they can't be written.
+/// Tells the session what the entries between these two lengths of the journal changed.
+fn tell_since<L: Ledger, R: Wait>(
+    rt: &R,
+    alloc: Global,
+    shared: &Shared<L>,
+    pass: &Mutex<Pass<L>>,
+    outlet: &Outlet,
+    stream: &TcpStream,
+    entries: (u64, u64),
+) -> Telling {
+    if !shared.stirred(rt, entries.0, entries.1) {
+        return Telling::Done;
+    }
+    tell(rt, alloc, shared, pass, outlet, stream)
+}
+
+/// How far the session has seen the journal, or how far it was looked at; `None` once it was closed. While it is open its close is still to come, as an
+/// entry behind these, so that a wait for a change ends with the connection.
+fn seen_by<L: Ledger, R: Wait>(rt: &R, pass: &Mutex<Pass<L>>, looked: u64) -> Option<u64> {
+    let pass = pass.lock(rt);
+    if pass.session().is_none() {
+        return None;
+    }
+    Some(pass.seen().max(looked))
+}
+
+/// Polls the session, if it still idles and its connection's thread still waits for the client, and writes the answers.
 fn tell<L: Ledger, R: Wait>(
     rt: &R,
     alloc: Global,
@@ -51,17 +89,17 @@ fn tell<L: Ledger, R: Wait>(
     pass: &Mutex<Pass<L>>,
     outlet: &Outlet,
     stream: &TcpStream,
-) -> bool {
+) -> Telling {
     let phase = outlet.phase.lock(rt);
     if !phase.reads || !phase.idles {
-        return true;
+        return Telling::Busy;
     }
     let told = match polled(rt, alloc, shared, pass) {
         Some(text) => write_all(stream, &text),
         None => false,
     };
     drop(phase);
-    told
+    if told { Telling::Done } else { Telling::Failed }
 }
 
 fn write_all(stream: &TcpStream, text: &[u8]) -> bool {

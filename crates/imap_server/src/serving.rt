@@ -9,7 +9,7 @@ use imap_node::Node;
 use log::Log;
 use replica_links::{Gate, LinkMsg, ReplicaTaker, link_worker};
 use replica_lock::{Book, Pass, Shared};
-use std::alloc::Global;
+use std::alloc::{AllocError, Global};
 use std::marker::Brand;
 use std::net::{Net, TcpListener, TcpStream};
 use std::rt::Clock;
@@ -33,9 +33,20 @@ pub struct Part {
     pub inbox: Receiver<LinkMsg>,
 }
 
+/// A connection that is to be served.
+#[derive(Drop)]
+pub struct Visit<L: Ledger, G> {
+    /// The connection.
+    pub stream: TcpStream,
+    /// What is passed before each command of it.
+    pub gate: G,
+    /// The pass of its session.
+    pub pass: Pass<L>,
+}
+
 /// A gate that is open.
 #[derive(Drop)]
-struct Open;
+pub struct Open;
 
 impl Gate for Open {
     fn pass(&mut self, _n: u64) {}
@@ -86,7 +97,7 @@ fn run_replica<
         shared: &shared,
     };
     let back = Mutex::new(Vec::new(alloc));
-    let first = serve_over(rt, alloc, &desk, first, &listener, &inbox, &back);
+    let first = serve_listener(rt, alloc, &desk, first, &listener, &inbox, &back);
     let mut passes = back.into_inner();
     if passes.push(first).is_err() {
         return false;
@@ -124,8 +135,63 @@ fn next_pass<L: Ledger, R: Wait>(
     }
 }
 
+/// Serves a connection to its end, closes it, and gives its pass back.
+fn attend<L: Ledger + Send + Sync, R: Threads + Wait + Clock + Log + Sync, G: Gate + Send + Drop>(
+    rt: &R,
+    alloc: Global,
+    desk: &Desk<'_, L>,
+    visit: Visit<L, G>,
+) -> Pass<L> {
+    let Visit {
+        stream,
+        mut gate,
+        pass,
+    } = visit;
+    connection_worker(rt, alloc, &mut gate, desk, &stream, pass)
+}
+
+/// Serves these connections at once, each in a thread of its own and with the gate at its place, and gives their passes back once all have ended. One without
+/// a gate is closed, and one for which no pass can be cut is turned away. `Err` where there was no memory, and passes may be lost then.
+pub fn serve_over<
+    L: Ledger + Send + Sync,
+    R: Threads + Wait + Clock + Log + Sync,
+    G: Gate + Send + Drop,
+>(
+    rt: &R,
+    alloc: Global,
+    desk: &Desk<'_, L>,
+    first: &mut Pass<L>,
+    connections: Vec<TcpStream>,
+    gates: Vec<G>,
+) -> Result<Vec<Pass<L>>, AllocError> {
+    let visits = visits(alloc, first, connections, gates)?;
+    thread::map_vec(
+        rt,
+        visits,
+        &|visit: Visit<L, G>| { attend(rt, alloc, desk, visit) },
+    )
+}
+
+/// The connections with a gate and a pass each.
+fn visits<L: Ledger, G: Gate + Drop>(
+    alloc: Global,
+    first: &mut Pass<L>,
+    connections: Vec<TcpStream>,
+    gates: Vec<G>,
+) -> Result<Vec<Visit<L, G>>, AllocError> {
+    let mut visits = Vec::new(alloc);
+    for (stream, gate) in connections.into_iter().zip(gates) {
+        let Some(pass) = first.cut() else {
+            turn_away(&stream);
+            continue;
+        };
+        visits.push(Visit { stream, gate, pass })?;
+    }
+    Ok(visits)
+}
+
 /// Serves the connections of a listener, each in a thread of its own, and the link in another, until the server stops.
-fn serve_over<
+fn serve_listener<
     L: Ledger + Send + Sync,
     R: Threads + Wait + Clock + Log + Sync + Net<Listener = TcpListener, Stream = TcpStream>,
 >(
@@ -158,9 +224,13 @@ fn serve_over<
                 turn_away(&stream);
                 continue;
             };
+            let visit = Visit {
+                stream,
+                gate: Open,
+                pass,
+            };
             let _ = scope.spawn(move || {
-                let pass = connection_worker(rt, alloc, &mut Open, desk, &stream, pass);
-                drop(stream);
+                let pass = attend(rt, alloc, desk, visit);
                 give_back(rt, back, pass);
                 end_one(rt, desk.house)
             });

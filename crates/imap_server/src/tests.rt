@@ -1,2 +1,7 @@
+mod callers;
+mod crowd;
+mod doors;
+mod hostile;
 mod loopback;
+mod scene;
 mod words;

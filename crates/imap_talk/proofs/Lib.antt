@@ -1,1 +1,3 @@
 pub mod TalkLemmas
+pub mod NodeTalkLemmas
+pub mod NodeEndLemmas

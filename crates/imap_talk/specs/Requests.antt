@@ -11,6 +11,7 @@ use Rattle.imap_grammar.specs.declared.command.Tagged.{Tagged}
 use Rattle.imap_grammar.specs.declared.idle.IdleLine.{IdleLine}
 use Rattle.imap_lex.specs.declared.item.Item.{Item}
 use Rattle.imap_lex.specs.declared.item.Item.TheVariants.{Ready, Frame, Refused}
+use Rattle.imap_node.specs.Commands.{is_idle}
 use Rattle.imap_node.specs.declared.reply.Reply.{Reply}
 use Rattle.imap_node.specs.declared.reply.Reply.TheVariants as replies
 use Rattle.node_talk.specs.Conversation.{IsLine}
@@ -44,10 +45,6 @@ IsRequest idling item request = ⊥
 abbrev pub is_done : Reply → Bool
 is_done (replies.Done answers silent issued) = true
 is_done (replies.Refused why closed) = false
-
-abbrev pub is_idle : Command → Bool
-is_idle commands.Idle = true
-is_idle _ = false
 
 abbrev pub is_logout : Command → Bool
 is_logout commands.Logout = true

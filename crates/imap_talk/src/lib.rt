@@ -6,6 +6,7 @@
 mod ended;
 mod ends;
 mod fault;
+mod laws;
 mod memory;
 mod node_port;
 mod requests;
@@ -17,6 +18,7 @@ mod writing;
 pub use ended::Ended;
 pub use ends::{Port, Sink, Source};
 pub use fault::PortFault;
+pub use laws::nodes_converse;
 pub use memory::{Given, Written};
 pub use node_port::NodePort;
 pub use talking::converse;

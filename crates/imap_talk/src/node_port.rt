@@ -1,7 +1,8 @@
 //! A node that nothing else uses, as a port.
 
-ghost use Rattle.std.specs.Prelude.{◌≡◌, IfSome, None, Some};
+ghost use Rattle.std.specs.Prelude.{◌≡◌, IfNone, IfSome, None, Some};
 ghost use Rattle.imap_node.specs.Sessions.{IsOpen};
+ghost use Rattle.imap_talk.specs.NodePorts.{IsAway, login_by};
 
 use crate::ends::Port;
 use crate::fault::PortFault;
@@ -51,13 +52,23 @@ impl NodePort {
 
     /// The session, where it is open.
     fn open_session(&self) -> Option<SessionNo>
-        ensures { IfSome result (λ n. (self.now.session ≡ Some n) × IsOpen self.now.node.sessions n) }
+        ensures some { IfSome result (λ n. (self.now.session ≡ Some n) × IsOpen self.now.node.sessions n) }
+        ensures none { IfNone result (IsAway self.now) }
     {
         let session = self.session?;
         if !self.node.is_open(session) {
             return None;
         }
         Some(session)
+    }
+}
+
+fn login_by(auth: &Auth) -> Login
+    ensures { result ≡ login_by auth.now }
+{
+    match auth {
+        Auth::Preauth => Login::Given,
+        Auth::Password { .. } => Login::Wanted,
     }
 }
 
@@ -74,10 +85,7 @@ impl Port for NodePort {
         let Some(auth) = self.auth.take() else {
             return Err(PortFault::PassedOver);
         };
-        let login = match &auth {
-            Auth::Preauth => Login::Given,
-            Auth::Password { .. } => Login::Wanted,
-        };
+        let login = login_by(&auth);
         match self.node.open(auth) {
             Ok(session) => {
                 self.session = Some(session);

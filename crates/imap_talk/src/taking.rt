@@ -2,8 +2,9 @@
 
 ghost use Rattle.std.specs.Prelude.{◌≡◌, ◌++◌, ◌∷◌, [], true, false, Some, None, List, OnOk, IfErr, if◌then◌else◌};
 ghost use Rattle.imap_answers.specs.declared.answer.Answer.{Answer as OneAnswer};
+ghost use Rattle.imap_node.specs.Commands.{is_idle};
 ghost use Rattle.imap_talk.specs.Endings.{failed_reads, failed_writes};
-ghost use Rattle.imap_talk.specs.Requests.{Fails, Handles, StopsAt, Takes, is_done, is_idle, is_logout, texts};
+ghost use Rattle.imap_talk.specs.Requests.{Fails, Handles, StopsAt, Takes, is_done, is_logout, texts};
 ghost use Rattle.imap_talk.specs.declared.ended.Ended.TheVariants.{Logout, NoMemory};
 ghost use Rattle.imap_talk.specs.declared.requests.Request.TheVariants as requests;
 ghost use Rattle.node_talk.specs.Replies.{is_without_memory};

@@ -1,0 +1,130 @@
+//! Gates that wait for one another.
+
+use replica_links::Gate;
+use std::sync::Wait;
+use std::sync::atomic::{AtomicU64, Ordering};
+use std::thread;
+
+/// How often a door looks, and lets others run, before it goes on.
+pub const TURNS: u64 = 1_000_000;
+
+/// What the threads of a scene tell one another.
+#[derive(Drop)]
+pub struct Signs {
+    /// How many doors were reached before their first command.
+    pub called: AtomicU64,
+    /// The first replica's lock is held.
+    pub held: AtomicU64,
+    /// How often a door that tells it was passed.
+    pub passed: AtomicU64,
+    /// How many doors saw what they waited for.
+    pub seen: AtomicU64,
+    /// How many clients heard all.
+    pub heard: AtomicU64,
+}
+
+impl Signs {
+    /// Nothing was told.
+    pub fn new() -> Signs {
+        Signs {
+            called: AtomicU64::new(0),
+            held: AtomicU64::new(0),
+            passed: AtomicU64::new(0),
+            seen: AtomicU64::new(0),
+            heard: AtomicU64::new(0),
+        }
+    }
+}
+
+/// Looks for so many turns, and lets others run, until a count is so great; whether it was.
+pub fn await_count(count: &AtomicU64, least: u64, turns: u64) -> bool {
+    for _ in 0..turns {
+        if count.load(Ordering::SeqCst) >= least {
+            return true;
+        }
+        thread::yield_now();
+    }
+    false
+}
+
+/// Waits until a count is so great.
+pub fn wait_for<R: Wait>(rt: &R, count: &AtomicU64, least: u64) {
+    for _ in rt.forever() {
+        if count.load(Ordering::SeqCst) >= least {
+            return;
+        }
+        thread::yield_now();
+    }
+}
+
+/// What a door does.
+#[derive(Clone, Copy, Debug, PartialEq, Eq)]
+pub enum Way {
+    /// It is open.
+    Open,
+    /// It tells how often it was passed.
+    Telling,
+    /// Before the first command it waits until a door that tells it was passed so often.
+    Behind(u64),
+    /// Before the first command it tells so, and waits until the first replica's lock is held.
+    Held,
+}
+
+/// A connection's gate.
+#[derive(Drop)]
+pub struct Door<'a> {
+    /// What it does.
+    pub way: Way,
+    /// What it looks at.
+    pub signs: &'a Signs,
+}
+
+impl<'a> Door<'a> {
+    /// Waits for a count, and tells whether it saw it.
+    fn look(&self, count: &AtomicU64, least: u64) {
+        if await_count(count, least, TURNS) {
+            let _ = self.signs.seen.fetch_add(1, Ordering::SeqCst);
+        }
+    }
+}
+
+impl<'a> Gate for Door<'a> {
+    fn pass(&mut self, n: u64) {
+        match self.way {
+            Way::Open => {}
+            Way::Telling => self.signs.passed.store(n, Ordering::SeqCst),
+            Way::Behind(least) => {
+                if n == 1 {
+                    self.look(&self.signs.passed, least)
+                }
+            }
+            Way::Held => {
+                if n == 1 {
+                    let _ = self.signs.called.fetch_add(1, Ordering::SeqCst);
+                    self.look(&self.signs.held, 1)
+                }
+            }
+        }
+    }
+}
+
+/// Keeps a replica's lock until so many clients heard all, or for so many turns.
+#[derive(Drop)]
+pub struct Keeper<'a> {
+    /// What it looks at.
+    pub signs: &'a Signs,
+    /// How many clients it waits for.
+    pub least: u64,
+    /// How often it looks.
+    pub turns: u64,
+    /// How many clients had heard all at the end.
+    pub heard: u64,
+}
+
+impl<'a> Gate for Keeper<'a> {
+    fn pass(&mut self, _n: u64) {
+        self.signs.held.store(1, Ordering::SeqCst);
+        let _ = await_count(&self.signs.heard, self.least, self.turns);
+        self.heard = self.signs.heard.load(Ordering::SeqCst);
+    }
+}
