@@ -1,0 +1,140 @@
+//! Lines that say what happens in a world.
+
+use crate::trouble::Trouble;
+use imap_grammar::{Tagged, idle_line, parse};
+use imap_node::{Auth, SessionNo};
+use imap_types::{Escape, Moment, read_escaped};
+use std::alloc::Global;
+use tags_clocks::{OpId, ReplicaId};
+use text_fields::{id, number, replica};
+use uid_projection::Start;
+use world_core::Event;
+
+/// What stands before the first space and behind it; without one the whole text and nothing.
+pub fn cut(text: &str) -> (&str, &str) {
+    text.split_once(' ').unwrap_or((text, ""))
+}
+
+/// The event that a line says: `open R`, `command R S TEXT`, `line R S TEXT`, `poll R S`, `deliver R ID`, `drain R` or `close R S`.
+pub fn event(alloc: Global, line: &str) -> Result<Event, Trouble> {
+    let (word, rest) = cut(line);
+    match word {
+        "open" => Ok(Event::Open {
+            at: replica_in(rest)?,
+            auth: Auth::Preauth,
+        }),
+        "drain" => Ok(Event::Drain {
+            at: replica_in(rest)?,
+        }),
+        "deliver" => delivery(rest),
+        _ => said(alloc, word, rest),
+    }
+}
+
+fn delivery(text: &str) -> Result<Event, Trouble> {
+    let (at, id) = cut(text);
+    Ok(Event::Deliver {
+        at: replica_in(at)?,
+        id: id_in(id)?,
+    })
+}
+
+/// What comes of a session.
+fn said(alloc: Global, word: &str, text: &str) -> Result<Event, Trouble> {
+    let (at, rest) = cut(text);
+    let (session, text) = cut(rest);
+    let at = replica_in(at)?;
+    let session = session_in(session)?;
+    match word {
+        "poll" => Ok(Event::Poll { at, session }),
+        "close" => Ok(Event::Close { at, session }),
+        "line" => line(alloc, at, session, text),
+        "command" => command(alloc, at, session, text),
+        _ => Err(Trouble::NotACase),
+    }
+}
+
+fn line(alloc: Global, at: ReplicaId, session: SessionNo, text: &str) -> Result<Event, Trouble> {
+    let frame = frame(alloc, text)?;
+    let line = idle_line(&frame);
+    Ok(Event::IdleLine { at, session, line })
+}
+
+fn command(alloc: Global, at: ReplicaId, session: SessionNo, text: &str) -> Result<Event, Trouble> {
+    let frame = frame(alloc, text)?;
+    let tagged = spelled(alloc, &frame)?;
+    Ok(Event::Command {
+        at,
+        session,
+        moment: Moment::epoch(),
+        tagged,
+    })
+}
+
+/// The octets that a text in the escape stands for, and a line end.
+fn frame(alloc: Global, text: &str) -> Result<Vec<u8>, Trouble> {
+    let Ok(octets) = read_escaped(alloc, Escape::Text, text.as_bytes()) else {
+        return Err(Trouble::NotACase);
+    };
+    let mut frame = octets.into_vec();
+    frame.extend_from_slice(b"\r\n")?;
+    Ok(frame)
+}
+
+/// The command that a frame spells.
+pub fn spelled(alloc: Global, frame: &[u8]) -> Result<Tagged, Trouble> {
+    match parse(alloc, frame) {
+        Ok(tagged) => Ok(tagged),
+        Err(_) => Err(Trouble::NotACase),
+    }
+}
+
+/// The replica that a number names.
+pub fn replica_in(text: &str) -> Result<ReplicaId, Trouble> {
+    replica(text.as_bytes()).ok_or(Trouble::NotACase)
+}
+
+fn id_in(text: &str) -> Result<OpId, Trouble> {
+    id(text.as_bytes()).ok_or(Trouble::NotACase)
+}
+
+fn session_in(text: &str) -> Result<SessionNo, Trouble> {
+    let number = number_in(text, 1_024)?;
+    SessionNo::new(number as usize).ok_or(Trouble::NotACase)
+}
+
+fn number_in(text: &str, limit: u64) -> Result<u64, Trouble> {
+    number(text.as_bytes(), limit).ok_or(Trouble::NotACase)
+}
+
+/// The replicas that a line declares: names with single spaces, each also as `R:U:K` with its first numbers.
+pub fn starts(alloc: Global, text: &str) -> Result<Vec<Start>, Trouble> {
+    let mut starts = Vec::new(alloc);
+    for word in text.split(' ') {
+        starts.push(start(word)?)?;
+    }
+    Ok(starts)
+}
+
+fn start(word: &str) -> Result<Start, Trouble> {
+    let Some((name, numbers)) = word.split_once(':') else {
+        return Ok(Start {
+            replica: replica_in(word)?,
+            uid: 1,
+            k: 1,
+        });
+    };
+    let Some((uid, k)) = numbers.split_once(':') else {
+        return Err(Trouble::NotACase);
+    };
+    Ok(Start {
+        replica: replica_in(name)?,
+        uid: small(uid)?,
+        k: small(k)?,
+    })
+}
+
+fn small(text: &str) -> Result<u32, Trouble> {
+    let number = number_in(text, 4_294_967_295)?;
+    u32::try_from(number).map_err(|_| Trouble::NotACase)
+}

@@ -1,0 +1,178 @@
+//! Commands by chance.
+
+use crate::chance::Chance;
+use std::alloc::{AllocError, Global};
+
+/// What a command makes of its session's mailbox.
+#[derive(Clone, Copy)]
+pub enum Sort {
+    /// It selects one.
+    Selecting,
+    /// It leaves the one that is selected.
+    Leaving,
+    /// Neither.
+    Other,
+}
+
+/// A command as a client sends it.
+#[derive(Drop)]
+pub struct Said {
+    /// The command, with its tag and line end.
+    pub text: String,
+    /// What it makes of the session's mailbox.
+    pub sort: Sort,
+}
+
+/// A command that the numbers choose: one that selects a mailbox in half of the cases where none is selected.
+pub fn command(alloc: Global, chance: &mut Chance, is_selected: bool) -> Result<Said, AllocError> {
+    if !is_selected && chance.is_one_in(2) {
+        return selecting(alloc, chance);
+    }
+    match chance.below(20) {
+        0 => selecting(alloc, chance),
+        1 => leaving(alloc, chance),
+        2 | 3 => other(store(alloc, chance)?),
+        4 | 5 | 6 => other(over_mailboxes(alloc, chance)?),
+        7 | 8 | 9 | 10 => other(append(alloc, chance)?),
+        11 | 12 | 13 => other(store(alloc, chance)?),
+        14 | 15 => other(moving(alloc, chance)?),
+        16 | 17 => other(asking(alloc, chance)?),
+        _ => other(plain(alloc, chance)?),
+    }
+}
+
+fn other(text: String) -> Result<Said, AllocError> {
+    Ok(Said {
+        text,
+        sort: Sort::Other,
+    })
+}
+
+fn selecting(alloc: Global, chance: &mut Chance) -> Result<Said, AllocError> {
+    let name = name(chance);
+    let word = if chance.is_one_in(6) {
+        "EXAMINE"
+    } else {
+        "SELECT"
+    };
+    Ok(Said {
+        text: format!(in alloc; "a {word} {name}\r\n")?,
+        sort: Sort::Selecting,
+    })
+}
+
+fn leaving(alloc: Global, chance: &mut Chance) -> Result<Said, AllocError> {
+    let word = match chance.below(8) {
+        0 => "LOGOUT",
+        1 | 2 | 3 => "UNSELECT",
+        _ => "CLOSE",
+    };
+    Ok(Said {
+        text: format!(in alloc; "a {word}\r\n")?,
+        sort: Sort::Leaving,
+    })
+}
+
+/// INBOX mostly, so that sessions and replicas meet there.
+fn name(chance: &mut Chance) -> &'static str {
+    match chance.below(6) {
+        0 => "work",
+        1 => "work/old",
+        2 => "other",
+        _ => "INBOX",
+    }
+}
+
+fn over_mailboxes(alloc: Global, chance: &mut Chance) -> Result<String, AllocError> {
+    let name = name(chance);
+    let word = match chance.below(8) {
+        0 => "DELETE",
+        1 => "SUBSCRIBE",
+        2 => "UNSUBSCRIBE",
+        _ => "CREATE",
+    };
+    format!(in alloc; "a {word} {name}\r\n")
+}
+
+fn append(alloc: Global, chance: &mut Chance) -> Result<String, AllocError> {
+    let name = name(chance);
+    let flags = flags(chance);
+    format!(in alloc; "a APPEND {name} ({flags}) {{1+}}\r\nx\r\n")
+}
+
+fn store(alloc: Global, chance: &mut Chance) -> Result<String, AllocError> {
+    let form = if chance.is_one_in(2) {
+        "UID STORE"
+    } else {
+        "STORE"
+    };
+    let set = set(chance);
+    let sign = sign(chance);
+    let silent = if chance.is_one_in(3) { ".SILENT" } else { "" };
+    let flags = flags(chance);
+    format!(in alloc; "a {form} {set} {sign}FLAGS{silent} ({flags})\r\n")
+}
+
+fn sign(chance: &mut Chance) -> &'static str {
+    match chance.below(4) {
+        0 => "",
+        1 => "-",
+        _ => "+",
+    }
+}
+
+fn set(chance: &mut Chance) -> &'static str {
+    match chance.below(5) {
+        0 => "1",
+        1 => "*",
+        2 => "2:3",
+        3 => "1,3",
+        _ => "1:*",
+    }
+}
+
+fn flags(chance: &mut Chance) -> &'static str {
+    match chance.below(6) {
+        0 => "",
+        1 | 2 => "\\Deleted",
+        3 => "\\Seen",
+        4 => "\\Flagged key",
+        _ => "\\Answered \\Draft",
+    }
+}
+
+fn moving(alloc: Global, chance: &mut Chance) -> Result<String, AllocError> {
+    let set = set(chance);
+    let name = name(chance);
+    match chance.below(6) {
+        0 => format!(in alloc; "a COPY {set} {name}\r\n"),
+        1 => format!(in alloc; "a UID COPY {set} {name}\r\n"),
+        2 => format!(in alloc; "a MOVE {set} {name}\r\n"),
+        3 => format!(in alloc; "a UID EXPUNGE {set}\r\n"),
+        _ => format!(in alloc; "a EXPUNGE\r\n"),
+    }
+}
+
+fn asking(alloc: Global, chance: &mut Chance) -> Result<String, AllocError> {
+    let set = set(chance);
+    match chance.below(6) {
+        0 => format!(in alloc; "a FETCH {set} (UID BODY[])\r\n"),
+        1 => format!(in alloc; "a UID FETCH {set} (FLAGS MODSEQ)\r\n"),
+        2 => format!(in alloc; "a SEARCH RETURN (ALL COUNT) UNSEEN\r\n"),
+        3 => format!(in alloc; "a UID SEARCH {set} DELETED\r\n"),
+        4 => format!(in alloc; "a STATUS INBOX (MESSAGES UIDNEXT HIGHESTMODSEQ)\r\n"),
+        _ => format!(in alloc; "a LIST \"\" * RETURN (SUBSCRIBED)\r\n"),
+    }
+}
+
+fn plain(alloc: Global, chance: &mut Chance) -> Result<String, AllocError> {
+    let word = match chance.below(9) {
+        0 => "CAPABILITY",
+        1 => "NAMESPACE",
+        2 => "ENABLE CONDSTORE",
+        3 => "LOGIN u p",
+        4 | 5 => "NOOP",
+        _ => "IDLE",
+    };
+    format!(in alloc; "a {word}\r\n")
+}

@@ -1,0 +1,39 @@
+//! What is asked of replicas at the end.
+
+ghost use Rattle.std.specs.Prelude.{IsTrue};
+ghost use Rattle.world_core.specs.Worlds.{AreFromOne};
+
+use imap_node::Node;
+use std::alloc::Global;
+use uid_projection::Start;
+use world_core::{Agreement, SettleFault, agree, settle};
+
+/// Whether their UIDs begin with 1 or more.
+pub fn are_from_one(starts: &[Start]) -> bool
+    ensures { IsTrue result → AreFromOne starts.now }
+{
+    for start in starts {
+        if start.uid == 0 {
+            return false;
+        }
+    }
+    true
+}
+
+/// What settling the nodes comes to.
+pub fn ended(alloc: Global, nodes: &mut [Node]) -> &'static str {
+    match settle(alloc, nodes) {
+        Ok(()) => "Ok",
+        Err(SettleFault::Conflict { .. }) => "Conflict",
+        Err(SettleFault::Exhausted) => "Exhausted",
+        Err(SettleFault::NoMemory) => "NoMemory",
+    }
+}
+
+/// How two nodes stand to one another.
+pub fn agreement(one: &Node, other: &Node) -> &'static str {
+    match agree(one, other) {
+        Agreement::Same => "Same",
+        Agreement::Different => "Different",
+    }
+}

@@ -1,0 +1,258 @@
+//! Random worlds.
+
+ghost use Rattle.std.specs.Prelude.{◌≡◌, IfOk};
+
+use crate::asked::cut;
+use crate::chance::Chance;
+use crate::deeds::{Note, deed};
+use crate::page::Page;
+use crate::tally::Tally;
+use crate::trouble::Trouble;
+use crate::watch::Watch;
+use imap_node::Node;
+use node_talk::write_dump;
+use std::alloc::{AllocError, Global};
+use tags_clocks::ReplicaId;
+use text_fields::number;
+use uid_projection::Start;
+use world_core::{Agreement, Event, Outcomes, World, agree, run, settle};
+
+/// How many events happen in a random world.
+const EVENTS: u32 = 300;
+
+/// The most events of one run: between two runs the next ones are made up.
+const MOST_IN_RUN: u32 = 10;
+
+/// A random world as it goes on.
+#[derive(Drop)]
+struct Game {
+    world: World,
+    watch: Watch,
+    /// So many events were taken, and not passed over.
+    taken: u32,
+    /// What went wrong, if something did.
+    wrong: Option<&'static str>,
+}
+
+/// Plays the worlds with the numbers from the first to the last, and tells what came of them.
+pub fn tell_random(
+    alloc: Global,
+    asked: &str,
+    numbers: &str,
+    page: &mut Page,
+) -> Result<(), Trouble> {
+    let (first, last) = cut(numbers);
+    let first = number_in(first)?;
+    let last = number_in(last)?;
+    let mut tally = Tally::new();
+    for world in first..=last {
+        play(alloc, world, &mut tally)?;
+    }
+    page.put(asked);
+    page.put(" =>\n");
+    tally.tell(page);
+    Ok(())
+}
+
+fn number_in(text: &str) -> Result<u64, Trouble> {
+    number(text.as_bytes(), 1_000_000).ok_or(Trouble::NotACase)
+}
+
+/// Plays the world with this number to its end.
+fn play(alloc: Global, number: u64, tally: &mut Tally) -> Result<(), Trouble> {
+    let mut chance = Chance::new(number);
+    let mut game = Game {
+        world: world(alloc)?,
+        watch: Watch::new(alloc)?,
+        taken: 0,
+        wrong: None,
+    };
+    let mut left = EVENTS;
+    for _ in 0..EVENTS {
+        let count = chance.below(MOST_IN_RUN).saturating_add(1).min(left);
+        left = left.saturating_sub(count);
+        game = go_on(alloc, &mut chance, game, count, tally)?;
+    }
+    end(alloc, number, game, tally)
+}
+
+/// Five replicas that received nothing.
+fn world(alloc: Global) -> Result<World, Trouble> {
+    let starts = [start(1)?, start(2)?, start(3)?, start(4)?, start(5)?];
+    match World::new(alloc, &starts) {
+        Ok(world) => Ok(world),
+        Err(_) => Err(Trouble::NoMemory),
+    }
+}
+
+fn start(number: u32) -> Result<Start, Trouble>
+    ensures { IfOk result (λ start. start.uid ≡ 1) }
+{
+    match ReplicaId::new(number) {
+        Some(replica) => Ok(Start {
+            replica,
+            uid: 1,
+            k: 1,
+        }),
+        None => Err(Trouble::NotACase),
+    }
+}
+
+/// Lets so many events happen in one run.
+fn go_on(
+    alloc: Global,
+    chance: &mut Chance,
+    game: Game,
+    count: u32,
+    tally: &mut Tally,
+) -> Result<Game, Trouble> {
+    let Game {
+        world,
+        watch,
+        taken,
+        wrong,
+    } = game;
+    let mut notes = Vec::new(alloc);
+    let events = made_up(alloc, chance, world.nodes(), count, &mut notes)?;
+    let outcomes = run(alloc, world, events);
+    judged(alloc, &notes, outcomes, watch, taken, wrong, tally)
+}
+
+/// Events at these nodes, and what clients have to know of them.
+fn made_up(
+    alloc: Global,
+    chance: &mut Chance,
+    nodes: &[Node],
+    count: u32,
+    notes: &mut Vec<Note>,
+) -> Result<Vec<Event>, Trouble> {
+    let mut events = Vec::new(alloc);
+    for _ in 0..count {
+        let noted = deed(alloc, chance, nodes)?;
+        notes.push(noted.note)?;
+        events.push(noted.event)?;
+    }
+    Ok(events)
+}
+
+/// The game behind a run.
+fn judged(
+    alloc: Global,
+    notes: &[Note],
+    outcomes: Outcomes,
+    watch: Watch,
+    taken: u32,
+    wrong: Option<&'static str>,
+    tally: &mut Tally,
+) -> Result<Game, Trouble> {
+    let Outcomes { world, list, whole } = outcomes;
+    let mut watch = watch;
+    let mut taken = taken;
+    if !whole || list.len() != notes.len() {
+        return Err(Trouble::NoMemory);
+    }
+    for (note, outcome) in notes.iter().zip(list.iter()) {
+        watch.hear(alloc, *note, outcome, tally)?;
+        taken = taken.saturating_add(u32::from(tally.note(outcome)));
+    }
+    let wrong = if watch.is_right_by(world.nodes()) {
+        wrong
+    } else {
+        Some("a session sees other than it was told")
+    };
+    Ok(Game {
+        world,
+        watch,
+        taken,
+        wrong,
+    })
+}
+
+/// Settles the world, and notes whether it ends as it should.
+fn end(alloc: Global, number: u64, game: Game, tally: &mut Tally) -> Result<(), Trouble> {
+    let mut nodes = game.world.into_nodes();
+    tally.has_idle_world = tally.has_idle_world || game.taken <= EVENTS / 2;
+    if let Some(how) = game.wrong {
+        tally.miss(number, how);
+    }
+    let issued = issued_by(&nodes);
+    if settle(alloc, &mut nodes).is_err() {
+        tally.miss(number, "it does not settle");
+    }
+    if !all_applied(&nodes, issued) {
+        tally.miss(number, "an operation is missing, or held");
+    }
+    if !all_agree(&nodes) {
+        tally.miss(number, "two replicas differ");
+    }
+    if !hold_the_same(alloc, &nodes)? {
+        tally.miss(number, "two replicas hold other mail");
+    }
+    Ok(())
+}
+
+/// How many operations the nodes issued in all.
+fn issued_by(nodes: &[Node]) -> u64 {
+    let mut count = 0_u64;
+    for node in nodes {
+        let own = node.clock().get(node.replica().id());
+        count = count.saturating_add(u64::from(own));
+    }
+    count
+}
+
+/// Whether each node applied so many operations, and holds none.
+fn all_applied(nodes: &[Node], count: u64) -> bool {
+    for node in nodes {
+        if node.op_list().len() as u64 != count || node.held().len() != 0 {
+            return false;
+        }
+    }
+    true
+}
+
+fn all_agree(nodes: &[Node]) -> bool {
+    for (place, node) in nodes.iter().enumerate() {
+        if !agrees_with(node, &nodes[place..]) {
+            return false;
+        }
+    }
+    true
+}
+
+fn agrees_with(node: &Node, others: &[Node]) -> bool {
+    for other in others {
+        if agree(node, other) != Agreement::Same || agree(other, node) != Agreement::Same {
+            return false;
+        }
+    }
+    true
+}
+
+/// Whether the dumps of all nodes are the same, but for the name in their first lines.
+fn hold_the_same(alloc: Global, nodes: &[Node]) -> Result<bool, AllocError> {
+    let Some((first, others)) = nodes.split_first() else {
+        return Ok(true);
+    };
+    let first = dump(alloc, first)?;
+    for other in others {
+        let other = dump(alloc, other)?;
+        if behind_first_line(&first) != behind_first_line(&other) {
+            return Ok(false);
+        }
+    }
+    Ok(true)
+}
+
+fn dump(alloc: Global, node: &Node) -> Result<Vec<u8>, AllocError> {
+    let mut text = Vec::new(alloc);
+    write_dump(alloc, node, &mut text)?;
+    Ok(text)
+}
+
+fn behind_first_line(text: &[u8]) -> &[u8] {
+    match text_fields::split(b'\n', text) {
+        Some((_, rest)) => rest,
+        None => text,
+    }
+}

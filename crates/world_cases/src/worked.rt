@@ -1,0 +1,179 @@
+//! Worlds that are worked out line by line.
+
+use crate::asked::{cut, event, replica_in, starts};
+use crate::ending::{agreement, are_from_one, ended};
+use crate::games::tell_random;
+use crate::page::Page;
+use crate::told::tell;
+use crate::trouble::Trouble;
+use imap_node::Node;
+use std::alloc::Global;
+use tags_clocks::ReplicaId;
+use uid_projection::Start;
+use world_core::{Event, Outcomes, World, WorldFault, run};
+
+/// A worked world as far as it was read.
+#[derive(Drop)]
+struct Worked<'a> {
+    starts: Vec<Start>,
+    lines: Vec<&'a str>,
+    events: Vec<Event>,
+    /// The nodes behind all events.
+    nodes: Vec<Node>,
+}
+
+impl<'a> Worked<'a> {
+    fn new(alloc: Global) -> Worked<'a> {
+        Worked {
+            starts: Vec::new(alloc),
+            lines: Vec::new(alloc),
+            events: Vec::new(alloc),
+            nodes: Vec::new(alloc),
+        }
+    }
+}
+
+/// Plays the lines of a text, and tells each with what comes of it.
+pub fn play(alloc: Global, text: &str) -> Page {
+    let mut page = Page::new(alloc);
+    let mut worked = Worked::new(alloc);
+    for line in text.split_terminator('\n') {
+        take_line(alloc, line, &mut worked, &mut page);
+    }
+    page
+}
+
+/// Takes a line: an answer is left out, a title or a comment told as it is, and what is asked is done.
+fn take_line<'a>(alloc: Global, line: &'a str, worked: &mut Worked<'a>, page: &mut Page) {
+    if line.starts_with("  ") {
+        return;
+    }
+    if line.is_empty() || line.starts_with('#') || line.starts_with("== ") {
+        page.put(line);
+        page.put("\n");
+        return;
+    }
+    let (asked, _) = line.split_once(" =>").unwrap_or((line, ""));
+    if let Err(trouble) = take_asked(alloc, asked, worked, page) {
+        page.put(asked);
+        page.put(" => ");
+        page.put(trouble.text());
+        page.put("\n");
+    }
+}
+
+fn take_asked<'a>(
+    alloc: Global,
+    asked: &'a str,
+    worked: &mut Worked<'a>,
+    page: &mut Page,
+) -> Result<(), Trouble> {
+    let (word, rest) = cut(asked);
+    match word {
+        "replicas" => {
+            *worked = Worked::new(alloc);
+            worked.starts = starts(alloc, rest)?;
+            tell_line(asked, page);
+            Ok(())
+        }
+        "run" => run_lines(alloc, worked, page),
+        "settle" => {
+            tell_answer(asked, ended(alloc, &mut worked.nodes), page);
+            Ok(())
+        }
+        "agree" => tell_agreement(asked, rest, &worked.nodes, page),
+        "random" => tell_random(alloc, asked, rest, page),
+        _ => {
+            let event = event(alloc, asked)?;
+            worked.lines.push(asked)?;
+            worked.events.push(event)?;
+            Ok(())
+        }
+    }
+}
+
+fn tell_line(line: &str, page: &mut Page) {
+    page.put(line);
+    page.put("\n");
+}
+
+fn tell_answer(asked: &str, answer: &str, page: &mut Page) {
+    page.put(asked);
+    page.put(" => ");
+    page.put(answer);
+    page.put("\n");
+}
+
+/// Takes all events so far in one run, and tells what came of each.
+fn run_lines(alloc: Global, worked: &mut Worked, page: &mut Page) -> Result<(), Trouble> {
+    let events = std::mem::replace(&mut worked.events, Vec::new(alloc));
+    if !are_from_one(&worked.starts) {
+        return Err(Trouble::NotACase);
+    }
+    match World::new(alloc, &worked.starts) {
+        Ok(world) => run_world(alloc, worked, world, events, page),
+        Err(fault) => return tell_no_world(fault, page),
+    }
+    Ok(())
+}
+
+fn run_world(
+    alloc: Global,
+    worked: &mut Worked,
+    world: World,
+    events: Vec<Event>,
+    page: &mut Page,
+) {
+    let outcomes = run(alloc, world, events);
+    tell_outcomes(alloc, &worked.lines, &outcomes, page);
+    worked.nodes = outcomes.world.into_nodes();
+}
+
+fn tell_no_world(fault: WorldFault, page: &mut Page) -> Result<(), Trouble> {
+    match fault {
+        WorldFault::TwoAlike { id } => {
+            tell_alike(id, page);
+            Ok(())
+        }
+        WorldFault::NoMemory => Err(Trouble::NoMemory),
+    }
+}
+
+fn tell_alike(id: ReplicaId, page: &mut Page) {
+    page.put("run => TwoAlike ");
+    page.put_number(u64::from(id.get()));
+    page.put("\n");
+}
+
+fn tell_outcomes(alloc: Global, lines: &[&str], outcomes: &Outcomes, page: &mut Page) {
+    for (line, outcome) in lines.iter().zip(outcomes.list.iter()) {
+        tell(alloc, line, outcome, page);
+    }
+    page.put("run => ");
+    page.put_number(outcomes.list.len() as u64);
+    page.put(" outcomes, ");
+    page.put(if outcomes.whole { "whole" } else { "not whole" });
+    page.put("\n");
+}
+
+fn tell_agreement(
+    asked: &str,
+    names: &str,
+    nodes: &[Node],
+    page: &mut Page,
+) -> Result<(), Trouble> {
+    let (one, other) = cut(names);
+    let one = node_of(replica_in(one)?, nodes)?;
+    let other = node_of(replica_in(other)?, nodes)?;
+    tell_answer(asked, agreement(one, other), page);
+    Ok(())
+}
+
+fn node_of(name: ReplicaId, nodes: &[Node]) -> Result<&Node, Trouble> {
+    for node in nodes {
+        if node.replica().id() == name {
+            return Ok(node);
+        }
+    }
+    Err(Trouble::NotACase)
+}
