@@ -171,7 +171,7 @@ fn judged(
 /// Settles the world, and notes whether it ends as it should.
 fn end(alloc: Global, number: u64, game: Game, tally: &mut Tally) -> Result<(), Trouble> {
     let mut nodes = game.world.into_nodes();
-    tally.has_idle_world = tally.has_idle_world || game.taken <= EVENTS / 2;
+    tally.has_idle_world = tally.has_idle_world || game.taken <= EVENTS / 4;
     if let Some(how) = game.wrong {
         tally.miss(number, how);
     }

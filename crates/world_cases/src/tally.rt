@@ -11,7 +11,7 @@ use world_core::Outcome;
 pub struct Tally {
     /// The first world that went wrong, and how.
     pub first_wrong: Option<(u64, &'static str)>,
-    /// In some world no more than half of the events were taken.
+    /// In some world no more than a quarter of the events were taken.
     pub has_idle_world: bool,
     has_opened: bool,
     has_done: bool,
@@ -130,9 +130,9 @@ impl Tally {
 
     fn tell_taken(&self, page: &mut Page) {
         if self.has_idle_world {
-            page.put("  in some no more than half of the events were taken\n");
+            page.put("  in some no more than a quarter of the events were taken\n");
         } else {
-            page.put("  in each more than half of the events were taken\n");
+            page.put("  in each more than a quarter of the events were taken\n");
         }
     }
 
