@@ -2,7 +2,7 @@ use Rattle.std.proofs.Common.{◌≡◌, inr, ℕ, ◌+◌, ◌<◌, ◌≤◌, 
 use Rattle.std.specs.List.{flat_map}
 use Rattle.crdt_ops.specs.Form.{IsReplica}
 use Rattle.crdt_ops.specs.declared.op.Op.{Op}
-use Rattle.mail_audit.specs.Audits.{Dumped, Each, IsNo, IsInDump, IsNoEnd, IsRightPart, Part, ended_line, part_text, text_of}
+use Rattle.mail_audit.specs.Audits.{Dumped, IsNo, IsNoEnd, IsRightPart, Part, ended_line, part_text, text_of}
 use Rattle.mail_audit.specs.DumpLines.{PhaseStands}
 use Rattle.mail_audit.specs.Dumps.{AreDumped, dump_line, dump_text, inside_text}
 use Rattle.mail_audit.specs.Standing.{AreHeard, IsOpen}

@@ -1,7 +1,6 @@
 use Rattle.std.proofs.Common.{◌≡◌, ℕ, eqb, not, true, List, [], ◌∷◌, ◌++◌, Option, Some, None, Result, Ok, Err, IfOk, IsTrue, Bool, inl, inr, drop, refl, sym, ap, ◌∙◌, subst, append_assoc, arith, codes}
 use Rattle.std.proofs.lemmas.Bool.{and_from}
 use Rattle.std.specs.List.{list_all}
-use Rattle.imap_types.specs.DateTimes.{IsDateTime}
 use Rattle.crdt_ops.proofs.ListLemmas.{clock_lacks, name_lacks}
 use Rattle.crdt_ops.specs.Form.{HasFields, IsDated, IsInForm, IsSpelled}
 use Rattle.crdt_ops.specs.Text.{clock_text, flags_text, id_text, kind_text, letter_text, name_text, op_text}

@@ -1,10 +1,12 @@
-use Rattle.std.proofs.Common.{◌≡◌, ℕ, zero, suc, ◌+◌, ◌-◌, ◌<◌, ◌≤◌, List, [], ◌∷◌, ◌++◌, length, get_or, take, drop, refl, sym, ap, ◌∙◌, arith, append_assoc, append-nil, subst}
+use Rattle.std.proofs.Common.{◌≡◌, ◌↔◌, ℕ, Bool, true, false, IsTrue, leb, rules, zero, suc, ◌+◌, ◌-◌, ◌<◌, ◌≤◌, List, [], ◌∷◌, ◌++◌, length, get_or, sym, ap, ◌∙◌, arith, append_assoc, append-nil, subst}
 use Rattle.std.specs.List.{insert}
 use Rattle.std.proofs.lemmas.List.{length-append}
+use Rattle.std.proofs.lemmas.Bool.Decides.{nat_tests}
+use Rattle.std.proofs.lemmas.Grind.{get_or_default_zero}
 use Rattle.mail_audit.specs.Explained.{without}
 use Rattle.mail_audit.specs.Kept.{AreGone, places_from}
 use Rattle.mail_audit.specs.Passing.{upward}
-use Rattle.mail_audit.proofs.RunLemmas.{drop_upward, get_behind, get_upward, length_upward, take_upward, without_behind, without_upward}
+use Rattle.mail_audit.proofs.RunLemmas.{get_behind, get_upward, length_upward, without_behind, without_upward}
 
 pub gone_low : (from : ℕ) (gone : List ℕ) (came : ℕ) → AreGone from gone came → from + length gone ≤ came
 gone_low from [] came a = let e : from ≤ came = a in omega (arith, e)
@@ -162,10 +164,24 @@ pub gone_more : (from : ℕ) (gone : List ℕ) (came m : ℕ) → AreGone from g
 gone_more from [] came m a = let l : from ≤ came = a in omega (arith, l)
 gone_more from (g ∷ gone) came m a = (a.0, gone_more (g + 1) gone came m a.1)
 
--- ---- a search by halves
+-- ---- a search
 
-pub front_so_far : (gone : List ℕ) (came skipped middle : ℕ) → AreGone 0 gone came → middle < length gone → get_or gone middle 0 ≤ skipped + middle → (i : ℕ) → i < middle + 1 → get_or gone i 0 ≤ skipped + i
-front_so_far gone came skipped middle a l h i k = let r = gone_apart 0 gone came i middle a (omega (arith, k)) l in omega (arith, r, h, k)
+-- the gone ones in front of one that so many precede come first
+pub first_in_front : (gone : List ℕ) (came skipped : ℕ) → AreGone 0 gone came → (i j d : ℕ) → i ≤ j → j < length gone → leb (get_or gone j d) (skipped + j) ≡ true → leb (get_or gone i d) (skipped + i) ≡ true
+first_in_front gone came skipped a i j d order inside front =
+    let later : get_or gone j 0 ≤ skipped + j = grind (arith, nat_tests, get_or_default_zero gone j d inside) in
+    let apart = gone_apart 0 gone came i j a order inside in
+    let first : get_or gone i 0 ≤ skipped + i = omega (arith, apart, later, order) in
+    let within : i < length gone = omega (arith, order, inside) in
+    grind (arith, nat_tests, get_or_default_zero gone i d within)
 
-pub behind_from : (gone : List ℕ) (came skipped middle : ℕ) → AreGone 0 gone came → middle < length gone → skipped + middle < get_or gone middle 0 → (i : ℕ) → middle ≤ i → i < length gone → skipped + i < get_or gone i 0
-behind_from gone came skipped middle a l h i k m = let r = gone_apart 0 gone came middle i a k m in omega (arith, r, h, k)
+-- a test's answer
+pub is_leb : (b : Bool) (n m : ℕ) → (IsTrue b ↔ (n ≤ m)) → b ≡ leb n m
+is_leb true n m e = let l : n ≤ m = e.0 (search rules) in grind (arith, nat_tests)
+is_leb false n m e = let l : n ≤ m → ⊥ = λ k. (let f : IsTrue false = e.1 k in search rules) in let g : m < n = omega (arith, l) in grind (arith, nat_tests)
+
+pub leb_true : (n m : ℕ) → leb n m ≡ true → n ≤ m
+leb_true n m e = grind (arith, nat_tests)
+
+pub leb_false : (n m : ℕ) → leb n m ≡ false → m < n
+leb_false n m e = grind (arith, nat_tests)

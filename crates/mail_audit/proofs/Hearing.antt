@@ -1,4 +1,4 @@
-use Rattle.std.proofs.Common.{◌≡◌, ◌⊎◌, inl, inr, ℕ, List, [], ◌∷◌, ◌++◌, refl, sym, ap, ◌∙◌, subst}
+use Rattle.std.proofs.Common.{◌≡◌, inl, inr, ℕ, List, [], ◌∷◌, ◌++◌, refl, sym, ap, ◌∙◌, subst}
 use Rattle.imap_grammar.specs.Commands.{IsSpelled}
 use Rattle.imap_grammar.specs.declared.command.Tagged.{Tagged}
 use Rattle.imap_answers.specs.declared.answer.Answer.{Answer}

@@ -1,4 +1,4 @@
-use Rattle.std.proofs.Common.{◌≡◌, ◌↔◌, ◌⊎◌, inl, inr, ℕ, ◌+◌, true, false, Bool, List, [], ◌∷◌, ◌++◌, length, refl, sym, ap, ◌∙◌, subst, append_assoc, append-nil, arith, IsTrue}
+use Rattle.std.proofs.Common.{◌≡◌, inl, inr, ℕ, ◌+◌, true, false, List, [], ◌∷◌, ◌++◌, length, refl, sym, ap, ◌∙◌, subst, append_assoc, append-nil, IsTrue}
 use Rattle.std.specs.List.{flat_map}
 use Rattle.std.specs.Str.{bytes_eq}
 use Rattle.std.proofs.lemmas.Bool.{cases_Bool}
@@ -10,14 +10,14 @@ use Rattle.imap_answers.specs.Printed.{printed}
 use Rattle.imap_answers.specs.declared.answer.Answer.{Answer}
 use Rattle.mail_script.specs.Fields.{is_session_name}
 use Rattle.mail_script.specs.declared.transcript.Speaker.{Speaker}
-use Rattle.mail_audit.specs.Audits.{AreRight, Each, IsNo, IsRightPart, IsUnexplained, Part, Spoken, Result, Dumped, ended_line, part_text, said_by, said_in, spoken_line, text_of}
+use Rattle.mail_audit.specs.Audits.{AreRight, Each, IsNo, IsRightPart, Part, Spoken, Result, Dumped, ended_line, part_text, said_by, said_in, spoken_line, text_of}
 use Rattle.mail_audit.specs.Hearings.{Hearing, Hears, HearsAll, Rejects, unheard}
 use Rattle.mail_audit.specs.Passing.{PassesFrom}
 use Rattle.mail_audit.specs.Results.{IsResult}
 use Rattle.mail_audit.specs.Sessions.{hearing_of}
 use Rattle.mail_audit.specs.Standing.{AreHeard}
-use Rattle.mail_audit.specs.Steps.{Fits, Known, next, nothing}
-use Rattle.mail_audit.specs.Transcripts.{AreEvents, IsExplainedTranscript, IsHeard, Said}
+use Rattle.mail_audit.specs.Steps.{Known, next}
+use Rattle.mail_audit.specs.Transcripts.{AreEvents, IsExplainedTranscript, Said}
 use Rattle.mail_audit.specs.declared.event.SlotEvent.{SlotEvent}
 use Rattle.mail_audit.specs.declared.running.Running.{Running}
 use Rattle.mail_audit.specs.declared.sessions.Session.{Session}

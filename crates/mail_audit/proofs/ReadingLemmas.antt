@@ -1,4 +1,4 @@
-use Rattle.std.proofs.Common.{◌≡◌, ◌↔◌, ◌^◌, ◌<◌, ◌≤◌, ℕ, true, false, List, [], ◌∷◌, ◌++◌, Option, Some, None, Result, Ok, Err, IfOk, IsTrue, Bool, refl, sym, ap, ◌∙◌, append_assoc, append-nil, arith, codes}
+use Rattle.std.proofs.Common.{◌≡◌, ◌↔◌, ℕ, true, false, List, [], ◌∷◌, ◌++◌, Option, Some, None, Result, Ok, Err, IfOk, IsTrue, Bool, refl, sym, ap, ◌∙◌, append_assoc, append-nil, arith, codes}
 use Rattle.std.specs.Fmt.{decimal}
 use Rattle.mail_script.proofs.FieldLemmas.{cut_none}
 use Rattle.mail_script.specs.Fields.{IsId, IsReplica, id_text}

@@ -1,15 +1,14 @@
-use Rattle.std.proofs.Common.{◌≡◌, ◌↔◌, ℕ, ◌+◌, ◌-◌, ◌<◌, ◌≤◌, true, false, Bool, IsTrue, List, [], ◌∷◌, ◌++◌, Option, Some, None, length, get_or, set, replicate, refl, sym, ap, ◌∙◌, subst, arith, rules}
+use Rattle.std.proofs.Common.{◌≡◌, ◌↔◌, ℕ, ◌+◌, ◌-◌, ◌<◌, ◌≤◌, true, false, Bool, IsTrue, List, ◌++◌, Option, Some, None, length, get_or, set, sym, ap, ◌∙◌, subst, arith, rules}
 use Rattle.std.specs.Prelude.{nat_eq}
 use Rattle.std.specs.List.{insert}
 use Rattle.std.proofs.lemmas.Bool.Decides.{nat_tests}
-use Rattle.std.proofs.lemmas.Bool.{cases_Bool}
 use Rattle.mail_audit.specs.Explained.{IsNumberOf, without}
 use Rattle.mail_audit.specs.Gaps.{FitsAt, HasRoomFor, IsTold, IsUntold}
-use Rattle.mail_audit.specs.Kept.{AreGone, AreKept, ArePlaces, HaveGaps, places_from, slots_from}
+use Rattle.mail_audit.specs.Kept.{AreKept, places_from, slots_from}
 use Rattle.mail_audit.specs.Passing.{HasRoomAbove, MayBe, upward}
 use Rattle.mail_audit.specs.Steps.{Known, with_more}
 use Rattle.mail_audit.specs.declared.slots.Told.{Told}
-use Rattle.mail_audit.proofs.GoneLemmas.{AreBefore, gone_low, gone_more, gone_with, place_behind, place_came, places_more as there_more, places_without}
+use Rattle.mail_audit.proofs.GoneLemmas.{AreBefore, gone_more, gone_with, place_behind, place_came, places_more as there_more, places_without}
 use Rattle.mail_audit.proofs.Stepping.{room_in_gaps}
 use Rattle.mail_audit.proofs.ToldLemmas.{gaps_for, gaps_low, gaps_with, length_slots, places_more, places_with, set_told, set_untold, slot_told, slot_untold, slots_more}
 

@@ -1,4 +1,4 @@
-use Rattle.std.proofs.Common.{◌≡◌, inl, inr, ℕ, suc, ◌+◌, ◌-◌, ◌<◌, ◌≤◌, Bool, true, false, List, [], ◌∷◌, ◌++◌, length, length-append, length-drop, drop, Option, Some, None, Result, Ok, Err, IfOk, refl, sym, ap, ◌∙◌, subst, append_assoc, append-nil, drop-drop, arith, codes}
+use Rattle.std.proofs.Common.{◌≡◌, inl, inr, ℕ, ◌+◌, ◌-◌, ◌<◌, ◌≤◌, Bool, true, false, List, [], ◌∷◌, ◌++◌, length, length-append, length-drop, drop, Option, Some, None, Result, Ok, Err, IfOk, refl, sym, ap, ◌∙◌, subst, append_assoc, append-nil, drop-drop, arith, codes}
 use Rattle.std.proofs.Math.Seq.{drop-append_seam}
 use Rattle.std.proofs.lemmas.Bool.{cases_Bool}
 use Rattle.std.proofs.lemmas.Grind.{flat_map-append}
@@ -6,20 +6,19 @@ use Rattle.std.proofs.lemmas.List.{drop_all}
 use Rattle.std.specs.List.{flat_map}
 use Rattle.std.specs.Prelude.{IfSome, IsSome}
 use Rattle.crdt_ops.specs.Form.{IsInForm, IsSpelled}
-use Rattle.crdt_ops.specs.Text.{op_text}
 use Rattle.crdt_ops.specs.declared.op.Op.{Op}
 use Rattle.merge_laws.proofs.Lists.{in_parts}
-use Rattle.merge_laws.specs.Orders.{AreSound, IsIn}
+use Rattle.merge_laws.specs.Orders.{AreSound}
 use Rattle.text_fields.proofs.FieldLemmas.{cut_takes}
 use Rattle.text_fields.specs.Reading.{cut_at}
 use Rattle.mail_audit.specs.Audits.{IsNoEnd, ended_line, text_of}
 use Rattle.mail_audit.specs.DumpLines.{IsClosed, IsCompared, IsEarly, IsExpected, IsLonger, IsStep, IsStepBehind, OpsStand, PhaseStands, Takes}
-use Rattle.mail_audit.specs.Dumps.{AreDumped, AreOrdered, inside_text, op_line, state_text}
+use Rattle.mail_audit.specs.Dumps.{AreOrdered, inside_text, op_line}
 use Rattle.mail_audit.specs.declared.applying.Expected.{Expected}
 use Rattle.mail_audit.specs.declared.applying.Expected.TheVariants.{Lines, Stuck}
 use Rattle.mail_audit.specs.declared.dump.Comparison.{Comparison}
 use Rattle.mail_audit.specs.declared.dump.Phase.{Phase}
-use Rattle.mail_audit.specs.declared.dump.Phase.TheVariants.{Ops, State}
+use Rattle.mail_audit.specs.declared.dump.Phase.TheVariants.{State}
 use Rattle.mail_audit.specs.declared.dump.Step.{Step}
 use Rattle.mail_audit.specs.declared.dump.Step.TheVariants.{GoesOn, Ends, Wrong, Unreadable}
 use Rattle.mail_audit.specs.declared.op_lines.OpLines.{OpLines}

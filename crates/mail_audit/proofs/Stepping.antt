@@ -1,8 +1,8 @@
-use Rattle.std.proofs.Common.{◌≡◌, ◌↔◌, ℕ, zero, suc, ◌+◌, ◌-◌, ◌<◌, ◌≤◌, List, [], ◌∷◌, ◌++◌, Option, Some, None, length, get_or, set, replicate, refl, sym, ap, ◌∙◌, subst, arith, append-nil}
+use Rattle.std.proofs.Common.{◌≡◌, ◌↔◌, ℕ, zero, suc, ◌+◌, ◌-◌, ◌≤◌, List, [], ◌∷◌, ◌++◌, Option, Some, None, replicate, sym, subst, arith, append-nil}
 use Rattle.mail_audit.specs.declared.event.SlotEvent.{SlotEvent}
 use Rattle.mail_audit.specs.declared.event.SlotEvent.TheVariants.{Selects, Exists, Expunge, Names, Tells, Passes}
-use Rattle.mail_audit.specs.Explained.{AreFitting, AreUidsAbove, IsExplained, IsNumberOf, without}
-use Rattle.mail_audit.specs.Passing.{HasRoomAbove, MayBe, PassesFrom, upward}
+use Rattle.mail_audit.specs.Explained.{AreFitting, IsExplained}
+use Rattle.mail_audit.specs.Passing.{HasRoomAbove, PassesFrom}
 use Rattle.mail_audit.specs.Kept.{HaveGaps, slots_from}
 use Rattle.mail_audit.specs.Steps.{Fits, Known, after, next, nothing}
 use Rattle.mail_audit.specs.declared.slots.Told.{Told}

@@ -1,9 +1,9 @@
-use Rattle.std.proofs.Common.{◌≡◌, ◌↔◌, ℕ, zero, suc, ◌+◌, ◌-◌, ◌<◌, ◌≤◌, true, false, ltb, Bool, List, [], ◌∷◌, ◌++◌, Option, Some, None, length, get_or, set, drop, replicate, refl, sym, ap, ◌∙◌, arith, append_assoc, append-nil, subst}
+use Rattle.std.proofs.Common.{◌≡◌, ◌↔◌, ℕ, zero, suc, ◌+◌, ◌-◌, ◌<◌, ◌≤◌, true, false, ltb, List, [], ◌∷◌, ◌++◌, Option, Some, None, length, get_or, set, replicate, refl, sym, ap, ◌∙◌, arith, append_assoc}
 use Rattle.std.specs.List.{insert, slice_get}
 use Rattle.std.specs.List.Sorted.{IsNonDecreasingBy}
 use Rattle.std.proofs.lemmas.Bool.Decides.{nat_tests}
 use Rattle.std.proofs.lemmas.List.{length-append, length-replicate, replicate-append-replicate, get_or-append_right, set-append_left, set-append_right}
-use Rattle.mail_audit.specs.Gaps.{FitsAt, FitsBehind, FitsInFront, HasRoomFor, IsTold, IsUntold, Parts}
+use Rattle.mail_audit.specs.Gaps.{FitsAt, FitsBehind, HasRoomFor, IsTold, IsUntold, Parts}
 use Rattle.mail_audit.specs.Kept.{ArePlaces, HaveGaps, slots_from}
 use Rattle.mail_audit.specs.declared.slots.Told.{Told}
 

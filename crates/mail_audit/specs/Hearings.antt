@@ -1,5 +1,5 @@
 -- How the auditor hears a session, line by line. What its yes means is told by `IsExplainedTranscript`, and the laws join the two.
-use Rattle.std.specs.Prelude.{◌≡◌, ℕ, Bool, true, false, List, [], ◌∷◌}
+use Rattle.std.specs.Prelude.{◌≡◌, Bool, true, false, List, [], ◌∷◌}
 use Rattle.mail_audit.specs.declared.event.SlotEvent.{SlotEvent}
 use Rattle.mail_audit.specs.declared.running.Running.{Running}
 use Rattle.mail_audit.specs.Steps.{Fits, Known, next, nothing}

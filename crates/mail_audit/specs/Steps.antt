@@ -1,5 +1,5 @@
 -- The auditor's steps, one event at a time.
-use Rattle.std.specs.Prelude.{◌≡◌, ℕ, ◌+◌, ◌-◌, ◌<◌, ◌≤◌, List, [], ◌∷◌, ◌++◌, Option, Some, None, length, get_or, set, replicate}
+use Rattle.std.specs.Prelude.{ℕ, ◌-◌, ◌≤◌, List, [], ◌∷◌, ◌++◌, Option, Some, None, length, get_or, set, replicate}
 use Rattle.mail_audit.specs.declared.event.SlotEvent.{SlotEvent}
 use Rattle.mail_audit.specs.declared.event.SlotEvent.TheVariants.{Selects, Exists, Expunge, Names, Tells, Passes}
 use Rattle.mail_audit.specs.Explained.{IsNumberOf, without}

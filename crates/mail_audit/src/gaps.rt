@@ -5,21 +5,22 @@ ghost use Rattle.mail_audit.specs.Gaps.{FitsAt, FitsBehind, FitsInFront, HasRoom
 ghost use Rattle.mail_audit.specs.Kept.{ArePlaces};
 
 use crate::slots::Told;
+use tree_list::TreeList;
 
 /// The greatest UID (RFC 9051, section 2.3.1.1).
 const LAST_UID: u64 = 4_294_967_295;
 
 /// How many of the known messages have lesser places.
-pub fn find(tolds: &[Told], place: u32) -> usize
+pub fn find(tolds: &TreeList<Told>, place: u32) -> usize
     requires { (came : ℕ) × ArePlaces 0 tolds.now came }
     ensures within { result ≤ length tolds.now }
     ensures parts { Parts place tolds.now result }
 {
-    tolds.partition_point(|told| told.place < place)
+    tolds.partition_point(|_, told| told.place < place)
 }
 
 /// Whether UIDs are left for so many messages behind the known ones.
-pub fn has_room(tolds: &[Told], came: u32) -> bool
+pub fn has_room(tolds: &TreeList<Told>, came: u32) -> bool
     ensures { IsTrue result ↔ HasRoomFor 0 0 tolds.now came }
 {
     match tolds.last() {
@@ -45,7 +46,7 @@ fn has_room_between(told: Told, next: Told) -> bool
 }
 
 /// Whether UIDs are left on either side of one that is told, which stands behind so many known ones.
-pub fn fits_between(tolds: &[Told], at: usize, told: Told, came: u32) -> bool
+pub fn fits_between(tolds: &TreeList<Told>, at: usize, told: Told, came: u32) -> bool
     requires { at ≤ length tolds.now }
     ensures { IsTrue result ↔ FitsAt 0 0 at tolds.now told came }
 {
@@ -53,18 +54,21 @@ pub fn fits_between(tolds: &[Told], at: usize, told: Told, came: u32) -> bool
 }
 
 /// Whether UIDs are left for the messages between the known one in front and this one.
-fn fits_behind(tolds: &[Told], at: usize, told: Told) -> bool
+fn fits_behind(tolds: &TreeList<Told>, at: usize, told: Told) -> bool
     requires { at ≤ length tolds.now }
     ensures { IsTrue result ↔ FitsBehind 0 0 at tolds.now told }
 {
-    match at.checked_sub(1) {
-        None => told.place < told.uid,
-        Some(before) => has_room_between(tolds[before], told),
+    let Some(before) = at.checked_sub(1) else {
+        return told.place < told.uid;
+    };
+    match tolds.get(before) {
+        None => unreachable!(),
+        Some(before) => has_room_between(*before, told),
     }
 }
 
 /// Whether UIDs are left for the messages between this one and the known one behind it, or for all behind it.
-fn fits_in_front(tolds: &[Told], at: usize, told: Told, came: u32) -> bool
+fn fits_in_front(tolds: &TreeList<Told>, at: usize, told: Told, came: u32) -> bool
     requires { at ≤ length tolds.now }
     ensures { IsTrue result ↔ FitsInFront told (drop at tolds.now) came }
 {

@@ -3,24 +3,16 @@
 ghost use Rattle.std.specs.Prelude.{◌↔◌, ℕ, ◌+◌, ◌<◌, ◌≤◌, IsTrue, get_or, length};
 ghost use Rattle.mail_audit.specs.Kept.{AreGone};
 
+use tree_list::TreeList;
+
 /// How many messages are gone in front of the one behind so many that are there.
-pub fn gone_before(gone: &[u32], skipped: u32) -> usize
+pub fn gone_before(gone: &TreeList<u32>, skipped: u32) -> usize
     requires { (came : ℕ) × AreGone 0 gone.now came }
     ensures within { result ≤ length gone.now }
     ensures front { (i : ℕ) → i < result → get_or gone.now i 0 ≤ skipped + i }
     ensures behind { (i : ℕ) → result ≤ i → i < length gone.now → skipped + i < get_or gone.now i 0 }
 {
-    let mut low = 0;
-    let mut high = gone.len();
-    'halves: while low < high {
-        let middle = low + (high - low) / 2;
-        if is_in_front(gone[middle], skipped, middle) {
-            low = middle + 1;
-        } else {
-            high = middle;
-        }
-    }
-    low
+    gone.partition_point(|before, place| is_in_front(*place, skipped, before))
 }
 
 /// Whether a gone message, which is the one behind so many gone ones, is in front of the one behind so many that are there.

@@ -12,6 +12,7 @@ use crate::gaps::{find, fits_between, has_room};
 use crate::gone::gone_before;
 use std::alloc::{AllocError, Global};
 use std::marker::Model;
+use tree_list::TreeList;
 
 /// A message's place among all that came, from 0 on, and the UID that was told of it.
 #[derive(Clone, Copy, Debug, PartialEq, Eq)]
@@ -25,8 +26,8 @@ pub struct Told {
 #[derive(Drop)]
 pub struct Slots {
     came: u32,
-    gone: Vec<u32>,
-    tolds: Vec<Told>,
+    gone: TreeList<u32>,
+    tolds: TreeList<Told>,
 }
 
 impl Model for Slots {
@@ -37,20 +38,20 @@ impl Model for Slots {
 
     ghost Value = { Known };
 
-    ghost view = { λ s. record { there = places_from 0 s.gone.items s.came; slots = slots_from 0 s.tolds.items s.came } };
+    ghost view = { λ s. record { there = places_from 0 s.gone s.came; slots = slots_from 0 s.tolds s.came } };
 
-    ghost invariant = { λ s. AreKept s.gone.items s.tolds.items s.came };
+    ghost invariant = { λ s. AreKept s.gone s.tolds s.came };
 }
 
 impl Slots {
     /// Nothing is known, and no message came.
-    pub fn new(alloc: Global) -> Slots
+    pub fn new() -> Slots
         ensures { result ≡ nothing }
     {
         Slots {
             came: 0,
-            gone: Vec::new(alloc),
-            tolds: Vec::new(alloc),
+            gone: TreeList::new(),
+            tolds: TreeList::new(),
         }
     }
 
@@ -62,13 +63,13 @@ impl Slots {
     {
         match event {
             SlotEvent::Selects => {
-                *self = Slots::new(alloc);
+                *self = Slots::new();
                 Ok(true)
             }
             SlotEvent::Exists(count) => Ok(self.grow(count)),
-            SlotEvent::Expunge(number) => self.take_out(number),
+            SlotEvent::Expunge(number) => self.take_out(alloc, number),
             SlotEvent::Names(number) => Ok(self.has(number)),
-            SlotEvent::Tells(number, uid) => self.tell(number, uid),
+            SlotEvent::Tells(number, uid) => self.tell(alloc, number, uid),
             SlotEvent::Passes => Ok(true),
         }
     }
@@ -115,7 +116,7 @@ impl Slots {
     }
 
     /// Takes note that the message of this number went, where there is one.
-    fn take_out(&mut self, number: u32) -> Result<bool, AllocError>
+    fn take_out(&mut self, alloc: Global, number: u32) -> Result<bool, AllocError>
         ensures fits { IfOk result (λ noted. IsTrue noted ↔ Fits self.old (GoneTold number)) }
         ensures next { IfOk result (λ noted. IsTrue noted → self.new ≡ next self.old (GoneTold number)) }
     {
@@ -123,7 +124,7 @@ impl Slots {
             return Ok(false);
         }
         let before = gone_before(&self.gone, number - 1);
-        self.gone.insert(before, number - 1 + before as u32)?;
+        self.gone.insert(alloc, before, number - 1 + before as u32)?;
         Ok(true)
     }
 
@@ -138,7 +139,7 @@ impl Slots {
     }
 
     /// Takes note of the UID of the message of this number, where there is one and its UID may be this.
-    fn tell(&mut self, number: u32, uid: u32) -> Result<bool, AllocError>
+    fn tell(&mut self, alloc: Global, number: u32, uid: u32) -> Result<bool, AllocError>
         ensures fits { IfOk result (λ noted. IsTrue noted ↔ Fits self.old (UidTold number uid)) }
         ensures next { IfOk result (λ noted. IsTrue noted → self.new ≡ next self.old (UidTold number uid)) }
     {
@@ -146,11 +147,11 @@ impl Slots {
             return Ok(false);
         }
         let place = self.place_of(number);
-        self.tell_at(place, uid)
+        self.tell_at(alloc, place, uid)
     }
 
     /// Takes note of the UID at a place, where its UID may be this.
-    fn tell_at(&mut self, place: u32, uid: u32) -> Result<bool, AllocError>
+    fn tell_at(&mut self, alloc: Global, place: u32, uid: u32) -> Result<bool, AllocError>
         requires { place < length self.old.slots }
         ensures fits { IfOk result (λ noted. IsTrue noted ↔ (MayBe (get_or self.old.slots place Unknown) uid × HasRoomAbove 0 (set self.old.slots place (Found uid)))) }
         ensures next { IfOk result (λ noted. IsTrue noted → self.new ≡ record self.old { slots = set self.old.slots place (Found uid) }) }
@@ -163,13 +164,13 @@ impl Slots {
         if !fits_between(&self.tolds, at, told, self.came) {
             return Ok(false);
         }
-        self.tolds.insert(at, told)?;
+        self.tolds.insert(alloc, at, told)?;
         Ok(true)
     }
 }
 
 /// The UID that was told of a place, where one was, behind so many of lesser places.
-fn uid_at(tolds: &[Told], at: usize, place: u32) -> Option<u32>
+fn uid_at(tolds: &TreeList<Told>, at: usize, place: u32) -> Option<u32>
     requires within { at ≤ length tolds.now }
     requires parts { Parts place tolds.now at }
     ensures { MatchOption result (IsUntold at place tolds.now) (λ uid. IsTold at place uid tolds.now) }

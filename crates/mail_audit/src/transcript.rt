@@ -42,7 +42,7 @@ impl Transcript {
     {
         Transcript {
             running: InProgress::new(alloc),
-            slots: Slots::new(alloc),
+            slots: Slots::new(),
         }
     }
 

@@ -1,4 +1,4 @@
-use Rattle.std.proofs.Common.{arith, ◌≡◌, length-append, take, ◌∙◌}
+use Rattle.std.proofs.Common.{arith, length-append, take, ◌∙◌}
 use Rattle.mail_audit.proofs.AuditingLemmas.{came_kept, came_on, came_to_line}
 use Rattle.mail_audit.proofs.auditing.judge.Goals as goal
 use Rattle.mail_audit.proofs.auditing.judge.Goals.{in-Ok+in_default, in-Err+else-ne}

@@ -1,4 +1,4 @@
-use Rattle.std.proofs.Common.{rules, ◌≡◌, ◌≢◌, ◌++◌, ◌∷◌, [], ℕ, List, length, ap, subst, ◌∙◌}
+use Rattle.std.proofs.Common.{rules, ◌≡◌, ◌≢◌, ◌++◌, ◌∷◌, [], ℕ, List, length, subst, ◌∙◌}
 use Rattle.mail_audit.specs.Audits.{Audits}
 use Rattle.mail_audit.proofs.AuditingLemmas.{last_none, last_one}
 use Rattle.mail_audit.proofs.auditing.take_last.Goals as goal

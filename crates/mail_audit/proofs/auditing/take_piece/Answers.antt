@@ -1,4 +1,4 @@
-use Rattle.std.proofs.Common.{rules, arith, ◌≡◌, ◌++◌, ◌∷◌, [], ℕ, List, Some, length, subst}
+use Rattle.std.proofs.Common.{arith, ◌≡◌, ◌++◌, ◌∷◌, [], ℕ, List, Some, subst}
 use Rattle.mail_script.specs.Reading.{cut_at}
 use Rattle.mail_audit.specs.Standing.{Advances, EndsAt, Stands}
 use Rattle.mail_audit.proofs.AuditingLemmas.{advance_at_first, advance_on, cut_parts, ends_there}

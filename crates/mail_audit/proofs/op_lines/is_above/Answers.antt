@@ -1,4 +1,4 @@
-use Rattle.std.proofs.Common.{◌≡◌, ◌↔◌, ℕ, ◌+◌, ◌-◌, ◌<◌, length, arith}
+use Rattle.std.proofs.Common.{◌-◌, ◌<◌, length, arith}
 use Rattle.mail_audit.proofs.AppliedLemmas.{behind_last}
 use Rattle.mail_audit.proofs.op_lines.is_above.Goals as goal
 

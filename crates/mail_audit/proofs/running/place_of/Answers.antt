@@ -1,4 +1,4 @@
-use Rattle.std.proofs.Common.{◌≡◌, ℕ, ◌<◌, false, List, [], arith, ap, sym, ◌∙◌}
+use Rattle.std.proofs.Common.{false, [], arith, ap, sym, ◌∙◌}
 use Rattle.std.specs.Str.{bytes_eq}
 use Rattle.mail_audit.specs.declared.running.Running.{Running}
 use Rattle.mail_audit.proofs.RunningLemmas.{ended_behind, none_ended}

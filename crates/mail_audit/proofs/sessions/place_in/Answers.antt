@@ -1,5 +1,4 @@
-use Rattle.std.proofs.Common.{rules, ◌≡◌, ℕ, ◌<◌, List, [], ap, sym, ◌∙◌, arith}
-use Rattle.std.specs.Str.{bytes_eq}
+use Rattle.std.proofs.Common.{rules, ◌≡◌, [], ap, sym, ◌∙◌, arith}
 use Rattle.mail_audit.specs.Hearings.{unheard}
 use Rattle.mail_audit.specs.declared.sessions.Session.{Session}
 use Rattle.mail_audit.proofs.SessionLemmas.{none_placed, own_name, placed_behind}

@@ -1,5 +1,4 @@
-use Rattle.std.proofs.Common.{◌≡◌, ◌++◌, [], ℕ, List, Option, Some, None, length, refl, sym, ap, ◌∙◌, append-nil}
-use Rattle.imap_answers.specs.Printed.{printed}
+use Rattle.std.proofs.Common.{[], ℕ, Option, Some, None, length, sym, ap, ◌∙◌, append-nil}
 use Rattle.imap_answers.specs.declared.answer.Answer.{Answer}
 use Rattle.mail_audit.proofs.transcript.whole_answer.Goals as goal
 

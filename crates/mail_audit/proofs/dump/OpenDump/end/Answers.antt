@@ -1,5 +1,4 @@
-use Rattle.std.proofs.Common.{ℕ, ◌+◌, ◌<◌, ◌≤◌, length, subst, arith}
-use Rattle.std.specs.Prelude.{IfSome}
+use Rattle.std.proofs.Common.{◌+◌, ◌<◌, length, subst, arith}
 use Rattle.mail_audit.proofs.DumpLemmas.{open_wrong_at_end}
 use Rattle.mail_audit.proofs.StandingLemmas.{cut_short}
 use Rattle.mail_audit.proofs.StepLemmas.{within_lines}

@@ -1,4 +1,4 @@
-use Rattle.std.proofs.Common.{List, Option, subst}
+use Rattle.std.proofs.Common.{Option, subst}
 use Rattle.mail_audit.specs.Standing.{DumpStands}
 use Rattle.mail_audit.specs.declared.dump.OpenDump.{OpenDump}
 use Rattle.mail_audit.proofs.HearingLemmas.{heard_right}

@@ -1,4 +1,4 @@
-use Rattle.std.proofs.Common.{rules, ◌≡◌, ℕ, ◌+◌, List, [], ◌∷◌, ◌++◌, Option, length, arith, ap, sym, subst, ◌∙◌}
+use Rattle.std.proofs.Common.{[], ◌∷◌, ◌++◌, Option, sym, subst}
 use Rattle.mail_audit.specs.Standing.{DumpStands}
 use Rattle.mail_audit.specs.declared.dump.OpenDump.{OpenDump}
 use Rattle.mail_audit.proofs.StandingLemmas.{has_ended, is_wrong, line_number, one_more, unread_inside}

@@ -1,4 +1,4 @@
-use Rattle.std.proofs.Common.{◌≡◌, inl, List, [], ◌∷◌, ◌++◌, refl, sym, ap, ◌∙◌, subst, IsTrue, rules}
+use Rattle.std.proofs.Common.{◌≡◌, inl, List, [], ◌∷◌, ◌++◌, sym, subst, rules}
 use Rattle.crdt_ops.specs.declared.op.Op.{Op}
 use Rattle.mail_audit.proofs.AppliedLemmas.{ordered_more}
 use Rattle.mail_audit.specs.DumpLines.{StandsBehind}

@@ -1,4 +1,4 @@
-use Rattle.std.proofs.Common.{◌≡◌, ℕ, ◌+◌, List, [], ◌∷◌, ◌++◌, arith, ap, sym, ◌∙◌}
+use Rattle.std.proofs.Common.{arith, ap, ◌∙◌}
 use Rattle.mail_audit.specs.Counts.{how_many}
 use Rattle.mail_audit.specs.declared.running.Running.{Running}
 use Rattle.mail_audit.proofs.RunningLemmas.{counted_more, counted_most}

@@ -1,4 +1,4 @@
-use Rattle.std.proofs.Common.{◌≡◌, ◌<◌, ℕ, List, length, arith, ap, subst}
+use Rattle.std.proofs.Common.{◌<◌, List, length, arith, ap, subst}
 use Rattle.mail_audit.specs.Counts.{how_many}
 use Rattle.mail_audit.specs.declared.running.Running.{Running}
 use Rattle.mail_audit.proofs.RunningLemmas.{counted_without}

@@ -1,4 +1,4 @@
-use Rattle.std.proofs.Common.{◌≡◌, ◌<◌, ℕ, Bool, List, length, set, ap, sym, subst, ◌∙◌}
+use Rattle.std.proofs.Common.{◌<◌, Bool, List, length, set, ap, sym, subst, ◌∙◌}
 use Rattle.std.specs.Prelude.{IfOk}
 use Rattle.std.proofs.lemmas.Result.{IfOk-weaker}
 use Rattle.mail_audit.specs.Hearings.{Hearing, Tells}

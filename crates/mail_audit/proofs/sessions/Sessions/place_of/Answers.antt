@@ -1,4 +1,4 @@
-use Rattle.std.proofs.Common.{◌≡◌, ◌≤◌, ℕ, List, length, arith, ap, refl, sym, subst, ◌∙◌}
+use Rattle.std.proofs.Common.{◌≤◌, length, arith, ap, refl, ◌∙◌}
 use Rattle.mail_audit.specs.Sessions.{hearing_of, place_or_end}
 use Rattle.mail_audit.specs.declared.sessions.Session.{Session}
 use Rattle.mail_audit.proofs.SessionLemmas.{heard_new, placed_last}

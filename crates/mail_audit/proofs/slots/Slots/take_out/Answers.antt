@@ -1,57 +1,51 @@
-use Rattle.std.proofs.Common.{◌≡◌, ◌↔◌, ℕ, ◌+◌, ◌-◌, ◌<◌, ◌≤◌, true, false, IsTrue, List, get_or, set, length, None, Some, sym, ap, ◌∙◌, subst, arith, refl, rules}
+use Rattle.std.proofs.Common.{ℕ, ◌+◌, ◌-◌, ◌<◌, ◌≤◌, List, get_or, length, sym, ap, ◌∙◌, subst, arith, rules}
 use Rattle.mail_audit.specs.Explained.{IsNumberOf, without}
-use Rattle.mail_audit.specs.Gaps.{FitsAt, HasRoomFor, IsTold, IsUntold}
-use Rattle.mail_audit.specs.Kept.{AreKept, places_from, slots_from}
-use Rattle.mail_audit.specs.Passing.{HasRoomAbove, MayBe}
-use Rattle.mail_audit.specs.Steps.{Known, with_more}
+use Rattle.mail_audit.specs.Kept.{AreKept, places_from}
+use Rattle.mail_audit.specs.Steps.{Known}
 use Rattle.mail_audit.proofs.SlotLemmas.{known_by, out_kept, out_next, out_small}
 use Rattle.mail_audit.proofs.slots.Slots.take_out.Goals as goal
 
 pub overflow_cast-before : goal.overflow_cast-before
 overflow_cast-before c =
     let s = c.self.inside in
-    let n : IsNumberOf c.args.number (places_from 0 s.gone.items s.came) = subst (λ (k : Known). IsNumberOf c.args.number k.there) (sym c.self.view_is) (c.has.ensures.0 (search rules)) in
-    let g : c.deref.result.now ≡ s.gone.items = c.deref.ensures.value in
+    let n : IsNumberOf c.args.number (places_from 0 s.gone s.came) = subst (λ (k : Known). IsNumberOf c.args.number k.there) (sym c.self.view_is) (c.has.ensures.0 (search rules)) in
     let b = c.gone_before-before.ensures in
-    let w : c.gone_before-before.result ≤ length s.gone.items = rw (sym g) b.within in
-    let f : (i : ℕ) → i < c.gone_before-before.result → get_or s.gone.items i 0 ≤ c.args.number - 1 + i = rw (sym g) b.front in
-    let h : (i : ℕ) → c.gone_before-before.result ≤ i → i < length s.gone.items → c.args.number - 1 + i < get_or s.gone.items i 0 = rw (sym g) b.behind in
-    let l = out_small s.gone.items s.tolds.items s.came c.args.number c.gone_before-before.result c.self.invariant n w f h in
+    let w : c.gone_before-before.result ≤ length s.gone = b.within in
+    let f : (i : ℕ) → i < c.gone_before-before.result → get_or s.gone i 0 ≤ c.args.number - 1 + i = b.front in
+    let h : (i : ℕ) → c.gone_before-before.result ≤ i → i < length s.gone → c.args.number - 1 + i < get_or s.gone i 0 = b.behind in
+    let l = out_small s.gone s.tolds s.came c.args.number c.gone_before-before.result c.self.invariant n w f h in
     grind (arith, l)
 
 pub overflow_add-number : goal.overflow_add-number
 overflow_add-number c =
     let s = c.self.inside in
-    let n : IsNumberOf c.args.number (places_from 0 s.gone.items s.came) = subst (λ (k : Known). IsNumberOf c.args.number k.there) (sym c.self.view_is) (c.has.ensures.0 (search rules)) in
-    let g : c.deref.result.now ≡ s.gone.items = c.deref.ensures.value in
+    let n : IsNumberOf c.args.number (places_from 0 s.gone s.came) = subst (λ (k : Known). IsNumberOf c.args.number k.there) (sym c.self.view_is) (c.has.ensures.0 (search rules)) in
     let b = c.gone_before-before.ensures in
-    let w : c.gone_before-before.result ≤ length s.gone.items = rw (sym g) b.within in
-    let f : (i : ℕ) → i < c.gone_before-before.result → get_or s.gone.items i 0 ≤ c.args.number - 1 + i = rw (sym g) b.front in
-    let h : (i : ℕ) → c.gone_before-before.result ≤ i → i < length s.gone.items → c.args.number - 1 + i < get_or s.gone.items i 0 = rw (sym g) b.behind in
-    let l = out_small s.gone.items s.tolds.items s.came c.args.number c.gone_before-before.result c.self.invariant n w f h in
+    let w : c.gone_before-before.result ≤ length s.gone = b.within in
+    let f : (i : ℕ) → i < c.gone_before-before.result → get_or s.gone i 0 ≤ c.args.number - 1 + i = b.front in
+    let h : (i : ℕ) → c.gone_before-before.result ≤ i → i < length s.gone → c.args.number - 1 + i < get_or s.gone i 0 = b.behind in
+    let l = out_small s.gone s.tolds s.came c.args.number c.gone_before-before.result c.self.invariant n w f h in
     grind (arith, l)
 
 pub invariant_of-self-2 : goal.invariant_of-self-2
 invariant_of-self-2 c =
     let s = c.self.inside in
-    let n : IsNumberOf c.args.number (places_from 0 s.gone.items s.came) = subst (λ (k : Known). IsNumberOf c.args.number k.there) (sym c.self.view_is) (c.has.ensures.0 (search rules)) in
-    let g : c.deref.result.now ≡ s.gone.items = c.deref.ensures.value in
+    let n : IsNumberOf c.args.number (places_from 0 s.gone s.came) = subst (λ (k : Known). IsNumberOf c.args.number k.there) (sym c.self.view_is) (c.has.ensures.0 (search rules)) in
     let b = c.gone_before-before.ensures in
-    let w : c.gone_before-before.result ≤ length s.gone.items = rw (sym g) b.within in
-    let f : (i : ℕ) → i < c.gone_before-before.result → get_or s.gone.items i 0 ≤ c.args.number - 1 + i = rw (sym g) b.front in
-    let h : (i : ℕ) → c.gone_before-before.result ≤ i → i < length s.gone.items → c.args.number - 1 + i < get_or s.gone.items i 0 = rw (sym g) b.behind in
-    let kept = out_kept s.gone.items s.tolds.items s.came c.args.number c.gone_before-before.result c.self.invariant n w f h in
-    subst (λ (xs : List ℕ). AreKept xs s.tolds.items s.came) (sym (c.in_ok-insert.ensures {u = tt}).items) kept
+    let w : c.gone_before-before.result ≤ length s.gone = b.within in
+    let f : (i : ℕ) → i < c.gone_before-before.result → get_or s.gone i 0 ≤ c.args.number - 1 + i = b.front in
+    let h : (i : ℕ) → c.gone_before-before.result ≤ i → i < length s.gone → c.args.number - 1 + i < get_or s.gone i 0 = b.behind in
+    let kept = out_kept s.gone s.tolds s.came c.args.number c.gone_before-before.result c.self.invariant n w f h in
+    subst (λ (xs : List ℕ). AreKept xs s.tolds s.came) (sym (c.in_ok-insert.ensures {u = tt}).ok) kept
 
 pub returns-clause-next : goal.returns-clause-next
 returns-clause-next c = λ t.
     let s = c.self.inside in
-    let n : IsNumberOf c.args.number (places_from 0 s.gone.items s.came) = subst (λ (k : Known). IsNumberOf c.args.number k.there) (sym c.self.view_is) (c.has.ensures.0 (search rules)) in
-    let g : c.deref.result.now ≡ s.gone.items = c.deref.ensures.value in
+    let n : IsNumberOf c.args.number (places_from 0 s.gone s.came) = subst (λ (k : Known). IsNumberOf c.args.number k.there) (sym c.self.view_is) (c.has.ensures.0 (search rules)) in
     let b = c.gone_before-before.ensures in
-    let w : c.gone_before-before.result ≤ length s.gone.items = rw (sym g) b.within in
-    let f : (i : ℕ) → i < c.gone_before-before.result → get_or s.gone.items i 0 ≤ c.args.number - 1 + i = rw (sym g) b.front in
-    let h : (i : ℕ) → c.gone_before-before.result ≤ i → i < length s.gone.items → c.args.number - 1 + i < get_or s.gone.items i 0 = rw (sym g) b.behind in
-    let after = out_next s.gone.items s.tolds.items s.came c.args.number c.gone_before-before.result c.self.invariant n w f h in
-    ap (λ (xs : List ℕ). known_by xs s.tolds.items s.came) (c.in_ok-insert.ensures {u = tt}).items
+    let w : c.gone_before-before.result ≤ length s.gone = b.within in
+    let f : (i : ℕ) → i < c.gone_before-before.result → get_or s.gone i 0 ≤ c.args.number - 1 + i = b.front in
+    let h : (i : ℕ) → c.gone_before-before.result ≤ i → i < length s.gone → c.args.number - 1 + i < get_or s.gone i 0 = b.behind in
+    let after = out_next s.gone s.tolds s.came c.args.number c.gone_before-before.result c.self.invariant n w f h in
+    ap (λ (xs : List ℕ). known_by xs s.tolds s.came) (c.in_ok-insert.ensures {u = tt}).ok
     ∙ after ∙ ap (λ (k : Known). record k { there = without c.args.number k.there }) c.self.view_is

@@ -1,4 +1,4 @@
-use Rattle.std.proofs.Common.{◌≡◌, Bool, false, inl, inr, refl, rules, arith, IsFalse, ap, subst, ◌∙◌}
+use Rattle.std.proofs.Common.{Bool, false, inl, inr, refl, rules, IsFalse, ap, subst, ◌∙◌}
 use Rattle.std.specs.List.{list_any}
 use Rattle.std.proofs.lemmas.Result.{on_ok_weaker}
 use Rattle.mail_audit.specs.Hearings.{Hearing}

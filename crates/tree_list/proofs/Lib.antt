@@ -1,0 +1,3 @@
+mod Inserting
+mod Lending
+mod Searching
