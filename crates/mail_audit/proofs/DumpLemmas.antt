@@ -7,7 +7,7 @@ use Rattle.mail_audit.specs.DumpLines.{PhaseStands}
 use Rattle.mail_audit.specs.Dumps.{AreDumped, dump_line, dump_text, inside_text}
 use Rattle.mail_audit.specs.Standing.{AreHeard, IsOpen}
 use Rattle.mail_audit.specs.declared.dump.OpenDump.{OpenDump}
-use Rattle.mail_audit.specs.declared.sessions.Session.{Session}
+use Rattle.mail_audit.specs.Sessions.{Session}
 use Rattle.mail_audit.proofs.HearingLemmas.{each_last, flat_map_last, heard_right, said_of_dump}
 
 flat_map_both : {X : Type 0} (f : X → List ℕ) (xs ys : List X) → flat_map f (xs ++ ys) ≡ flat_map f xs ++ flat_map f ys

@@ -20,7 +20,7 @@ use Rattle.mail_audit.specs.Steps.{Known, next}
 use Rattle.mail_audit.specs.Transcripts.{AreEvents, IsExplainedTranscript, Said}
 use Rattle.mail_audit.specs.declared.event.SlotEvent.{SlotEvent}
 use Rattle.mail_audit.specs.declared.running.Running.{Running}
-use Rattle.mail_audit.specs.declared.sessions.Session.{Session}
+use Rattle.mail_audit.specs.Sessions.{Session}
 use Rattle.mail_audit.proofs.Deciding.{explained}
 use Rattle.mail_audit.proofs.Hearing.{one_heard}
 use Rattle.mail_audit.proofs.Stepping.{passes_one}

@@ -1,10 +1,16 @@
-use Rattle.std.proofs.Common.{◌≡◌, inl, inr, ℕ, zero, suc, ◌<◌, ◌≤◌, true, false, List, [], ◌∷◌, ◌++◌, length, length-append, get_or, set, refl, sym, ap, ◌∙◌, arith}
+use Rattle.std.proofs.Common.{◌≡◌, Bool, Option, Some, None, ◌-◌, ◌+◌, inl, inr, ℕ, zero, suc, ◌<◌, ◌≤◌, true, false, List, [], ◌∷◌, ◌++◌, length, length-append, get_or, set, refl, sym, ap, ◌∙◌, arith}
+use Rattle.std.specs.Global.{Vec}
+use Rattle.std.specs.Prelude.{nat_lt, slice_get}
+use Rattle.std.specs.List.{position, position_or_len}
+use Rattle.std.specs.Map.{keys_of, values_of}
 use Rattle.std.specs.Str.{bytes_eq}
+use Rattle.indexmap.specs.IndexMap.{insert_entry, set_value_at}
 use Rattle.std.proofs.lemmas.Bool.{cases_Bool}
+use Rattle.std.proofs.lemmas.List.{length-map}
+use Rattle.std.proofs.lemmas.Bool.Decides.{nat_tests}
 use Rattle.std.proofs.lemmas.Slice.Eq.{bytes_eq-Decides}
-use Rattle.mail_audit.specs.Hearings.{unheard}
-use Rattle.mail_audit.specs.Sessions.{hearing_of, place_or_end}
-use Rattle.mail_audit.specs.declared.sessions.Session.{Session}
+use Rattle.mail_audit.specs.Hearings.{Hearing, unheard}
+use Rattle.mail_audit.specs.Sessions.{Session, hearing_of, place_or_end, sessions_of}
 
 pub same_name : (xs ys : List ℕ) → bytes_eq xs ys ≡ true → xs ≡ ys
 same_name xs ys e = (bytes_eq-Decides xs ys).0 e
@@ -12,19 +18,76 @@ same_name xs ys e = (bytes_eq-Decides xs ys).0 e
 pub own_name : (xs ys : List ℕ) → xs ≡ ys → bytes_eq xs ys ≡ true
 own_name xs ys e = (bytes_eq-Decides xs ys).1 e
 
--- where the first so many have other names, the session behind them is the first of its own
-pub placed_behind : (name : List ℕ) (ss : List Session) (i : ℕ) (d : Session) → i < length ss → ((k : ℕ) → k < i → bytes_eq name (get_or ss k d).name ≡ false) → bytes_eq name (get_or ss i d).name ≡ true → i ≡ place_or_end name ss
-placed_behind name [] i d l n e = absurd (omega (arith, l))
-placed_behind name (s ∷ ss) zero d l n e = rw e refl
-placed_behind name (s ∷ ss) (suc i) d l n e =
-    let h = placed_behind name ss i d (omega (arith, l)) (λ k m. n (suc k) (omega (arith, m))) e in
-    rw (n 0 (omega arith)) (omega (arith, h))
+-- ---- sessions that are kept by their names
 
-pub none_placed : (name : List ℕ) (ss : List Session) (d : Session) → ((k : ℕ) → k < length ss → bytes_eq name (get_or ss k d).name ≡ false) → length ss ≡ place_or_end name ss
-none_placed name [] d n = refl
-none_placed name (s ∷ ss) d n =
-    let h = none_placed name ss d (λ k m. n (suc k) (omega (arith, m))) in
-    rw (n 0 (omega arith)) (omega (arith, h))
+abbrev Kept : Type 0
+Kept = Vec ℕ × Hearing
+
+pub length_sessions : (kept : List Kept) → length (sessions_of kept) ≡ length kept
+length_sessions [] = refl
+length_sessions (k ∷ kept) = ap suc (length_sessions kept)
+
+-- a name's place among the keys
+pub place_among : (name : List ℕ) (kept : List Kept) → position_or_len (λ (k : Vec ℕ). bytes_eq name k.items) (keys_of kept) ≡ place_or_end name (sessions_of kept)
+place_among name [] = refl
+place_among name (k ∷ kept) =
+    elim (cases_Bool (bytes_eq name k.0.items)) [
+      | inl t ↦ rw t refl
+      | inr f ↦ let rest = place_among name kept in rw f (omega (arith, rest))
+    ]
+
+-- the first place that passes, where one does
+pub position_some : {X : Type 0} (p : X → Bool) (xs : List X) (i : ℕ) → Some i ≡ position p xs → (i < length xs) × (i ≡ position_or_len p xs)
+position_some p xs i e =
+    elim (cases_Bool (nat_lt (position_or_len p xs) (length xs))) [
+      | inl t ↦ let k = rw t at e in let q : i ≡ position_or_len p xs = cc k in (grind (arith, nat_tests, t, q), q)
+      | inr f ↦ absurd (let k = rw f at e in cc k)
+    ]
+
+pub position_none : {X : Type 0} (p : X → Bool) (xs : List X) → None ≡ position p xs → length xs ≤ position_or_len p xs
+position_none p xs e =
+    elim (cases_Bool (nat_lt (position_or_len p xs) (length xs))) [
+      | inl t ↦ absurd (let k = rw t at e in cc k)
+      | inr f ↦ grind (arith, nat_tests, f)
+    ]
+
+-- a name that is there
+pub found : (name : List ℕ) (kept : List Kept) (i : ℕ) → Some i ≡ position (λ (k : Vec ℕ). bytes_eq name k.items) (keys_of kept) → (i < length (sessions_of kept)) × (i ≡ place_or_end name (sessions_of kept))
+found name kept i e =
+    let at = position_some (λ (k : Vec ℕ). bytes_eq name k.items) (keys_of kept) i e in
+    let keys : length (keys_of kept) ≡ length kept = length-map kept (λ (k : Kept). k.0) in
+    let many = length_sessions kept in
+    (omega (arith, at.0, keys, many), at.1 ∙ place_among name kept)
+
+-- a name that isn't
+pub missing : (name : List ℕ) (kept : List Kept) → None ≡ position (λ (k : Vec ℕ). bytes_eq name k.items) (keys_of kept) → length kept ≤ place_or_end name (sessions_of kept)
+missing name kept e =
+    let none = position_none (λ (k : Vec ℕ). bytes_eq name k.items) (keys_of kept) e in
+    let keys : length (keys_of kept) ≡ length kept = length-map kept (λ (k : Kept). k.0) in
+    let among = place_among name kept in
+    omega (arith, none, keys, among)
+
+-- a name that has no place is put behind the others
+pub kept_new : (name : Vec ℕ) (kept : List Kept) (h : Hearing) → length kept ≤ place_or_end name.items (sessions_of kept)
+    → sessions_of (insert_entry (λ (a b : Vec ℕ). bytes_eq a.items b.items) kept name h) ≡ sessions_of kept ++ (record { name = name.items; transcript = h }) ∷ []
+kept_new name [] h l = refl
+kept_new name (k ∷ kept) h l =
+    elim (cases_Bool (bytes_eq name.items k.0.items)) [
+      | inl t ↦ absurd (let m = rw t at l in omega (arith, m))
+      | inr f ↦ let m = rw f at l in rw f (ap (λ (ss : List Session). (record { name = k.0.items; transcript = k.1 }) ∷ ss) (kept_new name kept h (omega (arith, m))))
+    ]
+
+-- another transcript at a place
+pub kept_set : (kept : List Kept) (i : ℕ) (d : Session) (h : Hearing) → i < length kept
+    → sessions_of (set_value_at kept i h) ≡ set (sessions_of kept) i (record { name = (get_or (sessions_of kept) i d).name; transcript = h })
+kept_set [] i d h l = absurd (omega (arith, l))
+kept_set (k ∷ kept) zero d h l = refl
+kept_set (k ∷ kept) (suc i) d h l = ap (λ (ss : List Session). (record { name = k.0.items; transcript = k.1 }) ∷ ss) (kept_set kept i d h (omega (arith, l)))
+
+pub kept_at : (kept : List Kept) (i : ℕ) (d : Session) (h : Hearing) → Some h ≡ slice_get (values_of kept) i → (i < length kept) × (h ≡ (get_or (sessions_of kept) i d).transcript)
+kept_at [] i d h e = absurd (cc e)
+kept_at (k ∷ kept) zero d h e = (omega arith, cc)
+kept_at (k ∷ kept) (suc i) d h e = let r = kept_at kept i d h e in (omega (arith, r.0), r.1)
 
 -- a session that wasn't heard before is put behind the others
 pub placed_new : (name : List ℕ) (ss : List Session) (s : Session) → name ≡ s.name → place_or_end name ss ≡ length ss → length ss ≡ place_or_end name (ss ++ s ∷ [])
@@ -56,6 +119,16 @@ placed_last name ss new s place i q p l =
     let k = length-append ss (s ∷ []) in
     let one : length (s ∷ []) ≡ 1 = refl in
     (omega (arith, p, e, n, k, one), p ∙ e ∙ placed_new name ss s q e ∙ ap (place_or_end name) (sym i))
+
+-- and is the first of its name there
+pub placed_kept : (name : Vec ℕ) (kept new : List Kept) (h : Hearing) (place : ℕ) → length kept ≤ place_or_end name.items (sessions_of kept)
+    → new ≡ insert_entry (λ (a b : Vec ℕ). bytes_eq a.items b.items) kept name h → place ≡ position_or_len (λ (k : Vec ℕ). bytes_eq name.items k.items) (keys_of kept)
+    → (place < length (sessions_of new)) × (place ≡ place_or_end name.items (sessions_of new))
+placed_kept name kept new h place none is at =
+    let e = ap sessions_of is ∙ kept_new name kept h none in
+    let many = length_sessions kept in
+    let among = place_among name.items kept in
+    placed_last name.items (sessions_of kept) (sessions_of new) (record { name = name.items; transcript = h }) place e refl (at ∙ among) (omega (arith, none, at, among, many))
 
 pub heard_new : (other : List ℕ) (ss : List Session) (s : Session) → s.transcript ≡ unheard → hearing_of other (ss ++ s ∷ []) ≡ hearing_of other ss
 heard_new other [] s e =

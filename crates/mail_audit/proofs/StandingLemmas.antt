@@ -18,7 +18,7 @@ use Rattle.mail_audit.specs.Results.{IsResult}
 use Rattle.mail_audit.specs.Sessions.{hearing_of}
 use Rattle.mail_audit.specs.Standing.{AreHeard, DumpStands, EndsAt, IsOpen}
 use Rattle.mail_audit.specs.declared.dump.OpenDump.{OpenDump}
-use Rattle.mail_audit.specs.declared.sessions.Session.{Session}
+use Rattle.mail_audit.specs.Sessions.{Session}
 use Rattle.mail_audit.specs.declared.verdict.AuditEnd.TheVariants.{No, Unreadable}
 use Rattle.mail_audit.proofs.DumpLemmas.{open_first, open_last, open_more, open_wrong}
 use Rattle.mail_audit.proofs.HearingLemmas.{heard_more, heard_not, heard_result, heard_right}

@@ -1,7 +1,19 @@
+-- The sessions that were heard.
 use Rattle.std.specs.Prelude.{ℕ, ◌+◌, List, [], ◌∷◌, if◌then◌else◌}
 use Rattle.std.specs.Str.{bytes_eq}
+
+use Rattle.std.specs.Global.{Vec}
 use Rattle.mail_audit.specs.Hearings.{Hearing, unheard}
-use Rattle.mail_audit.specs.declared.sessions.Session.{Session}
+
+-- A session's name, and what is known of it.
+pub record Session : Type 0 where
+  pub name : List ℕ
+  pub transcript : Hearing
+
+-- The sessions that are kept by their names.
+abbrev pub sessions_of : List (Vec ℕ × Hearing) → List Session
+sessions_of [] = []
+sessions_of (kept ∷ rest) = record { name = kept.0.items; transcript = kept.1 } ∷ sessions_of rest
 
 -- What is known of the session with this name.
 abbrev pub hearing_of : List ℕ → List Session → Hearing

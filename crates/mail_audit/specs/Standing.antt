@@ -10,7 +10,7 @@ use Rattle.mail_audit.specs.Hearings.{HearsAll, unheard}
 use Rattle.mail_audit.specs.Sessions.{hearing_of}
 use Rattle.mail_audit.specs.declared.line_audit.Audit.{Audit}
 use Rattle.mail_audit.specs.declared.dump.OpenDump.{OpenDump}
-use Rattle.mail_audit.specs.declared.sessions.Session.{Session}
+use Rattle.mail_audit.specs.Sessions.{Session}
 use Rattle.mail_audit.specs.declared.verdict.AuditEnd.{AuditEnd}
 
 -- The lines are those of these parts, and this is known of the sessions behind them.

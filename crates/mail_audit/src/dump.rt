@@ -5,7 +5,7 @@ ghost use Rattle.mail_audit.specs.Audits.{Audits};
 ghost use Rattle.mail_audit.specs.DumpLines.{IsClosed, IsCompared, IsEarly, IsStep, IsStepBehind, OpsStand, PhaseStands};
 ghost use Rattle.mail_audit.specs.Dumps.{AreOrdered};
 ghost use Rattle.mail_audit.specs.Standing.{IsOpen};
-ghost use Rattle.mail_audit.specs.declared.sessions.Session.{Session};
+ghost use Rattle.mail_audit.specs.Sessions.{Session};
 
 use crate::applying::{Expected, what_follows};
 use crate::forms::{DumpLine, dump_line, is_other};

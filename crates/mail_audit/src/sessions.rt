@@ -6,30 +6,24 @@ ghost use Rattle.mail_audit.specs.Hearings.{Tells};
 ghost use Rattle.mail_audit.specs.Sessions.{hearing_of, place_or_end};
 
 use crate::transcript::Transcript;
+use indexmap::IndexMap;
 use mail_script::{SessionName, Speaker};
 use std::alloc::{AllocError, Global};
 use std::marker::Model;
 
-/// A session, and what is known of it.
-#[derive(Drop)]
-pub struct Session {
-    pub name: SessionName,
-    pub transcript: Transcript,
-}
-
-/// The sessions in the order in which they were first heard.
+/// The sessions by their names, in the order in which they were first heard, with what is known of each.
 #[derive(Drop)]
 pub struct Sessions {
-    sessions: Vec<Session>,
+    heard: IndexMap<Vec<u8>, Transcript>,
 }
 
 impl Model for Sessions {
     ghost use Rattle.std.specs.Prelude.{List};
-    ghost use Rattle.mail_audit.specs.declared.sessions.Session.{Session as Known};
+    ghost use Rattle.mail_audit.specs.Sessions.{Session, sessions_of};
 
-    ghost Value = { List Known };
+    ghost Value = { List Session };
 
-    ghost view = { λ s. s.sessions.items };
+    ghost view = { λ s. sessions_of s.heard.entries };
 }
 
 impl Sessions {
@@ -38,7 +32,7 @@ impl Sessions {
         ensures { result ≡ [] }
     {
         Sessions {
-            sessions: Vec::new(alloc),
+            heard: IndexMap::new(alloc),
         }
     }
 
@@ -54,7 +48,10 @@ impl Sessions {
         ensures others { IfOk result (λ heard. (other : List ℕ) → bytes_eq other session ≡ false → hearing_of other self.new ≡ hearing_of other self.old) }
     {
         let place = self.place_of(alloc, session)?;
-        self.sessions[place].transcript.hear(alloc, speaker, octets)
+        match self.heard.get_index_mut(place) {
+            None => unreachable!(),
+            Some(transcript) => transcript.hear(alloc, speaker, octets),
+        }
     }
 
     /// The place of a session, which is put behind the others where it wasn't heard before.
@@ -63,28 +60,11 @@ impl Sessions {
         ensures first { IfOk result (λ place. place ≡ place_or_end session self.new) }
         ensures same { IfOk result (λ place. (other : List ℕ) → hearing_of other self.new ≡ hearing_of other self.old) }
     {
-        let place = place_in(&self.sessions, &session);
-        if place < self.sessions.len() {
+        if let Some(place) = self.heard.get_index_of(session.as_bytes()) {
             return Ok(place);
         }
-        let transcript = Transcript::new(alloc);
-        let session = Session {
-            name: session,
-            transcript,
-        };
-        self.sessions.push(session)?;
+        let name = session.as_bytes().to_vec(alloc)?;
+        let (place, _) = self.heard.insert_full(name, Transcript::new(alloc))?;
         Ok(place)
     }
-}
-
-/// The place of the first session with this name, or the number of sessions.
-fn place_in(sessions: &[Session], name: &SessionName) -> usize
-    ensures { result ≡ place_or_end name.now sessions.now }
-{
-    for (place, session) in sessions.iter().enumerate() {
-        if session.name.same(name) {
-            return place;
-        }
-    }
-    sessions.len()
 }
