@@ -1,7 +1,6 @@
 -- The sessions that were heard.
 use Rattle.std.specs.Prelude.{ℕ, ◌+◌, List, [], ◌∷◌, if◌then◌else◌}
 use Rattle.std.specs.Str.{bytes_eq}
-
 use Rattle.std.specs.Global.{Vec}
 use Rattle.mail_audit.specs.Hearings.{Hearing, unheard}
 

@@ -6,6 +6,7 @@ ghost use Rattle.mail_audit.specs.Transcripts.{ended};
 
 use imap_types::Octets;
 use std::alloc::{AllocError, Global};
+use std::collections::VecDeque;
 use std::marker::Model;
 
 /// A command in progress: its tag, whether EXPUNGE may be told meanwhile (RFC 9051, section 7.5.1), and whether it is IDLE
@@ -20,7 +21,7 @@ pub struct Running {
 /// The commands in progress, in the order in which they began.
 #[derive(Drop)]
 pub struct InProgress {
-    commands: Vec<Running>,
+    commands: VecDeque<Running>,
     /// How many of them let EXPUNGE be told.
     expunging: usize,
     /// How many of them are IDLE.
@@ -45,7 +46,7 @@ impl InProgress {
         ensures { result ≡ [] }
     {
         InProgress {
-            commands: Vec::new(alloc),
+            commands: VecDeque::new(alloc),
             expunging: 0,
             idling: 0,
         }
@@ -71,7 +72,7 @@ impl InProgress {
     {
         let may_expunge = command.may_expunge;
         let idles = command.idles;
-        self.commands.push(command)?;
+        self.commands.push_back(command)?;
         self.expunging += usize::from(may_expunge);
         self.idling += usize::from(idles);
         Ok(())
@@ -81,8 +82,10 @@ impl InProgress {
     pub fn end(&mut self, tag: &[u8])
         ensures { self.new ≡ ended tag.now self.old }
     {
-        if let Some(place) = place_of(&self.commands, tag) {
-            let command = self.commands.remove(place);
+        let Some(place) = place_of(&self.commands, tag) else {
+            return;
+        };
+        if let Some(command) = self.commands.remove(place) {
             self.expunging -= usize::from(command.may_expunge);
             self.idling -= usize::from(command.idles);
         }
@@ -90,11 +93,11 @@ impl InProgress {
 }
 
 /// The place of the first command with this tag.
-fn place_of(commands: &[Running], tag: &[u8]) -> Option<usize>
-    ensures { MatchOption result (ended tag.now commands.now ≡ commands.now) (λ place. (place < length commands.now) × (ended tag.now commands.now ≡ remove commands.now place)) }
+fn place_of(commands: &VecDeque<Running>, tag: &[u8]) -> Option<usize>
+    ensures { MatchOption result (ended tag.now commands.now.items ≡ commands.now.items) (λ place. (place < length commands.now.items) × (ended tag.now commands.now.items ≡ remove commands.now.items place)) }
 {
-    for (place, command) in commands.iter().enumerate() {
-        if tag == command.tag.as_bytes() {
+    for place in 0..commands.len() {
+        if tag == commands[place].tag.as_bytes() {
             return Some(place);
         }
     }

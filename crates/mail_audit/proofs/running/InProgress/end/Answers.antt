@@ -6,30 +6,30 @@ use Rattle.mail_audit.proofs.running.InProgress.end.Goals as goal
 
 pub overflow_sub-self : goal.overflow_sub-self
 overflow_sub-self c =
-    let l = subst (λ (rs : List Running). c.in-Some.place < length rs) c.deref.ensures.value (c.in-Some.ensures {u = tt}).0 in
-    let m = counted_without (λ (r : Running). r.may_expunge) c.self.inside.commands.items c.in-Some.place c.remove-command.result l c.remove-command.ensures.value in
+    let l = (c.in-Some.ensures {u = tt}).0 in
+    let m = counted_without (λ (r : Running). r.may_expunge) c.self.inside.commands.items c.in-Some.place c.in-Some-remove.command l (c.in-Some-remove.ensures {u = tt}).value in
     let i = c.self.invariant.0 in
     let f = c.from.ensures in
     grind (arith, m, i, f)
 
-pub overflow_sub-self-in-Some : goal.overflow_sub-self-in-Some
-overflow_sub-self-in-Some c =
-    let l = subst (λ (rs : List Running). c.in-Some.place < length rs) c.deref.ensures.value (c.in-Some.ensures {u = tt}).0 in
-    let m = counted_without (λ (r : Running). r.idles) c.self.inside.commands.items c.in-Some.place c.remove-command.result l c.remove-command.ensures.value in
+pub overflow_sub-self-in-Some-remove : goal.overflow_sub-self-in-Some-remove
+overflow_sub-self-in-Some-remove c =
+    let l = (c.in-Some.ensures {u = tt}).0 in
+    let m = counted_without (λ (r : Running). r.idles) c.self.inside.commands.items c.in-Some.place c.in-Some-remove.command l (c.in-Some-remove.ensures {u = tt}).value in
     let i = c.self.invariant.1 in
-    let f = c.from-in-Some.ensures in
+    let f = c.from-in-Some-remove.ensures in
     grind (arith, m, i, f)
 
 pub invariant_of-self : goal.invariant_of-self
 invariant_of-self c =
     let items = c.self.inside.commands.items in
-    let l = subst (λ (rs : List Running). c.in-Some.place < length rs) c.deref.ensures.value (c.in-Some.ensures {u = tt}).0 in
-    let m = counted_without (λ (r : Running). r.may_expunge) items c.in-Some.place c.remove-command.result l c.remove-command.ensures.value in
-    let n = counted_without (λ (r : Running). r.idles) items c.in-Some.place c.remove-command.result l c.remove-command.ensures.value in
-    let a = ap (how_many (λ (r : Running). r.may_expunge)) c.remove-command.ensures.items in
-    let b = ap (how_many (λ (r : Running). r.idles)) c.remove-command.ensures.items in
+    let l = (c.in-Some.ensures {u = tt}).0 in
+    let m = counted_without (λ (r : Running). r.may_expunge) items c.in-Some.place c.in-Some-remove.command l (c.in-Some-remove.ensures {u = tt}).value in
+    let n = counted_without (λ (r : Running). r.idles) items c.in-Some.place c.in-Some-remove.command l (c.in-Some-remove.ensures {u = tt}).value in
+    let a = ap (how_many (λ (r : Running). r.may_expunge)) (c.in-Some-remove.ensures {u = tt}).items in
+    let b = ap (how_many (λ (r : Running). r.idles)) (c.in-Some-remove.ensures {u = tt}).items in
     let i = c.self.invariant.0 in
     let j = c.self.invariant.1 in
     let f = c.from.ensures in
-    let g = c.from-in-Some.ensures in
+    let g = c.from-in-Some-remove.ensures in
     (grind (arith, m, a, i, f), grind (arith, n, b, j, g))
