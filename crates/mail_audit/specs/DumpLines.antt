@@ -22,17 +22,15 @@ use Rattle.mail_audit.specs.declared.forms.DumpLine.{DumpLine}
 use Rattle.mail_audit.specs.declared.forms.DumpLine.TheVariants as line
 use Rattle.mail_audit.specs.declared.op_lines.OpLines.{OpLines}
 
--- What a text behind `op ` is: the text of an operation, or of none.
-abbrev pub IsOpLine : List ℕ → DumpLine → Type 0
-IsOpLine text (line.Op op) = IsSpelled op text
-IsOpLine text line.Other = ⊥
-IsOpLine text line.Unreadable = (op : Op) → ¬ IsSpelled op text
+-- The line is `op ` and a text that spells an operation.
+abbrev pub IsOp : List ℕ → Op → Type 0
+IsOp text op = (spelled : List ℕ) × (text ≡ codes "op " ++ spelled) × IsSpelled op spelled
 
--- What a line of a dump is: an op line spells its operation, another line doesn't begin as one, and one that can't be read spells none.
+-- What a line of a dump is: one that spells its operation, or one that spells none.
 abbrev pub IsDumpLine : List ℕ → DumpLine → Type 0
-IsDumpLine text (line.Op op) = (spelled : List ℕ) × (text ≡ codes "op " ++ spelled) × IsSpelled op spelled
-IsDumpLine text line.Other = (rest : List ℕ) → text ≡ codes "op " ++ rest → ⊥
-IsDumpLine text line.Unreadable = (op : Op) (spelled : List ℕ) → IsSpelled op spelled → text ≡ codes "op " ++ spelled → ⊥
+IsDumpLine text (line.Op op) = IsOp text op
+IsDumpLine text line.Other = (op : Op) → ¬ IsOp text op
+IsDumpLine text line.Unreadable = (op : Op) → ¬ IsOp text op
 
 -- One op line more was taken: it is good and stands behind the others, or none is from there on.
 abbrev pub IsLonger : OpLines → Op → OpLines → Type 0

@@ -1,9 +1,9 @@
 //! Which lines can be read at all.
 
-ghost use Rattle.std.specs.Prelude.{◌++◌, IfOk, IsTrue};
+ghost use Rattle.std.specs.Prelude.{◌++◌, IfOk, IsTrue, MatchOption};
 ghost use Rattle.crdt_ops.specs.Form.{IsSpelled};
 ghost use Rattle.crdt_ops.specs.declared.op.Op.{Op as Operation};
-ghost use Rattle.mail_audit.specs.DumpLines.{IsDumpLine, IsOpLine};
+ghost use Rattle.mail_audit.specs.DumpLines.{IsDumpLine};
 ghost use Rattle.mail_audit.specs.Forms.{AreMessageFields, AreTagFields, IsOtherLine, IsSpokenLine, IsStateLine};
 
 use crate::lines::{dump_begun, read_spoken};
@@ -27,30 +27,30 @@ pub enum DumpLine {
 pub fn dump_line(alloc: Global, line: &[u8]) -> Result<DumpLine, AllocError>
     ensures { IfOk result (IsDumpLine line.now) }
 {
-    match line.strip_prefix(b"op ".as_slice()) {
-        Some(text) => op_line(alloc, text),
-        None => {
-            if is_other(alloc, line)? {
-                Ok(DumpLine::Other)
-            } else {
-                Ok(DumpLine::Unreadable)
-            }
+    if let Some(text) = line.strip_prefix(b"op ".as_slice()) {
+        if let Some(op) = operation(alloc, text)? {
+            return Ok(DumpLine::Op(op));
         }
+    }
+    if is_other(alloc, line)? {
+        Ok(DumpLine::Other)
+    } else {
+        Ok(DumpLine::Unreadable)
     }
 }
 
-/// What a line is behind its `op `.
-fn op_line(alloc: Global, text: &[u8]) -> Result<DumpLine, AllocError>
-    ensures { IfOk result (λ line. IsOpLine text.now line) }
+/// The operation that a text spells, where it spells one.
+fn operation(alloc: Global, text: &[u8]) -> Result<Option<Op>, AllocError>
+    ensures { IfOk result (λ read. MatchOption read ((op : Operation) → IsSpelled op text.now → ⊥) (λ op. IsSpelled op text.now)) }
 {
     match read_op(alloc, text) {
-        Ok(op) => Ok(DumpLine::Op(op)),
-        Err(OpFault::NotTheForm) => Ok(DumpLine::Unreadable),
+        Ok(op) => Ok(Some(op)),
+        Err(OpFault::NotTheForm) => Ok(None),
         Err(OpFault::NoMemory) => Err(AllocError),
     }
 }
 
-/// Whether a script may print this line, which is no op line.
+/// Whether a script may print this line, beside op lines.
 pub fn is_other(alloc: Global, line: &[u8]) -> Result<bool, AllocError>
     ensures { IfOk result (λ prints. IsTrue prints → IsOtherLine line.now) }
 {

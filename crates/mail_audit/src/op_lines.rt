@@ -62,22 +62,27 @@ impl OpLines {
     }
 
     /// How many op lines stand before the first that makes the dump wrong, where one does: it is bad, or has a cause that no op
-    /// line has. Where op lines may still come, a cause may come with them whose id is above all.
+    /// line has. Where op lines may still come, a cause may come with them whose id is above the last one's.
     pub fn first_wrong(&self, alloc: Global, may_come: bool) -> Result<Option<usize>, AllocError>
         ensures within { IfOk result (λ found. IfSome found (λ place. place ≤ length self.now.ops.items)) }
         ensures bad { IfOk result (λ found. self.now.is_bad ≡ true → IsSome found) }
         ensures at_end { IfOk result (λ found. self.now.is_bad ≡ false → IfSome found (λ place. place < length self.now.ops.items)) }
     {
         let there = self.clock(alloc)?;
-        let last = match self.ops.last() {
-            Some(op) if may_come => Some(op.id()),
-            _ => None,
-        };
+        let last = if may_come { self.last_id() } else { None };
         Ok(match first_lacking(&self.ops, &there, &last) {
             Some(place) => Some(place),
             None if self.is_bad => Some(self.ops.len()),
             None => None,
         })
+    }
+
+    /// The id of the last op line.
+    fn last_id(&self) -> Option<OpId> {
+        match self.others.last() {
+            Some(id) => Some(*id),
+            None => self.ops.last().map(|op| op.id()),
+        }
     }
 
     /// The clock that counts for each replica the op lines with its numbers from 1 on, without a gap.

@@ -1,7 +1,7 @@
 //! Lines that are tried one by one behind a script.
 
 use crate::page::Page;
-use crate::replays::{Replayed, play_script, put_end, put_shortened};
+use crate::replays::{Replayed, play_script, put_shortened};
 use mail_replay::ReplayEnd;
 use std::alloc::Global;
 
@@ -16,6 +16,7 @@ pub fn try_case(alloc: Global, script: &[u8], line: &[u8], then: &str, page: &mu
     page.put_escaped(line);
     page.put_text("\n");
     tell_case(&before.printed, &ended, page);
+    ended.tell_end(alloc, page);
     if !open.is_as(&ended) {
         page.put_text("-- otherwise without its end\n");
     }
@@ -33,13 +34,12 @@ fn with_line(alloc: Global, script: &[u8], line: &[u8], end: &str, then: &str) -
     play_script(alloc, whole.so_far())
 }
 
-/// Tells what was printed beyond what is printed without the line, and the end.
+/// Tells what was printed beyond what is printed without the line.
 fn tell_case(before: &[u8], ended: &Replayed, page: &mut Page) {
     match ended.printed.strip_prefix(before) {
         Some(printed) => put_shortened(printed, page),
         None => page.put_text("-- otherwise before the line\n"),
     }
-    put_end(ended.end, page);
 }
 
 /// Whether a replay with more lines prints more where the one without them served all, and else the same.

@@ -15,7 +15,7 @@ const STRANGE: [u8; 5] = [0, 10, 32, 126, 255];
 /// 10, 32, 126 and 255, prints what the lines before that place print, and then whole lines of printed ASCII, and ends with
 /// Done or BadScript.
 pub fn tell_damage(alloc: Global, script: &[u8], page: &mut Page) {
-    play_script(alloc, script).tell(page);
+    play_script(alloc, script).tell(alloc, page);
     match first_wrong(alloc, script) {
         None => {
             page.put_text("-- damaged at each of ");
@@ -83,7 +83,7 @@ pub fn tell_pieces(alloc: Global, script: &[u8], session: &str, text: &str, page
     };
     let octets = octets.as_bytes();
     let whole = in_pieces(alloc, script, session, octets, octets.len().max(1));
-    whole.tell(page);
+    whole.tell(alloc, page);
     if !in_pieces(alloc, script, session, octets, 1).is_as(&whole) {
         page.put_text("-- otherwise octet by octet\n");
     }

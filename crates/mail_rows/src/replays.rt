@@ -1,6 +1,7 @@
 //! Replays of scripts, and what is told of them.
 
 use crate::page::Page;
+use mail_audit::audit;
 use mail_replay::{ReplayEnd, replay};
 use std::alloc::Global;
 
@@ -29,13 +30,13 @@ impl Replayed {
     }
 
     /// Tells all that was printed, and the end.
-    pub fn tell(&self, page: &mut Page) {
+    pub fn tell(&self, alloc: Global, page: &mut Page) {
         put_shortened(&self.printed, page);
-        put_end(self.end, page);
+        self.tell_end(alloc, page);
     }
 
     /// Tells how many lines were printed, the last of them, and the end.
-    pub fn tell_last(&self, last: usize, page: &mut Page) {
+    pub fn tell_last(&self, alloc: Global, last: usize, page: &mut Page) {
         let count = ends_of(&self.printed);
         page.put_text("-- ");
         page.put_number(count);
@@ -46,18 +47,35 @@ impl Replayed {
         for line in lines.skip(count.saturating_sub(last)) {
             put_shortened(line, page);
         }
-        put_end(self.end, page);
+        self.tell_end(alloc, page);
     }
 
     /// Tells how many of the lines that were printed are this one, and the end.
-    pub fn tell_count(&self, line: &str, page: &mut Page) {
+    pub fn tell_count(&self, alloc: Global, line: &str, page: &mut Page) {
         page.put_text("-- ");
         page.put_number(count_of(&self.printed, line.as_bytes()));
         page.put_text(" lines: ");
         page.put_text(line);
         page.put_text("\n");
-        put_end(self.end, page);
+        self.tell_end(alloc, page);
     }
+
+    /// Tells the end, and of a script that was served to its end what the audit says of all that was printed.
+    pub fn tell_end(&self, alloc: Global, page: &mut Page) {
+        put_end(self.end, page);
+        if self.end == ReplayEnd::Done {
+            page.put_text("-- audit: ");
+            put_audited(alloc, &self.printed, page);
+        }
+    }
+}
+
+/// Puts what the audit says of what was printed.
+fn put_audited(alloc: Global, printed: &[u8], page: &mut Page) {
+    let mut reader = printed;
+    let mut said = Vec::new(alloc);
+    audit(alloc, &mut reader, &mut said);
+    page.put(&said);
 }
 
 /// How many line ends there are.
@@ -88,7 +106,7 @@ pub fn put_shortened(printed: &[u8], page: &mut Page) {
 }
 
 /// Tells how a replay ended.
-pub fn put_end(end: ReplayEnd, page: &mut Page) {
+fn put_end(end: ReplayEnd, page: &mut Page) {
     match end {
         ReplayEnd::Done => page.put_text("-- done\n"),
         ReplayEnd::BadScript { line } => {

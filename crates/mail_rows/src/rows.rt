@@ -65,7 +65,7 @@ fn obey<'a>(alloc: Global, word: &str, rest: &'a str, row: &mut Row<'a>, page: &
         return build(word, rest, &mut row.script);
     };
     if let Way::Each(_) = way {
-        play_script(alloc, row.script.so_far()).tell(page);
+        play_script(alloc, row.script.so_far()).tell(alloc, page);
     }
     row.way = way;
     true
@@ -84,9 +84,9 @@ fn take_octets(alloc: Global, octets: &[u8], end: &[u8], row: &mut Row, page: &m
 /// Does with a row's script what is to be done with it.
 fn end_row(alloc: Global, script: &[u8], way: Way, page: &mut Page) {
     match way {
-        Way::Whole => play_script(alloc, script).tell(page),
-        Way::Last(last) => play_script(alloc, script).tell_last(last, page),
-        Way::Count(line) => play_script(alloc, script).tell_count(line, page),
+        Way::Whole => play_script(alloc, script).tell(alloc, page),
+        Way::Last(last) => play_script(alloc, script).tell_last(alloc, last, page),
+        Way::Count(line) => play_script(alloc, script).tell_count(alloc, line, page),
         Way::Damage => tell_damage(alloc, script, page),
         Way::Pieces { session, text } => tell_pieces(alloc, script, session, text, page),
         Way::Each(_) => {}
