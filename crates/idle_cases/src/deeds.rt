@@ -1,8 +1,8 @@
 //! What sessions do while another one idles.
 
-use crate::chance::Chance;
 use crate::scene::{command, selected};
-use crate::trouble::Trouble;
+use case_runs::Chance;
+use case_text::Trouble;
 use imap_node::{Node, SessionNo};
 use std::alloc::{AllocError, Global};
 

@@ -3,13 +3,10 @@
 //! mailbox then. Of each hundred runs it prints whether all do, and whether the answers that were heard mattered.
 #![tactic(auto)]
 
-mod chance;
-mod client;
 mod deeds;
 mod runs;
 mod scene;
 mod tally;
-mod trouble;
 mod watch;
 
 use std::io::{self, BufWriter, Write};

@@ -1,11 +1,10 @@
 //! One run, and how it ends.
 
-use crate::chance::Chance;
-use crate::client::Client;
 use crate::deeds::{append, deed};
 use crate::scene::{Scene, command, done, poll, selected, session};
-use crate::trouble::Trouble;
 use crate::watch::Watch;
+use case_runs::{Chance, Client};
+use case_text::Trouble;
 use crdt_ops::SoundOp;
 use imap_node::{Answers, Node};
 use std::alloc::Global;
@@ -89,7 +88,7 @@ fn begin(alloc: Global, scene: &mut Scene, name: &str, watch: &mut Watch) -> Res
 fn learn(alloc: Global, scene: &mut Scene, watch: &mut Watch, text: &str) -> Result<(), Trouble> {
     match command(alloc, &mut scene.near, scene.hands.watcher, text)? {
         Some(answers) => Ok(watch.hear_all(alloc, answers.as_slice())?),
-        None => Err(Trouble::Unplayable),
+        None => Err(Trouble::NotACase),
     }
 }
 
@@ -144,7 +143,7 @@ fn exchange(alloc: Global, chance: &mut Chance, from: &Node, to: &mut Node) -> R
 fn deliver(alloc: Global, node: &mut Node, op: SoundOp) -> Result<(), Trouble> {
     match node.deliver(alloc, op) {
         Ok(_) => Ok(()),
-        Err(_) => Err(Trouble::Unplayable),
+        Err(_) => Err(Trouble::NotACase),
     }
 }
 
@@ -172,8 +171,6 @@ fn fresh(alloc: Global, node: &mut Node, name: &str) -> Result<Client, Trouble> 
     let Some(answers) = command(alloc, node, session, "b UID FETCH 1:* FLAGS\r\n")? else {
         return Err(Trouble::NoMemory);
     };
-    for answer in answers.as_slice() {
-        client.take(alloc, answer)?;
-    }
+    client.take_all(alloc, answers.as_slice())?;
     Ok(client)
 }

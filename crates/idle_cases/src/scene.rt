@@ -1,7 +1,7 @@
 //! Two replicas and their sessions.
 
-use crate::client::Client;
-use crate::trouble::Trouble;
+use case_runs::Client;
+use case_text::Trouble;
 use imap_grammar::{IdleLine, Tagged, parse};
 use imap_node::{Answers, Auth, Node, Reply, SessionNo};
 use imap_types::Moment;
@@ -59,7 +59,7 @@ fn node(alloc: Global, replica: u32) -> Result<Node, Trouble> {
                 k: 1,
             },
         )),
-        None => Err(Trouble::Unplayable),
+        None => Err(Trouble::NotACase),
     }
 }
 
@@ -86,7 +86,7 @@ pub fn command(
     text: &str,
 ) -> Result<Option<Answers>, Trouble> {
     if !node.is_open(session) {
-        return Err(Trouble::Unplayable);
+        return Err(Trouble::NotACase);
     }
     let tagged = spelled(alloc, text)?;
     Ok(answers_in(node.command(alloc, session, Moment::epoch(), tagged)))
@@ -95,7 +95,7 @@ pub fn command(
 fn spelled(alloc: Global, text: &str) -> Result<Tagged, Trouble> {
     match parse(alloc, text.as_bytes()) {
         Ok(tagged) => Ok(tagged),
-        Err(_) => Err(Trouble::Unplayable),
+        Err(_) => Err(Trouble::NotACase),
     }
 }
 
@@ -113,7 +113,7 @@ pub fn poll(
     session: SessionNo,
 ) -> Result<Option<Answers>, Trouble> {
     if !node.is_open(session) {
-        return Err(Trouble::Unplayable);
+        return Err(Trouble::NotACase);
     }
     Ok(answers_in(node.poll(alloc, session)))
 }
@@ -125,7 +125,7 @@ pub fn done(
     session: SessionNo,
 ) -> Result<Option<Answers>, Trouble> {
     if !node.is_open(session) {
-        return Err(Trouble::Unplayable);
+        return Err(Trouble::NotACase);
     }
     Ok(answers_in(node.done(alloc, session, IdleLine::Done)))
 }
@@ -146,8 +146,6 @@ pub fn selected(
 
 fn heard(alloc: Global, answers: &Answers) -> Result<Option<Client>, Trouble> {
     let mut client = Client::new(alloc);
-    for answer in answers.as_slice() {
-        client.take(alloc, answer)?;
-    }
+    client.take_all(alloc, answers.as_slice())?;
     Ok(Some(client))
 }

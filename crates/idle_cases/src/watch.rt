@@ -1,6 +1,6 @@
 //! Who listens to a session that idles.
 
-use crate::client::Client;
+use case_runs::Client;
 use imap_answers::Answer;
 use std::alloc::{AllocError, Global};
 

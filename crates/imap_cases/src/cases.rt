@@ -1,8 +1,8 @@
 //! The lines of cases.
 
 use crate::repeats::{written_out, written_short};
-use crate::words::Words;
 use crate::{flag_orders, frames, numbers, round_trips, streams};
+use case_text::Words;
 use imap_lex::Limits;
 use imap_types::{Escape, EscapeFault, read_escaped, write_escaped};
 use std::alloc::{AllocError, Global};

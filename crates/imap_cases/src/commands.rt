@@ -2,7 +2,7 @@
 
 use crate::keys::put_steps;
 use crate::parts::{put_flags, put_section, put_texts};
-use crate::words::Words;
+use case_text::Words;
 use imap_grammar::{Command, FetchItem, StoreAction, Tagged};
 use imap_types::{DateTime, SequenceBound, SequenceSet};
 use std::fmt::Debug;

@@ -1,6 +1,6 @@
 //! Flags that were set in any order, as answers show them.
 
-use crate::words::Words;
+use case_text::Words;
 use imap_print::{Answer, FetchItems, Notice, Sections, print};
 use imap_types::Flags;
 use std::alloc::{AllocError, Global};

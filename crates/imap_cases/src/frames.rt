@@ -1,7 +1,7 @@
 //! What the grammar says of frames.
 
 use crate::commands::put_tagged;
-use crate::words::Words;
+use case_text::Words;
 use imap_grammar::{IdleLine, ParseFault, idle_line, parse, tag_of};
 use std::alloc::{AllocError, Global};
 

@@ -1,7 +1,7 @@
 //! Searches as text.
 
 use crate::commands::put_set;
-use crate::words::Words;
+use case_text::Words;
 use imap_grammar::{DayOrder, SearchStep, SearchTest};
 use imap_types::Day;
 

@@ -15,7 +15,6 @@ mod parts;
 mod repeats;
 mod round_trips;
 mod streams;
-mod words;
 
 use std::io::{self, Write};
 

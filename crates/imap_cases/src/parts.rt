@@ -1,6 +1,6 @@
 //! Parts that commands and answers have in common, as text.
 
-use crate::words::Words;
+use case_text::Words;
 use imap_types::{Flags, Octets, Section};
 
 /// Each behind a space, between `<` and `>`.

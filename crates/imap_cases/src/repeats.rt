@@ -2,7 +2,7 @@
 
 ghost use Rattle.std.specs.Prelude.{◌<◌};
 
-use crate::words::Words;
+use case_text::Words;
 use std::alloc::{AllocError, Global};
 
 /// Texts that come at least so often are written short.

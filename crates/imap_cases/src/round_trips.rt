@@ -1,7 +1,7 @@
 //! Answers read and printed.
 
 use crate::answers::put_answer;
-use crate::words::Words;
+use case_text::Words;
 use imap_print::{Answer, MailboxState, print};
 use imap_read::read;
 use imap_types::Name;

@@ -1,6 +1,6 @@
 //! How the framer cuts streams into commands.
 
-use crate::words::Words;
+use case_text::Words;
 use imap_lex::{FrameFault, Framer, Item, Limits};
 use std::alloc::{AllocError, Global};
 

@@ -3,8 +3,7 @@
 use crate::commands::{put_command, put_matches};
 use crate::stage::Stage;
 use crate::texts::put_of_text;
-use crate::trouble::Trouble;
-use crate::words::Words;
+use case_text::{Trouble, Words};
 use std::alloc::{AllocError, Global};
 
 /// The line with its LF. In a case, `KIND INPUT => ANSWER`, the answer is what the code answers now; comments, which begin with
@@ -27,8 +26,7 @@ fn put_line(alloc: Global, words: &mut Words, stage: &mut Stage, line: &str) {
         Ok(false) => put_case(alloc, words, stage, line),
         Err(trouble) => {
             words.put(line);
-            words.put(" => ");
-            words.put_trouble(trouble);
+            words.put_trouble(" => ", trouble);
         }
     }
 }
@@ -38,7 +36,7 @@ fn put_case(alloc: Global, words: &mut Words, stage: &Stage, line: &str) {
     words.put(case);
     words.put(" => ");
     if let Err(trouble) = put_answer(alloc, words, stage, case) {
-        words.put_trouble(trouble);
+        words.put_trouble("", trouble);
     }
 }
 

@@ -1,12 +1,11 @@
 //! What commands that read mailboxes answer.
 
-use crate::fields::{cut, octets};
+use crate::fields::octets;
 use crate::mailbox::Mailbox;
 use crate::messages::rows_of;
 use crate::searches::{found, named};
 use crate::stage::Stage;
-use crate::trouble::Trouble;
-use crate::words::Words;
+use case_text::{Trouble, Words, cut};
 use imap_answers::{Answer, SearchResults};
 use imap_grammar::{Command, FetchItem, ParseFault, StatusItem, Tagged, parse};
 use imap_print::print;
@@ -34,7 +33,7 @@ pub fn put_matches(alloc: Global, words: &mut Words, input: &str) -> Result<(), 
     let (pattern, name) = cut(input)?;
     let pattern = octets(alloc, Escape::Field, pattern)?;
     let name = octets(alloc, Escape::Field, name)?;
-    words.put_whether(matches(alloc, pattern.as_bytes(), name.as_bytes())?);
+    words.put_whether("", matches(alloc, pattern.as_bytes(), name.as_bytes())?);
     Ok(())
 }
 
@@ -61,8 +60,7 @@ fn put_answers(alloc: Global, words: &mut Words, answers: &[Answer]) -> Result<(
     for answer in answers {
         let mut text = Vec::new(alloc);
         print(answer, &mut text)?;
-        words.put(mark);
-        words.put_escaped(text.strip_suffix(b"\r\n".as_slice()).unwrap_or(&text));
+        words.put_escaped(mark, text.strip_suffix(b"\r\n".as_slice()).unwrap_or(&text));
         mark = " | ";
     }
     words.put_if(answers.is_empty(), "nothing");

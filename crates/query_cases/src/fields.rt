@@ -1,23 +1,8 @@
-//! The fields of a line: numbers, octets and names.
+//! The fields of a line: octets and names.
 
-use crate::trouble::Trouble;
+use case_text::Trouble;
 use imap_types::{Escape, Name, Octets, read_escaped};
 use std::alloc::Global;
-
-/// The first field, and what follows behind a space.
-pub fn cut(text: &str) -> Result<(&str, &str), Trouble> {
-    text.split_once(' ').ok_or(Trouble::NotACase)
-}
-
-/// A number of up to 32 bits.
-pub fn number(text: &str) -> Result<u32, Trouble> {
-    text.parse::<u32>().ok().ok_or(Trouble::NotACase)
-}
-
-/// A number of up to 64 bits.
-pub fn long_number(text: &str) -> Result<u64, Trouble> {
-    text.parse::<u64>().ok().ok_or(Trouble::NotACase)
-}
 
 /// The octets that a text in the escape stands for; `""` stands for none.
 pub fn octets(alloc: Global, escape: Escape, text: &str) -> Result<Octets, Trouble> {

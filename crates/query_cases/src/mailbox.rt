@@ -1,8 +1,7 @@
 //! The mailbox that commands look at.
 
-use crate::fields::{cut, long_number, number};
 use crate::messages::{Message, message_in, standing_in};
-use crate::trouble::Trouble;
+use case_text::{Trouble, cut, long_number, number};
 use imap_query::{Marks, Shown};
 use std::alloc::Global;
 

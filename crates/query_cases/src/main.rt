@@ -13,8 +13,6 @@ mod messages;
 mod searches;
 mod stage;
 mod texts;
-mod trouble;
-mod words;
 
 use std::io::{self, BufRead, BufReader, BufWriter, Write};
 

@@ -1,7 +1,7 @@
 //! Messages, and their rows before and after a command.
 
-use crate::fields::{cut, long_number, number, octets};
-use crate::trouble::Trouble;
+use crate::fields::octets;
+use case_text::{Trouble, cut, long_number, number};
 use imap_types::{DATE_TIME_OCTETS, DateTime, Escape, Flags, Octets};
 use mail_listing::{Row, Rows};
 use std::alloc::Global;

@@ -6,7 +6,7 @@ ghost use Rattle.imap_query.specs.Search.{name_of};
 
 use crate::mailbox::Mailbox;
 use crate::messages::rows_of;
-use crate::trouble::Trouble;
+use case_text::Trouble;
 use imap_answers::SearchResults;
 use imap_grammar::{SearchOption, SearchStep};
 use imap_query::{Shown, search};

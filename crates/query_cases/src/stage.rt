@@ -2,7 +2,7 @@
 
 use crate::fields::{names, octets};
 use crate::mailbox::Mailbox;
-use crate::trouble::Trouble;
+use case_text::Trouble;
 use imap_types::{Escape, Name, Octets};
 use std::alloc::Global;
 

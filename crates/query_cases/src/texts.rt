@@ -1,9 +1,8 @@
 //! What a text's parts are, what it holds, and date-times.
 
-use crate::fields::{all_octets, cut, long_number, number, octets};
+use crate::fields::{all_octets, octets};
 use crate::messages::date_time;
-use crate::trouble::Trouble;
-use crate::words::Words;
+use case_text::{Trouble, Words, cut, long_number, number};
 use imap_types::{Day, Escape, Moment};
 use mail_text::{
     body, civil, contains_nocase, date_ok, field_contains_nocase, fields, header, other_fields,
@@ -20,8 +19,8 @@ pub fn put_of_text(
     input: &str,
 ) -> Result<(), Trouble> {
     match kind {
-        "header" => words.put_text(header(text)),
-        "body" => words.put_text(body(text)),
+        "header" => put_between(words, header(text)),
+        "body" => put_between(words, body(text)),
         "partial" => return put_partial(words, text, input),
         "fields" => return put_fields(alloc, words, text, input),
         "other_fields" => return put_other_fields(alloc, words, text, input),
@@ -32,16 +31,22 @@ pub fn put_of_text(
     Ok(())
 }
 
+/// Octets in the escape, between `<` and `>`.
+fn put_between(words: &mut Words, octets: &[u8]) {
+    words.put_escaped("<", octets);
+    words.put(">");
+}
+
 /// `START COUNT`.
 fn put_partial(words: &mut Words, text: &[u8], input: &str) -> Result<(), Trouble> {
     let (start, count) = cut(input)?;
-    words.put_text(partial(text, number(start)?, number(count)?));
+    put_between(words, partial(text, number(start)?, number(count)?));
     Ok(())
 }
 
 fn put_fields(alloc: Global, words: &mut Words, text: &[u8], input: &str) -> Result<(), Trouble> {
     let names = all_octets(alloc, input)?;
-    words.put_text(&fields(alloc, text, &names)?);
+    put_between(words, &fields(alloc, text, &names)?);
     Ok(())
 }
 
@@ -52,13 +57,13 @@ fn put_other_fields(
     input: &str,
 ) -> Result<(), Trouble> {
     let names = all_octets(alloc, input)?;
-    words.put_text(&other_fields(alloc, text, &names)?);
+    put_between(words, &other_fields(alloc, text, &names)?);
     Ok(())
 }
 
 fn put_contains(alloc: Global, words: &mut Words, text: &[u8], input: &str) -> Result<(), Trouble> {
     let word = octets(alloc, Escape::Text, input)?;
-    words.put_whether(contains_nocase(alloc, text, word.as_bytes())?);
+    words.put_whether("", contains_nocase(alloc, text, word.as_bytes())?);
     Ok(())
 }
 
@@ -72,7 +77,10 @@ fn put_field_contains(
     let (name, word) = cut(input)?;
     let name = octets(alloc, Escape::Field, name)?;
     let word = octets(alloc, Escape::Text, word)?;
-    words.put_whether(field_contains_nocase(alloc, text, name.as_bytes(), word.as_bytes())?);
+    words.put_whether(
+        "",
+        field_contains_nocase(alloc, text, name.as_bytes(), word.as_bytes())?,
+    );
     Ok(())
 }
 
@@ -81,7 +89,7 @@ fn put_of_date(alloc: Global, words: &mut Words, kind: &str, input: &str) -> Res
         "civil" => put_civil(words, long_number(input)?),
         "date_ok" => {
             let date = octets(alloc, Escape::Text, input)?;
-            words.put_whether(date_ok(date.as_bytes()));
+            words.put_whether("", date_ok(date.as_bytes()));
         }
         "written_day" => put_day(words, written_day(&date_time(input.as_bytes())?)),
         _ => return Err(Trouble::NotACase),
@@ -91,7 +99,7 @@ fn put_of_date(alloc: Global, words: &mut Words, kind: &str, input: &str) -> Res
 
 fn put_civil(words: &mut Words, seconds: u64) {
     match Moment::new(seconds) {
-        Some(moment) => words.put_escaped(civil(moment).as_bytes()),
+        Some(moment) => words.put_escaped("", civil(moment).as_bytes()),
         None => words.put("no moment"),
     }
 }

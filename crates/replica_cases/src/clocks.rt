@@ -1,8 +1,7 @@
 //! Ids and clocks.
 
-use crate::answer::Answer;
-use crate::fields::{cut, entry, id, id_of, number, replica};
-use crate::trouble::Trouble;
+use crate::fields::{entry, id, id_of};
+use case_text::{Trouble, Words, cut, number, replica};
 use std::alloc::{AllocError, Global};
 use tags_clocks::{Clock, ClockOrder, OpId, ReplicaId};
 
@@ -26,7 +25,7 @@ pub enum ClockWord {
 }
 
 /// Answers what is asked of ids and clocks.
-pub fn answer_clock(word: ClockWord, fields: &str, answer: &mut Answer) -> Result<(), Trouble> {
+pub fn answer_clock(word: ClockWord, fields: &str, answer: &mut Words) -> Result<(), Trouble> {
     match word {
         ClockWord::Clock => tell_clock(fields, answer),
         ClockWord::Push => push_all(fields, answer),
@@ -37,7 +36,7 @@ pub fn answer_clock(word: ClockWord, fields: &str, answer: &mut Answer) -> Resul
 fn answer_second(
     word: ClockWord,
     (first, second): (&str, &str),
-    answer: &mut Answer,
+    answer: &mut Words,
 ) -> Result<(), Trouble> {
     match word {
         ClockWord::Id => tell_id(number(first)?, number(second)?, answer),
@@ -73,62 +72,56 @@ fn raise(clock: &mut Clock, part: &str) -> Result<(), Trouble> {
     Ok(())
 }
 
-fn tell_id(replica: u32, number: u32, answer: &mut Answer) -> Result<(), Trouble> {
+fn tell_id(replica: u32, number: u32, answer: &mut Words) -> Result<(), Trouble> {
     match id_of(replica, number) {
-        Some(id) => answer.id(id),
-        None => answer.word("none"),
+        Some(id) => answer.put_id(" ", id),
+        None => answer.put(" none"),
     }
     Ok(())
 }
 
 /// A copy of the clock.
-fn tell_clock(text: &str, answer: &mut Answer) -> Result<(), Trouble> {
+fn tell_clock(text: &str, answer: &mut Words) -> Result<(), Trouble> {
     let clock = raised(answer.alloc(), text)?;
     match clock.copy(answer.alloc()) {
         Ok(copied) => tell_same(&clock, &copied, answer),
-        Err(AllocError) => answer.fail(Trouble::NoMemory),
+        Err(AllocError) => answer.give_up(),
     }
     Ok(())
 }
 
-fn tell_same(clock: &Clock, copied: &Clock, answer: &mut Answer) {
-    if !copied.same(clock) {
-        answer.word("copied");
-    }
-    answer.clock(copied);
+fn tell_same(clock: &Clock, copied: &Clock, answer: &mut Words) {
+    answer.put_if(!copied.same(clock), " copied");
+    answer.put_clock(" ", copied);
 }
 
-fn tell_number(replica: ReplicaId, text: &str, answer: &mut Answer) -> Result<(), Trouble> {
+fn tell_number(replica: ReplicaId, text: &str, answer: &mut Words) -> Result<(), Trouble> {
     let clock = raised(answer.alloc(), text)?;
-    answer.number(u64::from(clock.get(replica)));
+    answer.put_number(" ", u64::from(clock.get(replica)));
     Ok(())
 }
 
-fn tell_covered(id: OpId, text: &str, answer: &mut Answer) -> Result<(), Trouble> {
+fn tell_covered(id: OpId, text: &str, answer: &mut Words) -> Result<(), Trouble> {
     let clock = raised(answer.alloc(), text)?;
-    answer.whether(clock.covers(id));
+    answer.put_whether(" ", clock.covers(id));
     Ok(())
 }
 
-fn tell_compared(first: &str, second: &str, answer: &mut Answer) -> Result<(), Trouble> {
+fn tell_compared(first: &str, second: &str, answer: &mut Words) -> Result<(), Trouble> {
     let clock = raised(answer.alloc(), first)?;
     compare_with(&clock, second, answer)
 }
 
-fn compare_with(first: &Clock, second: &str, answer: &mut Answer) -> Result<(), Trouble> {
+fn compare_with(first: &Clock, second: &str, answer: &mut Words) -> Result<(), Trouble> {
     let second = raised(answer.alloc(), second)?;
     tell_order(first, &second, answer);
     Ok(())
 }
 
-fn tell_order(first: &Clock, second: &Clock, answer: &mut Answer) {
-    answer.word(order_word(first.compare(second)));
-    if first.is_within(second) {
-        answer.word("within");
-    }
-    if first.same(second) {
-        answer.word("same");
-    }
+fn tell_order(first: &Clock, second: &Clock, answer: &mut Words) {
+    answer.put_after(" ", order_word(first.compare(second)).as_bytes());
+    answer.put_if(first.is_within(second), " within");
+    answer.put_if(first.same(second), " same");
 }
 
 fn order_word(order: ClockOrder) -> &'static str {
@@ -140,30 +133,30 @@ fn order_word(order: ClockOrder) -> &'static str {
     }
 }
 
-fn tell_joined(first: &str, second: &str, answer: &mut Answer) -> Result<(), Trouble> {
+fn tell_joined(first: &str, second: &str, answer: &mut Words) -> Result<(), Trouble> {
     let mut clock = raised(answer.alloc(), first)?;
     join_with(&mut clock, second, answer)?;
-    answer.clock(&clock);
+    answer.put_clock(" ", &clock);
     Ok(())
 }
 
-fn join_with(clock: &mut Clock, text: &str, answer: &Answer) -> Result<(), Trouble> {
+fn join_with(clock: &mut Clock, text: &str, answer: &Words) -> Result<(), Trouble> {
     let other = raised(answer.alloc(), text)?;
     clock.join(answer.alloc(), &other)?;
     Ok(())
 }
 
-fn push_all(text: &str, answer: &mut Answer) -> Result<(), Trouble> {
+fn push_all(text: &str, answer: &mut Words) -> Result<(), Trouble> {
     let mut clock = Clock::new(answer.alloc());
     for part in text.split(',') {
         push(&mut clock, part, answer)?;
     }
-    answer.clock(&clock);
+    answer.put_clock(" ", &clock);
     Ok(())
 }
 
-fn push(clock: &mut Clock, part: &str, answer: &mut Answer) -> Result<(), Trouble> {
+fn push(clock: &mut Clock, part: &str, answer: &mut Words) -> Result<(), Trouble> {
     let (replica, number) = entry(part)?;
-    answer.whether(clock.push_entry(replica, number)?);
+    answer.put_whether(" ", clock.push_entry(replica, number)?);
     Ok(())
 }

@@ -1,82 +1,74 @@
 //! What folders and subscriptions tell.
 
-use crate::answer::Answer;
 use crate::stage::Mailboxes;
-use crate::trouble::Trouble;
+use case_text::Words;
 use crdt_ops::{Ids, Message};
 use folder_state::Folders;
-use imap_types::{Escape, Name};
+use imap_types::Name;
 use std::alloc::AllocError;
 use subs_state::Subs;
 
 /// The folders with their messages, and the subscriptions, as the lines of a dump.
-pub fn tell_state(state: &Mailboxes, answer: &mut Answer) {
+pub fn tell_state(state: &Mailboxes, answer: &mut Words) {
     match state.first.names(answer.alloc()) {
         Ok(names) => tell_folders(&state.first, &names, answer),
-        Err(AllocError) => answer.fail(Trouble::NoMemory),
+        Err(AllocError) => answer.give_up(),
     }
     match state.second.names(answer.alloc()) {
         Ok(names) => tell_subscriptions(&state.second, &names, answer),
-        Err(AllocError) => answer.fail(Trouble::NoMemory),
+        Err(AllocError) => answer.give_up(),
     }
 }
 
 /// Ids, where there was memory for them.
-pub fn tell_ids(ids: Result<Ids, AllocError>, answer: &mut Answer) {
+pub fn tell_ids(ids: Result<Ids, AllocError>, answer: &mut Words) {
     match ids {
-        Ok(ids) => answer.ids(&ids),
-        Err(AllocError) => answer.fail(Trouble::NoMemory),
+        Ok(ids) => answer.put_ids(" ", &ids),
+        Err(AllocError) => answer.give_up(),
     }
 }
 
-fn tell_folders(folders: &Folders, names: &[Name], answer: &mut Answer) {
+fn tell_folders(folders: &Folders, names: &[Name], answer: &mut Words) {
     for name in names {
-        answer.line("folder");
-        answer.name(name);
+        answer.put_field("\n  folder ", name.as_bytes());
         tell_ids(folders.tags(answer.alloc(), name), answer);
         tell_messages(folders, name, answer);
     }
 }
 
-fn tell_messages(folders: &Folders, name: &Name, answer: &mut Answer) {
+fn tell_messages(folders: &Folders, name: &Name, answer: &mut Words) {
     match folders.messages(answer.alloc(), name) {
         Ok(messages) => tell_each(&messages, answer),
-        Err(AllocError) => answer.fail(Trouble::NoMemory),
+        Err(AllocError) => answer.give_up(),
     }
 }
 
-fn tell_each(messages: &[Message], answer: &mut Answer) {
+fn tell_each(messages: &[Message], answer: &mut Words) {
     for message in messages {
         tell_copied(message, answer);
     }
 }
 
 /// A copy of the message.
-fn tell_copied(message: &Message, answer: &mut Answer) {
+fn tell_copied(message: &Message, answer: &mut Words) {
     match message.copy(answer.alloc()) {
         Ok(copied) => tell_same(message, &copied, answer),
-        Err(AllocError) => answer.fail(Trouble::NoMemory),
+        Err(AllocError) => answer.give_up(),
     }
 }
 
-fn tell_same(message: &Message, copied: &Message, answer: &mut Answer) {
-    answer.line(if copied.same(message) {
-        "message"
-    } else {
-        "copied message"
-    });
-    answer.id(copied.id);
-    answer.flags(&copied.flags);
-    answer.push(b" ");
-    answer.push(copied.date.as_bytes());
-    answer.push(b" =");
-    answer.escaped(Escape::Text, copied.text.as_bytes());
+fn tell_same(message: &Message, copied: &Message, answer: &mut Words) {
+    answer.put("\n  ");
+    answer.put_if(!copied.same(message), "copied ");
+    answer.put_id("message ", copied.id);
+    answer.put_flags(" ", &copied.flags);
+    answer.put_after(" ", copied.date.as_bytes());
+    answer.put_escaped(" =", copied.text.as_bytes());
 }
 
-fn tell_subscriptions(subs: &Subs, names: &[Name], answer: &mut Answer) {
+fn tell_subscriptions(subs: &Subs, names: &[Name], answer: &mut Words) {
     for name in names {
-        answer.line("subscribed");
-        answer.name(name);
+        answer.put_field("\n  subscribed ", name.as_bytes());
         tell_ids(subs.tags(answer.alloc(), name), answer);
     }
 }

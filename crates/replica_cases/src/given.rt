@@ -1,11 +1,8 @@
 //! The operations that a case gives.
 
-use crate::answer::Answer;
 use crate::dump::tell_state;
-use crate::fields::{cut, number};
-use crate::operations::operation;
 use crate::stage::{Mailboxes, empty};
-use crate::trouble::Trouble;
+use case_text::{Trouble, Words, cut, number, operation};
 use crdt_ops::SoundOp;
 use merge_laws::{Caused, replay};
 use std::alloc::{AllocError, Global};
@@ -69,10 +66,10 @@ fn add_cause(causes: &mut Vec<(usize, usize)>, place: u32, at: usize) -> Result<
 }
 
 /// `replay`: what the operations that come first lead to, without an inbox.
-pub fn tell_replay(given: &Given, answer: &mut Answer) {
+pub fn tell_replay(given: &Given, answer: &mut Words) {
     match replayed(answer.alloc(), &given.first) {
         Ok(state) => tell_state(&state, answer),
-        Err(AllocError) => answer.fail(Trouble::NoMemory),
+        Err(AllocError) => answer.give_up(),
     }
 }
 
@@ -82,14 +79,13 @@ fn replayed(alloc: Global, ops: &[SoundOp]) -> Result<Mailboxes, AllocError> {
 
 /// `pairs`: how many operations come first, and whether each is the same as itself and no other; else the places, counted from
 /// 1, of two where that isn't so.
-pub fn tell_pairs(given: &Given, answer: &mut Answer) {
-    answer.number(given.first.len() as u64);
+pub fn tell_pairs(given: &Given, answer: &mut Words) {
+    answer.put_number(" ", given.first.len() as u64);
     match odd_pair(&given.first) {
-        None => answer.word("operations, each the same as itself alone"),
+        None => answer.put(" operations, each the same as itself alone"),
         Some((first, second)) => {
-            answer.word("operations, but not");
-            answer.number((first as u64).saturating_add(1));
-            answer.number((second as u64).saturating_add(1));
+            answer.put_number(" operations, but not ", (first as u64).saturating_add(1));
+            answer.put_number(" ", (second as u64).saturating_add(1));
         }
     }
 }

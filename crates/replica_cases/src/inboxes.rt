@@ -1,13 +1,10 @@
 //! What is asked of the case's inbox.
 
-use crate::answer::Answer;
 use crate::clocks::raised;
 use crate::dump::{tell_ids, tell_state};
-use crate::fields::name;
 use crate::issuing::tell_issue;
-use crate::operations::operation;
 use crate::stage::{Mailboxes, Node, deliver};
-use crate::trouble::Trouble;
+use case_text::{Trouble, Words, name, operation};
 use causal_inbox::{Arrival, DeliverFault, Delivered, HeldOps};
 use crdt_ops::{SoundOp, copied_ops};
 use imap_types::Name;
@@ -40,7 +37,7 @@ pub fn answer_inbox(
     inbox: &mut Node,
     word: InboxWord,
     fields: &str,
-    answer: &mut Answer,
+    answer: &mut Words,
 ) -> Result<(), Trouble> {
     match word {
         InboxWord::Deliver => tell_delivery(inbox, fields, answer)?,
@@ -55,7 +52,7 @@ pub fn answer_inbox(
     Ok(())
 }
 
-fn tell_delivery(inbox: &mut Node, line: &str, answer: &mut Answer) -> Result<(), Trouble> {
+fn tell_delivery(inbox: &mut Node, line: &str, answer: &mut Words) -> Result<(), Trouble> {
     let op = operation(answer.alloc(), line)?;
     match deliver(answer.alloc(), inbox, op) {
         Ok(delivered) => tell_delivered(delivered, answer),
@@ -64,7 +61,7 @@ fn tell_delivery(inbox: &mut Node, line: &str, answer: &mut Answer) -> Result<()
     Ok(())
 }
 
-fn tell_drain(inbox: &mut Node, answer: &mut Answer) {
+fn tell_drain(inbox: &mut Node, answer: &mut Words) {
     let drained = inbox.drain(answer.alloc());
     tell_delivered(
         Delivered {
@@ -75,100 +72,94 @@ fn tell_drain(inbox: &mut Node, answer: &mut Answer) {
     );
 }
 
-fn tell_delivered(delivered: Delivered, answer: &mut Answer) {
+fn tell_delivered(delivered: Delivered, answer: &mut Words) {
     match delivered.arrival {
-        Arrival::Applied(count) => {
-            answer.word("Applied");
-            answer.number(count as u64);
-        }
-        Arrival::Held => answer.word("Held"),
-        Arrival::Repeat => answer.word("Repeat"),
+        Arrival::Applied(count) => answer.put_number(" Applied ", count as u64),
+        Arrival::Held => answer.put(" Held"),
+        Arrival::Repeat => answer.put(" Repeat"),
     }
-    if delivered.stalled {
-        answer.word("stalled");
-    }
+    answer.put_if(delivered.stalled, " stalled");
 }
 
-fn tell_fault(fault: DeliverFault, answer: &mut Answer) {
+fn tell_fault(fault: DeliverFault, answer: &mut Words) {
     match fault {
-        DeliverFault::Conflict { id } => {
-            answer.word("Conflict");
-            answer.id(id);
-        }
-        DeliverFault::HeldFull => answer.word("HeldFull"),
-        DeliverFault::Exhausted => answer.word("Exhausted"),
-        DeliverFault::NoMemory => answer.word("NoMemory"),
+        DeliverFault::Conflict { id } => answer.put_id(" Conflict ", id),
+        DeliverFault::HeldFull => answer.put(" HeldFull"),
+        DeliverFault::Exhausted => answer.put(" Exhausted"),
+        DeliverFault::NoMemory => answer.put(" NoMemory"),
     }
 }
 
-fn tell_received(applied: &[SoundOp], held: &HeldOps<'_, SoundOp>, answer: &mut Answer) {
-    answer.word("applied");
+fn tell_received(applied: &[SoundOp], held: &HeldOps<'_, SoundOp>, answer: &mut Words) {
+    answer.put(" applied");
     tell_ids_of(applied, answer);
-    answer.word("held");
+    answer.put(" held");
     tell_held_ids(held, answer);
 }
 
-fn tell_ids_of(ops: &[SoundOp], answer: &mut Answer) {
-    if ops.is_empty() {
-        answer.word("-");
-    }
+fn tell_ids_of(ops: &[SoundOp], answer: &mut Words) {
+    answer.put_if(ops.is_empty(), " -");
     for op in ops {
-        answer.id(op.op().id);
+        answer.put_id(" ", op.op().id);
     }
 }
 
-fn tell_held_ids(held: &HeldOps<'_, SoundOp>, answer: &mut Answer) {
-    if held.is_empty() {
-        answer.word("-");
-    }
+fn tell_held_ids(held: &HeldOps<'_, SoundOp>, answer: &mut Words) {
+    answer.put_if(held.is_empty(), " -");
     for op in held.iter() {
-        answer.id(op.op().id);
+        answer.put_id(" ", op.op().id);
+    }
+}
+
+/// A line for each operation.
+fn tell_ops(ops: &[SoundOp], answer: &mut Words) {
+    for op in ops {
+        answer.put_op("\n  ", op);
     }
 }
 
 /// Copies of the operations.
-fn tell_applied(ops: &[SoundOp], answer: &mut Answer) {
+fn tell_applied(ops: &[SoundOp], answer: &mut Words) {
     match copied_ops(answer.alloc(), ops) {
         Ok(mut copies) => {
-            answer.ops(copies.make_contiguous());
+            tell_ops(copies.make_contiguous(), answer);
             drop(copies);
         }
-        Err(AllocError) => answer.fail(Trouble::NoMemory),
+        Err(AllocError) => answer.give_up(),
     }
 }
 
-fn tell_since(inbox: &Node, fields: &str, answer: &mut Answer) -> Result<(), Trouble> {
+fn tell_since(inbox: &Node, fields: &str, answer: &mut Words) -> Result<(), Trouble> {
     let clock = raised(answer.alloc(), fields)?;
     tell_uncovered(inbox, &clock, answer);
     Ok(())
 }
 
-fn tell_uncovered(inbox: &Node, clock: &Clock, answer: &mut Answer) {
+fn tell_uncovered(inbox: &Node, clock: &Clock, answer: &mut Words) {
     match inbox.ops_since(answer.alloc(), clock) {
         Ok(ops) => {
-            answer.ops(&ops);
+            tell_ops(&ops, answer);
             drop(ops);
         }
-        Err(AllocError) => answer.fail(Trouble::NoMemory),
+        Err(AllocError) => answer.give_up(),
     }
 }
 
-fn tell_named(state: &Mailboxes, fields: &str, answer: &mut Answer) -> Result<(), Trouble> {
+fn tell_named(state: &Mailboxes, fields: &str, answer: &mut Words) -> Result<(), Trouble> {
     let name = name(answer.alloc(), fields)?;
     tell_lists(state, &name, answer);
     Ok(())
 }
 
-fn tell_lists(state: &Mailboxes, name: &Name, answer: &mut Answer) {
-    answer.word(if state.first.exists(name) {
-        "exists,"
+fn tell_lists(state: &Mailboxes, name: &Name, answer: &mut Words) {
+    answer.put(if state.first.exists(name) {
+        " exists, tags"
     } else {
-        "isn't there,"
+        " isn't there, tags"
     });
-    answer.word("tags");
     tell_ids(state.first.tags(answer.alloc(), name), answer);
-    answer.word("delete");
+    answer.put(" delete");
     tell_ids(state.first.delete_set(answer.alloc(), name), answer);
-    answer.word("subscribed");
+    answer.put(" subscribed");
     tell_ids(state.second.tags(answer.alloc(), name), answer);
 }

@@ -4,18 +4,16 @@ ghost use Rattle.std.specs.Prelude.{◌≡◌, ◌∷◌, [], IfOk};
 ghost use Rattle.causal_inbox.specs.Seen.{IsIssued};
 ghost use Rattle.crdt_ops.specs.declared.op.Op.{Op as Operation};
 
-use crate::answer::Answer;
-use crate::fields::{cut, name, replica};
 use crate::stage::Node;
-use crate::trouble::Trouble;
+use case_text::{Trouble, Words, cut, name, replica};
 use crdt_ops::{Kind, Op, SoundOp, check};
 use imap_types::Name;
-use std::alloc::Global;
+use std::alloc::{AllocError, Global};
 use tags_clocks::{OpId, ReplicaId};
 
 /// `issue R NAME`: the operation by which the replica, which the inbox is then taken to be of, creates the folder. It is
 /// issued behind all that was applied.
-pub fn tell_issue(inbox: &mut Node, fields: &str, answer: &mut Answer) -> Result<(), Trouble> {
+pub fn tell_issue(inbox: &mut Node, fields: &str, answer: &mut Words) -> Result<(), Trouble> {
     let (issuer, folder) = cut(fields)?;
     let id = next_id(inbox, replica(issuer)?)?;
     let op = next_create(answer.alloc(), inbox, id, name(answer.alloc(), folder)?)?;
@@ -47,34 +45,34 @@ fn next_create(alloc: Global, inbox: &Node, id: OpId, folder: Name) -> Result<So
 }
 
 /// Issues the operation, and tells it.
-fn issue(inbox: &mut Node, op: SoundOp, answer: &mut Answer)
+fn issue(inbox: &mut Node, op: SoundOp, answer: &mut Words)
     requires { IsIssued (λ (o : Operation). o.id) (λ o. o.clock) inbox.old.seen.applied op }
 {
-    answer.op(&op);
+    answer.put_op("\n  ", &op);
     match listed(answer.alloc(), op) {
         Ok(ops) => issue_listed(inbox, ops, answer),
-        Err(trouble) => answer.fail(trouble),
+        Err(AllocError) => answer.give_up(),
     }
 }
 
-fn listed(alloc: Global, op: SoundOp) -> Result<Vec<SoundOp>, Trouble>
+fn listed(alloc: Global, op: SoundOp) -> Result<Vec<SoundOp>, AllocError>
     ensures { IfOk result (λ ops. ops.items ≡ op ∷ []) }
 {
     let Ok(mut ops) = Vec::with_capacity(alloc, 1) else {
         drop(op);
-        return Err(Trouble::NoMemory);
+        return Err(AllocError);
     };
     ops.push_reserved(op);
     Ok(ops)
 }
 
-fn issue_listed(inbox: &mut Node, ops: Vec<SoundOp>, answer: &mut Answer)
+fn issue_listed(inbox: &mut Node, ops: Vec<SoundOp>, answer: &mut Words)
     requires { (op : Operation) × (ops.items ≡ op ∷ []) × IsIssued (λ (o : Operation). o.id) (λ o. o.clock) inbox.old.seen.applied op }
 {
     if inbox.ready(answer.alloc(), &ops).is_ok() {
         inbox.issue(ops);
     } else {
         drop(ops);
-        answer.fail(Trouble::NoMemory);
+        answer.give_up();
     }
 }

@@ -1,7 +1,6 @@
 //! Cases of operations, clocks and inboxes, one a line, and what the code answers each.
 #![tactic(auto)]
 
-mod answer;
 mod clocks;
 mod dump;
 mod fields;
@@ -12,14 +11,20 @@ mod mutations;
 mod operations;
 mod orders;
 mod permutations;
-mod program;
 mod requests;
 mod sets;
 mod stage;
-mod trouble;
 
-use std::io;
+use requests::serve;
+use stage::Stage;
+use std::io::{self, BufRead, BufReader, BufWriter, Write};
 
 fn main(rt: HostRuntime) -> io::Result<()> {
-    program::run(&rt)
+    let mut stage = Stage::new(rt.alloc())?;
+    let mut writer = BufWriter::new(rt.alloc(), io::writer(&rt))?;
+    for line in BufReader::new(rt.alloc(), rt.reader())?.lines(rt.alloc()) {
+        let served = serve(rt.alloc(), &mut stage, line?.as_str())?;
+        writer.write_all(&served)?;
+    }
+    writer.flush()
 }

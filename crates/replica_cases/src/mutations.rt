@@ -1,7 +1,7 @@
 //! Texts that are cut off or have another octet somewhere.
 
-use crate::answer::Answer;
 use crate::operations::{Finding, found};
+use case_text::Words;
 use std::alloc::{AllocError, Global};
 
 /// How many texts were found to be what.
@@ -34,15 +34,12 @@ impl Findings {
 }
 
 /// Tells how many texts were found to be what.
-pub fn tell_findings(findings: Findings, answer: &mut Answer) {
-    answer.number(findings.refused);
-    answer.word("refused,");
-    answer.number(findings.sound);
-    answer.word("sound,");
-    answer.number(findings.unsound);
-    answer.word("unsound,");
-    answer.number(findings.changed);
-    answer.word("changed");
+pub fn tell_findings(findings: Findings, answer: &mut Words) {
+    answer.put_number(" ", findings.refused);
+    answer.put_number(" refused, ", findings.sound);
+    answer.put_number(" sound, ", findings.unsound);
+    answer.put_number(" unsound, ", findings.changed);
+    answer.put(" changed");
 }
 
 /// What the fronts of a text are that are shorter.

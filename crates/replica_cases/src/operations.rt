@@ -1,6 +1,5 @@
 //! The texts of operations: what is read, which of it is sound, and how it is written again.
 
-use crate::trouble::Trouble;
 use crdt_ops::{Op, OpFault, SoundOp, Unsound, check, read_op, write_op};
 use merge_laws::Caused;
 use std::alloc::{AllocError, Global};
@@ -35,25 +34,6 @@ fn fault_word(fault: Unsound) -> &'static str {
         Unsound::UnlawfulName => "UnlawfulName",
         Unsound::UnlawfulFlags => "UnlawfulFlags",
         Unsound::DeleteOfInbox => "DeleteOfInbox",
-    }
-}
-
-/// The sound operation that a text spells.
-pub fn operation(alloc: Global, line: &str) -> Result<SoundOp, Trouble> {
-    match read_op(alloc, line.as_bytes()) {
-        Ok(op) => sound(op),
-        Err(OpFault::NotTheForm) => Err(Trouble::NotACase),
-        Err(OpFault::NoMemory) => Err(Trouble::NoMemory),
-    }
-}
-
-fn sound(op: Op) -> Result<SoundOp, Trouble> {
-    match check(op) {
-        Ok(sound) => Ok(sound),
-        Err((op, _)) => {
-            drop(op);
-            Err(Trouble::NotACase)
-        }
     }
 }
 

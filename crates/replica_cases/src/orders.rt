@@ -1,11 +1,10 @@
 //! Operations that are delivered in each order.
 
-use crate::answer::Answer;
 use crate::dump::tell_state;
 use crate::given::Given;
 use crate::permutations::{comes_early, is_causal, order, orders_of};
 use crate::stage::{Node, deliver, node};
-use crate::trouble::Trouble;
+use case_text::{Trouble, Words};
 use causal_inbox::{Arrival, DeliverFault, Delivered};
 use crdt_ops::SoundOp;
 use merge_laws::Caused;
@@ -47,48 +46,47 @@ impl Tried {
 
 /// `orders`: delivers the operations in each order, each twice in a row, and all and then all again, and in the causal orders
 /// each once; tells how many orders there are, whether all answered and ended as they must, and what they lead to.
-pub fn tell_orders(given: &Given, answer: &mut Answer) {
+pub fn tell_orders(given: &Given, answer: &mut Words) -> Result<(), Trouble> {
     if given.any.len() > MOST {
-        answer.fail(Trouble::NotACase);
-        return;
+        return Err(Trouble::NotACase);
     }
     match end_of(answer.alloc(), given) {
         Some(end) => tell_all(given, &end, answer),
-        None => answer.fail(Trouble::NoMemory),
+        None => answer.give_up(),
     }
+    Ok(())
 }
 
-fn tell_all(given: &Given, end: &[u8], answer: &mut Answer) {
+fn tell_all(given: &Given, end: &[u8], answer: &mut Words) {
     let tried = try_all(answer.alloc(), given, end);
-    answer.number(tried.all as u64);
-    answer.word("orders,");
-    answer.number(tried.causal as u64);
-    answer.word("causal,");
+    answer.put_number(" ", tried.all as u64);
+    answer.put_number(" orders, ", tried.causal as u64);
+    answer.put(" causal,");
     tell_wrong(tried.wrong, given.any.len(), answer);
-    answer.push(end);
+    answer.put_octets(end);
 }
 
-fn tell_wrong(wrong: Option<usize>, count: usize, answer: &mut Answer) {
+fn tell_wrong(wrong: Option<usize>, count: usize, answer: &mut Words) {
     match wrong {
-        None => answer.word("all end alike"),
+        None => answer.put(" all end alike"),
         Some(number) => {
-            answer.word("but not");
+            answer.put(" but not");
             tell_order(number, count, answer);
         }
     }
 }
 
 /// The places of an order, counted from 1.
-fn tell_order(number: usize, count: usize, answer: &mut Answer) {
+fn tell_order(number: usize, count: usize, answer: &mut Words) {
     match order(answer.alloc(), number, count) {
         Ok(order) => tell_places(&order, answer),
-        Err(AllocError) => answer.fail(Trouble::NoMemory),
+        Err(AllocError) => answer.give_up(),
     }
 }
 
-fn tell_places(order: &[usize], answer: &mut Answer) {
+fn tell_places(order: &[usize], answer: &mut Words) {
     for place in order {
-        answer.number((*place as u64).saturating_add(1));
+        answer.put_number(" ", (*place as u64).saturating_add(1));
     }
 }
 
@@ -97,16 +95,17 @@ fn end_of(alloc: Global, given: &Given) -> Option<Vec<u8>> {
     match replica(alloc, given) {
         Some(mut inbox) => {
             deliver_all(alloc, &mut inbox, &given.any);
-            Some(told(alloc, &inbox))
+            told(alloc, &inbox)
         }
         None => None,
     }
 }
 
-fn told(alloc: Global, inbox: &Node) -> Vec<u8> {
-    let mut answer = Answer::new(alloc);
+/// What an inbox tells; `None` where there is no memory for it.
+fn told(alloc: Global, inbox: &Node) -> Option<Vec<u8>> {
+    let mut answer = Words::new(alloc);
     tell_state(inbox.value(), &mut answer);
-    answer.into_text()
+    answer.finish().ok()
 }
 
 /// An inbox that got the operations that come first; `None` where there is no memory.
@@ -289,6 +288,8 @@ fn all_applied(alloc: Global, given: &Given, inbox: &Node, end: &[u8]) -> bool {
     if count != Some(given.any.len()) || !inbox.held().is_empty() {
         return false;
     }
-    let text = told(alloc, inbox);
-    text.as_slice() == end
+    match told(alloc, inbox) {
+        Some(text) => text.as_slice() == end,
+        None => false,
+    }
 }

@@ -1,8 +1,6 @@
 //! Lines of the input: what is asked in each, and where its answer goes.
 
-use crate::answer::Answer;
 use crate::clocks::{ClockWord, answer_clock};
-use crate::fields::{cut, octets};
 use crate::given::{Given, add_any, add_first, tell_pairs, tell_replay};
 use crate::inboxes::{InboxWord, answer_inbox};
 use crate::mutations::{of_cuts, of_octets, tell_findings};
@@ -10,7 +8,7 @@ use crate::operations::{finding_word, found};
 use crate::orders::tell_orders;
 use crate::sets::{SetWord, answer_set};
 use crate::stage::Stage;
-use crate::trouble::Trouble;
+use case_text::{Trouble, Words, asked, cut, octets};
 use imap_types::Escape;
 use std::alloc::{AllocError, Global};
 use std::mem;
@@ -89,41 +87,24 @@ fn word_of(text: &str) -> Result<Word, Trouble> {
 /// What a line makes the program print: the line with its answer in place of the one that stands there. An error says that
 /// there is no memory.
 pub fn serve(alloc: Global, stage: &mut Stage, line: &str) -> Result<Vec<u8>, AllocError> {
-    let mut answer = Answer::new(alloc);
+    let mut answer = Words::new(alloc);
     if !line.starts_with("  ") {
         serve_line(stage, line, &mut answer);
     }
-    match answer.trouble() {
-        Some(Trouble::NoMemory) => Err(AllocError),
-        _ => Ok(answer.into_text()),
-    }
+    answer.finish()
 }
 
-fn serve_line(stage: &mut Stage, line: &str, answer: &mut Answer) {
+fn serve_line(stage: &mut Stage, line: &str, answer: &mut Words) {
     let asked = asked(line);
-    answer.push(asked.as_bytes());
+    answer.put(asked);
     if let Err(trouble) = obey(stage, asked, answer) {
-        answer.fail(trouble);
+        answer.put_trouble(" ", trouble);
     }
-    match answer.trouble() {
-        None => answer.push(b"\n"),
-        Some(_) => answer.push(b" no case\n"),
-    }
-}
-
-/// What stands in front of the answer; the whole of a comment.
-fn asked(line: &str) -> &str {
-    if line.starts_with('#') {
-        return line;
-    }
-    match line.rsplit_once(" =>") {
-        Some((asked, _)) => asked,
-        None => line,
-    }
+    answer.put("\n");
 }
 
 /// Passes over a comment, begins a case, takes an operation that is given, or answers what is asked.
-fn obey(stage: &mut Stage, asked: &str, answer: &mut Answer) -> Result<(), Trouble> {
+fn obey(stage: &mut Stage, asked: &str, answer: &mut Words) -> Result<(), Trouble> {
     let (word, fields) = asked.split_once(' ').unwrap_or((asked, ""));
     match word {
         "" | "#" => Ok(()),
@@ -148,22 +129,19 @@ fn answer_word(
     stage: &mut Stage,
     word: &str,
     fields: &str,
-    answer: &mut Answer,
+    answer: &mut Words,
 ) -> Result<(), Trouble> {
-    answer.word("=>");
+    answer.put(" =>");
     match word_of(word)? {
         Word::Text(word) => answer_text(word, fields, answer),
         Word::Clock(word) => answer_clock(word, fields, answer),
         Word::Set(word) => answer_set(word, fields, answer),
         Word::Inbox(word) => answer_inbox(&mut stage.inbox, word, fields, answer),
-        Word::Given(word) => {
-            answer_given(&stage.given, word, answer);
-            Ok(())
-        }
+        Word::Given(word) => answer_given(&stage.given, word, answer),
     }
 }
 
-fn answer_text(word: TextWord, fields: &str, answer: &mut Answer) -> Result<(), Trouble> {
+fn answer_text(word: TextWord, fields: &str, answer: &mut Words) -> Result<(), Trouble> {
     match word {
         TextWord::Op => tell_found(fields.as_bytes(), answer),
         TextWord::Cuts => tell_findings(of_cuts(answer.alloc(), fields.as_bytes()), answer),
@@ -173,27 +151,29 @@ fn answer_text(word: TextWord, fields: &str, answer: &mut Answer) -> Result<(), 
     Ok(())
 }
 
-fn tell_found(text: &[u8], answer: &mut Answer) {
-    answer.word(finding_word(found(answer.alloc(), text)));
+fn tell_found(text: &[u8], answer: &mut Words) {
+    let finding = finding_word(found(answer.alloc(), text));
+    answer.put_after(" ", finding.as_bytes());
 }
 
-fn tell_spelled(fields: &str, answer: &mut Answer) -> Result<(), Trouble> {
+fn tell_spelled(fields: &str, answer: &mut Words) -> Result<(), Trouble> {
     let octets = octets(answer.alloc(), Escape::Text, fields)?;
     tell_found(octets.as_bytes(), answer);
     Ok(())
 }
 
-fn tell_replaced((field, line): (&str, &str), answer: &mut Answer) -> Result<(), Trouble> {
+fn tell_replaced((field, line): (&str, &str), answer: &mut Words) -> Result<(), Trouble> {
     let octets = octets(answer.alloc(), Escape::Field, field)?;
     let findings = of_octets(answer.alloc(), line.as_bytes(), octets.as_bytes());
     tell_findings(findings, answer);
     Ok(())
 }
 
-fn answer_given(given: &Given, word: GivenWord, answer: &mut Answer) {
+fn answer_given(given: &Given, word: GivenWord, answer: &mut Words) -> Result<(), Trouble> {
     match word {
         GivenWord::Pairs => tell_pairs(given, answer),
         GivenWord::Replay => tell_replay(given, answer),
-        GivenWord::Orders => tell_orders(given, answer),
+        GivenWord::Orders => tell_orders(given, answer)?,
     }
+    Ok(())
 }

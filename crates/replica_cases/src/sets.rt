@@ -1,8 +1,7 @@
 //! Sets of ids and ascending lists of names.
 
-use crate::answer::Answer;
-use crate::fields::{cut, id, name};
-use crate::trouble::Trouble;
+use crate::fields::id;
+use case_text::{Trouble, Words, cut, name};
 use crdt_ops::{Ids, place_name};
 use imap_types::Name;
 use std::alloc::{AllocError, Global};
@@ -20,7 +19,7 @@ pub enum SetWord {
 }
 
 /// Answers what is asked of sets.
-pub fn answer_set(word: SetWord, fields: &str, answer: &mut Answer) -> Result<(), Trouble> {
+pub fn answer_set(word: SetWord, fields: &str, answer: &mut Words) -> Result<(), Trouble> {
     match word {
         SetWord::Ids => tell_ids(fields, answer),
         SetWord::Contains => tell_contained(cut(fields)?, answer),
@@ -49,35 +48,31 @@ fn insert(ids: &mut Ids, id: OpId) -> Result<(), AllocError> {
 }
 
 /// A copy of the ids.
-fn tell_ids(text: &str, answer: &mut Answer) -> Result<(), Trouble> {
+fn tell_ids(text: &str, answer: &mut Words) -> Result<(), Trouble> {
     let ids = ids(answer.alloc(), text)?;
     match ids.copy(answer.alloc()) {
         Ok(copied) => tell_same(&ids, &copied, answer),
-        Err(AllocError) => answer.fail(Trouble::NoMemory),
+        Err(AllocError) => answer.give_up(),
     }
     Ok(())
 }
 
-fn tell_same(ids: &Ids, copied: &Ids, answer: &mut Answer) {
-    if !copied.same(ids) {
-        answer.word("copied");
-    }
-    answer.ids(copied);
+fn tell_same(ids: &Ids, copied: &Ids, answer: &mut Words) {
+    answer.put_if(!copied.same(ids), " copied");
+    answer.put_ids(" ", copied);
 }
 
-fn tell_contained((of, text): (&str, &str), answer: &mut Answer) -> Result<(), Trouble> {
+fn tell_contained((of, text): (&str, &str), answer: &mut Words) -> Result<(), Trouble> {
     let of = id(of)?;
     let ids = ids(answer.alloc(), text)?;
-    answer.whether(ids.contains(of));
+    answer.put_whether(" ", ids.contains(of));
     Ok(())
 }
 
-fn tell_placed(fields: &str, answer: &mut Answer) -> Result<(), Trouble> {
+fn tell_placed(fields: &str, answer: &mut Words) -> Result<(), Trouble> {
     let mut names = Vec::new(answer.alloc());
-    match place_all(fields, &mut names, answer.alloc()) {
-        Ok(()) => tell_names(&names, answer),
-        Err(trouble) => answer.fail(trouble),
-    }
+    place_all(fields, &mut names, answer.alloc())?;
+    tell_names(&names, answer);
     Ok(())
 }
 
@@ -94,8 +89,8 @@ fn place(field: &str, names: &mut Vec<Name>, alloc: Global) -> Result<(), Troubl
     Ok(())
 }
 
-fn tell_names(names: &[Name], answer: &mut Answer) {
+fn tell_names(names: &[Name], answer: &mut Words) {
     for name in names {
-        answer.name(name);
+        answer.put_field(" ", name.as_bytes());
     }
 }

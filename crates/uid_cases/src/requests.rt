@@ -1,10 +1,8 @@
 //! Lines of the input: what is asked in each, and where its answer goes.
 
-use crate::answer::Answer;
-use crate::fields::{cut, number, operation, replica};
 use crate::stage::{Node, Stage, deliver, make_ready};
 use crate::tables::{tell_after, tell_changed, tell_folder, tell_row_of};
-use crate::trouble::Trouble;
+use case_text::{Trouble, Words, asked, cut, number, operation, replica};
 use causal_inbox::{Arrival, DeliverFault, Delivered, IssueFault};
 use std::alloc::{AllocError, Global};
 use std::mem;
@@ -13,41 +11,24 @@ use uid_projection::Start;
 /// What a line makes the program print: the line with its answer in place of the one that stands there. An error says that
 /// there is no memory.
 pub fn serve(alloc: Global, stage: &mut Stage, line: &str) -> Result<Vec<u8>, AllocError> {
-    let mut answer = Answer::new(alloc);
+    let mut answer = Words::new(alloc);
     if !line.starts_with("  ") {
         serve_line(stage, line, &mut answer);
     }
-    match answer.trouble() {
-        Some(Trouble::NoMemory) => Err(AllocError),
-        _ => Ok(answer.into_text()),
-    }
+    answer.finish()
 }
 
-fn serve_line(stage: &mut Stage, line: &str, answer: &mut Answer) {
+fn serve_line(stage: &mut Stage, line: &str, answer: &mut Words) {
     let asked = asked(line);
-    answer.push(asked.as_bytes());
+    answer.put(asked);
     if let Err(trouble) = obey(stage, asked, answer) {
-        answer.fail(trouble);
+        answer.put_trouble(" ", trouble);
     }
-    match answer.trouble() {
-        None => answer.push(b"\n"),
-        Some(_) => answer.push(b" no case\n"),
-    }
-}
-
-/// What stands in front of the answer; the whole of a comment.
-fn asked(line: &str) -> &str {
-    if line.starts_with('#') {
-        return line;
-    }
-    match line.rsplit_once(" =>") {
-        Some((asked, _)) => asked,
-        None => line,
-    }
+    answer.put("\n");
 }
 
 /// Passes over comments and titles, begins a case, takes an operation, or answers what is asked.
-fn obey(stage: &mut Stage, asked: &str, answer: &mut Answer) -> Result<(), Trouble> {
+fn obey(stage: &mut Stage, asked: &str, answer: &mut Words) -> Result<(), Trouble> {
     let (word, fields) = asked.split_once(' ').unwrap_or((asked, ""));
     match word {
         "" | "#" | "==" => Ok(()),
@@ -62,9 +43,9 @@ fn answer_word(
     stage: &mut Stage,
     word: &str,
     fields: &str,
-    answer: &mut Answer,
+    answer: &mut Words,
 ) -> Result<(), Trouble> {
-    answer.word("=>");
+    answer.put(" =>");
     match word {
         "ready" => {
             tell_ready(stage, answer);
@@ -104,7 +85,7 @@ fn start(fields: &str) -> Result<Start, Trouble> {
 }
 
 /// `apply LINE`: delivers an operation; answers where that doesn't apply it alone.
-fn apply(inbox: &mut Node, line: &str, answer: &mut Answer) -> Result<(), Trouble> {
+fn apply(inbox: &mut Node, line: &str, answer: &mut Words) -> Result<(), Trouble> {
     let op = operation(answer.alloc(), line)?;
     match deliver(answer.alloc(), inbox, op) {
         Ok(delivered) => tell_arrival(delivered, answer),
@@ -113,24 +94,21 @@ fn apply(inbox: &mut Node, line: &str, answer: &mut Answer) -> Result<(), Troubl
     Ok(())
 }
 
-fn tell_arrival(delivered: Delivered, answer: &mut Answer) {
+fn tell_arrival(delivered: Delivered, answer: &mut Words) {
     match delivered.arrival {
         Arrival::Applied(1) => {}
-        Arrival::Applied(count) => {
-            answer.word("=> Applied");
-            answer.number(count as u64);
-        }
-        Arrival::Held => answer.word("=> Held"),
-        Arrival::Repeat => answer.word("=> Repeat"),
+        Arrival::Applied(count) => answer.put_number(" => Applied ", count as u64),
+        Arrival::Held => answer.put(" => Held"),
+        Arrival::Repeat => answer.put(" => Repeat"),
     }
 }
 
-fn tell_fault(fault: DeliverFault, answer: &mut Answer) {
-    answer.word(match fault {
-        DeliverFault::Conflict { .. } => "=> Conflict",
-        DeliverFault::HeldFull => "=> HeldFull",
-        DeliverFault::Exhausted => "=> Exhausted",
-        DeliverFault::NoMemory => "=> NoMemory",
+fn tell_fault(fault: DeliverFault, answer: &mut Words) {
+    answer.put(match fault {
+        DeliverFault::Conflict { .. } => " => Conflict",
+        DeliverFault::HeldFull => " => HeldFull",
+        DeliverFault::Exhausted => " => Exhausted",
+        DeliverFault::NoMemory => " => NoMemory",
     });
 }
 
@@ -142,10 +120,10 @@ fn add(stage: &mut Stage, line: &str, alloc: Global) -> Result<(), Trouble> {
 }
 
 /// `ready`: whether each of the operations that come next has the numbers that it needs.
-fn tell_ready(stage: &mut Stage, answer: &mut Answer) {
+fn tell_ready(stage: &mut Stage, answer: &mut Words) {
     match make_ready(answer.alloc(), &mut stage.inbox, &stage.next) {
-        Ok(()) => answer.word("yes"),
-        Err(IssueFault::Exhausted) => answer.word("Exhausted"),
-        Err(IssueFault::NoMemory) => answer.word("NoMemory"),
+        Ok(()) => answer.put(" yes"),
+        Err(IssueFault::Exhausted) => answer.put(" Exhausted"),
+        Err(IssueFault::NoMemory) => answer.put(" NoMemory"),
     }
 }

@@ -1,33 +1,33 @@
 //! The lines of cases.
 
 use crate::reading::{Message, messages_in, rows_of, set_in, view_in};
-use crate::words::Words;
 use crate::writing::{put_answers, put_entries, put_numbers};
+use case_text::Words;
 use imap_types::DateTime;
 use mail_listing::Rows;
 use session_view::{BadSet, Silent, SyncKind, View, replayed};
 use std::alloc::{AllocError, Global};
 
 /// What is printed for a case that isn't in the form.
-const NO_CASE: &[u8] = b"no case";
+const NO_CASE: &str = "no case";
 
 /// The line with its LF. In a case, `KIND INPUT => ANSWER`, the answer is what the code answers now; comments, which begin with
 /// `#`, and empty lines are as they were.
 pub fn answered(alloc: Global, line: &str) -> Result<Vec<u8>, AllocError> {
     let mut words = Words::new(alloc);
     if line.is_empty() || line.starts_with('#') {
-        words.put(line.as_bytes());
+        words.put(line);
     } else {
         put_case(alloc, &mut words, line);
     }
-    words.put(b"\n");
+    words.put("\n");
     words.finish()
 }
 
 fn put_case(alloc: Global, words: &mut Words, line: &str) {
     let (case, _) = line.split_once(" => ").unwrap_or((line, ""));
-    words.put(case.as_bytes());
-    words.put(b" => ");
+    words.put(case);
+    words.put(" => ");
     if put_answer(alloc, words, case).is_err() {
         words.give_up();
     }
@@ -77,7 +77,7 @@ fn put_resolved(
     };
     match view.resolve(alloc, &set, which == "uid") {
         Ok(numbers) => put_numbers(words, &numbers),
-        Err(BadSet::OutOfRange) => words.put(b"out of range"),
+        Err(BadSet::OutOfRange) => words.put("out of range"),
         Err(BadSet::NoMemory) => words.give_up(),
     }
     Ok(())
@@ -147,11 +147,11 @@ fn put_synced(
     let mut after = view.copy(alloc)?;
     let answers = after.sync(alloc, rows, kind, modseq)?;
     put_answers(words, &answers);
-    words.put(b" => ");
+    words.put(" => ");
     put_entries(words, after.entries());
     let silents: Vec<Silent> = Vec::new(alloc);
     let replayed = replayed(alloc, rows, view.entries(), &silents, &answers)?;
-    words.put(b" => ");
+    words.put(" => ");
     put_entries(words, &replayed);
     Ok(())
 }

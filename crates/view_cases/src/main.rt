@@ -6,7 +6,6 @@
 
 mod cases;
 mod reading;
-mod words;
 mod writing;
 
 use std::io::{self, BufRead, BufReader, BufWriter, Write};

@@ -1,6 +1,6 @@
 //! Lines that say what happens in a world.
 
-use crate::trouble::Trouble;
+use case_text::Trouble;
 use imap_grammar::{Tagged, idle_line, parse};
 use imap_node::{Auth, SessionNo};
 use imap_types::{Escape, Moment, read_escaped};

@@ -3,9 +3,9 @@
 ghost use Rattle.std.specs.Prelude.{◌<◌};
 
 use crate::asked::spelled;
-use crate::chance::Chance;
 use crate::commands::{Sort, command};
-use crate::trouble::Trouble;
+use case_runs::Chance;
+use case_text::Trouble;
 use imap_commands::Credentials;
 use imap_grammar::IdleLine;
 use imap_node::{Auth, Node, Session, SessionNo, State};

@@ -3,12 +3,11 @@
 ghost use Rattle.std.specs.Prelude.{◌≡◌, IfOk};
 
 use crate::asked::cut;
-use crate::chance::Chance;
 use crate::deeds::{Note, deed};
-use crate::page::Page;
 use crate::tally::Tally;
-use crate::trouble::Trouble;
 use crate::watch::Watch;
+use case_runs::Chance;
+use case_text::{Trouble, Words};
 use imap_node::Node;
 use node_talk::write_dump;
 use std::alloc::{AllocError, Global};
@@ -39,7 +38,7 @@ pub fn tell_random(
     alloc: Global,
     asked: &str,
     numbers: &str,
-    page: &mut Page,
+    page: &mut Words,
 ) -> Result<(), Trouble> {
     let (first, last) = cut(numbers);
     let first = number_in(first)?;

@@ -3,16 +3,12 @@
 #![tactic(auto)]
 
 mod asked;
-mod chance;
-mod client;
 mod commands;
 mod deeds;
 mod ending;
 mod games;
-mod page;
 mod tally;
 mod told;
-mod trouble;
 mod watch;
 mod worked;
 
@@ -22,5 +18,5 @@ use std::io::Write;
 fn main(rt: HostRuntime) -> io::Result<()> {
     let text = io::read_to_string(rt.alloc(), rt.reader())?;
     let page = worked::play(rt.alloc(), text.as_str());
-    io::writer(&rt).write_all(page.octets()?)
+    io::writer(&rt).write_all(&page.finish()?)
 }

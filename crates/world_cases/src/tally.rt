@@ -1,6 +1,6 @@
 //! What came in random worlds.
 
-use crate::page::Page;
+use case_text::Words;
 use causal_inbox::{Arrival, Delivered};
 use imap_answers::Answer;
 use imap_node::Reply;
@@ -91,8 +91,14 @@ impl Tally {
         }
     }
 
-    /// Notes an answer that a client hears.
-    pub fn hear(&mut self, answer: &Answer) {
+    /// Notes answers that a client hears.
+    pub fn hear_all(&mut self, answers: &[Answer]) {
+        for answer in answers {
+            self.hear(answer);
+        }
+    }
+
+    fn hear(&mut self, answer: &Answer) {
         match answer {
             Answer::Exists { .. } => self.has_exists = true,
             Answer::Expunge { .. } => self.has_expunge = true,
@@ -102,7 +108,7 @@ impl Tally {
     }
 
     /// Tells what was met.
-    pub fn tell(&self, page: &mut Page) {
+    pub fn tell(&self, page: &mut Words) {
         self.tell_wrong(page);
         self.tell_taken(page);
         page.put("  met:");
@@ -113,14 +119,13 @@ impl Tally {
         page.put("\n");
     }
 
-    fn tell_wrong(&self, page: &mut Page) {
+    fn tell_wrong(&self, page: &mut Words) {
         match &self.first_wrong {
             None => page.put(
                 "  each settles, all its replicas agree and hold the same, and sessions see what they were told\n",
             ),
             Some((world, how)) => {
-                page.put("  world ");
-                page.put_number(*world);
+                page.put_number("  world ", *world);
                 page.put(": ");
                 page.put(how);
                 page.put("\n");
@@ -128,7 +133,7 @@ impl Tally {
         }
     }
 
-    fn tell_taken(&self, page: &mut Page) {
+    fn tell_taken(&self, page: &mut Words) {
         if self.has_idle_world {
             page.put("  in some no more than a quarter of the events were taken\n");
         } else {
@@ -136,32 +141,26 @@ impl Tally {
         }
     }
 
-    fn tell_sessions(&self, page: &mut Page) {
-        put_if(self.has_opened, " Opened", page);
-        put_if(self.has_done, " Done", page);
-        put_if(self.has_refused, " Refused", page);
-        put_if(self.has_closed, " Closed", page);
-        put_if(self.has_passed, " PassedOver", page);
+    fn tell_sessions(&self, page: &mut Words) {
+        page.put_if(self.has_opened, " Opened");
+        page.put_if(self.has_done, " Done");
+        page.put_if(self.has_refused, " Refused");
+        page.put_if(self.has_closed, " Closed");
+        page.put_if(self.has_passed, " PassedOver");
     }
 
-    fn tell_deliveries(&self, page: &mut Page) {
-        put_if(self.has_applied, " Applied", page);
-        put_if(self.has_held, " Held", page);
-        put_if(self.has_repeat, " Repeat", page);
-        put_if(self.has_drained, " Drained", page);
-        put_if(self.has_strange, " strange", page);
+    fn tell_deliveries(&self, page: &mut Words) {
+        page.put_if(self.has_applied, " Applied");
+        page.put_if(self.has_held, " Held");
+        page.put_if(self.has_repeat, " Repeat");
+        page.put_if(self.has_drained, " Drained");
+        page.put_if(self.has_strange, " strange");
     }
 
-    fn tell_heard(&self, page: &mut Page) {
-        put_if(self.has_exists, " EXISTS", page);
-        put_if(self.has_expunge, " EXPUNGE", page);
-        put_if(self.has_fetch, " FETCH", page);
-        put_if(self.has_silent, " silence", page);
-    }
-}
-
-fn put_if(holds: bool, text: &str, page: &mut Page) {
-    if holds {
-        page.put(text);
+    fn tell_heard(&self, page: &mut Words) {
+        page.put_if(self.has_exists, " EXISTS");
+        page.put_if(self.has_expunge, " EXPUNGE");
+        page.put_if(self.has_fetch, " FETCH");
+        page.put_if(self.has_silent, " silence");
     }
 }

@@ -1,7 +1,7 @@
 //! What came of events, as text.
 
 use crate::asked::cut;
-use crate::page::Page;
+use case_text::Words;
 use causal_inbox::{Arrival, DeliverFault, Delivered, Drained};
 use imap_answers::{Answer, Refusal};
 use imap_node::{Issued, OpenFault, Reply, Silents};
@@ -12,14 +12,11 @@ use std::alloc::{AllocError, Global};
 use world_core::Outcome;
 
 /// Tells the line of an event, and what came of it.
-pub fn tell(alloc: Global, line: &str, outcome: &Outcome, page: &mut Page) {
+pub fn tell(alloc: Global, line: &str, outcome: &Outcome, page: &mut Words) {
     page.put(line);
     page.put(" =>");
     match outcome {
-        Outcome::Opened { session } => {
-            page.put(" Opened ");
-            page.put_number(session.get() as u64);
-        }
+        Outcome::Opened { session } => page.put_number(" Opened ", session.get() as u64),
         Outcome::TurnedAway { fault } => page.put(turned_away(*fault)),
         Outcome::Replied { reply } => tell_reply(alloc, line, reply, page),
         Outcome::Came { delivered } => tell_delivered(*delivered, page),
@@ -38,48 +35,35 @@ fn turned_away(fault: OpenFault) -> &'static str {
     }
 }
 
-fn tell_delivered(delivered: Delivered, page: &mut Page) {
+fn tell_delivered(delivered: Delivered, page: &mut Words) {
     tell_arrival(delivered.arrival, page);
-    tell_stalled(delivered.stalled, page);
+    page.put_if(delivered.stalled, " stalled");
 }
 
-fn tell_arrival(arrival: Arrival, page: &mut Page) {
+fn tell_arrival(arrival: Arrival, page: &mut Words) {
     match arrival {
-        Arrival::Applied(count) => {
-            page.put(" Applied ");
-            page.put_number(count as u64);
-        }
+        Arrival::Applied(count) => page.put_number(" Applied ", count as u64),
         Arrival::Held => page.put(" Held"),
         Arrival::Repeat => page.put(" Repeat"),
     }
 }
 
-fn tell_stalled(stalled: bool, page: &mut Page) {
-    if stalled {
-        page.put(" stalled");
-    }
-}
-
-fn tell_fault(fault: DeliverFault, page: &mut Page) {
+fn tell_fault(fault: DeliverFault, page: &mut Words) {
     match fault {
-        DeliverFault::Conflict { id } => {
-            page.put(" Conflict ");
-            page.put_id(id);
-        }
+        DeliverFault::Conflict { id } => page.put_id(" Conflict ", id),
         DeliverFault::HeldFull => page.put(" HeldFull"),
         DeliverFault::Exhausted => page.put(" Exhausted"),
         DeliverFault::NoMemory => page.put(" NoMemory"),
     }
 }
 
-fn tell_drained(drained: Drained, page: &mut Page) {
-    page.put(" Drained ");
-    page.put_number(drained.applied as u64);
-    tell_stalled(drained.stalled, page);
+fn tell_drained(drained: Drained, page: &mut Words) {
+    page.put_number(" Drained ", drained.applied as u64);
+    page.put_if(drained.stalled, " stalled");
 }
 
 /// Tells the ids of what was issued, the numbers of the messages whose flags were set in silence, and the answers, a line each.
-fn tell_reply(alloc: Global, line: &str, reply: &Reply, page: &mut Page) {
+fn tell_reply(alloc: Global, line: &str, reply: &Reply, page: &mut Words) {
     match reply {
         Reply::Done {
             answers,
@@ -96,40 +80,37 @@ fn tell_reply(alloc: Global, line: &str, reply: &Reply, page: &mut Page) {
     }
 }
 
-fn tell_issued(issued: &Issued, page: &mut Page) {
+fn tell_issued(issued: &Issued, page: &mut Words) {
     if issued.as_slice().is_empty() {
         return;
     }
     page.put("\n  issued");
     for op in issued.as_slice() {
-        page.put(" ");
-        page.put_id(op.id());
+        page.put_id(" ", op.id());
     }
 }
 
-fn tell_silent(silents: &Silents, page: &mut Page) {
+fn tell_silent(silents: &Silents, page: &mut Words) {
     if silents.as_slice().is_empty() {
         return;
     }
     page.put("\n  silent");
     for silent in silents.as_slice() {
-        page.put(" ");
-        page.put_number(u64::from(silent.number));
+        page.put_number(" ", u64::from(silent.number));
     }
 }
 
-fn tell_answer(alloc: Global, answer: &Answer, page: &mut Page) {
+fn tell_answer(alloc: Global, answer: &Answer, page: &mut Words) {
     let mut text = Vec::new(alloc);
     match print(answer, &mut text) {
         Ok(()) => {
-            page.put("\n  ");
-            page.put_escaped(text.strip_suffix(b"\r\n").unwrap_or(&text));
+            page.put_escaped("\n  ", text.strip_suffix(b"\r\n").unwrap_or(&text));
         }
         Err(_) => page.put("\n  no memory"),
     }
 }
 
-fn tell_refused(alloc: Global, line: &str, reason: Refusal, closed: bool, page: &mut Page) {
+fn tell_refused(alloc: Global, line: &str, reason: Refusal, closed: bool, page: &mut Words) {
     if closed {
         page.put("\n  closed");
     }

@@ -1,26 +1,27 @@
 //! The clients of a random world.
 
-use crate::client::Client;
 use crate::commands::Sort;
 use crate::deeds::{Note, REPLICAS, SESSIONS};
 use crate::tally::Tally;
+use case_runs::Client;
 use imap_answers::Answer;
 use imap_node::{Node, Reply, Session, SessionNo, State};
+use session_view::{Silent, View};
 use std::alloc::{AllocError, Global};
 use world_core::Outcome;
 
-/// The clients of all sessions that say something.
+/// The clients of all sessions that say something: one for each that has selected a mailbox.
 #[derive(Drop)]
 pub struct Watch {
-    clients: Vec<Client>,
+    clients: Vec<Option<Client>>,
 }
 
 impl Watch {
-    /// Clients that have selected nothing.
+    /// No session has selected anything.
     pub fn new(alloc: Global) -> Result<Watch, AllocError> {
         let mut clients = Vec::new(alloc);
         for _ in 0..REPLICAS * SESSIONS {
-            clients.push(Client::new(alloc, false))?;
+            clients.push(None)?;
         }
         Ok(Watch { clients })
     }
@@ -36,17 +37,19 @@ impl Watch {
         match outcome {
             Outcome::Replied { reply } => self.hear_reply(alloc, note, reply, tally),
             Outcome::Closed => {
-                self.begin(alloc, note, false);
+                self.begin(note, None);
                 Ok(())
             }
             _ => Ok(()),
         }
     }
 
-    /// The client of a session begins anew.
-    fn begin(&mut self, alloc: Global, note: Note, is_selected: bool) {
+    /// A session selects a mailbox, of which this client knows nothing, or leaves the one that it had selected.
+    fn begin(&mut self, note: Note, fresh: Option<Client>) {
         if let Some(client) = self.clients.get_mut(place_of(note)) {
-            *client = Client::new(alloc, is_selected);
+            *client = fresh;
+        } else {
+            drop(fresh);
         }
     }
 
@@ -64,20 +67,20 @@ impl Watch {
                 ..
             } => {
                 if let Sort::Selecting = note.sort {
-                    self.begin(alloc, note, true);
+                    self.begin(note, Some(Client::new(alloc)));
                 }
                 tally.has_silent = tally.has_silent || !silent.as_slice().is_empty();
-                self.learn(alloc, note, silent.as_slice())?;
-                self.hear_answers(alloc, note, answers.as_slice(), tally)?;
+                tally.hear_all(answers.as_slice());
+                self.learn(alloc, note, silent.as_slice(), answers.as_slice())?;
             }
             Reply::Refused { .. } => {
                 if let Sort::Selecting = note.sort {
-                    self.begin(alloc, note, false);
+                    self.begin(note, None);
                 }
             }
         }
         if let Sort::Leaving = note.sort {
-            self.begin(alloc, note, false);
+            self.begin(note, None);
         }
         Ok(())
     }
@@ -86,32 +89,14 @@ impl Watch {
         &mut self,
         alloc: Global,
         note: Note,
-        silents: &[session_view::Silent],
-    ) -> Result<(), AllocError> {
-        let Some(client) = self.clients.get_mut(place_of(note)) else {
-            return Ok(());
-        };
-        for silent in silents {
-            client.set(alloc, silent)?;
-        }
-        Ok(())
-    }
-
-    fn hear_answers(
-        &mut self,
-        alloc: Global,
-        note: Note,
+        silents: &[Silent],
         answers: &[Answer],
-        tally: &mut Tally,
     ) -> Result<(), AllocError> {
-        let Some(client) = self.clients.get_mut(place_of(note)) else {
+        let Some(Some(client)) = self.clients.get_mut(place_of(note)) else {
             return Ok(());
         };
-        for answer in answers {
-            tally.hear(answer);
-            client.take(alloc, answer)?;
-        }
-        Ok(())
+        client.set_all(alloc, silents)?;
+        client.take_all(alloc, answers)
     }
 
     /// Whether each session of these nodes sees what its client was told.
@@ -153,20 +138,22 @@ fn session_of(node: &Node, number: usize) -> Option<&Session> {
     node.session(session)
 }
 
-/// Whether a client knows what its session sees.
-fn is_as(client: Option<&Client>, session: Option<&Session>) -> bool {
+/// Whether there is a client where a session has selected a mailbox, which knows what that sees, and else none.
+fn is_as(client: Option<&Option<Client>>, session: Option<&Session>) -> bool {
     match client {
         None => false,
-        Some(client) => match session {
-            None => client.is_out(),
-            Some(session) => is_state(client, &session.state),
+        Some(None) => selected(session).is_none(),
+        Some(Some(client)) => match selected(session) {
+            Some(view) => client.is_right_for(view.entries()),
+            None => false,
         },
     }
 }
 
-fn is_state(client: &Client, state: &State) -> bool {
-    match state {
-        State::Selected { view, .. } => client.is_right_by(view.entries()),
-        _ => client.is_out(),
+/// What a session sees of the mailbox that it selected.
+fn selected(session: Option<&Session>) -> Option<&View> {
+    match &session?.state {
+        State::Selected { view, .. } => Some(view),
+        _ => None,
     }
 }

@@ -3,9 +3,8 @@
 use crate::asked::{cut, event, replica_in, starts};
 use crate::ending::{agreement, are_from_one, ended};
 use crate::games::tell_random;
-use crate::page::Page;
 use crate::told::tell;
-use crate::trouble::Trouble;
+use case_text::{Trouble, Words};
 use imap_node::Node;
 use std::alloc::Global;
 use tags_clocks::ReplicaId;
@@ -34,8 +33,8 @@ impl<'a> Worked<'a> {
 }
 
 /// Plays the lines of a text, and tells each with what comes of it.
-pub fn play(alloc: Global, text: &str) -> Page {
-    let mut page = Page::new(alloc);
+pub fn play(alloc: Global, text: &str) -> Words {
+    let mut page = Words::new(alloc);
     let mut worked = Worked::new(alloc);
     for line in text.split_terminator('\n') {
         take_line(alloc, line, &mut worked, &mut page);
@@ -44,7 +43,7 @@ pub fn play(alloc: Global, text: &str) -> Page {
 }
 
 /// Takes a line: an answer is left out, a title or a comment told as it is, and what is asked is done.
-fn take_line<'a>(alloc: Global, line: &'a str, worked: &mut Worked<'a>, page: &mut Page) {
+fn take_line<'a>(alloc: Global, line: &'a str, worked: &mut Worked<'a>, page: &mut Words) {
     if line.starts_with("  ") {
         return;
     }
@@ -56,8 +55,7 @@ fn take_line<'a>(alloc: Global, line: &'a str, worked: &mut Worked<'a>, page: &m
     let (asked, _) = line.split_once(" =>").unwrap_or((line, ""));
     if let Err(trouble) = take_asked(alloc, asked, worked, page) {
         page.put(asked);
-        page.put(" => ");
-        page.put(trouble.text());
+        page.put_trouble(" => ", trouble);
         page.put("\n");
     }
 }
@@ -66,7 +64,7 @@ fn take_asked<'a>(
     alloc: Global,
     asked: &'a str,
     worked: &mut Worked<'a>,
-    page: &mut Page,
+    page: &mut Words,
 ) -> Result<(), Trouble> {
     let (word, rest) = cut(asked);
     match word {
@@ -92,12 +90,12 @@ fn take_asked<'a>(
     }
 }
 
-fn tell_line(line: &str, page: &mut Page) {
+fn tell_line(line: &str, page: &mut Words) {
     page.put(line);
     page.put("\n");
 }
 
-fn tell_answer(asked: &str, answer: &str, page: &mut Page) {
+fn tell_answer(asked: &str, answer: &str, page: &mut Words) {
     page.put(asked);
     page.put(" => ");
     page.put(answer);
@@ -105,7 +103,7 @@ fn tell_answer(asked: &str, answer: &str, page: &mut Page) {
 }
 
 /// Takes all events so far in one run, and tells what came of each.
-fn run_lines(alloc: Global, worked: &mut Worked, page: &mut Page) -> Result<(), Trouble> {
+fn run_lines(alloc: Global, worked: &mut Worked, page: &mut Words) -> Result<(), Trouble> {
     let events = std::mem::replace(&mut worked.events, Vec::new(alloc));
     if !are_from_one(&worked.starts) {
         return Err(Trouble::NotACase);
@@ -122,14 +120,14 @@ fn run_world(
     worked: &mut Worked,
     world: World,
     events: Vec<Event>,
-    page: &mut Page,
+    page: &mut Words,
 ) {
     let outcomes = run(alloc, world, events);
     tell_outcomes(alloc, &worked.lines, &outcomes, page);
     worked.nodes = outcomes.world.into_nodes();
 }
 
-fn tell_no_world(fault: WorldFault, page: &mut Page) -> Result<(), Trouble> {
+fn tell_no_world(fault: WorldFault, page: &mut Words) -> Result<(), Trouble> {
     match fault {
         WorldFault::TwoAlike { id } => {
             tell_alike(id, page);
@@ -139,18 +137,16 @@ fn tell_no_world(fault: WorldFault, page: &mut Page) -> Result<(), Trouble> {
     }
 }
 
-fn tell_alike(id: ReplicaId, page: &mut Page) {
-    page.put("run => TwoAlike ");
-    page.put_number(u64::from(id.get()));
+fn tell_alike(id: ReplicaId, page: &mut Words) {
+    page.put_number("run => TwoAlike ", u64::from(id.get()));
     page.put("\n");
 }
 
-fn tell_outcomes(alloc: Global, lines: &[&str], outcomes: &Outcomes, page: &mut Page) {
+fn tell_outcomes(alloc: Global, lines: &[&str], outcomes: &Outcomes, page: &mut Words) {
     for (line, outcome) in lines.iter().zip(outcomes.list.iter()) {
         tell(alloc, line, outcome, page);
     }
-    page.put("run => ");
-    page.put_number(outcomes.list.len() as u64);
+    page.put_number("run => ", outcomes.list.len() as u64);
     page.put(" outcomes, ");
     page.put(if outcomes.whole { "whole" } else { "not whole" });
     page.put("\n");
@@ -160,7 +156,7 @@ fn tell_agreement(
     asked: &str,
     names: &str,
     nodes: &[Node],
-    page: &mut Page,
+    page: &mut Words,
 ) -> Result<(), Trouble> {
     let (one, other) = cut(names);
     let one = node_of(replica_in(one)?, nodes)?;

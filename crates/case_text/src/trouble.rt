@@ -6,7 +6,7 @@ use std::alloc::{AllocError, AllocFailed};
 /// Why a line gets no answer.
 #[derive(Clone, Copy)]
 pub enum Trouble {
-    /// It isn't written as a case is.
+    /// It isn't written as a case is, or what a program made up for it is none.
     NotACase,
     /// It names a message number that there isn't.
     OutOfRange,

@@ -1,6 +1,6 @@
 //! A plain client: what it makes of what it is told.
 
-use imap_answers::{Answer, FetchItems};
+use imap_answers::{Answer, FetchItems, Notice};
 use imap_types::Flags;
 use session_view::{Entry, Silent};
 use std::alloc::{AllocError, Global};
@@ -17,22 +17,40 @@ struct Slot {
 /// What a client knows of the mailbox that it selected.
 #[derive(Drop)]
 pub struct Client {
-    /// Whether one is selected.
-    is_selected: bool,
     /// The messages by their numbers.
     slots: Vec<Slot>,
+    /// The UIDVALIDITY, where an answer told it.
+    validity: Option<u32>,
     /// An answer spoke of a message that isn't there, or of fewer messages than there are.
     is_lost: bool,
 }
 
 impl Client {
-    /// A client that has selected none, or one of which it knows nothing.
-    pub fn new(alloc: Global, is_selected: bool) -> Client {
+    /// A client that knows nothing.
+    pub fn new(alloc: Global) -> Client {
         Client {
-            is_selected,
             slots: Vec::new(alloc),
+            validity: None,
             is_lost: false,
         }
+    }
+
+    /// How many messages there are.
+    pub fn count(&self) -> usize {
+        self.slots.len()
+    }
+
+    /// The UIDVALIDITY, where it was told.
+    pub fn validity(&self) -> Option<u32> {
+        self.validity
+    }
+
+    /// Takes answers, one after another. An error says that there is no memory.
+    pub fn take_all(&mut self, alloc: Global, answers: &[Answer]) -> Result<(), AllocError> {
+        for answer in answers {
+            self.take(alloc, answer)?;
+        }
+        Ok(())
     }
 
     /// Takes an answer (RFC 9051, section 7). An error says that there is no memory.
@@ -44,12 +62,24 @@ impl Client {
             }
             Answer::Exists { count } => self.lengthen(*count),
             Answer::Fetch { number, items } => self.learn(alloc, *number, items),
+            Answer::Tell { notice } => {
+                self.note(notice);
+                Ok(())
+            }
             _ => Ok(()),
         }
     }
 
-    /// Takes flags that it set in silence (RFC 9051, section 6.4.6).
-    pub fn set(&mut self, alloc: Global, silent: &Silent) -> Result<(), AllocError> {
+    /// Takes flags that it set in silence (RFC 9051, section 6.4.6), of one message after another. An error says that there is no
+    /// memory.
+    pub fn set_all(&mut self, alloc: Global, silents: &[Silent]) -> Result<(), AllocError> {
+        for silent in silents {
+            self.set(alloc, silent)?;
+        }
+        Ok(())
+    }
+
+    fn set(&mut self, alloc: Global, silent: &Silent) -> Result<(), AllocError> {
         match self.slots.get_mut(place_of(silent.number)) {
             Some(slot) => slot.flags = Some(silent.flags.copy(alloc)?),
             None => self.is_lost = true,
@@ -91,22 +121,32 @@ impl Client {
         }
     }
 
-    /// Whether no mailbox is selected.
-    pub fn is_out(&self) -> bool {
-        !self.is_selected
+    fn note(&mut self, notice: &Notice) {
+        if let Notice::UidValidity { value } = notice {
+            self.validity = Some(*value);
+        }
     }
 
-    /// Whether a mailbox is selected, and all that the client knows of it is as a session sees it.
-    pub fn is_right_by(&self, entries: &[Entry]) -> bool {
-        if !self.is_selected || self.is_lost || self.slots.len() != entries.len() {
+    /// Whether all that the client knows of messages is as this other client, which knows all, has it.
+    pub fn is_right_by(&self, other: &Client) -> bool {
+        if self.is_lost || self.slots.len() != other.slots.len() {
             return false;
         }
-        self.has_right_slots(entries)
+        for (slot, there) in self.slots.iter().zip(&other.slots) {
+            if !slot.is_right(there.uid, there.flags.as_ref()) {
+                return false;
+            }
+        }
+        true
     }
 
-    fn has_right_slots(&self, entries: &[Entry]) -> bool {
+    /// Whether all that the client knows of messages is as a session sees it.
+    pub fn is_right_for(&self, entries: &[Entry]) -> bool {
+        if self.is_lost || self.slots.len() != entries.len() {
+            return false;
+        }
         for (slot, entry) in self.slots.iter().zip(entries) {
-            if !is_right(slot, entry) {
+            if !slot.is_right(Some(entry.uid), Some(&entry.flags)) {
                 return false;
             }
         }
@@ -124,6 +164,20 @@ impl Slot {
         }
         Ok(())
     }
+
+    /// Whether what is known of the message is so.
+    fn is_right(&self, uid: Option<u32>, flags: Option<&Flags>) -> bool {
+        let has_uid = self.uid.is_none() || self.uid == uid;
+        has_uid && self.has_right_flags(flags)
+    }
+
+    fn has_right_flags(&self, flags: Option<&Flags>) -> bool {
+        match (&self.flags, flags) {
+            (None, _) => true,
+            (Some(known), Some(there)) => known.same(there),
+            (Some(_), None) => false,
+        }
+    }
 }
 
 /// The place of the message with this number, from 1 on; that of no message for 0.
@@ -131,23 +185,5 @@ fn place_of(number: u32) -> usize {
     match number.checked_sub(1) {
         Some(place) => place as usize,
         None => usize::MAX,
-    }
-}
-
-fn is_right(slot: &Slot, entry: &Entry) -> bool {
-    has_uid(slot, entry.uid) && has_flags(slot, &entry.flags)
-}
-
-fn has_uid(slot: &Slot, uid: u32) -> bool {
-    match slot.uid {
-        Some(known) => known == uid,
-        None => true,
-    }
-}
-
-fn has_flags(slot: &Slot, flags: &Flags) -> bool {
-    match &slot.flags {
-        Some(known) => known.same(flags),
-        None => true,
     }
 }

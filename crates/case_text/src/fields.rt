@@ -1,10 +1,21 @@
-//! The fields of a case: numbers, names and operations.
+//! The fields of a line.
 
-use crate::trouble::Trouble;
+use crate::Trouble;
 use crdt_ops::{Op, OpFault, SoundOp, check, read_op};
-use imap_types::{Escape, EscapeFault, Name, read_escaped};
+use imap_types::{Escape, Name, Octets, read_escaped};
 use std::alloc::Global;
 use tags_clocks::ReplicaId;
+
+/// What stands in front of a line's last ` =>`; the whole of a comment, which begins with `#`.
+pub fn asked(line: &str) -> &str {
+    if line.starts_with('#') {
+        return line;
+    }
+    match line.rsplit_once(" =>") {
+        Some((asked, _)) => asked,
+        None => line,
+    }
+}
 
 /// The first field, and what follows behind a space.
 pub fn cut(text: &str) -> Result<(&str, &str), Trouble> {
@@ -17,27 +28,29 @@ pub fn number(text: &str) -> Result<u32, Trouble> {
 }
 
 /// A number of up to 64 bits.
-pub fn large_number(text: &str) -> Result<u64, Trouble> {
+pub fn long_number(text: &str) -> Result<u64, Trouble> {
     text.parse::<u64>().ok().ok_or(Trouble::NotACase)
 }
 
-/// The replica that a field names.
+/// The replica that a number names.
 pub fn replica(text: &str) -> Result<ReplicaId, Trouble> {
     ReplicaId::new(number(text)?).ok_or(Trouble::NotACase)
 }
 
+/// The octets that a text in the escape stands for.
+pub fn octets(alloc: Global, escape: Escape, text: &str) -> Result<Octets, Trouble> {
+    Ok(read_escaped(alloc, escape, text.as_bytes())?)
+}
+
 /// The name that a field in the escape stands for.
 pub fn name(alloc: Global, text: &str) -> Result<Name, Trouble> {
-    match read_escaped(alloc, Escape::Field, text.as_bytes()) {
-        Ok(octets) => Ok(Name::new(octets.into_vec())),
-        Err(EscapeFault::NotEscaped) => Err(Trouble::NotACase),
-        Err(EscapeFault::NoMemory) => Err(Trouble::NoMemory),
-    }
+    let octets = octets(alloc, Escape::Field, text)?;
+    Ok(Name::new(octets.into_vec()))
 }
 
 /// The sound operation that a text spells.
-pub fn operation(alloc: Global, line: &str) -> Result<SoundOp, Trouble> {
-    match read_op(alloc, line.as_bytes()) {
+pub fn operation(alloc: Global, text: &str) -> Result<SoundOp, Trouble> {
+    match read_op(alloc, text.as_bytes()) {
         Ok(op) => sound(op),
         Err(OpFault::NotTheForm) => Err(Trouble::NotACase),
         Err(OpFault::NoMemory) => Err(Trouble::NoMemory),
