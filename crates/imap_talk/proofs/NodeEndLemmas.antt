@@ -148,7 +148,7 @@ module _ (front back : List Item) (item : Item) (old mid last : NodeSession) (n 
   run = conversed front old mid n None between before st h
 
   last_item : conversations.Takes mid.node n (timed mid.moment item) given last.node × ((last.session ≡ Some n) × HasLoggedOut last.node n) × (last.moment ≡ mid.moment)
-  last_item = taken mid last n given after true between item run.0 t
+  last_item = taken mid last n given after true between run.0 item t
 
   logged_out : conversations.Converses mid.node n (timed_at mid.moment (item ∷ back)) (turns_of item given) (closed last.node n)
   logged_out = (given, last.node, last_item.0, inr (last_item.1.1, refl, refl))

@@ -25,14 +25,17 @@ use Rattle.imap_node.specs.declared.reply.Reply.TheVariants.{Done, Refused}
 use Rattle.imap_node.proofs.SessionLemmas.{session_put}
 use Rattle.node_talk.specs.Conversation.{TakesBy, got, sent, sent_one, timed, timed_at, turns_of}
 use Rattle.node_talk.specs.Conversation as conversations
-use Rattle.node_talk.specs.Replies.{answers_of, idling_at, is_without_memory, tag_of_idling}
+use Rattle.node_talk.specs.Inputs.{IsRequest}
+use Rattle.node_talk.specs.Inputs as nodes
+use Rattle.node_talk.specs.Replies.{idling_at, is_without_memory, tag_of_idling}
+use Rattle.node_talk.specs.declared.requests.Request.{Request}
+use Rattle.node_talk.specs.declared.requests.Request.TheVariants as requests
 use Rattle.node_talk.specs.declared.turn.Turn.{Turn}
+use Rattle.node_talk.proofs.RequestLemmas.{handled, of_command}
 use Rattle.imap_talk.specs.NodePorts.{NodeSession, NodeSteps}
 use Rattle.imap_talk.specs.NodeTalks.{Stands, text_of_turn, text_sent}
-use Rattle.imap_talk.specs.Requests.{Handles, IsRequest, Takes, idling_behind, is_done, is_logout, logs_out, texts}
+use Rattle.imap_talk.specs.Requests.{Handles, Takes, idling_behind, is_done, is_logout, logs_out, texts}
 use Rattle.imap_talk.specs.Talks.{Converses}
-use Rattle.imap_talk.specs.declared.requests.Request.{Request}
-use Rattle.imap_talk.specs.declared.requests.Request.TheVariants.{Told, Said, Line}
 
 -- ---- what is sent
 
@@ -178,10 +181,6 @@ GoesOn false port n after = Stands port n after
 GoesOn true port n after = (port.session ≡ Some n) × HasLoggedOut port.node n
 
 module _ (old new : NodeSession) (n : ℕ) (given : List Answer) (after : Option (List ℕ)) (out : Bool) where
-  -- What is to be shown of an item.
-  abbrev Shown : Option (List ℕ) → Item → Type 0
-  Shown idling item = TakesBy idling old.node n old.moment item given new.node × GoesOn out new n after × (new.moment ≡ old.moment)
-
   told_goes : (idling : Option (List ℕ)) → Stands old n idling → new ≡ old → after ≡ idling → out ≡ false → GoesOn out new n after × (new.moment ≡ old.moment)
   told_goes idling st same idles on =
       let now : Stands new n idling = subst (λ (s : NodeSession). Stands s n idling) (sym same) st in
@@ -199,58 +198,37 @@ module _ (old new : NodeSession) (n : ℕ) (given : List Answer) (after : Option
         let now : GoesOn (logs_out tagged reply) new n after = subst (λ (i : Option (List ℕ)). GoesOn (logs_out tagged reply) new n i) (sym idles) (said_goes (logs_out tagged reply) refl) in
         subst (λ (o : Bool). GoesOn o new n after) (sym on) now
 
-  line_on : (tag : List ℕ) (line : IdleLine) (reply : Reply) → Stands old n (Some tag) → Responds old.node n (inputs.Line line) reply new.node → new.session ≡ Some n → is_without_memory reply ≡ false
+  line_on : (idling : Option (List ℕ)) (line : IdleLine) (reply : Reply) → Stands old n idling → Responds old.node n (inputs.Line line) reply new.node → new.session ≡ Some n → is_without_memory reply ≡ false
       → after ≡ None → out ≡ false → GoesOn out new n after
-  line_on tag line reply st r session m idles on =
+  line_on idling line reply st r session m idles on =
       let now : Stands new n None = record { session = session; going = line_goes old.node new.node n line reply st.going r; idles = line_idles old.node new.node n line reply m r } in
       let stands : Stands new n after = subst (λ (i : Option (List ℕ)). Stands new n i) (sym idles) now in
       subst (λ (o : Bool). GoesOn o new n after) (sym on) stands
 
-  said_shown : (octets : List ℕ) (tagged : Tagged) → Stands old n None → IsRequest None (Frame octets) (Said tagged) → Handles NodeSteps old None (Said tagged) given new after out → Shown None (Frame octets)
-  said_shown octets tagged st i h =
-      let same = some_is (sym h.1.1 ∙ st.session) in
-      let r = subst (λ (k : ℕ). Responds old.node k (inputs.Command old.moment tagged) h.0 new.node) same h.1.2 in
-      (inl (tagged, h.0, i, r, h.2), said_on tagged h.0 st r (h.1.3 ∙ ap Some same) h.3 h.4, h.1.4)
+  module _ (idling : Option (List ℕ)) (st : Stands old n idling) where
+    -- what the port makes of a request is what its node makes of it
+    at_node : (request : Request) → Handles NodeSteps old idling request given new after out → nodes.Handles old.node n old.moment request given new.node
+    at_node (requests.Told answer) h = (h.0, ap (λ (s : NodeSession). s.node) h.1)
+    at_node (requests.Command tagged) h =
+        (h.0, subst (λ (k : ℕ). Responds old.node k (inputs.Command old.moment tagged) h.0 new.node) (some_is (sym h.1.1 ∙ st.session)) h.1.2, h.2)
+    at_node (requests.Line own line) h =
+        (h.0, subst (λ (k : ℕ). Responds old.node k (inputs.Line line) h.0 new.node) (some_is (sym h.1.1 ∙ st.session)) h.1.2, h.2, h.3)
 
-  module _ (tag own : List ℕ) (line : IdleLine) (st : Stands old n (Some tag)) (h : Handles NodeSteps old (Some tag) (Line own line) given new after out) where
-    same_number : h.1.0 ≡ n
-    same_number = some_is (sym h.1.1 ∙ st.session)
+    stands_behind : (item : Item) (request : Request) → IsRequest idling item request → Handles NodeSteps old idling request given new after out → GoesOn out new n after × (new.moment ≡ old.moment)
+    unfolding at_node
+    stands_behind item (requests.Told answer) i h = told_goes idling st h.1 h.2 h.3
+    stands_behind item (requests.Command tagged) i h =
+        let awake : Stands old n None = subst (λ (k : Option (List ℕ)). Stands old n k) (of_command idling item tagged i) st in
+        (said_on tagged h.0 awake (at_node (requests.Command tagged) h).1 (h.1.3 ∙ ap Some (some_is (sym h.1.1 ∙ st.session))) h.3 h.4, h.1.4)
+    stands_behind item (requests.Line own line) i h =
+        (line_on idling line h.0 st (at_node (requests.Line own line) h).1 (h.1.3 ∙ ap Some (some_is (sym h.1.1 ∙ st.session))) h.2 h.4 h.5, h.1.4)
 
-    line_answered : Responds old.node n (inputs.Line line) h.0 new.node
-    line_answered = subst (λ (k : ℕ). Responds old.node k (inputs.Line line) h.0 new.node) same_number h.1.2
-
-    line_stands : GoesOn out new n after × (new.moment ≡ old.moment)
-    line_stands = (line_on tag line h.0 st line_answered (h.1.3 ∙ ap Some same_number) h.2 h.4 h.5, h.1.4)
-
-  handled : (idling : Option (List ℕ)) (item : Item) (request : Request) → Stands old n idling → IsRequest idling item request → Handles NodeSteps old idling request given new after out → Shown idling item
-  handled None Ready (Told answer) st i h =
-      let g = told_goes None st h.1 h.2 h.3 in ((h.0 ∙ ap (λ (a : Answer). a ∷ []) i, ap (λ (s : NodeSession). s.node) h.1), g.0, g.1)
-  handled None Ready (Said tagged) st i h = absurd i
-  handled None Ready (Line own line) st i h = absurd i
-  handled None (Frame octets) (Told answer) st i h = let g = told_goes None st h.1 h.2 h.3 in (inr (answer, i, h.0, ap (λ (s : NodeSession). s.node) h.1), g.0, g.1)
-  handled None (Frame octets) (Said tagged) st i h = said_shown octets tagged st i h
-  handled None (Frame octets) (Line own line) st i h = absurd i
-  handled None (RefusedItem octets) (Told answer) st i h = let g = told_goes None st h.1 h.2 h.3 in ((answer, i, h.0, ap (λ (s : NodeSession). s.node) h.1), g.0, g.1)
-  handled None (RefusedItem octets) (Said tagged) st i h = absurd i
-  handled None (RefusedItem octets) (Line own line) st i h = absurd i
-  handled (Some tag) Ready (Told answer) st i h =
-      let g = told_goes (Some tag) st h.1 h.2 h.3 in ((h.0 ∙ ap (λ (a : Answer). a ∷ []) i, ap (λ (s : NodeSession). s.node) h.1), g.0, g.1)
-  handled (Some tag) Ready (Said tagged) st i h = absurd i
-  handled (Some tag) Ready (Line own line) st i h = absurd i
-  handled (Some tag) (Frame octets) (Told answer) st i h = absurd i
-  handled (Some tag) (Frame octets) (Said tagged) st i h = absurd i
-  handled (Some tag) (Frame octets) (Line own line) st i h =
-      let g = line_stands tag own line st h in ((line, h.0, i.1, line_answered tag own line st h, h.2, h.3 ∙ ap (λ t. answers_of t h.0) i.0), g.0, g.1)
-  handled (Some tag) (RefusedItem octets) (Told answer) st i h = absurd i
-  handled (Some tag) (RefusedItem octets) (Said tagged) st i h = absurd i
-  handled (Some tag) (RefusedItem octets) (Line own line) st i h =
-      let g = line_stands tag own line st h in ((line, h.0, i.1, line_answered tag own line st h, h.2, h.3 ∙ ap (λ t. answers_of t h.0) i.0), g.0, g.1)
-
-  pub taken : (idling : Option (List ℕ)) (item : Item) → Stands old n idling → Takes NodeSteps old idling item given new after out
-      → conversations.Takes old.node n (timed old.moment item) given new.node × GoesOn out new n after × (new.moment ≡ old.moment)
-  taken idling item st t =
-      let k = handled idling item t.0 st t.1 t.2 in
-      (subst (λ (i : Option (List ℕ)). TakesBy i old.node n old.moment item given new.node) (sym st.idles) k.0, k.1, k.2)
+    pub taken : (item : Item) → Takes NodeSteps old idling item given new after out
+        → conversations.Takes old.node n (timed old.moment item) given new.node × GoesOn out new n after × (new.moment ≡ old.moment)
+    taken item t =
+        let on = stands_behind item t.0 t.1 t.2 in
+        let took = handled idling old.node new.node n old.moment item t.0 given t.1 (at_node t.0 t.2) in
+        (subst (λ (i : Option (List ℕ)). TakesBy i old.node n old.moment item given new.node) (sym st.idles) took, on.0, on.1)
 
 -- ---- many items
 
@@ -266,7 +244,7 @@ conversed [] old mid n idling between said st h =
       λ tail more last k. (more, subst (λ (s : NodeSession). conversations.Converses s.node n tail more last) h.1 k, ap (λ t. t ++ text_sent more) (sym h.0)),
     )
 conversed (item ∷ items) old mid n idling between said st h =
-    let t = taken old h.1 n h.0 h.2 false idling item st h.4 in
+    let t = taken old h.1 n h.0 h.2 false idling st item h.4 in
     let r = conversed items h.1 mid n h.2 between h.3 t.1 h.6 in (
       r.0,
       r.1 ∙ t.2,

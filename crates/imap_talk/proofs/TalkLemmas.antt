@@ -5,7 +5,7 @@ use Rattle.std.proofs.lemmas.Bool.{false≢true}
 use Rattle.std.proofs.lemmas.List.{take-append-drop}
 use Rattle.std.proofs.lemmas.List.Concat.{flat_map-append}
 use Rattle.imap_answers.specs.declared.answer.Answer.{Answer}
-use Rattle.imap_lex.specs.Reading.{Cut, FaultsNow, Progress, goes_on, start, with_items}
+use Rattle.imap_lex.specs.Reading.{Cut, FaultsNow, IsPrefix, Progress, goes_on, start, with_items}
 use Rattle.imap_lex.specs.declared.fault.Fault.{Fault}
 use Rattle.imap_lex.specs.declared.fault.Fault.TheVariants.{LineTooLong, LiteralTooLong, NulByte, NoMemory as Memory, Failed}
 use Rattle.imap_lex.specs.declared.item.Item.{Item}
@@ -13,24 +13,23 @@ use Rattle.imap_lex.specs.declared.limits.Limits.{Limits}
 use Rattle.imap_lex.proofs.CutLemmas.{goes_on-append}
 use Rattle.imap_grammar.specs.declared.idle.IdleLine.{IdleLine}
 use Rattle.imap_node.specs.declared.reply.Reply.{Reply}
+use Rattle.node_talk.specs.Conversation.{IsFront}
+use Rattle.node_talk.specs.Inputs.{IsRequest}
 use Rattle.node_talk.specs.Replies.{is_without_memory}
+use Rattle.node_talk.specs.declared.requests.Request.{Request}
+use Rattle.node_talk.specs.declared.requests.Request.TheVariants.{Told, Line}
+use Rattle.node_talk.proofs.TalkLemmas.{given_in_front}
+use Rattle.node_talk.proofs.TurnLemmas.{front_behind}
 use Rattle.imap_talk.specs.Asked.{Asked}
 use Rattle.imap_talk.specs.Devices.{Gave, Said, Took, TookSome}
 use Rattle.imap_talk.specs.Asked as asked
 use Rattle.imap_talk.specs.Endings.{IsSaid, end_of, failed_writes}
-use Rattle.imap_talk.specs.Requests.{Fails, Handles, IsFront, IsRequest, StopsAt, Takes, call_of, texts}
-use Rattle.imap_talk.specs.Talks.{AreFirst, Breaks, Converses, Ends, Goes, GoesFor, Halts, IsCut, IsWritten, Leaves}
+use Rattle.imap_talk.specs.Requests.{Fails, Handles, StopsAt, Takes, call_of, texts}
+use Rattle.imap_talk.specs.Talks.{Breaks, Converses, Ends, Goes, GoesFor, Halts, IsCut, IsWritten, Leaves}
 use Rattle.imap_talk.specs.declared.ended.Ended.{Ended}
 use Rattle.imap_talk.specs.declared.ended.Ended.TheVariants.{Logout, PeerClosed, TooManySessions, Framing, NoMemory, ReadFailed, Torn, WriteFailed}
 use Rattle.imap_talk.specs.declared.fault.PortFault.{PortFault}
 use Rattle.imap_talk.specs.declared.fault.PortFault.TheVariants as faults
-use Rattle.imap_talk.specs.declared.requests.Request.{Request}
-use Rattle.imap_talk.specs.declared.requests.Request.TheVariants.{Told, Line}
-
--- what holds anyhow holds at an error
-pub at_error : {T E : Type 0} (r : Result T E) (P : Type 0) → P → OnErr r P
-at_error (Ok x) P p = tt
-at_error (Err e) P p = p
 
 -- ---- what was taken and is held back
 
@@ -155,10 +154,7 @@ gave-nil (Some old) = (old, refl, refl)
 
 -- ---- items that were answered
 
-front_longer : (items more front : List Item) → AreFirst front more → AreFirst (items ++ front) (items ++ more)
-front_longer items more front f = (f.0, ap (λ t. items ++ t) f.1 ∙ sym (append_assoc items front f.0))
-
-pub front_of_front : (front items all : List Item) → AreFirst front items → AreFirst items all → AreFirst front all
+pub front_of_front : (front items all : List Item) → IsPrefix front items → IsPrefix items all → IsPrefix front all
 front_of_front front items all f g = (f.0 ++ g.0, g.1 ∙ ap (λ t. t ++ g.0) f.1 ∙ append_assoc front f.0 g.0)
 
 module _ {S : Type 0} (steps : S → Asked → Result Reply PortFault → S → Type 0) where
@@ -196,7 +192,7 @@ module _ {S : Type 0} (steps : S → Asked → Result Reply PortFault → S → 
   goes_for_behind old idling items more said mid between rest new c g =
       record {
         front = items ++ g.front;
-        first = front_longer items more g.front g.first;
+        first = front_behind items g.front more g.first;
         goes = goes_behind old idling items g.front said mid between rest new c g.goes;
       }
 
@@ -226,7 +222,7 @@ module _ {S : Type 0} (steps : S → Asked → Result Reply PortFault → S → 
       ]
 
   -- items behind those at which it ended don't matter
-  leaves_first : (old : S) (idling : Option (List ℕ)) (items all : List Item) (ended : Ended) (said : List ℕ) (new : S) → AreFirst items all → Leaves steps old idling items ended said new → Leaves steps old idling all ended said new
+  leaves_first : (old : S) (idling : Option (List ℕ)) (items all : List Item) (ended : Ended) (said : List ℕ) (new : S) → IsPrefix items all → Leaves steps old idling items ended said new → Leaves steps old idling all ended said new
   leaves_first old idling items all ended said new f h =
       elim h [
         | inl w ↦ inl (w.0, record { front = w.1.front; first = front_of_front w.1.front items all w.1.first f; goes = w.1.goes })
@@ -297,18 +293,10 @@ module _ {S : Type 0} (steps : S → Asked → Result Reply PortFault → S → 
       → IsOk state → FaultsNow why items state now cut → Converses steps old idling items said new after → Halts steps old idling cut (Framing why) said new
   halts_cut why old idling items state now cut said new after o f c = inl (why, refl, cut_now why old idling items state now cut said new after o f c)
 
-  -- what the framer gave in front of a fault begins what the octets give
-  given_first : (why : Fault) (items : List Item) (state now : Result Progress Fault) (cut : Cut) → FaultsNow why items state now cut → AreFirst items cut.0
-  given_first Memory items state now cut f = f.2
-  given_first LineTooLong items state now cut f = ([], ap (λ (k : Cut). k.0) f.2 ∙ sym (append-nil items))
-  given_first LiteralTooLong items state now cut f = ([], ap (λ (k : Cut). k.0) f.2 ∙ sym (append-nil items))
-  given_first NulByte items state now cut f = ([], ap (λ (k : Cut). k.0) f.2 ∙ sym (append-nil items))
-  given_first Failed items state now cut f = (cut.0, ap (λ t. t ++ cut.0) (sym f.1))
-
   -- it ended at an item of a piece whose octets can't be cut any further
   pub halts_before : (why : Fault) (old : S) (idling : Option (List ℕ)) (items : List Item) (state now : Result Progress Fault) (cut : Cut) (ended : Ended) (said : List ℕ) (new : S)
       → FaultsNow why items state now cut → Leaves steps old idling items ended said new → Halts steps old idling cut ended said new
-  halts_before why old idling items state now cut ended said new f l = inr (leaves_first old idling items cut.0 ended said new (given_first why items state now cut f) l)
+  halts_before why old idling items state now cut ended said new f l = inr (leaves_first old idling items cut.0 ended said new (given_in_front why items state now cut f) l)
 
   -- ---- all that was read
 

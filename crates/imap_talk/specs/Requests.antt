@@ -2,44 +2,29 @@ use Rattle.std.specs.Prelude.{◌≡◌, ◌⊎◌, ℕ, Bool, true, false, ◌&
 use Rattle.std.specs.List.{flat_map}
 use Rattle.imap_answers.specs.Printed.{printed}
 use Rattle.imap_answers.specs.declared.answer.Answer.{Answer}
-use Rattle.imap_answers.specs.declared.answer.Answer.TheVariants.{Continue}
-use Rattle.imap_answers.specs.declared.words.Continuation.TheVariants as continuations
-use Rattle.imap_grammar.specs.Commands.{IsSpelled}
 use Rattle.imap_grammar.specs.declared.command.Command.{Command}
 use Rattle.imap_grammar.specs.declared.command.Command.TheVariants as commands
 use Rattle.imap_grammar.specs.declared.command.Tagged.{Tagged}
 use Rattle.imap_grammar.specs.declared.idle.IdleLine.{IdleLine}
 use Rattle.imap_lex.specs.declared.item.Item.{Item}
-use Rattle.imap_lex.specs.declared.item.Item.TheVariants.{Ready, Frame, Refused}
 use Rattle.imap_node.specs.Commands.{is_idle}
 use Rattle.imap_node.specs.declared.reply.Reply.{Reply}
 use Rattle.imap_node.specs.declared.reply.Reply.TheVariants as replies
-use Rattle.node_talk.specs.Conversation.{IsLine}
-use Rattle.node_talk.specs.FaultAnswers.{IsFaultAnswer, IsLiteralAnswer}
+use Rattle.node_talk.specs.Conversation.{IsFront}
+use Rattle.node_talk.specs.Inputs.{IsRequest}
 use Rattle.node_talk.specs.Replies.{answers_of, is_without_memory}
+use Rattle.node_talk.specs.declared.requests.Request.{Request}
+use Rattle.node_talk.specs.declared.requests.Request.TheVariants as requests
 use Rattle.imap_talk.specs.Asked.{Asked}
 use Rattle.imap_talk.specs.Asked as asked
 use Rattle.imap_talk.specs.Endings.{end_of}
 use Rattle.imap_talk.specs.declared.ended.Ended.{Ended}
 use Rattle.imap_talk.specs.declared.ended.Ended.TheVariants.{Logout, NoMemory}
 use Rattle.imap_talk.specs.declared.fault.PortFault.{PortFault}
-use Rattle.imap_talk.specs.declared.requests.Request.{Request}
-use Rattle.imap_talk.specs.declared.requests.Request.TheVariants.{Told, Said, Line}
 
 -- The text of answers, one behind the other.
 abbrev pub texts : List Answer → List ℕ
 texts answers = flat_map printed answers
-
--- What an item of the framer is to a session that idles with this tag, or doesn't: the leave to go on with a literal, the answer to a fault, or
--- to a front that is refused for its literal; the command that it spells; or a line (RFC 2177, section 3).
-abbrev pub IsRequest : Option (List ℕ) → Item → Request → Type 0
-IsRequest idling Ready (Told answer) = answer ≡ Continue continuations.Ready
-IsRequest None (Frame octets) (Told answer) = IsFaultAnswer octets answer
-IsRequest None (Frame octets) (Said tagged) = IsSpelled tagged octets
-IsRequest None (Refused octets) (Told answer) = IsLiteralAnswer octets answer
-IsRequest (Some tag) (Frame octets) (Line own line) = (own ≡ tag) × IsLine (Frame octets) line
-IsRequest (Some tag) (Refused octets) (Line own line) = (own ≡ tag) × IsLine (Refused octets) line
-IsRequest idling item request = ⊥
 
 -- Whether a reply tells that the command was carried out.
 abbrev pub is_done : Reply → Bool
@@ -61,21 +46,17 @@ logs_out tagged reply = is_logout tagged.command && is_done reply
 -- A session, which idles with this tag or doesn't, makes a request of the port; these are the answers, it idles so behind them, and it has
 -- logged out or not.
 abbrev pub Handles : {S : Type 0} → (S → Asked → Result Reply PortFault → S → Type 0) → S → Option (List ℕ) → Request → List Answer → S → Option (List ℕ) → Bool → Type 0
-Handles {S} steps old idling (Told answer) given new after out = (given ≡ answer ∷ []) × (new ≡ old) × (after ≡ idling) × (out ≡ false)
-Handles {S} steps old idling (Said tagged) given new after out =
+Handles {S} steps old idling (requests.Told answer) given new after out = (given ≡ answer ∷ []) × (new ≡ old) × (after ≡ idling) × (out ≡ false)
+Handles {S} steps old idling (requests.Command tagged) given new after out =
     (reply : Reply) × steps old (asked.Command tagged) (Ok reply) new × (given ≡ answers_of tagged.tag reply) × (after ≡ idling_behind tagged reply) × (out ≡ logs_out tagged reply)
-Handles {S} steps old idling (Line tag line) given new after out =
+Handles {S} steps old idling (requests.Line tag line) given new after out =
     (reply : Reply) × steps old (asked.Line line) (Ok reply) new × (is_without_memory reply ≡ false) × (given ≡ answers_of tag reply) × (after ≡ None) × (out ≡ false)
 
 -- The call that a request makes of the port.
 abbrev pub call_of : Request → Option Asked
-call_of (Told answer) = None
-call_of (Said tagged) = Some (asked.Command tagged)
-call_of (Line tag line) = Some (asked.Line line)
-
--- Answers that begin the others.
-abbrev pub IsFront : List Answer → List Answer → Type 0
-IsFront front all = (back : List Answer) × (all ≡ front ++ back)
+call_of (requests.Told answer) = None
+call_of (requests.Command tagged) = Some (asked.Command tagged)
+call_of (requests.Line tag line) = Some (asked.Line line)
 
 -- The port refuses the call, and nothing is answered.
 abbrev pub IsRefused : {S : Type 0} → (S → Asked → Result Reply PortFault → S → Type 0) → S → Request → Ended → List Answer → S → Type 0

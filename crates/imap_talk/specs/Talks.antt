@@ -3,7 +3,7 @@ use Rattle.imap_answers.specs.Printed.{printed}
 use Rattle.imap_answers.specs.declared.answer.Answer.{Answer}
 use Rattle.imap_answers.specs.declared.answer.Answer.TheVariants.{Greeting}
 use Rattle.imap_answers.specs.declared.words.Login.{Login}
-use Rattle.imap_lex.specs.Reading.{Cut, Progress, goes_on, start}
+use Rattle.imap_lex.specs.Reading.{Cut, IsPrefix, Progress, goes_on, start}
 use Rattle.imap_lex.specs.declared.fault.Fault.{Fault}
 use Rattle.imap_lex.specs.declared.fault.Fault.TheVariants.{LineTooLong, LiteralTooLong, NulByte, NoMemory as NoRoomForItem, Failed}
 use Rattle.imap_lex.specs.declared.item.Item.{Item}
@@ -16,10 +16,6 @@ use Rattle.imap_talk.specs.Requests.{StopsAt, Takes, texts}
 use Rattle.imap_talk.specs.declared.ended.Ended.{Ended}
 use Rattle.imap_talk.specs.declared.ended.Ended.TheVariants.{PeerClosed, Framing, ReadFailed, WriteFailed, NoMemory}
 use Rattle.imap_talk.specs.declared.fault.PortFault.{PortFault}
-
--- Items begin the others.
-abbrev pub AreFirst : List Item → List Item → Type 0
-AreFirst front items = (back : List Item) × (items ≡ front ++ back)
 
 module _ {S : Type 0} (steps : S → Asked → Result Reply PortFault → S → Type 0) where
   -- Items are answered, one behind the other, and none ends the conversation; this is the text of the answers.
@@ -51,7 +47,7 @@ module _ {S : Type 0} (steps : S → Asked → Result Reply PortFault → S → 
   -- The same of some of the first of these items.
   pub record GoesFor (old : S) (idling : Option (List ℕ)) (items : List Item) (said : List ℕ) (new : S) : Type 0 where
     pub front : List Item
-    pub first : AreFirst front items
+    pub first : IsPrefix front items
     pub goes : Goes old idling front said new
 
   -- The octets can't be cut any further, and this is why: behind the items before the fault; where memory ran out, behind some of the first.

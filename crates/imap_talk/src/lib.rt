@@ -9,7 +9,6 @@ mod fault;
 mod laws;
 mod memory;
 mod node_port;
-mod requests;
 mod taking;
 mod talking;
 mod wire;

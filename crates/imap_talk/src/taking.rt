@@ -6,19 +6,18 @@ ghost use Rattle.imap_node.specs.Commands.{is_idle};
 ghost use Rattle.imap_talk.specs.Endings.{failed_reads, failed_writes};
 ghost use Rattle.imap_talk.specs.Requests.{Fails, Handles, StopsAt, Takes, is_done, is_logout, texts};
 ghost use Rattle.imap_talk.specs.declared.ended.Ended.TheVariants.{Logout, NoMemory};
-ghost use Rattle.imap_talk.specs.declared.requests.Request.TheVariants as requests;
-ghost use Rattle.node_talk.specs.Replies.{is_without_memory};
+ghost use Rattle.node_talk.specs.declared.requests.Request.TheVariants as requests;
 
 use crate::ended::{Ended, end_of};
 use crate::ends::Port;
-use crate::requests::{Request, request_of};
 use crate::writing::tell_reply;
-use imap_answers::{Answer, Refusal};
+use imap_answers::Answer;
 use imap_grammar::{Command, IdleLine, Tagged};
 use imap_lex::Item;
 use imap_node::Reply;
 use imap_print::print;
 use imap_types::Octets;
+use node_talk::{Request, is_without_memory, request_of};
 use std::alloc::Global;
 
 /// Takes an item of a session that idles with this tag, or doesn't: asks the port, and adds the answers. `Err` where the conversation ends at
@@ -34,7 +33,7 @@ pub fn take_item<P: Port>(
     ensures err { IfErr result (λ ended. (given : List OneAnswer) × StopsAt P.steps port.old idling.old item.now ended given port.new × (text.new.items ≡ text.old.items ++ texts given)) }
     ensures devices { IfErr result (λ ended. (failed_reads ended ≡ 0) × (failed_writes ended ≡ 0)) }
 {
-    let Ok(request) = request_of(alloc, idling, item) else {
+    let Ok(request) = request_of(alloc, idling.as_ref(), item) else {
         return Err(Ended::NoMemory);
     };
     take_request(alloc, port, idling, request, text)
@@ -53,7 +52,7 @@ fn take_request<P: Port>(
 {
     match request {
         Request::Told(answer) => tell_answer(answer, text),
-        Request::Said(tagged) => take_command(alloc, port, idling, tagged, text),
+        Request::Command(tagged) => take_command(alloc, port, idling, tagged, text),
         Request::Line { tag, line } => take_line(alloc, port, idling, tag, line, text),
     }
 }
@@ -79,8 +78,8 @@ fn take_command<P: Port>(
     tagged: Tagged,
     text: &mut Vec<u8>,
 ) -> Result<(), Ended>
-    ensures ok { OnOk result ((given : List OneAnswer) × Handles P.steps port.old idling.old (requests.Said tagged) given port.new idling.new false × (text.new.items ≡ text.old.items ++ texts given)) }
-    ensures err { IfErr result (λ ended. (given : List OneAnswer) × Fails P.steps port.old idling.old (requests.Said tagged) ended given port.new × (text.new.items ≡ text.old.items ++ texts given)) }
+    ensures ok { OnOk result ((given : List OneAnswer) × Handles P.steps port.old idling.old (requests.Command tagged) given port.new idling.new false × (text.new.items ≡ text.old.items ++ texts given)) }
+    ensures err { IfErr result (λ ended. (given : List OneAnswer) × Fails P.steps port.old idling.old (requests.Command tagged) ended given port.new × (text.new.items ≡ text.old.items ++ texts given)) }
     ensures devices { IfErr result (λ ended. (failed_reads ended ≡ 0) × (failed_writes ended ≡ 0)) }
 {
     // The command is given away, and its tag is wanted behind it.
@@ -158,16 +157,4 @@ fn take_line<P: Port>(
     };
     drop(reply);
     Ok(())
-}
-
-fn is_without_memory(reply: &Reply) -> bool
-    ensures { result ≡ is_without_memory reply.now }
-{
-    matches!(
-        reply,
-        Reply::Refused {
-            why: Refusal::NoMemory,
-            ..
-        }
-    )
 }

@@ -8,15 +8,16 @@ use Rattle.imap_lex.specs.declared.item.Item.{Item}
 use Rattle.imap_lex.specs.declared.limits.Limits.{Limits}
 use Rattle.imap_lex.proofs.FrameLemmas.{given_by_fault}
 use Rattle.imap_node.specs.Nodes.{IsGoing, NodeState, closed}
-use Rattle.node_talk.specs.Conversation.{BreaksOff, Converses, Timed, sent, turns_of}
+use Rattle.node_talk.specs.Conversation.{BreaksOff, Converses, IsFront, Timed, sent, turns_of}
 use Rattle.node_talk.specs.Streams.{ConversesAmid, Piece, TalksAmid, TalksOn, Visit, cut_by, cut_of, items_of, octets_amid, octets_in, stretches, untimed}
-use Rattle.node_talk.specs.Talks.{EndsTalk, IsPrefix, TimedCut, goodbye_of, goodbyes}
+use Rattle.node_talk.specs.Talks.{EndsTalk, TimedCut, goodbye_of, goodbyes}
 use Rattle.node_talk.specs.declared.turn.TalkFaultKind.{TalkFaultKind}
 use Rattle.node_talk.specs.declared.turn.TalkFaultKind.TheVariants as kinds
 use Rattle.node_talk.specs.declared.turn.Turn.{Turn}
 use Rattle.node_talk.proofs.AmidLemmas.{state_to_end, talks_amid, talks_amid_to_end, visit_at}
 use Rattle.node_talk.proofs.PlaceLemmas.{closed_stops}
 use Rattle.node_talk.proofs.StreamLemmas.{converses_on, items_more, state_more, talks_on_joined, untimed_whole}
+use Rattle.node_talk.proofs.TurnLemmas.{front_behind}
 
 -- a conversation that goes on, and one that is broken off then
 breaks_on : (why : TalkFaultKind) (old mid new : NodeState) (session : ℕ) (items more : List Timed) (turns rest : List Turn) → IsGoing mid session → Converses old session items turns mid → BreaksOff why mid session more rest new
@@ -28,10 +29,6 @@ breaks_on why old mid new session (item ∷ items) more turns rest going c d =
       | inl on ↦ inr (c.0, c.1, c.2, on.0, (on.1.0 ++ rest, ap (λ ts. ts ++ rest) on.1.1 ∙ append_assoc (turns_of item.item c.0) on.1.0 rest, breaks_on why c.1 mid new session items more on.1.0 rest going on.1.2 d))
       | inr out ↦ absurd (closed_stops c.1 session (subst (λ (n : NodeState). IsGoing n session) out.2 going))
     ]
-
--- items that begin others do so behind the same front
-prefix_behind : (front items all : List Timed) → IsPrefix items all → IsPrefix (front ++ items) (front ++ all)
-prefix_behind front items all p = (p.0, ap (λ xs. front ++ xs) p.1 ∙ sym (append_assoc front items p.0))
 
 -- where the session goes on, the framer has not failed
 talks_on_well : (old new : NodeState) (session : ℕ) (limits : Limits) (state end : Result Progress Fault) (pieces : List Piece) (turns : List Turn) → TalksOn old session limits state pieces turns new end → IsOk state → IsOk end
@@ -90,14 +87,14 @@ module _ (old mid new : NodeState) (session : ℕ) (limits : Limits) (state betw
       )
 
   -- the items that begin the last piece's, behind those of the pieces before
-  cut_prefix : (items : List Timed) → between ≡ (goes_on limits state (octets_in pieces)).1 → IsPrefix items (cut_by limits between piece).0 → IsPrefix (items_of limits state pieces ++ items) whole.0
+  cut_prefix : (items : List Timed) → between ≡ (goes_on limits state (octets_in pieces)).1 → IsFront items (cut_by limits between piece).0 → IsFront (items_of limits state pieces ++ items) whole.0
   cut_prefix items e p =
-      subst (λ (all : List Timed). IsPrefix (items_of limits state pieces ++ items) all) (sym (items_more limits piece state between pieces e)) (prefix_behind _ items _ p)
+      subst (λ (all : List Timed). IsFront (items_of limits state pieces ++ items) all) (sym (items_more limits piece state between pieces e)) (front_behind _ items _ p)
 
   -- a conversation that is broken off
   ends_broken : (why : TalkFaultKind) → TalksOn old session limits state pieces turns mid between
-      → ((items : List Timed) × IsPrefix items (cut_by limits between piece).0 × BreaksOff why mid session items more new)
-      → (items : List Timed) × IsPrefix items whole.0 × BreaksOff why old session items (turns ++ more) new
+      → ((items : List Timed) × IsFront items (cut_by limits between piece).0 × BreaksOff why mid session items more new)
+      → (items : List Timed) × IsFront items whole.0 × BreaksOff why old session items (turns ++ more) new
   ends_broken why t e =
       let before = talks_on_joined old mid session limits state between pieces turns t in
       (items_of limits state pieces ++ e.0, cut_prefix e.0 before.1 e.1, breaks_on why old mid new session (items_of limits state pieces) e.0 turns more going before.0 e.2)

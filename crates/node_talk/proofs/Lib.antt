@@ -5,7 +5,7 @@ pub mod FaultLemmas
 mod PlaceLemmas
 mod PrintableLemmas
 mod ReplyLemmas
-mod RequestLemmas
+pub mod RequestLemmas
 pub mod StreamLemmas
 pub mod TalkLemmas
 pub mod TurnLemmas

@@ -1,23 +1,23 @@
 use Rattle.std.proofs.Common.{◌≡◌, inl, inr, ℕ, List, [], ◌∷◌, ◌++◌, ap, refl, sym, ◌∙◌, subst, append-nil, Result}
 use Rattle.std.proofs.lemmas.List.{map-append}
-use Rattle.imap_lex.specs.Reading.{Cut, FaultsNow, IsPrefix as IsFrontOf, Progress}
+use Rattle.imap_lex.specs.Reading.{Cut, FaultsNow, IsPrefix, Progress}
 use Rattle.imap_lex.specs.declared.fault.Fault.{Fault}
 use Rattle.imap_lex.specs.declared.fault.Fault.TheVariants.{LineTooLong, LiteralTooLong, NulByte, NoMemory, Failed}
 use Rattle.imap_lex.specs.declared.item.Item.{Item}
 use Rattle.imap_node.specs.Nodes.{IsGoing, NodeState, closed}
-use Rattle.node_talk.specs.Conversation.{BreaksOff, Converses, Timed, timed, timed_at}
-use Rattle.node_talk.specs.Talks.{EndsTalk, IsPrefix, SaysGoodbye, TimedCut, cut_at, goodbyes}
+use Rattle.node_talk.specs.Conversation.{BreaksOff, Converses, IsFront, Timed, timed, timed_at}
+use Rattle.node_talk.specs.Talks.{EndsTalk, SaysGoodbye, TimedCut, cut_at, goodbyes}
 use Rattle.node_talk.specs.declared.turn.TalkFaultKind.{TalkFaultKind}
 use Rattle.node_talk.specs.declared.turn.TalkFaultKind.TheVariants as kinds
 use Rattle.node_talk.specs.declared.turn.Turn.{Turn}
 use Rattle.node_talk.proofs.PlaceLemmas.{closed_stops}
 
 -- items that begin others do so at any moment
-pub timed_front : (moment : ℕ) (items all : List Item) → IsFrontOf items all → IsPrefix (timed_at moment items) (timed_at moment all)
+pub timed_front : (moment : ℕ) (items all : List Item) → IsPrefix items all → IsFront (timed_at moment items) (timed_at moment all)
 timed_front moment items all p = (timed_at moment p.0, ap (timed_at moment) p.1 ∙ map-append (timed moment) items p.0)
 
 -- what the framer gave in front of a fault begins what the octets give
-pub given_in_front : (why : Fault) (items : List Item) (old new : Result Progress Fault) (cut : Cut) → FaultsNow why items old new cut → IsFrontOf items cut.0
+pub given_in_front : (why : Fault) (items : List Item) (old new : Result Progress Fault) (cut : Cut) → FaultsNow why items old new cut → IsPrefix items cut.0
 given_in_front LineTooLong items old new cut f = ([], ap (λ (c : Cut). c.0) f.2 ∙ sym (append-nil items))
 given_in_front LiteralTooLong items old new cut f = ([], ap (λ (c : Cut). c.0) f.2 ∙ sym (append-nil items))
 given_in_front NulByte items old new cut f = ([], ap (λ (c : Cut). c.0) f.2 ∙ sym (append-nil items))
@@ -86,7 +86,7 @@ no_framing fault old session (came ∷ items) turns new b =
 
 -- a conversation that is broken off ends so
 pub ends_broken_off : (kind : TalkFaultKind) (old : NodeState) (session : ℕ) (state : Result Progress Fault) (cut : TimedCut) (items : List Timed) (turns : List Turn) (new : NodeState)
-    → IsPrefix items cut.0 → BreaksOff kind old session items turns new → EndsTalk kind old session state cut turns new
+    → IsFront items cut.0 → BreaksOff kind old session items turns new → EndsTalk kind old session state cut turns new
 ends_broken_off kinds.NoMemory old session state cut items turns new p b = (items, p, b)
 ends_broken_off kinds.LineRefused old session state cut items turns new p b = (items, p, b)
 ends_broken_off (kinds.Framing fault) old session state cut items turns new p b = absurd (no_framing fault old session items turns new b)

@@ -1,13 +1,7 @@
 use Rattle.std.proofs.Common.{◌≡◌, inl, inr, ℕ, zero, suc, List, [], ◌∷◌, ◌++◌, take, drop, ap, refl, sym, ◌∙◌, append_assoc, append-nil, subst, Result, Ok, Err, OnOk, OnErr}
-use Rattle.std.specs.Prelude.{IfErr}
-use Rattle.std.proofs.lemmas.Result.{on_ok_weaker}
 use Rattle.imap_answers.specs.declared.answer.Answer.{Answer}
-use Rattle.imap_answers.specs.declared.answer.Answer.TheVariants.{Continue}
-use Rattle.imap_answers.specs.declared.words.Continuation.TheVariants as continuations
-use Rattle.imap_lex.specs.declared.item.Item.{Item}
-use Rattle.imap_lex.specs.declared.item.Item.TheVariants.{Ready}
 use Rattle.imap_node.specs.Nodes.{HasLoggedOut, IsGoing, NodeState, closed}
-use Rattle.node_talk.specs.Conversation.{BreaksOff, Converses, StopsAt, Takes, Timed, sent, sent_one, timed, turns_of}
+use Rattle.node_talk.specs.Conversation.{BreaksOff, Converses, IsFront, StopsAt, Takes, Timed, sent, sent_one, turns_of}
 use Rattle.node_talk.specs.declared.turn.TalkFaultKind.{TalkFaultKind}
 use Rattle.node_talk.specs.declared.turn.TalkFaultKind.TheVariants as kinds
 use Rattle.node_talk.specs.declared.turn.Turn.{Turn}
@@ -17,6 +11,10 @@ pub sent_parts : (i : ℕ) (given : List Answer) → sent given ≡ sent (take i
 sent_parts zero given = refl
 sent_parts (suc i) [] = refl
 sent_parts (suc i) (answer ∷ given) = ap (λ turns. sent_one answer ∷ turns) (sent_parts i given)
+
+-- some begin all of them behind what stands before both
+pub front_behind : {T : Type 0} (before front all : List T) → IsFront front all → IsFront (before ++ front) (before ++ all)
+front_behind before front all f = (f.0, ap (λ xs. before ++ xs) f.1 ∙ sym (append_assoc before front f.0))
 
 -- what holds anyhow holds at an error
 pub at_error : {T E : Type 0} (r : Result T E) (P : Type 0) → P → OnErr r P
@@ -62,20 +60,3 @@ module _ {start : NodeState} {session : ℕ} {items : List Timed} {before : List
       → (more : List Turn) × (after ≡ before ++ more) × BreaksOff why start session items more (closed mid session)
   underway_broken why node mid came left turns after u t =
       (u.done ++ t.0, t.1 ∙ ap (λ ts. ts ++ t.0) u.turns_are ∙ append_assoc before u.done t.0, u.breaks why t.0 (closed mid session) (inl (mid, t.2, refl)))
-
--- An item by what was made of it.
-module _ (session moment : ℕ) (old new : NodeState) (before after : List Turn) where
-  abbrev pub ItemTaken : {T E : Type 0} → Result T E → Item → Type 0
-  ItemTaken r item = OnOk r ((given : List Answer) × Takes old session (timed moment item) given new × (after ≡ before ++ turns_of item given))
-
-  abbrev pub ItemStopped : {T : Type 0} → Result T TalkFaultKind → Item → Type 0
-  ItemStopped r item = IfErr r (λ why. (more : List Turn) × (after ≡ before ++ more) × StopsAt why old session (timed moment item) more new)
-
-module _ (session moment : ℕ) (node : NodeState) (before after : List Turn) where
-  pub ready_taken : {T E : Type 0} (r : Result T E) → OnOk r (after ≡ before ++ sent (Continue continuations.Ready ∷ [])) → ItemTaken session moment node node before after r Ready
-  ready_taken r o = on_ok_weaker r (λ e. (Continue continuations.Ready ∷ [], (refl, refl), e)) o
-
-  pub ready_stopped : {T : Type 0} (r : Result T TalkFaultKind) → IfErr r (λ why. (why ≡ kinds.NoMemory) × (after ≡ before)) → ItemStopped session moment node node before after r Ready
-  ready_stopped (Ok x) o = tt
-  ready_stopped (Err why) o =
-      subst (λ (k : TalkFaultKind). (more : List Turn) × (after ≡ before ++ more) × StopsAt k node session (timed moment Ready) more node) (sym o.0) ([], o.1 ∙ sym (append-nil before), inl (([], refl), refl))

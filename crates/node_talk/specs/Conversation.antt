@@ -98,9 +98,9 @@ Converses old session (came ∷ items) turns new =
     × ((IsGoing mid session × ((rest : List Turn) × (turns ≡ turns_of came.item given ++ rest) × Converses mid session items rest new))
     ⊎ (HasLoggedOut mid session × (turns ≡ turns_of came.item given) × (new ≡ closed mid session)))
 
--- One list of turns begins with the other.
-abbrev pub IsFront : List Turn → List Turn → Type 0
-IsFront front turns = (back : List Turn) × (turns ≡ front ++ back)
+-- Some begin all of them.
+abbrev pub IsFront : {T : Type 0} → List T → List T → Type 0
+IsFront {T} front all = (back : List T) × (all ≡ front ++ back)
 
 -- The session idles, and the item is a line of it.
 abbrev pub IsIdleLine : NodeState → ℕ → Item → Type 0

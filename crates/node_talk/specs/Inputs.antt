@@ -6,10 +6,11 @@ use Rattle.imap_grammar.specs.declared.fault.ParseFault.TheVariants as faults
 use Rattle.imap_answers.specs.declared.answer.Answer.{Answer}
 use Rattle.imap_answers.specs.declared.answer.Answer.TheVariants as answers
 use Rattle.imap_answers.specs.declared.words.ByeReason.TheVariants as reasons
+use Rattle.imap_answers.specs.declared.words.Continuation.TheVariants as continuations
 use Rattle.imap_answers.specs.declared.words.Refusal.{Refusal}
 use Rattle.imap_answers.specs.declared.words.Refusal.TheVariants as refusals
 use Rattle.imap_lex.specs.declared.item.Item.{Item}
-use Rattle.imap_lex.specs.declared.item.Item.TheVariants.{Frame, Refused}
+use Rattle.imap_lex.specs.declared.item.Item.TheVariants.{Ready, Frame, Refused}
 use Rattle.imap_node.specs.Nodes.{NodeState}
 use Rattle.imap_node.specs.Respond.{Responds}
 use Rattle.imap_node.specs.declared.input.Input.TheVariants as inputs
@@ -18,27 +19,29 @@ use Rattle.node_talk.specs.Conversation.{IsFront, IsLine, sent}
 use Rattle.node_talk.specs.FaultAnswers.{IsFaultAnswer, IsLiteralAnswer}
 use Rattle.node_talk.specs.Replies.{answers_of, is_without_memory}
 use Rattle.node_talk.specs.declared.requests.Request.{Request}
-use Rattle.node_talk.specs.declared.requests.Request.TheVariants.{Command, Fault, Line}
+use Rattle.node_talk.specs.declared.requests.Request.TheVariants.{Told, Command, Line}
 use Rattle.node_talk.specs.declared.turn.TalkFaultKind.{TalkFaultKind}
 use Rattle.node_talk.specs.declared.turn.TalkFaultKind.TheVariants as kinds
 use Rattle.node_talk.specs.declared.turn.Turn.{Turn}
 
--- The steps in which the code takes a frame or a refused front. `Conversation` says what the node makes of one.
+-- The steps in which the code takes an item. `Conversation` says what the node makes of one.
 
--- What a frame or a refused front is to a node whose session idles with this tag, or doesn't: the command that it spells, the answer to
--- its fault, or a line.
+-- What an item is to a session that idles with this tag, or doesn't: the leave to go on with a literal, the answer to a fault, or
+-- to a front that is refused for its literal; the command that it spells; or a line (RFC 2177, section 3).
 abbrev pub IsRequest : Option (List ℕ) → Item → Request → Type 0
+IsRequest idling Ready (Told answer) = answer ≡ answers.Continue continuations.Ready
+IsRequest None (Frame octets) (Told answer) = IsFaultAnswer octets answer
 IsRequest None (Frame octets) (Command tagged) = IsSpelled tagged octets
-IsRequest None (Frame octets) (Fault answer) = IsFaultAnswer octets answer
-IsRequest None (Refused octets) (Fault answer) = IsLiteralAnswer octets answer
-IsRequest (Some tag) item (Line own line) = (own ≡ tag) × IsLine item line
+IsRequest None (Refused octets) (Told answer) = IsLiteralAnswer octets answer
+IsRequest (Some tag) (Frame octets) (Line own line) = (own ≡ tag) × IsLine (Frame octets) line
+IsRequest (Some tag) (Refused octets) (Line own line) = (own ≡ tag) × IsLine (Refused octets) line
 IsRequest idling item request = ⊥
 
 -- The node carries out what it is asked, and gives these answers.
 abbrev pub Handles : NodeState → ℕ → ℕ → Request → List Answer → NodeState → Type 0
+Handles old session moment (Told answer) given new = (given ≡ answer ∷ []) × (new ≡ old)
 Handles old session moment (Command tagged) given new =
     (reply : Reply) × Responds old session (inputs.Command moment tagged) reply new × (given ≡ answers_of tagged.tag reply)
-Handles old session moment (Fault answer) given new = (given ≡ answer ∷ []) × (new ≡ old)
 Handles old session moment (Line tag line) given new =
     (reply : Reply) × Responds old session (inputs.Line line) reply new × (is_without_memory reply ≡ false) × (given ≡ answers_of tag reply)
 

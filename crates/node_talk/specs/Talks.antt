@@ -23,10 +23,6 @@ TimedCut = List Timed × Result Progress Fault
 abbrev pub cut_at : ℕ → Cut → TimedCut
 cut_at moment cut = (timed_at moment cut.0, cut.1)
 
--- Some items begin the others.
-abbrev pub IsPrefix : List Timed → List Timed → Type 0
-IsPrefix front items = (back : List Timed) × (items ≡ front ++ back)
-
 -- The BYE that ends a connection for a fault of the framer.
 abbrev pub goodbye_of : Fault → Option Answer
 goodbye_of LineTooLong = Some (Bye reasons.LineTooLong)
@@ -60,13 +56,13 @@ Talks old session cut turns new state = Converses old session cut.0 turns new ×
 abbrev pub EndsTalk : TalkFaultKind → NodeState → ℕ → Result Progress Fault → TimedCut → List Turn → NodeState → Type 0
 -- for want of memory, behind some of the items
 EndsTalk kinds.NoMemory old session state cut turns new =
-    (items : List Timed) × IsPrefix items cut.0 × BreaksOff kinds.NoMemory old session items turns new
+    (items : List Timed) × IsFront items cut.0 × BreaksOff kinds.NoMemory old session items turns new
 -- for want of memory at a line of IDLE, behind the items before it
 EndsTalk kinds.LineRefused old session state cut turns new =
-    (items : List Timed) × IsPrefix items cut.0 × BreaksOff kinds.LineRefused old session items turns new
+    (items : List Timed) × IsFront items cut.0 × BreaksOff kinds.LineRefused old session items turns new
 -- for a fault of the framer, behind the items before it
 EndsTalk (kinds.Framing NoMemory) old session state cut turns new =
-    (items : List Timed) × (mid : NodeState) × IsPrefix items cut.0 × Converses old session items turns mid × IsGoing mid session × (new ≡ closed mid session)
+    (items : List Timed) × (mid : NodeState) × IsFront items cut.0 × Converses old session items turns mid × IsGoing mid session × (new ≡ closed mid session)
 EndsTalk (kinds.Framing Failed) old session state cut turns new = IsErr state × (turns ≡ []) × (new ≡ closed old session)
 EndsTalk (kinds.Framing why) old session state cut turns new =
     (cut.1 ≡ Err why) × (mid : NodeState) × (before : List Turn) × Converses old session cut.0 before mid × IsGoing mid session

@@ -5,6 +5,7 @@
 
 mod dump;
 mod laws;
+mod replies;
 mod requests;
 mod sending;
 mod talking;
@@ -19,5 +20,7 @@ pub use laws::{
     commands_are_answered, faults_can_be_printed, faults_end_the_stream, one_dump,
     others_come_between, pieces_are_one_stream,
 };
+pub use replies::is_without_memory;
+pub use requests::{Request, request_of};
 pub use talking::{poll_turns, talk};
 pub use turn::{TalkFault, TalkFaultKind, Turn};

@@ -1,25 +1,24 @@
-//! What a frame is to a node: a command, a line of IDLE, or a fault with its answer.
+//! What an item of the framer is to a session: a command, a line of IDLE, or what is told at once.
 
 ghost use Rattle.std.specs.Prelude.{◌≡◌, IfOk, None};
 ghost use Rattle.std.specs.Option.{option_copied};
 ghost use Rattle.imap_lex.specs.declared.item.Item.TheVariants.{Frame as FrameItem, Refused as RefusedItem};
 ghost use Rattle.node_talk.specs.FaultAnswers.{IsLiteralAnswer};
 ghost use Rattle.node_talk.specs.Inputs.{AnswersFault, IsRequest, reason_for};
-ghost use Rattle.node_talk.specs.Replies.{idling_at};
 
-use imap_answers::{Answer, Refusal};
+use imap_answers::{Answer, Continuation, Refusal};
 use imap_grammar::{IdleLine, ParseFault, Tagged, idle_line, parse, tag_of};
-use imap_node::{Node, SessionNo};
+use imap_lex::Item;
 use imap_types::Octets;
 use std::alloc::{AllocError, Global};
 
-/// What a frame or a refused front is to a node.
+/// What an item of the framer is to a session.
 #[derive(Drop)]
 pub enum Request {
+    /// Told at once: the leave to go on with a literal, or the answer to a fault.
+    Told(Answer),
     /// A command of a session that doesn't idle.
     Command(Tagged),
-    /// A fault, which this answers.
-    Fault(Answer),
     /// A line of a session that idles.
     Line {
         /// The tag of the IDLE.
@@ -29,16 +28,31 @@ pub enum Request {
     },
 }
 
-/// What a frame of an open session is to the node; `Err` where there is no memory for it.
-pub fn frame_request(
+/// What an item is to a session that idles with this tag, or doesn't; `Err` where there is no memory for it.
+pub fn request_of(
     alloc: Global,
-    node: &Node,
-    session: SessionNo,
+    idling: Option<&Octets>,
+    item: &Item,
+) -> Result<Request, AllocError>
+    ensures { IfOk result (IsRequest (option_copied idling.entry) item.now) }
+{
+    match item {
+        Item::Ready => Ok(Request::Told(Answer::Continue {
+            with: Continuation::Ready,
+        })),
+        Item::Frame(frame) => frame_request(alloc, idling, frame.bytes()),
+        Item::Refused(front) => refused_request(alloc, idling, front.bytes()),
+    }
+}
+
+fn frame_request(
+    alloc: Global,
+    idling: Option<&Octets>,
     octets: &[u8],
 ) -> Result<Request, AllocError>
-    ensures { IfOk result (IsRequest (idling_at node.now.state session) (FrameItem octets.now)) }
+    ensures { IfOk result (IsRequest (option_copied idling.entry) (FrameItem octets.now)) }
 {
-    match tag_of_idling(node, session) {
+    match idling {
         Some(tag) => Ok(Request::Line {
             tag: tag.copy(alloc)?,
             line: idle_line(octets),
@@ -47,41 +61,29 @@ pub fn frame_request(
     }
 }
 
-/// What the front of a command that is refused for its literal is to the node; `Err` where there is no memory for it.
-pub fn refused_request(
+fn refused_request(
     alloc: Global,
-    node: &Node,
-    session: SessionNo,
+    idling: Option<&Octets>,
     front: &[u8],
 ) -> Result<Request, AllocError>
-    ensures { IfOk result (IsRequest (idling_at node.now.state session) (RefusedItem front.now)) }
+    ensures { IfOk result (IsRequest (option_copied idling.entry) (RefusedItem front.now)) }
 {
-    match tag_of_idling(node, session) {
+    match idling {
         Some(tag) => Ok(Request::Line {
             tag: tag.copy(alloc)?,
             line: IdleLine::Other,
         }),
-        None => Ok(Request::Fault(literal_answer(alloc, front)?)),
+        None => Ok(Request::Told(literal_answer(alloc, front)?)),
     }
 }
 
-/// The tag of the IDLE that the session is in.
-fn tag_of_idling(node: &Node, session: SessionNo) -> Option<&Octets>
-    ensures { option_copied result ≡ idling_at node.now.state session }
-{
-    match node.session(session) {
-        Some(session) => session.idling.as_ref(),
-        None => None,
-    }
-}
-
-/// What a frame of a session that doesn't idle is to the node.
+/// What a frame of a session that doesn't idle is to it.
 fn parsed_request(alloc: Global, octets: &[u8]) -> Result<Request, AllocError>
     ensures { IfOk result (IsRequest None (FrameItem octets.now)) }
 {
     match parse(alloc, octets) {
         Ok(tagged) => Ok(Request::Command(tagged)),
-        Err(why) => Ok(Request::Fault(fault_answer(alloc, octets, why)?)),
+        Err(why) => Ok(Request::Told(fault_answer(alloc, octets, why)?)),
     }
 }
 

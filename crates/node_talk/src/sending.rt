@@ -1,20 +1,32 @@
 //! Turns: what came of a client, and the answers to it, as octets.
 
 ghost use Rattle.std.specs.Prelude.{◌≡◌, ◌++◌, ◌∷◌, [], List, OnOk, OnErr};
-ghost use Rattle.node_talk.specs.Conversation.{IsFront, sent, sent_one};
+ghost use Rattle.node_talk.specs.Conversation.{IsFront, got, sent, sent_one};
 ghost use Rattle.node_talk.specs.Replies.{answers_of, polled_answers, refused_answers};
 ghost use Rattle.node_talk.specs.declared.turn.Turn.TheVariants.{Got as GotTurn};
 ghost use Rattle.node_talk.specs.declared.turn.Turn.{Turn as OneTurn};
 
 use crate::turn::Turn;
 use imap_answers::{Answer, Notice, Refusal};
+use imap_lex::Item;
 use imap_node::Reply;
 use imap_print::print;
 use imap_types::Octets;
 use std::alloc::{AllocError, Global};
 
-/// Adds what came of the client; `Err`, and no change, where there is no memory for it.
-pub fn show(alloc: Global, turns: &mut Vec<Turn>, octets: &[u8]) -> Result<(), AllocError>
+/// Adds what an item shows of the client; `Err`, and no change, where there is no memory for it.
+pub fn show(alloc: Global, turns: &mut Vec<Turn>, item: &Item) -> Result<(), AllocError>
+    ensures ok { OnOk result (turns.new.items ≡ turns.old.items ++ got item.now) }
+    ensures err { OnErr result (turns.new.items ≡ turns.old.items) }
+{
+    match item {
+        Item::Ready => Ok(()),
+        Item::Frame(frame) => show_octets(alloc, turns, frame.bytes()),
+        Item::Refused(front) => show_octets(alloc, turns, front.bytes()),
+    }
+}
+
+fn show_octets(alloc: Global, turns: &mut Vec<Turn>, octets: &[u8]) -> Result<(), AllocError>
     ensures ok { OnOk result (turns.new.items ≡ turns.old.items ++ GotTurn octets.now ∷ []) }
     ensures err { OnErr result (turns.new.items ≡ turns.old.items) }
 {

@@ -1,24 +1,25 @@
 //! A connection's input, piece by piece, and the turns that it makes.
 
 ghost use Rattle.std.specs.Prelude.{◌≡◌, ◌++◌, ◌⊎◌, ◌∷◌, [], ◌↔◌, List, Ok, Err, IsErr, IfOk, IfErr, OnOk, IsTrue};
+ghost use Rattle.std.specs.Option.{option_copied};
 ghost use Rattle.imap_answers.specs.declared.answer.Answer.{Answer as OneAnswer};
 ghost use Rattle.imap_lex.specs.Reading.{goes_on};
 ghost use Rattle.imap_lex.specs.declared.fault.Fault.{Fault as Why};
-ghost use Rattle.imap_lex.specs.declared.item.Item.TheVariants.{Frame as FrameItem, Refused as RefusedItem};
 ghost use Rattle.imap_node.specs.Nodes.{HasLoggedOut, IsGoing};
 ghost use Rattle.imap_node.specs.Sessions.{IsOpen};
 ghost use Rattle.node_talk.specs.Conversation.{BreaksOff, Converses, StopsAt, Takes, sent, timed, timed_at, turns_of};
 ghost use Rattle.node_talk.specs.Inputs.{Fails, Handles};
-ghost use Rattle.node_talk.specs.Replies.{is_without_memory};
+ghost use Rattle.node_talk.specs.Replies.{idling_at};
 ghost use Rattle.node_talk.specs.Talks.{BreaksPoll, EndsTalk, Polls, SaysGoodbye, SaysRefused, Talks, cut_at, goodbye_of};
 ghost use Rattle.node_talk.specs.declared.requests.Request.TheVariants.{Command as CommandRequest, Line as LineRequest};
 ghost use Rattle.node_talk.specs.declared.turn.TalkFaultKind.TheVariants as kinds;
 ghost use Rattle.node_talk.specs.declared.turn.Turn.{Turn as OneTurn};
 
-use crate::requests::{Request, frame_request, refused_request};
+use crate::replies::is_without_memory;
+use crate::requests::{Request, request_of};
 use crate::sending::{send, send_polled, send_reply, show};
 use crate::turn::{TalkFault, TalkFaultKind, Turn};
-use imap_answers::{Answer, ByeReason, Continuation, Refusal};
+use imap_answers::{Answer, ByeReason};
 use imap_grammar::{IdleLine, Tagged};
 use imap_lex::{Fault, FrameFault, Framer, Item};
 use imap_node::{Node, Reply, SessionNo, State};
@@ -133,16 +134,22 @@ fn take_item(
     ensures err { IfErr result (λ why. (more : List OneTurn) × (turns.new.items ≡ turns.old.items ++ more) × StopsAt why node.old.state session (timed moment item.now) more node.new.state) }
     ensures open { IsGoing node.new.state session ⊎ HasLoggedOut node.new.state session }
 {
-    match item {
-        Item::Ready => send_one(
-            alloc,
-            turns,
-            Answer::Continue {
-                with: Continuation::Ready,
-            },
-        ),
-        Item::Frame(frame) => take_frame(alloc, node, session, moment, frame.bytes(), turns),
-        Item::Refused(front) => take_refused(alloc, node, session, moment, front.bytes(), turns),
+    let Ok(()) = show(alloc, turns, item) else {
+        return Err(TalkFaultKind::NoMemory);
+    };
+    let Ok(request) = request_of(alloc, tag_of_idling(node, session), item) else {
+        return Err(TalkFaultKind::NoMemory);
+    };
+    take_request(alloc, node, session, moment, request, turns)
+}
+
+/// The tag of the IDLE that the session is in.
+fn tag_of_idling(node: &Node, session: SessionNo) -> Option<&Octets>
+    ensures { option_copied result ≡ idling_at node.now.state session }
+{
+    match node.session(session) {
+        Some(session) => session.idling.as_ref(),
+        None => None,
     }
 }
 
@@ -157,52 +164,6 @@ fn send_one(alloc: Global, turns: &mut Vec<Turn>, answer: Answer) -> Result<(), 
         Ok(()) => Ok(()),
         Err(_) => Err(TalkFaultKind::NoMemory),
     }
-}
-
-/// Takes a frame: a command, or a line of IDLE.
-fn take_frame(
-    alloc: Global,
-    node: &mut Node,
-    session: SessionNo,
-    moment: Moment,
-    octets: &[u8],
-    turns: &mut Vec<Turn>,
-) -> Result<(), TalkFaultKind>
-    requires { IsGoing node.old.state session }
-    ensures ok { OnOk result ((given : List OneAnswer) × Takes node.old.state session (timed moment (FrameItem octets.now)) given node.new.state × (turns.new.items ≡ turns.old.items ++ turns_of (FrameItem octets.now) given)) }
-    ensures err { IfErr result (λ why. (more : List OneTurn) × (turns.new.items ≡ turns.old.items ++ more) × StopsAt why node.old.state session (timed moment (FrameItem octets.now)) more node.new.state) }
-    ensures open { IsGoing node.new.state session ⊎ HasLoggedOut node.new.state session }
-{
-    let Ok(()) = show(alloc, turns, octets) else {
-        return Err(TalkFaultKind::NoMemory);
-    };
-    let Ok(request) = frame_request(alloc, node, session, octets) else {
-        return Err(TalkFaultKind::NoMemory);
-    };
-    take_request(alloc, node, session, moment, request, turns)
-}
-
-/// Takes the front of a command whose literal is too long.
-fn take_refused(
-    alloc: Global,
-    node: &mut Node,
-    session: SessionNo,
-    moment: Moment,
-    front: &[u8],
-    turns: &mut Vec<Turn>,
-) -> Result<(), TalkFaultKind>
-    requires { IsGoing node.old.state session }
-    ensures ok { OnOk result ((given : List OneAnswer) × Takes node.old.state session (timed moment (RefusedItem front.now)) given node.new.state × (turns.new.items ≡ turns.old.items ++ turns_of (RefusedItem front.now) given)) }
-    ensures err { IfErr result (λ why. (more : List OneTurn) × (turns.new.items ≡ turns.old.items ++ more) × StopsAt why node.old.state session (timed moment (RefusedItem front.now)) more node.new.state) }
-    ensures open { IsGoing node.new.state session ⊎ HasLoggedOut node.new.state session }
-{
-    let Ok(()) = show(alloc, turns, front) else {
-        return Err(TalkFaultKind::NoMemory);
-    };
-    let Ok(request) = refused_request(alloc, node, session, front) else {
-        return Err(TalkFaultKind::NoMemory);
-    };
-    take_request(alloc, node, session, moment, request, turns)
 }
 
 /// Carries out what the node is asked, and adds the answers.
@@ -220,7 +181,7 @@ fn take_request(
     ensures open { IsGoing node.new.state session ⊎ HasLoggedOut node.new.state session }
 {
     match request {
-        Request::Fault(answer) => send_one(alloc, turns, answer),
+        Request::Told(answer) => send_one(alloc, turns, answer),
         Request::Command(tagged) => take_command(alloc, node, session, moment, tagged, turns),
         Request::Line { tag, line } => take_line(alloc, node, session, tag, line, turns),
     }
@@ -274,18 +235,6 @@ fn take_line(
         Ok(()) => Ok(()),
         Err(_) => Err(TalkFaultKind::NoMemory),
     }
-}
-
-fn is_without_memory(reply: &Reply) -> bool
-    ensures { result ≡ is_without_memory reply.now }
-{
-    matches!(
-        reply,
-        Reply::Refused {
-            why: Refusal::NoMemory,
-            ..
-        }
-    )
 }
 
 /// Adds the BYE for a line of IDLE that was refused, and says how the conversation ends.

@@ -2,7 +2,7 @@ use Rattle.std.proofs.Common.{◌≡◌, ◌++◌, List, OnOk, false, sym, subst
 use Rattle.std.specs.Prelude.{IfErr}
 use Rattle.imap_answers.specs.declared.answer.Answer.{Answer}
 use Rattle.imap_talk.specs.Requests.{Fails, Handles, texts}
-use Rattle.imap_talk.specs.declared.requests.Request.{Request}
+use Rattle.node_talk.specs.declared.requests.Request.{Request}
 use Rattle.imap_talk.proofs.TalkLemmas.{told_err, told_ok}
 use Rattle.imap_talk.proofs.taking.take_request.Goals as goal
 
@@ -24,11 +24,11 @@ returns-in-Told-clause-err g c =
     subst (λ (request : Request). IfErr c.tell_answer.result (λ ended. (given : List Answer) × Fails g.P.Port.steps p idling request ended given p × (after ≡ before ++ texts given))) (sym c.in-Told.is)
     (told_err g.P.Port.steps idling before after c.tell_answer.result p c.in-Told.answer c.tell_answer.ensures.err)
 
-pub returns-in-Said-clause-err : goal.returns-in-Said-clause-err
-returns-in-Said-clause-err g c =
+pub returns-in-Command-clause-err : goal.returns-in-Command-clause-err
+returns-in-Command-clause-err g c =
     let new = c.take_command.new in
     let before = c.args.text.now.items in
-    subst (λ (request : Request). IfErr c.take_command.result (λ ended. (given : List Answer) × Fails g.P.Port.steps c.args.port.now c.args.idling.now request ended given new.port × (new.text.items ≡ before ++ texts given))) (sym c.in-Said.is)
+    subst (λ (request : Request). IfErr c.take_command.result (λ ended. (given : List Answer) × Fails g.P.Port.steps c.args.port.now c.args.idling.now request ended given new.port × (new.text.items ≡ before ++ texts given))) (sym c.in-Command.is)
     c.take_command.ensures.err
 
 pub returns-in-Line-clause-err : goal.returns-in-Line-clause-err

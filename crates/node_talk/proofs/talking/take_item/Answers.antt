@@ -1,9 +1,18 @@
-use Rattle.std.proofs.Common.{subst, sym}
-use Rattle.node_talk.proofs.TurnLemmas.{ItemTaken, ready_taken}
+use Rattle.std.proofs.Common.{ℕ, List, Option, subst}
+use Rattle.node_talk.specs.Inputs.{IsRequest}
+use Rattle.node_talk.proofs.RequestLemmas.{item_answered, item_broken}
 use Rattle.node_talk.proofs.talking.take_item.Goals as goal
 
-pub returns-in-Ready-clause-ok : goal.returns-in-Ready-clause-ok
-returns-in-Ready-clause-ok c =
-    let node = c.args.node.now.state in
-    subst (ItemTaken c.args.session c.args.moment node node c.args.turns.now.items c.send_one.new.turns.items c.send_one.result) (sym c.in-Ready.is)
-    (ready_taken c.args.session c.args.moment node c.args.turns.now.items c.send_one.new.turns.items c.send_one.result c.send_one.ensures.ok)
+pub returns-clause-ok : goal.returns-clause-ok
+returns-clause-ok c =
+    let request = c.in-Ok-request_of.request in
+    let is = subst (λ (idling : Option (List ℕ)). IsRequest idling c.args.item.now request) c.tag_of_idling.ensures (c.in-Ok-request_of.ensures {u = tt}) in
+    item_answered c.args.session c.args.moment c.args.item.now c.args.turns.now.items c.show.new.turns.items c.take_request.new.turns.items (c.in-Ok.ensures {u = tt}).ok c.args.node.now.state
+    c.take_request.new.node.state request is c.take_request.result c.take_request.ensures.ok
+
+pub returns-clause-err : goal.returns-clause-err
+returns-clause-err c =
+    let request = c.in-Ok-request_of.request in
+    let is = subst (λ (idling : Option (List ℕ)). IsRequest idling c.args.item.now request) c.tag_of_idling.ensures (c.in-Ok-request_of.ensures {u = tt}) in
+    item_broken c.args.session c.args.moment c.args.item.now c.args.turns.now.items c.show.new.turns.items c.take_request.new.turns.items (c.in-Ok.ensures {u = tt}).ok c.args.node.now.state
+    c.take_request.new.node.state request is c.take_request.result c.take_request.ensures.err

@@ -5,16 +5,16 @@ use Rattle.node_talk.specs.Conversation.{sent}
 use Rattle.node_talk.specs.Inputs.{Fails, Handles}
 use Rattle.node_talk.specs.declared.requests.Request.{Request}
 use Rattle.node_talk.specs.declared.turn.Turn.{Turn}
-use Rattle.node_talk.proofs.RequestLemmas.{fault_sent, line_fails}
+use Rattle.node_talk.proofs.RequestLemmas.{told_sent, line_fails}
 use Rattle.node_talk.proofs.talking.take_request.Goals as goal
 
-pub returns-in-Fault-clause-ok : goal.returns-in-Fault-clause-ok
-returns-in-Fault-clause-ok c =
+pub returns-in-Told-clause-ok : goal.returns-in-Told-clause-ok
+returns-in-Told-clause-ok c =
     let node = c.args.node.now.state in
     let before = c.args.turns.now.items in
     let after = c.send_one.new.turns.items in
-    subst (λ (request : Request). OnOk c.send_one.result ((given : List Answer) × Handles node c.args.session c.args.moment request given node × (after ≡ before ++ sent given))) (sym c.in-Fault.is)
-    (fault_sent c.args.session c.args.moment node c.in-Fault.answer before after c.send_one.result c.send_one.ensures.ok)
+    subst (λ (request : Request). OnOk c.send_one.result ((given : List Answer) × Handles node c.args.session c.args.moment request given node × (after ≡ before ++ sent given))) (sym c.in-Told.is)
+    (told_sent c.args.session c.args.moment node c.in-Told.answer before after c.send_one.result c.send_one.ensures.ok)
 
 pub returns-in-Line-clause-err : goal.returns-in-Line-clause-err
 returns-in-Line-clause-err c =
