@@ -1,44 +1,43 @@
 //! Lines that are tried one by one behind a script.
 
-use crate::page::Page;
 use crate::replays::{Replayed, play_script, put_shortened};
+use case_text::Words;
 use mail_replay::ReplayEnd;
 use std::alloc::Global;
 
 /// Replays a script with this line behind it, and tells what the line prints and how it ends. Without its end it does the
 /// same; with another line behind it no less, and no more where it is bad.
-pub fn try_case(alloc: Global, script: &[u8], line: &[u8], then: &str, page: &mut Page) {
+pub fn try_case(alloc: Global, script: &[u8], line: &[u8], then: &str, page: &mut Words) {
     let before = play_script(alloc, script);
     let open = with_line(alloc, script, line, "", "");
     let ended = with_line(alloc, script, line, "\n", "");
     let more = with_line(alloc, script, line, "\n", then);
-    page.put_text("> ");
-    page.put_escaped(line);
-    page.put_text("\n");
+    page.put_escaped("> ", line);
+    page.put("\n");
     tell_case(&before.printed, &ended, page);
-    ended.tell_end(alloc, page);
+    ended.tell_end(page);
     if !open.is_as(&ended) {
-        page.put_text("-- otherwise without its end\n");
+        page.put("-- otherwise without its end\n");
     }
     if !goes_on(&ended, &more) {
-        page.put_text("-- otherwise with a line behind it\n");
+        page.put("-- otherwise with a line behind it\n");
     }
 }
 
 fn with_line(alloc: Global, script: &[u8], line: &[u8], end: &str, then: &str) -> Replayed {
-    let mut whole = Page::new(alloc);
-    whole.put(script);
-    whole.put(line);
-    whole.put_text(end);
-    whole.put_text(then);
+    let mut whole = Words::new(alloc);
+    whole.put_octets(script);
+    whole.put_octets(line);
+    whole.put(end);
+    whole.put(then);
     play_script(alloc, whole.so_far())
 }
 
 /// Tells what was printed beyond what is printed without the line.
-fn tell_case(before: &[u8], ended: &Replayed, page: &mut Page) {
+fn tell_case(before: &[u8], ended: &Replayed, page: &mut Words) {
     match ended.printed.strip_prefix(before) {
         Some(printed) => put_shortened(printed, page),
-        None => page.put_text("-- otherwise before the line\n"),
+        None => page.put("-- otherwise before the line\n"),
     }
 }
 

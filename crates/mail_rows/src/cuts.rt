@@ -3,8 +3,8 @@
 ghost use Rattle.std.specs.Prelude.{◌<◌, length};
 
 use crate::directives::octets_of;
-use crate::page::Page;
 use crate::replays::{Replayed, play_script};
+use case_text::Words;
 use mail_replay::ReplayEnd;
 use std::alloc::Global;
 
@@ -14,18 +14,16 @@ const STRANGE: [u8; 5] = [0, 10, 32, 126, 255];
 /// Replays a script, tells what it prints, and whether each beginning of it, and the whole with each octet replaced by 0,
 /// 10, 32, 126 and 255, prints what the lines before that place print, and then whole lines of printed ASCII, and ends with
 /// Done or BadScript.
-pub fn tell_damage(alloc: Global, script: &[u8], page: &mut Page) {
-    play_script(alloc, script).tell(alloc, page);
+pub fn tell_damage(alloc: Global, script: &[u8], page: &mut Words) {
+    play_script(alloc, script).tell(page);
     match first_wrong(alloc, script) {
         None => {
-            page.put_text("-- damaged at each of ");
-            page.put_number(script.len());
-            page.put_text(" octets: as it was before them\n");
+            page.put_number("-- damaged at each of ", script.len() as u64);
+            page.put(" octets: as it was before them\n");
         }
         Some(place) => {
-            page.put_text("-- damaged behind octet ");
-            page.put_number(place);
-            page.put_text(": otherwise before it\n");
+            page.put_number("-- damaged behind octet ", place as u64);
+            page.put(": otherwise before it\n");
         }
     }
 }
@@ -55,10 +53,10 @@ fn bears_damage(alloc: Global, script: &[u8], place: usize, before: &[u8]) -> bo
 }
 
 fn with_octet(alloc: Global, front: &[u8], octet: u8, back: &[u8]) -> Replayed {
-    let mut script = Page::new(alloc);
-    script.put(front);
-    script.put(&[octet]);
-    script.put(back);
+    let mut script = Words::new(alloc);
+    script.put_octets(front);
+    script.put_octets(&[octet]);
+    script.put_octets(back);
     play_script(alloc, script.so_far())
 }
 
@@ -76,27 +74,28 @@ fn is_lawful(replay: &Replayed, before: &[u8]) -> bool {
 
 /// Sends octets, given in the escape, to a session behind a script, tells what is printed, and whether it is the same where
 /// they come in two pieces, cut at each place, and one by one.
-pub fn tell_pieces(alloc: Global, script: &[u8], session: &str, text: &str, page: &mut Page) {
+pub fn tell_pieces(alloc: Global, script: &[u8], session: &str, text: &str, page: &mut Words) {
     let Some(octets) = octets_of(alloc, text) else {
-        page.put_text("-- not in the escape\n");
+        page.put("-- not in the escape\n");
         return;
     };
     let octets = octets.as_bytes();
     let whole = in_pieces(alloc, script, session, octets, octets.len().max(1));
-    whole.tell(alloc, page);
+    whole.tell(page);
     if !in_pieces(alloc, script, session, octets, 1).is_as(&whole) {
-        page.put_text("-- otherwise octet by octet\n");
+        page.put("-- otherwise octet by octet\n");
     }
     match first_cut(alloc, script, session, octets, &whole) {
         None => {
-            page.put_text("-- the same octet by octet and cut at each of ");
-            page.put_number(octets.len());
-            page.put_text(" places\n");
+            page.put_number(
+                "-- the same octet by octet and cut at each of ",
+                octets.len() as u64,
+            );
+            page.put(" places\n");
         }
         Some(place) => {
-            page.put_text("-- otherwise cut at ");
-            page.put_number(place);
-            page.put_text("\n");
+            page.put_number("-- otherwise cut at ", place as u64);
+            page.put("\n");
         }
     }
 }
@@ -110,8 +109,8 @@ fn first_cut(
     whole: &Replayed,
 ) -> Option<usize> {
     for place in 0..octets.len() {
-        let mut cut = Page::new(alloc);
-        cut.put(script);
+        let mut cut = Words::new(alloc);
+        cut.put_octets(script);
         put_send(session, &octets[..place], &mut cut);
         put_send(session, &octets[place..], &mut cut);
         if !play_script(alloc, cut.so_far()).is_as(whole) {
@@ -125,8 +124,8 @@ fn first_cut(
 fn in_pieces(alloc: Global, script: &[u8], session: &str, octets: &[u8], size: usize) -> Replayed
     requires { 0 < size }
 {
-    let mut whole = Page::new(alloc);
-    whole.put(script);
+    let mut whole = Words::new(alloc);
+    whole.put_octets(script);
     for piece in octets.chunks(size) {
         put_send(session, piece, &mut whole);
     }
@@ -134,10 +133,9 @@ fn in_pieces(alloc: Global, script: &[u8], session: &str, octets: &[u8], size: u
 }
 
 /// Adds a line that feeds octets to a session.
-fn put_send(session: &str, octets: &[u8], script: &mut Page) {
-    script.put_text("send ");
-    script.put_text(session);
-    script.put_text(" ");
-    script.put_escaped(octets);
-    script.put_text("\n");
+fn put_send(session: &str, octets: &[u8], script: &mut Words) {
+    script.put("send ");
+    script.put(session);
+    script.put_escaped(" ", octets);
+    script.put("\n");
 }

@@ -1,6 +1,6 @@
 //! The lines of a row that say what is done with its script, and those that add to it what a line of text can't show.
 
-use crate::page::Page;
+use case_text::Words;
 use imap_types::{Escape, Octets, read_escaped};
 use std::alloc::Global;
 
@@ -51,7 +51,7 @@ pub fn cut<'a>(text: &'a str, mark: char) -> (&'a str, &'a str) {
 }
 
 /// Adds what a directive stands for to a script; whether it is one that does.
-pub fn build(word: &str, rest: &str, script: &mut Page) -> bool {
+pub fn build(word: &str, rest: &str, script: &mut Words) -> bool {
     let Some(pattern) = pattern_of(rest) else {
         return false;
     };
@@ -89,29 +89,28 @@ fn pattern_of<'a>(rest: &'a str) -> Option<Pattern<'a>> {
 }
 
 /// Adds the line, with so many of a text in its gap.
-fn fill(pattern: &Pattern, script: &mut Page) -> bool {
+fn fill(pattern: &Pattern, script: &mut Words) -> bool {
     let Ok(count) = pattern.first.parse::<u32>() else {
         return false;
     };
-    script.put_text(pattern.front);
+    script.put(pattern.front);
     for _ in 0..count {
-        script.put_text(pattern.second);
+        script.put(pattern.second);
     }
-    script.put_text(pattern.back);
-    script.put_text("\n");
+    script.put(pattern.back);
+    script.put("\n");
     true
 }
 
 /// Adds the line once for each number, which stands in its gap.
-fn repeat(pattern: &Pattern, script: &mut Page) -> bool {
+fn repeat(pattern: &Pattern, script: &mut Words) -> bool {
     let (Ok(first), Ok(last)) = (pattern.first.parse::<u32>(), pattern.second.parse::<u32>()) else {
         return false;
     };
     for number in first..=last {
-        script.put_text(pattern.front);
-        script.put_number(number as usize);
-        script.put_text(pattern.back);
-        script.put_text("\n");
+        script.put_number(pattern.front, u64::from(number));
+        script.put(pattern.back);
+        script.put("\n");
     }
     true
 }

@@ -5,7 +5,6 @@
 mod cases;
 mod cuts;
 mod directives;
-mod page;
 mod replays;
 mod rows;
 
@@ -15,5 +14,5 @@ use std::io::Write;
 fn main(rt: HostRuntime) -> io::Result<()> {
     let text = io::read_to_string(rt.alloc(), rt.reader())?;
     let page = rows::play(rt.alloc(), text.as_str());
-    io::writer(&rt).write_all(page.octets()?)
+    io::writer(&rt).write_all(&page.finish()?)
 }

@@ -1,6 +1,6 @@
 //! Replays of scripts, and what is told of them.
 
-use crate::page::Page;
+use case_text::Words;
 use mail_audit::audit;
 use mail_replay::{ReplayEnd, replay};
 use std::alloc::Global;
@@ -30,52 +30,49 @@ impl Replayed {
     }
 
     /// Tells all that was printed, and the end.
-    pub fn tell(&self, alloc: Global, page: &mut Page) {
+    pub fn tell(&self, page: &mut Words) {
         put_shortened(&self.printed, page);
-        self.tell_end(alloc, page);
+        self.tell_end(page);
     }
 
     /// Tells how many lines were printed, the last of them, and the end.
-    pub fn tell_last(&self, alloc: Global, last: usize, page: &mut Page) {
+    pub fn tell_last(&self, last: usize, page: &mut Words) {
         let count = ends_of(&self.printed);
-        page.put_text("-- ");
-        page.put_number(count);
-        page.put_text(" lines, the last ");
-        page.put_number(last);
-        page.put_text(":\n");
+        page.put_number("-- ", count as u64);
+        page.put_number(" lines, the last ", last as u64);
+        page.put(":\n");
         let lines = self.printed.split_inclusive(|octet| *octet == b'\n');
         for line in lines.skip(count.saturating_sub(last)) {
             put_shortened(line, page);
         }
-        self.tell_end(alloc, page);
+        self.tell_end(page);
     }
 
     /// Tells how many of the lines that were printed are this one, and the end.
-    pub fn tell_count(&self, alloc: Global, line: &str, page: &mut Page) {
-        page.put_text("-- ");
-        page.put_number(count_of(&self.printed, line.as_bytes()));
-        page.put_text(" lines: ");
-        page.put_text(line);
-        page.put_text("\n");
-        self.tell_end(alloc, page);
+    pub fn tell_count(&self, line: &str, page: &mut Words) {
+        page.put_number("-- ", count_of(&self.printed, line.as_bytes()) as u64);
+        page.put(" lines: ");
+        page.put(line);
+        page.put("\n");
+        self.tell_end(page);
     }
 
     /// Tells the end, and of a script that was served to its end what the audit says of all that was printed.
-    pub fn tell_end(&self, alloc: Global, page: &mut Page) {
+    pub fn tell_end(&self, page: &mut Words) {
         put_end(self.end, page);
         if self.end == ReplayEnd::Done {
-            page.put_text("-- audit: ");
-            put_audited(alloc, &self.printed, page);
+            page.put("-- audit: ");
+            put_audited(&self.printed, page);
         }
     }
 }
 
 /// Puts what the audit says of what was printed.
-fn put_audited(alloc: Global, printed: &[u8], page: &mut Page) {
+fn put_audited(printed: &[u8], page: &mut Words) {
     let mut reader = printed;
-    let mut said = Vec::new(alloc);
-    audit(alloc, &mut reader, &mut said);
-    page.put(&said);
+    let mut said = Vec::new(page.alloc());
+    audit(page.alloc(), &mut reader, &mut said);
+    page.put_octets(&said);
 }
 
 /// How many line ends there are.
@@ -91,31 +88,28 @@ fn count_of(text: &[u8], wanted: &[u8]) -> usize {
 }
 
 /// Puts what was printed, with each long run of one octet as its length and the octet in braces.
-pub fn put_shortened(printed: &[u8], page: &mut Page) {
+pub fn put_shortened(printed: &[u8], page: &mut Words) {
     for run in printed.chunk_by(|one, next| *one == *next) {
         if run.len() <= LONGEST_RUN {
-            page.put(run);
+            page.put_octets(run);
         } else {
-            page.put_text("{");
-            page.put_number(run.len());
-            page.put_text(" ");
-            page.put_escaped(&run[..1]);
-            page.put_text("}");
+            page.put_number("{", run.len() as u64);
+            page.put_escaped(" ", &run[..1]);
+            page.put("}");
         }
     }
 }
 
 /// Tells how a replay ended.
-fn put_end(end: ReplayEnd, page: &mut Page) {
+fn put_end(end: ReplayEnd, page: &mut Words) {
     match end {
-        ReplayEnd::Done => page.put_text("-- done\n"),
+        ReplayEnd::Done => page.put("-- done\n"),
         ReplayEnd::BadScript { line } => {
-            page.put_text("-- bad script: line ");
-            page.put_number(line as usize);
-            page.put_text("\n");
+            page.put_number("-- bad script: line ", line);
+            page.put("\n");
         }
-        ReplayEnd::ReadFailed => page.put_text("-- cannot read\n"),
-        ReplayEnd::WriteFailed => page.put_text("-- cannot write\n"),
-        ReplayEnd::NoMemory => page.put_text("-- no memory\n"),
+        ReplayEnd::ReadFailed => page.put("-- cannot read\n"),
+        ReplayEnd::WriteFailed => page.put("-- cannot write\n"),
+        ReplayEnd::NoMemory => page.put("-- no memory\n"),
     }
 }

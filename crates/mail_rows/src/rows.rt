@@ -3,13 +3,13 @@
 use crate::cases::try_case;
 use crate::cuts::{tell_damage, tell_pieces};
 use crate::directives::{Way, build, cut, octets_of, way_of};
-use crate::page::Page;
 use crate::replays::play_script;
+use case_text::Words;
 use std::alloc::Global;
 
 /// Plays the rows of a text, each behind a line `== TITLE`; what stands before the first is left out.
-pub fn play(alloc: Global, text: &str) -> Page {
-    let mut page = Page::new(alloc);
+pub fn play(alloc: Global, text: &str) -> Words {
+    let mut page = Words::new(alloc);
     for row in text.split("\n== ").skip(1) {
         play_row(alloc, row, &mut page);
     }
@@ -19,17 +19,17 @@ pub fn play(alloc: Global, text: &str) -> Page {
 /// A row as far as it was read.
 #[derive(Drop)]
 struct Row<'a> {
-    script: Page,
+    script: Words,
     way: Way<'a>,
 }
 
-fn play_row(alloc: Global, text: &str, page: &mut Page) {
+fn play_row(alloc: Global, text: &str, page: &mut Words) {
     let (title, lines) = cut(text, '\n');
-    page.put_text("== ");
-    page.put_text(title);
-    page.put_text("\n");
+    page.put("== ");
+    page.put(title);
+    page.put("\n");
     let mut row = Row {
-        script: Page::new(alloc),
+        script: Words::new(alloc),
         way: Way::Whole,
     };
     for line in lines.split_terminator('\n') {
@@ -39,13 +39,13 @@ fn play_row(alloc: Global, text: &str, page: &mut Page) {
 }
 
 /// Takes a line of a row: a directive, a comment in front of the script, or what belongs to the script.
-fn take_line<'a>(alloc: Global, line: &'a str, row: &mut Row<'a>, page: &mut Page) {
+fn take_line<'a>(alloc: Global, line: &'a str, row: &mut Row<'a>, page: &mut Words) {
     if let Some(directive) = line.strip_prefix("% ") {
         let (word, rest) = cut(directive, ' ');
         if !obey(alloc, word, rest, row, page) {
-            page.put_text("-- no directive: ");
-            page.put_text(directive);
-            page.put_text("\n");
+            page.put("-- no directive: ");
+            page.put(directive);
+            page.put("\n");
         }
     } else if !(line.starts_with('#') && row.script.so_far().is_empty()) {
         take_octets(alloc, line.as_bytes(), b"\n", row, page);
@@ -53,7 +53,7 @@ fn take_line<'a>(alloc: Global, line: &'a str, row: &mut Row<'a>, page: &mut Pag
 }
 
 /// Does what a directive says; whether it is one.
-fn obey<'a>(alloc: Global, word: &str, rest: &'a str, row: &mut Row<'a>, page: &mut Page) -> bool {
+fn obey<'a>(alloc: Global, word: &str, rest: &'a str, row: &mut Row<'a>, page: &mut Words) -> bool {
     if word == "octets" {
         let Some(octets) = octets_of(alloc, rest) else {
             return false;
@@ -65,28 +65,28 @@ fn obey<'a>(alloc: Global, word: &str, rest: &'a str, row: &mut Row<'a>, page: &
         return build(word, rest, &mut row.script);
     };
     if let Way::Each(_) = way {
-        play_script(alloc, row.script.so_far()).tell(alloc, page);
+        play_script(alloc, row.script.so_far()).tell(page);
     }
     row.way = way;
     true
 }
 
 /// Takes a case, where the row is one of cases, else octets of the script, with their end.
-fn take_octets(alloc: Global, octets: &[u8], end: &[u8], row: &mut Row, page: &mut Page) {
+fn take_octets(alloc: Global, octets: &[u8], end: &[u8], row: &mut Row, page: &mut Words) {
     if let Way::Each(then) = row.way {
         try_case(alloc, row.script.so_far(), octets, then, page);
     } else {
-        row.script.put(octets);
-        row.script.put(end);
+        row.script.put_octets(octets);
+        row.script.put_octets(end);
     }
 }
 
 /// Does with a row's script what is to be done with it.
-fn end_row(alloc: Global, script: &[u8], way: Way, page: &mut Page) {
+fn end_row(alloc: Global, script: &[u8], way: Way, page: &mut Words) {
     match way {
-        Way::Whole => play_script(alloc, script).tell(alloc, page),
-        Way::Last(last) => play_script(alloc, script).tell_last(alloc, last, page),
-        Way::Count(line) => play_script(alloc, script).tell_count(alloc, line, page),
+        Way::Whole => play_script(alloc, script).tell(page),
+        Way::Last(last) => play_script(alloc, script).tell_last(last, page),
+        Way::Count(line) => play_script(alloc, script).tell_count(line, page),
         Way::Damage => tell_damage(alloc, script, page),
         Way::Pieces { session, text } => tell_pieces(alloc, script, session, text, page),
         Way::Each(_) => {}
