@@ -7,6 +7,7 @@ mod FormLemmas
 mod GoneLemmas
 mod Hearing
 mod HearingLemmas
+mod LineLemmas
 mod ReadingLemmas
 mod ResultLemmas
 mod Rooms

@@ -10,7 +10,7 @@ use Rattle.crdt_ops.specs.Form.{IsReplica}
 use Rattle.crdt_ops.specs.declared.op.Op.{Op}
 use Rattle.mail_script.specs.Fields.{is_session_name}
 use Rattle.mail_script.specs.declared.transcript.Speaker.{Speaker}
-use Rattle.mail_audit.specs.Audits.{Dumped, IsNoEnd, IsUnreadable, Part, Result, Spoken, said_by, spoken_line, text_of}
+use Rattle.mail_audit.specs.Audits.{Dumped, IsDumpBegin, IsNoEnd, IsSpokenLine, IsUnreadable, Part, Result, Spoken, said_by, spoken_line, text_of}
 use Rattle.mail_audit.specs.DumpLines.{PhaseStands}
 use Rattle.mail_audit.specs.Dumps.{AreDumped, dump_line, dump_text, inside_text}
 use Rattle.mail_audit.specs.Hearings.{Tells}
@@ -32,8 +32,8 @@ one_more lines line taken e =
     omega (arith, n, m, e)
 
 -- a line that can't be read
-pub unread : (lines : List (List ℕ)) (parts : List Part) (sessions : List Session) → AreHeard lines parts sessions → (line : List ℕ) (taken : ℕ) → taken ≡ length lines + 1 → (IsResult line → ⊥) → EndsAt lines line (Unreadable taken)
-unread lines parts sessions heard line taken e n more = inl (record {
+pub unread : (lines : List (List ℕ)) (parts : List Part) (sessions : List Session) → AreHeard lines parts sessions → (line : List ℕ) (taken : ℕ) → taken ≡ length lines + 1 → (IsSpokenLine line → ⊥) → (IsDumpBegin line → ⊥) → (IsResult line → ⊥) → EndsAt lines line (Unreadable taken)
+unread lines parts sessions heard line taken e s d n more = inl (record {
   front = lines;
   line = line;
   back = more;
@@ -41,6 +41,8 @@ unread lines parts sessions heard line taken e n more = inl (record {
   whole = refl;
   count = e;
   right = heard_right lines parts sessions heard;
+  not_spoken = s;
+  begins_no_dump = d;
   no_result = n;
 })
 
@@ -56,6 +58,7 @@ cut_short lines sessions dump last begun e =
       parts = begun.parts;
       replica = dump.replica;
       whole = begun.whole ∙ ap (λ (ls : List (List ℕ)). begun.front ++ dump_line dump.replica ∷ ls) (sym (append-nil begun.inside));
+      named = begun.named;
       right = heard_right begun.front begun.parts sessions begun.heard;
       going_on = begun.going_on;
       behind = omega (arith, n, m, e);
@@ -95,6 +98,7 @@ module _ (lines : List (List ℕ)) (sessions : List Session) (old : OpenDump) (b
         parts = begun.parts;
         replica = old.replica;
         whole = whole;
+        named = begun.named;
         right = heard_right begun.front begun.parts sessions begun.heard;
         going_on = begun.going_on;
         behind = omega (arith, n, m, count);

@@ -3,6 +3,7 @@ use Rattle.std.specs.List.{flat_map}
 use Rattle.std.specs.Str.{bytes_eq}
 use Rattle.std.specs.Fmt.{decimal}
 pub use Rattle.crdt_ops.specs.Form.{Each}
+use Rattle.crdt_ops.specs.Form.{IsReplica}
 use Rattle.imap_types.specs.Escape.{AreOctets, escaped}
 use Rattle.imap_types.specs.declared.escape.Escape.TheVariants.{Text}
 use Rattle.mail_script.specs.Fields.{is_session_name}
@@ -32,6 +33,14 @@ pub data Part : Type 0 where
 -- the space stands for itself.
 abbrev pub spoken_line : List ℕ → Speaker → List ℕ → List ℕ
 spoken_line session speaker text = session ++ (mark_of speaker ++ escaped Text text)
+
+-- A line of a transcript.
+abbrev pub IsSpokenLine : List ℕ → Type 0
+IsSpokenLine line = (session : List ℕ) × (speaker : Speaker) × (text : List ℕ) × IsTrue (is_session_name session) × AreOctets text × (line ≡ spoken_line session speaker text)
+
+-- The first line of a dump.
+abbrev pub IsDumpBegin : List ℕ → Type 0
+IsDumpBegin line = (replica : ℕ) × IsReplica replica × (line ≡ dump_line replica)
 
 -- The text of a part.
 abbrev pub part_text : Part → List ℕ
@@ -93,6 +102,7 @@ pub record IsInDump (lines : List (List ℕ)) (number : ℕ) : Type 0 where
   pub parts : List Part
   pub replica : ℕ
   pub whole : lines ≡ front ++ dump_line replica ∷ (inside ++ back)
+  pub named : IsReplica replica
   pub right : AreRight front parts
   pub going_on : Each IsNoEnd inside
   pub behind_first : length front + 1 < number
@@ -103,7 +113,7 @@ pub record IsInDump (lines : List (List ℕ)) (number : ℕ) : Type 0 where
 abbrev pub IsNo : List (List ℕ) → ℕ → Type 0
 IsNo lines number = IsUnexplained lines number ⊎ IsInDump lines number
 
--- All in front of the line of this number is right, and it tells no result.
+-- All in front of the line of this number is right, and it is no line of a transcript, begins no dump and tells no result.
 pub record IsUnread (lines : List (List ℕ)) (number : ℕ) : Type 0 where
   pub front : List (List ℕ)
   pub line : List ℕ
@@ -112,6 +122,8 @@ pub record IsUnread (lines : List (List ℕ)) (number : ℕ) : Type 0 where
   pub whole : lines ≡ front ++ line ∷ back
   pub count : number ≡ length front + 1
   pub right : AreRight front parts
+  pub not_spoken : IsSpokenLine line → ⊥
+  pub begins_no_dump : IsDumpBegin line → ⊥
   pub no_result : IsResult line → ⊥
 
 -- The line of this number is the first of a dump or stands in it: all in front of the dump is right, and it doesn't end
@@ -123,6 +135,7 @@ pub record IsOfDump (lines : List (List ℕ)) (number : ℕ) : Type 0 where
   pub parts : List Part
   pub replica : ℕ
   pub whole : lines ≡ front ++ dump_line replica ∷ (inside ++ back)
+  pub named : IsReplica replica
   pub right : AreRight front parts
   pub going_on : Each IsNoEnd inside
   pub behind : length front < number

@@ -1,13 +1,11 @@
-use Rattle.std.specs.Prelude.{◌≡◌, ◌⊎◌, ℕ, List, ◌∷◌, ◌++◌, codes, IsTrue}
+use Rattle.std.specs.Prelude.{◌≡◌, ◌⊎◌, ℕ, List, ◌∷◌, ◌++◌, codes}
 use Rattle.imap_types.specs.DateTimes.{IsDateTime}
 use Rattle.imap_types.specs.Escape.{AreOctets}
 use Rattle.imap_types.specs.declared.flags.Flags.{Flags}
 use Rattle.tags_clocks.specs.declared.id.OpId.{OpId}
 use Rattle.crdt_ops.specs.Form.{AreIds, HasWords, IsId, IsReplica}
 use Rattle.crdt_ops.specs.Text.{flags_text, id_text, ids_text, letter_text, name_text}
-use Rattle.mail_script.specs.Fields.{is_session_name}
-use Rattle.mail_script.specs.declared.transcript.Speaker.{Speaker}
-use Rattle.mail_audit.specs.Audits.{spoken_line}
+pub use Rattle.mail_audit.specs.Audits.{IsSpokenLine}
 use Rattle.mail_audit.specs.Dumps.{dump_line}
 use Rattle.mail_audit.specs.Results.{IsResult}
 
@@ -31,10 +29,6 @@ IsStateLine line =
     × (((line ≡ codes "folder " ++ fields) × AreTagFields fields)
     ⊎ (((line ≡ codes "message " ++ fields) × AreMessageFields fields)
     ⊎ ((line ≡ codes "subscribed " ++ fields) × AreTagFields fields)))
-
--- A line of a transcript.
-abbrev pub IsSpokenLine : List ℕ → Type 0
-IsSpokenLine line = (session : List ℕ) × (speaker : Speaker) × (text : List ℕ) × IsTrue (is_session_name session) × AreOctets text × (line ≡ spoken_line session speaker text)
 
 -- A dump's last line or its first, one of its folders, messages or subscriptions, a line of a transcript, or one that tells a result.
 abbrev pub IsOtherLine : List ℕ → Type 0

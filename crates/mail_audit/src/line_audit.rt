@@ -3,7 +3,7 @@
 ghost use Rattle.std.specs.Prelude.{◌≡◌, ◌+◌, ◌<◌, ◌^◌, ℕ, List, [], ◌∷◌, ◌++◌, IfOk, IsTrue, MatchOption, None, length};
 ghost use Rattle.imap_types.specs.Escape.{AreOctets};
 ghost use Rattle.mail_script.specs.Fields.{is_session_name};
-ghost use Rattle.mail_audit.specs.Audits.{Audits, Part, spoken_line};
+ghost use Rattle.mail_audit.specs.Audits.{Audits, IsSpokenLine, Part, spoken_line};
 ghost use Rattle.mail_audit.specs.Standing.{AreHeard, EndsAt, IsOpen, Stands};
 
 use crate::dump::{OpenDump, Step};
@@ -97,7 +97,7 @@ impl Audit {
 
     /// Takes a line that is of no transcript and of no dump that began before it.
     fn pass(&mut self, alloc: Global, line: &[u8]) -> Result<Option<AuditEnd>, AllocError>
-        ensures { (lines : List (List ℕ)) (parts : List Part) → AreHeard lines parts self.old.sessions → self.old.taken ≡ length lines + 1 → self.old.dump ≡ None → IfOk result (λ end. MatchOption end (Stands (lines ++ line.now ∷ []) self.new) (EndsAt lines line.now)) }
+        ensures { (lines : List (List ℕ)) (parts : List Part) → AreHeard lines parts self.old.sessions → self.old.taken ≡ length lines + 1 → self.old.dump ≡ None → (IsSpokenLine line.now → ⊥) → IfOk result (λ end. MatchOption end (Stands (lines ++ line.now ∷ []) self.new) (EndsAt lines line.now)) }
     {
         if let Some(replica) = dump_begun(line) {
             self.dump = Some(OpenDump::new(alloc, self.taken, replica));

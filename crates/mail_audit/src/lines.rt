@@ -1,12 +1,12 @@
 //! The lines of transcripts, and the first lines of dumps.
 
-ghost use Rattle.std.specs.Prelude.{◌≡◌, ◌++◌, ◌∷◌, ℕ, List, IfOk, IfSome, IsTrue, codes};
-ghost use Rattle.std.specs.Fmt.{decimal};
+ghost use Rattle.std.specs.Prelude.{◌≡◌, ◌++◌, ◌∷◌, ℕ, List, IfOk, IsTrue, MatchOption};
 ghost use Rattle.imap_types.specs.Escape.{AreOctets, escaped};
 ghost use Rattle.imap_types.specs.declared.escape.Escape.TheVariants.{Text as Kept};
 ghost use Rattle.mail_script.specs.Fields.{IsReplica, is_session_name};
 ghost use Rattle.mail_script.specs.Transcript.{mark_of};
-ghost use Rattle.mail_audit.specs.Audits.{spoken_line};
+ghost use Rattle.mail_script.specs.declared.transcript.Speaker.{Speaker as SomeSpeaker};
+ghost use Rattle.mail_audit.specs.Audits.{IsDumpBegin, IsSpokenLine, spoken_line};
 ghost use Rattle.mail_audit.specs.Dumps.{dump_line};
 
 use imap_types::{Escape, EscapeFault, Octets, read_escaped};
@@ -26,7 +26,7 @@ pub struct Spoken {
 
 /// What a line tells, where it is one of a transcript.
 pub fn read_spoken(alloc: Global, line: &[u8]) -> Result<Option<Spoken>, AllocError>
-    ensures { IfOk result (λ found. IfSome found (λ spoken. IsTrue (is_session_name spoken.session) × AreOctets spoken.text × (line.now ≡ spoken_line spoken.session spoken.speaker spoken.text))) }
+    ensures { IfOk result (λ found. MatchOption found (IsSpokenLine line.now → ⊥) (λ spoken. IsTrue (is_session_name spoken.session) × AreOctets spoken.text × (line.now ≡ spoken_line spoken.session spoken.speaker spoken.text))) }
 {
     let Some((name, said)) = split(b' ', line) else {
         return Ok(None);
@@ -49,7 +49,7 @@ pub fn read_spoken(alloc: Global, line: &[u8]) -> Result<Option<Spoken>, AllocEr
 
 /// Who spoke, and the text behind it.
 fn speech(said: &[u8]) -> Option<(Speaker, &[u8])>
-    ensures { IfSome result (λ speech. 32 ∷ said.now ≡ mark_of speech.0 ++ speech.1.now) }
+    ensures { MatchOption result ((speaker : SomeSpeaker) (text : List ℕ) → 32 ∷ said.now ≡ mark_of speaker ++ text → ⊥) (λ speech. 32 ∷ said.now ≡ mark_of speech.0 ++ speech.1.now) }
 {
     match said.strip_prefix(b"C: ".as_slice()) {
         Some(frame) => Some((Speaker::Client, frame)),
@@ -62,7 +62,7 @@ fn speech(said: &[u8]) -> Option<(Speaker, &[u8])>
 
 /// What a text in the escape that keeps spaces stands for, where it is in it.
 fn unescaped(alloc: Global, text: &[u8]) -> Result<Option<Octets>, AllocError>
-    ensures { IfOk result (λ found. IfSome found (λ octets. AreOctets octets × (text.now ≡ escaped Kept octets))) }
+    ensures { IfOk result (λ found. MatchOption found ((octets : List ℕ) → AreOctets octets → text.now ≡ escaped Kept octets → ⊥) (λ octets. AreOctets octets × (text.now ≡ escaped Kept octets))) }
 {
     match read_escaped(alloc, Escape::Text, text) {
         Ok(octets) => Ok(Some(octets)),
@@ -73,7 +73,7 @@ fn unescaped(alloc: Global, text: &[u8]) -> Result<Option<Octets>, AllocError>
 
 /// The replica whose dump begins with this line, where one does.
 pub fn dump_begun(line: &[u8]) -> Option<ReplicaId>
-    ensures { IfSome result (λ replica. IsReplica replica × (line.now ≡ dump_line replica)) }
+    ensures { MatchOption result (IsDumpBegin line.now → ⊥) (λ replica. IsReplica replica × (line.now ≡ dump_line replica)) }
 {
     match line.strip_prefix(b"dump ".as_slice()) {
         Some(number) => text_fields::replica(number),

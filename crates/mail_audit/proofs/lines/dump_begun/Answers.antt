@@ -1,5 +1,5 @@
 use Rattle.std.proofs.Common.{◌≡◌, ◌++◌, codes, rules}
-use Rattle.mail_audit.proofs.ResultLemmas.{dump_of}
+use Rattle.mail_audit.proofs.LineLemmas.{dump_of}
 use Rattle.mail_audit.proofs.lines.dump_begun.Goals as goal
 
 pub returns-in-Some : goal.returns-in-Some

@@ -6,12 +6,12 @@ use Rattle.mail_audit.proofs.SlotLemmas.{refuted}
 use Rattle.mail_audit.proofs.line_audit.Audit.pass.Goals as goal
 
 pub returns-then-branch : goal.returns-then-branch
-returns-then-branch c = λ lines parts heard count none.
+returns-then-branch c = λ lines parts heard count none unspoken.
     let audit = c.args.self.now in
     let line = c.args.line.now in
     (one_more lines line audit.taken count, subst (λ (d : Option OpenDump). DumpStands (lines ++ line ∷ []) audit.sessions d) (sym none) (is_told lines parts audit.sessions heard line ((c.in_ok-is_result.ensures {u = tt}).0 (search rules))))
 
 pub returns-else-branch : goal.returns-else-branch
-returns-else-branch c = λ lines parts heard count none.
+returns-else-branch c = λ lines parts heard count none unspoken.
     let audit = c.args.self.now in
-    unread lines parts audit.sessions heard c.args.line.now audit.taken count (refuted c.in_ok-is_result.field-0 c.if-branch.false (c.in_ok-is_result.ensures {u = tt}).1)
+    unread lines parts audit.sessions heard c.args.line.now audit.taken count unspoken c.in_default.ensures (refuted c.in_ok-is_result.field-0 c.if-branch.false (c.in_ok-is_result.ensures {u = tt}).1)

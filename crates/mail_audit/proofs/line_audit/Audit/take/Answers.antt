@@ -18,4 +18,4 @@ returns-in-None-2 c = λ lines s.
     let audit = c.args.self.now in
     let t = s.0 in
     let d = subst (λ (o : Option OpenDump). DumpStands lines audit.sessions o) (sym c.take.ensures.value ∙ c.in-None.is) s.1 in
-    c.pass.ensures lines d.0 d.1 (omega (arith, t)) c.take.ensures.after
+    c.pass.ensures lines d.0 d.1 (omega (arith, t)) c.take.ensures.after (rw c.in-None-2.is at (c.in_ok-spoken-in-None.ensures {u = tt}))
