@@ -1,11 +1,20 @@
-use Rattle.std.proofs.Common.{◌≡◌, subst, inl, inr, ℕ, zero, suc, ◌+◌, ◌<◌, ◌≤◌, Bool, true, false, ltb, List, [], ◌∷◌, ◌++◌, length, get_or, refl, sym, ap, arith, if◌then◌else◌}
-use Rattle.std.specs.List.{list_any, remove}
+use Rattle.std.proofs.Common.{◌≡◌, ◌≢◌, subst, inl, inr, ℕ, ◌+◌, ◌≤◌, Bool, true, false, ltb, Option, None, Some, Result, Ok, Err, OnErr, List, [], ◌∷◌, ◌++◌, length, refl, sym, ap, ◌∙◌, append-nil, arith, if◌then◌else◌}
+use Rattle.std.specs.BTreeMap.{insert_entry, is_at}
+use Rattle.std.specs.Global.{Global, Vec}
+use Rattle.std.specs.List.{list_any}
+use Rattle.std.specs.Map.{KeepsOthers, lookup, remove_entry, values_of}
+use Rattle.std.specs.Option.{option_map_or}
+use Rattle.std.specs.Ordering.{nat_cmp}
 use Rattle.std.specs.Str.{bytes_eq}
+use Rattle.std.specs.declared.cmp.Ordering.TheVariants.{Greater}
+use Rattle.std.specs.declared.collections.VecDeque.{VecDeque}
 use Rattle.std.proofs.lemmas.Bool.{cases_Bool}
 use Rattle.std.proofs.lemmas.Bool.Decides.{nat_tests}
 use Rattle.mail_audit.specs.Counts.{how_many}
+use Rattle.mail_audit.specs.Numbered.{AreRising, kept_for, numbers_of}
 use Rattle.mail_audit.specs.Transcripts.{ended}
 use Rattle.mail_audit.specs.declared.running.Running.{Running}
+use Rattle.mail_audit.proofs.SessionLemmas.{same_name}
 
 -- some are so exactly where their number isn't 0
 pub any_counted : (p : Running → Bool) (rs : List Running) → ltb 0 (how_many p rs) ≡ list_any p rs
@@ -38,30 +47,228 @@ counted_more p (x ∷ rs) r =
       | inr f ↦ rw f m
     ]
 
-pub counted_less : (p : Running → Bool) (rs : List Running) (i : ℕ) (d : Running) → i < length rs → how_many p (remove rs i) + (if p (get_or rs i d) then 1 else 0) ≡ how_many p rs
-counted_less p [] i d l = absurd (omega (arith, l))
-counted_less p (r ∷ rs) zero d l =
-    elim (cases_Bool (p r)) [
-      | inl t ↦ rw t (omega arith)
-      | inr f ↦ rw f (omega arith)
+-- ---- commands by their numbers
+
+abbrev Begun : Type 0
+Begun = ℕ × Running
+
+pub rising_bounds : (low high : ℕ) (es : List Begun) → AreRising low high es → low ≤ high
+rising_bounds low high [] a = a
+rising_bounds low high (e ∷ es) a = let m = rising_bounds (1 + e.0) high es a.1 in omega (arith, a.0, m)
+
+rising_from : (low mid high : ℕ) (es : List Begun) → low ≤ mid → AreRising mid high es → AreRising low high es
+rising_from low mid high [] l a = omega (arith, l, a)
+rising_from low mid high (e ∷ es) l a = (omega (arith, l, a.0), a.1)
+
+-- there are no more of them than numbers
+pub rising_length : (low high : ℕ) (es : List Begun) → AreRising low high es → low + length (values_of es) ≤ high
+rising_length low high [] a = omega (arith, a)
+rising_length low high (e ∷ es) a = let m = rising_length (1 + e.0) high es a.1 in omega (arith, a.0, m)
+
+-- a command with the next number is put behind the others
+pub put_last : (low high : ℕ) (es : List Begun) (r : Running) → AreRising low high es → insert_entry nat_cmp es high r ≡ es ++ (high, r) ∷ []
+put_last low high [] r a = refl
+put_last low high (e ∷ es) r a =
+    let m = rising_bounds (1 + e.0) high es a.1 in
+    let g : nat_cmp high e.0 ≡ Greater = grind (arith, nat_tests, m) in
+    rw g (ap (λ (xs : List Begun). e ∷ xs) (put_last (1 + e.0) high es r a.1))
+
+pub rising_more : (low high : ℕ) (es : List Begun) (r : Running) → AreRising low high es → AreRising low (high + 1) (es ++ (high, r) ∷ [])
+rising_more low high [] r a = (a, omega arith)
+rising_more low high (e ∷ es) r a = (a.0, rising_more (1 + e.0) high es r a.1)
+
+pub values_more : (es : List Begun) (n : ℕ) (r : Running) → values_of (es ++ (n, r) ∷ []) ≡ values_of es ++ r ∷ []
+values_more [] n r = refl
+values_more (e ∷ es) n r = ap (λ (rs : List Running). e.1 ∷ rs) (values_more es n r)
+
+pub numbers_more : (tag : List ℕ) (es : List Begun) (n : ℕ) (r : Running) → numbers_of tag (es ++ (n, r) ∷ []) ≡ numbers_of tag es ++ (if bytes_eq tag r.tag then n ∷ [] else [])
+numbers_more tag [] n r =
+    elim (cases_Bool (bytes_eq tag r.tag)) [
+      | inl t ↦ rw t refl
+      | inr f ↦ rw f refl
     ]
-counted_less p (r ∷ rs) (suc i) d l =
-    let m = counted_less p rs i d (omega (arith, l)) in
-    elim (cases_Bool (p r)) [
-      | inl t ↦ rw t (omega (arith, m))
+numbers_more tag (e ∷ es) n r =
+    let m = numbers_more tag es n r in
+    elim (cases_Bool (bytes_eq tag e.1.tag)) [
+      | inl t ↦ rw t (ap (λ (ns : List ℕ). e.0 ∷ ns) m)
       | inr f ↦ rw f m
     ]
 
--- the number without the one that was taken out of a place
-pub counted_without : (p : Running → Bool) (rs : List Running) (i : ℕ) (r : Running) → i < length rs → r ≡ get_or rs i r → how_many p (remove rs i) + (if p r then 1 else 0) ≡ how_many p rs
-counted_without p rs i r l e = subst (λ (x : Running). how_many p (remove rs i) + (if p x then 1 else 0) ≡ how_many p rs) (sym e) (counted_less p rs i r l)
+-- and is taken back from there
+pub taken_back : (low high : ℕ) (es : List Begun) (r : Running) → AreRising low high es → remove_entry (is_at (nat_cmp high)) (es ++ (high, r) ∷ []) ≡ es
+taken_back low high [] r a =
+    let t : is_at (nat_cmp high) high ≡ true = grind (arith, nat_tests) in
+    rw t refl
+taken_back low high (e ∷ es) r a =
+    let m = rising_bounds (1 + e.0) high es a.1 in
+    let f : is_at (nat_cmp high) e.0 ≡ false = grind (arith, nat_tests, m) in
+    rw f (ap (λ (xs : List Begun). e ∷ xs) (taken_back (1 + e.0) high es r a.1))
 
--- where the first so many haven't the tag, the first that ends stands behind them
-pub ended_behind : (tag : List ℕ) (rs : List Running) (i : ℕ) (d : Running) → i < length rs → ((k : ℕ) → k < i → bytes_eq tag (get_or rs k d).tag ≡ false) → bytes_eq tag (get_or rs i d).tag ≡ true → ended tag rs ≡ remove rs i
-ended_behind tag [] i d l n e = absurd (omega (arith, l))
-ended_behind tag (r ∷ rs) zero d l n e = rw e refl
-ended_behind tag (r ∷ rs) (suc i) d l n e = rw (n 0 (omega arith)) (ap (λ xs. r ∷ xs) (ended_behind tag rs i d (omega (arith, l)) (λ k m. n (suc k) (omega (arith, m))) e))
+-- ---- the first with a tag
 
-pub none_ended : (tag : List ℕ) (rs : List Running) (d : Running) → ((k : ℕ) → k < length rs → bytes_eq tag (get_or rs k d).tag ≡ false) → ended tag rs ≡ rs
-none_ended tag [] d n = refl
-none_ended tag (r ∷ rs) d n = rw (n 0 (omega arith)) (ap (λ xs. r ∷ xs) (none_ended tag rs d (λ k m. n (suc k) (omega (arith, m)))))
+first_bounds : (low high : ℕ) (tag : List ℕ) (es : List Begun) (n : ℕ) (ns : List ℕ) → AreRising low high es → numbers_of tag es ≡ n ∷ ns → low ≤ n
+first_bounds low high tag [] n ns a e = absurd (cc e)
+first_bounds low high tag (x ∷ es) n ns a e =
+    elim (cases_Bool (bytes_eq tag x.1.tag)) [
+      | inl t ↦ let k = rw t at e in let q : x.0 ≡ n = cc k in omega (arith, a.0, q)
+      | inr f ↦ let k = rw f at e in let m = first_bounds (1 + x.0) high tag es n ns a.1 k in omega (arith, a.0, m)
+    ]
+
+own_number : (x n : ℕ) → x ≡ n → is_at (nat_cmp n) x ≡ true
+own_number x n q = grind (arith, nat_tests, q)
+
+other_number : (x n : ℕ) → 1 + x ≤ n → is_at (nat_cmp n) x ≡ false
+other_number x n l = grind (arith, nat_tests, l)
+
+-- it is the one that ends
+pub first_ended : (low high : ℕ) (tag : List ℕ) (es : List Begun) (n : ℕ) (ns : List ℕ) → AreRising low high es → numbers_of tag es ≡ n ∷ ns
+    → ended tag (values_of es) ≡ values_of (remove_entry (is_at (nat_cmp n)) es)
+first_ended low high tag [] n ns a e = absurd (cc e)
+first_ended low high tag (x ∷ es) n ns a e =
+    elim (cases_Bool (bytes_eq tag x.1.tag)) [
+      | inl t ↦ let k = rw t at e in let o = own_number x.0 n (cc k) in rw (t, o) refl
+      | inr f ↦
+          let k = rw f at e in
+          let o = other_number x.0 n (first_bounds (1 + x.0) high tag es n ns a.1 k) in
+          rw (f, o) (ap (λ (rs : List Running). x.1 ∷ rs) (first_ended (1 + x.0) high tag es n ns a.1 k))
+    ]
+
+pub first_numbers : (low high : ℕ) (tag : List ℕ) (es : List Begun) (n : ℕ) (ns : List ℕ) → AreRising low high es → numbers_of tag es ≡ n ∷ ns
+    → numbers_of tag (remove_entry (is_at (nat_cmp n)) es) ≡ ns
+first_numbers low high tag [] n ns a e = absurd (cc e)
+first_numbers low high tag (x ∷ es) n ns a e =
+    elim (cases_Bool (bytes_eq tag x.1.tag)) [
+      | inl t ↦ let k = rw t at e in let o = own_number x.0 n (cc k) in rw o (cc k)
+      | inr f ↦
+          let k = rw f at e in
+          let o = other_number x.0 n (first_bounds (1 + x.0) high tag es n ns a.1 k) in
+          rw o (rw f (first_numbers (1 + x.0) high tag es n ns a.1 k))
+    ]
+
+pub first_others : (low high : ℕ) (tag other : List ℕ) (es : List Begun) (n : ℕ) (ns : List ℕ) → AreRising low high es → numbers_of tag es ≡ n ∷ ns → bytes_eq other tag ≡ false
+    → numbers_of other (remove_entry (is_at (nat_cmp n)) es) ≡ numbers_of other es
+first_others low high tag other [] n ns a e d = absurd (cc e)
+first_others low high tag other (x ∷ es) n ns a e d =
+    elim (cases_Bool (bytes_eq tag x.1.tag)) [
+      | inl t ↦
+          let k = rw t at e in
+          let o = own_number x.0 n (cc k) in
+          let apart : bytes_eq other x.1.tag ≡ false = ap (bytes_eq other) (sym (same_name tag x.1.tag t)) ∙ d in
+          rw (o, apart) refl
+      | inr f ↦
+          let k = rw f at e in
+          let o = other_number x.0 n (first_bounds (1 + x.0) high tag es n ns a.1 k) in
+          let m = first_others (1 + x.0) high tag other es n ns a.1 k d in
+          rw o (elim (cases_Bool (bytes_eq other x.1.tag)) [
+            | inl y ↦ rw y (ap (λ (ms : List ℕ). x.0 ∷ ms) m)
+            | inr z ↦ rw z m
+          ])
+    ]
+
+pub first_there : (tag : List ℕ) (es : List Begun) (n : ℕ) (ns : List ℕ) → numbers_of tag es ≡ n ∷ ns → None ≢ lookup (is_at (nat_cmp n)) es
+first_there tag [] n ns e = absurd (cc e)
+first_there tag (x ∷ es) n ns e =
+    elim (cases_Bool (is_at (nat_cmp n) x.0)) [
+      | inl o ↦ λ z. let y = rw o at z in absurd (cc y)
+      | inr o ↦ λ z.
+          let y = rw o at z in
+          elim (cases_Bool (bytes_eq tag x.1.tag)) [
+            | inl t ↦ let k = rw t at e in let p = own_number x.0 n (cc k) in absurd (cc (o, p))
+            | inr f ↦ let k = rw f at e in first_there tag es n ns k y
+          ]
+    ]
+
+-- where there is none, none ends
+pub none_ended : (tag : List ℕ) (es : List Begun) → numbers_of tag es ≡ [] → ended tag (values_of es) ≡ values_of es
+none_ended tag [] e = refl
+none_ended tag (x ∷ es) e =
+    elim (cases_Bool (bytes_eq tag x.1.tag)) [
+      | inl t ↦ let k = rw t at e in absurd (cc k)
+      | inr f ↦ let k = rw f at e in rw f (ap (λ (rs : List Running). x.1 ∷ rs) (none_ended tag es k))
+    ]
+
+-- without one of them
+pub rising_less : (low high : ℕ) (test : ℕ → Bool) (es : List Begun) → AreRising low high es → AreRising low high (remove_entry test es)
+rising_less low high test [] a = a
+rising_less low high test (e ∷ es) a =
+    elim (cases_Bool (test e.0)) [
+      | inl t ↦ rw t (rising_from low (1 + e.0) high es (omega (arith, a.0)) a.1)
+      | inr f ↦ rw f (a.0, rising_less (1 + e.0) high test es a.1)
+    ]
+
+pub counted_less : (p : Running → Bool) (test : ℕ → Bool) (es : List Begun) (r : Running) → Some r ≡ lookup test es
+    → how_many p (values_of (remove_entry test es)) + (if p r then 1 else 0) ≡ how_many p (values_of es)
+counted_less p test [] r e = absurd (cc e)
+counted_less p test (x ∷ es) r e =
+    elim (cases_Bool (test x.0)) [
+      | inl t ↦
+          let k = rw t at e in
+          let q : x.1 ≡ r = cc k in
+          rw (t, sym q) (elim (cases_Bool (p x.1)) [
+            | inl y ↦ rw y (omega arith)
+            | inr z ↦ rw z (omega arith)
+          ])
+      | inr f ↦
+          let k = rw f at e in
+          let m = counted_less p test es r k in
+          rw f (elim (cases_Bool (p x.1)) [
+            | inl y ↦ rw y (omega (arith, m))
+            | inr z ↦ rw z m
+          ])
+    ]
+
+pub at_error : {T E : Type 0} (r : Result T E) (P : Type 0) → P → OnErr r P
+at_error (Ok t) P h = tt
+at_error (Err e) P h = h
+
+-- ---- the numbers that are kept for each tag
+
+abbrev pub Kept : Type 0
+Kept = Vec ℕ × VecDeque ℕ Global
+
+abbrev same_key : Vec ℕ → Vec ℕ → Bool
+same_key a b = bytes_eq a.items b.items
+
+abbrev has_tag : List ℕ → Vec ℕ → Bool
+has_tag tag key = bytes_eq tag key.items
+
+-- a change at a tag leaves those of others
+pub kept_beside : (tag : List ℕ) (old new : List Kept) → KeepsOthers same_key (has_tag tag) old new → (other : List ℕ) → bytes_eq other tag ≡ false → kept_for other new ≡ kept_for other old
+unfolding KeepsOthers
+kept_beside tag old new keeps other d =
+    ap (λ (o : Option (VecDeque ℕ Global)). option_map_or (λ (q : VecDeque ℕ Global). q.items) o [])
+    (keeps (has_tag other)
+    (λ x y t. ap (λ (name : List ℕ). bytes_eq name y.items) (same_name other x.items t))
+    (λ k t. ap (bytes_eq other) (sym (same_name tag k.items t)) ∙ d))
+
+pub kept_at : (tag : List ℕ) (kept : List Kept) (numbers : VecDeque ℕ Global) → lookup (has_tag tag) kept ≡ Some numbers → kept_for tag kept ≡ numbers.items
+kept_at tag kept numbers e = ap (λ (o : Option (VecDeque ℕ Global)). option_map_or (λ (q : VecDeque ℕ Global). q.items) o []) e
+
+pub none_kept : (tag : List ℕ) (kept : List Kept) → lookup (has_tag tag) kept ≡ None → kept_for tag kept ≡ []
+none_kept tag kept e = ap (λ (o : Option (VecDeque ℕ Global)). option_map_or (λ (q : VecDeque ℕ Global). q.items) o []) e
+
+pub kept_same : (tag : List ℕ) (old new : List Kept) → KeepsOthers same_key (has_tag tag) old new → kept_for tag new ≡ kept_for tag old → (other : List ℕ) → kept_for other new ≡ kept_for other old
+kept_same tag old new keeps e other =
+    elim (cases_Bool (bytes_eq other tag)) [
+      | inl t ↦ subst (λ (o : List ℕ). kept_for o new ≡ kept_for o old) (sym (same_name other tag t)) e
+      | inr f ↦ kept_beside tag old new keeps other f
+    ]
+
+pub kept_more : (tag : List ℕ) (old new : List Kept) (n : ℕ) → KeepsOthers same_key (has_tag tag) old new → kept_for tag new ≡ kept_for tag old ++ n ∷ []
+    → (other : List ℕ) → kept_for other new ≡ kept_for other old ++ (if bytes_eq other tag then n ∷ [] else [])
+kept_more tag old new n keeps e other =
+    elim (cases_Bool (bytes_eq other tag)) [
+      | inl t ↦ rw t (subst (λ (o : List ℕ). kept_for o new ≡ kept_for o old ++ n ∷ []) (sym (same_name other tag t)) e)
+      | inr f ↦ rw f (kept_beside tag old new keeps other f ∙ sym (append-nil (kept_for other old)))
+    ]
+
+-- where the first number that is kept for a tag is taken out, the rest are those of the commands without the first with this tag
+pub first_taken : (low high : ℕ) (tag : List ℕ) (es : List Begun) (n : ℕ) (old new : List Kept) → AreRising low high es → ((other : List ℕ) → numbers_of other es ≡ kept_for other old)
+    → kept_for tag old ≡ n ∷ kept_for tag new → ((other : List ℕ) → bytes_eq other tag ≡ false → kept_for other new ≡ kept_for other old)
+    → (other : List ℕ) → numbers_of other (remove_entry (is_at (nat_cmp n)) es) ≡ kept_for other new
+first_taken low high tag es n old new a same taken others other =
+    let e = same tag ∙ taken in
+    elim (cases_Bool (bytes_eq other tag)) [
+      | inl t ↦ subst (λ (o : List ℕ). numbers_of o (remove_entry (is_at (nat_cmp n)) es) ≡ kept_for o new) (sym (same_name other tag t)) (first_numbers low high tag es n (kept_for tag new) a e)
+      | inr f ↦ first_others low high tag other es n (kept_for tag new) a e f ∙ same other ∙ sym (others other f)
+    ]

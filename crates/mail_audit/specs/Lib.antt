@@ -7,6 +7,7 @@ pub mod Forms
 pub mod Gaps
 pub mod Hearings
 pub mod Kept
+pub mod Numbered
 pub mod Passing
 pub mod ResultReading
 pub mod Results

@@ -1,10 +1,11 @@
 use Rattle.std.proofs.Common.{ℕ, List, ltb, ap, ◌∙◌}
 use Rattle.std.specs.List.{list_any}
+use Rattle.std.specs.Map.{values_of}
 use Rattle.mail_audit.specs.declared.running.Running.{Running}
 use Rattle.mail_audit.proofs.RunningLemmas.{any_counted}
 use Rattle.mail_audit.proofs.running.InProgress.may_expunge.Goals as goal
 
 pub returns : goal.returns
 returns c =
-    ap (λ (n : ℕ). ltb 0 n) c.self.invariant.0 ∙ any_counted (λ (r : Running). r.may_expunge) c.self.inside.commands.items
+    ap (λ (n : ℕ). ltb 0 n) c.self.invariant.0 ∙ any_counted (λ (r : Running). r.may_expunge) (values_of c.self.inside.commands.entries)
     ∙ ap (λ (rs : List Running). list_any (λ (r : Running). r.may_expunge) rs) c.self.view_is
