@@ -26,7 +26,7 @@ pub const PIECE_OCTETS: usize = 65_536;
 ///
 /// It ends with `Yes` where every transcript is explained and every dump is right. `No` names the first line up to which that
 /// isn't so, `Unreadable` the first that is none that a script prints; `ReadFailed` says that the reader failed, or that
-/// the input has more pieces than 16,777,216; `WriteFailed` that the writer did; `NoMemory` that there was none.
+/// 16,777,216 reads didn't come to the input's end; `WriteFailed` that the writer did; `NoMemory` that there was none.
 pub fn audit<R: Read, W: Write>(alloc: Global, reader: &mut R, writer: &mut W) -> AuditEnd
     ensures audits { (input : List ℕ) → R.remaining reader.old ≡ Some input → Audits (lines_of input) result }
     ensures told { result ≢ NotWritten → Appends (W.contents writer.old) (W.contents writer.new) (end_text result) }

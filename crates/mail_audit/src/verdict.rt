@@ -9,7 +9,7 @@ pub enum AuditEnd {
     No(u64),
     /// The line of this number is none that a script prints, or the input ends with it within a dump.
     Unreadable(u64),
-    /// The reader failed, or the input has more pieces than 16,777,216.
+    /// The reader failed, or 16,777,216 reads didn't come to the input's end.
     ReadFailed,
     /// The writer failed.
     WriteFailed,

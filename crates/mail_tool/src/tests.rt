@@ -1,3 +1,4 @@
+mod audits;
 mod devices;
 mod many;
 mod words;
