@@ -4,3 +4,4 @@ mod Ascending
 mod Received
 pub mod Union
 pub mod Closure
+mod OwnLemmas

@@ -4,3 +4,4 @@ pub mod Delivery
 pub mod Stalls
 pub mod Standing
 pub mod Received
+pub mod Owns

@@ -10,6 +10,7 @@ mod held_ops;
 mod history;
 mod inbox;
 mod laws;
+mod owning;
 mod search;
 
 pub use answers::{Arrival, DeliverFault, Delivered, Drained, IssueFault, Stall};
@@ -19,4 +20,5 @@ pub use laws::{
     delivery_is_received, issue_is_received, nothing_ripe_is_left, release_loses_nothing,
     what_is_received_is_consistent,
 };
+pub use owning::least_own;
 pub use search::find_in;

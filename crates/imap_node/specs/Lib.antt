@@ -12,3 +12,4 @@ pub mod Deliveries
 pub mod Replays
 pub mod Issues
 pub mod GoingBack
+pub mod Replies

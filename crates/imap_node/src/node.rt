@@ -5,11 +5,15 @@ ghost use Rattle.std.specs.Option.{option_copied};
 ghost use Rattle.causal_inbox.specs.Seen.{AreIssued, IsClockOf, held_limit, uncovered};
 ghost use Rattle.crdt_ops.specs.Sets.{delete_set_of, folder_tags_of, folders_of, messages_of, subscribed_of, subscription_tags_of};
 ghost use Rattle.crdt_ops.specs.declared.op.Op.{Op as Operation};
+ghost use Rattle.folder_state.specs.Contents.{IsMadeBy};
+ghost use Rattle.folder_state.specs.Tables.{contents_of};
 ghost use Rattle.imap_node.specs.Plans.{done_plan, next_left, place_next, plan_by};
 ghost use Rattle.imap_node.specs.Respond.{KeepsHeld};
 ghost use Rattle.imap_node.specs.Sessions.{IsOpen, session_at, with_session};
 ghost use Rattle.imap_node.specs.Rooms.{HasRoomFor};
 ghost use Rattle.imap_node.specs.declared.input.Input.TheVariants as inputs;
+ghost use Rattle.subs_state.specs.Subscriptions.{IsMadeBy as AreMadeBy};
+ghost use Rattle.subs_state.specs.Table.{subscriptions_of};
 
 use crate::input::Input;
 use crate::planning::{Answered, Next, Plan, Prepared, prepare};
@@ -19,6 +23,7 @@ use crate::sessions::{Auth, OpenFault, SessionNo, Sessions};
 use crate::tables::{closes, ends_idling, leaves};
 use causal_inbox::{DeliverFault, Delivered, Drained, HeldOps, Stall};
 use crdt_ops::SoundOp;
+use folder_state::Folders;
 use imap_answers::Refusal;
 use imap_commands::{Session, State};
 use imap_grammar::{IdleLine, Tagged};
@@ -26,6 +31,7 @@ use imap_types::{Moment, Name};
 use mail_listing::Rows;
 use std::alloc::{AllocError, Global};
 use std::marker::Model;
+use subs_state::Subs;
 use tags_clocks::{Clock, ReplicaId};
 use uid_projection::Start;
 
@@ -270,6 +276,20 @@ impl Node {
         ensures { IfOk result (λ rows. rows ≡ listing self.now.state.start name.now self.now.state.applied) }
     {
         self.replica.rows(alloc, name)
+    }
+
+    /// The folders and messages to which the operations applied led.
+    pub fn folders(&self) -> &Folders
+        ensures { IsMadeBy (contents_of result.now) self.now.state.applied }
+    {
+        self.replica.folders_now()
+    }
+
+    /// The subscriptions to which the operations applied led.
+    pub fn subs(&self) -> &Subs
+        ensures { AreMadeBy (subscriptions_of result.now) self.now.state.applied }
+    {
+        self.replica.subs_now()
     }
 
     /// The replica's part of the node: what its operations lead to.

@@ -272,7 +272,7 @@ impl Replica {
     }
 
     /// The folders to which the operations applied led.
-    fn folders_now(&self) -> &Folders
+    pub(crate) fn folders_now(&self) -> &Folders
         ensures { IsMadeBy (contents_of result.now) self.now.applied }
     {
         let _list = self.inbox.op_list();
@@ -280,7 +280,7 @@ impl Replica {
     }
 
     /// The subscriptions to which the operations applied led.
-    fn subs_now(&self) -> &Subs
+    pub(crate) fn subs_now(&self) -> &Subs
         ensures { AreMadeBy (subscriptions_of result.now) self.now.applied }
     {
         let _list = self.inbox.op_list();

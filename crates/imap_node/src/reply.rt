@@ -1,6 +1,7 @@
 //! What a node replies to an input.
 
-ghost use Rattle.std.specs.Prelude.{◌≡◌, IfOk};
+ghost use Rattle.std.specs.Prelude.{◌≡◌, IfOk, IsOk, false};
+ghost use Rattle.imap_node.specs.Replies.{is_done};
 
 use crdt_ops::SoundOp;
 use imap_answers::{Answer, Refusal};
@@ -160,9 +161,10 @@ pub enum Reply {
 }
 
 impl Reply {
-    /// An equal reply; `Err` where there is no memory for it.
+    /// An equal reply; `Err` where there is no memory for it, which a refusal doesn't take.
     pub fn copy(&self, alloc: Global) -> Result<Reply, AllocError>
-        ensures { IfOk result (λ copied. copied ≡ self.now) }
+        ensures copied { IfOk result (λ copied. copied ≡ self.now) }
+        ensures refused { is_done self.now ≡ false → IsOk result }
     {
         Ok(match self {
             Reply::Done {

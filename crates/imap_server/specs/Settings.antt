@@ -1,5 +1,9 @@
-use Rattle.std.specs.Prelude.{◌≡◌, ◌<◌, ◌==◌, ℕ, Bool, false, List, [], ◌∷◌, ◌++◌, map}
+use Rattle.std.specs.Prelude.{◌≡◌, ◌<◌, ◌==◌, ℕ, Bool, false, true, List, [], ◌∷◌, ◌++◌, Option, None, Some, map}
+use Rattle.std.specs.Borrow.{Bor}
 use Rattle.std.specs.List.{list_any}
+use Rattle.imap_server.specs.declared.settings.Access.{Access}
+use Rattle.imap_server.specs.declared.settings.Access.TheVariants.{Password, Preauth}
+use Rattle.imap_server.specs.declared.settings.Join.{Join}
 use Rattle.imap_server.specs.declared.settings.Place.{Place}
 
 -- The names of replicas.
@@ -18,3 +22,18 @@ AreNew before (name ∷ names) = (0 < name) × (name < 65536) × (is_named name 
 -- Each is from 1 to 65,535, and none stands twice.
 abbrev pub AreNames : List ℕ → Type 0
 AreNames names = AreNew [] names
+
+-- The names of replicas that are to join.
+abbrev pub newcomers_of : List Join → List ℕ
+newcomers_of joins = map (λ (join : Join). join.place.replica) joins
+
+-- Each takes the operations of a replica with one of these names, or of one that joins before it.
+abbrev pub HavePeers : List ℕ → List Join → Type 0
+HavePeers names [] = Unit {0}
+HavePeers names (join ∷ joins) = (is_named join.peer names ≡ true) × HavePeers (names ++ join.place.replica ∷ []) joins
+
+-- Who may use the server: whoever comes, or who gives this user and this password; nothing else is asked for.
+abbrev pub access_of : Bool → Option (Bor (List ℕ)) → Option (Bor (List ℕ)) → Option Access
+access_of true None None = Some Preauth
+access_of false (Some user) (Some pass) = Some (Password user pass)
+access_of _ _ _ = None

@@ -1,14 +1,14 @@
 //! What the threads of a server share.
 
+ghost use Rattle.std.specs.Prelude.{◌≡◌, IfOk};
+ghost use Rattle.imap_server.specs.Logins.{auth_of, login_of};
+
 use crate::settings::Access;
-use clap::error::ErrorKind;
-use crossbeam_channel::Sender;
+use crate::station::{Newcomers, Station};
 use imap_answers::Login;
 use imap_node::{Auth, Credentials};
 use imap_types::Octets;
-use replica_links::LinkMsg;
 use std::alloc::{AllocError, Global};
-use std::net::SocketAddr;
 use std::sync::{Mutex, Wait};
 
 /// How many connections are still to end before the server stops; `None` where it goes on for good.
@@ -48,16 +48,18 @@ impl Stop {
 pub struct House<'a> {
     /// Who may use the server.
     pub access: Access<'a>,
-    /// The addresses at which the replicas listen.
-    pub addresses: Vec<SocketAddr>,
-    /// The links to the replicas, in the order of their addresses.
-    pub links: Vec<Sender<LinkMsg>>,
+    /// The replicas, those that are to join behind the others.
+    pub stations: Vec<Station>,
+    /// Those that are to join.
+    pub newcomers: Newcomers,
     /// When to stop.
     pub stop: Stop,
 }
 
 /// What a greeting says of the user.
-pub fn login_of(access: Access<'_>) -> Login {
+pub fn login_of(access: Access<'_>) -> Login
+    ensures { result ≡ login_of access.entry }
+{
     match access {
         Access::Preauth => Login::Given,
         Access::Password { .. } => Login::Wanted,
@@ -65,7 +67,9 @@ pub fn login_of(access: Access<'_>) -> Login {
 }
 
 /// How the users of sessions become known; `Err` where there is no memory for it.
-pub fn auth_of(alloc: Global, access: Access<'_>) -> Result<Auth, AllocError> {
+pub fn auth_of(alloc: Global, access: Access<'_>) -> Result<Auth, AllocError>
+    ensures { IfOk result (λ auth. auth ≡ auth_of access.entry) }
+{
     match access {
         Access::Preauth => Ok(Auth::Preauth),
         Access::Password { user, pass } => Ok(Auth::Password {

@@ -4,12 +4,15 @@
 mod connection;
 mod feeding;
 mod house;
+mod joining;
+mod mailing;
 mod outlet;
 mod program;
 mod reading;
 mod serving;
 mod session;
 mod settings;
+mod station;
 #[cfg(test)]
 mod tests;
 

@@ -1,21 +1,24 @@
 //! The program's way from its command line to its status.
 
 use crate::house::{House, Stop};
-use crate::serving::{Part, serve};
-use crate::settings::{CommandLine, Place, SettingsFault, is_without_memory, settings};
+use crate::joining::Newcomer;
+use crate::serving::{Beginning, Part, serve};
+use crate::settings::{CommandLine, Join, Place, SettingsFault, is_without_memory, settings};
+use crate::station::{Call, Newcomers, Station};
 use clap::Error;
 use crossbeam_channel::unbounded;
 use log::Log;
 use std::alloc::{AllocError, AllocFailed, Global};
-use std::net::{Net, TcpListener, TcpStream};
+use std::net::{Net, SocketAddr, TcpListener, TcpStream};
 use std::rt::{Clock, Env};
-use std::sync::Wait;
+use std::sync::{Mutex, Wait};
 use std::thread::Threads;
 use std::{env, io};
 use tags_clocks::ReplicaId;
 
 /// Why the server doesn't run.
-enum RunFault {
+#[derive(Drop)]
+pub enum RunFault {
     /// An address can't be listened at, and this was told.
     Told,
     /// Anything else.
@@ -95,6 +98,7 @@ fn explain<R: Print + AllocGlobal>(rt: &R, why: SettingsFault<'_>) -> u8 {
         SettingsFault::Words(error) => return explain_words(rt, error),
         SettingsFault::Access => println!(rt; "usage: give --preauth, or --user and --pass"),
         SettingsFault::BadReplica(text) => println!(rt; "usage: bad replica {text}"),
+        SettingsFault::BadJoin(text) => println!(rt; "usage: bad join {text}"),
         SettingsFault::Twice(replica) => println!(rt; "usage: replica {replica} twice"),
         SettingsFault::NoMemory => return fault(rt),
     };
@@ -126,17 +130,7 @@ fn run_as<
         + Sync
         + Net<Listener = TcpListener, Stream = TcpStream>,
 >(rt: &R, alloc: Global, settings: &CommandLine<'_>) -> Result<(), RunFault> {
-    let mut house = House {
-        access: settings.access,
-        addresses: Vec::new(alloc),
-        links: Vec::new(alloc),
-        stop: Stop::after(settings.stop_after),
-    };
-    let mut parts = Vec::new(alloc);
-    for place in settings.places.iter() {
-        let part = open_place(rt, alloc, place, &mut house)?;
-        parts.push(part)?;
-    }
+    let (house, parts) = open_all(rt, alloc, settings)?;
     if settings.stop_after != Some(0) && !serve(rt, alloc, &house, parts) {
         return Err(RunFault::Other);
     }
@@ -144,30 +138,107 @@ fn run_as<
     Ok(())
 }
 
+/// Listens at the addresses, in their order: what the threads of the server will share, and the parts of the replicas.
+pub fn open_all<'a, R: Print + Net<Listener = TcpListener, Stream = TcpStream>>(
+    rt: &R,
+    alloc: Global,
+    settings: &CommandLine<'a>,
+) -> Result<(House<'a>, Vec<Part<'a>>), RunFault> {
+    let mut stations = Vec::new(alloc);
+    let mut parts = Vec::new(alloc);
+    for place in settings.places.iter() {
+        let part = open_place(rt, alloc, place, &mut stations)?;
+        parts.push(part)?;
+    }
+    let mut calls = Vec::new(alloc);
+    for join in settings.joins.iter() {
+        let part = await_join(alloc, settings, join, &mut stations, &mut calls)?;
+        parts.push(part)?;
+    }
+    let house = House {
+        access: settings.access,
+        stations,
+        newcomers: Newcomers::new(calls),
+        stop: Stop::after(settings.stop_after),
+    };
+    Ok((house, parts))
+}
+
 /// Listens at a replica's address, and tells so.
 fn open_place<R: Print + Net<Listener = TcpListener, Stream = TcpStream>>(
     rt: &R,
     alloc: Global,
     place: &Place<'_>,
-    house: &mut House<'_>,
-) -> Result<Part, RunFault> {
-    let Some(replica) = ReplicaId::new(u32::from(place.replica)) else {
-        return Err(RunFault::Other);
-    };
-    let own = house.links.len();
+    stations: &mut Vec<Station>,
+) -> Result<Part<'static>, RunFault> {
     let Ok(listener) = TcpListener::bind(rt, place.address) else {
         println!(rt; "cannot listen {} {}", place.replica, place.address)?;
         return Err(RunFault::Told);
     };
     let address = listener.local_addr()?;
-    house.addresses.push(address)?;
-    let (sender, inbox) = unbounded(alloc)?;
-    house.links.push(sender)?;
     println!(rt; "listening {} {}", place.replica, place.address)?;
+    add_part(
+        alloc,
+        place.replica,
+        Beginning::Listening(listener),
+        Some(address),
+        stations,
+    )
+}
+
+/// A replica that is to join, and how it is called.
+fn await_join<'a>(
+    alloc: Global,
+    settings: &CommandLine<'a>,
+    join: &Join<'a>,
+    stations: &mut Vec<Station>,
+    calls: &mut Vec<Call>,
+) -> Result<Part<'a>, RunFault> {
+    let Some(peer) = settings.place_named(join.peer) else {
+        return Err(RunFault::Other);
+    };
+    let (begin, begins) = unbounded(alloc)?;
+    let (ends, done) = unbounded(alloc)?;
+    calls.push(Call { begin, done })?;
+    let newcomer = Newcomer {
+        join: *join,
+        peer,
+        begin: begins,
+        done: ends,
+    };
+    add_part(
+        alloc,
+        join.place.replica,
+        Beginning::Joining(newcomer),
+        None,
+        stations,
+    )
+}
+
+/// One replica's parts, and its place among all.
+fn add_part<'a>(
+    alloc: Global,
+    name: u16,
+    beginning: Beginning<'a>,
+    address: Option<SocketAddr>,
+    stations: &mut Vec<Station>,
+) -> Result<Part<'a>, RunFault> {
+    let Some(replica) = ReplicaId::new(u32::from(name)) else {
+        return Err(RunFault::Other);
+    };
+    let own = stations.len();
+    let (link, letters) = unbounded(alloc)?;
+    let (orders, copies) = unbounded(alloc)?;
+    stations.push(Station {
+        link,
+        orders,
+        address: Mutex::new(address),
+    })?;
     Ok(Part {
         replica,
         own,
-        listener,
-        inbox,
+        letters,
+        orders: copies,
+        beginning,
     })
 }

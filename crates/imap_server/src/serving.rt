@@ -4,10 +4,13 @@ ghost use Rattle.std.specs.Prelude.{◌≡◌};
 
 use crate::connection::{Desk, connection_worker, turn_away};
 use crate::house::House;
+use crate::joining::{Newcomer, lend_copies};
+use crate::mailing::Mail;
+use crate::station::CopyOrder;
 use crossbeam_channel::Receiver;
 use imap_node::Node;
 use log::Log;
-use replica_links::{Gate, LinkMsg, ReplicaTaker, link_worker};
+use replica_links::{Gate, Inbox, Letter, ReplicaTaker, ask_all, link_worker};
 use replica_lock::{Book, Pass, Shared};
 use std::alloc::{AllocError, Global};
 use std::marker::Brand;
@@ -17,20 +20,49 @@ use std::sync::ledger::{Blank, Ledger};
 use std::sync::{Mutex, Wait};
 use std::thread;
 use std::thread::Threads;
+use std::time::Duration;
 use tags_clocks::ReplicaId;
 use uid_projection::Start;
 
+/// How a replica begins.
+#[derive(Drop)]
+pub enum Beginning<'a> {
+    /// It listens, and has received nothing.
+    Listening(TcpListener),
+    /// It joins once it is told to.
+    Joining(Newcomer<'a>),
+}
+
 /// One replica's parts.
 #[derive(Drop)]
-pub struct Part {
+pub struct Part<'a> {
     /// Its name.
     pub replica: ReplicaId,
-    /// The place of its link among all.
+    /// Its place among all.
+    pub own: usize,
+    /// What comes from the other replicas.
+    pub letters: Receiver<Letter>,
+    /// What is ordered of copies of what it applied.
+    pub orders: Receiver<CopyOrder>,
+    /// How it begins.
+    pub beginning: Beginning<'a>,
+}
+
+/// What a replica that runs hears, and whom it asks.
+#[derive(Drop)]
+pub struct Ends {
+    /// Its place among all.
     pub own: usize,
     /// Where it listens.
     pub listener: TcpListener,
     /// What comes from the other replicas.
-    pub inbox: Receiver<LinkMsg>,
+    pub letters: Receiver<Letter>,
+    /// What is ordered of copies of what it applied.
+    pub orders: Receiver<CopyOrder>,
+    /// The places of the others.
+    pub peers: Vec<usize>,
+    /// Whether it asks them at once for what it lacks.
+    pub asks: bool,
 }
 
 /// A connection that is to be served.
@@ -52,52 +84,101 @@ impl Gate for Open {
     fn pass(&mut self, _n: u64) {}
 }
 
-/// Runs all replicas, each in a thread of its own, until the server stops. True where each handed its whole journal out.
+/// Runs all replicas, each in a thread of its own, until the server stops. True where each that ran handed its whole journal out.
 pub fn serve<
-    R: Threads + Wait + Clock + Log + Sync + Net<Listener = TcpListener, Stream = TcpStream>,
->(rt: &R, alloc: Global, house: &House<'_>, parts: Vec<Part>) -> bool {
+    R: Threads
+        + Wait
+        + Clock
+        + Log
+        + Print
+        + Sync
+        + Net<Listener = TcpListener, Stream = TcpStream>,
+>(rt: &R, alloc: Global, house: &House<'_>, parts: Vec<Part<'_>>) -> bool {
     match thread::map_vec(rt, parts, &|part| run_part(rt, alloc, house, part)) {
         Ok(ends) => ends.iter().all(|end| *end),
         Err(_) => false,
     }
 }
 
-/// Runs a replica in a call of its own, so that its ledger has a name of its own.
+/// Runs a replica in a call of its own, so that its ledger has a name of its own. True also where one that was to join couldn't.
 fn run_part<
-    R: Threads + Wait + Clock + Log + Sync + Net<Listener = TcpListener, Stream = TcpStream>,
->(rt: &R, alloc: Global, house: &House<'_>, part: Part) -> bool {
+    R: Threads
+        + Wait
+        + Clock
+        + Log
+        + Print
+        + Sync
+        + Net<Listener = TcpListener, Stream = TcpStream>,
+>(rt: &R, alloc: Global, house: &House<'_>, part: Part<'_>) -> bool {
+    let Part {
+        replica,
+        own,
+        letters,
+        orders,
+        beginning,
+    } = part;
+    let Ok(peers) = others(alloc, house.stations.len(), own) else {
+        return false;
+    };
+    let (book, listener, asks) = match beginning {
+        Beginning::Listening(listener) => match new_book(alloc, replica) {
+            Some(book) => (book, listener, false),
+            None => return false,
+        },
+        Beginning::Joining(newcomer) => match newcomer.join(rt, alloc, house, replica, own) {
+            Some((book, listener)) => (book, listener, true),
+            None => return true,
+        },
+    };
+    let ends = Ends {
+        own,
+        listener,
+        letters,
+        orders,
+        peers,
+        asks,
+    };
+    run_replica::<Brand, R>(rt, alloc, Blank::new(4_294_967_295), house, book, ends)
+}
+
+/// A replica that has received nothing, whose UIDs count from 1.
+fn new_book(alloc: Global, replica: ReplicaId) -> Option<Book> {
     let start = Start {
-        replica: part.replica,
+        replica,
         uid: 1,
         k: 1,
     };
-    let Ok(node) = Node::new(alloc, start) else {
-        return false;
-    };
-    let book = Book::new(alloc, node);
-    run_replica::<Brand, R>(rt, alloc, Blank::new(4_294_967_295), house, book, part)
+    match Node::new(alloc, start) {
+        Ok(node) => Some(Book::new(alloc, node)),
+        Err(_) => None,
+    }
+}
+
+/// All of so many places but one.
+fn others(alloc: Global, places: usize, own: usize) -> Result<Vec<usize>, AllocError> {
+    let mut others = Vec::with_capacity(alloc, places)?;
+    for place in 0..places {
+        if place != own {
+            others.push(place)?;
+        }
+    }
+    Ok(others)
 }
 
 fn run_replica<
     L: Ledger + Send + Sync,
     R: Threads + Wait + Clock + Log + Sync + Net<Listener = TcpListener, Stream = TcpStream>,
->(rt: &R, alloc: Global, blank: Blank, house: &House<'_>, book: Book, part: Part) -> bool
+>(rt: &R, alloc: Global, blank: Blank, house: &House<'_>, book: Book, ends: Ends) -> bool
     requires { (blank.name ≡ L.name) × (blank.parts ≡ L.parts) × (L.parts ≡ 4294967295) }
 {
-    let Part {
-        replica: _,
-        own,
-        listener,
-        inbox,
-    } = part;
     let (shared, first) = Shared::<L>::new(blank, book);
     let desk = Desk {
         house,
-        own,
+        own: ends.own,
         shared: &shared,
     };
     let back = Mutex::new(Vec::new(alloc));
-    let first = serve_listener(rt, alloc, &desk, first, &listener, &inbox, &back);
+    let first = serve_listener(rt, alloc, &desk, first, &ends, &back);
     let mut passes = back.into_inner();
     if passes.push(first).is_err() {
         return false;
@@ -105,16 +186,28 @@ fn run_replica<
     shared.finish(passes).is_ok()
 }
 
-/// Hands on what comes over the link, and gives the pass back.
-fn link<L: Ledger, R: Wait>(
+/// Takes and answers what comes from the other replicas, and gives the pass back. A replica that has joined begins by asking them all for what it lacks.
+fn link<L: Ledger, R: Wait + Clock>(
     rt: &R,
     alloc: Global,
-    shared: &Shared<L>,
+    desk: &Desk<'_, L>,
     pass: Pass<L>,
-    inbox: &Receiver<LinkMsg>,
+    ends: &Ends,
 ) -> Pass<L> {
-    let mut taker = ReplicaTaker::new(rt, alloc, shared, pass);
-    link_worker(rt, &mut Open, inbox, &mut taker);
+    if pass.session().is_some() {
+        return pass;
+    }
+    let mut taker = ReplicaTaker::new(rt, alloc, desk.shared, pass);
+    let mut mail = Mail::new(rt, desk.house, desk.own);
+    if ends.asks {
+        ask_all(&taker, &mut mail, &ends.peers);
+    }
+    let inbox = Inbox {
+        letters: &ends.letters,
+        peers: &ends.peers,
+        rest: Duration::from_secs(60),
+    };
+    link_worker(rt, &mut Open, &inbox, &mut taker, &mut mail);
     taker.into_pass()
 }
 
@@ -190,7 +283,7 @@ fn visits<L: Ledger, G: Gate + Drop>(
     Ok(visits)
 }
 
-/// Serves the connections of a listener, each in a thread of its own, and the link in another, until the server stops.
+/// Serves the connections of a listener, each in a thread of its own, and the link and the orders of copies in two others, until the server stops.
 fn serve_listener<
     L: Ledger + Send + Sync,
     R: Threads + Wait + Clock + Log + Sync + Net<Listener = TcpListener, Stream = TcpStream>,
@@ -199,21 +292,26 @@ fn serve_listener<
     alloc: Global,
     desk: &Desk<'_, L>,
     first: Pass<L>,
-    listener: &TcpListener,
-    inbox: &Receiver<LinkMsg>,
+    ends: &Ends,
     back: &Mutex<Vec<Pass<L>>>,
 ) -> Pass<L> {
     let mut first = first;
     let link_pass = first.cut();
-    let shared = desk.shared;
+    let copy_pass = first.cut();
     thread::scope(thread::scope_env(), rt, |scope| {
         if let Some(pass) = link_pass {
             let _ = scope.spawn(move || {
-                let pass = link(rt, alloc, shared, pass, inbox);
+                let pass = link(rt, alloc, desk, pass, ends);
                 give_back(rt, back, pass)
             });
         }
-        for stream in listener.incoming() {
+        if let Some(pass) = copy_pass {
+            let _ = scope.spawn(move || {
+                let pass = lend_copies(rt, alloc, desk.shared, pass, &ends.orders);
+                give_back(rt, back, pass)
+            });
+        }
+        for stream in ends.listener.incoming() {
             if desk.house.stop.is_over(rt) {
                 break;
             }
@@ -239,15 +337,13 @@ fn serve_listener<
     })
 }
 
-/// A connection ended. Behind the last one every listener and every link is woken, so that they end too.
+/// A connection ended. Behind the first one those join that are to, and behind the last one the threads of all replicas are woken, so that they end too.
 fn end_one<R: Wait + Net<Listener = TcpListener, Stream = TcpStream>>(rt: &R, house: &House<'_>) {
+    house.newcomers.call_all(rt);
     if !house.stop.end_one(rt) {
         return;
     }
-    for address in &house.addresses {
-        let _ = TcpStream::connect(rt, *address);
-    }
-    for link in &house.links {
-        let _ = link.send(rt, LinkMsg::Stop);
+    for (place, station) in house.stations.iter().enumerate() {
+        station.wake(rt, place);
     }
 }

@@ -1,18 +1,23 @@
 //! One session of a replica behind its lock, as a port.
 
+ghost use Rattle.std.specs.Prelude.{◌≡◌, ℕ, Err, IfErr, IfOk, Ok, Some};
+ghost use Rattle.std.specs.Option.{option_map};
+ghost use Rattle.imap_node.specs.declared.sessions.OpenFault.TheVariants as refusals;
+ghost use Rattle.imap_talk.specs.declared.fault.PortFault.TheVariants.{TooManySessions};
+ghost use Rattle.replica_lock.specs.declared.outcome.Outcome.TheVariants.{Opened, Replied};
+
 use crate::house::{House, auth_of, login_of};
+use crate::mailing::Mail;
 use crate::outlet::Outlet;
 use crdt_ops::SoundOp;
-use crossbeam_channel::Sender;
 use imap_answers::Login;
 use imap_grammar::{Command, IdleLine, Tagged};
 use imap_node::{OpenFault, Reply};
 use imap_talk::{Port, PortFault};
 use imap_types::Moment;
-use merge_laws::Caused;
-use replica_links::{Gate, LinkMsg};
+use replica_links::Gate;
 use replica_lock::{CallFault, Outcome, Pass, Shared};
-use std::alloc::{AllocError, Global};
+use std::alloc::Global;
 use std::rt::Clock;
 use std::sync::ledger::Ledger;
 use std::sync::{Mutex, Wait};
@@ -57,9 +62,11 @@ impl<'a, L: Ledger, R: Wait + Clock, G: Gate> SessionPort<'a, L, R, G> {
 }
 
 impl<'a, L: Ledger, R: Wait + Clock, G: Gate> Port for SessionPort<'a, L, R, G> {
-    ghost opens = { λ s r t. Unit {0} };
+    ghost use Rattle.imap_server.specs.Calls.{OpensByCall, StepsByCall};
 
-    ghost steps = { λ s a r t. Unit {0} };
+    ghost opens = { λ s r t. OpensByCall s.house.access r };
+
+    ghost steps = { λ s call r t. StepsByCall call r };
 
     ghost closes = { λ s t. Unit {0} };
 
@@ -91,13 +98,8 @@ impl<'a, L: Ledger, R: Wait + Clock, G: Gate> Port for SessionPort<'a, L, R, G> 
             .command(self.rt, alloc, &mut pass, moment, tagged)
         {
             Ok(()) => {
-                tell_peers(
-                    self.rt,
-                    alloc,
-                    self.house.links.as_slice(),
-                    self.own,
-                    pass.last(),
-                );
+                let mail = Mail::new(self.rt, self.house, self.own);
+                mail.tell_all(alloc, issued(pass.last()));
                 self.outlet
                     .set_idles(self.rt, idles && is_done(pass.last()));
                 replied(alloc, pass.last())
@@ -134,7 +136,11 @@ fn fault_of(fault: CallFault) -> PortFault {
     }
 }
 
-fn opened(last: Option<&Outcome>, login: Login) -> Result<Login, PortFault> {
+/// What a connection is told of the opening of its session, whose user becomes known so.
+fn opened(last: Option<&Outcome>, login: Login) -> Result<Login, PortFault>
+    ensures ok { IfOk result (λ told. (told ≡ login) × ((n : ℕ) × (option_map (λ o. o.now) last.entry ≡ Some (Opened (Ok n))))) }
+    ensures full { result ≡ Err TooManySessions → option_map (λ o. o.now) last.entry ≡ Some (Opened (Err refusals.TooManySessions)) }
+{
     match last {
         Some(Outcome::Opened { answer: Ok(_) }) => Ok(login),
         Some(
@@ -152,7 +158,9 @@ fn opened(last: Option<&Outcome>, login: Login) -> Result<Login, PortFault> {
 }
 
 /// A copy of the reply; `NoMemory` where there is none for it.
-fn replied(alloc: Global, last: Option<&Outcome>) -> Result<Reply, PortFault> {
+fn replied(alloc: Global, last: Option<&Outcome>) -> Result<Reply, PortFault>
+    ensures { IfOk result (λ reply. option_map (λ o. o.now) last.entry ≡ Some (Replied reply)) }
+{
     match last {
         Some(Outcome::Replied { reply }) => match reply.copy(alloc) {
             Ok(reply) => Ok(reply),
@@ -181,39 +189,6 @@ fn issued(last: Option<&Outcome>) -> &[SoundOp] {
         ) => issued.as_slice(),
         _ => &[],
     }
-}
-
-/// Sends what a call issued to all other replicas. One for which there is no memory is left out.
-fn tell_peers<R: Wait>(
-    rt: &R,
-    alloc: Global,
-    links: &[Sender<LinkMsg>],
-    own: usize,
-    last: Option<&Outcome>,
-) {
-    let ops = issued(last);
-    if ops.is_empty() {
-        return;
-    }
-    for (place, link) in links.iter().enumerate() {
-        if place != own {
-            tell_peer(rt, alloc, link, ops);
-        }
-    }
-}
-
-fn tell_peer<R: Wait>(rt: &R, alloc: Global, link: &Sender<LinkMsg>, ops: &[SoundOp]) {
-    if let Ok(ops) = copied(alloc, ops) {
-        let _ = link.send(rt, LinkMsg::Ops(ops));
-    }
-}
-
-fn copied(alloc: Global, ops: &[SoundOp]) -> Result<Vec<SoundOp>, AllocError> {
-    let mut copies = Vec::new(alloc);
-    for op in ops {
-        copies.push(op.copy(alloc)?)?;
-    }
-    Ok(copies)
 }
 
 /// The moment now; the epoch where the clock can't be read.

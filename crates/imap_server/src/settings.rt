@@ -1,7 +1,8 @@
 //! The program's command line.
 
 ghost use Rattle.std.specs.Prelude.{◌≡◌, ◌++◌, ◌∷◌, ◌<◌, [], true, IfOk, IfSome, OnOk};
-ghost use Rattle.imap_server.specs.Settings.{AreNames, names_of};
+ghost use Rattle.imap_server.specs.Settings.{AreNames, HavePeers, access_of, is_named, names_of, newcomers_of};
+ghost use Rattle.imap_server.specs.declared.settings.Join.{Join as Joining};
 
 use clap::builder::ValueParser;
 use clap::error::ErrorKind;
@@ -31,6 +32,15 @@ pub struct Place<'a> {
     pub address: &'a str,
 }
 
+/// A replica that joins the others when the first connection has ended.
+#[derive(Clone, Copy, Debug, PartialEq, Eq)]
+pub struct Join<'a> {
+    /// Its name, and where it is to listen.
+    pub place: Place<'a>,
+    /// The name of the replica whose operations it takes.
+    pub peer: u16,
+}
+
 /// What the command line asks for.
 #[derive(Drop)]
 pub struct CommandLine<'a> {
@@ -40,6 +50,17 @@ pub struct CommandLine<'a> {
     pub stop_after: Option<u32>,
     /// The replicas in the order in which they were given, no two with one name.
     pub places: Vec<Place<'a>>,
+    /// Those that are to join, in their order, whose names are new.
+    pub joins: Vec<Join<'a>>,
+}
+
+impl CommandLine<'_> {
+    /// The place of the replica with this name among all, those that are to join behind the others.
+    pub fn place_named(&self, name: u16) -> Option<usize> {
+        let places = self.places.iter().map(|place| place.replica);
+        let joins = self.joins.iter().map(|join| join.place.replica);
+        places.chain(joins).position(|other| other == name)
+    }
 }
 
 /// What is wrong with the command line.
@@ -51,6 +72,8 @@ pub enum SettingsFault<'a> {
     Access,
     /// This word names no replica.
     BadReplica(&'a str),
+    /// This word names no replica that is to join, or no peer that is there by then.
+    BadJoin(&'a str),
     /// Two replicas have this name.
     Twice(u16),
     /// There was no memory for it.
@@ -67,13 +90,14 @@ impl<'a> From<AllocError> for SettingsFault<'a> {
     }
 }
 
-/// Reads the words of a command line, the program's name first. Its words are judged first, then the access, then the replicas in their order.
-/// The replicas' names are from 1 to 65,535, and no two are the same.
+/// Reads the words of a command line, the program's name first. Its words are judged first, then the access, then the replicas in their order, then those that are
+/// to join in theirs. The replicas' names are from 1 to 65,535, and no two are the same; each that joins takes the operations of one that is there before it.
 pub fn settings<'a>(
     alloc: Global,
     words: &'a [String],
 ) -> Result<CommandLine<'a>, SettingsFault<'a>>
-    ensures { IfOk result (λ settings. AreNames (names_of settings.places.items)) }
+    ensures names { IfOk result (λ settings. AreNames (names_of settings.places.items ++ newcomers_of settings.joins.items)) }
+    ensures peers { IfOk result (λ settings. HavePeers (names_of settings.places.items) settings.joins.items) }
 {
     let matches = match matched(alloc, words) {
         Ok(matches) => matches,
@@ -87,14 +111,18 @@ pub fn settings<'a>(
         return Err(SettingsFault::Access);
     };
     let stop_after = matches.get_one::<u32>("stop-after");
-    let places = match matches.get_strs("REPLICA") {
-        Some(texts) => places_of(alloc, texts)?,
-        None => Vec::new(alloc),
-    };
+    let mut names = Vec::new(alloc);
+    let places = places_of(
+        alloc,
+        &mut names,
+        matches.get_strs("REPLICA").unwrap_or(&[]),
+    )?;
+    let joins = joins_of(alloc, &mut names, matches.get_strs("join").unwrap_or(&[]))?;
     Ok(CommandLine {
         access,
         stop_after,
         places,
+        joins,
     })
 }
 
@@ -121,6 +149,10 @@ fn described<'a>(alloc: Global) -> Result<Command<'a>, AllocError> {
         .action(ArgAction::Set)
         .value_parser(ValueParser::unsigned(0, 4_294_967_295))
         .help("Stop behind so many connections");
+    let joins = Arg::new(alloc, "join")
+        .long("join")
+        .action(ArgAction::Append)
+        .help("A replica that joins when the first connection has ended, as 3=127.0.0.1:1433/1");
     let replicas = Arg::new(alloc, "REPLICA")
         .required(true)
         .action(ArgAction::Append)
@@ -132,6 +164,7 @@ fn described<'a>(alloc: Global) -> Result<Command<'a>, AllocError> {
         .arg(user)?
         .arg(pass)?
         .arg(stop)?
+        .arg(joins)?
         .arg(replicas)
 }
 
@@ -140,7 +173,9 @@ pub fn access_of<'a>(
     preauth: bool,
     user: Option<&'a str>,
     pass: Option<&'a str>,
-) -> Option<Access<'a>> {
+) -> Option<Access<'a>>
+    ensures { result ≡ access_of preauth user.entry pass.entry }
+{
     match (preauth, user, pass) {
         (true, None, None) => Some(Access::Preauth),
         (false, Some(user), Some(pass)) => Some(Access::Password { user, pass }),
@@ -148,19 +183,72 @@ pub fn access_of<'a>(
     }
 }
 
-/// The replicas that these words name, in their order.
-fn places_of<'a>(alloc: Global, texts: &[&'a str]) -> Result<Vec<Place<'a>>, SettingsFault<'a>>
-    ensures { IfOk result (λ places. AreNames (names_of places.items)) }
+/// The replicas that these words name, in their order, and their names.
+fn places_of<'a>(
+    alloc: Global,
+    names: &mut Vec<u16>,
+    texts: &[&'a str],
+) -> Result<Vec<Place<'a>>, SettingsFault<'a>>
+    requires { names.old.items ≡ [] }
+    ensures names { OnOk result (AreNames names.new.items) }
+    ensures same { IfOk result (λ places. names.new.items ≡ names_of places.items) }
 {
-    let mut names = Vec::new(alloc);
     let mut places = Vec::new(alloc);
     for text in texts {
-        match add_place(&mut names, &mut places, text) {
+        match add_place(names, &mut places, text) {
             Ok(()) => {}
             Err(fault) => return Err(fault),
         }
     }
     Ok(places)
+}
+
+/// The replicas that are to join by these words, in their order; their names come behind those that are there.
+fn joins_of<'a>(
+    alloc: Global,
+    names: &mut Vec<u16>,
+    texts: &[&'a str],
+) -> Result<Vec<Join<'a>>, SettingsFault<'a>>
+    requires { AreNames names.old.items }
+    ensures names { IfOk result (λ joins. AreNames (names.old.items ++ newcomers_of joins.items)) }
+    ensures peers { IfOk result (λ joins. HavePeers names.old.items joins.items) }
+{
+    let mut joins = Vec::new(alloc);
+    for text in texts {
+        match add_join(names, &mut joins, text) {
+            Ok(()) => {}
+            Err(fault) => return Err(fault),
+        }
+    }
+    Ok(joins)
+}
+
+/// Adds the replica that is to join by a word, and its name.
+fn add_join<'a>(
+    names: &mut Vec<u16>,
+    joins: &mut Vec<Join<'a>>,
+    text: &'a str,
+) -> Result<(), SettingsFault<'a>>
+    requires { AreNames names.old.items }
+    ensures names { OnOk result (AreNames names.new.items) }
+    ensures more { OnOk result ((join : Joining) × (names.new.items ≡ names.old.items ++ join.place.replica ∷ []) × (is_named join.peer names.old.items ≡ true) × (joins.new.items ≡ joins.old.items ++ join ∷ [])) }
+{
+    let Some(join) = join_of(text) else {
+        return Err(SettingsFault::BadJoin(text));
+    };
+    if !names.contains(&join.peer) {
+        return Err(SettingsFault::BadJoin(text));
+    }
+    let replica = join.place.replica;
+    match add_name(names, replica) {
+        Ok(true) => {}
+        Ok(false) => return Err(SettingsFault::Twice(replica)),
+        Err(_) => return Err(SettingsFault::NoMemory),
+    }
+    match joins.push(join) {
+        Ok(()) => Ok(()),
+        Err(_) => Err(SettingsFault::NoMemory),
+    }
 }
 
 /// Adds the replica that a word names, and its name.
@@ -215,6 +303,16 @@ pub fn place_of(text: &str) -> Option<Place<'_>>
     }
     let replica = name_of(name)?;
     Some(Place { replica, address })
+}
+
+/// The replica that is to join by a word: one with its address, and behind the last `/` the name of its peer.
+pub fn join_of(text: &str) -> Option<Join<'_>>
+    ensures { IfSome result (λ join. 0 < join.place.replica) }
+{
+    let (place, peer) = text.rsplit_once('/')?;
+    let place = place_of(place)?;
+    let peer = name_of(peer)?;
+    Some(Join { place, peer })
 }
 
 /// The name that these digits spell.

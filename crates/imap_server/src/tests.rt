@@ -1,4 +1,5 @@
 mod callers;
+mod clients;
 mod crowd;
 mod doors;
 mod hostile;

@@ -8,8 +8,8 @@ use Rattle.imap_grammar.specs.declared.command.Tagged.{Tagged}
 use Rattle.imap_grammar.specs.declared.idle.IdleLine.{IdleLine}
 use Rattle.imap_lex.specs.declared.item.Item.{Item}
 use Rattle.imap_node.specs.Commands.{is_idle}
+pub use Rattle.imap_node.specs.Replies.{is_done}
 use Rattle.imap_node.specs.declared.reply.Reply.{Reply}
-use Rattle.imap_node.specs.declared.reply.Reply.TheVariants as replies
 use Rattle.node_talk.specs.Conversation.{IsFront}
 use Rattle.node_talk.specs.Inputs.{IsRequest}
 use Rattle.node_talk.specs.Replies.{answers_of, is_without_memory}
@@ -25,11 +25,6 @@ use Rattle.imap_talk.specs.declared.fault.PortFault.{PortFault}
 -- The text of answers, one behind the other.
 abbrev pub texts : List Answer → List ℕ
 texts answers = flat_map printed answers
-
--- Whether a reply tells that the command was carried out.
-abbrev pub is_done : Reply → Bool
-is_done (replies.Done answers silent issued) = true
-is_done (replies.Refused why closed) = false
 
 abbrev pub is_logout : Command → Bool
 is_logout commands.Logout = true

@@ -1,5 +1,6 @@
 //! Replicas, sessions and commands for the tests.
 
+use crdt_ops::{SoundOp, check, read_op};
 use imap_grammar::{Tagged, parse};
 use imap_node::{Auth, Node};
 use imap_types::Moment;
@@ -12,12 +13,13 @@ use uid_projection::Start;
 
 /// The replica with this number, new, and with an empty journal.
 pub fn fresh_book(alloc: Global, number: u32) -> Option<Book> {
+    book_from(alloc, number, 1)
+}
+
+/// The same, with this as the first UID of INBOX.
+pub fn book_from(alloc: Global, number: u32, uid: u32) -> Option<Book> {
     let replica = ReplicaId::new(number)?;
-    let start = Start {
-        replica,
-        uid: 1,
-        k: 1,
-    };
+    let start = Start { replica, uid, k: 1 };
     match Node::new(alloc, start) {
         Ok(node) => Some(Book::new(alloc, node)),
         Err(_) => None,
@@ -77,4 +79,18 @@ pub fn close_one<L: Ledger, R: Wait>(
         return false;
     }
     shared.close(rt, alloc, pass).is_ok()
+}
+
+/// The operation that a line spells, if it is sound.
+pub fn operation(alloc: Global, line: &str) -> Option<SoundOp> {
+    match read_op(alloc, line.as_bytes()) {
+        Ok(op) => match check(op) {
+            Ok(sound) => Some(sound),
+            Err((op, _)) => {
+                drop(op);
+                None
+            }
+        },
+        Err(_) => None,
+    }
 }

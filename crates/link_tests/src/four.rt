@@ -3,7 +3,7 @@
 ghost use Rattle.std.specs.Prelude.{◌≡◌};
 
 use crate::fixtures::{close_one, fresh_book, open_one, say};
-use replica_lock::{Book, Outcome, Pass, Shared};
+use replica_lock::{Book, BookEvent, Entry, Outcome, Pass, Shared};
 use std::alloc::{AllocError, Global};
 use std::marker::Brand;
 use std::sync::Wait;
@@ -12,10 +12,11 @@ use std::test::*;
 use std::thread;
 use std::thread::Threads;
 
-/// What a worker brings back: its pass, each place that it saw with the outcome that came, and whether every call was made.
+/// What a worker brings back: its pass, its number, each place that it saw with the outcome that came, and whether every call was made.
 #[derive(Drop)]
 struct Worked<L: Ledger> {
     pass: Pass<L>,
+    client: u8,
     seen: Vec<(u64, Outcome)>,
     whole: bool,
 }
@@ -65,6 +66,7 @@ fn work<L: Ledger, R: Wait>(
     let closed = close_one(rt, alloc, shared, &mut pass) && note(alloc, &pass, &mut seen);
     Worked {
         pass,
+        client,
         seen,
         whole: whole && closed,
     }
@@ -83,13 +85,65 @@ fn standing(book: &Book, seen: &[(u64, Outcome)]) -> usize {
     seen.iter().filter(|s| stands(book, s.0, &s.1)).count()
 }
 
-/// Four threads with a session of a hundred NOOPs each: how many entries there are, and how many outcomes stand where they were seen.
+/// Whether the entry there is the command with this tag.
+fn has_tag(book: &Book, place: u64, tag: &str) -> bool {
+    match book.entry(place) {
+        Some(
+            Entry {
+                event: BookEvent::Command { tagged, .. },
+                outcome: _,
+            },
+        ) => tagged.tag.as_bytes() == tag.as_bytes(),
+        _ => false,
+    }
+}
+
+/// How many entries that a worker saw behind its first are its own commands, each in its place and above the one before it.
+fn own_commands(
+    alloc: Global,
+    book: &Book,
+    client: u8,
+    seen: &[(u64, Outcome)],
+) -> Result<usize, AllocError> {
+    let mut own = 0usize;
+    let mut last = 0u64;
+    for number in 0..100u8 {
+        if let Some((place, _)) = seen.get(usize::from(number).saturating_add(1)) {
+            let tag = format!(in alloc; "c{client}n{number}")?;
+            if *place > last && has_tag(book, *place, &tag) {
+                own = own.saturating_add(1);
+            }
+            last = *place;
+        }
+    }
+    Ok(own)
+}
+
+/// How many outcomes of all workers stand where they were seen, and how many entries are their own commands.
+fn told(
+    alloc: Global,
+    book: &Book,
+    workers: &[(u8, Vec<(u64, Outcome)>)],
+) -> Result<(usize, usize), AllocError> {
+    let mut stand = 0usize;
+    let mut own = 0usize;
+    for (client, seen) in workers {
+        stand = stand.saturating_add(standing(book, seen));
+        own = own.saturating_add(own_commands(alloc, book, *client, seen)?);
+    }
+    Ok((stand, own))
+}
+
+/// How many entries a journal has, how many outcomes stand where they were seen, and how many entries are commands of those who saw them there.
+type Counts = (u64, usize, usize);
+
+/// Four threads with a session of a hundred NOOPs each, and what is found in the journal then.
 fn four<L: Ledger + Send + Sync, R: Threads + Wait + Sync>(
     rt: &R,
     alloc: Global,
     blank: Blank,
     book: Book,
-) -> Result<Option<(u64, usize)>, AllocError>
+) -> Result<Option<Counts>, AllocError>
     requires name { blank.name ≡ L.name }
     requires parts { (blank.parts ≡ L.parts) × (L.parts ≡ 4294967295) }
 {
@@ -108,22 +162,26 @@ fn four<L: Ledger + Send + Sync, R: Threads + Wait + Sync>(
         &|job: (u8, Pass<L>)| { work(rt, alloc, lent, job.1, job.0) },
     )?;
     let mut passes = Vec::new(alloc);
-    let mut seen = Vec::new(alloc);
+    let mut workers = Vec::new(alloc);
     passes.push(first)?;
     for worked in done {
         let Worked {
             pass,
-            seen: mut outcomes,
+            client,
+            seen,
             whole,
         } = worked;
         if !whole {
             return Ok(None);
         }
         passes.push(pass)?;
-        seen.append(&mut outcomes)?;
+        workers.push((client, seen))?;
     }
     match shared.finish(passes) {
-        Ok(book) => Ok(Some((book.len(), standing(&book, &seen)))),
+        Ok(book) => {
+            let (stand, own) = told(alloc, &book, &workers)?;
+            Ok(Some((book.len(), stand, own)))
+        }
         Err(_) => Ok(None),
     }
 }
@@ -132,7 +190,7 @@ fn four<L: Ledger + Send + Sync, R: Threads + Wait + Sync>(
 fn four_at_one<R: Threads + Wait + Sync>(
     rt: &R,
     alloc: Global,
-) -> Result<Option<(u64, usize)>, AllocError> {
+) -> Result<Option<Counts>, AllocError> {
     match fresh_book(alloc, 1) {
         Some(book) => four::<Brand, R>(rt, alloc, Blank::new(4_294_967_295), book),
         None => Ok(None),
@@ -143,6 +201,6 @@ fn four_at_one<R: Threads + Wait + Sync>(
 fn four_threads_make_one_history(rt: HostRuntime) -> Result<(), Fail> {
     let alloc = rt.alloc();
     let told = four_at_one(&rt, alloc)?;
-    assert_eq!(rt; told, Some((408, 408)));
+    assert_eq!(rt; told, Some((408, 408, 400)));
     Ok(())
 }

@@ -2,6 +2,8 @@
 #![tactic(auto)]
 
 #[cfg(test)]
+mod asking;
+#[cfg(test)]
 mod fixtures;
 #[cfg(test)]
 mod four;
@@ -10,4 +12,18 @@ mod gates;
 #[cfg(test)]
 mod idling;
 #[cfg(test)]
+mod joining;
+#[cfg(test)]
+mod link;
+#[cfg(test)]
 mod links;
+#[cfg(test)]
+mod losing;
+#[cfg(test)]
+mod mail;
+#[cfg(test)]
+mod playing;
+#[cfg(test)]
+mod scripted;
+#[cfg(test)]
+mod told;

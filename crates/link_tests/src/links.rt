@@ -3,30 +3,29 @@
 ghost use Rattle.std.specs.Prelude.{◌≡◌};
 
 use crate::fixtures::{fresh_book, open_one, say};
+use crate::mail::{Lines, Mail, Open, two_lines};
 use crdt_ops::SoundOp;
-use crossbeam_channel::{Receiver, Sender, unbounded};
+use crossbeam_channel::Receiver;
 use imap_node::Reply;
 use merge_laws::Caused;
-use replica_links::{Gate, LinkMsg, ReplicaTaker, link_worker};
+use replica_links::{Inbox, Letter, LinkMsg, ReplicaTaker, link_worker};
 use replica_lock::{Book, Outcome, Pass, Shared};
 use std::alloc::{AllocError, Global};
 use std::marker::Brand;
+use std::rt::Clock;
 use std::sync::Wait;
+use std::sync::atomic::{AtomicU64, Ordering};
 use std::sync::ledger::{Blank, Ledger};
 use std::test::*;
 use std::thread;
 use std::thread::Threads;
+use std::time::Duration;
 
-/// A gate that is open.
-#[derive(Drop)]
-struct Open;
-
-impl Gate for Open {
-    fn pass(&mut self, _n: u64) {}
-}
+/// How often it is looked whether two replicas agree.
+const TURNS: u32 = 1_000_000;
 
 /// Copies of what the last call issued.
-fn issued<L: Ledger>(alloc: Global, pass: &Pass<L>) -> Result<Vec<SoundOp>, AllocError> {
+pub fn issued<L: Ledger>(alloc: Global, pass: &Pass<L>) -> Result<Vec<SoundOp>, AllocError> {
     let mut ops = Vec::new(alloc);
     if let Some(
         Outcome::Replied {
@@ -42,7 +41,7 @@ fn issued<L: Ledger>(alloc: Global, pass: &Pass<L>) -> Result<Vec<SoundOp>, Allo
 }
 
 /// The nth command: a mailbox or a message.
-fn line(alloc: Global, client: u8, number: u32) -> Result<String, AllocError> {
+fn line(alloc: Global, client: usize, number: u32) -> Result<String, AllocError> {
     if number % 2 == 0 {
         format!(in alloc; "t CREATE m{client}n{number}\r\n")
     } else {
@@ -50,57 +49,114 @@ fn line(alloc: Global, client: u8, number: u32) -> Result<String, AllocError> {
     }
 }
 
+/// The place of the other replica of two.
+fn peer_of(place: usize) -> usize {
+    if place == 0 { 1 } else { 0 }
+}
+
 /// Gives a command and sends what it issued; how many operations these are.
 fn say_and_send<L: Ledger, R: Wait>(
-    rt: &R,
     alloc: Global,
     shared: &Shared<L>,
     pass: &mut Pass<L>,
-    link: &Sender<LinkMsg>,
+    mail: &Mail<R>,
     line: &str,
 ) -> Result<usize, AllocError> {
-    if !say(rt, alloc, shared, pass, line.as_bytes()) {
+    if !say(mail.rt, alloc, shared, pass, line.as_bytes()) {
         return Ok(0);
     }
     let ops = issued(alloc, pass)?;
     let count = ops.len();
-    match link.send(rt, LinkMsg::Ops(ops)) {
-        Ok(()) => Ok(count),
-        Err(_) => Ok(0),
+    if mail.send(peer_of(mail.own), LinkMsg::Ops(ops)) {
+        Ok(count)
+    } else {
+        Ok(0)
     }
 }
 
 /// Gives a thousand commands at a replica and sends what they issue; how many operations these are.
 fn work<L: Ledger, R: Wait>(
-    rt: &R,
     alloc: Global,
     shared: &Shared<L>,
     pass: &mut Pass<L>,
-    link: &Sender<LinkMsg>,
-    client: u8,
+    mail: &Mail<R>,
 ) -> Result<u64, AllocError> {
     let mut sent = 0u64;
-    if open_one(rt, alloc, shared, pass) {
+    if open_one(mail.rt, alloc, shared, pass) {
         for number in 0..1_000u32 {
-            let line = line(alloc, client, number)?;
-            let count = say_and_send(rt, alloc, shared, pass, link, &line)?;
+            let line = line(alloc, mail.own, number)?;
+            let count = say_and_send(alloc, shared, pass, mail, &line)?;
             sent = sent.saturating_add(count as u64);
         }
     }
-    let _ = link.send(rt, LinkMsg::Stop);
     Ok(sent)
 }
 
-/// Takes what comes over a link.
-fn take<L: Ledger, R: Wait>(
+/// Whether two replicas have applied the same operations.
+fn agree<L: Ledger, M: Ledger, R: Wait>(
     rt: &R,
+    alloc: Global,
+    one: &Shared<L>,
+    other: &Shared<M>,
+) -> bool {
+    match (one.clock(rt, alloc), other.clock(rt, alloc)) {
+        (Ok(near), Ok(far)) => near.same(&far),
+        _ => false,
+    }
+}
+
+/// Works, and once both clients did looks many times whether the replicas agree; then no more is to be taken here.
+fn work_and_stop<L: Ledger, M: Ledger, R: Wait>(
+    alloc: Global,
+    one: &Shared<L>,
+    other: &Shared<M>,
+    pass: &mut Pass<L>,
+    mail: &Mail<R>,
+    done: &AtomicU64,
+) -> Result<u64, AllocError> {
+    let sent = work(alloc, one, pass, mail);
+    done.fetch_add(1, Ordering::SeqCst);
+    for _ in mail.rt.forever() {
+        if done.load(Ordering::SeqCst) == 2 {
+            break;
+        }
+        thread::yield_now();
+    }
+    let _ = is_agreed(mail.rt, alloc, one, other);
+    let _ = mail.send(mail.own, LinkMsg::Stop);
+    sent
+}
+
+/// Looks many times whether two replicas agree; whether they did.
+pub fn is_agreed<L: Ledger, M: Ledger, R: Wait>(
+    rt: &R,
+    alloc: Global,
+    one: &Shared<L>,
+    other: &Shared<M>,
+) -> bool {
+    for _ in 0..TURNS {
+        if agree(rt, alloc, one, other) {
+            return true;
+        }
+        thread::yield_now();
+    }
+    false
+}
+
+/// Takes what comes to a replica, and answers it.
+pub fn take<L: Ledger, R: Wait + Clock>(
     alloc: Global,
     shared: &Shared<L>,
     pass: Pass<L>,
-    link: &Receiver<LinkMsg>,
+    mail: &mut Mail<R>,
+    inbox: &Inbox,
 ) -> Pass<L> {
+    if pass.session().is_some() {
+        return pass;
+    }
+    let rt = mail.rt;
     let mut taker = ReplicaTaker::new(rt, alloc, shared, pass);
-    link_worker(rt, &mut Open, link, &mut taker);
+    link_worker(rt, &mut Open, inbox, &mut taker, mail);
     taker.into_pass()
 }
 
@@ -125,20 +181,28 @@ struct Side<L: Ledger> {
 }
 
 /// A replica's client and its link, each in a thread.
-fn run_side<L: Ledger + Send + Sync, R: Threads + Wait + Sync>(
-    rt: &R,
+fn run_side<L: Ledger + Send + Sync, M: Ledger + Send + Sync, R: Threads + Wait + Clock + Sync>(
     alloc: Global,
-    shared: &Shared<L>,
+    replicas: (&Shared<L>, &Shared<M>),
     passes: (Pass<L>, Pass<L>),
-    to: Sender<LinkMsg>,
-    from: Receiver<LinkMsg>,
-    client: u8,
+    mail: Mail<R>,
+    letters: &Receiver<Letter>,
+    done: &AtomicU64,
 ) -> Side<L> {
+    let (one, other) = replicas;
     let (mut mine, link) = passes;
+    let rt = mail.rt;
+    let mut answers = Mail::new(rt, mail.own, mail.links);
+    let peers = [peer_of(mail.own)];
+    let inbox = Inbox {
+        letters,
+        peers: &peers,
+        rest: Duration::from_secs(3_600),
+    };
     let (sent, link) = thread::join(
         rt,
-        || work(rt, alloc, shared, &mut mine, &to, client),
-        || take(rt, alloc, shared, link, &from),
+        || work_and_stop(alloc, one, other, &mut mine, &mail, done),
+        || take(alloc, one, link, &mut answers, &inbox),
     );
     Side {
         client: mine,
@@ -148,12 +212,12 @@ fn run_side<L: Ledger + Send + Sync, R: Threads + Wait + Sync>(
 }
 
 /// Hands the book of a replica out, with all its passes.
-fn finished<L: Ledger>(
+fn finished_side<L: Ledger>(
     alloc: Global,
     shared: Shared<L>,
     first: Pass<L>,
     side: Side<L>,
-) -> Result<Option<Book>, AllocError>
+) -> Option<Book>
     requires { L.parts ≡ 4294967295 }
 {
     let Side {
@@ -162,51 +226,72 @@ fn finished<L: Ledger>(
         sent: _,
     } = side;
     let mut passes = Vec::new(alloc);
-    passes.push(first)?;
-    passes.push(client)?;
-    passes.push(link)?;
-    Ok(shared.finish(passes).ok())
+    let _ = passes.push(first);
+    let _ = passes.push(client);
+    let _ = passes.push(link);
+    shared.finish(passes).ok()
+}
+
+/// The same of a replica with two passes.
+pub fn finished<L: Ledger>(
+    alloc: Global,
+    shared: Shared<L>,
+    first: Pass<L>,
+    link: Pass<L>,
+) -> Option<Book>
+    requires { L.parts ≡ 4294967295 }
+{
+    let mut passes = Vec::new(alloc);
+    let _ = passes.push(first);
+    let _ = passes.push(link);
+    shared.finish(passes).ok()
 }
 
 /// Two replicas with a client each and links both ways: how many operations were sent from each, how many the first applied at the end, and
 /// how many of these the other did.
-fn linked<L: Ledger + Send + Sync, M: Ledger + Send + Sync, R: Threads + Wait + Sync>(
+fn linked<L: Ledger + Send + Sync, M: Ledger + Send + Sync, R: Threads + Wait + Clock + Sync>(
     rt: &R,
     alloc: Global,
     blank: Blank,
     other_blank: Blank,
     books: (Book, Book),
-) -> Result<Option<(u64, u64, usize, usize)>, AllocError>
+    lines: &Lines,
+) -> Option<(u64, u64, usize, usize)>
     requires one { (blank.name ≡ L.name) × (blank.parts ≡ L.parts) × (L.parts ≡ 4294967295) }
     requires two { (other_blank.name ≡ M.name) × (other_blank.parts ≡ M.parts) × (M.parts ≡ 4294967295) }
 {
     let (one, mut first) = Shared::<L>::new(blank, books.0);
     let (other, mut far) = Shared::<M>::new(other_blank, books.1);
     let (Some(client), Some(link)) = (first.cut(), first.cut()) else {
-        return Ok(None);
+        return None;
     };
     let (Some(far_client), Some(far_link)) = (far.cut(), far.cut()) else {
-        return Ok(None);
+        return None;
     };
-    let (to_other, from_one) = unbounded(alloc)?;
-    let (to_one, from_other) = unbounded(alloc)?;
+    let done = AtomicU64::new(0);
     let (near, distant) = thread::join(
         rt,
-        || run_side(rt, alloc, &one, (client, link), to_other, from_other, 1),
         || run_side(
-            rt,
             alloc,
-            &other,
+            (&one, &other),
+            (client, link),
+            Mail::new(rt, 0, &lines.links),
+            &lines.inboxes.0,
+            &done,
+        ),
+        || run_side(
+            alloc,
+            (&other, &one),
             (far_client, far_link),
-            to_one,
-            from_one,
-            2,
+            Mail::new(rt, 1, &lines.links),
+            &lines.inboxes.1,
+            &done,
         ),
     );
     let sent = (near.sent, distant.sent);
-    let one = finished(alloc, one, first, near)?;
-    let other = finished(alloc, other, far, distant)?;
-    Ok(counted(sent, one, other))
+    let one = finished_side(alloc, one, first, near);
+    let other = finished_side(alloc, other, far, distant);
+    counted(sent, one, other)
 }
 
 fn counted(
@@ -214,28 +299,37 @@ fn counted(
     one: Option<Book>,
     other: Option<Book>,
 ) -> Option<(u64, u64, usize, usize)> {
-    let one = one?;
-    let other = other?;
-    let (applied, shared) = common(&one, &other);
-    Some((sent.0, sent.1, applied, shared))
+    match (one, other) {
+        (Some(one), Some(other)) => {
+            let (applied, shared) = common(&one, &other);
+            Some((sent.0, sent.1, applied, shared))
+        }
+        (one, other) => {
+            drop(one);
+            drop(other);
+            None
+        }
+    }
 }
 
 /// The same at two new replicas.
-fn linked_two<R: Threads + Wait + Sync>(
+fn linked_two<R: Threads + Wait + Clock + Sync>(
     rt: &R,
     alloc: Global,
 ) -> Result<Option<(u64, u64, usize, usize)>, AllocError> {
+    let lines = two_lines(alloc)?;
     let (Some(one), Some(other)) = (fresh_book(alloc, 1), fresh_book(alloc, 2)) else {
         return Ok(None);
     };
     let whole = 4_294_967_295;
-    linked::<Brand, Brand, R>(
+    Ok(linked::<Brand, Brand, R>(
         rt,
         alloc,
         Blank::new(whole),
         Blank::new(whole),
         (one, other),
-    )
+        &lines,
+    ))
 }
 
 #[test]

@@ -2,19 +2,21 @@ use Rattle.std.proofs.Common.{◌≡◌, ◌↔◌, ℕ, true, false, List, [], 
 use Rattle.std.specs.Fmt.{decimal}
 use Rattle.mail_script.proofs.FieldLemmas.{cut_none}
 use Rattle.mail_script.specs.Fields.{IsId, IsReplica, id_text}
-use Rattle.mail_script.specs.Outcomes.{outcome_text, result_text, settled_text}
+use Rattle.mail_script.specs.Outcomes.{join_text, outcome_text, result_text, settled_text}
 use Rattle.mail_script.specs.declared.outcome.BrokenRule.TheVariants.{OwnEntry, UncoveredId, UnlawfulName, UnlawfulFlags, InboxDeleted}
 use Rattle.mail_script.specs.declared.outcome.DeliveryResult.{DeliveryResult}
 use Rattle.mail_script.specs.declared.outcome.DeliveryResult.TheVariants.{Applied, Held, Repeat, Conflict, HeldFull, Exhausted, NoMemory as NoMemoryForIt}
+use Rattle.mail_script.specs.declared.outcome.JoinResult.{JoinResult}
+use Rattle.mail_script.specs.declared.outcome.JoinResult.TheVariants.{Done as DoneJoining, Own, Exhausted as ExhaustedByJoin, NoMemory as NoMemoryToJoin}
 use Rattle.mail_script.specs.declared.outcome.OutcomeLine.{OutcomeLine}
-use Rattle.mail_script.specs.declared.outcome.OutcomeLine.TheVariants.{Delivered, Forged, Unsound, Drained, Settled, Agreed, BadScript, CannotRead, NoMemory}
+use Rattle.mail_script.specs.declared.outcome.OutcomeLine.TheVariants.{Delivered, Forged, Unsound, Drained, Settled, Agreed, Joined, BadScript, CannotRead, NoMemory}
 use Rattle.mail_script.specs.declared.outcome.SettleResult.{SettleResult}
 use Rattle.mail_script.specs.declared.outcome.SettleResult.TheVariants.{Done, Conflict as ConflictOfTwo, Exhausted as ExhaustedInIt, NoMemory as NoMemoryToSettle}
 use Rattle.tags_clocks.specs.declared.id.OpId.{OpId}
 use Rattle.text_fields.proofs.FieldLemmas.{bound, cut_again, decimal_lacks, id_again, id_lacks, number_again, replica_again}
 use Rattle.text_fields.specs.Reading.{◌>>=◌, cut_at, id_at, number_at, replica_at}
-use Rattle.mail_audit.specs.ResultReading.{agreed_at, applied_at, counted_at, counted_by, delivered_at, drained_at, fields_at, forged_at, outcome_at, plain_at, result_at, result_by, settle_result_at, settle_result_by, settled_at, settled_or_agreed_at, settled_plainly_at, unsound_at, valued_at}
-use Rattle.mail_audit.specs.Results.{IsCount, IsDeliveryResult, IsPassedOver, IsResult, IsSettleResult}
+use Rattle.mail_audit.specs.ResultReading.{agreed_at, applied_at, counted_at, counted_by, delivered_at, drained_at, fields_at, forged_at, join_result_at, join_result_by, joined_at, joined_plainly_at, outcome_at, plain_at, replicas_at, result_at, result_by, settle_result_at, settle_result_by, settled_at, settled_plainly_at, unsound_at, valued_at}
+use Rattle.mail_audit.specs.Results.{IsCount, IsDeliveryResult, IsJoinResult, IsPassedOver, IsResult, IsSettleResult}
 use Rattle.mail_audit.specs.declared.results.AppliedCount.{AppliedCount}
 
 -- What is printed of an outcome is read as that outcome.
@@ -87,8 +89,12 @@ settled_again (ConflictOfTwo id) h = ap (λ (o : Option SettleResult). o >>= (λ
 settled_again ExhaustedInIt h = refl
 settled_again NoMemoryToSettle h = refl
 
+-- two replicas and what is told, with what stands between them
+pair_parts : (r s : ℕ) (told : List ℕ) → (decimal r ++ (32 ∷ (decimal s ++ codes ": "))) ++ told ≡ decimal r ++ 32 ∷ (decimal s ++ 58 ∷ 32 ∷ told)
+pair_parts r s told = append_assoc (decimal r) (32 ∷ (decimal s ++ codes ": ")) told ∙ ap (λ (xs : List ℕ). decimal r ++ 32 ∷ xs) (append_assoc (decimal s) (codes ": ") told)
+
 agreed_by : (r s : ℕ) (told : List ℕ) → agreed_at ((decimal r ++ (32 ∷ (decimal s ++ codes ": "))) ++ told) ≡ agreed_at (decimal r ++ 32 ∷ (decimal s ++ 58 ∷ 32 ∷ told))
-agreed_by r s told = ap agreed_at (append_assoc (decimal r) (32 ∷ (decimal s ++ codes ": ")) told ∙ ap (λ (xs : List ℕ). decimal r ++ 32 ∷ xs) (append_assoc (decimal s) (codes ": ") told))
+agreed_by r s told = ap agreed_at (pair_parts r s told)
 
 agreed_yes : (r s : ℕ) → IsReplica r → IsReplica s → agreed_at (decimal r ++ 32 ∷ (decimal s ++ 58 ∷ 32 ∷ codes "yes")) ≡ Some (Agreed r s true)
 unfolding agreed_at
@@ -106,8 +112,27 @@ agreed_no r s i j =
     ∙ bound (replica_at (decimal r)) _ r (replica_again r i)
     ∙ bound (replica_at (decimal s)) _ s (replica_again s j)
 
+join_result_again : (result : JoinResult) → IsJoinResult result → join_result_at (join_text result) ≡ Some result
+unfolding join_result_at join_result_by joined_plainly_at
+join_result_again DoneJoining h = refl
+join_result_again (Own id) h = bound (id_at (id_text id)) (λ id. Some (Own id)) id (id_again id h)
+join_result_again ExhaustedByJoin h = refl
+join_result_again NoMemoryToJoin h = refl
+
+joined_again : (r s : ℕ) (result : JoinResult) → IsReplica r → IsReplica s → IsJoinResult result → joined_at ((decimal r ++ (32 ∷ (decimal s ++ codes ": "))) ++ join_text result) ≡ Some (Joined r s result)
+unfolding joined_at
+joined_again r s result i j h =
+    let told = join_text result in
+    let tail = decimal s ++ 58 ∷ 32 ∷ told in
+    ap joined_at (pair_parts r s told)
+    ∙ bound (cut_at 32 (decimal r ++ 32 ∷ tail)) _ (decimal r, tail) (cut_again 32 (decimal r) tail (decimal_lacks 32 r refl (omega (arith, i.1))))
+    ∙ bound (cut_at 58 tail) _ (decimal s, 32 ∷ told) (cut_again 58 (decimal s) (32 ∷ told) (decimal_lacks 58 s refl (omega (arith, j.1))))
+    ∙ bound (replica_at (decimal r)) _ r (replica_again r i)
+    ∙ bound (replica_at (decimal s)) _ s (replica_again s j)
+    ∙ bound (join_result_at told) _ result (join_result_again result h)
+
 pub outcome_again : (told : OutcomeLine) → IsPassedOver told → outcome_at (outcome_text told) ≡ Some told
-unfolding outcome_at fields_at settled_or_agreed_at unsound_at
+unfolding outcome_at fields_at replicas_at unsound_at
 outcome_again (Delivered id r result) h = delivered_again id r result h.0 h.1 h.2
 outcome_again (Forged id r result) h = forged_again id r result h.0 h.1 h.2
 outcome_again (Unsound OwnEntry) h = refl
@@ -120,6 +145,7 @@ outcome_again (Drained r n false) h = drained_by r (decimal n ++ []) (record { c
 outcome_again (Settled result) h = settled_again result h
 outcome_again (Agreed r s true) h = agreed_by r s (codes "yes") ∙ agreed_yes r s h.0 h.1
 outcome_again (Agreed r s false) h = agreed_by r s (codes "no") ∙ agreed_no r s h.0 h.1
+outcome_again (Joined r s result) h = joined_again r s result h.0 h.1 h.2
 outcome_again (BadScript line) h = absurd h
 outcome_again CannotRead h = absurd h
 outcome_again NoMemory h = absurd h

@@ -4,8 +4,10 @@ use Rattle.std.specs.Str.{bytes_eq}
 use Rattle.mail_script.specs.declared.outcome.BrokenRule.TheVariants.{OwnEntry, UncoveredId, UnlawfulName, UnlawfulFlags, InboxDeleted}
 use Rattle.mail_script.specs.declared.outcome.DeliveryResult.{DeliveryResult}
 use Rattle.mail_script.specs.declared.outcome.DeliveryResult.TheVariants.{Applied, Held, Repeat, Conflict, HeldFull, Exhausted, NoMemory}
+use Rattle.mail_script.specs.declared.outcome.JoinResult.{JoinResult}
+use Rattle.mail_script.specs.declared.outcome.JoinResult.TheVariants.{Done as DoneJoining, Own, Exhausted as ExhaustedByJoin, NoMemory as NoMemoryToJoin}
 use Rattle.mail_script.specs.declared.outcome.OutcomeLine.{OutcomeLine}
-use Rattle.mail_script.specs.declared.outcome.OutcomeLine.TheVariants.{Delivered, Forged, Unsound, Drained, Settled, Agreed}
+use Rattle.mail_script.specs.declared.outcome.OutcomeLine.TheVariants.{Delivered, Forged, Unsound, Drained, Settled, Agreed, Joined}
 use Rattle.mail_script.specs.declared.outcome.SettleResult.{SettleResult}
 use Rattle.mail_script.specs.declared.outcome.SettleResult.TheVariants.{Done, Conflict as ConflictOfTwo, Exhausted as ExhaustedInIt, NoMemory as NoMemoryToSettle}
 use Rattle.text_fields.specs.Reading.{◌>>=◌, cut_at, id_at, number_at, replica_at}
@@ -122,9 +124,38 @@ agreed_at fields = do
   second ← replica_at other.0
   Some (Agreed first second (bytes_eq other.1 (codes " yes")))
 
--- The outcome of an exchange or a comparison.
-unfoldable pub settled_or_agreed_at : List ℕ → List ℕ → Option OutcomeLine
-settled_or_agreed_at word fields = if bytes_eq word (codes "settle:") then settled_at fields else (if bytes_eq word (codes "agree") then agreed_at fields else None)
+-- The result of a join of one word.
+unfoldable pub joined_plainly_at : List ℕ → Option JoinResult
+joined_plainly_at word =
+    if bytes_eq word (codes "Ok") then Some DoneJoining else
+    (if bytes_eq word (codes "Exhausted") then Some ExhaustedByJoin else
+    (if bytes_eq word (codes "NoMemory") then Some NoMemoryToJoin else None))
+
+-- The result of a join.
+unfoldable pub join_result_by : Option (List ℕ × List ℕ) → List ℕ → Option JoinResult
+join_result_by None text = joined_plainly_at text
+join_result_by (Some parts) text = id_at parts.1 >>= (λ id. Some (Own id))
+
+unfoldable pub join_result_at : List ℕ → Option JoinResult
+join_result_at text = join_result_by (cut_at 32 text) text
+
+-- The outcome behind `join`.
+unfoldable pub joined_at : List ℕ → Option OutcomeLine
+joined_at fields = do
+  one ← cut_at 32 fields
+  other ← cut_at 58 one.1
+  told ← cut_at 32 other.1
+  replica ← replica_at one.0
+  peer ← replica_at other.0
+  result ← join_result_at told.1
+  Some (Joined replica peer result)
+
+-- The outcome of an exchange, a comparison or a join.
+unfoldable pub replicas_at : List ℕ → List ℕ → Option OutcomeLine
+replicas_at word fields =
+    if bytes_eq word (codes "settle:") then settled_at fields else
+    (if bytes_eq word (codes "agree") then agreed_at fields else
+    (if bytes_eq word (codes "join") then joined_at fields else None))
 
 -- The outcome of a word with its fields.
 unfoldable pub fields_at : List ℕ → List ℕ → Option OutcomeLine
@@ -132,7 +163,7 @@ fields_at word fields =
     if bytes_eq word (codes "deliver") then delivered_at fields else
     (if bytes_eq word (codes "forge") then forged_at fields else
     (if bytes_eq word (codes "forge:") then unsound_at fields else
-    (if bytes_eq word (codes "drain") then drained_at fields else settled_or_agreed_at word fields)))
+    (if bytes_eq word (codes "drain") then drained_at fields else replicas_at word fields)))
 
 -- The outcome of a line.
 unfoldable pub outcome_at : List ℕ → Option OutcomeLine

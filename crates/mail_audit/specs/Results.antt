@@ -3,8 +3,10 @@ use Rattle.mail_script.specs.Fields.{IsId, IsReplica}
 use Rattle.mail_script.specs.Outcomes.{outcome_text}
 use Rattle.mail_script.specs.declared.outcome.DeliveryResult.{DeliveryResult}
 use Rattle.mail_script.specs.declared.outcome.DeliveryResult.TheVariants.{Applied, Conflict}
+use Rattle.mail_script.specs.declared.outcome.JoinResult.{JoinResult}
+use Rattle.mail_script.specs.declared.outcome.JoinResult.TheVariants.{Own}
 use Rattle.mail_script.specs.declared.outcome.OutcomeLine.{OutcomeLine}
-use Rattle.mail_script.specs.declared.outcome.OutcomeLine.TheVariants.{Delivered, Forged, Unsound, Drained, Settled, Agreed, BadScript, CannotRead, NoMemory}
+use Rattle.mail_script.specs.declared.outcome.OutcomeLine.TheVariants.{Delivered, Forged, Unsound, Drained, Settled, Agreed, Joined, BadScript, CannotRead, NoMemory}
 use Rattle.mail_script.specs.declared.outcome.SettleResult.{SettleResult}
 use Rattle.mail_script.specs.declared.outcome.SettleResult.TheVariants.{Conflict as ConflictOfTwo}
 
@@ -23,7 +25,12 @@ abbrev pub IsSettleResult : SettleResult → Type 0
 IsSettleResult (ConflictOfTwo id) = IsId id
 IsSettleResult _ = Unit {0}
 
--- What came of a delivery, a drain, an exchange or a comparison, and not how a script ended; its ids, replicas and counts are ones
+-- What came of a join, with an id that a line may tell.
+abbrev pub IsJoinResult : JoinResult → Type 0
+IsJoinResult (Own id) = IsId id
+IsJoinResult _ = Unit {0}
+
+-- What came of a delivery, a drain, an exchange, a comparison or a join, and not how a script ended; its ids, replicas and counts are ones
 -- that a line may tell.
 abbrev pub IsPassedOver : OutcomeLine → Type 0
 IsPassedOver (Delivered id replica result) = IsId id × IsReplica replica × IsDeliveryResult result
@@ -32,10 +39,11 @@ IsPassedOver (Unsound rule) = Unit {0}
 IsPassedOver (Drained replica count stalled) = IsReplica replica × IsCount count
 IsPassedOver (Settled result) = IsSettleResult result
 IsPassedOver (Agreed first second same) = IsReplica first × IsReplica second
+IsPassedOver (Joined replica peer result) = IsReplica replica × IsReplica peer × IsJoinResult result
 IsPassedOver (BadScript line) = ⊥
 IsPassedOver CannotRead = ⊥
 IsPassedOver NoMemory = ⊥
 
--- A line that tells what came of a delivery, a drain, an exchange or a comparison.
+-- A line that tells what came of a delivery, a drain, an exchange, a comparison or a join.
 abbrev pub IsResult : List ℕ → Type 0
 IsResult line = (told : OutcomeLine) × IsPassedOver told × (line ≡ outcome_text told)

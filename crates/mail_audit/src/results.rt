@@ -1,14 +1,16 @@
-//! The lines that tell what came of deliveries, drains, exchanges and comparisons.
+//! The lines that tell what came of deliveries, drains, exchanges, comparisons and joins.
 
 ghost use Rattle.std.specs.Prelude.{◌≡◌, ◌↔◌, IfOk, IfSome, IsTrue};
 ghost use Rattle.mail_script.specs.Fields.{IsId, IsReplica};
 ghost use Rattle.mail_script.specs.Outcomes.{outcome_text};
 ghost use Rattle.mail_script.specs.declared.outcome.OutcomeLine.TheVariants.{Unsound};
 ghost use Rattle.text_fields.specs.Reading.{id_at, replica_at};
-ghost use Rattle.mail_audit.specs.ResultReading.{agreed_at, applied_at, conflict_at, counted_at, delivered_at, drained_at, fields_at, forged_at, outcome_at, plain_at, result_at, settle_result_at, settled_at, settled_or_agreed_at, settled_plainly_at, unsound_at, valued_at};
-ghost use Rattle.mail_audit.specs.Results.{IsCount, IsDeliveryResult, IsPassedOver, IsResult, IsSettleResult};
+ghost use Rattle.mail_audit.specs.ResultReading.{agreed_at, applied_at, conflict_at, counted_at, delivered_at, drained_at, fields_at, forged_at, join_result_at, joined_at, joined_plainly_at, outcome_at, plain_at, replicas_at, result_at, settle_result_at, settled_at, settled_plainly_at, unsound_at, valued_at};
+ghost use Rattle.mail_audit.specs.Results.{IsCount, IsDeliveryResult, IsJoinResult, IsPassedOver, IsResult, IsSettleResult};
 
-use mail_script::{BrokenRule, DeliveryResult, OutcomeLine, SettleResult, write_outcome};
+use mail_script::{
+    BrokenRule, DeliveryResult, JoinResult, OutcomeLine, SettleResult, write_outcome,
+};
 use std::alloc::{AllocError, Global};
 use tags_clocks::{OpId, ReplicaId};
 use text_fields::{number, split};
@@ -20,7 +22,7 @@ struct AppliedCount {
     stalled: bool,
 }
 
-/// Whether the line tells what came of a delivery, a drain, an exchange or a comparison.
+/// Whether the line tells what came of a delivery, a drain, an exchange, a comparison or a join.
 pub fn is_result(alloc: Global, line: &[u8]) -> Result<bool, AllocError>
     ensures { IfOk result (λ tells. IsTrue tells ↔ IsResult line.now) }
 {
@@ -88,20 +90,22 @@ fn outcome_of(word: &[u8], fields: &[u8]) -> Option<OutcomeLine>
     } else if word == b"drain".as_slice() {
         drained(fields)
     } else {
-        settled_or_agreed(word, fields)
+        of_replicas(word, fields)
     }
 }
 
-/// The outcome of an exchange or a comparison that a line of this word with these fields seems to tell.
-#[tactic(auto, unfolding(crate::specs::ResultReading::settled_or_agreed_at))]
-fn settled_or_agreed(word: &[u8], fields: &[u8]) -> Option<OutcomeLine>
-    ensures read { result ≡ settled_or_agreed_at word.now fields.now }
+/// The outcome of an exchange, a comparison or a join that a line of this word with these fields seems to tell.
+#[tactic(auto, unfolding(crate::specs::ResultReading::replicas_at))]
+fn of_replicas(word: &[u8], fields: &[u8]) -> Option<OutcomeLine>
+    ensures read { result ≡ replicas_at word.now fields.now }
     ensures range { IfSome result IsPassedOver }
 {
     if word == b"settle:".as_slice() {
         settled(fields)
     } else if word == b"agree".as_slice() {
         agreed(fields)
+    } else if word == b"join".as_slice() {
+        joined(fields)
     } else {
         None
     }
@@ -339,4 +343,55 @@ fn agreed(fields: &[u8]) -> Option<OutcomeLine>
         second,
         same,
     })
+}
+
+/// The outcome that these fields behind `join` seem to tell.
+#[tactic(auto, unfolding(crate::specs::ResultReading::joined_at))]
+fn joined(fields: &[u8]) -> Option<OutcomeLine>
+    ensures read { result ≡ joined_at fields.now }
+    ensures range { IfSome result IsPassedOver }
+{
+    let (one, rest) = split(b' ', fields)?;
+    let (other, text) = split(b':', rest)?;
+    let (_space, told) = split(b' ', text)?;
+    let joining = replica(one)?;
+    let peer = replica(other)?;
+    let result = join_result(told)?;
+    Some(OutcomeLine::Joined {
+        replica: joining,
+        peer,
+        result,
+    })
+}
+
+/// The result of a join that the text seems to tell.
+#[tactic(auto, unfolding(crate::specs::ResultReading::join_result_at, crate::specs::ResultReading::join_result_by))]
+fn join_result(text: &[u8]) -> Option<JoinResult>
+    ensures read { result ≡ join_result_at text.now }
+    ensures range { IfSome result IsJoinResult }
+{
+    match split(b' ', text) {
+        None => joined_plainly(text),
+        Some((_, name)) => {
+            let id = id(name)?;
+            Some(JoinResult::Own { id })
+        }
+    }
+}
+
+/// The result of a join that tells no id.
+#[tactic(auto, unfolding(crate::specs::ResultReading::joined_plainly_at))]
+fn joined_plainly(word: &[u8]) -> Option<JoinResult>
+    ensures read { result ≡ joined_plainly_at word.now }
+    ensures range { IfSome result IsJoinResult }
+{
+    if word == b"Ok".as_slice() {
+        Some(JoinResult::Done)
+    } else if word == b"Exhausted".as_slice() {
+        Some(JoinResult::Exhausted)
+    } else if word == b"NoMemory".as_slice() {
+        Some(JoinResult::NoMemory)
+    } else {
+        None
+    }
 }

@@ -1,4 +1,5 @@
 mod ExchangeLemmas
+mod JoinLemmas
 mod LineLemmas
 mod PartLemmas
 mod StageLemmas

@@ -1,4 +1,4 @@
-use Rattle.std.proofs.Common.{rules, ◌≡◌, ℕ, ◌≤◌, List, Option, None, Some, arith, subst}
+use Rattle.std.proofs.Common.{rules, ◌≡◌, ℕ, List, Option, None, Some, arith, subst}
 use Rattle.std.specs.List.{slice_get}
 use Rattle.std.specs.Prelude.{IsNone, IsSome}
 use Rattle.node_talk.specs.Replies.{idling_at}
@@ -10,7 +10,7 @@ use Rattle.mail_replay.specs.declared.stage.Session.{Session}
 use Rattle.mail_replay.proofs.StageLemmas.{some_same}
 use Rattle.mail_script.specs.Script.{Says}
 use Rattle.mail_script.specs.declared.script.ScriptLine.{ScriptLine}
-use Rattle.mail_script.specs.declared.script.ScriptLine.TheVariants.{Blank, Node, Now, Open, Line, Send, Poll, Close, Show, Deliver, Forge, Drain, Settle, Agree}
+use Rattle.mail_script.specs.declared.script.ScriptLine.TheVariants.{Blank, Node, Now, Open, Line, Send, Poll, Close, Show, Deliver, Forge, Drain, Settle, Agree, Join}
 
 -- a session has one connection, with one replica
 pub one_talking : (scene : Scene) (name : List ℕ) (t u : Talking scene name) → (u.replica ≡ t.replica) × (u.connection ≡ t.connection)
@@ -52,3 +52,4 @@ says_first_uid line (Forge replica operation) h = tt
 says_first_uid line (Drain replica) h = tt
 says_first_uid line Settle h = tt
 says_first_uid line (Agree first second) h = tt
+says_first_uid line (Join replica peer) h = tt

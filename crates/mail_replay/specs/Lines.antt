@@ -11,13 +11,14 @@ use Rattle.imap_answers.specs.declared.words.Login.TheVariants.{Given}
 use Rattle.mail_script.specs.Script.{Says}
 use Rattle.mail_script.specs.Transcript.{transcript_line}
 use Rattle.mail_script.specs.declared.script.ScriptLine.{ScriptLine}
-use Rattle.mail_script.specs.declared.script.ScriptLine.TheVariants.{Blank, Node, Now, Open, Line, Send, Poll, Close, Show, Deliver, Forge, Drain, Settle, Agree}
+use Rattle.mail_script.specs.declared.script.ScriptLine.TheVariants.{Blank, Node, Now, Open, Line, Send, Poll, Close, Show, Deliver, Forge, Drain, Settle, Agree, Join}
 use Rattle.mail_script.specs.declared.transcript.Speaker.TheVariants.{Server}
 use Rattle.imap_node.specs.Nodes.{IsGoing, NodeKept, NodeState, closed}
 use Rattle.imap_node.specs.Sessions.{IsOpen, Opens}
 use Rattle.imap_node.specs.declared.sessions.Auth.TheVariants.{Preauth}
 use Rattle.mail_replay.specs.Deliveries.{DeliversTo, DrainsAt, ForgesAt, Issued, with_node}
 use Rattle.mail_replay.specs.Exchanges.{Compares, Settles}
+use Rattle.mail_replay.specs.Joins.{Joins}
 use Rattle.mail_replay.specs.Stage.{IsNew, Scene, replica_place, session_place}
 use Rattle.mail_replay.specs.Transcript.{transcript}
 use Rattle.mail_replay.specs.declared.stage.Connection.{Connection}
@@ -159,6 +160,7 @@ Serves old (Forge replica operation) more new = ForgesAt old replica operation m
 Serves old (Drain replica) more new = DrainsAt old replica more new
 Serves old Settle more new = Settles old more new
 Serves old (Agree first second) more new = Compares old first second more × (new ≡ old)
+Serves old (Join replica peer) more new = Joins old replica peer more new
 
 -- A line that can't be served where it stands: it names what isn't declared, or declares what is, or names a session that
 -- has ended or an operation that was never issued, or polls a session that doesn't idle, or its text is none of an operation's.
@@ -177,6 +179,7 @@ IsMisplaced scene (Forge replica operation) = IsNone (replica_place scene.replic
 IsMisplaced scene (Drain replica) = IsNone (replica_place scene.replicas replica)
 IsMisplaced scene Settle = ⊥
 IsMisplaced scene (Agree first second) = IsNone (replica_place scene.replicas first) ⊎ IsNone (replica_place scene.replicas second)
+IsMisplaced scene (Join replica peer) = IsSome (replica_place scene.replicas replica) ⊎ IsNone (replica_place scene.replicas peer)
 
 -- A line that isn't served: it says nothing that could be, where it stands.
 abbrev pub IsBad : Scene → List ℕ → Type 0

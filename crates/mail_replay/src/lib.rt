@@ -4,6 +4,7 @@
 mod deliveries;
 mod ending;
 mod exchanges;
+mod joining;
 mod replaying;
 mod serve;
 mod stage;

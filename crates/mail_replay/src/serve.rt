@@ -22,6 +22,7 @@ ghost use Rattle.node_talk.specs.declared.turn.Turn.{Turn as OneTurn};
 
 use crate::deliveries::{deliver, drain, forge};
 use crate::exchanges::{compare, exchange};
+use crate::joining::join;
 use crate::stage::{Connection, Replica, Session, Stage, replica_place, session_place};
 use crate::transcript::{write_answer, write_turns};
 use imap_lex::{Fault, Framer, Limits};
@@ -137,6 +138,7 @@ fn serve(
         ScriptLine::Drain { replica } => drain(alloc, stage, replica, printed),
         ScriptLine::Settle => exchange(alloc, stage, printed),
         ScriptLine::Agree { first, second } => compare(stage, first, second, printed),
+        ScriptLine::Join { replica, peer } => join(alloc, stage, replica, peer, printed),
     }
 }
 

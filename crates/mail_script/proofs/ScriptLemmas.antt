@@ -6,14 +6,14 @@ use Rattle.tags_clocks.specs.declared.id.OpId.{OpId}
 use Rattle.imap_types.specs.Escape.{AreOctets, escaped}
 use Rattle.imap_types.specs.declared.escape.Escape.TheVariants.{Text}
 use Rattle.mail_script.specs.Fields.{IsFirstK, IsFirstUid, IsNumber, IsReplica, id_text, is_session_name}
-use Rattle.mail_script.specs.Reading.{◌>>=◌, Gives, agree_at, cut_at, deliver_at, fields_at, first_numbers_at, forge_at, id_at, keyword_at, line_at, moment_at, node_at, open_at, replica_at, session_at, spoken_at, word_or_words_at, words_at}
+use Rattle.mail_script.specs.Reading.{◌>>=◌, Gives, agree_at, cut_at, deliver_at, fields_at, first_numbers_at, forge_at, id_at, join_at, keyword_at, line_at, moment_at, node_at, open_at, replica_at, session_at, spoken_at, word_or_words_at, words_at}
 use Rattle.mail_script.specs.Script.{Says, first_numbers_text}
 use Rattle.mail_script.specs.declared.script.Keyword.{Keyword}
-use Rattle.mail_script.specs.declared.script.Keyword.TheVariants.{Node as NodeWord, Now as NowWord, Open as OpenWord, Line as LineWord, Send as SendWord, Poll as PollWord, Close as CloseWord, Show as ShowWord, Deliver as DeliverWord, Forge as ForgeWord, Drain as DrainWord, Agree as AgreeWord}
+use Rattle.mail_script.specs.declared.script.Keyword.TheVariants.{Node as NodeWord, Now as NowWord, Open as OpenWord, Line as LineWord, Send as SendWord, Poll as PollWord, Close as CloseWord, Show as ShowWord, Deliver as DeliverWord, Forge as ForgeWord, Drain as DrainWord, Agree as AgreeWord, Join as JoinWord}
 use Rattle.mail_script.specs.declared.script.LineFault.{LineFault}
 use Rattle.mail_script.specs.declared.script.LineFault.TheVariants.{NotALine, NoMemory}
 use Rattle.mail_script.specs.declared.script.ScriptLine.{ScriptLine}
-use Rattle.mail_script.specs.declared.script.ScriptLine.TheVariants.{Blank, Node, Now, Open, Line, Send, Poll, Close, Show, Deliver, Forge, Drain, Settle, Agree}
+use Rattle.mail_script.specs.declared.script.ScriptLine.TheVariants.{Blank, Node, Now, Open, Line, Send, Poll, Close, Show, Deliver, Forge, Drain, Settle, Agree, Join}
 use Rattle.text_fields.proofs.FieldLemmas.{bind_some, bound, chosen, cut_again, cut_takes, decimal_lacks, id_again, id_lacks, id_takes, replica_again, replica_takes}
 use Rattle.mail_script.proofs.FieldLemmas.{cut_none, first_numbers_again, first_numbers_takes, moment_again, moment_takes, session_again, session_takes, spoken_again, spoken_takes, numbers_text}
 use Rattle.std.specs.Prelude.{codes}
@@ -32,6 +32,7 @@ keyword_text DeliverWord = codes "deliver"
 keyword_text ForgeWord = codes "forge"
 keyword_text DrainWord = codes "drain"
 keyword_text AgreeWord = codes "agree"
+keyword_text JoinWord = codes "join"
 
 -- a word of the table, or one behind it
 picked : (word text : List ℕ) (k : Keyword) (next : Option Keyword) (keyword : Keyword) → text ≡ keyword_text k → cond (bytes_eq word text) (Some k) next ≡ Some keyword → (next ≡ Some keyword → word ≡ keyword_text keyword) → word ≡ keyword_text keyword
@@ -56,7 +57,8 @@ keyword_takes word keyword h =
     picked word (codes "forge") ForgeWord _ keyword refl h (λ h.
     picked word (codes "drain") DrainWord _ keyword refl h (λ h.
     picked word (codes "agree") AgreeWord _ keyword refl h (λ h.
-    absurd (let k = h in cc)))))))))))))
+    picked word (codes "join") JoinWord _ keyword refl h (λ h.
+    absurd (let k = h in cc))))))))))))))
 
 -- what is read behind each word is said
 node_takes : (fields : List ℕ) (cut : Option (List ℕ × List ℕ)) (said : ScriptLine) → ((parts : List ℕ × List ℕ) → cut ≡ Some parts → fields ≡ parts.0 ++ 32 ∷ parts.1) → node_at cut fields ≡ Some said → Says (codes "node " ++ fields) said
@@ -110,6 +112,18 @@ agree_takes fields said h =
     let u = replica_takes c.0.1 s.0 s.1 in
     let text : fields ≡ decimal r.0 ++ 32 ∷ decimal s.0 = cut_takes 32 fields c.0 c.1 ∙ (λ i. t.1 i ++ 32 ∷ u.1 i) in
     subst (Says (codes "agree " ++ fields)) e (t.0, u.0, ap (λ (t : List ℕ). codes "agree " ++ t) text)
+
+join_takes : (fields : List ℕ) (said : ScriptLine) → join_at fields ≡ Some said → Says (codes "join " ++ fields) said
+unfolding join_at
+join_takes fields said h =
+    let c = bind_some (cut_at 32 fields) _ said h in
+    let r = bind_some (replica_at c.0.0) _ said c.2 in
+    let s = bind_some (replica_at c.0.1) _ said r.2 in
+    let e : Join r.0 s.0 ≡ said = let k = s.2 in cc in
+    let t = replica_takes c.0.0 r.0 r.1 in
+    let u = replica_takes c.0.1 s.0 s.1 in
+    let text : fields ≡ decimal r.0 ++ 32 ∷ decimal s.0 = cut_takes 32 fields c.0 c.1 ∙ (λ i. t.1 i ++ 32 ∷ u.1 i) in
+    subst (Says (codes "join " ++ fields)) e (t.0, u.0, ap (λ (t : List ℕ). codes "join " ++ t) text)
 
 forge_takes : (fields : List ℕ) (said : ScriptLine) → forge_at fields ≡ Some said → Says (codes "forge " ++ fields) said
 unfolding forge_at
@@ -169,6 +183,7 @@ fields_takes DeliverWord fields said h = deliver_takes fields said h
 fields_takes ForgeWord fields said h = forge_takes fields said h
 fields_takes DrainWord fields said h = replica_said (codes "drain") fields Drain said (λ r i e. (i, ap (λ (t : List ℕ). codes "drain " ++ t) e)) h
 fields_takes AgreeWord fields said h = agree_takes fields said h
+fields_takes JoinWord fields said h = join_takes fields said h
 
 words_takes : (line : List ℕ) (said : ScriptLine) → words_at line ≡ Some said → Says line said
 unfolding words_at
@@ -215,6 +230,7 @@ read_on DeliverWord fields = refl
 read_on ForgeWord fields = refl
 read_on DrainWord fields = refl
 read_on AgreeWord fields = refl
+read_on JoinWord fields = refl
 
 read_of : (keyword : Keyword) (line fields : List ℕ) (said : ScriptLine) → line ≡ keyword_text keyword ++ 32 ∷ fields → fields_at keyword fields ≡ Some said → line_at line ≡ Some said
 read_of keyword line fields said e h = ap line_at e ∙ read_on keyword fields ∙ h
@@ -254,6 +270,13 @@ agree_again r s i j =
     ∙ bound (replica_at (decimal r)) _ r (replica_again r i)
     ∙ bound (replica_at (decimal s)) _ s (replica_again s j)
 
+join_again : (r s : ℕ) → IsReplica r → IsReplica s → join_at (decimal r ++ 32 ∷ decimal s) ≡ Some (Join r s)
+unfolding join_at
+join_again r s i j =
+    bound (cut_at 32 (decimal r ++ 32 ∷ decimal s)) _ (decimal r, decimal s) (cut_again 32 (decimal r) (decimal s) (decimal_lacks 32 r refl (omega arith)))
+    ∙ bound (replica_at (decimal r)) _ r (replica_again r i)
+    ∙ bound (replica_at (decimal s)) _ s (replica_again s j)
+
 -- the line of one word
 settle_again : line_at (codes "settle") ≡ Some Settle
 unfolding word_or_words_at
@@ -285,6 +308,7 @@ line_again line (Forge r op) h = read_of ForgeWord line (decimal r ++ 32 ∷ op)
 line_again line (Drain r) h = read_of DrainWord line (decimal r) (Drain r) h.1 (bound (replica_at (decimal r)) _ r (replica_again r h.0))
 line_again line Settle h = ap line_at h ∙ settle_again
 line_again line (Agree r s) h = read_of AgreeWord line (decimal r ++ 32 ∷ decimal s) (Agree r s) h.2 (agree_again r s h.0 h.1)
+line_again line (Join r s) h = read_of JoinWord line (decimal r ++ 32 ∷ decimal s) (Join r s) h.2 (join_again r s h.0 h.1)
 
 pub found_by : (line : List ℕ) (r : Result ScriptLine LineFault) → Gives (λ said. said) r (line_at line) → IfOk r (λ said. Says line said)
 found_by line (Ok said) g = line_takes line said g

@@ -6,10 +6,12 @@ use Rattle.mail_script.specs.declared.outcome.BrokenRule.{BrokenRule}
 use Rattle.mail_script.specs.declared.outcome.BrokenRule.TheVariants.{OwnEntry, UncoveredId, UnlawfulName, UnlawfulFlags, InboxDeleted}
 use Rattle.mail_script.specs.declared.outcome.DeliveryResult.{DeliveryResult}
 use Rattle.mail_script.specs.declared.outcome.DeliveryResult.TheVariants.{Applied, Held, Repeat, Conflict, HeldFull, Exhausted, NoMemory as NoMemoryForIt}
+use Rattle.mail_script.specs.declared.outcome.JoinResult.{JoinResult}
+use Rattle.mail_script.specs.declared.outcome.JoinResult.TheVariants.{Done as DoneJoining, Own, Exhausted as ExhaustedByJoin, NoMemory as NoMemoryToJoin}
 use Rattle.mail_script.specs.declared.outcome.SettleResult.{SettleResult}
 use Rattle.mail_script.specs.declared.outcome.SettleResult.TheVariants.{Done, Conflict as ConflictOfTwo, Exhausted as ExhaustedInIt, NoMemory as NoMemoryToSettle}
 use Rattle.mail_script.specs.declared.outcome.OutcomeLine.{OutcomeLine}
-use Rattle.mail_script.specs.declared.outcome.OutcomeLine.TheVariants.{Delivered, Forged, Unsound, Drained, Settled, Agreed, BadScript, CannotRead, NoMemory}
+use Rattle.mail_script.specs.declared.outcome.OutcomeLine.TheVariants.{Delivered, Forged, Unsound, Drained, Settled, Agreed, Joined, BadScript, CannotRead, NoMemory}
 
 -- Says that a ripe operation stays held.
 abbrev pub stalled_text : Bool → List ℕ
@@ -49,14 +51,21 @@ settled_text (ConflictOfTwo id) = codes "Conflict " ++ id_text id
 settled_text ExhaustedInIt = codes "Exhausted"
 settled_text NoMemoryToSettle = codes "NoMemory"
 
--- Two replicas that are compared.
-abbrev pub compared_text : ℕ → ℕ → List ℕ
-compared_text first second = decimal first ++ (32 ∷ (decimal second ++ codes ": "))
+-- Two replicas of which something is told.
+abbrev pub pair_text : ℕ → ℕ → List ℕ
+pair_text first second = decimal first ++ (32 ∷ (decimal second ++ codes ": "))
 
 -- Whether both are the same.
 abbrev pub yes_or_no : Bool → List ℕ
 yes_or_no true = codes "yes"
 yes_or_no false = codes "no"
+
+-- Whether a replica begins with what another one applied, or why not.
+abbrev pub join_text : JoinResult → List ℕ
+join_text DoneJoining = codes "Ok"
+join_text (Own id) = codes "Own " ++ id_text id
+join_text ExhaustedByJoin = codes "Exhausted"
+join_text NoMemoryToJoin = codes "NoMemory"
 
 -- What a line that tells an outcome says.
 abbrev pub outcome_text : OutcomeLine → List ℕ
@@ -65,7 +74,8 @@ outcome_text (Forged id replica result) = codes "forge " ++ (delivery_text id re
 outcome_text (Unsound rule) = codes "forge: Unsound " ++ rule_text rule
 outcome_text (Drained replica count stalled) = codes "drain " ++ (decimal replica ++ (codes ": " ++ applied_text count stalled))
 outcome_text (Settled result) = codes "settle: " ++ settled_text result
-outcome_text (Agreed first second same) = codes "agree " ++ (compared_text first second ++ yes_or_no same)
+outcome_text (Agreed first second same) = codes "agree " ++ (pair_text first second ++ yes_or_no same)
+outcome_text (Joined replica peer result) = codes "join " ++ (pair_text replica peer ++ join_text result)
 outcome_text (BadScript line) = codes "bad script: line " ++ decimal line
 outcome_text CannotRead = codes "cannot read"
 outcome_text NoMemory = codes "no memory"

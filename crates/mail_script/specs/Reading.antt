@@ -5,11 +5,11 @@ use Rattle.imap_types.specs.declared.escape.Escape.TheVariants.{Text}
 use Rattle.mail_script.specs.Fields.{is_session_name}
 pub use Rattle.text_fields.specs.Reading.{◌>>=◌, cut_at, id_at, in_front, number_at, positive, replica_at}
 use Rattle.mail_script.specs.declared.script.Keyword.{Keyword}
-use Rattle.mail_script.specs.declared.script.Keyword.TheVariants.{Node as NodeWord, Now as NowWord, Open as OpenWord, Line as LineWord, Send as SendWord, Poll as PollWord, Close as CloseWord, Show as ShowWord, Deliver as DeliverWord, Forge as ForgeWord, Drain as DrainWord, Agree as AgreeWord}
+use Rattle.mail_script.specs.declared.script.Keyword.TheVariants.{Node as NodeWord, Now as NowWord, Open as OpenWord, Line as LineWord, Send as SendWord, Poll as PollWord, Close as CloseWord, Show as ShowWord, Deliver as DeliverWord, Forge as ForgeWord, Drain as DrainWord, Agree as AgreeWord, Join as JoinWord}
 use Rattle.mail_script.specs.declared.script.LineFault.{LineFault}
 use Rattle.mail_script.specs.declared.script.LineFault.TheVariants.{NotALine, NoMemory}
 use Rattle.mail_script.specs.declared.script.ScriptLine.{ScriptLine}
-use Rattle.mail_script.specs.declared.script.ScriptLine.TheVariants.{Blank, Node, Now, Open, Line, Send, Poll, Close, Show, Deliver, Forge, Drain, Settle, Agree}
+use Rattle.mail_script.specs.declared.script.ScriptLine.TheVariants.{Blank, Node, Now, Open, Line, Send, Poll, Close, Show, Deliver, Forge, Drain, Settle, Agree, Join}
 
 -- How the readers below take a line apart. What a line says is told by `Says`, and the laws join the two.
 
@@ -76,7 +76,8 @@ keyword_at word =
     else (if bytes_eq word (codes "forge") then Some ForgeWord
     else (if bytes_eq word (codes "drain") then Some DrainWord
     else (if bytes_eq word (codes "agree") then Some AgreeWord
-    else None)))))))))))
+    else (if bytes_eq word (codes "join") then Some JoinWord
+    else None))))))))))))
 
 -- What the fields behind `node` say.
 unfoldable pub node_at : Option (List ℕ × List ℕ) → List ℕ → Option ScriptLine
@@ -110,6 +111,14 @@ agree_at fields = do
   second ← replica_at parts.1
   Some (Agree first second)
 
+-- What the fields behind `join` say.
+unfoldable pub join_at : List ℕ → Option ScriptLine
+join_at fields = do
+  parts ← cut_at 32 fields
+  replica ← replica_at parts.0
+  peer ← replica_at parts.1
+  Some (Join replica peer)
+
 -- What the fields behind `forge` say.
 unfoldable pub forge_at : List ℕ → Option ScriptLine
 forge_at fields = do
@@ -131,6 +140,7 @@ fields_at DeliverWord fields = deliver_at fields
 fields_at ForgeWord fields = forge_at fields
 fields_at DrainWord fields = replica_at fields >>= (λ replica. Some (Drain replica))
 fields_at AgreeWord fields = agree_at fields
+fields_at JoinWord fields = join_at fields
 
 -- What a line of a word and its fields says.
 unfoldable pub words_at : List ℕ → Option ScriptLine

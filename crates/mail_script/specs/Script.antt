@@ -4,7 +4,7 @@ use Rattle.imap_types.specs.Escape.{AreOctets, escaped}
 use Rattle.imap_types.specs.declared.escape.Escape.TheVariants.{Text}
 use Rattle.mail_script.specs.Fields.{IsFirstK, IsFirstUid, IsMoment, IsNumber, IsReplica, id_text, is_session_name}
 use Rattle.mail_script.specs.declared.script.ScriptLine.{ScriptLine}
-use Rattle.mail_script.specs.declared.script.ScriptLine.TheVariants.{Blank, Node, Now, Open, Line, Send, Poll, Close, Show, Deliver, Forge, Drain, Settle, Agree}
+use Rattle.mail_script.specs.declared.script.ScriptLine.TheVariants.{Blank, Node, Now, Open, Line, Send, Poll, Close, Show, Deliver, Forge, Drain, Settle, Agree, Join}
 
 -- The numbers with which a replica's counters begin, behind its own.
 abbrev pub first_numbers_text : ℕ → ℕ → List ℕ
@@ -28,3 +28,4 @@ Says line (Forge replica operation) = IsReplica replica × (line ≡ codes "forg
 Says line (Drain replica) = IsReplica replica × (line ≡ codes "drain " ++ decimal replica)
 Says line Settle = line ≡ codes "settle"
 Says line (Agree first second) = IsReplica first × IsReplica second × (line ≡ codes "agree " ++ (decimal first ++ 32 ∷ decimal second))
+Says line (Join replica peer) = IsReplica replica × IsReplica peer × (line ≡ codes "join " ++ (decimal replica ++ 32 ∷ decimal peer))

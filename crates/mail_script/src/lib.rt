@@ -9,7 +9,9 @@ mod session_name;
 mod transcript;
 
 pub use lines::{ScriptLines, cut_in_turn};
-pub use outcome::{BrokenRule, DeliveryResult, OutcomeLine, SettleResult, write_outcome};
+pub use outcome::{
+    BrokenRule, DeliveryResult, JoinResult, OutcomeLine, SettleResult, write_outcome,
+};
 pub use script::{LineFault, ScriptLine, one_meaning, read_line};
 pub use session_name::{MAX_SESSION_NAME_OCTETS, SessionName};
 pub use transcript::{Speaker, write_transcript_line};

@@ -3,7 +3,7 @@
 ghost use Rattle.std.specs.Prelude.{◌≡◌, ◌++◌, ℕ, List, [], ◌∷◌, OnErr, OnOk};
 ghost use Rattle.std.specs.Fmt.{decimal};
 ghost use Rattle.mail_script.specs.Fields.{id_text};
-ghost use Rattle.mail_script.specs.Outcomes.{outcome_line, outcome_text, applied_text, compared_text, delivery_text, result_text, rule_text, settled_text, stalled_text, yes_or_no};
+ghost use Rattle.mail_script.specs.Outcomes.{outcome_line, outcome_text, applied_text, delivery_text, join_text, pair_text, result_text, rule_text, settled_text, stalled_text, yes_or_no};
 
 use std::alloc::AllocError;
 use tags_clocks::{OpId, ReplicaId};
@@ -35,6 +35,19 @@ pub enum SettleResult {
     Done,
     /// Two replicas received different operations with this id, the least such; nothing was delivered.
     Conflict { id: OpId },
+    /// A counter is at its end.
+    Exhausted,
+    /// There is no memory for it.
+    NoMemory,
+}
+
+/// What came of a replica's beginning with what another one applied.
+#[derive(Clone, Copy, Debug, PartialEq, Eq)]
+pub enum JoinResult {
+    /// The replica is there.
+    Done,
+    /// The other one applied operations of the replica that would begin; this id is the least of theirs.
+    Own { id: OpId },
     /// A counter is at its end.
     Exhausted,
     /// There is no memory for it.
@@ -90,6 +103,12 @@ pub enum OutcomeLine {
         first: ReplicaId,
         second: ReplicaId,
         same: bool,
+    },
+    /// `join R S: Ok` and the like; R is the replica that begins, S the one whose operations it takes.
+    Joined {
+        replica: ReplicaId,
+        peer: ReplicaId,
+        result: JoinResult,
     },
     /// `bad script: line N`, lines from 1
     BadScript {
@@ -170,8 +189,17 @@ fn push_text(outcome: OutcomeLine, out: &mut Vec<u8>) -> Result<(), AllocError>
             same,
         } => {
             push(b"agree ", out)?;
-            push_compared(first, second, out)?;
+            push_pair(first, second, out)?;
             push(yes_or_no(same), out)
+        }
+        OutcomeLine::Joined {
+            replica,
+            peer,
+            result,
+        } => {
+            push(b"join ", out)?;
+            push_pair(replica, peer, out)?;
+            push_joined(result, out)
         }
         OutcomeLine::BadScript { line } => {
             push(b"bad script: line ", out)?;
@@ -242,9 +270,24 @@ fn push_settled(settled: SettleResult, out: &mut Vec<u8>) -> Result<(), AllocErr
     }
 }
 
-/// Appends which two replicas are compared.
-fn push_compared(first: ReplicaId, second: ReplicaId, out: &mut Vec<u8>) -> Result<(), AllocError>
-    ensures ok { OnOk result (out.new.items ≡ out.old.items ++ compared_text first second) }
+fn push_joined(joined: JoinResult, out: &mut Vec<u8>) -> Result<(), AllocError>
+    ensures ok { OnOk result (out.new.items ≡ out.old.items ++ join_text joined) }
+    ensures kept { (more : List ℕ) × (out.new.items ≡ out.old.items ++ more) }
+{
+    match joined {
+        JoinResult::Done => push(b"Ok", out),
+        JoinResult::Own { id } => {
+            push(b"Own ", out)?;
+            push_id(id, out)
+        }
+        JoinResult::Exhausted => push(b"Exhausted", out),
+        JoinResult::NoMemory => push(b"NoMemory", out),
+    }
+}
+
+/// Appends of which two replicas something is told.
+fn push_pair(first: ReplicaId, second: ReplicaId, out: &mut Vec<u8>) -> Result<(), AllocError>
+    ensures ok { OnOk result (out.new.items ≡ out.old.items ++ pair_text first second) }
     ensures kept { (more : List ℕ) × (out.new.items ≡ out.old.items ++ more) }
 {
     push_number(u64::from(first.get()), out)?;

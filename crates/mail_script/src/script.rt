@@ -3,7 +3,7 @@
 ghost use Rattle.std.specs.Prelude.{◌≡◌, ℕ, List, IfOk, MatchResult};
 ghost use Rattle.mail_script.specs.declared.script.ScriptLine.{ScriptLine as Meaning};
 ghost use Rattle.mail_script.specs.declared.script.LineFault.TheVariants.{NoMemory};
-ghost use Rattle.mail_script.specs.Reading.{Gives, agree_at, cut_at, deliver_at, fields_at, forge_at, keyword_at, line_at, node_at, open_at, word_or_words_at, words_at};
+ghost use Rattle.mail_script.specs.Reading.{Gives, agree_at, cut_at, deliver_at, fields_at, forge_at, join_at, keyword_at, line_at, node_at, open_at, word_or_words_at, words_at};
 ghost use Rattle.mail_script.specs.Script.{Says};
 
 use crate::fields::{cut, first_numbers, id, moment, replica, session, spoken};
@@ -77,6 +77,11 @@ pub enum ScriptLine {
         first: ReplicaId,
         second: ReplicaId,
     },
+    /// `join R S` declares a replica that begins with what a declared one applied.
+    Join {
+        replica: ReplicaId,
+        peer: ReplicaId,
+    },
 }
 
 /// Why a line isn't read.
@@ -130,6 +135,7 @@ pub enum Keyword {
     Forge,
     Drain,
     Agree,
+    Join,
 }
 
 /// What a line says, which is given without its LF; a CR before the LF belongs to it. `NotALine` exactly where the line
@@ -207,6 +213,8 @@ fn read_keyword(word: &[u8]) -> Result<Keyword, LineFault>
         Ok(Keyword::Drain)
     } else if word == b"agree".as_slice() {
         Ok(Keyword::Agree)
+    } else if word == b"join".as_slice() {
+        Ok(Keyword::Join)
     } else {
         Err(LineFault::NotALine)
     }
@@ -249,6 +257,7 @@ fn after_keyword(alloc: Global, keyword: Keyword, fields: &[u8]) -> Result<Scrip
             Ok(ScriptLine::Drain { replica })
         }
         Keyword::Agree => agree(fields),
+        Keyword::Join => join(fields),
     }
 }
 
@@ -301,6 +310,19 @@ fn agree(fields: &[u8]) -> Result<ScriptLine, LineFault>
     let first = replica(one)?;
     let second = replica(other)?;
     Ok(ScriptLine::Agree { first, second })
+}
+
+#[tactic(auto, unfolding(crate::specs::Reading::join_at))]
+fn join(fields: &[u8]) -> Result<ScriptLine, LineFault>
+    ensures { Gives (λ said. said) result (join_at fields.now) }
+{
+    let (one, other) = cut(b' ', fields)?;
+    let joining = replica(one)?;
+    let peer = replica(other)?;
+    Ok(ScriptLine::Join {
+        replica: joining,
+        peer,
+    })
 }
 
 #[tactic(auto, unfolding(crate::specs::Reading::forge_at))]

@@ -1,10 +1,14 @@
-use Rattle.std.specs.Prelude.{◌≡◌, ◌⊎◌, ◌||◌, Bool, true, false, List, [], ◌∷◌, map, Some, Ok, Err}
+use Rattle.std.specs.Prelude.{◌≡◌, ◌⊎◌, ◌||◌, ℕ, Bool, true, false, List, [], ◌∷◌, map, Some, Ok, Err}
 use Rattle.causal_inbox.specs.declared.answers.Arrival.{Arrival}
 use Rattle.causal_inbox.specs.declared.answers.Arrival.TheVariants.{Applied, Held, Repeat}
 use Rattle.causal_inbox.specs.declared.answers.DeliverFault.TheVariants.{Conflict}
+use Rattle.causal_inbox.specs.Seen.{IsClockOf, uncovered}
 use Rattle.crdt_ops.specs.declared.op.Op.{Op}
+use Rattle.merge_laws.specs.Orders.{IsCausal}
 use Rattle.replica_links.specs.declared.took.Took.{Took}
+use Rattle.replica_lock.specs.Joins.{clock_of, id_of}
 use Rattle.replica_lock.specs.Passes.{Held as PassHeld, IsCalled}
+use Rattle.replica_lock.specs.declared.event.BookEvent.TheVariants.{Deliver, Drain}
 use Rattle.replica_lock.specs.declared.outcome.Outcome.{Outcome}
 use Rattle.replica_lock.specs.declared.outcome.Outcome.TheVariants.{Delivered}
 
@@ -51,8 +55,61 @@ took_of (Delivered (Ok receipt)) = record { lacking = is_held receipt.arrival; s
 took_of (Delivered (Err (Conflict id))) = nothing
 took_of _ = lacking
 
--- A replica behind its lock took a delivery by one call, which its pass noted; or there was no call, and the operation is lacking.
-abbrev pub IsTakenBy : PassHeld → Took → PassHeld → Type 0
-IsTakenBy p took q =
-    (IsCalled p q × ((outcome : Outcome) × (q.last ≡ Some outcome) × (took ≡ took_of outcome)))
+-- A replica behind its lock took an operation by one call that delivers just it, which its pass noted; or there was no call, and the operation is lacking.
+abbrev pub IsTakenBy : PassHeld → Op → Took → PassHeld → Type 0
+IsTakenBy p op took q =
+    (IsCalled p (Deliver op) q × ((outcome : Outcome) × (q.last ≡ Some outcome) × (took ≡ took_of outcome)))
     ⊎ ((q ≡ p) × (took ≡ lacking))
+
+-- Behind a delivery that stalled one call goes on with what is held.
+abbrev pub IsDrained : {S : Type 0} → (S → S → Type 0) → S → Bool → S → Type 0
+IsDrained drains s true t = drains s t
+IsDrained drains s false t = s ≡ t
+
+-- The sender is asked, once, for all that the replica's clock doesn't cover; not at all where there is no memory for the clock.
+abbrev pub MayAsk : {S P : Type 0} → (S → Type 0) → (S → List (ℕ × ℕ) → Type 0) → (P → ℕ → List (ℕ × ℕ) → P → Type 0) → S → P → ℕ → P → Type 0
+MayAsk lacks has asks s p from q = ((clock : List (ℕ × ℕ)) × has s clock × asks p from clock q) ⊎ (lacks s × (p ≡ q))
+
+-- Each of these replicas is asked so, one behind the other.
+abbrev pub AreAsked : {S P : Type 0} → (S → Type 0) → (S → List (ℕ × ℕ) → Type 0) → (P → ℕ → List (ℕ × ℕ) → P → Type 0) → S → P → List ℕ → P → Type 0
+AreAsked lacks has asks s p [] q = p ≡ q
+AreAsked {S} {P} lacks has asks s p (to ∷ rest) q = (next : P) × MayAsk lacks has asks s p to next × AreAsked lacks has asks s next rest q
+
+-- It is asked where something is lacking, and only there.
+abbrev pub IsAsked : {S P : Type 0} → (S → Type 0) → (S → List (ℕ × ℕ) → Type 0) → (P → ℕ → List (ℕ × ℕ) → P → Type 0) → S → P → ℕ → Bool → P → Type 0
+IsAsked lacks has asks s p from true q = MayAsk lacks has asks s p from q
+IsAsked lacks has asks s p from false q = p ≡ q
+
+-- What becomes of a message of operations: they are handed on, each once and in their order; where one stalled, held ones are gone on with; and where one is
+-- lacking the sender is asked for it.
+pub record IsTaken {S P : Type 0} (takes : S → Op → Took → S → Type 0) (drains : S → S → Type 0) (lacks : S → Type 0) (has : S → List (ℕ × ℕ) → Type 0) (asks : P → ℕ → List (ℕ × ℕ) → P → Type 0) (s : S) (p : P) (from : ℕ) (ops : List Op) (t : S) (q : P) : Type 0 where
+  pub took : Took
+  pub between : S
+  pub handed : Takes takes s ops took between
+  pub drained : IsDrained drains between took.stalled t
+  pub asked : IsAsked lacks has asks t p from took.lacking q
+
+-- Operations are handed to a replica, if there are any.
+abbrev pub MayHand : {P : Type 0} → (P → ℕ → List Op → P → Type 0) → P → ℕ → List Op → P → Type 0
+MayHand hands p to [] q = p ≡ q
+MayHand hands p to (op ∷ ops) q = hands p to (op ∷ ops) q
+
+-- What becomes of a message that asks: the sender is handed what the replica gives for its clock, and nothing where there is no memory for it.
+abbrev pub IsAnswered : {S P : Type 0} → (S → Type 0) → (S → List (ℕ × ℕ) → List Op → Type 0) → (P → ℕ → List Op → P → Type 0) → S → P → ℕ → List (ℕ × ℕ) → P → Type 0
+IsAnswered lacks gives hands s p from clock q = ((ops : List Op) × gives s clock ops × MayHand hands p from ops q) ⊎ (lacks s × (p ≡ q))
+
+-- A replica behind its lock went on with what it holds by one call, which its pass noted; or there was no call.
+abbrev pub IsDrainedBy : PassHeld → PassHeld → Type 0
+IsDrainedBy p q = IsCalled p Drain q ⊎ (q ≡ p)
+
+-- The clock of a list that the replica had applied when it was asked.
+abbrev pub IsClockHad : List (ℕ × ℕ) → Type 0
+IsClockHad clock = (applied : List Op) × IsCausal id_of clock_of applied × IsClockOf id_of applied clock
+
+-- Those of the operations that a replica had applied when it was asked which the clock doesn't cover, in their order.
+abbrev pub AreGiven : List (ℕ × ℕ) → List Op → Type 0
+AreGiven clock ops = (applied : List Op) × IsCausal id_of clock_of applied × (ops ≡ uncovered id_of clock applied)
+
+-- Want of memory is nothing that a caller of a replica behind its lock could know.
+abbrev pub MayLack : PassHeld → Type 0
+MayLack p = Unit {0}

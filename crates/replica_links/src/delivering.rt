@@ -1,7 +1,7 @@
 //! A replica behind its lock that takes operations.
 
-ghost use Rattle.std.specs.Prelude.{◌≡◌};
-ghost use Rattle.replica_links.specs.Links.{IsTakenBy, took_of};
+ghost use Rattle.std.specs.Prelude.{◌≡◌, None};
+ghost use Rattle.replica_links.specs.Links.{AreGiven, IsClockHad, IsDrainedBy, IsTakenBy, MayLack, took_of};
 
 use crate::handing::Taker;
 use crate::took::Took;
@@ -12,6 +12,7 @@ use std::alloc::Global;
 use std::marker::Model;
 use std::sync::Wait;
 use std::sync::ledger::Ledger;
+use tags_clocks::Clock;
 
 /// Delivers operations to a replica behind its lock, each by one call that its pass notes.
 #[derive(Drop)]
@@ -31,13 +32,14 @@ impl<'a, L: Ledger, R: Wait> Model for ReplicaTaker<'a, L, R> {
 }
 
 impl<'a, L: Ledger, R: Wait> ReplicaTaker<'a, L, R> {
-    /// Deliveries to this replica, noted in this pass.
+    /// Deliveries to this replica, noted in this pass, which is no session's.
     pub fn new(
         rt: &'a R,
         alloc: Global,
         shared: &'a Shared<L>,
         pass: Pass<L>,
     ) -> ReplicaTaker<'a, L, R>
+        requires { pass.session ≡ None }
         ensures { result ≡ pass }
     {
         ReplicaTaker {
@@ -63,7 +65,15 @@ impl<'a, L: Ledger, R: Wait> ReplicaTaker<'a, L, R> {
 }
 
 impl<'a, L: Ledger, R: Wait> Taker for ReplicaTaker<'a, L, R> {
-    ghost takes = { λ s op took t. IsTakenBy s took t };
+    ghost takes = { λ s op took t. IsTakenBy s op took t };
+
+    ghost drains = { λ s t. IsDrainedBy s t };
+
+    ghost has = { λ s clock. IsClockHad clock };
+
+    ghost gives = { λ s clock ops. AreGiven clock ops };
+
+    ghost lacks = { λ s. MayLack s };
 
     fn deliver(&mut self, op: SoundOp) -> Took {
         let called = self.shared.deliver(self.rt, self.alloc, &mut self.pass, op);
@@ -74,6 +84,18 @@ impl<'a, L: Ledger, R: Wait> Taker for ReplicaTaker<'a, L, R> {
             Some(outcome) => took_of(outcome),
             None => Took::lacking(),
         }
+    }
+
+    fn drain(&mut self) {
+        let _ = self.shared.drain(self.rt, self.alloc, &mut self.pass);
+    }
+
+    fn clock(&self) -> Option<Clock> {
+        self.shared.clock(self.rt, self.alloc).ok()
+    }
+
+    fn ops_since(&self, clock: &Clock) -> Option<Vec<SoundOp>> {
+        self.shared.ops_since(self.rt, self.alloc, clock).ok()
     }
 }
 

@@ -1,9 +1,10 @@
-use Rattle.std.specs.Prelude.{◌≡◌, ◌↔◌, ℕ, ◌<◌, ◌≤◌, IsTrue, Bool, false, [], Option, Some, is_some, Result, Ok, Err}
+use Rattle.std.specs.Prelude.{◌≡◌, ◌↔◌, ℕ, ◌<◌, ◌≤◌, IsTrue, Bool, false, [], is_some, Result, Ok, Err}
 use Rattle.causal_inbox.specs.declared.answers.DeliverFault.{DeliverFault}
 use Rattle.causal_inbox.specs.declared.answers.Delivered.{Delivered as Receipt}
 use Rattle.crdt_ops.specs.declared.op.Op.{Op}
 use Rattle.imap_node.specs.Deliveries.{Delivers, Drains, HoldsRipe, IsRefusedAt}
 use Rattle.imap_node.specs.Nodes.{Idles, NodeState, closed}
+use Rattle.imap_node.specs.Replies.{is_done}
 use Rattle.imap_node.specs.Respond.{Responds}
 use Rattle.imap_node.specs.Sessions.{IsOpen, Opens, session_at}
 use Rattle.imap_node.specs.declared.input.Input.{Input}
@@ -20,6 +21,11 @@ use Rattle.uid_projection.specs.declared.start.Start.{Start}
 -- A node that has received nothing, without sessions, and with these first numbers.
 abbrev pub unused_node : Start → NodeState
 unused_node start = record { start = start; applied = []; held = []; sessions = [] }
+
+-- Whether a copy of an outcome takes memory: only that of a reply that was carried out does.
+abbrev pub takes_memory : Outcome → Bool
+takes_memory (Replied reply) = is_done reply
+takes_memory _ = false
 
 -- A session takes this input: a command where it is open and doesn't idle, a line or a poll where it idles (RFC 2177, section 3).
 abbrev pub Awaits : NodeState → ℕ → Input → Type 0

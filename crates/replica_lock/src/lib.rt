@@ -1,7 +1,7 @@
 //! A replica behind a lock, with the journal of what happened there.
 //!
 //! A [`Book`] is a replica and its journal, and grows by one entry a step. [`Shared`] keeps it under a lock: threads that call it make a
-//! history that one thread could have made, and that history is the journal. Each caller has a [`Pass`], which counts its calls; the
+//! history that one thread could have made, and that history is the journal. [`Book::join`] makes the book of a replica that joins while others run. Each caller has a [`Pass`], which counts its calls; the
 //! passes of a replica together count its journal's entries.
 #![tactic(auto)]
 
@@ -9,6 +9,7 @@ mod book;
 mod comparing;
 mod event;
 mod faults;
+mod joining;
 mod laws;
 mod locked;
 mod outcome;
@@ -18,7 +19,7 @@ mod stepping;
 
 pub use book::{Book, Entry};
 pub use event::BookEvent;
-pub use faults::{CallFault, FinishFault, NoRoom};
+pub use faults::{CallFault, FinishFault, JoinFault, NoRoom};
 pub use laws::same_operations_hold_the_same;
 pub use outcome::Outcome;
 pub use pass::Pass;

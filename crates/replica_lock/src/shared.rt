@@ -1,6 +1,10 @@
 //! A replica that threads share.
 
 ghost use Rattle.std.specs.Prelude.{◌≡◌, ◌≢◌, OnOk, OnErr, IfOk, IfErr, IsSome, List, None, length, false};
+ghost use Rattle.causal_inbox.specs.Seen.{IsClockOf, uncovered};
+ghost use Rattle.crdt_ops.specs.declared.op.Op.{Op as Operation};
+ghost use Rattle.merge_laws.specs.Orders.{IsCausal};
+ghost use Rattle.replica_lock.specs.Joins.{clock_of, id_of};
 
 use crate::book::Book;
 use crate::event::BookEvent;
@@ -11,9 +15,11 @@ use crdt_ops::SoundOp;
 use imap_grammar::{IdleLine, Tagged};
 use imap_node::Auth;
 use imap_types::Moment;
-use std::alloc::Global;
+use merge_laws::Caused;
+use std::alloc::{AllocError, Global};
 use std::sync::ledger::{Blank, Ledger};
 use std::sync::{Condvar, Mutex, Wait};
+use tags_clocks::Clock;
 
 /// What is passed on the way, so that a test can say in which order threads go on.
 pub trait Gate {
@@ -29,8 +35,9 @@ pub struct Shared<L: Ledger> {
 }
 
 impl<L: Ledger> Shared<L> {
-    ghost use Rattle.replica_lock.specs.Passes.{Denies, Fits, IsCalled, IsRefused, is_missing, parts_of, unused};
+    ghost use Rattle.replica_lock.specs.Passes.{Denies, Fits, IsCalled, IsCalledIn, IsRefused, is_missing, parts_of, unused};
     ghost use Rattle.replica_lock.specs.declared.book.Entry.{Entry as Record};
+    ghost use Rattle.replica_lock.specs.declared.event.BookEvent.TheVariants as events;
 
     /// Puts a replica under a lock. The pass counts the entries that are there, and all others are cut from it.
     pub fn new(blank: Blank, book: Book) -> (Shared<L>, Pass<L>)
@@ -56,7 +63,7 @@ impl<L: Ledger> Shared<L> {
         pass: &mut Pass<L>,
         event: BookEvent,
     ) -> Result<(), CallFault>
-        ensures called { OnOk result (IsCalled pass.old pass.new) }
+        ensures called { OnOk result (IsCalled pass.old event pass.new) }
         ensures unchanged { OnErr result (pass.new ≡ pass.old) }
         ensures refused { IfErr result (IsRefused pass.old.seen) }
     {
@@ -74,7 +81,7 @@ impl<L: Ledger> Shared<L> {
         auth: Auth,
     ) -> Result<(), CallFault>
         requires { pass.old.session ≡ None }
-        ensures called { OnOk result (IsCalled pass.old pass.new) }
+        ensures called { OnOk result (IsCalled pass.old (events.Open auth) pass.new) }
         ensures unchanged { OnErr result (pass.new ≡ pass.old) }
         ensures refused { IfErr result (IsRefused pass.old.seen) }
     {
@@ -91,7 +98,7 @@ impl<L: Ledger> Shared<L> {
         tagged: Tagged,
     ) -> Result<(), CallFault>
         requires { IsSome pass.old.session }
-        ensures called { OnOk result (IsCalled pass.old pass.new) }
+        ensures called { OnOk result (IsCalledIn pass.old (λ n. events.Command n moment tagged) pass.new) }
         ensures unchanged { OnErr result (pass.new ≡ pass.old) }
         ensures refused { IfErr result (IsRefused pass.old.seen) }
     {
@@ -115,7 +122,7 @@ impl<L: Ledger> Shared<L> {
         line: IdleLine,
     ) -> Result<(), CallFault>
         requires { IsSome pass.old.session }
-        ensures called { OnOk result (IsCalled pass.old pass.new) }
+        ensures called { OnOk result (IsCalledIn pass.old (λ n. events.Line n line) pass.new) }
         ensures unchanged { OnErr result (pass.new ≡ pass.old) }
         ensures refused { IfErr result (IsRefused pass.old.seen) }
     {
@@ -128,7 +135,7 @@ impl<L: Ledger> Shared<L> {
     /// Tells the pass's session, in IDLE, what changed.
     pub fn poll<R: Wait>(&self, rt: &R, alloc: Global, pass: &mut Pass<L>) -> Result<(), CallFault>
         requires { IsSome pass.old.session }
-        ensures called { OnOk result (IsCalled pass.old pass.new) }
+        ensures called { OnOk result (IsCalledIn pass.old (λ n. events.Poll n) pass.new) }
         ensures unchanged { OnErr result (pass.new ≡ pass.old) }
         ensures refused { IfErr result (IsRefused pass.old.seen) }
     {
@@ -146,7 +153,7 @@ impl<L: Ledger> Shared<L> {
         pass: &mut Pass<L>,
         op: SoundOp,
     ) -> Result<(), CallFault>
-        ensures called { OnOk result (IsCalled pass.old pass.new) }
+        ensures called { OnOk result (IsCalled pass.old (events.Deliver op) pass.new) }
         ensures unchanged { OnErr result (pass.new ≡ pass.old) }
         ensures refused { IfErr result (IsRefused pass.old.seen) }
     {
@@ -155,7 +162,7 @@ impl<L: Ledger> Shared<L> {
 
     /// Goes on with held operations whose causes were applied.
     pub fn drain<R: Wait>(&self, rt: &R, alloc: Global, pass: &mut Pass<L>) -> Result<(), CallFault>
-        ensures called { OnOk result (IsCalled pass.old pass.new) }
+        ensures called { OnOk result (IsCalled pass.old events.Drain pass.new) }
         ensures unchanged { OnErr result (pass.new ≡ pass.old) }
         ensures refused { IfErr result (IsRefused pass.old.seen) }
     {
@@ -165,7 +172,7 @@ impl<L: Ledger> Shared<L> {
     /// Closes the pass's session.
     pub fn close<R: Wait>(&self, rt: &R, alloc: Global, pass: &mut Pass<L>) -> Result<(), CallFault>
         requires { IsSome pass.old.session }
-        ensures called { OnOk result (IsCalled pass.old pass.new) }
+        ensures called { OnOk result (IsCalledIn pass.old (λ n. events.Close n) pass.new) }
         ensures unchanged { OnErr result (pass.new ≡ pass.old) }
         ensures refused { IfErr result (IsRefused pass.old.seen) }
     {
@@ -191,6 +198,40 @@ impl<L: Ledger> Shared<L> {
         self.locked.lock(rt).book().stirred(from, to)
     }
 
+    /// Copies of the operations that the replica applied, in their order; `Err` where there is no memory for them. It takes the lock, makes no entry, and leaves the
+    /// pass as it is.
+    pub fn ops_copy<R: Wait>(
+        &self,
+        rt: &R,
+        alloc: Global,
+        _pass: &Pass<L>,
+    ) -> Result<Vec<SoundOp>, AllocError>
+        ensures { IfOk result (λ ops. IsCausal id_of clock_of ops.items) }
+    {
+        let locked = self.locked.lock(rt);
+        copies(alloc, locked.book().node().op_list())
+    }
+
+    /// A copy of the clock that counts the operations that the replica applied; `Err` where there is no memory for it. It takes the lock, and makes no entry.
+    pub fn clock<R: Wait>(&self, rt: &R, alloc: Global) -> Result<Clock, AllocError>
+        ensures { IfOk result (λ clock. (applied : List Operation) × IsCausal id_of clock_of applied × IsClockOf id_of applied clock) }
+    {
+        clock_in(alloc, self.locked.lock(rt).book())
+    }
+
+    /// Copies of the operations applied that the clock doesn't cover, in their order; `Err` where there is no memory for them. It takes the lock, and makes no
+    /// entry.
+    pub fn ops_since<R: Wait>(
+        &self,
+        rt: &R,
+        alloc: Global,
+        clock: &Clock,
+    ) -> Result<Vec<SoundOp>, AllocError>
+        ensures { IfOk result (λ ops. (applied : List Operation) × IsCausal id_of clock_of applied × (ops.items ≡ uncovered id_of clock.now applied)) }
+    {
+        ops_in(alloc, self.locked.lock(rt).book(), clock)
+    }
+
     /// Takes the lock away and hands the book out, where the passes are all there. `Missing` where one is lacking, `Strange` where a pass
     /// keeps another outcome than its call's.
     pub fn finish(self, passes: Vec<Pass<L>>) -> Result<Book, FinishFault>
@@ -209,4 +250,33 @@ impl<L: Ledger> Shared<L> {
         gate.pass(n);
         drop(locked);
     }
+}
+
+/// A copy of the clock that counts the operations applied.
+fn clock_in(alloc: Global, book: &Book) -> Result<Clock, AllocError>
+    ensures clock { IfOk result (λ clock. IsClockOf id_of book.now.node.applied clock) }
+    ensures causal { IsCausal id_of clock_of book.now.node.applied }
+{
+    let _ops = book.node().op_list();
+    book.node().clock().copy(alloc)
+}
+
+/// Copies of the operations applied that the clock doesn't cover, in their order.
+fn ops_in(alloc: Global, book: &Book, clock: &Clock) -> Result<Vec<SoundOp>, AllocError>
+    ensures ops { IfOk result (λ ops. ops.items ≡ uncovered id_of clock.now book.now.node.applied) }
+    ensures causal { IsCausal id_of clock_of book.now.node.applied }
+{
+    let _ops = book.node().op_list();
+    book.node().ops_since(alloc, clock)
+}
+
+/// Copies of the operations, in their order.
+fn copies(alloc: Global, ops: &[SoundOp]) -> Result<Vec<SoundOp>, AllocError>
+    ensures { IfOk result (λ copied. copied.items ≡ ops.now) }
+{
+    let mut copied = Vec::with_capacity(alloc, ops.len())?;
+    for op in ops {
+        copied.push(op.copy(alloc)?)?;
+    }
+    Ok(copied)
 }

@@ -15,7 +15,7 @@ pub fn cut(text: &str) -> (&str, &str) {
     text.split_once(' ').unwrap_or((text, ""))
 }
 
-/// The event that a line says: `open R`, `command R S TEXT`, `line R S TEXT`, `poll R S`, `deliver R ID`, `drain R` or `close R S`.
+/// The event that a line says: `open R`, `command R S TEXT`, `line R S TEXT`, `poll R S`, `deliver R ID`, `drain R`, `close R S` or `join R S`.
 pub fn event(alloc: Global, line: &str) -> Result<Event, Trouble> {
     let (word, rest) = cut(line);
     match word {
@@ -27,8 +27,17 @@ pub fn event(alloc: Global, line: &str) -> Result<Event, Trouble> {
             at: replica_in(rest)?,
         }),
         "deliver" => delivery(rest),
+        "join" => joining(rest),
         _ => said(alloc, word, rest),
     }
+}
+
+fn joining(text: &str) -> Result<Event, Trouble> {
+    let (name, peer) = cut(text);
+    Ok(Event::Join {
+        name: replica_in(name)?,
+        peer: replica_in(peer)?,
+    })
 }
 
 fn delivery(text: &str) -> Result<Event, Trouble> {

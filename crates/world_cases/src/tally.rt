@@ -70,7 +70,10 @@ impl Tally {
             Outcome::Drained { .. } => self.has_drained = true,
             Outcome::Closed => self.has_closed = true,
             Outcome::PassedOver => self.has_passed = true,
-            Outcome::TurnedAway { .. } | Outcome::NotTaken { .. } => self.has_strange = true,
+            Outcome::Joined => {}
+            Outcome::TurnedAway { .. } | Outcome::NotTaken { .. } | Outcome::NotJoined { .. } => {
+                self.has_strange = true
+            }
         }
         !matches!(outcome, Outcome::PassedOver)
     }

@@ -9,7 +9,7 @@ use imap_print::print;
 use imap_types::Octets;
 use merge_laws::Caused;
 use std::alloc::{AllocError, Global};
-use world_core::Outcome;
+use world_core::{JoinRefusal, Outcome};
 
 /// Tells the line of an event, and what came of it.
 pub fn tell(alloc: Global, line: &str, outcome: &Outcome, page: &mut Words) {
@@ -24,8 +24,17 @@ pub fn tell(alloc: Global, line: &str, outcome: &Outcome, page: &mut Words) {
         Outcome::Drained { drained } => tell_drained(*drained, page),
         Outcome::Closed => page.put(" Closed"),
         Outcome::PassedOver => page.put(" PassedOver"),
+        Outcome::Joined => page.put(" Joined"),
+        Outcome::NotJoined { fault } => page.put(not_joined(*fault)),
     }
     page.put("\n");
+}
+
+fn not_joined(fault: JoinRefusal) -> &'static str {
+    match fault {
+        JoinRefusal::Exhausted => " NotJoined Exhausted",
+        JoinRefusal::NoMemory => " NotJoined NoMemory",
+    }
 }
 
 fn turned_away(fault: OpenFault) -> &'static str {

@@ -11,14 +11,35 @@ use tags_clocks::ReplicaId;
 use uid_projection::Start;
 use world_core::{Event, Outcomes, World, WorldFault, run};
 
+/// The replicas behind all that happened so far.
+#[derive(Drop)]
+enum Behind {
+    /// Nothing was run.
+    Nothing,
+    /// A world, in which more can happen.
+    World(World),
+    /// What settling left.
+    Settled(Vec<Node>),
+}
+
+impl Behind {
+    fn nodes(&self) -> &[Node] {
+        match self {
+            Behind::Nothing => &[],
+            Behind::World(world) => world.nodes(),
+            Behind::Settled(nodes) => nodes,
+        }
+    }
+}
+
 /// A worked world as far as it was read.
 #[derive(Drop)]
 struct Worked<'a> {
     starts: Vec<Start>,
+    /// What happens in the next run, and the lines that say so.
     lines: Vec<&'a str>,
     events: Vec<Event>,
-    /// The nodes behind all events.
-    nodes: Vec<Node>,
+    behind: Behind,
 }
 
 impl<'a> Worked<'a> {
@@ -27,7 +48,7 @@ impl<'a> Worked<'a> {
             starts: Vec::new(alloc),
             lines: Vec::new(alloc),
             events: Vec::new(alloc),
-            nodes: Vec::new(alloc),
+            behind: Behind::Nothing,
         }
     }
 }
@@ -75,11 +96,12 @@ fn take_asked<'a>(
             Ok(())
         }
         "run" => run_lines(alloc, worked, page),
+        "add" => add(alloc, asked, rest, &mut worked.behind, page),
         "settle" => {
-            tell_answer(asked, ended(alloc, &mut worked.nodes), page);
+            settle(alloc, asked, worked, page);
             Ok(())
         }
-        "agree" => tell_agreement(asked, rest, &worked.nodes, page),
+        "agree" => tell_agreement(asked, rest, worked.behind.nodes(), page),
         "random" => tell_random(alloc, asked, rest, page),
         _ => {
             let event = event(alloc, asked)?;
@@ -102,43 +124,86 @@ fn tell_answer(asked: &str, answer: &str, page: &mut Words) {
     page.put("\n");
 }
 
-/// Takes all events so far in one run, and tells what came of each.
+/// Takes all events behind the last run in one run, and tells what came of each.
 fn run_lines(alloc: Global, worked: &mut Worked, page: &mut Words) -> Result<(), Trouble> {
-    let events = std::mem::replace(&mut worked.events, Vec::new(alloc));
+    match std::mem::replace(&mut worked.behind, Behind::Nothing) {
+        Behind::Nothing => begin(alloc, worked, page),
+        Behind::World(world) => {
+            run_world(alloc, worked, world, page);
+            Ok(())
+        }
+        Behind::Settled(nodes) => {
+            drop(nodes);
+            Err(Trouble::NotACase)
+        }
+    }
+}
+
+/// Takes the events in a new world.
+fn begin(alloc: Global, worked: &mut Worked, page: &mut Words) -> Result<(), Trouble> {
     if !are_from_one(&worked.starts) {
         return Err(Trouble::NotACase);
     }
     match World::new(alloc, &worked.starts) {
-        Ok(world) => run_world(alloc, worked, world, events, page),
-        Err(fault) => return tell_no_world(fault, page),
+        Ok(world) => run_world(alloc, worked, world, page),
+        Err(fault) => tell_no_world("run", fault, page),
     }
     Ok(())
 }
 
-fn run_world(
-    alloc: Global,
-    worked: &mut Worked,
-    world: World,
-    events: Vec<Event>,
-    page: &mut Words,
-) {
+fn run_world(alloc: Global, worked: &mut Worked, world: World, page: &mut Words) {
+    let events = std::mem::replace(&mut worked.events, Vec::new(alloc));
     let outcomes = run(alloc, world, events);
     tell_outcomes(alloc, &worked.lines, &outcomes, page);
-    worked.nodes = outcomes.world.into_nodes();
+    worked.lines.clear();
+    worked.behind = Behind::World(outcomes.world);
 }
 
-fn tell_no_world(fault: WorldFault, page: &mut Words) -> Result<(), Trouble> {
+/// Has a replica join the world by a call of its own, and tells what it answered.
+fn add(
+    alloc: Global,
+    asked: &str,
+    names: &str,
+    behind: &mut Behind,
+    page: &mut Words,
+) -> Result<(), Trouble> {
+    let (name, peer) = cut(names);
+    let name = replica_in(name)?;
+    let peer = replica_in(peer)?;
+    let Behind::World(world) = behind else {
+        return Err(Trouble::NotACase);
+    };
+    match world.join(alloc, name, peer) {
+        Ok(()) => tell_answer(asked, "Ok", page),
+        Err(fault) => tell_no_world(asked, fault, page),
+    }
+    Ok(())
+}
+
+/// Has the replicas exchange what they received. Nothing more happens in their world then.
+fn settle(alloc: Global, asked: &str, worked: &mut Worked, page: &mut Words) {
+    let mut nodes = match std::mem::replace(&mut worked.behind, Behind::Nothing) {
+        Behind::Nothing => Vec::new(alloc),
+        Behind::World(world) => world.into_nodes(),
+        Behind::Settled(nodes) => nodes,
+    };
+    tell_answer(asked, ended(alloc, &mut nodes), page);
+    worked.behind = Behind::Settled(nodes);
+}
+
+/// Tells why there is no such world, or no such replica in it.
+fn tell_no_world(asked: &str, fault: WorldFault, page: &mut Words) {
     match fault {
-        WorldFault::TwoAlike { id } => {
-            tell_alike(id, page);
-            Ok(())
-        }
-        WorldFault::NoMemory => Err(Trouble::NoMemory),
+        WorldFault::TwoAlike { id } => tell_alike(asked, id, page),
+        WorldFault::NoMemory => tell_answer(asked, "NoMemory", page),
+        WorldFault::NoPeer => tell_answer(asked, "NoPeer", page),
+        WorldFault::Exhausted => tell_answer(asked, "Exhausted", page),
     }
 }
 
-fn tell_alike(id: ReplicaId, page: &mut Words) {
-    page.put_number("run => TwoAlike ", u64::from(id.get()));
+fn tell_alike(asked: &str, id: ReplicaId, page: &mut Words) {
+    page.put(asked);
+    page.put_number(" => TwoAlike ", u64::from(id.get()));
     page.put("\n");
 }
 

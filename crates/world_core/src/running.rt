@@ -1,6 +1,6 @@
 //! Runs: events of a world, one after another.
 
-ghost use Rattle.std.specs.Prelude.{◌≡◌, ◌+◌, ◌≤◌, [], IsTrue, length, take, vec_capacity, vec_len};
+ghost use Rattle.std.specs.Prelude.{◌≡◌, ◌+◌, ◌≤◌, [], IsTrue, false, length, take, vec_capacity, vec_len};
 ghost use Rattle.world_core.specs.Headline.{Headline, NumbersLast};
 ghost use Rattle.world_core.specs.Moments.{Converges, IssuedAreDetermined, IssuedAreSound};
 ghost use Rattle.world_core.specs.Replicas.{by_name, states_of};
@@ -29,6 +29,7 @@ pub struct Outcomes {
 pub fn run(alloc: Global, world: World, events: Vec<Event>) -> Outcomes
     ensures steps { Runs (by_name world) (take (length result.list.items) events.items) result.list.items (by_name result.world) }
     ensures whole { IsTrue result.whole → length result.list.items ≡ length events.items }
+    ensures none { result.whole ≡ false → result.list.items ≡ [] }
     ensures determined { IssuedAreDetermined (by_name result.world) }
     ensures sound { IssuedAreSound (by_name result.world) }
     ensures converges { Converges (by_name result.world) }
@@ -55,6 +56,7 @@ fn run_whole(alloc: Global, world: World, events: Vec<Event>, list: Vec<Outcome>
     requires empty { list.items ≡ [] }
     requires room { vec_len list + length events.items ≤ vec_capacity list }
     ensures steps { Runs (by_name world) events.items result.list.items (by_name result.world) }
+    ensures whole { IsTrue result.whole }
     ensures for_good { NumbersLast (by_name world) (by_name result.world) }
     ensures headline { Headline (by_name world) events.items result.list.items (by_name result.world) }
 {
@@ -85,10 +87,10 @@ fn run_nodes(
 }
 
 /// Takes all events, one after another.
-fn run_all(alloc: Global, nodes: &mut [Node], events: Vec<Event>, list: &mut Vec<Outcome>)
+fn run_all(alloc: Global, nodes: &mut Vec<Node>, events: Vec<Event>, list: &mut Vec<Outcome>)
     requires empty { list.old.items ≡ [] }
     requires room { vec_len list.old + length events.items ≤ vec_capacity list.old }
-    ensures { Runs (by_name (states_of nodes.old)) events.items list.new.items (by_name (states_of nodes.new)) }
+    ensures { Runs (by_name (states_of nodes.old.items)) events.items list.new.items (by_name (states_of nodes.new.items)) }
 {
     for event in events {
         let outcome = step(alloc, nodes, event);

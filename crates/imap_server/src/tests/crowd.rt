@@ -1,7 +1,7 @@
 //! Connections side by side, while a replica's lock is held.
 
 use crate::tests::callers::{Caller, Manner, said};
-use crate::tests::doors::{TURNS, Way};
+use crate::tests::doors::{PATIENCE, TURNS, Way};
 use crate::tests::scene::{Course, Plan, play};
 use log::Log;
 use std::alloc::{AllocError, Global};
@@ -133,7 +133,7 @@ fn other_goes_on(course: &Option<Course>) -> bool {
 
 #[test]
 fn a_connection_goes_on_beside_a_held_replica(rt: HostRuntime) {
-    let plan = while_held(rt.alloc(), 0, 1, b"a NOOP\r\nb LOGOUT\r\n", 1, TURNS);
+    let plan = while_held(rt.alloc(), 0, 1, b"a NOOP\r\nb LOGOUT\r\n", 1, PATIENCE);
     let course = course(&rt, rt.alloc(), plan);
     assert!(rt; other_goes_on(&course));
 }

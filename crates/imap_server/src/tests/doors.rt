@@ -5,8 +5,11 @@ use std::sync::Wait;
 use std::sync::atomic::{AtomicU64, Ordering};
 use std::thread;
 
-/// How often a door looks, and lets others run, before it goes on.
+/// How often one looks, and lets others run, for what shouldn't come.
 pub const TURNS: u64 = 1_000_000;
+
+/// How often one looks, and lets others run, for what should come: so many that a machine with other work has time.
+pub const PATIENCE: u64 = 100_000_000;
 
 /// What the threads of a scene tell one another.
 #[derive(Drop)]
@@ -82,7 +85,7 @@ pub struct Door<'a> {
 impl<'a> Door<'a> {
     /// Waits for a count, and tells whether it saw it.
     fn look(&self, count: &AtomicU64, least: u64) {
-        if await_count(count, least, TURNS) {
+        if await_count(count, least, PATIENCE) {
             let _ = self.signs.seen.fetch_add(1, Ordering::SeqCst);
         }
     }

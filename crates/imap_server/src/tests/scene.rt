@@ -6,6 +6,7 @@ use crate::connection::Desk;
 use crate::house::{House, Stop};
 use crate::serving::serve_over;
 use crate::settings::Access;
+use crate::station::Newcomers;
 use crate::tests::callers::{Caller, Line, hear};
 use crate::tests::doors::{Door, Keeper, Signs, Way, wait_for};
 use imap_node::Node;
@@ -196,8 +197,8 @@ fn played<
     let (two, mut far) = Shared::<M>::new(other_blank, books.1);
     let house = House {
         access: Access::Preauth,
-        addresses: Vec::new(alloc),
-        links: Vec::new(alloc),
+        stations: Vec::new(alloc),
+        newcomers: Newcomers::new(Vec::new(alloc)),
         stop: Stop::after(None),
     };
     let Plan {

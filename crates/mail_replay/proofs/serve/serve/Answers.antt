@@ -80,3 +80,9 @@ returns-in-Agree-clause-ok c = rw c.in-Agree.is (on_ok c.compare.result (λ h. (
 
 pub returns-in-Agree-clause-memory : goal.returns-in-Agree-clause-memory
 returns-in-Agree-clause-memory c = λ e. nothing_more _ _ _ _ _ (inl refl) c.compare.ensures.err e
+
+pub returns-in-Join-clause-ok : goal.returns-in-Join-clause-ok
+returns-in-Join-clause-ok c = rw c.in-Join.is c.join.ensures.ok
+
+pub returns-in-Join-clause-memory : goal.returns-in-Join-clause-memory
+returns-in-Join-clause-memory c = λ e. nothing_more _ _ _ _ _ (inl refl) c.join.ensures.err e

@@ -1,0 +1,100 @@
+//! The replicas of a server, as the others reach them.
+
+use crdt_ops::SoundOp;
+use crossbeam_channel::{Receiver, Sender};
+use replica_links::{Letter, LinkMsg};
+use std::net::{Net, SocketAddr, TcpListener, TcpStream};
+use std::sync::{Mutex, Wait};
+
+/// What the thread is asked that lends copies of what its replica applied.
+#[derive(Drop)]
+pub enum CopyOrder {
+    /// To send copies of the operations, in the order in which they were applied; `None` where there is no memory for them.
+    Copy(Sender<Option<Vec<SoundOp>>>),
+    /// To end.
+    Stop,
+}
+
+/// A replica, as the others reach it.
+#[derive(Drop)]
+pub struct Station {
+    /// Takes letters to it.
+    pub link: Sender<Letter>,
+    /// Takes orders of copies of what it applied.
+    pub orders: Sender<CopyOrder>,
+    /// Where it listens; `None` as long as it hasn't joined.
+    pub address: Mutex<Option<SocketAddr>>,
+}
+
+impl Station {
+    /// Whether the replica is there: one that is to join isn't.
+    pub fn is_open<R: Wait>(&self, rt: &R) -> bool {
+        self.address.lock(rt).is_some()
+    }
+
+    /// The replica is there, and listens at this address.
+    pub fn open<R: Wait>(&self, rt: &R, address: SocketAddr) {
+        *self.address.lock(rt) = Some(address);
+    }
+
+    /// Sends a letter to the replica, if it is there.
+    pub fn send<R: Wait>(&self, rt: &R, letter: Letter) {
+        if self.is_open(rt) {
+            let _ = self.link.send(rt, letter);
+        }
+    }
+
+    /// Wakes the replica's threads, so that they see that the server stops: by a connection, a letter of the replica's own place and an order.
+    pub fn wake<R: Wait + Net<Listener = TcpListener, Stream = TcpStream>>(
+        &self,
+        rt: &R,
+        place: usize,
+    ) {
+        let address = *self.address.lock(rt);
+        let Some(address) = address else {
+            return;
+        };
+        let _ = TcpStream::connect(rt, address);
+        let letter = Letter {
+            from: place,
+            message: LinkMsg::Stop,
+        };
+        let _ = self.link.send(rt, letter);
+        let _ = self.orders.send(rt, CopyOrder::Stop);
+    }
+}
+
+/// How the thread of a replica that is to join is told to, and tells that it did or couldn't.
+#[derive(Drop)]
+pub struct Call {
+    /// Tells the replica to join.
+    pub begin: Sender<()>,
+    /// Comes when it has joined, or couldn't.
+    pub done: Receiver<()>,
+}
+
+/// The replicas that are to join once the first connection has ended.
+#[derive(Drop)]
+pub struct Newcomers {
+    calls: Mutex<Vec<Call>>,
+}
+
+impl Newcomers {
+    /// Those that these calls reach, in their order.
+    pub fn new(calls: Vec<Call>) -> Newcomers {
+        Newcomers {
+            calls: Mutex::new(calls),
+        }
+    }
+
+    /// Has all join, in their order, and waits until each did or couldn't: the first time that this is called. Whoever calls it meanwhile waits too.
+    pub fn call_all<R: Wait>(&self, rt: &R) {
+        let mut calls = self.calls.lock(rt);
+        for call in calls.iter() {
+            if call.begin.send(rt, ()).is_ok() {
+                let _ = call.done.recv(rt);
+            }
+        }
+        calls.clear();
+    }
+}

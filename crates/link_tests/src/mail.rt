@@ -1,0 +1,85 @@
+//! Letters between replicas, over channels.
+
+use crdt_ops::SoundOp;
+use crossbeam_channel::{Receiver, Sender, unbounded};
+use replica_links::{Gate, Letter, LinkMsg, Post};
+use std::alloc::{AllocError, Global};
+use std::sync::Wait;
+use tags_clocks::Clock;
+
+/// A gate that is open.
+#[derive(Drop)]
+pub struct Open;
+
+impl Gate for Open {
+    fn pass(&mut self, _n: u64) {}
+}
+
+/// Channels to two replicas.
+#[derive(Drop)]
+pub struct Lines {
+    /// The way to each, by place.
+    pub links: Vec<Sender<Letter>>,
+    /// Where the letters of the first and of the second come.
+    pub inboxes: (Receiver<Letter>, Receiver<Letter>),
+}
+
+/// Two new channels.
+pub fn two_lines(alloc: Global) -> Result<Lines, AllocError> {
+    let (to_one, for_one) = unbounded(alloc)?;
+    let (to_other, for_other) = unbounded(alloc)?;
+    let mut links = Vec::new(alloc);
+    links.push(to_one)?;
+    links.push(to_other)?;
+    Ok(Lines {
+        links,
+        inboxes: (for_one, for_other),
+    })
+}
+
+/// The way from the replica at one place to those at all places.
+#[derive(Drop)]
+pub struct Mail<'a, R: Wait> {
+    /// The handle that waits.
+    pub rt: &'a R,
+    /// The place of the sender.
+    pub own: usize,
+    /// The ways, by place.
+    pub links: &'a [Sender<Letter>],
+}
+
+impl<'a, R: Wait> Mail<'a, R> {
+    /// The way from the replica at this place.
+    pub fn new(rt: &'a R, own: usize, links: &'a [Sender<Letter>]) -> Mail<'a, R> {
+        Mail { rt, own, links }
+    }
+
+    /// Sends a message to the replica at a place; whether there is one that takes it.
+    pub fn send(&self, to: usize, message: LinkMsg) -> bool {
+        let letter = Letter {
+            from: self.own,
+            message,
+        };
+        match self.links.get(to) {
+            Some(link) => link.send(self.rt, letter).is_ok(),
+            None => {
+                drop(letter);
+                false
+            }
+        }
+    }
+}
+
+impl<'a, R: Wait> Post for Mail<'a, R> {
+    ghost asks = { λ p to clock q. Unit {0} };
+
+    ghost hands = { λ p to ops q. Unit {0} };
+
+    fn ask(&mut self, to: usize, clock: Clock) {
+        let _ = self.send(to, LinkMsg::Have(clock));
+    }
+
+    fn hand(&mut self, to: usize, ops: Vec<SoundOp>) {
+        let _ = self.send(to, LinkMsg::Ops(ops));
+    }
+}

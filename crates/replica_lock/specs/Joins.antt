@@ -1,0 +1,81 @@
+use Rattle.std.specs.Prelude.{◌≡◌, ℕ, List, [], ◌∷◌, ◌++◌, None, Some, Result, Ok, Err, false, map}
+use Rattle.tags_clocks.specs.declared.id.OpId.{OpId}
+use Rattle.causal_inbox.specs.declared.answers.Arrival.{Arrival}
+use Rattle.causal_inbox.specs.declared.answers.Arrival.TheVariants.{Applied, Held, Repeat}
+use Rattle.causal_inbox.specs.declared.answers.DeliverFault.TheVariants as delivering
+use Rattle.crdt_ops.specs.declared.op.Op.{Op}
+use Rattle.imap_node.specs.Nodes.{NodeState}
+use Rattle.merge_laws.specs.Orders.{IsCausal, IsRipe}
+use Rattle.replica_lock.specs.Histories.{Recorded}
+use Rattle.causal_inbox.specs.Owns.{IsLeastOwn}
+use Rattle.replica_lock.specs.declared.book.Entry.{Entry}
+use Rattle.replica_lock.specs.declared.event.BookEvent.TheVariants.{Deliver}
+use Rattle.replica_lock.specs.declared.faults.JoinFault.{JoinFault}
+use Rattle.replica_lock.specs.declared.faults.JoinFault.TheVariants.{Exhausted, NoMemory, NotCausal, Own}
+use Rattle.replica_lock.specs.declared.outcome.Outcome.{Outcome}
+use Rattle.replica_lock.specs.declared.outcome.Outcome.TheVariants.{Delivered}
+use Rattle.uid_projection.specs.Exhaustion.{Exhausts}
+use Rattle.uid_projection.specs.declared.start.Start.{Start}
+
+abbrev pub id_of : Op → OpId
+id_of op = op.id
+
+abbrev pub clock_of : Op → List (ℕ × ℕ)
+clock_of op = op.clock
+
+-- What the counters of a replica that joins begin with: its UIDs and its incarnations count from 1.
+abbrev pub first_numbers : ℕ → Start
+first_numbers name = record { replica = name; uid = 1; k = 1 }
+
+-- A replica of this name that applied these operations, holds nothing and has no sessions.
+abbrev pub joined : ℕ → List Op → NodeState
+joined name ops = record { start = first_numbers name; applied = ops; held = []; sessions = [] }
+
+-- The entry of an operation that was delivered and applied, and that no held one waited for.
+abbrev pub taken : Op → Entry
+taken op = record { event = Deliver op; outcome = Delivered (Ok (record { arrival = Applied 1; stalled = false })) }
+
+-- The book of a replica of this name to which these operations were delivered, one after another, and nothing else happened.
+abbrev pub joined_book : ℕ → List Op → Recorded
+joined_book name ops = record { node = joined name ops; journal = map taken ops }
+
+-- The first of the operations that can't be applied behind those in front of it, and why: it isn't ripe for them, or a counter of the new replica
+-- lacks a number for it.
+pub record Stops (name : ℕ) (ops : List Op) (Why : List Op → Op → Type 0) : Type 0 where
+  pub front : List Op
+  pub op : Op
+  pub back : List Op
+  pub cut : ops ≡ front ++ op ∷ back
+  pub causal : IsCausal id_of clock_of front
+  pub lasts : ¬ Exhausts (first_numbers name) [] front
+  pub why : Why front op
+
+-- Why no replica of this name joins with these operations. That one of them is its own is found before anything else.
+abbrev pub IsUnjoined : ℕ → List Op → JoinFault → Type 0
+IsUnjoined name ops (Own id) = IsLeastOwn id_of name ops (Some id)
+IsUnjoined name ops (NotCausal id) = IsLeastOwn id_of name ops None × Stops name ops (λ front op. (op.id ≡ id) × ¬ IsRipe id_of clock_of front op)
+IsUnjoined name ops Exhausted = IsLeastOwn id_of name ops None × Stops name ops (λ front op. IsRipe id_of clock_of front op × Exhausts (first_numbers name) front (op ∷ []))
+IsUnjoined name ops NoMemory = IsLeastOwn id_of name ops None
+
+-- ---- one operation
+
+-- Why a replica didn't apply an operation.
+abbrev pub IsUntaken : NodeState → Op → JoinFault → Type 0
+IsUntaken node op (Own id) = ⊥
+IsUntaken node op (NotCausal id) = (op.id ≡ id) × ¬ IsRipe id_of clock_of node.applied op
+IsUntaken node op Exhausted = IsRipe id_of clock_of node.applied op × Exhausts node.start node.applied (op ∷ [])
+IsUntaken node op NoMemory = Unit {0}
+
+-- What its delivery says of it: whether it was applied at once.
+abbrev pub told_by_arrival : OpId → Arrival → Result (Unit {0}) JoinFault
+told_by_arrival id (Applied count) = Ok tt
+told_by_arrival id Held = Err (NotCausal id)
+told_by_arrival id Repeat = Err (NotCausal id)
+
+abbrev pub told_by : OpId → Outcome → Result (Unit {0}) JoinFault
+told_by id (Delivered (Ok receipt)) = told_by_arrival id receipt.arrival
+told_by id (Delivered (Err (delivering.Conflict other))) = Err (NotCausal id)
+told_by id (Delivered (Err delivering.HeldFull)) = Err (NotCausal id)
+told_by id (Delivered (Err delivering.Exhausted)) = Err Exhausted
+told_by id (Delivered (Err delivering.NoMemory)) = Err NoMemory
+told_by id _ = Err NoMemory

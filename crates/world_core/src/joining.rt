@@ -1,0 +1,159 @@
+//! Replicas that join a world.
+
+ghost use Rattle.std.specs.Prelude.{◌≡◌, ◌≢◌, ◌∷◌, ◌++◌, [], Err, IfErr, IsTrue, MatchResult, None, OnErr, OnOk, false};
+ghost use Rattle.crdt_ops.specs.declared.op.Op.{Op as Operation};
+ghost use Rattle.imap_node.specs.Nodes.{NodeState};
+ghost use Rattle.merge_laws.specs.Orders.{IsCausal, IsRipe};
+ghost use Rattle.uid_projection.specs.Exhaustion.{Exhausts};
+ghost use Rattle.world_core.specs.Joins.{IsNotJoined, LacksNumbers, joined, outcome_of};
+ghost use Rattle.world_core.specs.Moments.{clock_of, id_of};
+ghost use Rattle.world_core.specs.Replicas.{IsAt, blank, by_name, states_of};
+ghost use Rattle.world_core.specs.Steps.{Steps};
+ghost use Rattle.world_core.specs.declared.event.Event.TheVariants as events;
+ghost use Rattle.world_core.specs.declared.joining.JoinRefusal.TheVariants.{Exhausted as UsedUp};
+
+use crate::event::Outcome;
+use crate::places::place_of;
+use crate::world::WorldFault;
+use causal_inbox::DeliverFault;
+use crdt_ops::SoundOp;
+use imap_node::Node;
+use merge_laws::Caused;
+use std::alloc::Global;
+use tags_clocks::ReplicaId;
+use thiserror::Error;
+use uid_projection::Start;
+
+/// Why a replica with another one's operations is not made.
+#[derive(Clone, Copy, Debug, PartialEq, Eq, Error)]
+pub enum JoinRefusal {
+    /// A counter of its own has no number left for one of them.
+    #[error("number used up")]
+    Exhausted,
+    /// There was no memory for it.
+    #[error("no memory")]
+    NoMemory,
+}
+
+/// Puts a new replica behind the others, with the operations that one of them applied, in that one's order. An error leaves the nodes as they were.
+pub fn join(
+    alloc: Global,
+    nodes: &mut Vec<Node>,
+    name: ReplicaId,
+    peer: ReplicaId,
+) -> Result<(), WorldFault>
+    ensures ok { OnOk result ((from : NodeState) × IsAt (by_name (states_of nodes.old.items)) peer from × (by_name (states_of nodes.old.items) name ≡ None) × (¬ LacksNumbers name from.applied)
+        × (states_of nodes.new.items ≡ states_of nodes.old.items ++ joined name from.applied ∷ [])) }
+    ensures why { IfErr result (IsNotJoined (by_name (states_of nodes.old.items)) name peer) }
+    ensures err { OnErr result (nodes.new.items ≡ nodes.old.items) }
+{
+    if is_taken(nodes, name) {
+        return Err(WorldFault::TwoAlike { id: name });
+    }
+    let Some(place) = place_of(nodes, peer) else {
+        return Err(WorldFault::NoPeer);
+    };
+    let Ok(()) = nodes.reserve(1) else {
+        return Err(WorldFault::NoMemory);
+    };
+    match with_operations_of(alloc, name, &nodes[place]) {
+        Ok(node) => {
+            nodes.push_reserved(node);
+            Ok(())
+        }
+        Err(JoinRefusal::Exhausted) => Err(WorldFault::Exhausted),
+        Err(JoinRefusal::NoMemory) => Err(WorldFault::NoMemory),
+    }
+}
+
+/// Whether a replica has this name.
+fn is_taken(nodes: &[Node], name: ReplicaId) -> bool
+    ensures yes { IsTrue result → by_name (states_of nodes.now) name ≢ None }
+    ensures no { result ≡ false → by_name (states_of nodes.now) name ≡ None }
+{
+    match place_of(nodes, name) {
+        Some(_) => true,
+        None => false,
+    }
+}
+
+/// Takes the event that a replica joins.
+pub fn join_step(alloc: Global, nodes: &mut Vec<Node>, name: ReplicaId, peer: ReplicaId) -> Outcome
+    ensures { Steps (by_name (states_of nodes.old.items)) (events.Join name peer) result (by_name (states_of nodes.new.items)) }
+{
+    let answer = join(alloc, nodes, name, peer);
+    told(&answer)
+}
+
+/// What the event comes to, by what its call answered.
+fn told(answer: &Result<(), WorldFault>) -> Outcome
+    ensures { result ≡ outcome_of answer.now }
+{
+    match answer {
+        Ok(()) => Outcome::Joined,
+        Err(WorldFault::TwoAlike { .. }) => Outcome::PassedOver,
+        Err(WorldFault::NoPeer) => Outcome::PassedOver,
+        Err(WorldFault::Exhausted) => Outcome::NotJoined {
+            fault: JoinRefusal::Exhausted,
+        },
+        Err(WorldFault::NoMemory) => Outcome::NotJoined {
+            fault: JoinRefusal::NoMemory,
+        },
+    }
+}
+
+/// A replica of this name that applied what another one did, in its order, and has received nothing else: its UIDs and its incarnations count from 1. `Exhausted`
+/// where one of its counters has no number left for one of the operations; `NoMemory`.
+///
+/// It costs what the deliveries of these operations do.
+pub fn with_operations_of(alloc: Global, name: ReplicaId, from: &Node) -> Result<Node, JoinRefusal>
+    ensures { MatchResult result (λ node. (node.state ≡ joined name from.now.state.applied) × (¬ LacksNumbers name from.now.state.applied)) (λ why. why ≡ UsedUp → LacksNumbers name from.now.state.applied) }
+{
+    let start = Start {
+        replica: name,
+        uid: 1,
+        k: 1,
+    };
+    let Ok(mut node) = Node::new(alloc, start) else {
+        return Err(JoinRefusal::NoMemory);
+    };
+    if let Err(why) = take_all(alloc, &mut node, from.op_list()) {
+        drop(node);
+        return Err(why);
+    }
+    Ok(node)
+}
+
+/// Has a node that has received nothing apply copies of these operations, in their order.
+fn take_all(alloc: Global, node: &mut Node, ops: &[SoundOp]) -> Result<(), JoinRefusal>
+    requires causal { IsCausal id_of clock_of ops.now }
+    requires fresh { node.old.state ≡ blank node.old.state.start }
+    ensures ok { OnOk result (node.new.state ≡ record node.old.state { applied = ops.now }) }
+    ensures lasts { OnOk result (¬ Exhausts node.old.state.start [] ops.now) }
+    ensures used_up { IfErr result (λ why. why ≡ UsedUp → Exhausts node.old.state.start [] ops.now) }
+{
+    for op in ops {
+        take(alloc, node, op)?;
+    }
+    Ok(())
+}
+
+/// Has a node that holds nothing apply a copy of an operation all of whose causes it applied.
+fn take(alloc: Global, node: &mut Node, op: &SoundOp) -> Result<(), JoinRefusal>
+    requires ripe { IsRipe id_of clock_of node.old.state.applied op.now }
+    requires nothing { node.old.state.held ≡ [] }
+    ensures ok { OnOk result (node.new.state ≡ record node.old.state { applied = node.old.state.applied ++ op.now ∷ [] }) }
+    ensures lasts { OnOk result (¬ Exhausts node.old.state.start node.old.state.applied (op.now ∷ [])) }
+    ensures used_up { IfErr result (λ why. why ≡ UsedUp → Exhausts node.old.state.start node.old.state.applied (op.now ∷ [])) }
+{
+    let Ok(op) = op.copy(alloc) else {
+        return Err(JoinRefusal::NoMemory);
+    };
+    match node.deliver(alloc, op) {
+        Ok(_) => Ok(()),
+        Err(DeliverFault::Exhausted) => Err(JoinRefusal::Exhausted),
+        Err(DeliverFault::NoMemory) => Err(JoinRefusal::NoMemory),
+        Err(DeliverFault::Conflict { .. }) => unreachable!(),
+        Err(DeliverFault::HeldFull) => unreachable!(),
+    }
+}
