@@ -1,4 +1,4 @@
-use Rattle.std.proofs.Common.{◌≡◌, ◌×◌, ℕ, ◌+◌, ◌<◌, List, [], ◌∷◌, ◌++◌, refl, sym, ap, ◌∙◌, subst}
+use Rattle.std.proofs.Common.{ℕ, ◌+◌, ◌<◌, List, [], ◌∷◌, ◌++◌, refl, sym, subst}
 use Rattle.std.proofs.Common.{get_or, length, take}
 use Rattle.std.proofs.lemmas.List.{take_more}
 use Rattle.replica_links.specs.Links.{AreAsked, MayAsk}
@@ -9,5 +9,5 @@ module _ {S P : Type 0} (lacks : S → Type 0) (has : S → List (ℕ × ℕ) �
   asked_behind p [] to q r h step = (r, subst (λ (x : P). MayAsk lacks has asks s x to r) (sym h) step, refl)
   asked_behind p (f ∷ front) to q r h step = (h.0, h.1, asked_behind h.0 front to q r h.2 step)
 
-  pub asked_next : (peers : List ℕ) (i to : ℕ) (p q r : P) → i < length peers → to ≡ get_or peers i to → AreAsked lacks has asks s p (take i peers) q → MayAsk lacks has asks s q to r → AreAsked lacks has asks s p (take (i + 1) peers) r
-  asked_next peers i to p q r l is h step = subst (λ (xs : List ℕ). AreAsked lacks has asks s p xs r) (sym (take_more peers i to l ∙ ap (λ y. take i peers ++ y ∷ []) (sym is))) (asked_behind p (take i peers) to q r h step)
+  pub asked_next : (peers : List ℕ) (i : ℕ) (p q r : P) → i < length peers → AreAsked lacks has asks s p (take i peers) q → MayAsk lacks has asks s q (get_or peers i 0) r → AreAsked lacks has asks s p (take (i + 1) peers) r
+  asked_next peers i p q r l h step = subst (λ (xs : List ℕ). AreAsked lacks has asks s p xs r) (sym (take_more peers i 0 l)) (asked_behind p (take i peers) (get_or peers i 0) q r h step)
