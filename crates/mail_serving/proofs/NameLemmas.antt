@@ -1,0 +1,22 @@
+use Rattle.std.proofs.Common.{◌≡◌, ◌<◌, ℕ, false, true, List, [], ◌∷◌, ◌++◌, append-nil, append_assoc, ap, refl, sym, subst}
+use Rattle.mail_serving.specs.Settings.{AreNames, AreNew, HavePeers, is_named, newcomers_of}
+use Rattle.mail_serving.specs.declared.settings.Join.{Join}
+
+new_more : (before names : List ℕ) (name : ℕ) → AreNew before names → 0 < name → name < 65536 → is_named name (before ++ names) ≡ false → AreNew before (names ++ name ∷ [])
+new_more before [] name a p b n = (p, b, subst (λ (xs : List ℕ). is_named name xs ≡ false) (append-nil before) n, tt)
+new_more before (first ∷ names) name a p b n =
+    (a.0, a.1, a.2, new_more (before ++ first ∷ []) names name a.3 p b (subst (λ (xs : List ℕ). is_named name xs ≡ false) (sym (append_assoc before (first ∷ []) names)) n))
+
+-- one more name
+pub names_more : (names : List ℕ) (name : ℕ) → AreNames names → 0 < name → name < 65536 → is_named name names ≡ false → AreNames (names ++ name ∷ [])
+names_more names name a p b n = new_more [] names name a p b n
+
+-- one more that joins
+pub peers_more : (names : List ℕ) (joins : List Join) (join : Join) → HavePeers names joins → is_named join.peer (names ++ newcomers_of joins) ≡ true → HavePeers names (joins ++ join ∷ [])
+peers_more names [] join h n = (subst (λ (xs : List ℕ). is_named join.peer xs ≡ true) (append-nil names) n, tt)
+peers_more names (first ∷ joins) join h n =
+    (h.0, peers_more (names ++ first.place.replica ∷ []) joins join h.1 (subst (λ (xs : List ℕ). is_named join.peer xs ≡ true) (sym (append_assoc names (first.place.replica ∷ []) (newcomers_of joins))) n))
+
+pub newcomers_more : (joins : List Join) (join : Join) → newcomers_of (joins ++ join ∷ []) ≡ newcomers_of joins ++ join.place.replica ∷ []
+newcomers_more [] join = refl
+newcomers_more (first ∷ joins) join = ap (λ (xs : List ℕ). first.place.replica ∷ xs) (newcomers_more joins join)

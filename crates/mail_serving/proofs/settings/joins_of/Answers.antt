@@ -1,0 +1,20 @@
+use Rattle.std.proofs.Common.{◌≡◌, ◌∙◌, ◌∷◌, ◌++◌, [], true, ℕ, List, ap, append_assoc, sym, subst}
+use Rattle.mail_serving.specs.Settings.{HavePeers, is_named, newcomers_of}
+use Rattle.mail_serving.specs.declared.settings.Join.{Join as Joining}
+use Rattle.mail_serving.proofs.NameLemmas.{newcomers_more, peers_more}
+use Rattle.mail_serving.proofs.settings.joins_of.Goals as goal
+
+pub loop-text-preserved : goal.loop-text-preserved
+loop-text-preserved c =
+    let first = c.args.names.now.items in
+    let joins = c.loop-text.joins.items in
+    let more = c.in-Ok.ensures.more in
+    let join = more.0 in
+    let name = join.place.replica in
+    let named : is_named join.peer (first ++ newcomers_of joins) ≡ true = subst (λ (xs : List ℕ). is_named join.peer xs ≡ true) c.loop-text.invariant.same more.2 in
+    record {
+      names = c.in-Ok.ensures.names;
+      same = more.1 ∙ ap (λ (xs : List ℕ). xs ++ name ∷ []) c.loop-text.invariant.same ∙ append_assoc first (newcomers_of joins) (name ∷ [])
+      ∙ ap (λ (xs : List ℕ). first ++ xs) (sym (newcomers_more joins join)) ∙ ap (λ (js : List Joining). first ++ newcomers_of js) (sym more.3);
+      peers = subst (HavePeers first) (sym more.3) (peers_more first joins join c.loop-text.invariant.peers named);
+    }

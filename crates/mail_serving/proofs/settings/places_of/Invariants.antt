@@ -1,0 +1,10 @@
+use Rattle.std.proofs.Common.{◌≡◌}
+use Rattle.mail_serving.specs.Settings.{AreNames, names_of}
+use Rattle.mail_serving.proofs.settings.places_of.Given as goal
+
+abbrev pub invariant-loop-text : goal.invariant-loop-text
+invariant-loop-text l =
+    record {
+      names : AreNames l.names.items;
+      same : names_of l.places.items ≡ l.names.items;
+    }

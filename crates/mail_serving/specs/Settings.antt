@@ -1,0 +1,39 @@
+use Rattle.std.specs.Prelude.{◌≡◌, ◌<◌, ◌==◌, ℕ, Bool, false, true, List, [], ◌∷◌, ◌++◌, Option, None, Some, map}
+use Rattle.std.specs.Borrow.{Bor}
+use Rattle.std.specs.List.{list_any}
+use Rattle.mail_serving.specs.declared.settings.Access.{Access}
+use Rattle.mail_serving.specs.declared.settings.Access.TheVariants.{Password, Preauth}
+use Rattle.mail_serving.specs.declared.settings.Join.{Join}
+use Rattle.mail_serving.specs.declared.settings.Place.{Place}
+
+-- The names of replicas.
+abbrev pub names_of : List Place → List ℕ
+names_of places = map (λ (place : Place). place.replica) places
+
+-- Whether one of them is this name.
+abbrev pub is_named : ℕ → List ℕ → Bool
+is_named name names = list_any (λ other. other == name) names
+
+-- Behind these names, each is from 1 to 65,535, and none stands before it.
+abbrev pub AreNew : List ℕ → List ℕ → Type 0
+AreNew before [] = Unit {0}
+AreNew before (name ∷ names) = (0 < name) × (name < 65536) × (is_named name before ≡ false) × AreNew (before ++ name ∷ []) names
+
+-- Each is from 1 to 65,535, and none stands twice.
+abbrev pub AreNames : List ℕ → Type 0
+AreNames names = AreNew [] names
+
+-- The names of replicas that are to join.
+abbrev pub newcomers_of : List Join → List ℕ
+newcomers_of joins = map (λ (join : Join). join.place.replica) joins
+
+-- Each takes the operations of a replica with one of these names, or of one that joins before it.
+abbrev pub HavePeers : List ℕ → List Join → Type 0
+HavePeers names [] = Unit {0}
+HavePeers names (join ∷ joins) = (is_named join.peer names ≡ true) × HavePeers (names ++ join.place.replica ∷ []) joins
+
+-- Who may use the server: whoever comes, or who gives this user and this password; nothing else is asked for.
+abbrev pub access_of : Bool → Option (Bor (List ℕ)) → Option (Bor (List ℕ)) → Option Access
+access_of true None None = Some Preauth
+access_of false (Some user) (Some pass) = Some (Password user pass)
+access_of _ _ _ = None

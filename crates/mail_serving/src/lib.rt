@@ -1,0 +1,23 @@
+//! A mail server of linked replicas: its command line, the connections that it serves, the links of its replicas, and how replicas join it.
+#![tactic(auto)]
+
+mod connection;
+mod feeding;
+mod house;
+mod joining;
+mod mailing;
+mod outlet;
+mod program;
+mod reading;
+mod serving;
+mod session;
+mod settings;
+mod station;
+
+pub use connection::Desk;
+pub use house::{House, Stop};
+pub use joining::Newcomer;
+pub use program::{RunFault, open_all, run};
+pub use serving::{Beginning, Part, serve, serve_over};
+pub use settings::{Access, CommandLine, Join, Place, SettingsFault, access_of, settings};
+pub use station::{Call, CopyOrder, Newcomers, Station};

@@ -1,0 +1,205 @@
+//! One session of a replica behind its lock, as a port.
+
+ghost use Rattle.std.specs.Prelude.{◌≡◌, ℕ, Err, IfErr, IfOk, Ok, Some};
+ghost use Rattle.std.specs.Option.{option_map};
+ghost use Rattle.imap_node.specs.declared.sessions.OpenFault.TheVariants as refusals;
+ghost use Rattle.imap_talk.specs.declared.fault.PortFault.TheVariants.{TooManySessions};
+ghost use Rattle.replica_lock.specs.declared.outcome.Outcome.TheVariants.{Opened, Replied};
+
+use crate::house::{House, auth_of, login_of};
+use crate::mailing::Mail;
+use crate::outlet::Outlet;
+use crdt_ops::SoundOp;
+use imap_answers::Login;
+use imap_grammar::{Command, IdleLine, Tagged};
+use imap_node::{OpenFault, Reply};
+use imap_talk::{Port, PortFault};
+use imap_types::Moment;
+use replica_links::Gate;
+use replica_lock::{CallFault, Outcome, Pass, Shared};
+use std::alloc::Global;
+use std::rt::Clock;
+use std::sync::ledger::Ledger;
+use std::sync::{Mutex, Wait};
+use std::time::{SystemTime, UNIX_EPOCH};
+
+/// A session whose pass stands under a lock of its own, which is taken for one call at a time.
+#[derive(Drop)]
+pub struct SessionPort<'a, L: Ledger, R: Wait + Clock, G: Gate> {
+    rt: &'a R,
+    shared: &'a Shared<L>,
+    pass: &'a Mutex<Pass<L>>,
+    house: &'a House<'a>,
+    /// The place of the replica's own link among all.
+    own: usize,
+    outlet: &'a Outlet,
+    gate: &'a mut G,
+    commands: u64,
+}
+
+impl<'a, L: Ledger, R: Wait + Clock, G: Gate> SessionPort<'a, L, R, G> {
+    /// A session at a replica.
+    pub fn new(
+        rt: &'a R,
+        shared: &'a Shared<L>,
+        pass: &'a Mutex<Pass<L>>,
+        house: &'a House<'a>,
+        own: usize,
+        outlet: &'a Outlet,
+        gate: &'a mut G,
+    ) -> SessionPort<'a, L, R, G> {
+        SessionPort {
+            rt,
+            shared,
+            pass,
+            house,
+            own,
+            outlet,
+            gate,
+            commands: 0,
+        }
+    }
+}
+
+impl<'a, L: Ledger, R: Wait + Clock, G: Gate> Port for SessionPort<'a, L, R, G> {
+    ghost use Rattle.mail_serving.specs.Calls.{OpensByCall, StepsByCall};
+
+    ghost opens = { λ s r t. OpensByCall s.house.access r };
+
+    ghost steps = { λ s call r t. StepsByCall call r };
+
+    ghost closes = { λ s t. Unit {0} };
+
+    fn open(&mut self, alloc: Global) -> Result<Login, PortFault> {
+        let mut pass = self.pass.lock(self.rt);
+        if pass.session().is_some() {
+            return Err(PortFault::PassedOver);
+        }
+        let Ok(auth) = auth_of(alloc, self.house.access) else {
+            return Err(PortFault::NoMemory);
+        };
+        match self.shared.open(self.rt, alloc, &mut pass, auth) {
+            Ok(()) => opened(pass.last(), login_of(self.house.access)),
+            Err(fault) => Err(fault_of(fault)),
+        }
+    }
+
+    fn command(&mut self, alloc: Global, tagged: Tagged) -> Result<Reply, PortFault> {
+        self.commands = self.commands.saturating_add(1);
+        self.gate.pass(self.commands);
+        let idles = matches!(&tagged.command, Command::Idle);
+        let moment = moment_now(self.rt);
+        let mut pass = self.pass.lock(self.rt);
+        if pass.session().is_none() {
+            return Err(PortFault::PassedOver);
+        }
+        match self
+            .shared
+            .command(self.rt, alloc, &mut pass, moment, tagged)
+        {
+            Ok(()) => {
+                let mail = Mail::new(self.rt, self.house, self.own);
+                mail.tell_all(alloc, issued(pass.last()));
+                self.outlet
+                    .set_idles(self.rt, idles && is_done(pass.last()));
+                replied(alloc, pass.last())
+            }
+            Err(fault) => Err(fault_of(fault)),
+        }
+    }
+
+    fn done(&mut self, alloc: Global, line: IdleLine) -> Result<Reply, PortFault> {
+        let mut pass = self.pass.lock(self.rt);
+        if pass.session().is_none() {
+            return Err(PortFault::PassedOver);
+        }
+        self.outlet.set_idles(self.rt, false);
+        match self.shared.done(self.rt, alloc, &mut pass, line) {
+            Ok(()) => replied(alloc, pass.last()),
+            Err(fault) => Err(fault_of(fault)),
+        }
+    }
+
+    fn close(&mut self, alloc: Global) {
+        let mut pass = self.pass.lock(self.rt);
+        self.outlet.set_idles(self.rt, false);
+        if pass.session().is_some() {
+            let _ = self.shared.close(self.rt, alloc, &mut pass);
+        }
+    }
+}
+
+fn fault_of(fault: CallFault) -> PortFault {
+    match fault {
+        CallFault::NoRoom => PortFault::NoRoom,
+        CallFault::Torn { .. } => PortFault::Torn,
+    }
+}
+
+/// What a connection is told of the opening of its session, whose user becomes known so.
+fn opened(last: Option<&Outcome>, login: Login) -> Result<Login, PortFault>
+    ensures ok { IfOk result (λ told. (told ≡ login) × ((n : ℕ) × (option_map (λ o. o.now) last.entry ≡ Some (Opened (Ok n))))) }
+    ensures full { result ≡ Err TooManySessions → option_map (λ o. o.now) last.entry ≡ Some (Opened (Err refusals.TooManySessions)) }
+{
+    match last {
+        Some(Outcome::Opened { answer: Ok(_) }) => Ok(login),
+        Some(
+            Outcome::Opened {
+                answer: Err(OpenFault::TooManySessions),
+            },
+        ) => Err(PortFault::TooManySessions),
+        Some(
+            Outcome::Opened {
+                answer: Err(OpenFault::NoMemory),
+            },
+        ) => Err(PortFault::NoMemory),
+        _ => Err(PortFault::PassedOver),
+    }
+}
+
+/// A copy of the reply; `NoMemory` where there is none for it.
+fn replied(alloc: Global, last: Option<&Outcome>) -> Result<Reply, PortFault>
+    ensures { IfOk result (λ reply. option_map (λ o. o.now) last.entry ≡ Some (Replied reply)) }
+{
+    match last {
+        Some(Outcome::Replied { reply }) => match reply.copy(alloc) {
+            Ok(reply) => Ok(reply),
+            Err(_) => Err(PortFault::NoMemory),
+        },
+        _ => Err(PortFault::PassedOver),
+    }
+}
+
+fn is_done(last: Option<&Outcome>) -> bool {
+    matches!(
+        last,
+        Some(Outcome::Replied {
+            reply: Reply::Done { .. },
+        })
+    )
+}
+
+/// The operations that a call issued.
+fn issued(last: Option<&Outcome>) -> &[SoundOp] {
+    match last {
+        Some(
+            Outcome::Replied {
+                reply: Reply::Done { issued, .. },
+            },
+        ) => issued.as_slice(),
+        _ => &[],
+    }
+}
+
+/// The moment now; the epoch where the clock can't be read.
+fn moment_now<R: Clock>(rt: &R) -> Moment {
+    seconds_now(rt)
+        .and_then(Moment::new)
+        .unwrap_or(Moment::epoch())
+}
+
+fn seconds_now<R: Clock>(rt: &R) -> Option<u64> {
+    let now = SystemTime::now(rt).ok()?;
+    let since = now.duration_since(UNIX_EPOCH).ok()?;
+    Some(since.as_secs())
+}

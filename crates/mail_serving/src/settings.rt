@@ -1,0 +1,335 @@
+//! The program's command line.
+
+ghost use Rattle.std.specs.Prelude.{◌≡◌, ◌++◌, ◌∷◌, ◌<◌, [], true, IfOk, IfSome, OnOk};
+ghost use Rattle.mail_serving.specs.Settings.{AreNames, HavePeers, access_of, is_named, names_of, newcomers_of};
+ghost use Rattle.mail_serving.specs.declared.settings.Join.{Join as Joining};
+
+use clap::builder::ValueParser;
+use clap::error::ErrorKind;
+use clap::{Arg, ArgAction, Command, Error};
+use std::alloc::{AllocError, Global};
+
+/// Who may use the server.
+#[derive(Clone, Copy, Debug, PartialEq, Eq)]
+pub enum Access<'a> {
+    /// Every user is known beforehand.
+    Preauth,
+    /// Whoever gives this user and this password.
+    Password {
+        /// The user.
+        user: &'a str,
+        /// The password.
+        pass: &'a str,
+    },
+}
+
+/// A replica, and where it listens.
+#[derive(Clone, Copy, Debug, PartialEq, Eq)]
+pub struct Place<'a> {
+    /// The replica's name, from 1 on.
+    pub replica: u16,
+    /// Its address, as it was given.
+    pub address: &'a str,
+}
+
+/// A replica that joins the others when the first connection has ended.
+#[derive(Clone, Copy, Debug, PartialEq, Eq)]
+pub struct Join<'a> {
+    /// Its name, and where it is to listen.
+    pub place: Place<'a>,
+    /// The name of the replica whose operations it takes.
+    pub peer: u16,
+}
+
+/// What the command line asks for.
+#[derive(Drop)]
+pub struct CommandLine<'a> {
+    /// Who may use the server.
+    pub access: Access<'a>,
+    /// Behind how many connections the server stops, if it does.
+    pub stop_after: Option<u32>,
+    /// The replicas in the order in which they were given, no two with one name.
+    pub places: Vec<Place<'a>>,
+    /// Those that are to join, in their order, whose names are new.
+    pub joins: Vec<Join<'a>>,
+}
+
+impl CommandLine<'_> {
+    /// The place of the replica with this name among all, those that are to join behind the others.
+    pub fn place_named(&self, name: u16) -> Option<usize> {
+        let places = self.places.iter().map(|place| place.replica);
+        let joins = self.joins.iter().map(|join| join.place.replica);
+        places.chain(joins).position(|other| other == name)
+    }
+}
+
+/// What is wrong with the command line.
+#[derive(Drop)]
+pub enum SettingsFault<'a> {
+    /// Its words, or it asks for help.
+    Words(Error),
+    /// It names no access, or two.
+    Access,
+    /// This word names no replica.
+    BadReplica(&'a str),
+    /// This word names no replica that is to join, or no peer that is there by then.
+    BadJoin(&'a str),
+    /// Two replicas have this name.
+    Twice(u16),
+    /// There was no memory for it.
+    NoMemory,
+}
+
+impl<'a> From<AllocError> for SettingsFault<'a> {
+    ghost use Rattle.mail_serving.specs.declared.settings.SettingsFault.TheVariants.{NoMemory};
+
+    ghost from_gives = { λ _ fault. fault ≡ NoMemory };
+
+    fn from(_none: AllocError) -> SettingsFault<'a> {
+        SettingsFault::NoMemory
+    }
+}
+
+/// Reads the words of a command line, the program's name first. Its words are judged first, then the access, then the replicas in their order, then those that are
+/// to join in theirs. The replicas' names are from 1 to 65,535, and no two are the same; each that joins takes the operations of one that is there before it.
+pub fn settings<'a>(
+    alloc: Global,
+    words: &'a [String],
+) -> Result<CommandLine<'a>, SettingsFault<'a>>
+    ensures names { IfOk result (λ settings. AreNames (names_of settings.places.items ++ newcomers_of settings.joins.items)) }
+    ensures peers { IfOk result (λ settings. HavePeers (names_of settings.places.items) settings.joins.items) }
+{
+    let matches = match matched(alloc, words) {
+        Ok(matches) => matches,
+        Err(error) => return Err(SettingsFault::Words(error)),
+    };
+    let Some(access) = access_of(
+        matches.get_flag("preauth"),
+        matches.get_str("user"),
+        matches.get_str("pass"),
+    ) else {
+        return Err(SettingsFault::Access);
+    };
+    let stop_after = matches.get_one::<u32>("stop-after");
+    let mut names = Vec::new(alloc);
+    let places = places_of(
+        alloc,
+        &mut names,
+        matches.get_strs("REPLICA").unwrap_or(&[]),
+    )?;
+    let joins = joins_of(alloc, &mut names, matches.get_strs("join").unwrap_or(&[]))?;
+    Ok(CommandLine {
+        access,
+        stop_after,
+        places,
+        joins,
+    })
+}
+
+fn matched<'a>(alloc: Global, words: &'a [String]) -> Result<clap::ArgMatches<'a>, Error> {
+    described(alloc)?.try_get_matches_from(words)
+}
+
+/// The words that the program knows.
+fn described<'a>(alloc: Global) -> Result<Command<'a>, AllocError> {
+    let preauth = Arg::new(alloc, "preauth")
+        .long("preauth")
+        .action(ArgAction::SetTrue)
+        .help("Every user is known beforehand");
+    let user = Arg::new(alloc, "user")
+        .long("user")
+        .action(ArgAction::Set)
+        .help("The user's name");
+    let pass = Arg::new(alloc, "pass")
+        .long("pass")
+        .action(ArgAction::Set)
+        .help("The user's password");
+    let stop = Arg::new(alloc, "stop-after")
+        .long("stop-after")
+        .action(ArgAction::Set)
+        .value_parser(ValueParser::unsigned(0, 4_294_967_295))
+        .help("Stop behind so many connections");
+    let joins = Arg::new(alloc, "join")
+        .long("join")
+        .action(ArgAction::Append)
+        .help("A replica that joins when the first connection has ended, as 3=127.0.0.1:1433/1");
+    let replicas = Arg::new(alloc, "REPLICA")
+        .required(true)
+        .action(ArgAction::Append)
+        .num_args(1..)
+        .help("A replica and its address, as 1=127.0.0.1:1431");
+    Command::new(alloc, "imap_server")
+        .about("Serve mail from linked replicas")
+        .arg(preauth)?
+        .arg(user)?
+        .arg(pass)?
+        .arg(stop)?
+        .arg(joins)?
+        .arg(replicas)
+}
+
+/// The access that these options name: `--preauth` alone, or `--user` and `--pass` without it.
+pub fn access_of<'a>(
+    preauth: bool,
+    user: Option<&'a str>,
+    pass: Option<&'a str>,
+) -> Option<Access<'a>>
+    ensures { result ≡ access_of preauth user.entry pass.entry }
+{
+    match (preauth, user, pass) {
+        (true, None, None) => Some(Access::Preauth),
+        (false, Some(user), Some(pass)) => Some(Access::Password { user, pass }),
+        _ => None,
+    }
+}
+
+/// The replicas that these words name, in their order, and their names.
+fn places_of<'a>(
+    alloc: Global,
+    names: &mut Vec<u16>,
+    texts: &[&'a str],
+) -> Result<Vec<Place<'a>>, SettingsFault<'a>>
+    requires { names.old.items ≡ [] }
+    ensures names { OnOk result (AreNames names.new.items) }
+    ensures same { IfOk result (λ places. names.new.items ≡ names_of places.items) }
+{
+    let mut places = Vec::new(alloc);
+    for text in texts {
+        match add_place(names, &mut places, text) {
+            Ok(()) => {}
+            Err(fault) => return Err(fault),
+        }
+    }
+    Ok(places)
+}
+
+/// The replicas that are to join by these words, in their order; their names come behind those that are there.
+fn joins_of<'a>(
+    alloc: Global,
+    names: &mut Vec<u16>,
+    texts: &[&'a str],
+) -> Result<Vec<Join<'a>>, SettingsFault<'a>>
+    requires { AreNames names.old.items }
+    ensures names { IfOk result (λ joins. AreNames (names.old.items ++ newcomers_of joins.items)) }
+    ensures peers { IfOk result (λ joins. HavePeers names.old.items joins.items) }
+{
+    let mut joins = Vec::new(alloc);
+    for text in texts {
+        match add_join(names, &mut joins, text) {
+            Ok(()) => {}
+            Err(fault) => return Err(fault),
+        }
+    }
+    Ok(joins)
+}
+
+/// Adds the replica that is to join by a word, and its name.
+fn add_join<'a>(
+    names: &mut Vec<u16>,
+    joins: &mut Vec<Join<'a>>,
+    text: &'a str,
+) -> Result<(), SettingsFault<'a>>
+    requires { AreNames names.old.items }
+    ensures names { OnOk result (AreNames names.new.items) }
+    ensures more { OnOk result ((join : Joining) × (names.new.items ≡ names.old.items ++ join.place.replica ∷ []) × (is_named join.peer names.old.items ≡ true) × (joins.new.items ≡ joins.old.items ++ join ∷ [])) }
+{
+    let Some(join) = join_of(text) else {
+        return Err(SettingsFault::BadJoin(text));
+    };
+    if !names.contains(&join.peer) {
+        return Err(SettingsFault::BadJoin(text));
+    }
+    let replica = join.place.replica;
+    match add_name(names, replica) {
+        Ok(true) => {}
+        Ok(false) => return Err(SettingsFault::Twice(replica)),
+        Err(_) => return Err(SettingsFault::NoMemory),
+    }
+    match joins.push(join) {
+        Ok(()) => Ok(()),
+        Err(_) => Err(SettingsFault::NoMemory),
+    }
+}
+
+/// Adds the replica that a word names, and its name.
+fn add_place<'a>(
+    names: &mut Vec<u16>,
+    places: &mut Vec<Place<'a>>,
+    text: &'a str,
+) -> Result<(), SettingsFault<'a>>
+    requires names { AreNames names.old.items }
+    requires same { names_of places.old.items ≡ names.old.items }
+    ensures names { OnOk result (AreNames names.new.items) }
+    ensures same { OnOk result (names_of places.new.items ≡ names.new.items) }
+{
+    let Some(place) = place_of(text) else {
+        return Err(SettingsFault::BadReplica(text));
+    };
+    let replica = place.replica;
+    match add_name(names, replica) {
+        Ok(true) => {}
+        Ok(false) => return Err(SettingsFault::Twice(replica)),
+        Err(_) => return Err(SettingsFault::NoMemory),
+    }
+    match places.push(place) {
+        Ok(()) => Ok(()),
+        Err(_) => Err(SettingsFault::NoMemory),
+    }
+}
+
+/// Adds a name, unless it is there; false where it is.
+fn add_name(names: &mut Vec<u16>, name: u16) -> Result<bool, AllocError>
+    requires positive { 0 < name }
+    requires names { AreNames names.old.items }
+    ensures names { IfOk result (λ is_new. is_new ≡ true → AreNames names.new.items) }
+    ensures items { IfOk result (λ is_new. is_new ≡ true → names.new.items ≡ names.old.items ++ name ∷ []) }
+{
+    if names.contains(&name) {
+        return Ok(false);
+    }
+    match names.push(name) {
+        Ok(()) => Ok(true),
+        Err(_) => Err(AllocError),
+    }
+}
+
+/// The replica that a word names: a number from 1 to 65,535 without leading zeros, `=`, and an address of one octet at least.
+pub fn place_of(text: &str) -> Option<Place<'_>>
+    ensures { IfSome result (λ place. 0 < place.replica) }
+{
+    let (name, address) = text.split_once('=')?;
+    if address.is_empty() {
+        return None;
+    }
+    let replica = name_of(name)?;
+    Some(Place { replica, address })
+}
+
+/// The replica that is to join by a word: one with its address, and behind the last `/` the name of its peer.
+pub fn join_of(text: &str) -> Option<Join<'_>>
+    ensures { IfSome result (λ join. 0 < join.place.replica) }
+{
+    let (place, peer) = text.rsplit_once('/')?;
+    let place = place_of(place)?;
+    let peer = name_of(peer)?;
+    Some(Join { place, peer })
+}
+
+/// The name that these digits spell.
+fn name_of(digits: &str) -> Option<u16>
+    ensures { IfSome result (λ name. 0 < name) }
+{
+    if !digits.bytes().all(|octet| octet.is_ascii_digit()) || digits.starts_with('0') {
+        return None;
+    }
+    match digits.parse::<u16>() {
+        Ok(0) => None,
+        Ok(name) => Some(name),
+        Err(_) => None,
+    }
+}
+
+/// Whether the words ran out of memory.
+pub fn is_without_memory(error: &Error) -> bool {
+    error.kind() == ErrorKind::OutOfMemory
+}

@@ -1,0 +1,227 @@
+//! Connections side by side, while a replica's lock is held.
+
+use crate::callers::{Caller, Manner, said};
+use crate::doors::{PATIENCE, TURNS, Way};
+use crate::scene::{Course, Plan, play};
+use log::Log;
+use std::alloc::{AllocError, Global};
+use std::net::{Net, TcpListener, TcpStream};
+use std::rt::Clock;
+use std::sync::Wait;
+use std::test::*;
+use std::thread::Threads;
+
+/// What one NOOP and a LOGOUT are answered.
+const ONE: &[u8] =
+    b"* PREAUTH [CAPABILITY IMAP4rev2 IDLE CONDSTORE] ready\r\na OK NOOP completed\r\n* BYE logging out\r\nb OK LOGOUT completed\r\n";
+
+/// What two are.
+const TWO: &[u8] =
+    b"* PREAUTH [CAPABILITY IMAP4rev2 IDLE CONDSTORE] ready\r\na OK NOOP completed\r\nb OK NOOP completed\r\n* BYE logging out\r\nc OK LOGOUT completed\r\n";
+
+/// A client that appends, fetches and stores.
+const MAILING: &[u8] =
+    b"a SELECT INBOX\r\nb APPEND INBOX {3+}\r\nabc\r\nc FETCH 1:* FLAGS\r\nd STORE 1 +FLAGS (\\Seen)\r\ne LOGOUT\r\n";
+
+/// What each such client is told, whatever the others do; between these are numbers and the others' messages.
+const MAILED: [&[u8]; 6] = [
+    b"a OK [READ-WRITE] SELECT completed\r\n",
+    b"b OK [APPENDUID ",
+    b"c OK FETCH completed\r\n",
+    b"d OK STORE completed\r\n",
+    b"* BYE logging out\r\n",
+    b"e OK LOGOUT completed\r\n",
+];
+
+/// A client that says this behind such a door, and hears all.
+fn caller(alloc: Global, way: Way, text: &[u8]) -> Result<Caller, AllocError> {
+    Ok(Caller {
+        said: said(alloc, text)?,
+        manner: Manner::Hears,
+        way,
+    })
+}
+
+/// So many of these.
+fn callers(alloc: Global, count: u64, way: Way, text: &[u8]) -> Result<Vec<Caller>, AllocError> {
+    let mut callers = Vec::new(alloc);
+    for _ in 0..count {
+        callers.push(caller(alloc, way, text)?)?;
+    }
+    Ok(callers)
+}
+
+/// Two clients of one replica; the first waits before its first command until the second has passed its second.
+fn one_behind_another(alloc: Global) -> Result<Plan, AllocError> {
+    let mut first = callers(alloc, 1, Way::Behind(2), b"a NOOP\r\nb LOGOUT\r\n")?;
+    first.push(caller(alloc, Way::Telling, b"a NOOP\r\nb NOOP\r\nc LOGOUT\r\n")?)?;
+    Ok(Plan {
+        first,
+        second: Vec::new(alloc),
+        called: 0,
+        until: 0,
+        turns: 0,
+    })
+}
+
+/// Clients of both replicas that wait before their first command until the first replica's lock is held; it is, once all of them wait, until so many
+/// heard all.
+fn while_held(
+    alloc: Global,
+    first: u64,
+    second: u64,
+    text: &[u8],
+    until: u64,
+    turns: u64,
+) -> Result<Plan, AllocError> {
+    Ok(Plan {
+        first: callers(alloc, first, Way::Held, text)?,
+        second: callers(alloc, second, Way::Held, text)?,
+        called: first.saturating_add(second),
+        until,
+        turns,
+    })
+}
+
+fn course<R: Threads + Wait + Clock + Log + Sync + Net<Listener = TcpListener, Stream = TcpStream>>(
+    rt: &R,
+    alloc: Global,
+    plan: Result<Plan, AllocError>,
+) -> Option<Course> {
+    match plan {
+        Ok(plan) => play(rt, alloc, plan),
+        Err(_) => None,
+    }
+}
+
+/// Whether these were heard, by these clients in their order.
+fn are(heard: &[Vec<u8>], wanted: &[&[u8]]) -> bool {
+    heard.len() == wanted.len()
+        && heard
+            .iter()
+            .zip(wanted)
+            .all(|(one, other)| one.as_slice() == *other)
+}
+
+/// Whether the second client went on while the first waited, and both were answered.
+fn second_goes_on(course: &Option<Course>) -> bool {
+    match course {
+        Some(course) => {
+            course.seen == 1 && are(&course.first, &[ONE, TWO]) && course.entries == (9, 0)
+        }
+        None => false,
+    }
+}
+
+#[test]
+fn a_connection_waits_for_another(rt: HostRuntime) {
+    let course = course(&rt, rt.alloc(), one_behind_another(rt.alloc()));
+    assert!(rt; second_goes_on(&course));
+}
+
+/// Whether the other replica's client was answered while the lock was held.
+fn other_goes_on(course: &Option<Course>) -> bool {
+    match course {
+        Some(course) => {
+            (course.seen, course.heard) == (1, 1)
+                && are(&course.second, &[ONE])
+                && course.entries == (0, 4)
+        }
+        None => false,
+    }
+}
+
+#[test]
+fn a_connection_goes_on_beside_a_held_replica(rt: HostRuntime) {
+    let plan = while_held(rt.alloc(), 0, 1, b"a NOOP\r\nb LOGOUT\r\n", 1, PATIENCE);
+    let course = course(&rt, rt.alloc(), plan);
+    assert!(rt; other_goes_on(&course));
+}
+
+/// Whether the client was answered, and not while the lock was held.
+fn own_waits(course: &Option<Course>) -> bool {
+    match course {
+        Some(course) => {
+            (course.seen, course.heard) == (1, 0)
+                && are(&course.first, &[ONE])
+                && course.entries == (4, 0)
+        }
+        None => false,
+    }
+}
+
+#[test]
+fn a_connection_waits_for_its_replica(rt: HostRuntime) {
+    let plan = while_held(rt.alloc(), 1, 0, b"a NOOP\r\nb LOGOUT\r\n", 1, TURNS);
+    let course = course(&rt, rt.alloc(), plan);
+    assert!(rt; own_waits(&course));
+}
+
+/// Whether a text stands in another.
+fn has(told: &[u8], text: &[u8]) -> bool {
+    told.windows(text.len().max(1)).any(|part| part == text)
+}
+
+/// Whether all of these clients mailed.
+fn all_mailed(heard: &[Vec<u8>]) -> bool {
+    heard
+        .iter()
+        .all(|told| MAILED.iter().all(|text| has(told, text)))
+}
+
+/// The UID of the message that a client appended, behind the front of its answer; 0 where there is none.
+fn uid_of(told: &[u8], front: &[u8]) -> u32 {
+    let mut uid = 0u32;
+    if let Some(at) = told
+        .windows(front.len().max(1))
+        .position(|part| part == front)
+    {
+        for octet in told.iter().skip(at).skip(front.len()) {
+            if !octet.is_ascii_digit() {
+                break;
+            }
+            let digit = u32::from(octet.saturating_sub(b'0'));
+            uid = uid.saturating_mul(10).saturating_add(digit);
+        }
+    }
+    uid
+}
+
+/// Whether the UIDs from 1 to 50 came once each, behind this front.
+fn each_uid_once(alloc: Global, front: &[u8], heard: &[Vec<u8>]) -> bool {
+    let mut uids = Vec::new(alloc);
+    for told in heard {
+        if uids.push(uid_of(told, front)).is_err() {
+            return false;
+        }
+    }
+    (1..51u32).all(|uid| uids.iter().filter(|other| **other == uid).count() == 1)
+}
+
+/// What came of fifty clients of each replica: how many doors saw the lock held, how many clients heard all while it was, how many calls there were at
+/// each replica, and whether at both all mailed and each UID came once; the UIDVALIDITY of INBOX is the replica's number.
+fn crowds_mailed(alloc: Global, course: &Option<Course>) -> Option<(u64, u64, u64, u64, bool)> {
+    let course = course.as_ref()?;
+    let first = all_mailed(&course.first)
+        && each_uid_once(alloc, b"b OK [APPENDUID 1 ", &course.first);
+    let second = all_mailed(&course.second)
+        && each_uid_once(alloc, b"b OK [APPENDUID 2 ", &course.second);
+    Some((
+        course.seen,
+        course.heard,
+        course.entries.0,
+        course.entries.1,
+        first && second,
+    ))
+}
+
+#[test]
+fn a_crowd_goes_on_beside_a_held_replica(rt: HostRuntime) {
+    let alloc = rt.alloc();
+    let plan = while_held(alloc, 50, 50, MAILING, 50, 100_000_000);
+    let course = course(&rt, alloc, plan);
+    assert_eq!(rt;
+        crowds_mailed(alloc, &course),
+        Some((100, 50, 350, 350, true))
+    );
+}

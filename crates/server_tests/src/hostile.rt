@@ -1,0 +1,118 @@
+//! Clients that send what no client should, or don't read.
+
+use crate::callers::{Caller, Manner, said};
+use crate::doors::Way;
+use crate::scene::{Course, Plan, play};
+use log::Log;
+use std::alloc::{AllocError, Global};
+use std::net::{Net, TcpListener, TcpStream};
+use std::rt::Clock;
+use std::sync::Wait;
+use std::test::*;
+use std::thread::Threads;
+
+/// A line that is too long.
+const LONG: &[u8] =
+    b"* PREAUTH [CAPABILITY IMAP4rev2 IDLE CONDSTORE] ready\r\n* BYE line too long\r\n";
+
+/// A literal that doesn't come.
+const READY: &[u8] = b"* PREAUTH [CAPABILITY IMAP4rev2 IDLE CONDSTORE] ready\r\n+ ready\r\n";
+
+/// A NUL behind a NOOP.
+const NUL: &[u8] =
+    b"* PREAUTH [CAPABILITY IMAP4rev2 IDLE CONDSTORE] ready\r\na OK NOOP completed\r\n* BYE NUL in text\r\n";
+
+/// A literal that is too long and comes unasked.
+const UNASKED: &[u8] =
+    b"* PREAUTH [CAPABILITY IMAP4rev2 IDLE CONDSTORE] ready\r\n* BYE literal too long\r\n";
+
+/// A NOOP and a LOGOUT.
+const GOOD: &[u8] =
+    b"* PREAUTH [CAPABILITY IMAP4rev2 IDLE CONDSTORE] ready\r\na OK NOOP completed\r\n* BYE logging out\r\nb OK LOGOUT completed\r\n";
+
+/// How many clients hear all, whatever the others do.
+const GOING: u64 = 4;
+
+fn caller(alloc: Global, manner: Manner, way: Way, text: &[u8]) -> Result<Caller, AllocError> {
+    Ok(Caller {
+        said: said(alloc, text)?,
+        manner,
+        way,
+    })
+}
+
+/// A client that says something, and then octets without an end of line, up to so many in all.
+fn endless(alloc: Global, text: &[u8], count: usize) -> Result<Caller, AllocError> {
+    let mut caller = caller(alloc, Manner::Hears, Way::Open, text)?;
+    caller.said.resize(count, 120)?;
+    Ok(caller)
+}
+
+/// A client that appends a message of a million octets, asks for it forty times, and reads nothing.
+fn deaf(alloc: Global) -> Result<Caller, AllocError> {
+    let begin = b"a SELECT INBOX\r\nb APPEND INBOX {1000000+}\r\n";
+    let mut caller = caller(alloc, Manner::Deaf(GOING), Way::Telling, begin)?;
+    let length = caller.said.len().saturating_add(1_000_000);
+    caller.said.resize(length, 120)?;
+    caller.said.extend_from_slice(b"\r\n")?;
+    for _ in 0..40u32 {
+        caller.said.extend_from_slice(b"c FETCH 1 BODY.PEEK[]\r\n")?;
+    }
+    Ok(caller)
+}
+
+/// All of them at one replica. Those with commands wait until the one that doesn't read has asked for the message twice.
+fn plan(alloc: Global) -> Result<Plan, AllocError> {
+    let mut first = Vec::new(alloc);
+    first.push(deaf(alloc)?)?;
+    let begun = b"a APPEND INBOX {10}\r\nabc";
+    first.push(caller(alloc, Manner::Waits(GOING), Way::Open, begun)?)?;
+    first.push(endless(alloc, b"a NOOP ", 10_000_000)?)?;
+    let nul = b"a NOOP\r\n\0b NOOP\r\n";
+    first.push(caller(alloc, Manner::Hears, Way::Behind(4), nul)?)?;
+    first.push(endless(alloc, b"a APPEND INBOX {1048577+}\r\n", 1_050_000)?)?;
+    let good = b"a NOOP\r\nb LOGOUT\r\n";
+    first.push(caller(alloc, Manner::Hears, Way::Behind(4), good)?)?;
+    Ok(Plan {
+        first,
+        second: Vec::new(alloc),
+        called: 0,
+        until: 0,
+        turns: 0,
+    })
+}
+
+fn course<R: Threads + Wait + Clock + Log + Sync + Net<Listener = TcpListener, Stream = TcpStream>>(
+    rt: &R,
+    alloc: Global,
+) -> Option<Course> {
+    match plan(alloc) {
+        Ok(plan) => play(rt, alloc, plan),
+        Err(_) => None,
+    }
+}
+
+/// Whether each was told what it should be. The client that doesn't read carried out four commands at least, and stopped before its fortieth FETCH, behind
+/// what its connection holds; the others made 15 calls.
+fn are_told(course: &Option<Course>) -> bool {
+    let wanted: [&[u8]; 6] = [b"", READY, LONG, NUL, UNASKED, GOOD];
+    match course {
+        Some(course) => {
+            course.first.len() == wanted.len()
+                && course
+                    .first
+                    .iter()
+                    .zip(wanted)
+                    .all(|(told, text)| told.as_slice() == text)
+                && course.entries.0 >= 19
+                && course.entries.0 < 57
+        }
+        None => false,
+    }
+}
+
+#[test]
+fn bad_clients_harm_themselves(rt: HostRuntime) {
+    let course = course(&rt, rt.alloc());
+    assert!(rt; are_told(&course));
+}

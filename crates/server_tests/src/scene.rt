@@ -1,0 +1,243 @@
+//! Two replicas, whose connections are served while clients call and a lock is held.
+
+ghost use Rattle.std.specs.Prelude.{◌≡◌};
+
+use crate::callers::{Caller, Line, hear};
+use crate::doors::{Door, Keeper, Signs, Way, wait_for};
+use imap_node::Node;
+use log::Log;
+use mail_serving::{Access, Desk, House, Newcomers, Stop, serve_over};
+use replica_lock::{Book, Pass, Shared};
+use std::alloc::{AllocError, Global};
+use std::marker::Brand;
+use std::net::{Net, TcpListener, TcpStream};
+use std::rt::Clock;
+use std::sync::Wait;
+use std::sync::atomic::Ordering;
+use std::sync::ledger::{Blank, Ledger};
+use std::thread::Threads;
+use std::{io, thread};
+use tags_clocks::ReplicaId;
+use uid_projection::Start;
+
+/// Who calls, and how long the first replica's lock is held.
+#[derive(Drop)]
+pub struct Plan {
+    /// The clients of the first replica.
+    pub first: Vec<Caller>,
+    /// Those of the second.
+    pub second: Vec<Caller>,
+    /// How many doors are reached before the lock is taken.
+    pub called: u64,
+    /// Until so many clients heard all; 0 where it isn't held.
+    pub until: u64,
+    /// Or for so many turns.
+    pub turns: u64,
+}
+
+/// What came of it.
+#[derive(Drop)]
+pub struct Course {
+    /// What the clients of the first replica heard, in their order.
+    pub first: Vec<Vec<u8>>,
+    /// Those of the second.
+    pub second: Vec<Vec<u8>>,
+    /// How many clients had heard all when the lock was released.
+    pub heard: u64,
+    /// How many doors saw what they waited for.
+    pub seen: u64,
+    /// How many calls each replica's journal tells of.
+    pub entries: (u64, u64),
+}
+
+/// A new replica with this number.
+fn fresh_book(alloc: Global, number: u32) -> Option<Book> {
+    let start = Start {
+        replica: ReplicaId::new(number)?,
+        uid: 1,
+        k: 1,
+    };
+    match Node::new(alloc, start) {
+        Ok(node) => Some(Book::new(alloc, node)),
+        Err(_) => None,
+    }
+}
+
+/// The server's sides of connections, with what their doors do, and the clients'.
+#[derive(Drop)]
+struct Side {
+    streams: Vec<TcpStream>,
+    ways: Vec<Way>,
+    lines: Vec<Line>,
+}
+
+/// Connects the clients.
+fn connected<R: Net<Listener = TcpListener, Stream = TcpStream>>(
+    rt: &R,
+    alloc: Global,
+    listener: &TcpListener,
+    callers: Vec<Caller>,
+) -> io::Result<Side> {
+    let mut side = Side {
+        streams: Vec::new(alloc),
+        ways: Vec::new(alloc),
+        lines: Vec::new(alloc),
+    };
+    for caller in callers {
+        let stream = TcpStream::connect(rt, listener.local_addr()?)?;
+        let (theirs, _) = listener.accept()?;
+        side.streams.push(theirs)?;
+        side.ways.push(caller.way)?;
+        side.lines.push(Line { stream, caller })?;
+    }
+    Ok(side)
+}
+
+/// The doors that do this.
+fn doors_of<'a>(
+    alloc: Global,
+    ways: &[Way],
+    signs: &'a Signs,
+) -> Result<Vec<Door<'a>>, AllocError> {
+    let mut doors = Vec::new(alloc);
+    for way in ways {
+        doors.push(Door { way: *way, signs })?;
+    }
+    Ok(doors)
+}
+
+/// Holds a lock once so many doors were reached, until so many clients heard all, and tells how many had.
+fn keep<L: Ledger, R: Wait>(
+    rt: &R,
+    shared: &Shared<L>,
+    signs: &Signs,
+    called: u64,
+    until: u64,
+    turns: u64,
+) -> u64 {
+    if until == 0 {
+        return 0;
+    }
+    wait_for(rt, &signs.called, called);
+    let mut keeper = Keeper {
+        signs,
+        least: until,
+        turns,
+        heard: 0,
+    };
+    shared.hold(rt, &mut keeper, 1);
+    keeper.heard
+}
+
+/// Serves one replica's connections, while its clients call: their passes, and what the clients heard.
+fn side_served<L: Ledger + Send + Sync, R: Threads + Wait + Clock + Log + Sync>(
+    rt: &R,
+    alloc: Global,
+    house: &House<'_>,
+    shared: &Shared<L>,
+    first: &mut Pass<L>,
+    signs: &Signs,
+    side: Side,
+) -> Result<(Vec<Pass<L>>, Vec<Vec<u8>>), AllocError> {
+    let Side {
+        streams,
+        ways,
+        lines,
+    } = side;
+    let doors = doors_of(alloc, &ways, signs)?;
+    let desk = Desk {
+        house,
+        own: 0,
+        shared,
+    };
+    let (passes, heard) = thread::join(
+        rt,
+        || serve_over(rt, alloc, &desk, first, streams, doors),
+        || thread::map_vec(rt, lines, &|line: Line| hear(rt, alloc, signs, line)),
+    );
+    Ok((passes?, heard?))
+}
+
+/// How many calls the journal tells of, where all passes are there.
+fn entries_of<L: Ledger>(
+    shared: Shared<L>,
+    first: Pass<L>,
+    passes: Vec<Pass<L>>,
+) -> Result<u64, AllocError>
+    requires { L.parts ≡ 4294967295 }
+{
+    let mut passes = passes;
+    passes.push(first)?;
+    match shared.finish(passes) {
+        Ok(book) => Ok(book.len()),
+        Err(_) => Ok(0),
+    }
+}
+
+fn played<
+    L: Ledger + Send + Sync,
+    M: Ledger + Send + Sync,
+    R: Threads + Wait + Clock + Log + Sync + Net<Listener = TcpListener, Stream = TcpStream>,
+>(
+    rt: &R,
+    alloc: Global,
+    blank: Blank,
+    other_blank: Blank,
+    books: (Book, Book),
+    plan: Plan,
+) -> io::Result<Course>
+    requires one { (blank.name ≡ L.name) × (blank.parts ≡ L.parts) × (L.parts ≡ 4294967295) }
+    requires two { (other_blank.name ≡ M.name) × (other_blank.parts ≡ M.parts) × (M.parts ≡ 4294967295) }
+{
+    let (one, mut near) = Shared::<L>::new(blank, books.0);
+    let (two, mut far) = Shared::<M>::new(other_blank, books.1);
+    let house = House {
+        access: Access::Preauth,
+        stations: Vec::new(alloc),
+        newcomers: Newcomers::new(Vec::new(alloc)),
+        stop: Stop::after(None),
+    };
+    let Plan {
+        first,
+        second,
+        called,
+        until,
+        turns,
+    } = plan;
+    let signs = Signs::new();
+    let listener = TcpListener::bind(rt, "127.0.0.1:0")?;
+    let side = connected(rt, alloc, &listener, first)?;
+    let other_side = connected(rt, alloc, &listener, second)?;
+    let (heard, (served, other_served)) = thread::join(
+        rt,
+        || keep(rt, &one, &signs, called, until, turns),
+        || {
+            thread::join(
+                rt,
+                || side_served(rt, alloc, &house, &one, &mut near, &signs, side),
+                || side_served(rt, alloc, &house, &two, &mut far, &signs, other_side),
+            )
+        },
+    );
+    let (passes, first) = served?;
+    let (other_passes, second) = other_served?;
+    Ok(Course {
+        first,
+        second,
+        heard,
+        seen: signs.seen.load(Ordering::SeqCst),
+        entries: (
+            entries_of(one, near, passes)?,
+            entries_of(two, far, other_passes)?,
+        ),
+    })
+}
+
+/// Serves the clients of a plan at two new replicas; `None` where that fails.
+pub fn play<
+    R: Threads + Wait + Clock + Log + Sync + Net<Listener = TcpListener, Stream = TcpStream>,
+>(rt: &R, alloc: Global, plan: Plan) -> Option<Course> {
+    let books = (fresh_book(alloc, 1)?, fresh_book(alloc, 2)?);
+    let whole = 4_294_967_295;
+    played::<Brand, Brand, R>(rt, alloc, Blank::new(whole), Blank::new(whole), books, plan).ok()
+}
