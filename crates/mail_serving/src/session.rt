@@ -1,9 +1,11 @@
 //! One session of a replica behind its lock, as a port.
 
-ghost use Rattle.std.specs.Prelude.{◌≡◌, ℕ, Err, IfErr, IfOk, Ok, Some};
+ghost use Rattle.std.specs.Prelude.{◌≡◌, ◌⊎◌, ℕ, Err, IfOk, Ok, Some};
 ghost use Rattle.std.specs.Option.{option_map};
 ghost use Rattle.imap_node.specs.declared.sessions.OpenFault.TheVariants as refusals;
-ghost use Rattle.imap_talk.specs.declared.fault.PortFault.TheVariants.{TooManySessions};
+ghost use Rattle.imap_talk.specs.Asked as asked;
+ghost use Rattle.imap_talk.specs.declared.fault.PortFault.TheVariants.{NoRoom, TooManySessions, Torn};
+ghost use Rattle.mail_serving.specs.Calls.{OpensByCall, StepsByCall};
 ghost use Rattle.replica_lock.specs.declared.outcome.Outcome.TheVariants.{Opened, Replied};
 
 use crate::house::{House, auth_of, login_of};
@@ -61,10 +63,70 @@ impl<'a, L: Ledger, R: Wait + Clock, G: Gate> SessionPort<'a, L, R, G> {
     }
 }
 
-impl<'a, L: Ledger, R: Wait + Clock, G: Gate> Port for SessionPort<'a, L, R, G> {
-    ghost use Rattle.mail_serving.specs.Calls.{OpensByCall, StepsByCall};
+impl<'a, L: Ledger, R: Wait + Clock, G: Gate> SessionPort<'a, L, R, G> {
+    /// Opens the session in its pass.
+    fn open_in(&self, alloc: Global, pass: &mut Pass<L>) -> Result<Login, PortFault>
+        ensures { OpensByCall self.now.house.now.access result }
+    {
+        if pass.session().is_some() {
+            return Err(PortFault::PassedOver);
+        }
+        let Ok(auth) = auth_of(alloc, self.house.access) else {
+            return Err(PortFault::NoMemory);
+        };
+        match self.shared.open(self.rt, alloc, pass, auth) {
+            Ok(()) => opened(pass.last(), login_of(self.house.access)),
+            Err(fault) => Err(fault_of(fault)),
+        }
+    }
 
-    ghost opens = { λ s r t. OpensByCall s.house.access r };
+    /// Gives the session a command in its pass.
+    fn command_in(
+        &self,
+        alloc: Global,
+        pass: &mut Pass<L>,
+        tagged: Tagged,
+    ) -> Result<Reply, PortFault>
+        ensures { StepsByCall (asked.Command tagged) result }
+    {
+        if pass.session().is_none() {
+            return Err(PortFault::PassedOver);
+        }
+        let idles = matches!(&tagged.command, Command::Idle);
+        let moment = moment_now(self.rt);
+        match self.shared.command(self.rt, alloc, pass, moment, tagged) {
+            Ok(()) => {
+                self.follow(alloc, idles, pass.last());
+                replied(alloc, pass.last())
+            }
+            Err(fault) => Err(fault_of(fault)),
+        }
+    }
+
+    /// Gives the session a line of IDLE in its pass.
+    fn line_in(&self, alloc: Global, pass: &mut Pass<L>, line: IdleLine) -> Result<Reply, PortFault>
+        ensures { StepsByCall (asked.Line line) result }
+    {
+        if pass.session().is_none() {
+            return Err(PortFault::PassedOver);
+        }
+        self.outlet.set_idles(self.rt, false);
+        match self.shared.done(self.rt, alloc, pass, line) {
+            Ok(()) => replied(alloc, pass.last()),
+            Err(fault) => Err(fault_of(fault)),
+        }
+    }
+
+    /// Hands on what a command issued, and says whether the session idles behind it.
+    fn follow(&self, alloc: Global, idles: bool, last: Option<&Outcome>) {
+        let mail = Mail::new(self.rt, self.house, self.own);
+        mail.tell_all(alloc, issued(last));
+        self.outlet.set_idles(self.rt, idles && is_done(last));
+    }
+}
+
+impl<'a, L: Ledger, R: Wait + Clock, G: Gate> Port for SessionPort<'a, L, R, G> {
+    ghost opens = { λ s r t. OpensByCall s.house.now.access r };
 
     ghost steps = { λ s call r t. StepsByCall call r };
 
@@ -72,52 +134,19 @@ impl<'a, L: Ledger, R: Wait + Clock, G: Gate> Port for SessionPort<'a, L, R, G> 
 
     fn open(&mut self, alloc: Global) -> Result<Login, PortFault> {
         let mut pass = self.pass.lock(self.rt);
-        if pass.session().is_some() {
-            return Err(PortFault::PassedOver);
-        }
-        let Ok(auth) = auth_of(alloc, self.house.access) else {
-            return Err(PortFault::NoMemory);
-        };
-        match self.shared.open(self.rt, alloc, &mut pass, auth) {
-            Ok(()) => opened(pass.last(), login_of(self.house.access)),
-            Err(fault) => Err(fault_of(fault)),
-        }
+        self.open_in(alloc, &mut pass)
     }
 
     fn command(&mut self, alloc: Global, tagged: Tagged) -> Result<Reply, PortFault> {
         self.commands = self.commands.saturating_add(1);
         self.gate.pass(self.commands);
-        let idles = matches!(&tagged.command, Command::Idle);
-        let moment = moment_now(self.rt);
         let mut pass = self.pass.lock(self.rt);
-        if pass.session().is_none() {
-            return Err(PortFault::PassedOver);
-        }
-        match self
-            .shared
-            .command(self.rt, alloc, &mut pass, moment, tagged)
-        {
-            Ok(()) => {
-                let mail = Mail::new(self.rt, self.house, self.own);
-                mail.tell_all(alloc, issued(pass.last()));
-                self.outlet
-                    .set_idles(self.rt, idles && is_done(pass.last()));
-                replied(alloc, pass.last())
-            }
-            Err(fault) => Err(fault_of(fault)),
-        }
+        self.command_in(alloc, &mut pass, tagged)
     }
 
     fn done(&mut self, alloc: Global, line: IdleLine) -> Result<Reply, PortFault> {
         let mut pass = self.pass.lock(self.rt);
-        if pass.session().is_none() {
-            return Err(PortFault::PassedOver);
-        }
-        self.outlet.set_idles(self.rt, false);
-        match self.shared.done(self.rt, alloc, &mut pass, line) {
-            Ok(()) => replied(alloc, pass.last()),
-            Err(fault) => Err(fault_of(fault)),
-        }
+        self.line_in(alloc, &mut pass, line)
     }
 
     fn close(&mut self, alloc: Global) {
@@ -129,7 +158,9 @@ impl<'a, L: Ledger, R: Wait + Clock, G: Gate> Port for SessionPort<'a, L, R, G> 
     }
 }
 
-fn fault_of(fault: CallFault) -> PortFault {
+fn fault_of(fault: CallFault) -> PortFault
+    ensures { (result ≡ NoRoom) ⊎ (result ≡ Torn) }
+{
     match fault {
         CallFault::NoRoom => PortFault::NoRoom,
         CallFault::Torn { .. } => PortFault::Torn,

@@ -15,6 +15,6 @@ loop-text-preserved c =
     record {
       names = c.in-Ok.ensures.names;
       same = more.1 ∙ ap (λ (xs : List ℕ). xs ++ name ∷ []) c.loop-text.invariant.same ∙ append_assoc first (newcomers_of joins) (name ∷ [])
-      ∙ ap (λ (xs : List ℕ). first ++ xs) (sym (newcomers_more joins join)) ∙ ap (λ (js : List Joining). first ++ newcomers_of js) (sym more.3);
+          ∙ ap (λ (xs : List ℕ). first ++ xs) (sym (newcomers_more joins join)) ∙ ap (λ (js : List Joining). first ++ newcomers_of js) (sym more.3);
       peers = subst (HavePeers first) (sym more.3) (peers_more first joins join c.loop-text.invariant.peers named);
     }

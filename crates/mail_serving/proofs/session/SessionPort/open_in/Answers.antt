@@ -1,0 +1,10 @@
+use Rattle.std.proofs.Common.{Bor}
+use Rattle.std.specs.Option.{option_map}
+use Rattle.mail_serving.proofs.CallLemmas.{opens_by}
+use Rattle.mail_serving.proofs.session.SessionPort.open_in.Goals as goal
+use Rattle.replica_lock.specs.declared.outcome.Outcome.{Outcome}
+
+pub returns-in-Ok-open : goal.returns-in-Ok-open
+returns-in-Ok-open g c =
+    opens_by c.args.self.now.house.now.access c.login_of.result c.in-Ok.auth c.opened.result c.args.pass.now c.open.new.pass (option_map (λ (o : Bor Outcome). o.now) c.last.result) c.login_of.ensures c.in-Ok.ensures
+    c.in-Ok-open.ensures.called c.last.ensures c.opened.ensures.ok c.opened.ensures.full
