@@ -3,9 +3,12 @@
 ghost use Rattle.std.specs.Prelude.{◌≡◌, ℕ, None, Bool};
 
 use crate::ends::{Sink, Source};
-use std::io::{Read, Write};
+use std::io::{ErrorKind, Read, Write};
 
-/// A device with the count of its failures. Nothing is known of its octets.
+/// So often a read is tried, where the device says each time that it was interrupted.
+const MAX_READS: u32 = 1_000_000;
+
+/// A device with the count of its failures. A read or write that was interrupted is tried again, and is no failure. Nothing is known of the device's octets.
 #[derive(Drop)]
 pub struct Wire<T> {
     device: T,
@@ -41,18 +44,23 @@ impl<T: Read> Source for Wire<T> {
     ghost is_ended = { λ w. w.ended };
 
     fn read(&mut self, piece: &mut [u8]) -> Option<usize> {
-        match self.device.read(piece) {
-            Ok(count) => {
-                if count == 0 {
-                    self.ended = true;
+        for _read in 0..MAX_READS {
+            match self.device.read(piece) {
+                Ok(count) => {
+                    if count == 0 {
+                        self.ended = true;
+                    }
+                    return Some(count);
                 }
-                Some(count)
-            }
-            Err(_) => {
-                self.failed += 1;
-                None
+                Err(why) => {
+                    if why.kind() != ErrorKind::Interrupted {
+                        break;
+                    }
+                }
             }
         }
+        self.failed += 1;
+        None
     }
 }
 
