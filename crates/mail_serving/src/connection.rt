@@ -1,11 +1,16 @@
 //! One connection.
 
+ghost use Rattle.std.specs.Prelude.{◌≡◌, ◌<◌};
+ghost use Rattle.imap_talk.specs.Talks.{Talked};
+ghost use Rattle.mail_serving.specs.Calls.{OpensByCall, StepsByCall};
+
 use crate::feeding::feed;
 use crate::house::House;
 use crate::outlet::Outlet;
 use crate::reading::Reader;
 use crate::session::SessionPort;
-use imap_talk::{Ended, Wire, converse};
+use imap_lex::Limits;
+use imap_talk::{Ended, Sink, Source, Wire, converse};
 use log::{Log, info};
 use replica_links::Gate;
 use replica_lock::{Pass, Shared};
@@ -71,10 +76,27 @@ fn talk<L: Ledger, R: Wait + Clock, G: Gate>(
     let mut port = SessionPort::new(rt, desk.shared, pass, desk.house, desk.own, outlet, gate);
     let mut source = Reader::new(rt, outlet, stream);
     let mut sink = Wire::new(stream);
-    let ended = converse(rt, alloc, &mut source, &mut sink, &mut port);
+    let ended = talk_over(rt, alloc, &mut source, &mut sink, &mut port);
     drop(port);
     outlet.end(rt);
     ended
+}
+
+/// Holds a conversation as a session of a replica behind its lock, over any source of octets and any sink for them. The session is opened by one call of the replica for
+/// whom the server lets in; each command and each line of IDLE that the octets read spell is one call, in their order; and what is written is the greeting, the printed outcomes
+/// of these calls in that order, and the BYE that the end names, or, where a write failed, a beginning of it.
+pub fn talk_over<L: Ledger, R: Wait + Clock, G: Gate, S: Source, K: Sink>(
+    rt: &R,
+    alloc: Global,
+    source: &mut S,
+    sink: &mut K,
+    port: &mut SessionPort<'_, L, R, G>,
+) -> Ended
+    requires source { S.failures source.old < 18446744073709551615 }
+    requires sink { K.failures sink.old < 18446744073709551615 }
+    ensures { Talked (λ s r t. OpensByCall s.house.now.access r) (λ s call r t. StepsByCall call r) (λ s t. Unit {0}) port.old port.new Limits.STANDARD (S.left source.old) (S.left source.new) (S.is_ended source.new) (K.taken sink.old) (K.taken sink.new) result }
+{
+    converse(rt, alloc, source, sink, port)
 }
 
 fn tell_end<R: Log>(rt: &R, ended: Ended) {

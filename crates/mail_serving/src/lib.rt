@@ -14,10 +14,12 @@ mod session;
 mod settings;
 mod station;
 
-pub use connection::Desk;
+pub use connection::{Desk, talk_over};
 pub use house::{House, Stop};
 pub use joining::Newcomer;
+pub use outlet::Outlet;
 pub use program::{RunFault, open_all, run};
 pub use serving::{Beginning, Part, serve, serve_over};
+pub use session::SessionPort;
 pub use settings::{Access, CommandLine, Join, Place, SettingsFault, access_of, settings};
 pub use station::{Call, CopyOrder, Newcomers, Station};
