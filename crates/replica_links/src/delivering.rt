@@ -1,7 +1,9 @@
 //! A replica behind its lock that takes operations.
 
-ghost use Rattle.std.specs.Prelude.{◌≡◌, None};
+ghost use Rattle.std.specs.Prelude.{◌≡◌, None, Some};
+ghost use Rattle.std.specs.Option.{option_map};
 ghost use Rattle.replica_links.specs.Links.{AreGiven, IsClockHad, IsDrainedBy, IsTakenBy, MayLack, took_of};
+ghost use Rattle.replica_lock.specs.declared.outcome.Outcome.{Outcome as Came};
 
 use crate::handing::Taker;
 use crate::took::Took;
@@ -76,14 +78,7 @@ impl<'a, L: Ledger, R: Wait> Taker for ReplicaTaker<'a, L, R> {
     ghost lacks = { λ s. MayLack s };
 
     fn deliver(&mut self, op: SoundOp) -> Took {
-        let called = self.shared.deliver(self.rt, self.alloc, &mut self.pass, op);
-        if called.is_err() {
-            return Took::lacking();
-        }
-        match self.pass.last() {
-            Some(outcome) => took_of(outcome),
-            None => Took::lacking(),
-        }
+        deliver_in(self.rt, self.alloc, self.shared, &mut self.pass, op)
     }
 
     fn drain(&mut self) {
@@ -96,6 +91,32 @@ impl<'a, L: Ledger, R: Wait> Taker for ReplicaTaker<'a, L, R> {
 
     fn ops_since(&self, clock: &Clock) -> Option<Vec<SoundOp>> {
         self.shared.ops_since(self.rt, self.alloc, clock).ok()
+    }
+}
+
+/// Delivers an operation by one call that this pass notes.
+fn deliver_in<L: Ledger, R: Wait>(
+    rt: &R,
+    alloc: Global,
+    shared: &Shared<L>,
+    pass: &mut Pass<L>,
+    op: SoundOp,
+) -> Took
+    ensures { IsTakenBy pass.old op result pass.new }
+{
+    match shared.deliver(rt, alloc, pass, op) {
+        Ok(()) => took_last(pass.last()),
+        Err(_) => Took::lacking(),
+    }
+}
+
+/// What became of a delivery with the outcome that a pass keeps; lacking where it keeps none.
+fn took_last(last: Option<&Outcome>) -> Took
+    ensures { (outcome : Came) → option_map (λ o. o.now) last.entry ≡ Some outcome → result ≡ took_of outcome }
+{
+    match last {
+        Some(outcome) => took_of(outcome),
+        None => Took::lacking(),
     }
 }
 
