@@ -172,9 +172,10 @@ impl<L: Ledger> End<L> {
         let mut outbox = Outbox {
             sent: Vec::new(alloc),
         };
+        let other = self.other();
         let taker = ReplicaTaker::new(rt, alloc, &self.shared, pass);
-        ask_all(&taker, &mut outbox, &[self.other()]);
-        let kept = self.passes.push(taker.into_pass()).is_ok();
+        let pass = asked(taker, &mut outbox, other);
+        let kept = self.passes.push(pass).is_ok();
         ways.send_all(self.own, outbox)?;
         Ok(kept)
     }
@@ -224,6 +225,16 @@ impl<L: Ledger> End<L> {
         let _ = passes.push(client);
         shared.finish(passes).ok()
     }
+}
+
+/// Asks a replica for all that this one lacks, and gives the pass back.
+fn asked<L: Ledger, R: Wait>(
+    taker: ReplicaTaker<'_, L, R>,
+    outbox: &mut Outbox,
+    other: usize,
+) -> Pass<L> {
+    ask_all(&taker, outbox, &[other]);
+    taker.into_pass()
 }
 
 /// Plays what happens at both replicas: what was sent, line by line, then what each made of it, and whether they agree.

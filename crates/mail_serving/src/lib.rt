@@ -21,5 +21,5 @@ pub use outlet::Outlet;
 pub use program::{RunFault, open_all, run};
 pub use serving::{Beginning, Part, serve, serve_over};
 pub use session::SessionPort;
-pub use settings::{Access, CommandLine, Join, Place, SettingsFault, access_of, settings};
+pub use settings::{Access, CommandLine, Join, Place, SettingsFault, access_of, read_settings};
 pub use station::{Call, CopyOrder, Newcomers, Station};

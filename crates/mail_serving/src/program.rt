@@ -3,7 +3,7 @@
 use crate::house::{House, Stop};
 use crate::joining::Newcomer;
 use crate::serving::{Beginning, Part, serve};
-use crate::settings::{CommandLine, Join, Place, SettingsFault, is_without_memory, settings};
+use crate::settings::{CommandLine, Join, Place, SettingsFault, is_without_memory, read_settings};
 use crate::station::{Call, Newcomers, Station};
 use clap::Error;
 use crossbeam_channel::unbounded;
@@ -82,7 +82,7 @@ fn obey<
         + Sync
         + Net<Listener = TcpListener, Stream = TcpStream>,
 >(rt: &R, words: &[String]) -> u8 {
-    match settings(rt.alloc(), words) {
+    match read_settings(rt.alloc(), words) {
         Ok(settings) => match run_as(rt, rt.alloc(), &settings) {
             Ok(()) => 0,
             Err(RunFault::Told) => 1,

@@ -92,7 +92,7 @@ impl<'a> From<AllocError> for SettingsFault<'a> {
 
 /// Reads the words of a command line, the program's name first. Its words are judged first, then the access, then the replicas in their order, then those that are
 /// to join in theirs. The replicas' names are from 1 to 65,535, and no two are the same; each that joins takes the operations of one that is there before it.
-pub fn settings<'a>(
+pub fn read_settings<'a>(
     alloc: Global,
     words: &'a [String],
 ) -> Result<CommandLine<'a>, SettingsFault<'a>>

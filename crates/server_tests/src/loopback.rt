@@ -3,7 +3,7 @@
 use crate::clients::Client;
 use imap_types::Moment;
 use log::Log;
-use mail_serving::{House, open_all, serve, settings};
+use mail_serving::{House, open_all, read_settings, serve};
 use mail_text::civil;
 use std::alloc::Global;
 use std::net::{Net, SocketAddr, TcpListener, TcpStream};
@@ -246,7 +246,7 @@ fn served<
     for word in words {
         owned.push(format!(in alloc; "{word}").ok()?).ok()?;
     }
-    let settings = settings(alloc, &owned).ok()?;
+    let settings = read_settings(alloc, &owned).ok()?;
     let (house, parts) = open_all(rt, alloc, &settings).ok()?;
     let (whole, visited) = thread::join(
         rt,

@@ -1,6 +1,6 @@
 //! Command lines.
 
-use mail_serving::{Access, SettingsFault, access_of, settings};
+use mail_serving::{Access, SettingsFault, access_of, read_settings};
 use std::alloc::{AllocError, Global};
 use std::test::*;
 
@@ -10,7 +10,7 @@ fn told(alloc: Global, words: &[&str]) -> Result<String, AllocError> {
     for word in words {
         owned.push(format!(in alloc; "{word}")?)?;
     }
-    match settings(alloc, &owned) {
+    match read_settings(alloc, &owned) {
         Ok(settings) => {
             let access = match settings.access {
                 Access::Preauth => "preauth",
