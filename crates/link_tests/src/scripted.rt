@@ -345,6 +345,24 @@ fn stop_behind<R: Wait>(rt: &R, calls: &Receiver<Call>, count: usize, to: &Sende
     let _ = to.send(rt, stop);
 }
 
+/// What a worker hears, and whom it asks.
+#[derive(Drop)]
+struct Heard {
+    letters: Receiver<Letter>,
+    peers: Vec<usize>,
+}
+
+impl Heard {
+    /// An inbox whose peers are asked after each five milliseconds.
+    fn inbox(&self) -> Inbox<'_> {
+        Inbox {
+            letters: &self.letters,
+            peers: &self.peers,
+            rest: Duration::from_millis(5),
+        }
+    }
+}
+
 /// The calls that the worker makes where no letter comes.
 fn rested<R: Threads + Wait + rt::Clock + Sync>(
     rt: &R,
@@ -354,6 +372,10 @@ fn rested<R: Threads + Wait + rt::Clock + Sync>(
 ) -> Result<String, AllocError> {
     let (sender, calls) = unbounded(alloc)?;
     let (to, letters) = unbounded(alloc)?;
+    let heard = Heard {
+        letters,
+        peers: peers.to_vec(alloc)?,
+    };
     let mut taker = Scripted {
         notes: Notes { rt, calls: &sender },
         alloc,
@@ -362,11 +384,7 @@ fn rested<R: Threads + Wait + rt::Clock + Sync>(
         clock: ReplicaId::new(9),
         gives: &[],
     };
-    let inbox = Inbox {
-        letters: &letters,
-        peers,
-        rest: Duration::from_millis(5),
-    };
+    let inbox = heard.inbox();
     let mut gate = Notes { rt, calls: &sender };
     let mut post = Notes { rt, calls: &sender };
     thread::join(

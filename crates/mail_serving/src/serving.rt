@@ -48,6 +48,19 @@ pub struct Part<'a> {
     pub beginning: Beginning<'a>,
 }
 
+/// One replica's parts, until its thread takes them.
+#[derive(Drop)]
+struct Room<'a> {
+    part: Mutex<Option<Part<'a>>>,
+}
+
+impl<'a> Room<'a> {
+    /// The parts; `None` where they were taken.
+    fn take<R: Wait>(&self, rt: &R) -> Option<Part<'a>> {
+        self.part.lock(rt).take()
+    }
+}
+
 /// What a replica that runs hears, and whom it asks.
 #[derive(Drop)]
 pub struct Ends {
@@ -94,9 +107,48 @@ pub fn serve<
         + Sync
         + Net<Listener = TcpListener, Stream = TcpStream>,
 >(rt: &R, alloc: Global, house: &House<'_>, parts: Vec<Part<'_>>) -> bool {
-    match thread::map_vec(rt, parts, &|part| run_part(rt, alloc, house, part)) {
+    let Ok((rooms, places)) = rooms_of(alloc, parts) else {
+        return false;
+    };
+    let rooms = rooms.as_slice();
+    match thread::map_vec(rt, places, &|place| run_at(rt, alloc, house, rooms, place)) {
         Ok(ends) => ends.iter().all(|end| *end),
         Err(_) => false,
+    }
+}
+
+/// The parts, each in a room from which its thread takes it, and the places of the rooms.
+fn rooms_of<'a>(
+    alloc: Global,
+    parts: Vec<Part<'a>>,
+) -> Result<(Vec<Room<'a>>, Vec<usize>), AllocError> {
+    let mut rooms = Vec::new(alloc);
+    let mut places = Vec::new(alloc);
+    for part in parts {
+        places.push(rooms.len())?;
+        rooms.push(Room {
+            part: Mutex::new(Some(part)),
+        })?;
+    }
+    Ok((rooms, places))
+}
+
+/// Runs the replica whose parts are in this room.
+fn run_at<
+    R: Threads
+        + Wait
+        + Clock
+        + Log
+        + Print
+        + Sync
+        + Net<Listener = TcpListener, Stream = TcpStream>,
+>(rt: &R, alloc: Global, house: &House<'_>, rooms: &[Room<'_>], place: usize) -> bool {
+    let Some(room) = rooms.get(place) else {
+        return false;
+    };
+    match room.take(rt) {
+        Some(part) => run_part(rt, alloc, house, part),
+        None => false,
     }
 }
 

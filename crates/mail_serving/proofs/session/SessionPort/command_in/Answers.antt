@@ -6,4 +6,4 @@ use Rattle.replica_lock.specs.declared.outcome.Outcome.{Outcome}
 
 pub returns-in-Ok : goal.returns-in-Ok
 returns-in-Ok g c =
-    command_by c.args.tagged c.moment_now.result c.replied.result c.args.pass.now c.command.new.pass (option_map (λ (o : Bor Outcome). o.now) c.last-in-Ok.result) c.in-Ok.ensures.called c.last-in-Ok.ensures c.replied.ensures
+    command_by c.args.tagged c.moment_now-moment.result c.replied.result c.args.pass.now c.command.new.pass (option_map (λ (o : Bor Outcome). o.now) c.last-in-Ok.result) c.in-Ok.ensures.called c.last-in-Ok.ensures c.replied.ensures
