@@ -16,8 +16,11 @@ pub fn fresh_book(alloc: Global, number: u32) -> Option<Book> {
     book_from(alloc, number, 1)
 }
 
-/// The same, with this as the first UID of INBOX.
+/// The same, with this as the first UID of INBOX; `None` for 0.
 pub fn book_from(alloc: Global, number: u32, uid: u32) -> Option<Book> {
+    if uid == 0 {
+        return None;
+    }
     let replica = ReplicaId::new(number)?;
     let start = Start { replica, uid, k: 1 };
     match Node::new(alloc, start) {
