@@ -363,6 +363,27 @@ impl Heard {
     }
 }
 
+/// Has a worker hear letters and ask, and notes its calls, until it is stopped.
+fn work_until_stopped<R: Wait + rt::Clock>(
+    rt: &R,
+    alloc: Global,
+    sender: Sender<Call>,
+    heard: &Heard,
+) {
+    let mut taker = Scripted {
+        notes: Notes { rt, calls: &sender },
+        alloc,
+        answers: &[],
+        given: 0,
+        clock: ReplicaId::new(9),
+        gives: &[],
+    };
+    let inbox = heard.inbox();
+    let mut gate = Notes { rt, calls: &sender };
+    let mut post = Notes { rt, calls: &sender };
+    link_worker(rt, &mut gate, &inbox, &mut taker, &mut post);
+}
+
 /// The calls that the worker makes where no letter comes.
 fn rested<R: Threads + Wait + rt::Clock + Sync>(
     rt: &R,
@@ -376,20 +397,9 @@ fn rested<R: Threads + Wait + rt::Clock + Sync>(
         letters,
         peers: peers.to_vec(alloc)?,
     };
-    let mut taker = Scripted {
-        notes: Notes { rt, calls: &sender },
-        alloc,
-        answers: &[],
-        given: 0,
-        clock: ReplicaId::new(9),
-        gives: &[],
-    };
-    let inbox = heard.inbox();
-    let mut gate = Notes { rt, calls: &sender };
-    let mut post = Notes { rt, calls: &sender };
     thread::join(
         rt,
-        || link_worker(rt, &mut gate, &inbox, &mut taker, &mut post),
+        || work_until_stopped(rt, alloc, sender, &heard),
         || stop_behind(rt, &calls, count, &to),
     );
     tell_calls(rt, alloc, &calls)
