@@ -4,7 +4,8 @@ use imap_types::{Escape, read_escaped};
 use mail_audit::audit;
 use std::alloc::{AllocError, Global};
 
-/// What is told of the cases of a text, each behind a line `== TITLE`; what stands before the first is left out.
+/// What is told of the cases of a text, each behind a line `== TITLE`; what stands before the first is left out. An error says that there is no
+/// memory.
 pub fn told(alloc: Global, text: &str) -> Result<Vec<u8>, AllocError> {
     let mut told = Vec::new(alloc);
     for case in text.split("\n== ").skip(1) {

@@ -4,6 +4,9 @@ use crate::runs::{Ending, played};
 use case_text::Trouble;
 use std::alloc::{AllocError, Global};
 
+/// How many hundreds of runs are played.
+const HUNDREDS: u64 = 5;
+
 /// What a hundred runs came to.
 #[derive(Drop)]
 struct Tally {
@@ -20,8 +23,18 @@ struct Tally {
     has_stayed: bool,
 }
 
+/// Plays all runs, and tells what each hundred came to. An error says that there is no memory.
+pub fn play(alloc: Global) -> Result<Vec<u8>, AllocError> {
+    let mut page = Vec::new(alloc);
+    for number in 0..HUNDREDS {
+        let told = hundred(alloc, number)?;
+        page.extend_from_slice(told.as_bytes())?;
+    }
+    Ok(page)
+}
+
 /// Plays the runs of this hundred, from 0 on, and tells what they came to. An error says that there is no memory.
-pub fn hundred(alloc: Global, hundred: u64) -> Result<String, AllocError> {
+fn hundred(alloc: Global, hundred: u64) -> Result<String, AllocError> {
     let first = hundred.saturating_mul(100).saturating_add(1);
     let mut tally = Tally {
         first_wrong: None,

@@ -5,15 +5,15 @@ use crate::cuts::{tell_damage, tell_pieces};
 use crate::directives::{Way, build, cut, octets_of, way_of};
 use crate::replays::play_script;
 use case_text::Words;
-use std::alloc::Global;
+use std::alloc::{AllocError, Global};
 
-/// Plays the rows of a text, each behind a line `== TITLE`; what stands before the first is left out.
-pub fn play(alloc: Global, text: &str) -> Words {
+/// Plays the rows of a text, each behind a line `== TITLE`; what stands before the first is left out. An error says that there is no memory.
+pub fn play(alloc: Global, text: &str) -> Result<Vec<u8>, AllocError> {
     let mut page = Words::new(alloc);
     for row in text.split("\n== ").skip(1) {
         play_row(alloc, row, &mut page);
     }
-    page
+    page.finish()
 }
 
 /// A row as far as it was read.

@@ -1,15 +1,8 @@
-//! Runs replay scripts: replicas, sessions and what clients say in them, line by line.
+//! Runs replay scripts, replicas, sessions and what clients say in them, line by line, and audits what they printed.
 #![tactic(auto)]
-
-mod arguments;
-mod auditing;
-mod ending;
-mod program;
-#[cfg(test)]
-mod tests;
 
 use std::process::ExitCode;
 
 fn main(rt: HostRuntime) -> ExitCode {
-    ExitCode::from(program::run(&rt))
+    ExitCode::from(mail_tooling::run(&rt))
 }

@@ -6,7 +6,7 @@ use crate::games::tell_random;
 use crate::told::tell;
 use case_text::{Trouble, Words};
 use imap_node::Node;
-use std::alloc::Global;
+use std::alloc::{AllocError, Global};
 use tags_clocks::ReplicaId;
 use uid_projection::Start;
 use world_core::{Event, Outcomes, World, WorldFault, run};
@@ -53,14 +53,14 @@ impl<'a> Worked<'a> {
     }
 }
 
-/// Plays the lines of a text, and tells each with what comes of it.
-pub fn play(alloc: Global, text: &str) -> Words {
+/// Plays the lines of a text, and tells each with what comes of it. An error says that there is no memory.
+pub fn play(alloc: Global, text: &str) -> Result<Vec<u8>, AllocError> {
     let mut page = Words::new(alloc);
     let mut worked = Worked::new(alloc);
     for line in text.split_terminator('\n') {
         take_line(alloc, line, &mut worked, &mut page);
     }
-    page
+    page.finish()
 }
 
 /// Takes a line: an answer is left out, a title or a comment told as it is, and what is asked is done.

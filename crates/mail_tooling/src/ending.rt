@@ -2,7 +2,7 @@
 
 ghost use Rattle.std.specs.Prelude.{◌≡◌, IfOk};
 ghost use Rattle.mail_script.specs.Outcomes.{outcome_line};
-ghost use Rattle.mail_tool.specs.Endings.{last_line_of, status_of};
+ghost use Rattle.mail_tooling.specs.Endings.{last_line_of, status_of};
 
 use mail_replay::ReplayEnd;
 use mail_script::{OutcomeLine, write_outcome};

@@ -1,3 +1,5 @@
+//! A long script, whose deliveries come late, twice and out of order.
+
 ghost use Rattle.std.specs.Prelude.{◌<◌};
 
 use itoa::Buffer;

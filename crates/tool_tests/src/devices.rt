@@ -1,5 +1,7 @@
-use crate::ending::tell;
+//! Replays from readers and to writers that fail, and what is said of how a replay ended.
+
 use mail_replay::{MAX_READS, ReplayEnd, replay};
+use mail_tooling::tell;
 use std::alloc::Global;
 use std::io;
 use std::io::{ErrorKind, Read, Write};

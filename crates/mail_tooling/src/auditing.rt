@@ -1,7 +1,7 @@
 //! What the program does where it is asked for an audit.
 
 ghost use Rattle.std.specs.Prelude.{◌≡◌};
-ghost use Rattle.mail_tool.specs.Endings.{audit_status_of};
+ghost use Rattle.mail_tooling.specs.Endings.{audit_status_of};
 
 use mail_audit::{AuditEnd, audit};
 use std::io::{BufWriter, Read, Write};

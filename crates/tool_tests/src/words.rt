@@ -1,5 +1,7 @@
-use crate::arguments::{Request, read_words};
+//! Command lines.
+
 use clap::error::ErrorKind;
+use mail_tooling::{Request, read_words};
 use std::alloc::{AllocError, Global};
 
 fn owned(alloc: Global, words: &[&str]) -> Result<Vec<String>, AllocError> {

@@ -1,4 +1,0 @@
-mod audits;
-mod devices;
-mod many;
-mod words;
