@@ -5,10 +5,10 @@ use Rattle.std.specs.Str.{bytes_eq}
 use Rattle.std.proofs.lemmas.Bool.{and_parts, cases_Bool, false≢true}
 use Rattle.std.proofs.lemmas.Slice.Eq.{bytes_eq-Decides}
 use Rattle.crdt_ops.proofs.Members.{any_in, in_filter}
-use Rattle.imap_grammar.specs.declared.flags.SystemFlag.{SystemFlag}
-use Rattle.imap_grammar.specs.declared.flags.SystemFlag.TheVariants.{Answered, Flagged, Deleted, Seen, Draft}
-use Rattle.imap_grammar.specs.declared.store.StoreMode.{StoreMode}
-use Rattle.imap_grammar.specs.declared.store.StoreMode.TheVariants.{Add, Remove, Replace}
+use Rattle.imap_syntax.specs.declared.flags.SystemFlag.{SystemFlag}
+use Rattle.imap_syntax.specs.declared.flags.SystemFlag.TheVariants.{Answered, Flagged, Deleted, Seen, Draft}
+use Rattle.imap_syntax.specs.declared.store.StoreMode.{StoreMode}
+use Rattle.imap_syntax.specs.declared.store.StoreMode.TheVariants.{Add, Remove, Replace}
 use Rattle.imap_query.specs.Messages.{has_flag}
 use Rattle.imap_types.specs.Keywords.{AreKeywords, has_keyword, is_lowered, lowered, with_text}
 use Rattle.imap_types.specs.declared.flags.Flags.{Flags}

@@ -5,9 +5,9 @@ use Rattle.std.proofs.lemmas.Bool.{cases_Bool, false≢true}
 use Rattle.imap_answers.specs.declared.answer.Answer.{Answer}
 use Rattle.imap_answers.specs.Printable.{AreStatusItems, Each, IsFolded, IsModSeq, IsNonzero, IsPrintable, IsSmall, IsWide, Where, tells_of_mailbox}
 use Rattle.imap_answers.specs.declared.mailbox.StatusItems.{StatusItems}
-use Rattle.imap_grammar.specs.declared.status.StatusItem.{StatusItem}
-use Rattle.imap_grammar.specs.declared.status.StatusItem.TheVariants as item
-use Rattle.imap_grammar.specs.declared.flags.SystemFlag.TheVariants as system
+use Rattle.imap_syntax.specs.declared.status.StatusItem.{StatusItem}
+use Rattle.imap_syntax.specs.declared.status.StatusItem.TheVariants as item
+use Rattle.imap_syntax.specs.declared.flags.SystemFlag.TheVariants as system
 use Rattle.imap_query.specs.Listing.{AreListed}
 use Rattle.imap_query.specs.Messages.{is_flagged}
 use Rattle.imap_query.specs.Naming.{ShowsMatched, ShowsNames, name_answer, subscribed_answer}

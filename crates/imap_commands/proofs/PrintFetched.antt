@@ -5,9 +5,9 @@ use Rattle.std.proofs.Math.Dec.{eqb-suc-zero}
 use Rattle.std.proofs.lemmas.Bool.{cases_Bool, false≢true}
 use Rattle.imap_answers.specs.declared.fetched.FetchItems.{FetchItems}
 use Rattle.imap_answers.specs.Printable.{AreFetchItems, AreFlags, Each, IsCode, IsModSeq, IsNonzero, IsPart, IsPrintable, IsSmall, IsWide, Where, tells_of_message}
-use Rattle.imap_grammar.specs.declared.fetch.FetchItem.{FetchItem}
-use Rattle.imap_grammar.specs.declared.fetch.FetchItem.TheVariants as item
-use Rattle.imap_grammar.specs.declared.fetch.Partial.{Partial}
+use Rattle.imap_syntax.specs.declared.fetch.FetchItem.{FetchItem}
+use Rattle.imap_syntax.specs.declared.fetch.FetchItem.TheVariants as item
+use Rattle.imap_syntax.specs.declared.fetch.Partial.{Partial}
 use Rattle.imap_query.specs.Fetching.{answer_of, are_sections, cut, is_kept, items_of, origin_of, section_of, section_part, tells_flags, tells_modseq, where_told}
 use Rattle.imap_query.specs.declared.fetching.FetchMode.{FetchMode}
 use Rattle.imap_query.specs.declared.shown.Shown.{Shown}

@@ -3,9 +3,9 @@ use Rattle.std.proofs.lemmas.Bool.{cases_Bool, false≢true}
 use Rattle.imap_answers.specs.declared.answer.Answer.TheVariants.{Search}
 use Rattle.imap_answers.specs.declared.mailbox.SearchResults.{SearchResults}
 use Rattle.imap_answers.specs.Printable.{AreHits, AreResults, Each, IsModSeq, IsNonzero, IsSet, IsSmall, IsTag, IsWide, Where}
-use Rattle.imap_grammar.specs.declared.search.SearchOption.{SearchOption}
-use Rattle.imap_grammar.specs.declared.search.SearchOption.TheVariants as option
-use Rattle.imap_grammar.specs.declared.search.SearchStep.{SearchStep}
+use Rattle.imap_syntax.specs.declared.search.SearchOption.{SearchOption}
+use Rattle.imap_syntax.specs.declared.search.SearchOption.TheVariants as option
+use Rattle.imap_syntax.specs.declared.search.SearchStep.{SearchStep}
 use Rattle.imap_query.specs.Keys.{IsKey, Key, hits}
 use Rattle.imap_query.specs.Search.{asks_modseq, first_hit, hit_of, hits_among, hits_in, last_hit, last_shown, modseq_in, name_of, number_in, results_of, told_modseq, wants, wants_all, wants_ends, where_wanted}
 use Rattle.imap_query.specs.Tests.{is_so}

@@ -3,18 +3,18 @@ use Rattle.std.specs.List.{list_all}
 use Rattle.std.proofs.Math.Dec.{eqb-suc-zero}
 use Rattle.std.proofs.lemmas.Bool.{cases_Bool}
 use Rattle.imap_answers.specs.Printable.{AreFieldNames, Each, IsFolded, IsSection, IsSmall, IsTag, IsWide, Where}
-use Rattle.imap_grammar.specs.Commands.{IsSpelled, arguments, status_item}
-use Rattle.imap_grammar.specs.Items.{body_word, fast_items, fetch_item, fetched, field_names, partial, section}
-use Rattle.imap_grammar.specs.Languages.{each_behind, exactly, in_parens, listed, sp, word, ◌⌢◌}
-use Rattle.imap_grammar.specs.Strings.{astring, escaped, literal, mailbox, run, text_of}
-use Rattle.imap_grammar.specs.declared.class.Class.{Class}
-use Rattle.imap_grammar.specs.declared.class.Class.TheVariants as classes
-use Rattle.imap_grammar.specs.declared.command.Command.{Command}
-use Rattle.imap_grammar.specs.declared.command.Command.TheVariants as commands
-use Rattle.imap_grammar.specs.declared.command.Tagged.{Tagged}
-use Rattle.imap_grammar.specs.declared.fetch.FetchItem.{FetchItem}
-use Rattle.imap_grammar.specs.declared.fetch.FetchItem.TheVariants as item
-use Rattle.imap_grammar.specs.declared.fetch.Partial.{Partial}
+use Rattle.imap_syntax.specs.Commands.{IsSpelled, arguments, status_item}
+use Rattle.imap_syntax.specs.Items.{body_word, fast_items, fetch_item, fetched, field_names, partial, section}
+use Rattle.imap_syntax.specs.Languages.{each_behind, exactly, in_parens, listed, sp, word, ◌⌢◌}
+use Rattle.imap_syntax.specs.Strings.{astring, escaped, literal, mailbox, run, text_of}
+use Rattle.imap_syntax.specs.declared.class.Class.{Class}
+use Rattle.imap_syntax.specs.declared.class.Class.TheVariants as classes
+use Rattle.imap_syntax.specs.declared.command.Command.{Command}
+use Rattle.imap_syntax.specs.declared.command.Command.TheVariants as commands
+use Rattle.imap_syntax.specs.declared.command.Tagged.{Tagged}
+use Rattle.imap_syntax.specs.declared.fetch.FetchItem.{FetchItem}
+use Rattle.imap_syntax.specs.declared.fetch.FetchItem.TheVariants as item
+use Rattle.imap_syntax.specs.declared.fetch.Partial.{Partial}
 use Rattle.imap_query.proofs.GrammarLemmas.{search-key}
 use Rattle.imap_types.specs.Keywords.{is_tag_octet}
 use Rattle.imap_types.specs.declared.section.Section.{Section}

@@ -4,7 +4,7 @@ use Rattle.std.proofs.lemmas.Bool.{false≢true}
 use Rattle.imap_answers.specs.declared.codes.Code.{Code}
 use Rattle.imap_answers.specs.declared.fetched.FetchItems.{FetchItems}
 use Rattle.imap_answers.specs.Printable.{AreFetchItems, AreFlags, Each, IsCode, IsModSeq, IsNonzero, IsPrintable, IsSmall, Where}
-use Rattle.imap_grammar.specs.declared.store.StoreMode.{StoreMode}
+use Rattle.imap_syntax.specs.declared.store.StoreMode.{StoreMode}
 use Rattle.imap_query.specs.Fetching.{where_told}
 use Rattle.imap_types.specs.Numbers.{AreRisingFrom}
 use Rattle.imap_types.specs.declared.flags.Flags.{Flags}

@@ -6,7 +6,7 @@ use Rattle.imap_answers.specs.declared.answer.Answer.{Answer}
 use Rattle.imap_answers.specs.declared.answer.Answer.TheVariants.{Fetch}
 use Rattle.imap_answers.specs.declared.codes.Code.TheVariants.{CopyUid, ExpungeIssued, Modified}
 use Rattle.imap_answers.specs.declared.words.Refusal.TheVariants.{NoSuchMessage, ReadOnly}
-use Rattle.imap_grammar.specs.declared.store.StoreMode.TheVariants.{Add, Remove}
+use Rattle.imap_syntax.specs.declared.store.StoreMode.TheVariants.{Add, Remove}
 use Rattle.imap_types.specs.declared.flags.Flags.{Flags}
 use Rattle.imap_types.specs.declared.sequence_set.SequenceBound.TheVariants.{Number}
 use Rattle.imap_types.specs.declared.sequence_set.SequenceRange.{SequenceRange}

@@ -5,7 +5,7 @@ use Rattle.imap_answers.specs.declared.words.ByeReason.TheVariants.{LoggingOut}
 use Rattle.imap_answers.specs.declared.words.Continuation.TheVariants.{Idling}
 use Rattle.imap_answers.specs.declared.words.Refusal.{Refusal}
 use Rattle.imap_answers.specs.declared.words.Refusal.TheVariants.{NoSuchMailbox}
-use Rattle.imap_grammar.specs.declared.status.StatusItem.{StatusItem}
+use Rattle.imap_syntax.specs.declared.status.StatusItem.{StatusItem}
 use Rattle.imap_query.specs.declared.mailbox_status.Marks.{Marks}
 use Rattle.imap_query.specs.declared.naming.ListMode.{ListMode}
 use Rattle.imap_query.specs.Naming.{ShowsNames}

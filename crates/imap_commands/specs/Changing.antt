@@ -1,7 +1,7 @@
 use Rattle.std.specs.Prelude.{ℕ, not, ◌&&◌, ◌||◌, List, [], ◌∷◌}
 use Rattle.std.specs.List.{filter}
-use Rattle.imap_grammar.specs.declared.store.StoreMode.{StoreMode}
-use Rattle.imap_grammar.specs.declared.store.StoreMode.TheVariants.{Replace, Add, Remove}
+use Rattle.imap_syntax.specs.declared.store.StoreMode.{StoreMode}
+use Rattle.imap_syntax.specs.declared.store.StoreMode.TheVariants.{Replace, Add, Remove}
 use Rattle.imap_types.specs.Keywords.{has_keyword, with_text}
 use Rattle.imap_types.specs.declared.flags.Flags.{Flags}
 

@@ -5,11 +5,11 @@ use Rattle.std.specs.Str.{bytes_eq}
 use Rattle.imap_answers.specs.declared.answer.Answer.TheVariants.{Enabled as EnabledAnswer}
 use Rattle.imap_answers.specs.declared.words.Enabled.{Enabled}
 use Rattle.imap_answers.specs.declared.words.Enabled.TheVariants.{Nothing, Condstore, Imap4Rev2, CondstoreImap4Rev2, Imap4Rev2Condstore}
-use Rattle.imap_grammar.specs.declared.fetch.FetchItem.{FetchItem}
-use Rattle.imap_grammar.specs.declared.fetch.FetchItem.TheVariants.{Body, Flags, InternalDate, ModSeq, Size, Uid}
-use Rattle.imap_grammar.specs.declared.search.SearchStep.{SearchStep}
-use Rattle.imap_grammar.specs.declared.status.StatusItem.{StatusItem}
-use Rattle.imap_grammar.specs.declared.status.StatusItem.TheVariants.{HighestModSeq}
+use Rattle.imap_syntax.specs.declared.fetch.FetchItem.{FetchItem}
+use Rattle.imap_syntax.specs.declared.fetch.FetchItem.TheVariants.{Body, Flags, InternalDate, ModSeq, Size, Uid}
+use Rattle.imap_syntax.specs.declared.search.SearchStep.{SearchStep}
+use Rattle.imap_syntax.specs.declared.status.StatusItem.{StatusItem}
+use Rattle.imap_syntax.specs.declared.status.StatusItem.TheVariants.{HighestModSeq}
 use Rattle.imap_query.specs.Hits.{step_names_modseq}
 use Rattle.imap_query.specs.Status.{is_asked}
 use Rattle.imap_commands.specs.Told.{Telling, only_told}

@@ -3,7 +3,7 @@ use Rattle.crdt_ops.specs.declared.kind.Kind.{Kind}
 use Rattle.crdt_ops.specs.declared.kind.Kind.TheVariants.{Store}
 use Rattle.imap_answers.specs.declared.words.Refusal.{Refusal}
 use Rattle.imap_answers.specs.declared.words.Refusal.TheVariants.{NoSuchMessage}
-use Rattle.imap_grammar.specs.declared.fetch.FetchItem.{FetchItem}
+use Rattle.imap_syntax.specs.declared.fetch.FetchItem.{FetchItem}
 use Rattle.imap_query.specs.Fetching.{fetch_answers, is_kept, is_marked}
 use Rattle.imap_query.specs.declared.fetching.FetchMode.{FetchMode}
 use Rattle.imap_query.specs.declared.shown.Shown.{Shown}

@@ -1,9 +1,9 @@
 use Rattle.std.specs.Prelude.{◌≡◌, ℕ, Bool, ◌<◌, List, length}
 use Rattle.imap_answers.specs.Printable.{AreFlags, Each, IsCode, IsFolded, IsModSeq, IsNonzero, IsPrintable, IsSection, IsSmall, IsWide, Where}
-use Rattle.imap_grammar.specs.declared.command.Command.{Command}
-use Rattle.imap_grammar.specs.declared.command.Command.TheVariants as commands
-use Rattle.imap_grammar.specs.declared.fetch.FetchItem.{FetchItem}
-use Rattle.imap_grammar.specs.declared.fetch.FetchItem.TheVariants.{Body, Flags, InternalDate, ModSeq, Size, Uid}
+use Rattle.imap_syntax.specs.declared.command.Command.{Command}
+use Rattle.imap_syntax.specs.declared.command.Command.TheVariants as commands
+use Rattle.imap_syntax.specs.declared.fetch.FetchItem.{FetchItem}
+use Rattle.imap_syntax.specs.declared.fetch.FetchItem.TheVariants.{Body, Flags, InternalDate, ModSeq, Size, Uid}
 use Rattle.imap_query.specs.Keys.{IsKey}
 use Rattle.imap_query.specs.declared.mailbox_status.Marks.{Marks}
 use Rattle.imap_types.specs.DateTimes.{IsDateTime}

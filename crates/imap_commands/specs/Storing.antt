@@ -8,7 +8,7 @@ use Rattle.imap_answers.specs.declared.codes.Code.{Code}
 use Rattle.imap_answers.specs.declared.codes.Code.TheVariants.{Modified}
 use Rattle.imap_answers.specs.declared.words.Refusal.{Refusal}
 use Rattle.imap_answers.specs.declared.words.Refusal.TheVariants.{KeywordTooLong, NoSuchMessage, ReadOnly, TooManyKeywords}
-use Rattle.imap_grammar.specs.declared.store.StoreMode.{StoreMode}
+use Rattle.imap_syntax.specs.declared.store.StoreMode.{StoreMode}
 use Rattle.imap_query.specs.Fetching.{where_told}
 use Rattle.imap_types.specs.Keywords.{is_lawful_keyword}
 use Rattle.imap_types.specs.declared.flags.Flags.{Flags}

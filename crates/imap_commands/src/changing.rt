@@ -5,7 +5,7 @@ ghost use Rattle.std.specs.List.{list_all};
 ghost use Rattle.imap_types.specs.Keywords.{is_lowered};
 ghost use Rattle.imap_commands.specs.Changing.{added_flags, changed_flags, remaining, removed_flags, united};
 
-use imap_grammar::StoreMode;
+use imap_syntax::StoreMode;
 use imap_types::{Flags, Keywords, Octets};
 use std::alloc::{AllocError, Global};
 

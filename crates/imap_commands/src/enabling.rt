@@ -8,7 +8,7 @@ ghost use Rattle.imap_query.specs.Hits.{step_names_modseq};
 use crate::asking::one_answer;
 use crate::telling::Telling;
 use imap_answers::{Answer, Enabled};
-use imap_grammar::{FetchItem, SearchStep, SearchTest, StatusItem};
+use imap_syntax::{FetchItem, SearchStep, SearchTest, StatusItem};
 use imap_types::Octets;
 use std::alloc::{AllocError, Global};
 

@@ -2,9 +2,9 @@
 
 ghost use Rattle.std.specs.Prelude.{◌≡◌, ◌↔◌, ◌⊎◌, ℕ, List, IsTrue};
 ghost use Rattle.imap_commands.specs.Changing.{changed_flags};
-ghost use Rattle.imap_grammar.specs.declared.flags.SystemFlag.{SystemFlag as Mark};
-ghost use Rattle.imap_grammar.specs.declared.store.StoreMode.{StoreMode as How};
-ghost use Rattle.imap_grammar.specs.declared.store.StoreMode.TheVariants.{Add, Remove, Replace};
+ghost use Rattle.imap_syntax.specs.declared.flags.SystemFlag.{SystemFlag as Mark};
+ghost use Rattle.imap_syntax.specs.declared.store.StoreMode.{StoreMode as How};
+ghost use Rattle.imap_syntax.specs.declared.store.StoreMode.TheVariants.{Add, Remove, Replace};
 ghost use Rattle.imap_query.specs.Messages.{has_flag};
 ghost use Rattle.imap_types.specs.Keywords.{AreKeywords};
 ghost use Rattle.imap_types.specs.declared.flags.Flags.{Flags as Borne};

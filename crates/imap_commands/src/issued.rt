@@ -2,8 +2,8 @@
 
 ghost use Rattle.std.specs.Prelude.{◌≡◌, ℕ, Bool, List, Option, Ok};
 ghost use Rattle.crdt_ops.specs.declared.kind.Kind.{Kind};
-ghost use Rattle.imap_grammar.specs.declared.fetch.FetchItem.{FetchItem};
-ghost use Rattle.imap_grammar.specs.declared.store.StoreMode.{StoreMode};
+ghost use Rattle.imap_syntax.specs.declared.fetch.FetchItem.{FetchItem};
+ghost use Rattle.imap_syntax.specs.declared.store.StoreMode.{StoreMode};
 ghost use Rattle.imap_types.specs.declared.flags.Flags.{Flags};
 ghost use Rattle.imap_types.specs.declared.sequence_set.SequenceRange.{SequenceRange};
 ghost use Rattle.mail_listing.specs.Listed.{Listed};

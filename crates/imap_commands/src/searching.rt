@@ -9,8 +9,8 @@ ghost use Rattle.imap_commands.specs.Searching.{SearchTells, search_wants, shown
 use crate::telling::Telling;
 use crdt_ops::Kind;
 use imap_answers::{Answer, Refusal};
-use imap_grammar::{SearchOption, SearchStep, SearchTest};
 use imap_query::{Shown, search};
+use imap_syntax::{SearchOption, SearchStep, SearchTest};
 use imap_types::Octets;
 use mail_listing::Rows;
 use session_view::{Entry, View, count_of};

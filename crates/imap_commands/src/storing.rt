@@ -17,7 +17,7 @@ use crate::named::{named, names_of, resolved, set_of};
 use crate::telling::{Telling, entry_at, gone_code, message_at};
 use crdt_ops::Kind;
 use imap_answers::{Answer, Code, FetchItems, Refusal, Sections};
-use imap_grammar::StoreMode;
+use imap_syntax::StoreMode;
 use imap_types::{Flags, MAX_KEYWORDS, Name, Octets, SequenceSet, is_lawful_keyword};
 use mail_listing::{Row, Rows};
 use session_view::{Entry, Silent, View};

@@ -2,12 +2,12 @@
 use Rattle.std.proofs.Common.{◌≡◌, ℕ, true, false, List, [], ◌∷◌, Option, Some, None, ap, ◌∙◌, refl, eqb, inl, inr}
 use Rattle.std.proofs.lemmas.Bool.{eqb-true}
 use Rattle.imap_types.specs.declared.flags.Flags.{Flags}
-use Rattle.imap_grammar.specs.Dates.{date_time}
-use Rattle.imap_grammar.specs.Languages.{◌⌢◌, exactly, sp, optional}
-use Rattle.imap_grammar.specs.MessageFlags.{append_flags, flag_group, flags_given}
+use Rattle.imap_syntax.specs.Dates.{date_time}
+use Rattle.imap_syntax.specs.Languages.{◌⌢◌, exactly, sp, optional}
+use Rattle.imap_syntax.specs.MessageFlags.{append_flags, flag_group, flags_given}
 use Rattle.imap_grammar.specs.Reading.{literal_at, peeks}
 use Rattle.imap_grammar.specs.CommandReading.{append_date_at, append_flags_at, append_parts_at, literal_text_at}
-use Rattle.imap_grammar.specs.Strings.{begins, literal, mailbox}
+use Rattle.imap_syntax.specs.Strings.{begins, literal, mailbox}
 use Rattle.imap_grammar.proofs.DateTimeLaws.{date_begins, date_reads}
 use Rattle.imap_grammar.proofs.FlagLaws.{group_reads}
 use Rattle.imap_grammar.proofs.Fronts.{Closes, Ends, Front, Reads, both_reads, chosen, exactly_is, front_begins, made_reads, optional_ends, parted, peeked_reads, peeks_no, sp_ends, spaced_reads}

@@ -1,30 +1,30 @@
 -- What stands behind a command's word is read as its arguments, and nothing else is.
 use Rattle.std.proofs.Common.{◌≡◌, ℕ, Bool, true, false, cond, codes, eqb, List, [], ◌∷◌, Option, Some, ap, inl, inr, sym, ◌∙◌, refl, subst}
 use Rattle.std.proofs.lemmas.Bool.{eqb-true}
-use Rattle.imap_grammar.specs.Commands.{word_of, arguments, condstore_parameter, own_word, status_item, modifier, returns, selection}
-use Rattle.imap_grammar.specs.Languages.{◌⌢◌, exactly, sp, nothing, word, in_parens, listed, optional}
-use Rattle.imap_grammar.specs.Reading.{◌>>=◌, after, after_word, both, listed_at, made, mailbox_at, named_at, parens_at, run_at, set_at, spaced, text_at, peeks, is_nil}
+use Rattle.imap_syntax.specs.Commands.{word_of, arguments, condstore_parameter, own_word, status_item, modifier, returns, selection}
+use Rattle.imap_syntax.specs.Languages.{◌⌢◌, exactly, sp, nothing, word, in_parens, listed, optional}
+use Rattle.imap_grammar.specs.Reading.{after, after_word, both, is_nil, listed_at, made, mailbox_at, named, named_at, parens_at, peeks, run_at, set_at, spaced, text_at, ◌>>=◌}
 use Rattle.imap_grammar.specs.CommandReading.{arguments_at, condstore_at, copied_at, opened_at, uid_arguments_at, uid_at, fetch_parts_at, store_parts_at, list_parts_at}
-use Rattle.imap_grammar.specs.Items.{fetched}
-use Rattle.imap_grammar.specs.MessageFlags.{stored}
-use Rattle.imap_grammar.specs.Sets.{sequence_set}
-use Rattle.imap_grammar.specs.declared.store.StoreAction.{StoreAction}
-use Rattle.imap_grammar.specs.declared.store.StoreMode.{StoreMode}
-use Rattle.imap_grammar.specs.declared.store.StoreMode.TheVariants as store
+use Rattle.imap_syntax.specs.Items.{fetched}
+use Rattle.imap_syntax.specs.MessageFlags.{stored}
+use Rattle.imap_syntax.specs.Sets.{sequence_set}
+use Rattle.imap_syntax.specs.declared.store.StoreAction.{StoreAction}
+use Rattle.imap_syntax.specs.declared.store.StoreMode.{StoreMode}
+use Rattle.imap_syntax.specs.declared.store.StoreMode.TheVariants as store
 use Rattle.imap_grammar.proofs.AppendLaws.{append_parts}
 use Rattle.imap_grammar.proofs.ListingLaws.{astring_no_paren, returns_end, returns_reads, selection_reads}
 use Rattle.imap_grammar.proofs.FlagLaws.{stored_reads}
 use Rattle.imap_grammar.proofs.ItemLaws.{fetched_reads}
 use Rattle.imap_grammar.proofs.ModifierLaws.{modifier_reads}
-use Rattle.imap_grammar.specs.Strings.{astring, begins, is_in, mailbox, pattern, run}
+use Rattle.imap_syntax.specs.Strings.{astring, begins, is_in, mailbox, pattern, run}
 use Rattle.std.specs.List.{list_all}
 use Rattle.imap_types.specs.Keywords.{lowered}
-use Rattle.imap_grammar.specs.Words.{named, command_word, uid_words, status_word, status_items, mode_word, store_actions, store_word}
-use Rattle.imap_grammar.specs.declared.class.Class.TheVariants.{Astring, Atom, Item, Pattern}
-use Rattle.imap_grammar.specs.declared.command.Command.{Command}
-use Rattle.imap_grammar.specs.declared.command.Command.TheVariants as commands
-use Rattle.imap_grammar.specs.declared.word.CommandWord.{CommandWord}
-use Rattle.imap_grammar.specs.declared.word.CommandWord.TheVariants as words
+use Rattle.imap_syntax.specs.Words.{command_word, uid_words, status_word, status_items, mode_word, store_actions, store_word}
+use Rattle.imap_syntax.specs.declared.class.Class.TheVariants.{Astring, Atom, Item, Pattern}
+use Rattle.imap_syntax.specs.declared.command.Command.{Command}
+use Rattle.imap_syntax.specs.declared.command.Command.TheVariants as commands
+use Rattle.imap_syntax.specs.declared.word.CommandWord.{CommandWord}
+use Rattle.imap_syntax.specs.declared.word.CommandWord.TheVariants as words
 use Rattle.imap_grammar.proofs.Fronts.{Front, Reads, Ends, Closes, after_again, after_takes, bind_some, both_reads, chosen, closes_ends, closes_no_space, exactly_is, joined, parens_reads, parted, some_is, sp_ends, spaced_reads, to_end, with_nothing, without_nothing, closes_no_peek, optional_ends, peeks_no, stopping}
 use Rattle.imap_grammar.proofs.Lists.{listed_reads}
 use Rattle.imap_grammar.proofs.SearchLaws.{search_parts}

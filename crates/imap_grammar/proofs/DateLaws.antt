@@ -5,12 +5,12 @@ use Rattle.std.proofs.lemmas.Bool.Decides.{nat_tests}
 use Rattle.std.specs.List.{list_all}
 use Rattle.imap_types.specs.DateTimes.{is_digit, month_of}
 use Rattle.imap_types.specs.declared.day.Day.{Day}
-use Rattle.imap_grammar.specs.Dates.{date, date_text, day_of_month, digits_to, hyphen, is_date, month_name, quote, year_number}
-use Rattle.imap_grammar.specs.Faults.{begins_in}
-use Rattle.imap_grammar.specs.Languages.{◌⌢◌}
-use Rattle.imap_grammar.specs.Reading.{◌>>=◌, after, before, date_at, date_parts_at, date_text_at, digits_at, hyphened, month_name_at, octets_at, run_at}
-use Rattle.imap_grammar.specs.Strings.{begins, is_in, number_of, run}
-use Rattle.imap_grammar.specs.declared.class.Class.TheVariants.{Digit}
+use Rattle.imap_syntax.specs.Dates.{date, date_text, day_of_month, digits_to, hyphen, month_name, quote, year_number}
+use Rattle.imap_grammar.specs.Reading.{after, before, date_at, date_parts_at, date_text_at, digits_at, hyphened, is_date, month_name_at, octets_at, run_at, ◌>>=◌}
+use Rattle.imap_syntax.specs.Faults.{begins_in}
+use Rattle.imap_syntax.specs.Languages.{◌⌢◌}
+use Rattle.imap_syntax.specs.Strings.{begins, is_in, number_of, run}
+use Rattle.imap_syntax.specs.declared.class.Class.TheVariants.{Digit}
 use Rattle.imap_grammar.proofs.DateTimeLaws.{date_from, date_to}
 use Rattle.imap_grammar.proofs.Fronts.{Ends, Front, Reads, after_again, after_takes, bind_some, both_reads, chosen, exactly_is, guarded, joined, made_reads, parted, some_is}
 use Rattle.imap_grammar.proofs.SetLaws.{NoDigit}

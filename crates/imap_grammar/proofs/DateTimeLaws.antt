@@ -8,9 +8,10 @@ use Rattle.jiff.specs.Words.{IsDate, days_in_month}
 use Rattle.imap_types.specs.DateTimeTests.{is_date_time}
 use Rattle.imap_types.specs.DateTimes.{IsDateTime, is_digit}
 use Rattle.imap_types.proofs.DateTimeLemmas.{date_time_from_test, test_from_date_time}
-use Rattle.imap_grammar.specs.Dates.{date_time, is_date, zeroed}
+use Rattle.imap_syntax.specs.Dates.{date_time}
+use Rattle.imap_grammar.specs.Reading.{is_date, zeroed}
 use Rattle.imap_grammar.specs.CommandReading.{date_time_at}
-use Rattle.imap_grammar.specs.Strings.{begins}
+use Rattle.imap_syntax.specs.Strings.{begins}
 use Rattle.imap_grammar.proofs.Fronts.{Front, Reads, chosen, guarded, some_is}
 
 not_above : (limit n : ℕ) → not (nat_lt limit n) ≡ true → n ≤ limit

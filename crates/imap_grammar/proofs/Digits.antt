@@ -1,6 +1,6 @@
 use Rattle.std.proofs.Common.{◌≡◌, ℕ, ◌+◌, ◌-◌, ◌*◌, ◌≤◌, List, [], ◌∷◌, min, ap, ◌∙◌, arith, inl, inr, refl}
 use Rattle.std.proofs.lemmas.Bool.{cases_lt}
-use Rattle.imap_grammar.specs.Strings.{number_of}
+use Rattle.imap_syntax.specs.Strings.{number_of}
 
 -- the number, or the cap where it passes it on the way
 abbrev pub capped : ℕ → ℕ → List ℕ → ℕ

@@ -4,16 +4,16 @@ use Rattle.std.proofs.lemmas.Bool.{and_parts, eqb-true}
 use Rattle.std.proofs.lemmas.Bool.Decides.{nat_tests}
 use Rattle.std.specs.List.{list_all}
 use Rattle.imap_types.specs.Keywords.{lowered, is_atom_octet}
-use Rattle.imap_grammar.specs.Languages.{exactly, sp, word, listed, maybe_listed}
-use Rattle.imap_grammar.specs.MessageFlags.{flag, flag_group, flags_of, no_flags, stored, stored_texts}
-use Rattle.imap_grammar.specs.Reading.{◌>>=◌, flag_at, flag_group_at, listed_at, made, maybe_flags_at, named_at, run_at, stored_at, stored_texts_at}
-use Rattle.imap_grammar.specs.Strings.{begins, is_in, run}
-use Rattle.imap_grammar.specs.Words.{named, system_flags, system_word}
-use Rattle.imap_grammar.specs.declared.class.Class.TheVariants.{Atom, Item}
-use Rattle.imap_grammar.specs.declared.flags.Flag.{Flag}
-use Rattle.imap_grammar.specs.declared.flags.Flag.TheVariants.{System, Keyword}
-use Rattle.imap_grammar.specs.declared.flags.SystemFlag.{SystemFlag}
-use Rattle.imap_grammar.specs.declared.flags.SystemFlag.TheVariants as system
+use Rattle.imap_syntax.specs.Languages.{exactly, sp, word, listed, maybe_listed}
+use Rattle.imap_syntax.specs.MessageFlags.{flag, flag_group, flags_of, no_flags, stored, stored_texts}
+use Rattle.imap_grammar.specs.Reading.{flag_at, flag_group_at, listed_at, made, maybe_flags_at, named, named_at, run_at, stored_at, stored_texts_at, ◌>>=◌}
+use Rattle.imap_syntax.specs.Strings.{begins, is_in, run}
+use Rattle.imap_syntax.specs.Words.{system_flags, system_word}
+use Rattle.imap_syntax.specs.declared.class.Class.TheVariants.{Atom, Item}
+use Rattle.imap_syntax.specs.declared.flags.Flag.{Flag}
+use Rattle.imap_syntax.specs.declared.flags.Flag.TheVariants.{System, Keyword}
+use Rattle.imap_syntax.specs.declared.flags.SystemFlag.{SystemFlag}
+use Rattle.imap_syntax.specs.declared.flags.SystemFlag.TheVariants as system
 use Rattle.imap_grammar.proofs.Fronts.{Closes, Ends, Front, Reads, Shut, bind_some, chosen, closes_ends, closes_no_space, enclosed_reads, exactly_is, front_begins, joined, made_reads, parted, shut_closes, some_is, stopping}
 use Rattle.imap_grammar.proofs.Lists.{listed_reads}
 use Rattle.imap_grammar.proofs.Spans.{run_reads}

@@ -1,19 +1,19 @@
 -- Whole frames.
 use Rattle.std.proofs.Common.{◌≡◌, ◌≢◌, ◌⊎◌, ◌↔◌, ℕ, false, cond, List, [], ◌∷◌, ◌++◌, Option, Some, None, Result, Ok, Err, inl, inr, ap, sym, ◌∙◌, refl, subst}
 use Rattle.std.specs.Prelude.{IfOk}
-use Rattle.imap_grammar.specs.Commands.{word_of, arguments, command, IsSpelled}
-use Rattle.imap_grammar.specs.Faults.{HasTag, IsTagged, NamesCommand, begins_in}
-use Rattle.imap_grammar.specs.Languages.{◌⌢◌, sp, crlf, word}
-use Rattle.imap_grammar.specs.Reading.{◌>>=◌, Gives, after, is_nil, run_at, span}
+use Rattle.imap_syntax.specs.Commands.{word_of, arguments, command, IsSpelled}
+use Rattle.imap_syntax.specs.Faults.{HasTag, IsTagged, NamesCommand, begins_in}
+use Rattle.imap_syntax.specs.Languages.{◌⌢◌, sp, crlf, word}
+use Rattle.imap_grammar.specs.Reading.{Gives, after, is_nil, named, run_at, span, ◌>>=◌}
 use Rattle.imap_grammar.specs.CommandReading.{AnswersTag, AnswersWord, arguments_at, ended_at, tag_at, tagged_at, word_at}
-use Rattle.imap_grammar.specs.Strings.{is_in, run}
-use Rattle.imap_grammar.specs.Words.{named, command_word, command_words}
-use Rattle.imap_grammar.specs.declared.class.Class.TheVariants.{Tag, Atom}
-use Rattle.imap_grammar.specs.declared.command.Command.{Command}
-use Rattle.imap_grammar.specs.declared.command.Tagged.{Tagged}
+use Rattle.imap_syntax.specs.Strings.{is_in, run}
+use Rattle.imap_syntax.specs.Words.{command_word, command_words}
+use Rattle.imap_syntax.specs.declared.class.Class.TheVariants.{Tag, Atom}
+use Rattle.imap_syntax.specs.declared.command.Command.{Command}
+use Rattle.imap_syntax.specs.declared.command.Tagged.{Tagged}
 use Rattle.imap_grammar.specs.declared.fault.ParseFault.{ParseFault}
 use Rattle.imap_grammar.specs.declared.fault.ParseFault.TheVariants.{NoTag, UnknownCommand, BadSyntax, NotInProfile, NoMemory}
-use Rattle.imap_grammar.specs.declared.word.CommandWord.{CommandWord}
+use Rattle.imap_syntax.specs.declared.word.CommandWord.{CommandWord}
 use Rattle.imap_grammar.proofs.CommandLaws.{arguments_take, arguments_again, arguments_end}
 use Rattle.imap_grammar.proofs.Fronts.{Closes, Front, Ends, joined, parted, whole_from, whole_to, bind_some, some_is, after_takes, after_again}
 use Rattle.imap_grammar.proofs.Spans.{span_parts, span_all, span_again, span_stops, run_takes, run_again, ends_stop}

@@ -3,9 +3,9 @@ use Rattle.std.proofs.Common.{◌&&◌, ◌||◌, arith, ◌≡◌, ℕ, Bool, t
 use Rattle.std.proofs.lemmas.Bool.{eqb-true, eq-eqb}
 use Rattle.std.proofs.lemmas.List.{append-nil}
 use Rattle.std.proofs.lemmas.Bool.Decides.{nat_tests}
-use Rattle.imap_grammar.specs.Languages.{◌⌢◌, exactly, nothing, sp, in_parens, optional}
+use Rattle.imap_syntax.specs.Languages.{◌⌢◌, exactly, nothing, sp, in_parens, optional}
 use Rattle.imap_grammar.specs.Reading.{◌>>=◌, after, before, both, enclosed_at, made, parens_at, peeked_at, peeks, spaced}
-use Rattle.imap_grammar.specs.Strings.{begins, is_pattern_octet}
+use Rattle.imap_syntax.specs.Strings.{begins, is_pattern_octet}
 
 -- a text of the language stands in front and leaves the rest
 abbrev pub Front : (List ℕ → Type 0) → List ℕ → List ℕ → Type 0

@@ -8,20 +8,20 @@ use Rattle.std.specs.Str.{bytes_eq}
 use Rattle.imap_types.specs.Keywords.{lowered}
 use Rattle.imap_types.specs.declared.section.Section.{Section}
 use Rattle.imap_types.specs.declared.section.Section.TheVariants.{Whole, Header, Text, Fields, FieldsNot}
-use Rattle.imap_grammar.specs.Faults.{begins_in}
-use Rattle.imap_grammar.specs.Items.{fast_items, fetch_item, fetched, field_names, item_behind, item_word, partial, section}
-use Rattle.imap_grammar.specs.Languages.{◌⌢◌, exactly, nothing, sp, word, in_parens, listed}
-use Rattle.imap_grammar.specs.Reading.{◌>>=◌, after, alone_at, before, body_at, both, bracketed_at, fetched_at, field_names_at, is_nil, item_at, item_behind_at, listed_at, made, named_at, number_at, nz_at, parens_at, partial_at, section_at, section_behind_at, span}
-use Rattle.imap_grammar.specs.Strings.{begins, is_in, is_pattern_octet, number_to, nz}
-use Rattle.imap_grammar.specs.Words.{fetch_word, fetch_words, named, section_word, section_words}
-use Rattle.imap_grammar.specs.declared.class.Class.TheVariants.{Astring, Digit, Item}
-use Rattle.imap_grammar.specs.declared.fetch.FetchItem.{FetchItem}
-use Rattle.imap_grammar.specs.declared.fetch.FetchItem.TheVariants as items
-use Rattle.imap_grammar.specs.declared.fetch.FetchWord.{FetchWord}
-use Rattle.imap_grammar.specs.declared.fetch.FetchWord.TheVariants as words
-use Rattle.imap_grammar.specs.declared.fetch.Partial.{Partial}
-use Rattle.imap_grammar.specs.declared.fetch.SectionWord.{SectionWord}
-use Rattle.imap_grammar.specs.declared.fetch.SectionWord.TheVariants as sections
+use Rattle.imap_syntax.specs.Faults.{begins_in}
+use Rattle.imap_syntax.specs.Items.{fast_items, fetch_item, fetched, field_names, item_behind, item_word, partial, section}
+use Rattle.imap_syntax.specs.Languages.{◌⌢◌, exactly, nothing, sp, word, in_parens, listed}
+use Rattle.imap_grammar.specs.Reading.{after, alone_at, before, body_at, both, bracketed_at, fetched_at, field_names_at, is_nil, item_at, item_behind_at, listed_at, made, named, named_at, number_at, nz_at, parens_at, partial_at, section_at, section_behind_at, span, ◌>>=◌}
+use Rattle.imap_syntax.specs.Strings.{begins, is_in, is_pattern_octet, number_to, nz}
+use Rattle.imap_syntax.specs.Words.{fetch_word, fetch_words, section_word, section_words}
+use Rattle.imap_syntax.specs.declared.class.Class.TheVariants.{Astring, Digit, Item}
+use Rattle.imap_syntax.specs.declared.fetch.FetchItem.{FetchItem}
+use Rattle.imap_syntax.specs.declared.fetch.FetchItem.TheVariants as items
+use Rattle.imap_syntax.specs.declared.fetch.FetchWord.{FetchWord}
+use Rattle.imap_syntax.specs.declared.fetch.FetchWord.TheVariants as words
+use Rattle.imap_syntax.specs.declared.fetch.Partial.{Partial}
+use Rattle.imap_syntax.specs.declared.fetch.SectionWord.{SectionWord}
+use Rattle.imap_syntax.specs.declared.fetch.SectionWord.TheVariants as sections
 use Rattle.imap_grammar.proofs.Fronts.{Closes, Ends, Front, Reads, after_again, after_takes, bind_some, both_reads, chosen, closes_ends, closes_no_space, enclosed_reads, exactly_is, joined, keyed_reads, parens_reads, parted, some_is, spaced_reads, sp_ends}
 use Rattle.imap_grammar.proofs.Lists.{listed_reads}
 use Rattle.imap_grammar.proofs.SetLaws.{number_reads, nz_reads}

@@ -10,26 +10,25 @@ use Rattle.imap_types.specs.Keywords.{lowered}
 use Rattle.imap_types.specs.declared.sequence_set.SequenceBound.{SequenceBound}
 use Rattle.imap_types.specs.declared.sequence_set.SequenceBound.TheVariants.{Number, Greatest}
 use Rattle.imap_types.specs.declared.sequence_set.SequenceRange.{SequenceRange}
-use Rattle.imap_grammar.specs.Dates.{date}
-use Rattle.imap_grammar.specs.Faults.{begins_in}
+use Rattle.imap_syntax.specs.Dates.{date}
+use Rattle.imap_syntax.specs.Faults.{begins_in}
 use Rattle.imap_grammar.specs.KeyReading.{below_at, keys_at, leaf_at, level_at, more_keys_at, numbers_at, or_more, worded_at}
-use Rattle.imap_grammar.specs.KeyWords.{key_word, key_words}
-use Rattle.imap_grammar.specs.Keys.{all_of, and_all, key_over, key_within, test}
-use Rattle.imap_grammar.specs.Languages.{◌⌢◌, exactly, never, sp, word, in_parens, listed}
-use Rattle.imap_grammar.specs.Reading.{◌>>=◌, after, and_more, before, both, date_at, is_nil, listed_at, made, more_at, named_at, next_at, number_at, run_at, set_at, spaced, text_at}
-use Rattle.imap_grammar.specs.Sets.{bound, range, sequence_set}
-use Rattle.imap_grammar.specs.Strings.{astring, begins, is_in, number_to, run}
-use Rattle.imap_grammar.specs.Words.{named}
-use Rattle.imap_grammar.specs.declared.class.Class.TheVariants.{Astring, Atom, Digit, Item}
-use Rattle.imap_grammar.specs.declared.flags.SystemFlag.TheVariants as system
-use Rattle.imap_grammar.specs.declared.search.DayOrder.TheVariants as order
-use Rattle.imap_grammar.specs.declared.search.KeyWord.{KeyWord}
-use Rattle.imap_grammar.specs.declared.search.KeyWord.TheVariants as key
-use Rattle.imap_grammar.specs.declared.search.SearchStep.{SearchStep}
-use Rattle.imap_grammar.specs.declared.search.SearchStep.TheVariants.{Test, Not, Or, And}
-use Rattle.imap_grammar.specs.declared.search.SearchTest.{SearchTest}
-use Rattle.imap_grammar.specs.declared.search.SearchTest.TheVariants as tests
-use Rattle.imap_grammar.specs.declared.search.TextPlace.TheVariants as place
+use Rattle.imap_syntax.specs.KeyWords.{key_word, key_words}
+use Rattle.imap_syntax.specs.Keys.{all_of, and_all, key_over, key_within, test}
+use Rattle.imap_syntax.specs.Languages.{◌⌢◌, exactly, never, sp, word, in_parens, listed}
+use Rattle.imap_grammar.specs.Reading.{after, and_more, before, both, date_at, is_nil, listed_at, made, more_at, named, named_at, next_at, number_at, run_at, set_at, spaced, text_at, ◌>>=◌}
+use Rattle.imap_syntax.specs.Sets.{bound, range, sequence_set}
+use Rattle.imap_syntax.specs.Strings.{astring, begins, is_in, number_to, run}
+use Rattle.imap_syntax.specs.declared.class.Class.TheVariants.{Astring, Atom, Digit, Item}
+use Rattle.imap_syntax.specs.declared.flags.SystemFlag.TheVariants as system
+use Rattle.imap_syntax.specs.declared.search.DayOrder.TheVariants as order
+use Rattle.imap_syntax.specs.declared.search.KeyWord.{KeyWord}
+use Rattle.imap_syntax.specs.declared.search.KeyWord.TheVariants as key
+use Rattle.imap_syntax.specs.declared.search.SearchStep.{SearchStep}
+use Rattle.imap_syntax.specs.declared.search.SearchStep.TheVariants.{Test, Not, Or, And}
+use Rattle.imap_syntax.specs.declared.search.SearchTest.{SearchTest}
+use Rattle.imap_syntax.specs.declared.search.SearchTest.TheVariants as tests
+use Rattle.imap_syntax.specs.declared.search.TextPlace.TheVariants as place
 use Rattle.imap_grammar.proofs.DateLaws.{day_reads}
 use Rattle.imap_grammar.proofs.Fronts.{Closes, Ends, Front, Reads, after_takes, bind_some, both_reads, chosen, closes_ends, closes_no_space, exactly_is, joined, made_reads, parted, some_is, sp_ends, spaced_reads, stopping}
 use Rattle.imap_grammar.proofs.Lists.{listed_reads}

@@ -4,8 +4,8 @@ use Rattle.imap_grammar.specs.KeyReading.{below_at, level_at, more_keys_at, or_m
 use Rattle.imap_grammar.specs.Reading.{◌>>=◌, Fails, next_at}
 use Rattle.imap_grammar.specs.declared.fault.ParseFault.{ParseFault}
 use Rattle.imap_grammar.specs.declared.fault.ParseFault.TheVariants.{NoMemory, BadSyntax, NotInProfile, NoTag, UnknownCommand}
-use Rattle.imap_grammar.specs.declared.search.SearchStep.{SearchStep}
-use Rattle.imap_grammar.specs.declared.search.SearchStep.TheVariants.{And}
+use Rattle.imap_syntax.specs.declared.search.SearchStep.{SearchStep}
+use Rattle.imap_syntax.specs.declared.search.SearchStep.TheVariants.{And}
 
 pub below_zero : (n : ℕ) (octets : List ℕ) → n ≡ 0 → below_at n octets ≡ None
 unfolding below_at

@@ -4,13 +4,13 @@ use Rattle.std.proofs.lemmas.Bool.{and_parts, eqb-true}
 use Rattle.std.proofs.lemmas.Bool.Decides.{nat_tests}
 use Rattle.std.specs.List.{list_all}
 use Rattle.imap_types.specs.Keywords.{is_astring_octet}
-use Rattle.imap_grammar.specs.Commands.{options, returns, selection}
-use Rattle.imap_grammar.specs.Faults.{begins_in}
-use Rattle.imap_grammar.specs.Languages.{◌⌢◌, exactly, nothing, sp, word}
+use Rattle.imap_syntax.specs.Commands.{options, returns, selection}
+use Rattle.imap_syntax.specs.Faults.{begins_in}
+use Rattle.imap_syntax.specs.Languages.{◌⌢◌, exactly, nothing, sp, word}
 use Rattle.imap_grammar.specs.Reading.{◌>>=◌, after, after_word, before, spaced}
 use Rattle.imap_grammar.specs.CommandReading.{options_at, options_inner_at, returns_at, selection_at}
-use Rattle.imap_grammar.specs.Strings.{astring, begins, is_in, run}
-use Rattle.imap_grammar.specs.declared.class.Class.TheVariants.{Astring, Item}
+use Rattle.imap_syntax.specs.Strings.{astring, begins, is_in, run}
+use Rattle.imap_syntax.specs.declared.class.Class.TheVariants.{Astring, Item}
 use Rattle.imap_grammar.proofs.Fronts.{Closes, Ends, Front, Reads, after_again, after_takes, bind_some, chosen, closes_ends, closes_no_space, exactly_is, front_begins, joined, parted, some_is, sp_ends, spaced_reads}
 use Rattle.imap_grammar.proofs.WordLaws.{after_word_again, after_word_takes, ends_item, word_first}
 

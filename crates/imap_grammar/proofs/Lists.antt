@@ -5,8 +5,8 @@ use Rattle.std.proofs.lemmas.List.{append-nil}
 use Rattle.imap_grammar.specs.declared.fault.ParseFault.{ParseFault}
 use Rattle.imap_grammar.specs.declared.fault.ParseFault.TheVariants.{NoMemory, BadSyntax, NotInProfile, NoTag, UnknownCommand}
 use Rattle.imap_grammar.specs.Reading.{◌>>=◌, Fails, next_at, and_more, more_at, listed_at}
-use Rattle.imap_grammar.specs.Languages.{exactly, each_behind, listed}
-use Rattle.imap_grammar.specs.Strings.{begins}
+use Rattle.imap_syntax.specs.Languages.{exactly, each_behind, listed}
+use Rattle.imap_syntax.specs.Strings.{begins}
 use Rattle.imap_grammar.proofs.Fronts.{Front, Reads, bind_some, chosen, exactly_is, joined, parted, some_is}
 
 module _ {A : Type 0} where

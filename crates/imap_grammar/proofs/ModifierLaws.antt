@@ -2,11 +2,11 @@
 use Rattle.std.proofs.Common.{◌≡◌, ℕ, true, false, List, ap, ◌∙◌}
 use Rattle.std.specs.List.{list_all}
 use Rattle.imap_types.specs.Keywords.{lowered}
-use Rattle.imap_grammar.specs.Commands.{modifier}
-use Rattle.imap_grammar.specs.Languages.{◌⌢◌, sp, word, optional}
+use Rattle.imap_syntax.specs.Commands.{modifier}
+use Rattle.imap_syntax.specs.Languages.{◌⌢◌, sp, word, optional}
 use Rattle.imap_grammar.specs.Reading.{◌>>=◌, after_word, modifier_at, modifier_group_at, number_at, peeks, spaced}
-use Rattle.imap_grammar.specs.Strings.{is_in, number_to}
-use Rattle.imap_grammar.specs.declared.class.Class.TheVariants.{Digit, Item}
+use Rattle.imap_syntax.specs.Strings.{is_in, number_to}
+use Rattle.imap_syntax.specs.declared.class.Class.TheVariants.{Digit, Item}
 use Rattle.imap_grammar.proofs.Fronts.{Closes, Reads, bind_some, closes_ends, front_begins, joined, parens_reads, parted, peeked_reads, sp_ends, spaced_reads}
 use Rattle.imap_grammar.proofs.SetLaws.{number_reads}
 use Rattle.imap_grammar.proofs.Spans.{ends_stop}

@@ -4,8 +4,7 @@ use Rattle.std.proofs.lemmas.List.{nil_from_length}
 use Rattle.std.proofs.lemmas.Slice.Eq.{bytes_eq-Decides}
 use Rattle.std.specs.Str.{bytes_eq}
 use Rattle.imap_types.specs.Keywords.{lowered}
-use Rattle.imap_grammar.specs.Reading.{after}
-use Rattle.imap_grammar.specs.Words.{named}
+use Rattle.imap_grammar.specs.Reading.{after, named}
 
 pub dropped : {X : Type 0} (xs : List X) (i : ℕ) (x : X) → i < length xs → x ≡ get_or xs i x → drop i xs ≡ x ∷ drop (i + 1) xs
 dropped xs i x l e = drop-cons xs i x l ∙ ap (λ v. v ∷ drop (suc i) xs) (sym e) ∙ ap (λ j. x ∷ drop j xs) (sym (add-one i))

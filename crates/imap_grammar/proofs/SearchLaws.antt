@@ -7,22 +7,21 @@ use Rattle.std.specs.Char.{to_ascii_lowercase}
 use Rattle.std.specs.List.{list_all}
 use Rattle.std.specs.Str.{bytes_eq}
 use Rattle.imap_types.specs.Keywords.{lowered}
-use Rattle.imap_grammar.specs.Faults.{begins_in}
+use Rattle.imap_syntax.specs.Faults.{begins_in}
 use Rattle.imap_grammar.specs.KeyReading.{below_at, charset_at, charset_name_at, is_charset, keys_at, maybe_options_at, returned_at, returned_group_at, search_parts_at}
-use Rattle.imap_grammar.specs.KeyWords.{key_word, option_word, search_options}
-use Rattle.imap_grammar.specs.Keys.{charset, key_over, key_within, return_options, search_keys, search_option, test}
-use Rattle.imap_grammar.specs.Languages.{◌⌢◌, exactly, sp, word, in_parens, listed, each_behind, maybe_listed}
-use Rattle.imap_grammar.specs.Reading.{◌>>=◌, after, is_nil, listed_at, named_at, parens_at, spaced, span, text_at}
-use Rattle.imap_grammar.specs.Strings.{astring, begins, is_in}
-use Rattle.imap_grammar.specs.Words.{named}
-use Rattle.imap_grammar.specs.declared.class.Class.TheVariants.{Astring, Digit, Item}
-use Rattle.imap_grammar.specs.declared.search.KeyWord.{KeyWord}
-use Rattle.imap_grammar.specs.declared.search.KeyWord.TheVariants as key
-use Rattle.imap_grammar.specs.declared.search.SearchOption.{SearchOption}
-use Rattle.imap_grammar.specs.declared.search.SearchOption.TheVariants as option
-use Rattle.imap_grammar.specs.declared.search.SearchStep.{SearchStep}
-use Rattle.imap_grammar.specs.declared.search.SearchTest.{SearchTest}
-use Rattle.imap_grammar.specs.declared.search.SearchTest.TheVariants as tests
+use Rattle.imap_syntax.specs.KeyWords.{key_word, option_word, search_options}
+use Rattle.imap_syntax.specs.Keys.{charset, key_over, key_within, return_options, search_keys, search_option, test}
+use Rattle.imap_syntax.specs.Languages.{◌⌢◌, exactly, sp, word, in_parens, listed, each_behind, maybe_listed}
+use Rattle.imap_grammar.specs.Reading.{after, is_nil, listed_at, named, named_at, parens_at, spaced, span, text_at, ◌>>=◌}
+use Rattle.imap_syntax.specs.Strings.{astring, begins, is_in}
+use Rattle.imap_syntax.specs.declared.class.Class.TheVariants.{Astring, Digit, Item}
+use Rattle.imap_syntax.specs.declared.search.KeyWord.{KeyWord}
+use Rattle.imap_syntax.specs.declared.search.KeyWord.TheVariants as key
+use Rattle.imap_syntax.specs.declared.search.SearchOption.{SearchOption}
+use Rattle.imap_syntax.specs.declared.search.SearchOption.TheVariants as option
+use Rattle.imap_syntax.specs.declared.search.SearchStep.{SearchStep}
+use Rattle.imap_syntax.specs.declared.search.SearchTest.{SearchTest}
+use Rattle.imap_syntax.specs.declared.search.SearchTest.TheVariants as tests
 use Rattle.imap_grammar.proofs.Fronts.{Closes, Ends, Front, Reads, Shut, after_again, after_takes, bind_some, both_reads, chosen, closes_ends, closes_no_space, enclosed_reads, exactly_is, joined, parted, shut_closes, some_is, sp_ends, spaced_reads, stopping}
 use Rattle.imap_grammar.proofs.KeyLaws.{all_reads, key_letters, key_no_charset, key_no_return, set_first, within_reads}
 use Rattle.imap_grammar.proofs.Lists.{listed_reads}

@@ -2,11 +2,11 @@ use Rattle.std.proofs.Common.{◌≡◌, ◌≢◌, ℕ, Bool, true, false, cond
 use Rattle.std.proofs.lemmas.Bool.{and_parts, and_from, cases_Bool}
 use Rattle.std.proofs.lemmas.Bool.Decides.{nat_tests}
 use Rattle.std.specs.List.{list_all}
-use Rattle.imap_grammar.specs.Faults.{begins_in}
+use Rattle.imap_syntax.specs.Faults.{begins_in}
 use Rattle.imap_grammar.specs.Reading.{span, is_nil, run_at}
-use Rattle.imap_grammar.specs.Strings.{is_in, is_pattern_octet, run}
-use Rattle.imap_grammar.specs.declared.class.Class.{Class}
-use Rattle.imap_grammar.specs.declared.class.Class.TheVariants.{Tag, Atom, Astring, Pattern, Digit, Item}
+use Rattle.imap_syntax.specs.Strings.{is_in, is_pattern_octet, run}
+use Rattle.imap_syntax.specs.declared.class.Class.{Class}
+use Rattle.imap_syntax.specs.declared.class.Class.TheVariants.{Tag, Atom, Astring, Pattern, Digit, Item}
 use Rattle.imap_grammar.proofs.Fronts.{Front, Reads, guarded, some_is, Ends}
 
 pub span_parts : (p : ℕ → Bool) (bs : List ℕ) → bs ≡ (span p bs).0 ++ (span p bs).1

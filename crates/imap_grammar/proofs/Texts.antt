@@ -3,13 +3,13 @@ use Rattle.std.proofs.lemmas.Bool.{and_parts, and_from, cases_Bool, eqb-true, or
 use Rattle.std.proofs.lemmas.List.{take_at, drop_at, take-append-drop, length-take}
 use Rattle.std.proofs.lemmas.Bool.Decides.{nat_tests}
 use Rattle.std.specs.List.{list_all}
-use Rattle.imap_grammar.specs.Languages.{exactly}
-use Rattle.imap_grammar.specs.Strings.{is_in, is_quotable, escaped, quoted, literal, number, number_of, optional_plus, run, text_of, mailbox}
+use Rattle.imap_syntax.specs.Languages.{exactly}
+use Rattle.imap_syntax.specs.Strings.{is_in, is_quotable, escaped, quoted, literal, number, number_of, optional_plus, run, text_of, mailbox}
 use Rattle.imap_types.specs.Names.{folded_name}
-use Rattle.imap_grammar.specs.Faults.{begins_in}
+use Rattle.imap_syntax.specs.Faults.{begins_in}
 use Rattle.imap_grammar.specs.Reading.{◌>>=◌, mailbox_at, after, after_plus, with_front, quoted_at, run_at, literal_at, octets_at, text_at}
-use Rattle.imap_grammar.specs.declared.class.Class.{Class}
-use Rattle.imap_grammar.specs.declared.class.Class.TheVariants.{Tag, Atom, Astring, Pattern, Digit, Item}
+use Rattle.imap_syntax.specs.declared.class.Class.{Class}
+use Rattle.imap_syntax.specs.declared.class.Class.TheVariants.{Tag, Atom, Astring, Pattern, Digit, Item}
 use Rattle.imap_grammar.proofs.Fronts.{Front, Reads, Ends, made_reads, joined, parted, bind_some, chosen, guarded, some_is, after_takes}
 use Rattle.imap_grammar.proofs.Spans.{run_takes, run_again, ends_stop}
 

@@ -7,17 +7,17 @@ use Rattle.std.specs.Char.{to_ascii_lowercase}
 use Rattle.std.specs.List.{list_all}
 use Rattle.std.specs.Str.{bytes_eq}
 use Rattle.imap_types.specs.Keywords.{lowered, is_atom_octet}
-use Rattle.imap_grammar.specs.Languages.{word}
-use Rattle.imap_grammar.specs.Words.{named, command_word, command_words, status_word, status_items}
-use Rattle.imap_grammar.specs.declared.word.CommandWord.{CommandWord}
-use Rattle.imap_grammar.specs.declared.word.CommandWord.TheVariants.{Capability, Noop, Logout, Login, Enable, Select, Examine, Create, Delete, Subscribe, Unsubscribe, ListNames, Namespace, Status, Append, Idle, Close, Unselect, Expunge, Search, Fetch, Store, Copy, Move, Uid, Rename, StartTls, Authenticate}
-use Rattle.imap_grammar.specs.Commands.{status_item}
-use Rattle.imap_grammar.specs.Faults.{begins_in}
-use Rattle.imap_grammar.specs.Reading.{◌>>=◌, after_word, is_nil, named_at, span}
-use Rattle.imap_grammar.specs.Strings.{begins, is_in}
-use Rattle.imap_grammar.specs.declared.class.Class.TheVariants.{Item}
-use Rattle.imap_grammar.specs.declared.status.StatusItem.{StatusItem}
-use Rattle.imap_grammar.specs.declared.status.StatusItem.TheVariants as status
+use Rattle.imap_syntax.specs.Languages.{word}
+use Rattle.imap_syntax.specs.Words.{command_word, command_words, status_word, status_items}
+use Rattle.imap_grammar.specs.Reading.{after_word, is_nil, named, named_at, span, ◌>>=◌}
+use Rattle.imap_syntax.specs.declared.word.CommandWord.{CommandWord}
+use Rattle.imap_syntax.specs.declared.word.CommandWord.TheVariants.{Capability, Noop, Logout, Login, Enable, Select, Examine, Create, Delete, Subscribe, Unsubscribe, ListNames, Namespace, Status, Append, Idle, Close, Unselect, Expunge, Search, Fetch, Store, Copy, Move, Uid, Rename, StartTls, Authenticate}
+use Rattle.imap_syntax.specs.Commands.{status_item}
+use Rattle.imap_syntax.specs.Faults.{begins_in}
+use Rattle.imap_syntax.specs.Strings.{begins, is_in}
+use Rattle.imap_syntax.specs.declared.class.Class.TheVariants.{Item}
+use Rattle.imap_syntax.specs.declared.status.StatusItem.{StatusItem}
+use Rattle.imap_syntax.specs.declared.status.StatusItem.TheVariants as status
 use Rattle.imap_grammar.proofs.Fronts.{Front, Reads, Ends, bind_some, chosen, some_is, stopping}
 use Rattle.imap_grammar.proofs.Spans.{ends_stop, span_again, span_parts}
 

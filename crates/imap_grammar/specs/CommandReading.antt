@@ -3,22 +3,21 @@ use Rattle.std.specs.Prelude.{◌≡◌, ℕ, Bool, true, false, ◌==◌, nat_l
 use Rattle.imap_types.specs.declared.sequence_set.SequenceRange.{SequenceRange}
 use Rattle.imap_types.specs.declared.flags.Flags.{Flags}
 use Rattle.imap_types.specs.DateTimeTests.{is_date_time}
-use Rattle.imap_grammar.specs.Dates.{zeroed}
-use Rattle.imap_grammar.specs.MessageFlags.{flags_given}
-use Rattle.imap_grammar.specs.declared.fetch.FetchItem.{FetchItem}
-use Rattle.imap_grammar.specs.declared.store.StoreAction.{StoreAction}
-use Rattle.imap_grammar.specs.Strings.{is_in}
-use Rattle.imap_grammar.specs.Words.{named, command_word, command_words, status_word, status_items, store_actions, store_word, uid_words}
-use Rattle.imap_grammar.specs.declared.class.Class.TheVariants.{Tag, Atom, Astring, Pattern}
-use Rattle.imap_grammar.specs.declared.command.Command.{Command}
-use Rattle.imap_grammar.specs.declared.command.Command.TheVariants as commands
-use Rattle.imap_grammar.specs.declared.command.Tagged.{Tagged}
+use Rattle.imap_grammar.specs.Reading.{Gives, after, after_word, before, both, fetched_at, flag_group_at, is_nil, listed_at, literal_at, made, mailbox_at, modifier_at, named, named_at, parens_at, peeked_at, run_at, set_at, spaced, span, stored_at, text_at, zeroed, ◌>>=◌}
+use Rattle.imap_syntax.specs.MessageFlags.{flags_given}
+use Rattle.imap_syntax.specs.declared.fetch.FetchItem.{FetchItem}
+use Rattle.imap_syntax.specs.declared.store.StoreAction.{StoreAction}
+use Rattle.imap_syntax.specs.Strings.{is_in}
+use Rattle.imap_syntax.specs.Words.{command_word, command_words, status_word, status_items, store_actions, store_word, uid_words}
+use Rattle.imap_syntax.specs.declared.class.Class.TheVariants.{Tag, Atom, Astring, Pattern}
+use Rattle.imap_syntax.specs.declared.command.Command.{Command}
+use Rattle.imap_syntax.specs.declared.command.Command.TheVariants as commands
+use Rattle.imap_syntax.specs.declared.command.Tagged.{Tagged}
 use Rattle.imap_grammar.specs.declared.fault.ParseFault.{ParseFault}
 use Rattle.imap_grammar.specs.declared.fault.ParseFault.TheVariants.{NoTag, UnknownCommand}
-use Rattle.imap_grammar.specs.declared.word.CommandWord.{CommandWord}
-use Rattle.imap_grammar.specs.declared.word.CommandWord.TheVariants as words
+use Rattle.imap_syntax.specs.declared.word.CommandWord.{CommandWord}
+use Rattle.imap_syntax.specs.declared.word.CommandWord.TheVariants as words
 use Rattle.imap_grammar.specs.KeyReading.{search_at}
-use Rattle.imap_grammar.specs.Reading.{◌>>=◌, Gives, span, is_nil, after, spaced, run_at, literal_at, text_at, both, made, listed_at, mailbox_at, before, parens_at, after_word, named_at, set_at, peeked_at, modifier_at, flag_group_at, stored_at, fetched_at}
 
 -- ---- Commands, behind their words.
 

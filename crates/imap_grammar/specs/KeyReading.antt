@@ -2,19 +2,19 @@
 use Rattle.std.specs.Prelude.{ℕ, zero, suc, Bool, ◌||◌, ◌==◌, List, [], ◌∷◌, ◌++◌, codes, length, Option, Some, None, if◌then◌else◌}
 use Rattle.std.specs.Str.{bytes_eq}
 use Rattle.imap_types.specs.Keywords.{lowered}
-use Rattle.imap_grammar.specs.KeyWords.{key_word, key_words, option_word, search_options}
+use Rattle.imap_syntax.specs.KeyWords.{key_word, key_words, option_word, search_options}
 use Rattle.imap_grammar.specs.Reading.{◌>>=◌, after, before, both, date_at, listed_at, made, named_at, next_at, number_at, parens_at, run_at, set_at, spaced, span, text_at}
-use Rattle.imap_grammar.specs.Strings.{is_in}
-use Rattle.imap_grammar.specs.declared.class.Class.TheVariants.{Astring, Atom, Digit, Item}
-use Rattle.imap_grammar.specs.declared.command.Command.{Command}
-use Rattle.imap_grammar.specs.declared.command.Command.TheVariants as commands
-use Rattle.imap_grammar.specs.declared.search.KeyWord.{KeyWord}
-use Rattle.imap_grammar.specs.declared.search.KeyWord.TheVariants as key
-use Rattle.imap_grammar.specs.declared.search.SearchOption.{SearchOption}
-use Rattle.imap_grammar.specs.declared.search.SearchStep.{SearchStep}
-use Rattle.imap_grammar.specs.declared.search.SearchStep.TheVariants.{Test, Not, Or, And}
-use Rattle.imap_grammar.specs.declared.search.SearchTest.{SearchTest}
-use Rattle.imap_grammar.specs.declared.search.SearchTest.TheVariants as tests
+use Rattle.imap_syntax.specs.Strings.{is_in}
+use Rattle.imap_syntax.specs.declared.class.Class.TheVariants.{Astring, Atom, Digit, Item}
+use Rattle.imap_syntax.specs.declared.command.Command.{Command}
+use Rattle.imap_syntax.specs.declared.command.Command.TheVariants as commands
+use Rattle.imap_syntax.specs.declared.search.KeyWord.{KeyWord}
+use Rattle.imap_syntax.specs.declared.search.KeyWord.TheVariants as key
+use Rattle.imap_syntax.specs.declared.search.SearchOption.{SearchOption}
+use Rattle.imap_syntax.specs.declared.search.SearchStep.{SearchStep}
+use Rattle.imap_syntax.specs.declared.search.SearchStep.TheVariants.{Test, Not, Or, And}
+use Rattle.imap_syntax.specs.declared.search.SearchTest.{SearchTest}
+use Rattle.imap_syntax.specs.declared.search.SearchTest.TheVariants as tests
 
 abbrev pub leaf_at : KeyWord → List ℕ → Option (SearchTest × List ℕ)
 leaf_at key.All octets = Some (tests.All, octets)

@@ -1,14 +1,3 @@
 pub mod CommandReading
-pub mod Commands
-pub mod Dates
-pub mod Faults
-pub mod Items
 pub mod KeyReading
-pub mod KeyWords
-pub mod Keys
-pub mod Languages
-pub mod MessageFlags
 pub mod Reading
-pub mod Sets
-pub mod Strings
-pub mod Words

@@ -1,8 +1,9 @@
 -- The parser's own steps, production by production. Which text means what, Strings, Sets, Dates, MessageFlags and Items say.
-use Rattle.std.specs.Prelude.{◌≡◌, ℕ, zero, suc, Bool, true, false, ◌||◌, ◌==◌, nat_lt, List, [], ◌∷◌, ◌++◌, codes, length, take, drop, Option, Some, None, Result, Ok, Err, if◌then◌else◌, ◌&&◌}
+use Rattle.std.specs.Prelude.{◌≡◌, ℕ, zero, suc, Bool, true, false, ◌||◌, ◌==◌, nat_lt, List, [], ◌∷◌, ◌++◌, codes, length, take, drop, Option, Some, None, Result, Ok, Err, if◌then◌else◌, ◌&&◌, not, pos}
 use Rattle.std.specs.Str.{bytes_eq}
 use Rattle.imap_types.specs.Keywords.{lowered}
 use Rattle.imap_types.specs.Names.{folded_name}
+use Rattle.jiff.specs.Words.{days_in_month}
 use Rattle.imap_types.specs.declared.sequence_set.SequenceBound.{SequenceBound}
 use Rattle.imap_types.specs.declared.sequence_set.SequenceBound.TheVariants.{Number, Greatest}
 use Rattle.imap_types.specs.declared.sequence_set.SequenceRange.{SequenceRange}
@@ -11,22 +12,21 @@ use Rattle.imap_types.specs.declared.section.Section.{Section}
 use Rattle.imap_types.specs.declared.section.Section.TheVariants.{Whole, Header, Text, Fields, FieldsNot}
 use Rattle.imap_types.specs.DateTimes.{month_of}
 use Rattle.imap_types.specs.declared.day.Day.{Day}
-use Rattle.imap_grammar.specs.Dates.{is_date}
-use Rattle.imap_grammar.specs.Items.{fast_items}
-use Rattle.imap_grammar.specs.MessageFlags.{flags_of, no_flags}
-use Rattle.imap_grammar.specs.declared.fetch.FetchItem.{FetchItem}
-use Rattle.imap_grammar.specs.declared.fetch.FetchItem.TheVariants as items
-use Rattle.imap_grammar.specs.declared.fetch.FetchWord.{FetchWord}
-use Rattle.imap_grammar.specs.declared.fetch.FetchWord.TheVariants as fetch
-use Rattle.imap_grammar.specs.declared.fetch.Partial.{Partial}
-use Rattle.imap_grammar.specs.declared.fetch.SectionWord.{SectionWord}
-use Rattle.imap_grammar.specs.declared.fetch.SectionWord.TheVariants as sections
-use Rattle.imap_grammar.specs.declared.flags.Flag.{Flag}
-use Rattle.imap_grammar.specs.declared.flags.Flag.TheVariants.{System, Keyword}
-use Rattle.imap_grammar.specs.Strings.{begins, is_in, is_quotable, number_of}
-use Rattle.imap_grammar.specs.Words.{named, fetch_word, fetch_words, section_word, section_words, system_flags, system_word}
-use Rattle.imap_grammar.specs.declared.class.Class.{Class}
-use Rattle.imap_grammar.specs.declared.class.Class.TheVariants.{Atom, Astring, Digit, Item}
+use Rattle.imap_syntax.specs.Items.{fast_items}
+use Rattle.imap_syntax.specs.MessageFlags.{flags_of, no_flags}
+use Rattle.imap_syntax.specs.declared.fetch.FetchItem.{FetchItem}
+use Rattle.imap_syntax.specs.declared.fetch.FetchItem.TheVariants as items
+use Rattle.imap_syntax.specs.declared.fetch.FetchWord.{FetchWord}
+use Rattle.imap_syntax.specs.declared.fetch.FetchWord.TheVariants as fetch
+use Rattle.imap_syntax.specs.declared.fetch.Partial.{Partial}
+use Rattle.imap_syntax.specs.declared.fetch.SectionWord.{SectionWord}
+use Rattle.imap_syntax.specs.declared.fetch.SectionWord.TheVariants as sections
+use Rattle.imap_syntax.specs.declared.flags.Flag.{Flag}
+use Rattle.imap_syntax.specs.declared.flags.Flag.TheVariants.{System, Keyword}
+use Rattle.imap_syntax.specs.Strings.{begins, is_in, is_quotable, number_of}
+use Rattle.imap_syntax.specs.Words.{fetch_word, fetch_words, section_word, section_words, system_flags, system_word}
+use Rattle.imap_syntax.specs.declared.class.Class.{Class}
+use Rattle.imap_syntax.specs.declared.class.Class.TheVariants.{Atom, Astring, Digit, Item}
 use Rattle.imap_grammar.specs.declared.fault.ParseFault.{ParseFault}
 use Rattle.imap_grammar.specs.declared.fault.ParseFault.TheVariants.{NoMemory, BadSyntax, NotInProfile, NoTag, UnknownCommand}
 
@@ -48,6 +48,23 @@ Fails UnknownCommand read = ⊥
 abbrev pub Gives : {X Y : Type 0} → (X → Y) → Result X ParseFault → Option Y → Type 0
 Gives view (Ok x) read = read ≡ Some (view x)
 Gives view (Err e) read = Fails e read
+
+-- The first of the values whose word is this text, but for ASCII case.
+abbrev pub named : {W : Type 0} → (W → List ℕ) → List W → List ℕ → Option W
+named word_of [] text = None
+named word_of (value ∷ values) text =
+    if bytes_eq (lowered text) (lowered (word_of value)) then Some value else named word_of values text
+
+-- Whether the calendar has a day, as a test.
+abbrev pub is_date : ℕ → ℕ → ℕ → Bool
+is_date year month day =
+    not (nat_lt 9999 year) && (not (nat_lt month 1) && (not (nat_lt 12 month) && (not (nat_lt day 1) && not (nat_lt (days_in_month (pos year) month) day))))
+
+-- A zero for a space behind the first octet.
+abbrev pub zeroed : List ℕ → List ℕ
+zeroed [] = []
+zeroed (octet ∷ []) = octet ∷ []
+zeroed (octet ∷ next ∷ octets) = if next == 32 then octet ∷ 48 ∷ octets else octet ∷ next ∷ octets
 
 -- The longest front of octets that pass a test, and the rest.
 abbrev pub span : (ℕ → Bool) → List ℕ → List ℕ × List ℕ

@@ -1,14 +1,13 @@
 ghost use Rattle.std.specs.Prelude.{◌≡◌, length};
-ghost use Rattle.imap_grammar.specs.Dates.{zeroed};
-ghost use Rattle.imap_grammar.specs.Reading.{Gives, both, spaced};
+ghost use Rattle.imap_grammar.specs.Reading.{Gives, both, spaced, zeroed};
 ghost use Rattle.imap_grammar.specs.CommandReading.{append_at, append_date_at, append_flags_at, date_time_at, literal_text_at};
 
-use crate::command::Command;
 use crate::fault::ParseFault;
 use crate::flags::{collected, flag_group};
 use crate::modifier::{left_out, peeks};
 use crate::scan::space;
 use crate::text::{literal, mailbox};
+use imap_syntax::Command;
 use imap_types::{DateTime, Flags, Octets};
 use std::alloc::Global;
 

@@ -1,28 +1,26 @@
 ghost use Rattle.std.specs.Prelude.{◌≡◌};
 ghost use Rattle.imap_grammar.specs.Reading.{Gives, listed_at, named_at, parens_at, spaced};
 ghost use Rattle.imap_grammar.specs.CommandReading.{arguments_at, condstore_at, copy_at, create_at, delete_at, enable_at, examine_at, login_at, move_at, select_at, status_at, subscribe_at, uid_arguments_at, uid_at, uid_expunge_at, unsubscribe_at};
-ghost use Rattle.imap_grammar.specs.Words.{command_word, status_items, status_word, uid_words};
+ghost use Rattle.imap_syntax.specs.Words.{command_word, status_items, status_word, uid_words};
 
 use crate::append::append;
-use crate::class::Class;
-use crate::command::Command;
 use crate::fault::ParseFault;
 use crate::fetch::fetch;
 use crate::listed::{Element, listed};
 use crate::listing::list;
-use crate::many::Many;
 use crate::modifier::modifier_word;
 use crate::scan::{skip, space};
 use crate::searching::search;
 use crate::sets::set;
-use crate::status::{StatusItem, StatusItems};
+use crate::status::StatusItems;
 use crate::store::store;
 use crate::text::{mailbox, plain, text};
-use crate::word::{CommandWord, named};
+use crate::word::named;
+use imap_syntax::{Class, Command, CommandWord, Many, StatusItem};
 use imap_types::Octets;
 use std::alloc::Global;
 
-/// What stands behind a command's word, as `specs/Commands.antt` says of each.
+/// What stands behind a command's word, as `specs/Commands.antt` of `imap_syntax` says of each.
 pub fn arguments(
     alloc: Global,
     word: CommandWord,
@@ -75,7 +73,7 @@ impl Element for Atoms {
     type Value = Octets;
 
     ghost use Rattle.imap_grammar.specs.Reading.{run_at};
-    ghost use Rattle.imap_grammar.specs.declared.class.Class.TheVariants.{Atom};
+    ghost use Rattle.imap_syntax.specs.declared.class.Class.TheVariants.{Atom};
 
     ghost read_at = { run_at Atom };
 

@@ -1,20 +1,9 @@
 ghost use Rattle.std.specs.Prelude.{◌≡◌};
 ghost use Rattle.imap_types.specs.DateTimes.{is_digit};
-ghost use Rattle.imap_grammar.specs.Strings.{is_in, is_pattern_octet};
+ghost use Rattle.imap_syntax.specs.Strings.{is_in, is_pattern_octet};
 
+use imap_syntax::Class;
 use imap_types::{is_astring_octet, is_atom_octet};
-
-/// The classes of octets that stand for themselves (RFC 9051, section 9).
-#[derive(Clone, Copy)]
-pub enum Class {
-    Tag,
-    Atom,
-    Astring,
-    Pattern,
-    Digit,
-    /// The words of arguments: atom octets other than `[`, which ends them.
-    Item,
-}
 
 /// Whether an octet is of the class.
 pub fn is_in(class: Class, octet: u8) -> bool

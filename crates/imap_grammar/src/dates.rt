@@ -2,10 +2,10 @@ ghost use Rattle.std.specs.Prelude.{◌≡◌, ◌<◌, ◌≤◌, ◌-◌, ◌^
 ghost use Rattle.imap_types.specs.DateTimes.{month_of};
 ghost use Rattle.imap_grammar.specs.Reading.{Gives, date_at, date_text_at, digits_at, month_name_at};
 
-use crate::class::Class;
 use crate::fault::ParseFault;
 use crate::numbers::saturated;
 use crate::scan::{run, skip};
+use imap_syntax::Class;
 use imap_types::Day;
 
 /// The day that a key of SEARCH names, with quotes or without (RFC 9051, section 9, date).

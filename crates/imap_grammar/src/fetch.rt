@@ -1,59 +1,21 @@
 ghost use Rattle.std.specs.Prelude.{◌≡◌, ◌⊎◌, IfOk};
 ghost use Rattle.imap_grammar.specs.Reading.{Gives, alone_at, body_at, bracketed_at, fetched_at, field_names_at, item_at, item_behind_at, named_at, partial_at, section_at, section_behind_at};
 ghost use Rattle.imap_grammar.specs.CommandReading.{fetch_at};
-ghost use Rattle.imap_grammar.specs.Words.{fetch_word, fetch_words, section_word, section_words};
-ghost use Rattle.imap_grammar.specs.Items.{fast_items};
+ghost use Rattle.imap_syntax.specs.Words.{fetch_word, fetch_words, section_word, section_words};
+ghost use Rattle.imap_syntax.specs.Items.{fast_items};
 ghost use Rattle.imap_grammar.specs.declared.fault.ParseFault.TheVariants.{BadSyntax, NotInProfile};
 
-use crate::class::Class;
-use crate::command::Command;
 use crate::fault::ParseFault;
 use crate::listed::{Element, listed};
-use crate::many::Many;
 use crate::modifier::{changed_since, left_out};
 use crate::numbers::{number, nz};
 use crate::scan::{skip, space, span};
 use crate::sets::set;
 use crate::text::text;
 use crate::word::{Word, find};
+use imap_syntax::{Class, Command, FetchItem, FetchWord, Many, Partial, SectionWord};
 use imap_types::{FieldNames, Octets, Section};
 use std::alloc::{AllocError, Global};
-
-/// What FETCH asks of a message (RFC 9051, section 6.4.5).
-#[derive(Drop)]
-pub enum FetchItem {
-    Flags,
-    InternalDate,
-    /// RFC822.SIZE: the octets of the whole text.
-    Size,
-    Uid,
-    /// RFC 7162, section 3.1.4.2.
-    ModSeq,
-    /// A section of the text; `peek` leaves `\Seen` as it is.
-    Body {
-        peek: bool,
-        section: Section,
-        partial: Option<Partial>,
-    },
-}
-
-/// At most `count` octets, from 1 on, of a section, `start` octets from its beginning (RFC 9051, section 6.4.5, partial).
-#[derive(Clone, Copy, Debug, PartialEq, Eq)]
-pub struct Partial {
-    pub start: u32,
-    pub count: u32,
-}
-
-#[derive(Clone, Copy)]
-enum FetchWord {
-    Flags,
-    InternalDate,
-    Size,
-    Uid,
-    ModSeq,
-    Body,
-    BodyPeek,
-}
 
 const FETCH_WORDS: [FetchWord; 7] = [
     FetchWord::Flags,
@@ -66,7 +28,7 @@ const FETCH_WORDS: [FetchWord; 7] = [
 ];
 
 impl Word for FetchWord {
-    ghost use Rattle.imap_grammar.specs.Words.{fetch_word};
+    ghost use Rattle.imap_syntax.specs.Words.{fetch_word};
 
     ghost word_of = { fetch_word };
 
@@ -83,14 +45,6 @@ impl Word for FetchWord {
     }
 }
 
-#[derive(Clone, Copy)]
-enum SectionWord {
-    Header,
-    Text,
-    Fields,
-    FieldsNot,
-}
-
 const SECTION_WORDS: [SectionWord; 4] = [
     SectionWord::Header,
     SectionWord::Text,
@@ -99,7 +53,7 @@ const SECTION_WORDS: [SectionWord; 4] = [
 ];
 
 impl Word for SectionWord {
-    ghost use Rattle.imap_grammar.specs.Words.{section_word};
+    ghost use Rattle.imap_syntax.specs.Words.{section_word};
 
     ghost word_of = { section_word };
 
@@ -340,7 +294,7 @@ impl Element for Astrings {
     type Value = Octets;
 
     ghost use Rattle.imap_grammar.specs.Reading.{text_at};
-    ghost use Rattle.imap_grammar.specs.declared.class.Class.TheVariants.{Astring};
+    ghost use Rattle.imap_syntax.specs.declared.class.Class.TheVariants.{Astring};
 
     ghost read_at = { text_at Astring };
 

@@ -1,26 +1,16 @@
 ghost use Rattle.std.specs.Prelude.{◌≡◌, IfOk, OnOk};
-ghost use Rattle.imap_grammar.specs.MessageFlags.{flags_of, no_flags, with_flag};
+ghost use Rattle.imap_syntax.specs.MessageFlags.{flags_of, no_flags, with_flag};
 ghost use Rattle.imap_grammar.specs.Reading.{Gives, flag_at, flag_group_at, maybe_flags_at, named_at, stored_at, stored_texts_at};
-ghost use Rattle.imap_grammar.specs.Words.{system_flags, system_word};
+ghost use Rattle.imap_syntax.specs.Words.{system_flags, system_word};
 
-use crate::class::Class;
 use crate::fault::ParseFault;
 use crate::listed::{Element, listed};
 use crate::scan::{skip, span};
 use crate::text::plain;
 use crate::word::{Word, find};
+use imap_syntax::{Class, Flag, SystemFlag};
 use imap_types::{Flags, Octets};
 use std::alloc::{AllocError, Global};
-
-/// The flags that RFC 9051, section 2.3.2 defines and a client may set.
-#[derive(Clone, Copy, Debug, PartialEq, Eq)]
-pub enum SystemFlag {
-    Answered,
-    Flagged,
-    Deleted,
-    Seen,
-    Draft,
-}
 
 const SYSTEM_FLAGS: [SystemFlag; 5] = [
     SystemFlag::Answered,
@@ -31,7 +21,7 @@ const SYSTEM_FLAGS: [SystemFlag; 5] = [
 ];
 
 impl Word for SystemFlag {
-    ghost use Rattle.imap_grammar.specs.Words.{system_word};
+    ghost use Rattle.imap_syntax.specs.Words.{system_word};
 
     ghost word_of = { system_word };
 
@@ -44,14 +34,6 @@ impl Word for SystemFlag {
             SystemFlag::Draft => b"Draft",
         }
     }
-}
-
-/// A flag as it is written (RFC 9051, section 9, flag).
-#[derive(Drop)]
-pub enum Flag {
-    System(SystemFlag),
-    /// One or more atom octets, in any case.
-    Keyword(Octets),
 }
 
 /// Reads flags.

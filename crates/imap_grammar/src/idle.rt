@@ -1,15 +1,8 @@
 ghost use Rattle.std.specs.Prelude.{◌≡◌, ◌↔◌};
-ghost use Rattle.imap_grammar.specs.Commands.{EndsIdle};
-ghost use Rattle.imap_grammar.specs.declared.idle.IdleLine.TheVariants.{Done};
+ghost use Rattle.imap_syntax.specs.Commands.{EndsIdle};
+ghost use Rattle.imap_syntax.specs.declared.idle.IdleLine.TheVariants.{Done};
 
-/// What a line in IDLE is (RFC 2177, section 3).
-#[derive(Clone, Copy, Debug, PartialEq, Eq)]
-pub enum IdleLine {
-    /// `DONE` in any case.
-    Done,
-    /// Any other frame.
-    Other,
-}
+use imap_syntax::IdleLine;
 
 /// Whether a frame in IDLE is `DONE` in any case.
 pub fn idle_line(frame: &[u8]) -> IdleLine

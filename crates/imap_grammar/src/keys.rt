@@ -1,22 +1,21 @@
 ghost use Rattle.std.specs.Prelude.{◌≡◌, ◌⊎◌, ◌++◌, ◌∷◌, [], IfOk, OnOk, option_map};
 ghost use Rattle.imap_grammar.specs.KeyReading.{below_at, keys_at, leaf_at, level_at, numbers_at, worded_at};
-ghost use Rattle.imap_grammar.specs.KeyWords.{key_word, key_words};
+ghost use Rattle.imap_syntax.specs.KeyWords.{key_word, key_words};
 ghost use Rattle.imap_grammar.specs.Reading.{Gives, named_at, next_at, number_at};
 ghost use Rattle.imap_grammar.specs.declared.fault.ParseFault.TheVariants.{BadSyntax, NotInProfile};
-ghost use Rattle.imap_grammar.specs.declared.search.KeyWord.TheVariants as key;
-ghost use Rattle.imap_grammar.specs.declared.search.SearchStep.TheVariants.{And, Or, Test};
+ghost use Rattle.imap_syntax.specs.declared.search.KeyWord.TheVariants as key;
+ghost use Rattle.imap_syntax.specs.declared.search.SearchStep.TheVariants.{And, Or, Test};
 
-use crate::class::{Class, is_in};
+use crate::class::is_in;
 use crate::dates::date;
 use crate::fault::ParseFault;
-use crate::flags::SystemFlag;
 use crate::modifier::left_out;
 use crate::numbers::number;
 use crate::scan::{skip, space, span};
-use crate::search::{DayOrder, KeyWord, SearchStep, SearchTest, TextPlace};
 use crate::sets::set;
 use crate::text::{plain, text};
 use crate::word::find;
+use imap_syntax::{Class, DayOrder, KeyWord, SearchStep, SearchTest, SystemFlag, TextPlace};
 use std::alloc::{AllocError, Global};
 
 /// The greatest number of octets and the greatest mod-sequence: 2^63 - 1.

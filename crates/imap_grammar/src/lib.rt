@@ -1,12 +1,11 @@
 //! The commands of IMAP4rev2 (RFC 9051) that this server takes, read from whole frames.
 //!
-//! `specs/Commands.antt` says which frame spells which command, production by production. [`parse`] answers exactly that.
+//! `imap_syntax` says which frame spells which command, production by production. [`parse`] answers exactly that.
 #![tactic(auto)]
 
 mod append;
 mod arguments;
 mod class;
-mod command;
 mod dates;
 mod fault;
 mod fetch;
@@ -15,7 +14,6 @@ mod idle;
 mod keys;
 mod listed;
 mod listing;
-mod many;
 mod modifier;
 mod numbers;
 mod reading;
@@ -28,14 +26,10 @@ mod store;
 mod text;
 mod word;
 
-pub use command::{Command, Tagged};
 pub use fault::ParseFault;
-pub use fetch::{FetchItem, Partial};
-pub use flags::{Flag, SystemFlag};
-pub use idle::{IdleLine, idle_line};
-pub use many::Many;
+pub use idle::idle_line;
+pub use imap_syntax::{
+    Command, CommandWord, DayOrder, FetchItem, Flag, IdleLine, Many, Partial, SearchOption,
+    SearchStep, SearchTest, StatusItem, StoreAction, StoreMode, SystemFlag, Tagged, TextPlace,
+};
 pub use reading::{one_reading, parse, tag_of};
-pub use search::{DayOrder, SearchOption, SearchStep, SearchTest, TextPlace};
-pub use status::StatusItem;
-pub use store::{StoreAction, StoreMode};
-pub use word::CommandWord;

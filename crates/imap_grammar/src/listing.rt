@@ -1,13 +1,12 @@
 ghost use Rattle.std.specs.Prelude.{◌≡◌, codes};
 ghost use Rattle.imap_grammar.specs.Reading.{Gives, after_word, text_at};
 ghost use Rattle.imap_grammar.specs.CommandReading.{list_at, options_at, options_inner_at, returns_at, selection_at};
-ghost use Rattle.imap_grammar.specs.declared.class.Class.TheVariants.{Pattern};
+ghost use Rattle.imap_syntax.specs.declared.class.Class.TheVariants.{Pattern};
 
-use crate::class::Class;
-use crate::command::Command;
 use crate::fault::ParseFault;
 use crate::scan::{skip, skip_word, space, span};
 use crate::text::text;
+use imap_syntax::{Class, Command};
 use imap_types::Octets;
 use std::alloc::Global;
 

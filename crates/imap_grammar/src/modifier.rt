@@ -2,10 +2,10 @@ ghost use Rattle.std.specs.Prelude.{◌≡◌, ◌<◌, ◌-◌, ◌^◌, ◌⊎
 ghost use Rattle.imap_grammar.specs.Reading.{Gives, after_word, modifier_at, modifier_group_at, peeks};
 ghost use Rattle.imap_grammar.specs.declared.fault.ParseFault.TheVariants.{BadSyntax, NotInProfile};
 
-use crate::class::Class;
 use crate::fault::ParseFault;
 use crate::numbers::number;
 use crate::scan::{skip, space, span};
+use imap_syntax::Class;
 
 /// The greatest mod-sequence (RFC 7162, section 7, mod-sequence-value).
 const MAX_MODSEQ: u64 = 9_223_372_036_854_775_807;

@@ -1,10 +1,10 @@
 ghost use Rattle.std.specs.Prelude.{◌≡◌, ◌<◌, ◌-◌, ◌^◌, length, min};
 ghost use Rattle.imap_grammar.specs.Reading.{Gives, number_at, nz_at};
-ghost use Rattle.imap_grammar.specs.Strings.{begins, number_of};
+ghost use Rattle.imap_syntax.specs.Strings.{begins, number_of};
 
-use crate::class::Class;
 use crate::fault::ParseFault;
 use crate::scan::run;
+use imap_syntax::Class;
 
 /// A number up to a limit (RFC 9051, section 9, number64).
 pub fn number(octets: &[u8], limit: u64) -> Result<(u64, &[u8]), ParseFault>

@@ -1,23 +1,22 @@
 ghost use Rattle.std.specs.Prelude.{◌≡◌, ◌↔◌, ◌⊎◌, ℕ, List, IfOk, MatchOption, Ok, Err, option_map};
-ghost use Rattle.imap_grammar.specs.Commands.{IsSpelled};
-ghost use Rattle.imap_grammar.specs.Faults.{HasTag, IsTagged, NamesCommand};
+ghost use Rattle.imap_syntax.specs.Commands.{IsSpelled};
+ghost use Rattle.imap_syntax.specs.Faults.{HasTag, IsTagged, NamesCommand};
 ghost use Rattle.imap_grammar.specs.Reading.{Gives};
 ghost use Rattle.imap_grammar.specs.CommandReading.{AnswersTag, ended_at, tag_at};
-ghost use Rattle.imap_grammar.specs.declared.command.Tagged.{Tagged as Spelled};
+ghost use Rattle.imap_syntax.specs.declared.command.Tagged.{Tagged as Spelled};
 ghost use Rattle.imap_grammar.specs.declared.fault.ParseFault.TheVariants.{BadSyntax, NoMemory, NoTag, NotInProfile, UnknownCommand};
 
 use crate::arguments::arguments;
-use crate::class::Class;
-use crate::command::{Command, Tagged};
 use crate::fault::ParseFault;
 use crate::scan::{skip, span};
-use crate::word::{CommandWord, find_command};
+use crate::word::find_command;
+use imap_syntax::{Class, Command, CommandWord, Tagged};
 use imap_types::Octets;
 use std::alloc::Global;
 
 /// The command that a whole frame spells, CRLF included.
 ///
-/// The faults: `NoTag` and `UnknownCommand` exactly where `specs/Faults.antt` says; `BadSyntax` and `NotInProfile` only
+/// The faults: `NoTag` and `UnknownCommand` exactly where `specs/Faults.antt` of `imap_syntax` says; `BadSyntax` and `NotInProfile` only
 /// where no command is spelled; `NoMemory` in place of any answer but the first two.
 pub fn parse(alloc: Global, frame: &[u8]) -> Result<Tagged, ParseFault>
     // What is read is spelled so.

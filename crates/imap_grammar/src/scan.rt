@@ -1,9 +1,10 @@
 ghost use Rattle.std.specs.Prelude.{◌≡◌, ◌<◌, ◌≤◌, length, [], ◌∷◌, IfSome};
-ghost use Rattle.imap_grammar.specs.Strings.{is_in, number_of};
+ghost use Rattle.imap_syntax.specs.Strings.{is_in, number_of};
 ghost use Rattle.imap_grammar.specs.Reading.{Gives, after, after_word, run_at, span, after_plus};
 
-use crate::class::{Class, is_in};
+use crate::class::is_in;
 use crate::fault::ParseFault;
+use imap_syntax::Class;
 
 /// The longest front of octets of a class, and the rest.
 pub fn span(class: Class, octets: &[u8]) -> (&[u8], &[u8])

@@ -1,19 +1,16 @@
 ghost use Rattle.std.specs.Prelude.{◌≡◌};
 ghost use Rattle.imap_grammar.specs.KeyReading.{charset_at, charset_name_at, is_charset, maybe_options_at, returned_at, returned_group_at, search_at};
-ghost use Rattle.imap_grammar.specs.KeyWords.{option_word, search_options};
+ghost use Rattle.imap_syntax.specs.KeyWords.{option_word, search_options};
 ghost use Rattle.imap_grammar.specs.Reading.{Gives, named_at};
 
-use crate::class::Class;
-use crate::command::Command;
 use crate::fault::ParseFault;
 use crate::keys::keys;
 use crate::listed::{Element, listed};
-use crate::many::Many;
 use crate::modifier::left_out;
 use crate::scan::{skip, space, span};
-use crate::search::SearchOption;
 use crate::text::text;
 use crate::word::find;
+use imap_syntax::{Class, Command, Many, SearchOption};
 use std::alloc::Global;
 
 /// How deep NOT, OR and parentheses may stand in one another.
@@ -84,7 +81,7 @@ struct Options;
 impl Element for Options {
     type Value = SearchOption;
 
-    ghost use Rattle.imap_grammar.specs.KeyWords.{option_word, search_options};
+    ghost use Rattle.imap_syntax.specs.KeyWords.{option_word, search_options};
     ghost use Rattle.imap_grammar.specs.Reading.{named_at};
 
     ghost read_at = { named_at option_word search_options };

@@ -1,28 +1,12 @@
 ghost use Rattle.std.specs.Prelude.{◌≡◌};
 ghost use Rattle.imap_grammar.specs.Reading.{Gives, named_at};
-ghost use Rattle.imap_grammar.specs.Words.{status_items, status_word};
+ghost use Rattle.imap_syntax.specs.Words.{status_items, status_word};
 
 use crate::fault::ParseFault;
 use crate::listed::Element;
 use crate::word::{Word, named};
+use imap_syntax::StatusItem;
 use std::alloc::Global;
-
-/// What STATUS can ask of a mailbox (RFC 9051, section 6.3.11; RFC 7162, section 3.1.7).
-#[derive(Clone, Copy, Debug, PartialEq, Eq)]
-pub enum StatusItem {
-    /// How many messages there are.
-    Messages,
-    /// The next message's UID.
-    UidNext,
-    UidValidity,
-    /// How many messages lack `\Seen`.
-    Unseen,
-    /// How many messages have `\Deleted`.
-    Deleted,
-    /// The octets of all messages together.
-    Size,
-    HighestModSeq,
-}
 
 const STATUS_ITEMS: [StatusItem; 7] = [
     StatusItem::Messages,
@@ -35,7 +19,7 @@ const STATUS_ITEMS: [StatusItem; 7] = [
 ];
 
 impl Word for StatusItem {
-    ghost use Rattle.imap_grammar.specs.Words.{status_word};
+    ghost use Rattle.imap_syntax.specs.Words.{status_word};
 
     ghost word_of = { status_word };
 
@@ -59,7 +43,7 @@ impl Element for StatusItems {
     type Value = StatusItem;
 
     ghost use Rattle.imap_grammar.specs.Reading.{named_at};
-    ghost use Rattle.imap_grammar.specs.Words.{status_items, status_word};
+    ghost use Rattle.imap_syntax.specs.Words.{status_items, status_word};
 
     ghost read_at = { named_at status_word status_items };
 

@@ -1,39 +1,20 @@
 ghost use Rattle.std.specs.Prelude.{◌≡◌, codes};
 ghost use Rattle.imap_grammar.specs.Reading.{Gives, both, modifier_at, named_at, spaced, stored_at};
 ghost use Rattle.imap_grammar.specs.CommandReading.{store_at};
-ghost use Rattle.imap_grammar.specs.Words.{store_actions, store_word};
+ghost use Rattle.imap_syntax.specs.Words.{store_actions, store_word};
 
-use crate::command::Command;
 use crate::fault::ParseFault;
 use crate::flags::stored;
 use crate::modifier::unchanged_since;
 use crate::scan::space;
 use crate::sets::set;
 use crate::word::{Word, named};
+use imap_syntax::{Command, StoreAction, StoreMode};
 use imap_types::Flags;
 use std::alloc::Global;
 
-/// What STORE does with its flags (RFC 9051, section 6.4.6).
-#[derive(Clone, Copy, Debug, PartialEq, Eq)]
-pub enum StoreMode {
-    /// FLAGS: a message has these flags and no others.
-    Replace,
-    /// +FLAGS
-    Add,
-    /// -FLAGS
-    Remove,
-}
-
-/// The word of STORE.
-#[derive(Clone, Copy, Debug, PartialEq, Eq)]
-pub struct StoreAction {
-    pub mode: StoreMode,
-    /// `.SILENT`: the client wants no answer with the flags.
-    pub silent: bool,
-}
-
 impl Word for StoreAction {
-    ghost use Rattle.imap_grammar.specs.Words.{store_word};
+    ghost use Rattle.imap_syntax.specs.Words.{store_word};
 
     ghost word_of = { store_word };
 

@@ -1,11 +1,11 @@
 ghost use Rattle.std.specs.Prelude.{◌≡◌, ◌<◌, ◌≤◌, ◌-◌, ◌^◌, length, min, true, false};
-ghost use Rattle.imap_grammar.specs.Strings.{is_quotable, number_of};
+ghost use Rattle.imap_syntax.specs.Strings.{is_quotable, number_of};
 ghost use Rattle.imap_grammar.specs.Reading.{Gives, literal_at, mailbox_at, octets_at, quoted_at, run_at, text_at, after_plus};
 
-use crate::class::Class;
 use crate::fault::ParseFault;
 use crate::numbers::saturated;
 use crate::scan::{run, skip};
+use imap_syntax::Class;
 use imap_types::{Name, Octets};
 use std::alloc::Global;
 

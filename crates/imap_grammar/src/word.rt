@@ -1,46 +1,10 @@
 ghost use Rattle.std.specs.Prelude.{◌≡◌};
-ghost use Rattle.imap_grammar.specs.Reading.{Gives, named_at};
-ghost use Rattle.imap_grammar.specs.Words.{command_word, command_words, named};
+ghost use Rattle.imap_grammar.specs.Reading.{Gives, named, named_at};
+ghost use Rattle.imap_syntax.specs.Words.{command_word, command_words};
 
-use crate::class::Class;
 use crate::fault::ParseFault;
 use crate::scan::span;
-
-/// The word of a command (RFC 9051, section 6; RFC 2177, section 3): those of this grammar, and those that it leaves out.
-#[derive(Clone, Copy, Debug, PartialEq, Eq)]
-pub enum CommandWord {
-    Capability,
-    Noop,
-    Logout,
-    Login,
-    Enable,
-    Select,
-    Examine,
-    Create,
-    Delete,
-    Subscribe,
-    Unsubscribe,
-    ListNames,
-    Namespace,
-    Status,
-    Append,
-    Idle,
-    Close,
-    Unselect,
-    Expunge,
-    Search,
-    Fetch,
-    Store,
-    Copy,
-    Move,
-    Uid,
-    /// Left out of this grammar.
-    Rename,
-    /// Left out of this grammar.
-    StartTls,
-    /// Left out of this grammar.
-    Authenticate,
-}
+use imap_syntax::{Class, CommandWord};
 
 /// A word of the grammar, which is read without ASCII case.
 pub trait Word: Copy {
@@ -54,7 +18,7 @@ pub trait Word: Copy {
 }
 
 impl Word for CommandWord {
-    ghost use Rattle.imap_grammar.specs.Words.{command_word};
+    ghost use Rattle.imap_syntax.specs.Words.{command_word};
 
     ghost word_of = { command_word };
 

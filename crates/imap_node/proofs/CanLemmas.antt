@@ -35,9 +35,9 @@ use Rattle.imap_commands.specs.declared.session.State.{State}
 use Rattle.imap_commands.specs.declared.session.State.TheVariants.{NotAuthenticated, Authenticated, Selected, LoggedOut}
 use Rattle.imap_commands.proofs.IssuedLemmas.{close_wants_issuable, copy_wants_issuable, expunge_wants_issuable, fetch_wants_issuable, move_wants_issuable, store_wants_issuable, uid_expunge_wants_issuable}
 use Rattle.imap_commands.proofs.LawfulLemmas.{append_lawful, create_lawful, delete_lawful, subscribe_lawful, unsubscribe_lawful}
-use Rattle.imap_grammar.specs.declared.command.Command.{Command}
-use Rattle.imap_grammar.specs.declared.command.Command.TheVariants as commands
-use Rattle.imap_grammar.specs.declared.idle.IdleLine.TheVariants.{Done as DoneLine, Other}
+use Rattle.imap_syntax.specs.declared.command.Command.{Command}
+use Rattle.imap_syntax.specs.declared.command.Command.TheVariants as commands
+use Rattle.imap_syntax.specs.declared.idle.IdleLine.TheVariants.{Done as DoneLine, Other}
 use Rattle.imap_node.specs.declared.input.Input.{Input}
 use Rattle.imap_node.specs.declared.input.Input.TheVariants as inputs
 use Rattle.imap_commands.specs.Issued.{AreIssuable, HaveLawfulFlags, IsIssuable}

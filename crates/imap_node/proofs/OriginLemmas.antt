@@ -21,9 +21,9 @@ use Rattle.imap_commands.specs.Selecting.{select_wants}
 use Rattle.imap_commands.specs.Storing.{store_wants}
 use Rattle.imap_commands.specs.declared.session.State.{State}
 use Rattle.imap_commands.proofs.IssuedLemmas.{close_wants_issuable, copy_wants_issuable, expunge_wants_issuable, fetch_wants_issuable, move_wants_issuable, store_wants_issuable, uid_expunge_wants_issuable}
-use Rattle.imap_grammar.specs.declared.command.Command.{Command}
-use Rattle.imap_grammar.specs.declared.command.Command.TheVariants as commands
-use Rattle.imap_grammar.specs.declared.idle.IdleLine.TheVariants.{Done as DoneLine, Other}
+use Rattle.imap_syntax.specs.declared.command.Command.{Command}
+use Rattle.imap_syntax.specs.declared.command.Command.TheVariants as commands
+use Rattle.imap_syntax.specs.declared.idle.IdleLine.TheVariants.{Done as DoneLine, Other}
 use Rattle.imap_types.specs.Keywords.{is_lawful_keyword}
 use Rattle.imap_types.specs.Names.{inbox}
 use Rattle.imap_types.specs.declared.flags.Flags.{Flags}

@@ -17,8 +17,8 @@ use Rattle.imap_commands.proofs.PrintSelected.{each_append, select_printable}
 use Rattle.imap_commands.proofs.PrintStored.{store_printable, uid_expunge_printable}
 use Rattle.imap_commands.proofs.PrintSynced.{sync_printable}
 use Rattle.imap_commands.proofs.PrintViews.{replay_numbered, sync_numbered}
-use Rattle.imap_grammar.specs.declared.command.Command.{Command}
-use Rattle.imap_grammar.specs.declared.command.Command.TheVariants as commands
+use Rattle.imap_syntax.specs.declared.command.Command.{Command}
+use Rattle.imap_syntax.specs.declared.command.Command.TheVariants as commands
 use Rattle.session_view.specs.Replay.{replayed}
 use Rattle.session_view.specs.Seen.{Seen}
 use Rattle.session_view.specs.declared.entry.SyncKind.{SyncKind}

@@ -22,11 +22,11 @@ use Rattle.imap_commands.specs.declared.session.State.TheVariants.{NotAuthentica
 use Rattle.imap_commands.proofs.IssuedLemmas.{copy_wants_issuable, move_wants_issuable}
 use Rattle.imap_commands.proofs.PrintSelected.{each_append}
 use Rattle.imap_commands.proofs.PrintSpelled.{spelled_answerable}
-use Rattle.imap_grammar.specs.Commands.{IsSpelled}
-use Rattle.imap_grammar.specs.declared.command.Command.{Command}
-use Rattle.imap_grammar.specs.declared.command.Command.TheVariants as commands
-use Rattle.imap_grammar.specs.declared.command.Tagged.{Tagged}
-use Rattle.imap_grammar.specs.declared.idle.IdleLine.{IdleLine}
+use Rattle.imap_syntax.specs.Commands.{IsSpelled}
+use Rattle.imap_syntax.specs.declared.command.Command.{Command}
+use Rattle.imap_syntax.specs.declared.command.Command.TheVariants as commands
+use Rattle.imap_syntax.specs.declared.command.Tagged.{Tagged}
+use Rattle.imap_syntax.specs.declared.idle.IdleLine.{IdleLine}
 use Rattle.imap_types.specs.Keywords.{is_lawful_keyword}
 use Rattle.mail_listing.specs.Listed.{Listed}
 use Rattle.session_view.specs.Seen.{Seen, rows_under}

@@ -11,9 +11,9 @@ use Rattle.imap_commands.specs.Told.{Telling, message_at}
 use Rattle.imap_commands.specs.declared.session.State.{State}
 use Rattle.imap_commands.specs.declared.session.State.TheVariants.{NotAuthenticated, Authenticated, Selected, LoggedOut}
 use Rattle.imap_commands.proofs.PrintSelected.{each_append}
-use Rattle.imap_grammar.specs.declared.command.Command.{Command}
-use Rattle.imap_grammar.specs.declared.command.Command.TheVariants as commands
-use Rattle.imap_grammar.specs.declared.fetch.FetchItem.{FetchItem}
+use Rattle.imap_syntax.specs.declared.command.Command.{Command}
+use Rattle.imap_syntax.specs.declared.command.Command.TheVariants as commands
+use Rattle.imap_syntax.specs.declared.fetch.FetchItem.{FetchItem}
 use Rattle.imap_query.specs.Fetching.{answer_of, is_kept}
 use Rattle.imap_query.specs.Naming.{ShowsMatched, ShowsNames}
 use Rattle.imap_query.specs.declared.fetching.FetchMode.{FetchMode}

@@ -24,8 +24,8 @@ use Rattle.imap_commands.specs.Told.{Telling, nothing_told}
 use Rattle.imap_commands.specs.declared.session.Credentials.{Credentials}
 use Rattle.imap_commands.specs.declared.session.State.{State}
 use Rattle.imap_commands.specs.declared.session.State.TheVariants.{NotAuthenticated, Authenticated, Selected, LoggedOut}
-use Rattle.imap_grammar.specs.declared.command.Command.{Command}
-use Rattle.imap_grammar.specs.declared.command.Command.TheVariants as commands
+use Rattle.imap_syntax.specs.declared.command.Command.{Command}
+use Rattle.imap_syntax.specs.declared.command.Command.TheVariants as commands
 use Rattle.mail_listing.specs.Listed.{Listed}
 use Rattle.session_view.specs.Seen.{Seen}
 use Rattle.session_view.specs.declared.entry.SyncKind.{SyncKind}

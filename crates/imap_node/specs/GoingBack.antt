@@ -1,6 +1,6 @@
 use Rattle.std.specs.Prelude.{◌≡◌, ℕ, ◌<◌, Bool, true, false, ◌||◌, List, ◌++◌, map, Option, Some, None}
 use Rattle.crdt_ops.specs.declared.op.Op.{Op}
-use Rattle.imap_grammar.specs.declared.command.Command.{Command}
+use Rattle.imap_syntax.specs.declared.command.Command.{Command}
 use Rattle.mail_listing.specs.Listed.{Listed}
 use Rattle.merge_laws.specs.Orders.{IsIn}
 use Rattle.session_view.specs.Seen.{Seen}

@@ -4,8 +4,8 @@ use Rattle.imap_answers.specs.declared.answer.Answer.{Answer}
 use Rattle.imap_commands.specs.declared.session.Session.{Session}
 use Rattle.imap_commands.specs.declared.session.State.{State}
 use Rattle.imap_commands.specs.declared.session.State.TheVariants.{Selected}
-use Rattle.imap_grammar.specs.declared.command.Command.{Command}
-use Rattle.imap_grammar.specs.declared.command.Command.TheVariants as commands
+use Rattle.imap_syntax.specs.declared.command.Command.{Command}
+use Rattle.imap_syntax.specs.declared.command.Command.TheVariants as commands
 use Rattle.session_view.specs.Replay.{replayed}
 use Rattle.session_view.specs.Seen.{Seen}
 use Rattle.session_view.specs.Views.{AreRising}

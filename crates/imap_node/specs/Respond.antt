@@ -12,9 +12,9 @@ use Rattle.imap_commands.specs.Told.{Telling}
 use Rattle.imap_commands.specs.declared.session.Session.{Session}
 use Rattle.imap_commands.specs.declared.session.State.{State}
 use Rattle.imap_commands.specs.declared.session.State.TheVariants.{Authenticated}
-use Rattle.imap_grammar.specs.declared.command.Command.{Command}
-use Rattle.imap_grammar.specs.declared.command.Tagged.{Tagged}
-use Rattle.imap_grammar.specs.declared.idle.IdleLine.TheVariants.{Done as DoneLine, Other}
+use Rattle.imap_syntax.specs.declared.command.Command.{Command}
+use Rattle.imap_syntax.specs.declared.command.Tagged.{Tagged}
+use Rattle.imap_syntax.specs.declared.idle.IdleLine.TheVariants.{Done as DoneLine, Other}
 use Rattle.mail_text.specs.Civil.{IsCivil}
 use Rattle.session_view.specs.declared.entry.SyncKind.TheVariants.{Full}
 use Rattle.session_view.specs.declared.replaying.Silent.{Silent}

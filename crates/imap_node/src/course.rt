@@ -14,7 +14,7 @@ use crate::telling::tells;
 use crdt_ops::SoundOp;
 use imap_answers::{Answer, Code, CommandWord, Notice};
 use imap_commands::{Session, State, Telling};
-use imap_grammar::{Command, Tagged};
+use imap_syntax::{Command, Tagged};
 use imap_types::Octets;
 use session_view::{Silent, SyncKind, View};
 use std::alloc::{AllocError, Global};

@@ -14,7 +14,7 @@ use crate::telling::{rows_behind, validity_after};
 use crdt_ops::SoundOp;
 use imap_answers::Answer;
 use imap_commands::State;
-use imap_grammar::Command;
+use imap_syntax::Command;
 use imap_types::Name;
 use mail_listing::Rows;
 use session_view::{Entry, Silent, SyncKind, SyncOutcome, View, replayed, synced};

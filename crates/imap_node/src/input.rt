@@ -1,6 +1,6 @@
 //! What comes from a session's client, or from its feeder.
 
-use imap_grammar::{IdleLine, Tagged};
+use imap_syntax::{IdleLine, Tagged};
 use imap_types::Moment;
 
 /// What a node replies to.

@@ -26,7 +26,7 @@ use crdt_ops::SoundOp;
 use folder_state::Folders;
 use imap_answers::Refusal;
 use imap_commands::{Session, State};
-use imap_grammar::{IdleLine, Tagged};
+use imap_syntax::{IdleLine, Tagged};
 use imap_types::{Moment, Name};
 use mail_listing::Rows;
 use std::alloc::{AllocError, Global};

@@ -9,7 +9,7 @@ use imap_answers::{CommandWord, Refusal};
 use imap_commands::{
     Session, State, asks_condstore, fetch_asks_modseq, search_asks_modseq, status_asks_modseq,
 };
-use imap_grammar::Command;
+use imap_syntax::Command;
 use session_view::SyncKind;
 
 /// Whether a mailbox is selected.

@@ -25,8 +25,8 @@ use imap_commands::{
     idle_tells, list_tells, logout_tells, move_tells, namespace_tells, search_tells, select_tells,
     status_tells, store_tells, uid_expunge_tells,
 };
-use imap_grammar::{Command, FetchItem, SearchOption, SearchStep, StatusItem, StoreAction};
 use imap_query::{ListMode, Marks};
+use imap_syntax::{Command, FetchItem, SearchOption, SearchStep, StatusItem, StoreAction};
 use imap_types::{Flags, Name, Octets, SequenceSet};
 use mail_listing::Rows;
 use session_view::View;

@@ -29,7 +29,7 @@ use imap_commands::{
     expunge_wants, fetch_wants, login_wants, move_wants, search_wants, select_wants, status_wants,
     store_wants, subscribe_wants, uid_expunge_wants, unsubscribe_wants,
 };
-use imap_grammar::{Command, FetchItem, IdleLine, SearchStep, StoreMode};
+use imap_syntax::{Command, FetchItem, IdleLine, SearchStep, StoreMode};
 use imap_types::{DateTime, Flags, Name, Octets, SequenceSet};
 use std::alloc::{AllocError, Global};
 use tags_clocks::OpId;

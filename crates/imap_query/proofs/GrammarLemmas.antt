@@ -1,8 +1,8 @@
 use Rattle.std.proofs.Common.{ℕ, zero, suc, List, [], ◌∷◌, ◌++◌, ap, sym, ◌∙◌, inl, inr, subst}
-use Rattle.imap_grammar.specs.Keys.{all_of, and_all, key_over, key_within, search_keys}
-use Rattle.imap_grammar.specs.Languages.{each_behind, listed, never, sp}
-use Rattle.imap_grammar.specs.declared.search.SearchStep.{SearchStep}
-use Rattle.imap_grammar.specs.declared.search.SearchStep.TheVariants.{Not, Or, And}
+use Rattle.imap_syntax.specs.Keys.{all_of, and_all, key_over, key_within, search_keys}
+use Rattle.imap_syntax.specs.Languages.{each_behind, listed, never, sp}
+use Rattle.imap_syntax.specs.declared.search.SearchStep.{SearchStep}
+use Rattle.imap_syntax.specs.declared.search.SearchStep.TheVariants.{Not, Or, And}
 use Rattle.imap_query.specs.Keys.{Asks, Lacks, Either, Both, IsKey}
 
 AreKeys : List (List SearchStep) → Type 0

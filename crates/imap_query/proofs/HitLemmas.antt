@@ -1,8 +1,8 @@
 use Rattle.std.proofs.Common.{◌≡◌, ◌∙◌, ap, sym, refl, arith, ℕ, zero, suc, ◌+◌, ◌-◌, ◌≤◌, ◌<◌, inl, inr, Bool, true, false, ◌||◌, List, [], ◌∷◌, ◌++◌, length, map, drop, get_or, append_assoc, subst, Some}
 use Rattle.std.specs.Prelude.{max}
 use Rattle.std.specs.List.{list_any}
-use Rattle.imap_grammar.specs.declared.search.SearchStep.{SearchStep}
-use Rattle.imap_grammar.specs.declared.search.SearchStep.TheVariants.{Not, Or, And}
+use Rattle.imap_syntax.specs.declared.search.SearchStep.{SearchStep}
+use Rattle.imap_syntax.specs.declared.search.SearchStep.TheVariants.{Not, Or, And}
 use Rattle.imap_types.specs.Numbers.{AreRisingFrom, greatest}
 use Rattle.imap_query.specs.Hits.{MayAdd, last_number, step_names_modseq}
 use Rattle.imap_query.specs.Keys.{Asks, Both, Either, Key, Lacks, steps_of}

@@ -1,8 +1,8 @@
 use Rattle.std.proofs.Common.{◌≡◌, Bool, List, [], ◌∷◌, ◌++◌, ap, sym, ◌∙◌, refl, append_assoc, ℕ, zero, suc, ◌≤◌, length, drop, reverse, false, arith}
 use Rattle.std.proofs.lemmas.List.{reverse-append}
-use Rattle.imap_grammar.specs.declared.search.SearchStep.{SearchStep}
-use Rattle.imap_grammar.specs.declared.search.SearchStep.TheVariants.{Not, Or, And}
-use Rattle.imap_grammar.specs.declared.search.SearchTest.{SearchTest}
+use Rattle.imap_syntax.specs.declared.search.SearchStep.{SearchStep}
+use Rattle.imap_syntax.specs.declared.search.SearchStep.TheVariants.{Not, Or, And}
+use Rattle.imap_syntax.specs.declared.search.SearchTest.{SearchTest}
 use Rattle.imap_query.specs.Keys.{Key, Asks, Lacks, Either, Both, hits, steps_of}
 use Rattle.imap_query.specs.Runs.{run, built}
 

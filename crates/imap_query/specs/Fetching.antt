@@ -4,9 +4,9 @@ use Rattle.imap_answers.specs.declared.answer.Answer.{Answer}
 use Rattle.imap_answers.specs.declared.answer.Answer.TheVariants.{Fetch}
 use Rattle.imap_answers.specs.declared.fetched.FetchItems.{FetchItems}
 use Rattle.imap_answers.specs.declared.fetched.SectionData.{SectionData}
-use Rattle.imap_grammar.specs.declared.fetch.FetchItem.{FetchItem}
-use Rattle.imap_grammar.specs.declared.fetch.FetchItem.TheVariants as item
-use Rattle.imap_grammar.specs.declared.fetch.Partial.{Partial}
+use Rattle.imap_syntax.specs.declared.fetch.FetchItem.{FetchItem}
+use Rattle.imap_syntax.specs.declared.fetch.FetchItem.TheVariants as item
+use Rattle.imap_syntax.specs.declared.fetch.Partial.{Partial}
 use Rattle.imap_types.specs.declared.section.Section.{Section}
 use Rattle.imap_types.specs.declared.section.Section.TheVariants as section
 use Rattle.mail_listing.specs.Listed.{Listed}

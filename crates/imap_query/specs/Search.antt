@@ -2,10 +2,10 @@ use Rattle.std.specs.Prelude.{ℕ, Bool, true, false, not, ◌&&◌, ◌||◌, �
 use Rattle.std.specs.List.{list_any}
 use Rattle.imap_types.specs.Numbers.{greatest}
 use Rattle.imap_answers.specs.declared.mailbox.SearchResults.{SearchResults}
-use Rattle.imap_grammar.specs.declared.search.SearchOption.{SearchOption}
-use Rattle.imap_grammar.specs.declared.search.SearchOption.TheVariants.{Min, Max, All, Count}
-use Rattle.imap_grammar.specs.declared.search.SearchTest.{SearchTest}
-use Rattle.imap_grammar.specs.declared.search.SearchTest.TheVariants as tests
+use Rattle.imap_syntax.specs.declared.search.SearchOption.{SearchOption}
+use Rattle.imap_syntax.specs.declared.search.SearchOption.TheVariants.{Min, Max, All, Count}
+use Rattle.imap_syntax.specs.declared.search.SearchTest.{SearchTest}
+use Rattle.imap_syntax.specs.declared.search.SearchTest.TheVariants as tests
 use Rattle.mail_listing.specs.Listed.{Listed}
 use Rattle.mail_listing.specs.Listing.{row_of}
 use Rattle.imap_query.specs.Keys.{Asks, Both, Either, Key, Lacks, hits}

@@ -1,9 +1,9 @@
 use Rattle.std.specs.Prelude.{ℕ, Bool, true, false, ◌==◌, List, length, min, Option, Some, None, if◌then◌else◌}
 use Rattle.std.specs.List.{filter, list_any, sum_by}
 use Rattle.imap_answers.specs.declared.mailbox.StatusItems.{StatusItems}
-use Rattle.imap_grammar.specs.declared.flags.SystemFlag.TheVariants.{Deleted, Seen}
-use Rattle.imap_grammar.specs.declared.status.StatusItem.{StatusItem}
-use Rattle.imap_grammar.specs.declared.status.StatusItem.TheVariants.{Messages, UidNext, UidValidity, Unseen, Deleted as DeletedItem, Size, HighestModSeq}
+use Rattle.imap_syntax.specs.declared.flags.SystemFlag.TheVariants.{Deleted, Seen}
+use Rattle.imap_syntax.specs.declared.status.StatusItem.{StatusItem}
+use Rattle.imap_syntax.specs.declared.status.StatusItem.TheVariants.{Messages, UidNext, UidValidity, Unseen, Deleted as DeletedItem, Size, HighestModSeq}
 use Rattle.mail_listing.specs.Listed.{Listed}
 use Rattle.imap_query.specs.Messages.{is_flagged}
 use Rattle.imap_query.specs.declared.mailbox_status.Marks.{Marks}

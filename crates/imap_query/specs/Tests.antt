@@ -5,12 +5,12 @@ use Rattle.imap_types.specs.declared.day.Day.{Day}
 use Rattle.imap_types.specs.declared.sequence_set.SequenceBound.{SequenceBound}
 use Rattle.imap_types.specs.declared.sequence_set.SequenceBound.TheVariants.{Number, Greatest}
 use Rattle.imap_types.specs.declared.sequence_set.SequenceRange.{SequenceRange}
-use Rattle.imap_grammar.specs.declared.search.DayOrder.{DayOrder}
-use Rattle.imap_grammar.specs.declared.search.DayOrder.TheVariants.{Before, On, Since}
-use Rattle.imap_grammar.specs.declared.search.SearchTest.{SearchTest}
-use Rattle.imap_grammar.specs.declared.search.SearchTest.TheVariants as tests
-use Rattle.imap_grammar.specs.declared.search.TextPlace.{TextPlace}
-use Rattle.imap_grammar.specs.declared.search.TextPlace.TheVariants as places
+use Rattle.imap_syntax.specs.declared.search.DayOrder.{DayOrder}
+use Rattle.imap_syntax.specs.declared.search.DayOrder.TheVariants.{Before, On, Since}
+use Rattle.imap_syntax.specs.declared.search.SearchTest.{SearchTest}
+use Rattle.imap_syntax.specs.declared.search.SearchTest.TheVariants as tests
+use Rattle.imap_syntax.specs.declared.search.TextPlace.{TextPlace}
+use Rattle.imap_syntax.specs.declared.search.TextPlace.TheVariants as places
 use Rattle.mail_listing.specs.Listed.{Listed}
 use Rattle.mail_text.specs.Civil.{written_day}
 use Rattle.mail_text.specs.Parts.{body_of}

@@ -8,7 +8,7 @@ ghost use Rattle.mail_text.specs.Fields.{fields_of};
 
 use crate::shown::Shown;
 use imap_answers::{Answer, FetchItems, SectionData, Sections};
-use imap_grammar::{FetchItem, Partial};
+use imap_syntax::{FetchItem, Partial};
 use imap_types::{DateTime, Flags, Octets, Section};
 use mail_listing::{Row, Rows};
 use mail_text::{body, fields, header, other_fields, partial};

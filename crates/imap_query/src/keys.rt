@@ -8,7 +8,7 @@ ghost use Rattle.mail_listing.specs.Listing.{listed};
 
 use crate::messages::{is_as, is_flagged};
 use crate::shown::Shown;
-use imap_grammar::{DayOrder, SearchStep, SearchTest, TextPlace};
+use imap_syntax::{DayOrder, SearchStep, SearchTest, TextPlace};
 use imap_types::{DateTime, Day, SequenceBound, SequenceRange};
 use mail_listing::Row;
 use mail_text::{body, contains_nocase, field_contains_nocase, written_day};

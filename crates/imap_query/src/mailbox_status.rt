@@ -6,7 +6,7 @@ ghost use Rattle.imap_query.specs.Status.{is_asked, size_of, status_of};
 
 use crate::messages::is_flagged;
 use imap_answers::StatusItems;
-use imap_grammar::{StatusItem, SystemFlag};
+use imap_syntax::{StatusItem, SystemFlag};
 use mail_listing::Rows;
 
 /// What a mailbox counts on, beside its listing.

@@ -3,7 +3,7 @@
 ghost use Rattle.std.specs.Prelude.{◌≡◌};
 ghost use Rattle.imap_query.specs.Messages.{has_flag, is_as};
 
-use imap_grammar::SystemFlag;
+use imap_syntax::SystemFlag;
 use imap_types::Flags;
 
 /// Whether a flag is set, or isn't.

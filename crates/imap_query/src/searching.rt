@@ -9,7 +9,7 @@ ghost use Rattle.mail_listing.specs.Listing.{row_of};
 use crate::keys::hits;
 use crate::shown::Shown;
 use imap_answers::SearchResults;
-use imap_grammar::{SearchOption, SearchStep, SearchTest};
+use imap_syntax::{SearchOption, SearchStep, SearchTest};
 use imap_types::NumberSet;
 use mail_listing::Rows;
 use std::alloc::{AllocError, Global};

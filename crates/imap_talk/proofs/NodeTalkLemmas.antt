@@ -8,10 +8,10 @@ use Rattle.imap_answers.specs.declared.words.Refusal.TheVariants as refusals
 use Rattle.imap_commands.specs.declared.session.Session.{Session}
 use Rattle.imap_commands.specs.declared.session.State.{State}
 use Rattle.imap_commands.specs.declared.session.State.TheVariants.{NotAuthenticated, Authenticated, Selected, LoggedOut}
-use Rattle.imap_grammar.specs.declared.command.Command.{Command}
-use Rattle.imap_grammar.specs.declared.command.Command.TheVariants as commands
-use Rattle.imap_grammar.specs.declared.command.Tagged.{Tagged}
-use Rattle.imap_grammar.specs.declared.idle.IdleLine.{IdleLine}
+use Rattle.imap_syntax.specs.declared.command.Command.{Command}
+use Rattle.imap_syntax.specs.declared.command.Command.TheVariants as commands
+use Rattle.imap_syntax.specs.declared.command.Tagged.{Tagged}
+use Rattle.imap_syntax.specs.declared.idle.IdleLine.{IdleLine}
 use Rattle.imap_lex.specs.declared.item.Item.{Item}
 use Rattle.imap_lex.specs.declared.item.Item.TheVariants.{Ready, Frame, Refused as RefusedItem}
 use Rattle.imap_node.specs.Commands.{is_idle, moves_to}

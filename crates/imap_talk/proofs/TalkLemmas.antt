@@ -11,7 +11,7 @@ use Rattle.imap_lex.specs.declared.fault.Fault.TheVariants.{LineTooLong, Literal
 use Rattle.imap_lex.specs.declared.item.Item.{Item}
 use Rattle.imap_lex.specs.declared.limits.Limits.{Limits}
 use Rattle.imap_lex.proofs.CutLemmas.{goes_on-append}
-use Rattle.imap_grammar.specs.declared.idle.IdleLine.{IdleLine}
+use Rattle.imap_syntax.specs.declared.idle.IdleLine.{IdleLine}
 use Rattle.imap_node.specs.declared.reply.Reply.{Reply}
 use Rattle.node_talk.specs.Conversation.{IsFront}
 use Rattle.node_talk.specs.Inputs.{IsRequest}

@@ -5,8 +5,8 @@ ghost use Rattle.imap_talk.specs.Devices.{Gave, TookSome};
 
 use crate::fault::PortFault;
 use imap_answers::Login;
-use imap_grammar::{IdleLine, Tagged};
 use imap_node::Reply;
+use imap_syntax::{IdleLine, Tagged};
 use std::alloc::Global;
 
 /// What octets come from.

@@ -3,8 +3,8 @@ use Rattle.std.specs.List.{flat_map}
 use Rattle.std.specs.Str.{bytes_eq}
 use Rattle.std.proofs.lemmas.Bool.{cases_Bool}
 use Rattle.imap_types.specs.Escape.{AreOctets}
-use Rattle.imap_grammar.specs.Commands.{IsSpelled}
-use Rattle.imap_grammar.specs.declared.command.Tagged.{Tagged}
+use Rattle.imap_syntax.specs.Commands.{IsSpelled}
+use Rattle.imap_syntax.specs.declared.command.Tagged.{Tagged}
 use Rattle.imap_answers.specs.Printable.{IsPrintable}
 use Rattle.imap_answers.specs.Printed.{printed}
 use Rattle.imap_answers.specs.declared.answer.Answer.{Answer}

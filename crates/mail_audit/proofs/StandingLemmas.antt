@@ -1,8 +1,8 @@
 use Rattle.std.proofs.Common.{◌≡◌, inl, inr, ℕ, ◌+◌, ◌<◌, ◌≤◌, Bool, true, false, List, [], ◌∷◌, ◌++◌, Some, None, length, length-append, append_assoc, append-nil, IsTrue, arith, ap, refl, sym, subst, ◌∙◌}
 use Rattle.imap_types.specs.Escape.{AreOctets}
 use Rattle.std.specs.Str.{bytes_eq}
-use Rattle.imap_grammar.specs.Commands.{IsSpelled}
-use Rattle.imap_grammar.specs.declared.command.Tagged.{Tagged}
+use Rattle.imap_syntax.specs.Commands.{IsSpelled}
+use Rattle.imap_syntax.specs.declared.command.Tagged.{Tagged}
 use Rattle.imap_answers.specs.Printable.{IsPrintable}
 use Rattle.imap_answers.specs.Printed.{printed}
 use Rattle.imap_answers.specs.declared.answer.Answer.{Answer}

@@ -1,10 +1,10 @@
 use Rattle.std.specs.Prelude.{◌≡◌, ◌⊎◌, ℕ, Bool, true, false, List, [], ◌∷◌, ◌++◌, Option, Some, None, IsTrue, IsFalse, if◌then◌else◌}
 use Rattle.std.specs.List.{list_any}
 use Rattle.std.specs.Str.{bytes_eq}
-use Rattle.imap_grammar.specs.Commands.{IsSpelled}
-use Rattle.imap_grammar.specs.declared.command.Command.{Command}
-use Rattle.imap_grammar.specs.declared.command.Command.TheVariants as command
-use Rattle.imap_grammar.specs.declared.command.Tagged.{Tagged}
+use Rattle.imap_syntax.specs.Commands.{IsSpelled}
+use Rattle.imap_syntax.specs.declared.command.Command.{Command}
+use Rattle.imap_syntax.specs.declared.command.Command.TheVariants as command
+use Rattle.imap_syntax.specs.declared.command.Tagged.{Tagged}
 use Rattle.imap_answers.specs.declared.answer.Answer.{Answer}
 use Rattle.imap_answers.specs.declared.answer.Answer.TheVariants as answer
 use Rattle.imap_answers.specs.Printable.{IsPrintable}

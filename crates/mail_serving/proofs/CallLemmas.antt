@@ -1,8 +1,8 @@
 use Rattle.std.proofs.Common.{◌≡◌, ◌⊎◌, inl, inr, ℕ, Option, Some, Result, Ok, Err, refl, sym, ◌∙◌, subst}
 use Rattle.std.specs.Prelude.{IfOk}
 use Rattle.imap_answers.specs.declared.words.Login.{Login}
-use Rattle.imap_grammar.specs.declared.command.Tagged.{Tagged}
-use Rattle.imap_grammar.specs.declared.idle.IdleLine.{IdleLine}
+use Rattle.imap_syntax.specs.declared.command.Tagged.{Tagged}
+use Rattle.imap_syntax.specs.declared.idle.IdleLine.{IdleLine}
 use Rattle.imap_node.specs.declared.reply.Reply.{Reply}
 use Rattle.imap_node.specs.declared.sessions.Auth.{Auth}
 use Rattle.imap_node.specs.declared.sessions.OpenFault.TheVariants as refusals

@@ -1,7 +1,7 @@
 use Rattle.std.proofs.Common.{◌≡◌, ◌⊎◌, inl, inr, ◌↔◌, ℕ, List, Result, Ok, Err, refl, subst}
-use Rattle.imap_grammar.specs.Commands.{IsSpelled}
-use Rattle.imap_grammar.specs.Faults.{HasTag, NamesCommand}
-use Rattle.imap_grammar.specs.declared.command.Tagged.{Tagged}
+use Rattle.imap_syntax.specs.Commands.{IsSpelled}
+use Rattle.imap_syntax.specs.Faults.{HasTag, NamesCommand}
+use Rattle.imap_syntax.specs.declared.command.Tagged.{Tagged}
 use Rattle.imap_grammar.specs.declared.fault.ParseFault.{ParseFault}
 use Rattle.imap_grammar.specs.declared.fault.ParseFault.TheVariants as faults
 use Rattle.imap_answers.specs.declared.answer.Answer.{Answer}

@@ -3,8 +3,8 @@ use Rattle.std.specs.List.{list_all}
 use Rattle.std.proofs.Math.Dec.{eqb-suc-zero}
 use Rattle.imap_answers.specs.Printable.{IsPrintable, IsTag}
 use Rattle.imap_answers.specs.declared.answer.Answer.{Answer}
-use Rattle.imap_grammar.specs.Strings.{run}
-use Rattle.imap_grammar.specs.declared.class.Class.TheVariants as classes
+use Rattle.imap_syntax.specs.Strings.{run}
+use Rattle.imap_syntax.specs.declared.class.Class.TheVariants as classes
 use Rattle.imap_types.specs.Keywords.{is_tag_octet}
 use Rattle.node_talk.specs.FaultAnswers.{IsFaultAnswer, IsLiteralAnswer}
 

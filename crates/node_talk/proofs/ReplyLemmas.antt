@@ -3,7 +3,7 @@ use Rattle.std.proofs.lemmas.Bool.{false≢true}
 use Rattle.imap_answers.specs.declared.words.Refusal.{Refusal}
 use Rattle.imap_answers.specs.declared.words.Refusal.TheVariants as refusals
 use Rattle.imap_commands.specs.declared.session.Session.{Session}
-use Rattle.imap_grammar.specs.declared.idle.IdleLine.{IdleLine}
+use Rattle.imap_syntax.specs.declared.idle.IdleLine.{IdleLine}
 use Rattle.imap_node.specs.Nodes.{HasLoggedOut, IsGoing, NodeState}
 use Rattle.imap_node.specs.Respond.{Holds, Replies, Responds}
 use Rattle.imap_node.specs.Sessions.{session_at, with_session}

@@ -3,8 +3,8 @@ use Rattle.std.specs.Prelude.{IfErr}
 use Rattle.imap_answers.specs.declared.answer.Answer.{Answer}
 use Rattle.imap_answers.specs.declared.answer.Answer.TheVariants.{Bye}
 use Rattle.imap_answers.specs.declared.words.ByeReason.TheVariants as reasons
-use Rattle.imap_grammar.specs.declared.command.Tagged.{Tagged}
-use Rattle.imap_grammar.specs.declared.idle.IdleLine.{IdleLine}
+use Rattle.imap_syntax.specs.declared.command.Tagged.{Tagged}
+use Rattle.imap_syntax.specs.declared.idle.IdleLine.{IdleLine}
 use Rattle.imap_lex.specs.declared.item.Item.{Item}
 use Rattle.imap_lex.specs.declared.item.Item.TheVariants.{Ready, Frame, Refused}
 use Rattle.imap_node.specs.Nodes.{NodeState}

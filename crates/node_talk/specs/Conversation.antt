@@ -1,8 +1,8 @@
 use Rattle.std.specs.Prelude.{◌≡◌, ◌↔◌, ◌⊎◌, ℕ, false, Option, Some, None, List, [], ◌∷◌, ◌++◌, map}
-use Rattle.imap_grammar.specs.Commands.{EndsIdle, IsSpelled}
-use Rattle.imap_grammar.specs.declared.command.Tagged.{Tagged}
-use Rattle.imap_grammar.specs.declared.idle.IdleLine.{IdleLine}
-use Rattle.imap_grammar.specs.declared.idle.IdleLine.TheVariants.{Done, Other}
+use Rattle.imap_syntax.specs.Commands.{EndsIdle, IsSpelled}
+use Rattle.imap_syntax.specs.declared.command.Tagged.{Tagged}
+use Rattle.imap_syntax.specs.declared.idle.IdleLine.{IdleLine}
+use Rattle.imap_syntax.specs.declared.idle.IdleLine.TheVariants.{Done, Other}
 use Rattle.imap_lex.specs.declared.item.Item.{Item}
 use Rattle.imap_lex.specs.declared.item.Item.TheVariants.{Ready, Frame, Refused}
 use Rattle.imap_answers.specs.Printed.{printed}

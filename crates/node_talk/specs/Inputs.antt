@@ -1,6 +1,6 @@
 use Rattle.std.specs.Prelude.{◌≡◌, ◌⊎◌, ℕ, false, Option, Some, None, List, [], ◌∷◌}
-use Rattle.imap_grammar.specs.Commands.{IsSpelled}
-use Rattle.imap_grammar.specs.Faults.{HasTag, IsTagged}
+use Rattle.imap_syntax.specs.Commands.{IsSpelled}
+use Rattle.imap_syntax.specs.Faults.{HasTag, IsTagged}
 use Rattle.imap_grammar.specs.declared.fault.ParseFault.{ParseFault}
 use Rattle.imap_grammar.specs.declared.fault.ParseFault.TheVariants as faults
 use Rattle.imap_answers.specs.declared.answer.Answer.{Answer}

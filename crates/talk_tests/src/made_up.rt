@@ -1,8 +1,8 @@
 //! A port without a replica.
 
 use imap_answers::{Answer, CommandWord, Continuation, Login, Notice, Refusal};
-use imap_grammar::{Command, IdleLine, Tagged};
 use imap_node::{Answers, Issued, Reply, Silents};
+use imap_syntax::{Command, IdleLine, Tagged};
 use imap_talk::{Port, PortFault};
 use imap_types::Octets;
 use std::alloc::{AllocError, Global};

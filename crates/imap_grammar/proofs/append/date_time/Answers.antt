@@ -1,6 +1,6 @@
 use Rattle.std.proofs.Common.{◌≡◌, ◌∙◌, ap, sym, subst, refl, take, Some}
 use Rattle.imap_types.specs.DateTimes.{IsDateTime}
-use Rattle.imap_grammar.specs.Dates.{zeroed}
+use Rattle.imap_grammar.specs.Reading.{zeroed}
 use Rattle.imap_grammar.proofs.DateTimeLaws.{date_made, date_none}
 use Rattle.imap_grammar.proofs.append.date_time.Goals as goal
 

@@ -2,7 +2,7 @@ use Rattle.std.proofs.Common.{◌≡◌, ◌++◌, ◌∷◌, [], length, subst}
 use Rattle.std.proofs.lemmas.Result.{err_from_is_err_and}
 use Rattle.imap_grammar.specs.KeyReading.{below_at, keys_at}
 use Rattle.imap_grammar.specs.Reading.{Gives}
-use Rattle.imap_grammar.specs.declared.search.SearchStep.TheVariants.{And}
+use Rattle.imap_syntax.specs.declared.search.SearchStep.TheVariants.{And}
 use Rattle.imap_grammar.proofs.KeyLoops.{below_zero, below_suc, keys_go_on, keys_stop, keys_fail}
 use Rattle.imap_grammar.proofs.keys.+keys.Goals as goal
 

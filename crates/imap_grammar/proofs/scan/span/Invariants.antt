@@ -1,5 +1,5 @@
 use Rattle.std.proofs.Common.{◌≡◌, ◌++◌, take, drop}
-use Rattle.imap_grammar.specs.Strings.{is_in}
+use Rattle.imap_syntax.specs.Strings.{is_in}
 use Rattle.imap_grammar.specs.Reading.{span}
 use Rattle.imap_grammar.proofs.scan.span.Given as goal
 

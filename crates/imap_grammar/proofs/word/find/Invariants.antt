@@ -1,5 +1,5 @@
 use Rattle.std.proofs.Common.{◌≡◌, drop}
-use Rattle.imap_grammar.specs.Words.{named}
+use Rattle.imap_grammar.specs.Reading.{named}
 use Rattle.imap_grammar.proofs.word.find.Given as goal
 
 abbrev pub invariant-loop-value : goal.invariant-loop-value

@@ -1,5 +1,5 @@
 use Rattle.std.proofs.Common.{◌++◌, IfOk, subst, sym}
-use Rattle.imap_grammar.specs.declared.command.Command.{Command}
+use Rattle.imap_syntax.specs.declared.command.Command.{Command}
 use Rattle.imap_node.specs.Commands.{Tells}
 use Rattle.imap_node.proofs.telling.tells.Goals as goal
 

@@ -3,9 +3,9 @@ use Rattle.std.specs.List.{list_all}
 use Rattle.imap_types.specs.DateTimes.{is_digit}
 use Rattle.imap_types.specs.Keywords.{is_astring_octet, is_atom_octet, is_tag_octet}
 use Rattle.imap_types.specs.Names.{folded_name}
-use Rattle.imap_grammar.specs.Languages.{◌⌢◌, exactly, nothing}
-use Rattle.imap_grammar.specs.declared.class.Class.{Class}
-use Rattle.imap_grammar.specs.declared.class.Class.TheVariants.{Tag, Atom, Astring, Pattern, Digit, Item}
+use Rattle.imap_syntax.specs.Languages.{◌⌢◌, exactly, nothing}
+use Rattle.imap_syntax.specs.declared.class.Class.{Class}
+use Rattle.imap_syntax.specs.declared.class.Class.TheVariants.{Tag, Atom, Astring, Pattern, Digit, Item}
 
 -- Whether an octet may stand in a pattern without quotes: an astring octet, `%` or `*` (RFC 9051, section 9, list-char).
 abbrev pub is_pattern_octet : ℕ → Bool

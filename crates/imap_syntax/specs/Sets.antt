@@ -1,9 +1,9 @@
-use Rattle.std.specs.Prelude.{codes, ◌≡◌, ◌⊎◌, ℕ, List, [], ◌∷◌}
+use Rattle.std.specs.Prelude.{codes, ◌≡◌, ◌⊎◌, ℕ, List}
 use Rattle.imap_types.specs.declared.sequence_set.SequenceBound.{SequenceBound}
 use Rattle.imap_types.specs.declared.sequence_set.SequenceBound.TheVariants.{Number, Greatest}
 use Rattle.imap_types.specs.declared.sequence_set.SequenceRange.{SequenceRange}
-use Rattle.imap_grammar.specs.Languages.{◌⌢◌, exactly, listed}
-use Rattle.imap_grammar.specs.Strings.{nz}
+use Rattle.imap_syntax.specs.Languages.{◌⌢◌, exactly, listed}
+use Rattle.imap_syntax.specs.Strings.{nz}
 
 -- A number, or `*` (RFC 9051, section 9, seq-number).
 abbrev pub bound : SequenceBound → List ℕ → Type 0

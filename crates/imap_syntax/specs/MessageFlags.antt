@@ -1,13 +1,13 @@
 use Rattle.std.specs.Prelude.{codes, ◌≡◌, ◌⊎◌, ℕ, true, false, List, [], ◌∷◌, Option, Some, None}
 use Rattle.imap_types.specs.Keywords.{lowered, with_text}
 use Rattle.imap_types.specs.declared.flags.Flags.{Flags}
-use Rattle.imap_grammar.specs.Languages.{◌⌢◌, exactly, sp, word, in_parens, listed, maybe_listed, optional}
-use Rattle.imap_grammar.specs.Strings.{run}
-use Rattle.imap_grammar.specs.Words.{system_word}
-use Rattle.imap_grammar.specs.declared.class.Class.TheVariants.{Atom}
-use Rattle.imap_grammar.specs.declared.flags.Flag.{Flag}
-use Rattle.imap_grammar.specs.declared.flags.Flag.TheVariants.{System, Keyword}
-use Rattle.imap_grammar.specs.declared.flags.SystemFlag.TheVariants.{Answered, Flagged, Deleted, Seen, Draft}
+use Rattle.imap_syntax.specs.Languages.{◌⌢◌, exactly, sp, word, in_parens, listed, maybe_listed, optional}
+use Rattle.imap_syntax.specs.Strings.{run}
+use Rattle.imap_syntax.specs.Words.{system_word}
+use Rattle.imap_syntax.specs.declared.class.Class.TheVariants.{Atom}
+use Rattle.imap_syntax.specs.declared.flags.Flag.{Flag}
+use Rattle.imap_syntax.specs.declared.flags.Flag.TheVariants.{System, Keyword}
+use Rattle.imap_syntax.specs.declared.flags.SystemFlag.TheVariants.{Answered, Flagged, Deleted, Seen, Draft}
 
 -- A flag: `\` and the word of a system flag, or a keyword (RFC 9051, section 9, flag).
 abbrev pub flag : Flag → List ℕ → Type 0

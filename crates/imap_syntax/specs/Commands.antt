@@ -1,19 +1,19 @@
 use Rattle.std.specs.Prelude.{ℕ, Bool, true, false, List, codes, ◌++◌, ◌∷◌, [], ◌⊎◌}
-use Rattle.imap_grammar.specs.Keys.{charset, return_options, search_keys}
-use Rattle.imap_grammar.specs.Languages.{◌⌢◌, nothing, sp, crlf, word, in_parens, listed, optional}
-use Rattle.imap_grammar.specs.Dates.{date_time}
-use Rattle.imap_grammar.specs.Items.{fetched}
-use Rattle.imap_grammar.specs.MessageFlags.{stored, append_flags}
-use Rattle.imap_grammar.specs.Sets.{sequence_set}
-use Rattle.imap_grammar.specs.Strings.{run, astring, pattern, mailbox, number_to, literal}
-use Rattle.imap_grammar.specs.Words.{command_word, status_word, store_word}
-use Rattle.imap_grammar.specs.declared.class.Class.TheVariants.{Tag, Atom}
-use Rattle.imap_grammar.specs.declared.command.Command.{Command}
-use Rattle.imap_grammar.specs.declared.command.Command.TheVariants as commands
-use Rattle.imap_grammar.specs.declared.command.Tagged.{Tagged}
-use Rattle.imap_grammar.specs.declared.status.StatusItem.{StatusItem}
-use Rattle.imap_grammar.specs.declared.word.CommandWord.{CommandWord}
-use Rattle.imap_grammar.specs.declared.word.CommandWord.TheVariants as words
+use Rattle.imap_syntax.specs.Keys.{charset, return_options, search_keys}
+use Rattle.imap_syntax.specs.Languages.{◌⌢◌, nothing, sp, crlf, word, in_parens, listed, optional}
+use Rattle.imap_syntax.specs.Dates.{date_time}
+use Rattle.imap_syntax.specs.Items.{fetched}
+use Rattle.imap_syntax.specs.MessageFlags.{stored, append_flags}
+use Rattle.imap_syntax.specs.Sets.{sequence_set}
+use Rattle.imap_syntax.specs.Strings.{run, astring, pattern, mailbox, number_to, literal}
+use Rattle.imap_syntax.specs.Words.{command_word, status_word, store_word}
+use Rattle.imap_syntax.specs.declared.class.Class.TheVariants.{Tag, Atom}
+use Rattle.imap_syntax.specs.declared.command.Command.{Command}
+use Rattle.imap_syntax.specs.declared.command.Command.TheVariants as commands
+use Rattle.imap_syntax.specs.declared.command.Tagged.{Tagged}
+use Rattle.imap_syntax.specs.declared.status.StatusItem.{StatusItem}
+use Rattle.imap_syntax.specs.declared.word.CommandWord.{CommandWord}
+use Rattle.imap_syntax.specs.declared.word.CommandWord.TheVariants as words
 
 -- The word in front, which is UID where the command takes UIDs (RFC 9051, section 6.4.9).
 abbrev pub first_word : Bool → CommandWord → CommandWord

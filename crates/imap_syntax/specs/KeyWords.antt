@@ -1,14 +1,14 @@
 use Rattle.std.specs.Prelude.{ℕ, Bool, true, false, List, [], ◌∷◌, codes}
-use Rattle.imap_grammar.specs.declared.flags.SystemFlag.{SystemFlag}
-use Rattle.imap_grammar.specs.declared.flags.SystemFlag.TheVariants as system
-use Rattle.imap_grammar.specs.declared.search.DayOrder.{DayOrder}
-use Rattle.imap_grammar.specs.declared.search.DayOrder.TheVariants as order
-use Rattle.imap_grammar.specs.declared.search.KeyWord.{KeyWord}
-use Rattle.imap_grammar.specs.declared.search.KeyWord.TheVariants as key
-use Rattle.imap_grammar.specs.declared.search.SearchOption.{SearchOption}
-use Rattle.imap_grammar.specs.declared.search.SearchOption.TheVariants as option
-use Rattle.imap_grammar.specs.declared.search.TextPlace.{TextPlace}
-use Rattle.imap_grammar.specs.declared.search.TextPlace.TheVariants as place
+use Rattle.imap_syntax.specs.declared.flags.SystemFlag.{SystemFlag}
+use Rattle.imap_syntax.specs.declared.flags.SystemFlag.TheVariants as system
+use Rattle.imap_syntax.specs.declared.search.DayOrder.{DayOrder}
+use Rattle.imap_syntax.specs.declared.search.DayOrder.TheVariants as order
+use Rattle.imap_syntax.specs.declared.search.KeyWord.{KeyWord}
+use Rattle.imap_syntax.specs.declared.search.KeyWord.TheVariants as key
+use Rattle.imap_syntax.specs.declared.search.SearchOption.{SearchOption}
+use Rattle.imap_syntax.specs.declared.search.SearchOption.TheVariants as option
+use Rattle.imap_syntax.specs.declared.search.TextPlace.{TextPlace}
+use Rattle.imap_syntax.specs.declared.search.TextPlace.TheVariants as place
 
 -- What SEARCH can answer (RFC 9051, section 9, search-return-opt).
 abbrev pub option_word : SearchOption → List ℕ

@@ -1,25 +1,17 @@
-use Rattle.std.specs.Prelude.{ℕ, List, [], ◌∷◌, codes, Option, Some, None, if◌then◌else◌, Bool, true, false}
-use Rattle.std.specs.Str.{bytes_eq}
-use Rattle.imap_types.specs.Keywords.{lowered}
-use Rattle.imap_grammar.specs.declared.word.CommandWord.{CommandWord}
-use Rattle.imap_grammar.specs.declared.word.CommandWord.TheVariants.{Capability, Noop, Logout, Login, Enable, Select, Examine, Create, Delete, Subscribe, Unsubscribe, ListNames, Namespace, Status, Append, Idle, Close, Unselect, Expunge, Search, Fetch, Store, Copy, Move, Uid, Rename, StartTls, Authenticate}
-use Rattle.imap_grammar.specs.declared.fetch.FetchWord.{FetchWord}
-use Rattle.imap_grammar.specs.declared.fetch.FetchWord.TheVariants as fetch
-use Rattle.imap_grammar.specs.declared.fetch.SectionWord.{SectionWord}
-use Rattle.imap_grammar.specs.declared.fetch.SectionWord.TheVariants as section
-use Rattle.imap_grammar.specs.declared.flags.SystemFlag.{SystemFlag}
-use Rattle.imap_grammar.specs.declared.flags.SystemFlag.TheVariants as system
-use Rattle.imap_grammar.specs.declared.store.StoreAction.{StoreAction}
-use Rattle.imap_grammar.specs.declared.store.StoreMode.{StoreMode}
-use Rattle.imap_grammar.specs.declared.store.StoreMode.TheVariants as store
-use Rattle.imap_grammar.specs.declared.status.StatusItem.{StatusItem}
-use Rattle.imap_grammar.specs.declared.status.StatusItem.TheVariants as status
-
--- The first of the values whose word is this text, but for ASCII case.
-abbrev pub named : {W : Type 0} → (W → List ℕ) → List W → List ℕ → Option W
-named word_of [] text = None
-named word_of (value ∷ values) text =
-    if bytes_eq (lowered text) (lowered (word_of value)) then Some value else named word_of values text
+use Rattle.std.specs.Prelude.{ℕ, List, [], ◌∷◌, codes, Bool, true, false}
+use Rattle.imap_syntax.specs.declared.word.CommandWord.{CommandWord}
+use Rattle.imap_syntax.specs.declared.word.CommandWord.TheVariants.{Capability, Noop, Logout, Login, Enable, Select, Examine, Create, Delete, Subscribe, Unsubscribe, ListNames, Namespace, Status, Append, Idle, Close, Unselect, Expunge, Search, Fetch, Store, Copy, Move, Uid, Rename, StartTls, Authenticate}
+use Rattle.imap_syntax.specs.declared.fetch.FetchWord.{FetchWord}
+use Rattle.imap_syntax.specs.declared.fetch.FetchWord.TheVariants as fetch
+use Rattle.imap_syntax.specs.declared.fetch.SectionWord.{SectionWord}
+use Rattle.imap_syntax.specs.declared.fetch.SectionWord.TheVariants as section
+use Rattle.imap_syntax.specs.declared.flags.SystemFlag.{SystemFlag}
+use Rattle.imap_syntax.specs.declared.flags.SystemFlag.TheVariants as system
+use Rattle.imap_syntax.specs.declared.store.StoreAction.{StoreAction}
+use Rattle.imap_syntax.specs.declared.store.StoreMode.{StoreMode}
+use Rattle.imap_syntax.specs.declared.store.StoreMode.TheVariants as store
+use Rattle.imap_syntax.specs.declared.status.StatusItem.{StatusItem}
+use Rattle.imap_syntax.specs.declared.status.StatusItem.TheVariants as status
 
 -- The words of commands (RFC 9051, section 9, command; RFC 2177, section 3, for IDLE).
 abbrev pub command_word : CommandWord → List ℕ

@@ -1,16 +1,16 @@
 use Rattle.std.specs.Prelude.{◌≡◌, ◌⊎◌, ℕ, zero, suc, List, [], ◌∷◌, ◌++◌, codes}
-use Rattle.imap_grammar.specs.Dates.{date}
-use Rattle.imap_grammar.specs.KeyWords.{key_word, option_word}
-use Rattle.imap_grammar.specs.Languages.{◌⌢◌, nothing, never, sp, word, in_parens, listed, maybe_listed}
-use Rattle.imap_grammar.specs.Sets.{sequence_set}
-use Rattle.imap_grammar.specs.Strings.{run, astring, number_to}
-use Rattle.imap_grammar.specs.declared.class.Class.TheVariants.{Atom}
-use Rattle.imap_grammar.specs.declared.search.KeyWord.TheVariants as key
-use Rattle.imap_grammar.specs.declared.search.SearchOption.{SearchOption}
-use Rattle.imap_grammar.specs.declared.search.SearchStep.{SearchStep}
-use Rattle.imap_grammar.specs.declared.search.SearchStep.TheVariants.{Test, Not, Or, And}
-use Rattle.imap_grammar.specs.declared.search.SearchTest.{SearchTest}
-use Rattle.imap_grammar.specs.declared.search.SearchTest.TheVariants as tests
+use Rattle.imap_syntax.specs.Dates.{date}
+use Rattle.imap_syntax.specs.KeyWords.{key_word, option_word}
+use Rattle.imap_syntax.specs.Languages.{◌⌢◌, nothing, never, sp, word, in_parens, listed, maybe_listed}
+use Rattle.imap_syntax.specs.Sets.{sequence_set}
+use Rattle.imap_syntax.specs.Strings.{run, astring, number_to}
+use Rattle.imap_syntax.specs.declared.class.Class.TheVariants.{Atom}
+use Rattle.imap_syntax.specs.declared.search.KeyWord.TheVariants as key
+use Rattle.imap_syntax.specs.declared.search.SearchOption.{SearchOption}
+use Rattle.imap_syntax.specs.declared.search.SearchStep.{SearchStep}
+use Rattle.imap_syntax.specs.declared.search.SearchStep.TheVariants.{Test, Not, Or, And}
+use Rattle.imap_syntax.specs.declared.search.SearchTest.{SearchTest}
+use Rattle.imap_syntax.specs.declared.search.SearchTest.TheVariants as tests
 
 -- The greatest number of octets and the greatest mod-sequence: 2^63 - 1.
 abbrev pub greatest : ℕ

@@ -1,9 +1,9 @@
-use Rattle.std.specs.Prelude.{codes, ◌≡◌, ◌⊎◌, ℕ, ◌≤◌, Bool, true, false, not, ◌&&◌, ◌==◌, nat_lt, List, [], ◌∷◌, length, pos, if◌then◌else◌}
-use Rattle.jiff.specs.Words.{IsDate, days_in_month}
+use Rattle.std.specs.Prelude.{codes, ◌≡◌, ◌⊎◌, ℕ, ◌≤◌, List, ◌∷◌, length, pos}
+use Rattle.jiff.specs.Words.{IsDate}
 use Rattle.imap_types.specs.DateTimes.{IsDateTime, month_of}
 use Rattle.imap_types.specs.declared.day.Day.{Day}
-use Rattle.imap_grammar.specs.Languages.{◌⌢◌, exactly}
-use Rattle.imap_grammar.specs.Strings.{number_to}
+use Rattle.imap_syntax.specs.Languages.{◌⌢◌, exactly}
+use Rattle.imap_syntax.specs.Strings.{number_to}
 
 -- A date-time as it is written: with a digit first, or with a space for a zero there (RFC 9051, section 9, date-time).
 abbrev pub date_time : List ℕ → List ℕ → Type 0
@@ -42,14 +42,3 @@ date_text this text =
 -- The same, with quotes or without (RFC 9051, section 9, date).
 abbrev pub date : Day → List ℕ → Type 0
 date this text = date_text this text ⊎ (quote ⌢ date_text this ⌢ quote) text
-
--- Whether the calendar has a day, as a test.
-abbrev pub is_date : ℕ → ℕ → ℕ → Bool
-is_date year month day =
-    not (nat_lt 9999 year) && (not (nat_lt month 1) && (not (nat_lt 12 month) && (not (nat_lt day 1) && not (nat_lt (days_in_month (pos year) month) day))))
-
--- A zero for a space behind the first octet.
-abbrev pub zeroed : List ℕ → List ℕ
-zeroed [] = []
-zeroed (octet ∷ []) = octet ∷ []
-zeroed (octet ∷ next ∷ octets) = if next == 32 then octet ∷ 48 ∷ octets else octet ∷ next ∷ octets

@@ -1,11 +1,11 @@
 use Rattle.std.specs.Prelude.{◌≡◌, ℕ, Bool, false, List, [], ◌∷◌, ◌++◌, IsTrue}
 use Rattle.std.specs.List.{list_all}
-use Rattle.imap_grammar.specs.Languages.{word}
-use Rattle.imap_grammar.specs.Strings.{is_in, run}
-use Rattle.imap_grammar.specs.Words.{command_word}
-use Rattle.imap_grammar.specs.declared.class.Class.{Class}
-use Rattle.imap_grammar.specs.declared.class.Class.TheVariants.{Tag, Atom}
-use Rattle.imap_grammar.specs.declared.word.CommandWord.{CommandWord}
+use Rattle.imap_syntax.specs.Languages.{word}
+use Rattle.imap_syntax.specs.Strings.{is_in, run}
+use Rattle.imap_syntax.specs.Words.{command_word}
+use Rattle.imap_syntax.specs.declared.class.Class.{Class}
+use Rattle.imap_syntax.specs.declared.class.Class.TheVariants.{Tag, Atom}
+use Rattle.imap_syntax.specs.declared.word.CommandWord.{CommandWord}
 
 -- A frame is a tag, a space and this rest.
 abbrev pub IsTagged : List ℕ → List ℕ → List ℕ → Type 0

@@ -1,15 +1,15 @@
 use Rattle.std.specs.Prelude.{◌≡◌, ◌⊎◌, ℕ, Bool, true, false, List, [], ◌∷◌, codes, Option, Some, None}
 use Rattle.imap_types.specs.declared.section.Section.{Section}
 use Rattle.imap_types.specs.declared.section.Section.TheVariants.{Whole, Header, Text, Fields, FieldsNot}
-use Rattle.imap_grammar.specs.Languages.{◌⌢◌, exactly, nothing, sp, word, in_parens, listed}
-use Rattle.imap_grammar.specs.Strings.{astring, number_to, nz}
-use Rattle.imap_grammar.specs.Words.{fetch_word, section_word}
-use Rattle.imap_grammar.specs.declared.fetch.FetchItem.{FetchItem}
-use Rattle.imap_grammar.specs.declared.fetch.FetchItem.TheVariants as items
-use Rattle.imap_grammar.specs.declared.fetch.FetchWord.{FetchWord}
-use Rattle.imap_grammar.specs.declared.fetch.FetchWord.TheVariants as words
-use Rattle.imap_grammar.specs.declared.fetch.Partial.{Partial}
-use Rattle.imap_grammar.specs.declared.fetch.SectionWord.TheVariants as sections
+use Rattle.imap_syntax.specs.Languages.{◌⌢◌, exactly, nothing, sp, word, in_parens, listed}
+use Rattle.imap_syntax.specs.Strings.{astring, number_to, nz}
+use Rattle.imap_syntax.specs.Words.{fetch_word, section_word}
+use Rattle.imap_syntax.specs.declared.fetch.FetchItem.{FetchItem}
+use Rattle.imap_syntax.specs.declared.fetch.FetchItem.TheVariants as items
+use Rattle.imap_syntax.specs.declared.fetch.FetchWord.{FetchWord}
+use Rattle.imap_syntax.specs.declared.fetch.FetchWord.TheVariants as words
+use Rattle.imap_syntax.specs.declared.fetch.Partial.{Partial}
+use Rattle.imap_syntax.specs.declared.fetch.SectionWord.TheVariants as sections
 
 -- Names of header fields (RFC 9051, section 9, header-list).
 abbrev pub field_names : List (List ℕ) → List ℕ → Type 0

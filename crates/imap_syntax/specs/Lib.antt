@@ -1,0 +1,11 @@
+pub mod Commands
+pub mod Dates
+pub mod Faults
+pub mod Items
+pub mod KeyWords
+pub mod Keys
+pub mod Languages
+pub mod MessageFlags
+pub mod Sets
+pub mod Strings
+pub mod Words

@@ -1,0 +1,47 @@
+use imap_types::Section;
+
+/// What FETCH asks of a message (RFC 9051, section 6.4.5).
+#[derive(Drop)]
+pub enum FetchItem {
+    Flags,
+    InternalDate,
+    /// RFC822.SIZE: the octets of the whole text.
+    Size,
+    Uid,
+    /// RFC 7162, section 3.1.4.2.
+    ModSeq,
+    /// A section of the text; `peek` leaves `\Seen` as it is.
+    Body {
+        peek: bool,
+        section: Section,
+        partial: Option<Partial>,
+    },
+}
+
+/// At most `count` octets, from 1 on, of a section, `start` octets from its beginning (RFC 9051, section 6.4.5, partial).
+#[derive(Clone, Copy, Debug, PartialEq, Eq)]
+pub struct Partial {
+    pub start: u32,
+    pub count: u32,
+}
+
+/// The word of an item (RFC 9051, section 9, fetch-att).
+#[derive(Clone, Copy)]
+pub enum FetchWord {
+    Flags,
+    InternalDate,
+    Size,
+    Uid,
+    ModSeq,
+    Body,
+    BodyPeek,
+}
+
+/// The word of a section (RFC 9051, section 9, section-msgtext).
+#[derive(Clone, Copy)]
+pub enum SectionWord {
+    Header,
+    Text,
+    Fields,
+    FieldsNot,
+}

@@ -1,0 +1,19 @@
+use imap_types::Octets;
+
+/// The flags that RFC 9051, section 2.3.2 defines and a client may set.
+#[derive(Clone, Copy, Debug, PartialEq, Eq)]
+pub enum SystemFlag {
+    Answered,
+    Flagged,
+    Deleted,
+    Seen,
+    Draft,
+}
+
+/// A flag as it is written (RFC 9051, section 9, flag).
+#[derive(Drop)]
+pub enum Flag {
+    System(SystemFlag),
+    /// One or more atom octets, in any case.
+    Keyword(Octets),
+}

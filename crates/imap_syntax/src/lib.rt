@@ -1,0 +1,26 @@
+//! The commands of IMAP4rev2 (RFC 9051) that this server takes, as values.
+//!
+//! `specs/Commands.antt` says which frame spells which command, production by production.
+#![tactic(auto)]
+
+mod class;
+mod command;
+mod fetch;
+mod flags;
+mod idle;
+mod many;
+mod search;
+mod status;
+mod store;
+mod word;
+
+pub use class::Class;
+pub use command::{Command, Tagged};
+pub use fetch::{FetchItem, FetchWord, Partial, SectionWord};
+pub use flags::{Flag, SystemFlag};
+pub use idle::IdleLine;
+pub use many::Many;
+pub use search::{DayOrder, KeyWord, SearchOption, SearchStep, SearchTest, TextPlace};
+pub use status::StatusItem;
+pub use store::{StoreAction, StoreMode};
+pub use word::CommandWord;
