@@ -120,30 +120,52 @@ fn locks_are_apart(rt: HostRuntime) {
     assert_eq!(rt; told, Some((true, true, false, true)));
 }
 
+/// Waits for the first entry: the journal's length then, and whether the entry had been begun.
+fn await_first<L: Ledger, R: Wait>(rt: &R, shared: &Shared<L>, begun: &AtomicU64) -> (u64, bool) {
+    let length = shared.wait_change(rt, 0);
+    (length, begun.load(Ordering::SeqCst) != 0)
+}
+
+/// Begins the first entry behind many turns, and tells so before.
+fn begin<L: Ledger, R: Wait>(
+    rt: &R,
+    alloc: Global,
+    shared: &Shared<L>,
+    pass: &mut Pass<L>,
+    begun: &AtomicU64,
+) -> bool {
+    for _ in 0..100_000u32 {
+        thread::yield_now();
+    }
+    begun.store(1, Ordering::SeqCst);
+    open_one(rt, alloc, shared, pass)
+}
+
 /// Waits for the first entry while another thread makes it.
 fn changes<L: Ledger + Send + Sync, R: Threads + Wait + Sync>(
     rt: &R,
     alloc: Global,
     blank: Blank,
     book: Book,
-) -> (u64, bool)
+) -> ((u64, bool), bool)
     requires { (blank.name ≡ L.name) × (blank.parts ≡ L.parts) × (L.parts ≡ 4294967295) }
 {
     let (one, mut pass) = Shared::<L>::new(blank, book);
+    let begun = AtomicU64::new(0);
     thread::join(
         rt,
-        || one.wait_change(rt, 0),
-        || open_one(rt, alloc, &one, &mut pass),
+        || await_first(rt, &one, &begun),
+        || begin(rt, alloc, &one, &mut pass, &begun),
     )
 }
 
 /// The same at a new replica.
-fn change_at_one<R: Threads + Wait + Sync>(rt: &R, alloc: Global) -> Option<(u64, bool)> {
+fn change_at_one<R: Threads + Wait + Sync>(rt: &R, alloc: Global) -> Option<((u64, bool), bool)> {
     let book = fresh_book(alloc, 1)?;
     Some(changes::<Brand, R>(rt, alloc, Blank::new(4_294_967_295), book))
 }
 
 #[test]
 fn a_change_ends_the_wait(rt: HostRuntime) {
-    assert_eq!(rt; change_at_one(&rt, rt.alloc()), Some((1, true)));
+    assert_eq!(rt; change_at_one(&rt, rt.alloc()), Some(((1, true), true)));
 }

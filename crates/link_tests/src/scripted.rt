@@ -414,3 +414,64 @@ fn all_are_asked_after_each_rest(rt: HostRuntime) -> Result<(), Fail> {
     assert!(rt; behind.ends_with("pass 1\n"));
     Ok(())
 }
+
+/// A gate at which each letter takes longer than the others are left alone.
+#[derive(Drop)]
+struct Slow<'a, R: Wait + rt::Clock> {
+    notes: Notes<'a, R>,
+}
+
+impl<'a, R: Wait + rt::Clock> Gate for Slow<'a, R> {
+    fn pass(&mut self, n: u64) {
+        self.notes.note(Call::Passed(n));
+        thread::sleep(self.notes.rt, Duration::from_millis(40));
+    }
+}
+
+/// The calls that the worker makes where each of three letters takes longer than the others are left alone.
+fn hurried<R: Wait + rt::Clock>(rt: &R, alloc: Global) -> Result<String, AllocError> {
+    let (sender, calls) = unbounded(alloc)?;
+    let (to, letters) = unbounded(alloc)?;
+    for _ in 0..3u8 {
+        let _ = to.send(rt, letter(alloc, 4, Said::Ops(&[]))?);
+    }
+    drop(to);
+    let mut taker = Scripted {
+        notes: Notes { rt, calls: &sender },
+        alloc,
+        answers: &[],
+        given: 0,
+        clock: ReplicaId::new(9),
+        gives: &[],
+    };
+    let inbox = Inbox {
+        letters: &letters,
+        peers: &[1],
+        rest: Duration::from_millis(20),
+    };
+    let mut gate = Slow {
+        notes: Notes { rt, calls: &sender },
+    };
+    let mut post = Notes { rt, calls: &sender };
+    link_worker(rt, &mut gate, &inbox, &mut taker, &mut post);
+    tell_calls(rt, alloc, &calls)
+}
+
+/// Whether the other replica was asked between two of the letters.
+fn asks_between(told: &str, first: &str, second: &str) -> bool {
+    match told.split_once(first) {
+        Some((_, behind)) => match behind.split_once(second) {
+            Some((between, _)) => between.starts_with("clock\nask 1 9=7\n"),
+            None => false,
+        },
+        None => false,
+    }
+}
+
+#[test]
+fn letters_do_not_put_off_the_asking(rt: HostRuntime) -> Result<(), Fail> {
+    let told = hurried(&rt, rt.alloc())?;
+    assert!(rt; asks_between(&told, "pass 1\n", "pass 2\n"));
+    assert!(rt; asks_between(&told, "pass 2\n", "pass 3\n"));
+    Ok(())
+}

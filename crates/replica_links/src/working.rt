@@ -31,7 +31,7 @@ enum Next {
 }
 
 impl Inbox<'_> {
-    /// The next letter, or the time, whichever comes first; a letter, where there is no time.
+    /// The next letter, or the time, whichever comes first: the time, where it has come already; a letter, where there is no time.
     fn next<R: Wait + Clock>(&self, rt: &R, due: Option<Instant>) -> Next {
         let Some(due) = due else {
             return match self.letters.recv(rt) {
@@ -39,6 +39,9 @@ impl Inbox<'_> {
                 Err(_) => Next::Over,
             };
         };
+        if has_come(rt, due) {
+            return Next::Due;
+        }
         match self.letters.recv_deadline(rt, due) {
             Ok(letter) => Next::Letter(letter),
             Err(why) if why.is_timeout() => Next::Due,
@@ -50,6 +53,11 @@ impl Inbox<'_> {
     fn due<R: Clock>(&self, rt: &R) -> Option<Instant> {
         Instant::now(rt).ok()?.checked_add(self.rest)
     }
+}
+
+/// Whether a time has come; false where the clock can't be read.
+fn has_come<R: Clock>(rt: &R, due: Instant) -> bool {
+    Instant::now(rt).is_ok_and(|now| now >= due)
 }
 
 /// Takes and answers each letter, and passes the gate before each: the first time with 1. Now and then it asks the other replicas for what this one lacks. It ends
