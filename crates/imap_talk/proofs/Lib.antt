@@ -1,3 +1,4 @@
 pub mod TalkLemmas
 pub mod NodeTalkLemmas
 pub mod NodeEndLemmas
+pub mod WireLemmas

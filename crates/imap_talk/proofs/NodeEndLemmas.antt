@@ -228,16 +228,17 @@ module _ (first last new : NodeSession) (n : ℕ) (cut : Cut) (said : List ℕ) 
 
 module _ (old new : NodeSession) (limits : Limits) (left rest taken_before taken_now : List ℕ) (at_end : Bool) (ended : Ended) (w : IsWhole ended) where
   abbrev Outcome : Type 0
-  Outcome = (octets : List ℕ) × (said : List ℕ) × (left ≡ octets ++ rest) × (taken_now ≡ taken_before ++ said) × TalksAtNode old.node old.moment limits octets ended said new.node
+  Outcome = (octets : List ℕ) × (said : List ℕ) × (left ≡ octets ++ rest) × (taken_now ≡ taken_before ++ said) × TalksAtNode old limits octets ended said new.node
 
   module _ (login : Login) (first last : NodeSession) (octets said more : List ℕ) (o : NodeOpens old (Ok login) first) (c : NodeCloses last new)
       (e : Ends NodeSteps first (goes_on limits (Ok start) octets) ended at_end more last) (greeted : said ≡ printed (Greeting login) ++ more) where
     ending : (turns : List Turn) × Closes ended first.node o.1 first.moment (goes_on limits (Ok start) octets).0 turns new.node × (text_sent turns ≡ more)
     ending = closing first last new o.1 (goes_on limits (Ok start) octets) more at_end (stands_first first o.0 o.1 old.node.sessions o.3 o.5) c ended w e
 
-    at_node : TalksAtNode old.node old.moment limits octets ended (said ++ bye_text_of ended) new.node
+    at_node : TalksAtNode old limits octets ended (said ++ bye_text_of ended) new.node
     at_node = record {
       auth = o.0;
+      known = o.7;
       session = o.1;
       first = first.node;
       opens = o.5;

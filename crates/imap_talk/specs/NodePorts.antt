@@ -1,4 +1,4 @@
-use Rattle.std.specs.Prelude.{◌≡◌, ◌⊎◌, ℕ, Option, Some, None, Result, Ok, Err}
+use Rattle.std.specs.Prelude.{◌≡◌, ◌⊎◌, ℕ, ◌<◌, ◌≤◌, Option, Some, None, Result, Ok, Err}
 use Rattle.imap_answers.specs.declared.words.Login.{Login}
 use Rattle.imap_answers.specs.declared.words.Login.TheVariants.{Given, Wanted}
 use Rattle.imap_node.specs.Nodes.{NodeState, closed}
@@ -11,11 +11,13 @@ use Rattle.imap_node.specs.declared.sessions.Auth.TheVariants.{Preauth, Password
 use Rattle.imap_talk.specs.Asked.{Asked}
 use Rattle.imap_talk.specs.Asked as asked
 use Rattle.imap_talk.specs.declared.fault.PortFault.{PortFault}
-use Rattle.imap_talk.specs.declared.fault.PortFault.TheVariants.{PassedOver}
+use Rattle.imap_talk.specs.declared.fault.PortFault.TheVariants.{NoMemory, PassedOver, TooManySessions}
 
--- A node, the session that was opened there, and the moment at which its commands come.
+-- A node, how the user of its session is to become known until it was asked to open it, the session that was opened there, and the moment at which its
+-- commands come.
 pub record NodeSession : Type 0 where
   pub node : NodeState
+  pub auth : Option Auth
   pub session : Option ℕ
   pub moment : ℕ
 
@@ -36,12 +38,19 @@ abbrev pub login_by : Auth → Login
 login_by Preauth = Given
 login_by (Password credentials) = Wanted
 
--- What a node makes of the beginning of a session: it is opened, or nothing changes.
+-- Why no session was opened: all numbers from 1 to 1,024 are open; memory was wanting; or it was asked for before.
+abbrev pub IsUnopened : NodeSession → PortFault → Type 0
+IsUnopened old TooManySessions = (n : ℕ) → 0 < n → n ≤ 1024 → IsOpen old.node.sessions n
+IsUnopened old NoMemory = Unit {0}
+IsUnopened old PassedOver = old.auth ≡ None
+IsUnopened old fault = ⊥
+
+-- What a node makes of the beginning of a session: it is opened for a user who becomes known just so, or nothing changes.
 abbrev pub NodeOpens : NodeSession → Result Login PortFault → NodeSession → Type 0
-NodeOpens old (Err fault) new = (new.node ≡ old.node) × (new.session ≡ old.session)
+NodeOpens old (Err fault) new = (new.node ≡ old.node) × (new.session ≡ old.session) × IsUnopened old fault
 NodeOpens old (Ok login) new =
     (auth : Auth) × (n : ℕ) × (login ≡ login_by auth) × (new.session ≡ Some n) × (new.moment ≡ old.moment) × Opens old.node.sessions auth n new.node.sessions
-    × (new.node ≡ record old.node { sessions = new.node.sessions })
+    × (new.node ≡ record old.node { sessions = new.node.sessions }) × (old.auth ≡ Some auth)
 
 -- What a node makes of the end: the session is closed, if one is open.
 abbrev pub NodeCloses : NodeSession → NodeSession → Type 0

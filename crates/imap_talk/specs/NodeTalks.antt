@@ -47,14 +47,15 @@ abbrev pub Closes : Ended → NodeState → ℕ → ℕ → List Item → List T
 Closes Logout first n moment items turns new = Converses first n (timed_at moment items) turns new
 Closes ended first n moment items turns new = (last : NodeState) × Converses first n (timed_at moment items) turns last × IsGoing last n × (new ≡ closed last n)
 
--- A session is opened at a node, has the node's conversation over the items that these octets give, all at one moment, and is closed; and what is
+-- A session is opened at a node for a user who becomes known just so, has the node's conversation over the items that these octets give, all at one moment, and is closed; and what is
 -- said is the greeting, what the turns send, and the BYE of the end.
-pub record TalksAtNode (old : NodeState) (moment : ℕ) (limits : Limits) (octets : List ℕ) (ended : Ended) (said : List ℕ) (new : NodeState) : Type 0 where
+pub record TalksAtNode (old : NodeSession) (limits : Limits) (octets : List ℕ) (ended : Ended) (said : List ℕ) (new : NodeState) : Type 0 where
   pub auth : Auth
+  pub known : old.auth ≡ Some auth
   pub session : ℕ
   pub first : NodeState
-  pub opens : Opens old.sessions auth session first.sessions
-  pub first_is : first ≡ record old { sessions = first.sessions }
+  pub opens : Opens old.node.sessions auth session first.sessions
+  pub first_is : first ≡ record old.node { sessions = first.sessions }
   pub turns : List Turn
-  pub closes : Closes ended first session moment (goes_on limits (Ok start) octets).0 turns new
+  pub closes : Closes ended first session old.moment (goes_on limits (Ok start) octets).0 turns new
   pub said_is : said ≡ printed (Greeting (login_by auth)) ++ text_sent turns ++ bye_text_of ended

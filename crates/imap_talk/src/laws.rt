@@ -13,5 +13,5 @@ ghost use Rattle.imap_talk.specs.declared.ended.Ended.{Ended as End};
 pub fn nodes_converse()
     ensures { (old new : NodeSession) (limits : Bounds) (left rest before after : List ℕ) (at_end : Bool) (ended : End) → IsWhole ended
         → Talked NodeOpens NodeSteps NodeCloses old new limits (Some left) (Some rest) at_end (Some before) (Some after) ended
-        → (octets : List ℕ) × (said : List ℕ) × (left ≡ octets ++ rest) × (after ≡ before ++ said) × TalksAtNode old.node old.moment limits octets ended said new.node }
+        → (octets : List ℕ) × (said : List ℕ) × (left ≡ octets ++ rest) × (after ≡ before ++ said) × TalksAtNode old limits octets ended said new.node }
 {}

@@ -27,13 +27,13 @@ impl Model for NodePort {
 
     ghost Value = { NodeSession };
 
-    ghost view = { λ p. record { node = p.node.state; session = p.session; moment = p.moment } };
+    ghost view = { λ p. record { node = p.node.state; auth = p.auth; session = p.session; moment = p.moment } };
 }
 
 impl NodePort {
-    /// A session that is to be opened at this node, and whose commands come at this moment.
+    /// A session that is to be opened at this node, once, for a user who becomes known so, and whose commands come at this moment.
     pub fn new(node: Node, auth: Auth, moment: Moment) -> NodePort
-        ensures { result ≡ record { node = node.state; session = None; moment = moment } }
+        ensures { result ≡ record { node = node.state; auth = Some auth; session = None; moment = moment } }
     {
         NodePort {
             node,

@@ -1,6 +1,7 @@
 //! A reader or a writer of std as a source or a sink.
 
-ghost use Rattle.std.specs.Prelude.{◌≡◌, ℕ, None, Bool};
+ghost use Rattle.std.specs.Prelude.{◌≡◌, ◌≤◌, ℕ, None, Bool, length, take};
+ghost use Rattle.std.specs.Io.KnownBytes.{Appends};
 
 use crate::ends::{Sink, Source};
 use std::io::{ErrorKind, Read, Write};
@@ -8,7 +9,8 @@ use std::io::{ErrorKind, Read, Write};
 /// So often a read is tried, where the device says each time that it was interrupted.
 const MAX_READS: u32 = 1_000_000;
 
-/// A device with the count of its failures. A read or write that was interrupted is tried again, and is no failure. Nothing is known of the device's octets.
+/// A device with the count of its failures. A read or write that was interrupted is tried again, and is no failure. Nothing is known of the octets that are read; those
+/// written are what the device took, where its octets are known.
 #[derive(Drop)]
 pub struct Wire<T> {
     device: T,
@@ -65,17 +67,39 @@ impl<T: Read> Source for Wire<T> {
 }
 
 impl<T: Write> Sink for Wire<T> {
-    ghost taken = { λ w. None };
+    ghost taken = { λ w. T.contents w.device };
 
     ghost failures = { λ w. w.failed };
 
     fn write(&mut self, octets: &[u8]) -> bool {
-        match self.device.write_all(octets) {
-            Ok(()) => true,
-            Err(_) => {
-                self.failed += 1;
-                false
+        let sent = send(&mut self.device, octets);
+        if sent < octets.len() {
+            self.failed += 1;
+            return false;
+        }
+        true
+    }
+}
+
+/// Writes the octets, and tells how many the device took: all, or those before it failed.
+fn send<T: Write>(device: &mut T, octets: &[u8]) -> usize
+    ensures bound { result ≤ length octets.now }
+    ensures taken { Appends (T.contents device.old) (T.contents device.new) (take result octets.now) }
+{
+    let mut sent = 0;
+    'writes: for _ in 0..u64::MAX {
+        if sent >= octets.len() {
+            return sent;
+        }
+        match device.write(&octets[sent..]) {
+            Ok(0) => return sent,
+            Ok(count) => sent += count,
+            Err(why) => {
+                if why.kind() != ErrorKind::Interrupted {
+                    return sent;
+                }
             }
         }
     }
+    sent
 }

@@ -8,11 +8,11 @@ use std::sync::Wait;
 use std::test::*;
 
 /// What the client sends: a line without a tag, commands in and out of the profile, a literal, an IDLE, and what comes behind a LOGOUT.
-const SAID: &[u8] =
+pub const SAID: &[u8] =
     b"a NOOP\r\n\r\nb XYZ\r\nc LOGIN {1}\r\nu p\r\nd IDLE\r\nDONE\r\ne IDLE\r\nx\r\nf LOGOUT\r\ng NOOP\r\n";
 
 /// What it is told.
-const TOLD: &[u8] =
+pub const TOLD: &[u8] =
     b"* PREAUTH [CAPABILITY IMAP4rev2 IDLE CONDSTORE] ready\r\na OK NOOP completed\r\n* BAD no tag\r\nb BAD unknown command\r\n+ ready\r\nc OK NOOP completed\r\n+ idling\r\nd OK IDLE completed\r\n+ idling\r\ne BAD DONE expected\r\nf OK LOGOUT completed\r\n";
 
 /// How a conversation ended, and what came of its devices.
