@@ -1,6 +1,13 @@
 //! The thread that tells an idling session what changed (RFC 2177, section 3).
 
+ghost use Rattle.std.specs.Prelude.{◌≡◌, IfOk};
+ghost use Rattle.std.specs.List.{flat_map};
+ghost use Rattle.std.specs.Option.{option_map};
+ghost use Rattle.imap_answers.specs.Printed.{printed as printed_answer};
+ghost use Rattle.mail_serving.specs.Calls.{text_told};
+
 use crate::outlet::Outlet;
+use imap_answers::Answer;
 use imap_node::Reply;
 use imap_print::print;
 use replica_lock::{CallFault, Outcome, Pass, Shared};
@@ -125,17 +132,27 @@ fn polled<L: Ledger, R: Wait>(
     }
 }
 
-fn told(alloc: Global, last: Option<&Outcome>) -> Result<Vec<u8>, AllocError> {
+/// The text of the answers to a poll with this outcome.
+fn told(alloc: Global, last: Option<&Outcome>) -> Result<Vec<u8>, AllocError>
+    ensures { IfOk result (λ text. text.items ≡ text_told (option_map (λ o. o.now) last.entry)) }
+{
+    match last {
+        Some(
+            Outcome::Replied {
+                reply: Reply::Done { answers, .. },
+            },
+        ) => printed(alloc, answers.as_slice()),
+        _ => Ok(Vec::new(alloc)),
+    }
+}
+
+/// The text of answers, one behind the other.
+fn printed(alloc: Global, answers: &[Answer]) -> Result<Vec<u8>, AllocError>
+    ensures { IfOk result (λ text. text.items ≡ flat_map printed_answer answers.now) }
+{
     let mut text = Vec::new(alloc);
-    if let Some(
-        Outcome::Replied {
-            reply: Reply::Done { answers, .. },
-        },
-    ) = last
-    {
-        for answer in answers.as_slice() {
-            print(answer, &mut text)?;
-        }
+    for answer in answers {
+        print(answer, &mut text)?;
     }
     Ok(text)
 }

@@ -1,6 +1,7 @@
 //! Replicas that listen.
 
-ghost use Rattle.std.specs.Prelude.{◌≡◌};
+ghost use Rattle.std.specs.Prelude.{◌≡◌, IfOk};
+ghost use Rattle.mail_serving.specs.Settings.{all_but};
 
 use crate::connection::{Desk, connection_worker, turn_away};
 use crate::house::House;
@@ -206,8 +207,11 @@ fn new_book(alloc: Global, replica: ReplicaId) -> Option<Book> {
     }
 }
 
-/// All of so many places but one.
-fn others(alloc: Global, places: usize, own: usize) -> Result<Vec<usize>, AllocError> {
+/// All of so many places but one, ascending.
+#[tactic(auto, using(crate::proofs::PlaceLemmas::all_but_own, crate::proofs::PlaceLemmas::all_but_other))]
+fn others(alloc: Global, places: usize, own: usize) -> Result<Vec<usize>, AllocError>
+    ensures { IfOk result (λ others. others.items ≡ all_but own places) }
+{
     let mut others = Vec::with_capacity(alloc, places)?;
     for place in 0..places {
         if place != own {

@@ -5,7 +5,9 @@ ghost use Rattle.std.specs.Option.{option_map};
 ghost use Rattle.imap_node.specs.declared.sessions.OpenFault.TheVariants as refusals;
 ghost use Rattle.imap_talk.specs.Asked as asked;
 ghost use Rattle.imap_talk.specs.declared.fault.PortFault.TheVariants.{NoRoom, TooManySessions, Torn};
-ghost use Rattle.mail_serving.specs.Calls.{OpensByCall, StepsByCall};
+ghost use Rattle.mail_serving.specs.Calls.{CallsOnce, CallsOnceIn, CommandsOnce, OpensByCall, StepsByCall};
+ghost use Rattle.mail_serving.specs.Logins.{auth_of};
+ghost use Rattle.replica_lock.specs.declared.event.BookEvent.TheVariants as events;
 ghost use Rattle.replica_lock.specs.declared.outcome.Outcome.TheVariants.{Opened, Replied};
 
 use crate::house::{House, auth_of, login_of};
@@ -64,9 +66,10 @@ impl<'a, L: Ledger, R: Wait + Clock, G: Gate> SessionPort<'a, L, R, G> {
 }
 
 impl<'a, L: Ledger, R: Wait + Clock, G: Gate> SessionPort<'a, L, R, G> {
-    /// Opens the session in its pass.
+    /// Opens the session in its pass, by one call at most.
     fn open_in(&self, alloc: Global, pass: &mut Pass<L>) -> Result<Login, PortFault>
-        ensures { OpensByCall self.now.house.now.access result }
+        ensures told { OpensByCall self.now.house.now.access result }
+        ensures once { CallsOnce pass.old (events.Open (auth_of self.now.house.now.access)) pass.new }
     {
         if pass.session().is_some() {
             return Err(PortFault::PassedOver);
@@ -80,14 +83,15 @@ impl<'a, L: Ledger, R: Wait + Clock, G: Gate> SessionPort<'a, L, R, G> {
         }
     }
 
-    /// Gives the session a command in its pass.
+    /// Gives the session a command in its pass, by one call at most.
     fn command_in(
         &self,
         alloc: Global,
         pass: &mut Pass<L>,
         tagged: Tagged,
     ) -> Result<Reply, PortFault>
-        ensures { StepsByCall (asked.Command tagged) result }
+        ensures told { StepsByCall (asked.Command tagged) result }
+        ensures once { CommandsOnce pass.old tagged pass.new }
     {
         if pass.session().is_none() {
             return Err(PortFault::PassedOver);
@@ -103,9 +107,10 @@ impl<'a, L: Ledger, R: Wait + Clock, G: Gate> SessionPort<'a, L, R, G> {
         }
     }
 
-    /// Gives the session a line of IDLE in its pass.
+    /// Gives the session a line of IDLE in its pass, by one call at most.
     fn line_in(&self, alloc: Global, pass: &mut Pass<L>, line: IdleLine) -> Result<Reply, PortFault>
-        ensures { StepsByCall (asked.Line line) result }
+        ensures told { StepsByCall (asked.Line line) result }
+        ensures once { CallsOnceIn pass.old (λ n. events.Line n line) pass.new }
     {
         if pass.session().is_none() {
             return Err(PortFault::PassedOver);

@@ -1,6 +1,6 @@
 //! The program's command line.
 
-ghost use Rattle.std.specs.Prelude.{◌≡◌, ◌++◌, ◌∷◌, ◌<◌, [], true, IfOk, IfSome, OnOk};
+ghost use Rattle.std.specs.Prelude.{◌≡◌, ◌++◌, ◌∷◌, ◌<◌, [], false, true, IfNone, IfOk, IfSome, OnOk, Some, slice_get};
 ghost use Rattle.mail_serving.specs.Settings.{AreNames, HavePeers, access_of, is_named, names_of, newcomers_of};
 ghost use Rattle.mail_serving.specs.declared.settings.Join.{Join as Joining};
 
@@ -56,11 +56,44 @@ pub struct CommandLine<'a> {
 
 impl CommandLine<'_> {
     /// The place of the replica with this name among all, those that are to join behind the others.
-    pub fn place_named(&self, name: u16) -> Option<usize> {
-        let places = self.places.iter().map(|place| place.replica);
-        let joins = self.joins.iter().map(|join| join.place.replica);
-        places.chain(joins).position(|other| other == name)
+    pub fn place_named(&self, name: u16) -> Option<usize>
+        ensures some { IfSome result (λ place. slice_get (names_of self.now.places.items ++ newcomers_of self.now.joins.items) place ≡ Some name) }
+        ensures none { IfNone result (is_named name (names_of self.now.places.items ++ newcomers_of self.now.joins.items) ≡ false) }
+    {
+        if let Some(place) = place_among(&self.places, name) {
+            return Some(place);
+        }
+        let place = joining_among(&self.joins, name)?;
+        Some(self.places.len() + place)
     }
+}
+
+/// The place of the replica with this name among these.
+#[tactic(auto, using(crate::proofs::PlaceLemmas::name_there, crate::proofs::PlaceLemmas::unnamed_more))]
+fn place_among(places: &[Place<'_>], name: u16) -> Option<usize>
+    ensures some { IfSome result (λ place. slice_get (names_of places.now) place ≡ Some name) }
+    ensures none { IfNone result (is_named name (names_of places.now) ≡ false) }
+{
+    for at in 0..places.len() {
+        if places[at].replica == name {
+            return Some(at);
+        }
+    }
+    None
+}
+
+/// The place of the one with this name among those that are to join.
+#[tactic(auto, using(crate::proofs::PlaceLemmas::newcomer_there, crate::proofs::PlaceLemmas::unjoined_more))]
+fn joining_among(joins: &[Join<'_>], name: u16) -> Option<usize>
+    ensures some { IfSome result (λ place. slice_get (newcomers_of joins.now) place ≡ Some name) }
+    ensures none { IfNone result (is_named name (newcomers_of joins.now) ≡ false) }
+{
+    for at in 0..joins.len() {
+        if joins[at].place.replica == name {
+            return Some(at);
+        }
+    }
+    None
 }
 
 /// What is wrong with the command line.

@@ -4,6 +4,7 @@ use std::alloc::Global;
 use std::io;
 use std::io::{Read, Write};
 use std::net::{Net, SocketAddr, TcpListener, TcpStream};
+use std::time::Duration;
 
 /// A client's side of a connection, with all that it was told.
 #[derive(Drop)]
@@ -15,13 +16,14 @@ pub struct Client {
 }
 
 impl Client {
-    /// Connects, and waits for the greeting.
+    /// Connects, and waits for the greeting. A client that is told nothing for twenty seconds fails.
     pub fn connect<R: Net<Listener = TcpListener, Stream = TcpStream>>(
         rt: &R,
         alloc: Global,
         address: SocketAddr,
     ) -> io::Result<Client> {
         let stream = TcpStream::connect(rt, address)?;
+        stream.set_read_timeout(Some(Duration::from_secs(20)))?;
         let mut client = Client {
             stream,
             told: Vec::new(alloc),

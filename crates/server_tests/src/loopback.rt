@@ -70,9 +70,30 @@ fn visit_two<R: Wait + Clock + Net<Listener = TcpListener, Stream = TcpStream>>(
         b"c OK [APPENDUID 1 1] APPEND completed\r\n",
     )?;
     fine &= second.await_text(b"* 1 EXISTS\r\n")?;
+    fine &= two_are_stored(&mut first, &mut second)?;
     fine &= second.say(b"DONE\r\n", b"b OK IDLE completed\r\n")?;
     fine &= first.say(b"z LOGOUT\r\n", b"z OK LOGOUT completed\r\n")?;
     fine &= second.say(b"z LOGOUT\r\n", b"z OK LOGOUT completed\r\n")?;
+    Ok(fine)
+}
+
+/// Stores a flag of two messages by one command of the first client; whether the second, which idles at another replica, is told of both.
+fn two_are_stored(first: &mut Client, second: &mut Client) -> io::Result<bool> {
+    let mut fine = first.say(
+        b"d APPEND INBOX {3+}\r\ndef\r\n",
+        b"d OK [APPENDUID 1 2] APPEND completed\r\n",
+    )?;
+    fine &= second.await_text(b"* 2 EXISTS\r\n")?;
+    fine &= first.say(
+        b"e SELECT INBOX\r\n",
+        b"e OK [READ-WRITE] SELECT completed\r\n",
+    )?;
+    fine &= first.say(
+        b"f STORE 1:2 +FLAGS (\\Seen)\r\n",
+        b"f OK STORE completed\r\n",
+    )?;
+    fine &= second.await_text(b"* 1 FETCH (UID 1 FLAGS (\\Seen))\r\n")?;
+    fine &= second.await_text(b"* 2 FETCH (UID 2 FLAGS (\\Seen))\r\n")?;
     Ok(fine)
 }
 

@@ -1,10 +1,16 @@
-use Rattle.std.proofs.Common.{Bor}
+use Rattle.std.proofs.Common.{Bor, inr, subst}
 use Rattle.std.specs.Option.{option_map}
 use Rattle.mail_serving.proofs.CallLemmas.{opens_by}
 use Rattle.mail_serving.proofs.session.SessionPort.open_in.Goals as goal
+use Rattle.imap_node.specs.declared.sessions.Auth.{Auth}
+use Rattle.replica_lock.specs.Passes.{IsCalled}
+use Rattle.replica_lock.specs.declared.event.BookEvent.TheVariants as events
 use Rattle.replica_lock.specs.declared.outcome.Outcome.{Outcome}
 
-pub returns-in-Ok-open : goal.returns-in-Ok-open
-returns-in-Ok-open g c =
+pub returns-in-Ok-open-clause-told : goal.returns-in-Ok-open-clause-told
+returns-in-Ok-open-clause-told g c =
     opens_by c.args.self.now.house.now.access c.login_of.result c.in-Ok.auth c.opened.result c.args.pass.now c.open.new.pass (option_map (λ (o : Bor Outcome). o.now) c.last.result) c.login_of.ensures c.in-Ok.ensures
     c.in-Ok-open.ensures.called c.last.ensures c.opened.ensures.ok c.opened.ensures.full
+
+pub returns-in-Ok-open-clause-once : goal.returns-in-Ok-open-clause-once
+returns-in-Ok-open-clause-once g c = inr (subst (λ (auth : Auth). IsCalled c.args.pass.now (events.Open auth) c.open.new.pass) c.in-Ok.ensures c.in-Ok-open.ensures.called)
