@@ -1,0 +1,4 @@
+pub mod ByNumberLemmas
+mod IdLemmas
+mod CopyLemmas
+mod ToldLemmas
