@@ -53,12 +53,17 @@ impl Newcomer<'_> {
         replica: ReplicaId,
         own: usize,
     ) -> Option<(Book, TcpListener)> {
+        let station = house.stations.get(own)?;
         let listener = TcpListener::bind(rt, self.join.place.address).ok()?;
-        let address = listener.local_addr().ok()?;
-        let ops = copies_at(rt, alloc, house, self.peer)?;
-        let book = Book::join(alloc, replica, &ops).ok()?;
-        drop(ops);
-        house.stations.get(own)?.open(rt, address);
+        let Ok(address) = listener.local_addr() else {
+            drop(listener);
+            return None;
+        };
+        let Some(book) = book_with(rt, alloc, house, replica, self.peer) else {
+            drop(listener);
+            return None;
+        };
+        station.open(rt, address);
         Some((book, listener))
     }
 
@@ -72,6 +77,20 @@ impl Newcomer<'_> {
         let _ = println!(rt; "joined {replica} {peer}");
         let _ = println!(rt; "listening {replica} {address}");
     }
+}
+
+/// The book of a replica that joins with what the one at a place applied; `None` where it gets no copies, or they don't let it join.
+fn book_with<R: Wait + Clock>(
+    rt: &R,
+    alloc: Global,
+    house: &House<'_>,
+    replica: ReplicaId,
+    peer: usize,
+) -> Option<Book> {
+    let ops = copies_at(rt, alloc, house, peer)?;
+    let book = Book::join(alloc, replica, &ops);
+    drop(ops);
+    book.ok()
 }
 
 /// Copies of what the replica at a place applied; `None` where it isn't there, has no memory for them, or doesn't answer for a minute.

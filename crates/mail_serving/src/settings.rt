@@ -165,40 +165,49 @@ fn matched<'a>(alloc: Global, words: &'a [String]) -> Result<clap::ArgMatches<'a
 
 /// The words that the program knows.
 fn described<'a>(alloc: Global) -> Result<Command<'a>, AllocError> {
+    let command = Command::new(alloc, "imap_server").about("Serve mail from linked replicas");
+    let command = with_access(alloc, command)?;
+    with_replicas(alloc, command)
+}
+
+/// Adds the words that say which users are known.
+fn with_access<'a>(alloc: Global, command: Command<'a>) -> Result<Command<'a>, AllocError> {
     let preauth = Arg::new(alloc, "preauth")
         .long("preauth")
         .action(ArgAction::SetTrue)
         .help("Every user is known beforehand");
+    let command = command.arg(preauth)?;
     let user = Arg::new(alloc, "user")
         .long("user")
         .action(ArgAction::Set)
         .help("The user's name");
+    let command = command.arg(user)?;
     let pass = Arg::new(alloc, "pass")
         .long("pass")
         .action(ArgAction::Set)
         .help("The user's password");
+    command.arg(pass)
+}
+
+/// Adds the words that say which replicas there are, which join, and when the server ends.
+fn with_replicas<'a>(alloc: Global, command: Command<'a>) -> Result<Command<'a>, AllocError> {
     let stop = Arg::new(alloc, "stop-after")
         .long("stop-after")
         .action(ArgAction::Set)
         .value_parser(ValueParser::unsigned(0, 4_294_967_295))
         .help("Stop behind so many connections");
+    let command = command.arg(stop)?;
     let joins = Arg::new(alloc, "join")
         .long("join")
         .action(ArgAction::Append)
         .help("A replica that joins when the first connection has ended, as 3=127.0.0.1:1433/1");
+    let command = command.arg(joins)?;
     let replicas = Arg::new(alloc, "REPLICA")
         .required(true)
         .action(ArgAction::Append)
         .num_args(1..)
         .help("A replica and its address, as 1=127.0.0.1:1431");
-    Command::new(alloc, "imap_server")
-        .about("Serve mail from linked replicas")
-        .arg(preauth)?
-        .arg(user)?
-        .arg(pass)?
-        .arg(stop)?
-        .arg(joins)?
-        .arg(replicas)
+    command.arg(replicas)
 }
 
 /// The access that these options name: `--preauth` alone, or `--user` and `--pass` without it.
