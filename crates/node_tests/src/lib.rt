@@ -1,6 +1,8 @@
-//! Tests of sessions that no script can open: their user has to log in.
+//! Tests of sessions that no script can open, since their user has to log in, and of what a node lends.
 #![tactic(auto)]
 
+#[cfg(test)]
+mod kept;
 #[cfg(test)]
 mod laws;
 #[cfg(test)]

@@ -4,7 +4,7 @@ ghost use Rattle.std.specs.Prelude.{IsTrue, ◌↔◌};
 ghost use Rattle.imap_node.specs.Nodes.{IsGoing};
 
 use imap_lex::{Framer, Limits};
-use imap_types::{Moment, Octets};
+use imap_types::{Moment, Name, Octets};
 use node_talk::{Auth, Credentials, Node, SessionNo, State, Turn, talk};
 use std::alloc::Global;
 use tags_clocks::ReplicaId;
@@ -82,4 +82,21 @@ fn is_going(node: &Node, session: SessionNo) -> bool
         Some(session) => !matches!(session.state, State::LoggedOut),
         None => false,
     }
+}
+
+/// The names of the node's folders, and then of what is subscribed to, each with a `|` behind it, and one between the two.
+pub fn kept_names(alloc: Global, talk: &Talk) -> Option<Vec<u8>> {
+    let mut told = Vec::new(alloc);
+    push_names(&mut told, &talk.node.folders().names(alloc).ok()?)?;
+    told.push(b'|').ok()?;
+    push_names(&mut told, &talk.node.subs().names(alloc).ok()?)?;
+    Some(told)
+}
+
+fn push_names(told: &mut Vec<u8>, names: &[Name]) -> Option<()> {
+    for name in names {
+        told.extend_from_slice(name.as_bytes()).ok()?;
+        told.push(b'|').ok()?;
+    }
+    Some(())
 }
