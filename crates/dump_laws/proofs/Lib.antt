@@ -1,0 +1,3 @@
+mod FitLemmas
+mod LineLemmas
+mod RightLemmas
