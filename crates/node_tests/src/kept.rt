@@ -16,9 +16,8 @@ fn lends_both(alloc: Global) -> Option<bool> {
         &mut talk,
         "a LOGIN joe secret\r\nb CREATE work\r\nc SUBSCRIBE lists\r\nd CREATE home\r\n",
     )?;
-    let made = told
-        == b"a OK LOGIN completed|b OK CREATE completed|c OK SUBSCRIBE completed|d OK CREATE completed|"
-            .as_slice();
+    let made = told.as_slice()
+        == b"a OK LOGIN completed|b OK CREATE completed|c OK SUBSCRIBE completed|d OK CREATE completed|".as_slice();
     let names = kept_names(alloc, &talk)?;
-    Some(made && names == b"INBOX|home|work||lists|".as_slice())
+    Some(made && names.as_slice() == b"INBOX|home|work||lists|".as_slice())
 }
