@@ -19,14 +19,15 @@ use tags_clocks::{OpId, ReplicaId};
 use uid_projection::Start;
 
 impl Book {
-    /// The book of a new replica of this name to which these operations were delivered, in their order: an entry each. Its UIDs count from 1. There is no
-    /// book where it can't apply them all: `Own` where one bears its name, the least such id, which is tested first and takes no memory; `NotCausal` at the first
-    /// that isn't ripe behind those in front of it; `Exhausted` where one of its counters has no number left for one; `NoMemory`.
+    /// The book of a new replica of this name to which these operations were delivered, in their order: an entry each. None of them bears its name, and its
+    /// UIDs count from 1. There is no book where one does, or where it can't apply them all: `Own` where one bears its name, the least such id, which is tested
+    /// first and takes no memory; `NotCausal` at the first that isn't ripe behind those in front of it; `Exhausted` where one of its counters has no number left
+    /// for one; `NoMemory`.
     ///
     /// It costs what the deliveries do, and keeps two copies of each operation: the replica's and the journal's.
     pub fn join(alloc: Global, id: ReplicaId, ops: &[SoundOp]) -> Result<Book, JoinFault>
         ensures { MatchResult result
-            (λ book. (book ≡ joined_book id ops.now) × IsCausal id_of clock_of ops.now × (¬ Exhausts (first_numbers id) [] ops.now))
+            (λ book. (book ≡ joined_book id ops.now) × IsLeastOwn id_of id ops.now None × IsCausal id_of clock_of ops.now × (¬ Exhausts (first_numbers id) [] ops.now))
             (IsUnjoined id ops.now) }
     {
         if let Some(own) = least_own(id, ops) {

@@ -198,8 +198,10 @@ impl<L: Ledger> Shared<L> {
         self.locked.lock(rt).book().stirred(from, to)
     }
 
-    /// Copies of the operations that the replica applied, in their order; `Err` where there is no memory for them. It takes the lock, makes no entry, and leaves the
-    /// pass as it is.
+    /// Copies of the operations that the replica applied, in their order; `Err` where there is no memory for them. It makes no entry, and leaves the pass as it is.
+    ///
+    /// It holds the lock for one pass over the list, which copies each operation with its texts, so that other calls wait as long as that takes. The copies take as
+    /// much memory as the list does, all at once, beside the replica's and the journal's own.
     pub fn ops_copy<R: Wait>(
         &self,
         rt: &R,
@@ -208,8 +210,7 @@ impl<L: Ledger> Shared<L> {
     ) -> Result<Vec<SoundOp>, AllocError>
         ensures { IfOk result (λ ops. IsCausal id_of clock_of ops.items) }
     {
-        let locked = self.locked.lock(rt);
-        copies(alloc, locked.book().node().op_list())
+        ops_copied_in(alloc, self.locked.lock(rt).book())
     }
 
     /// A copy of the clock that counts the operations that the replica applied; `Err` where there is no memory for it. It takes the lock, and makes no entry.
@@ -250,6 +251,14 @@ impl<L: Ledger> Shared<L> {
         gate.pass(n);
         drop(locked);
     }
+}
+
+/// Copies of the operations applied, in their order.
+fn ops_copied_in(alloc: Global, book: &Book) -> Result<Vec<SoundOp>, AllocError>
+    ensures ops { IfOk result (λ ops. ops.items ≡ book.now.node.applied) }
+    ensures causal { IsCausal id_of clock_of book.now.node.applied }
+{
+    copies(alloc, book.node().op_list())
 }
 
 /// A copy of the clock that counts the operations applied.
