@@ -1,10 +1,13 @@
-use Rattle.std.specs.Prelude.{◌≡◌, ◌⊎◌, ◌||◌, ℕ, Bool, true, false, List, [], ◌∷◌, map, Some, Ok, Err}
+use Rattle.std.specs.Prelude.{◌≡◌, ◌⊎◌, ◌||◌, ℕ, Bool, true, false, List, [], ◌∷◌, map, Option, None, Some, Ok, Err}
 use Rattle.causal_inbox.specs.declared.answers.Arrival.{Arrival}
 use Rattle.causal_inbox.specs.declared.answers.Arrival.TheVariants.{Applied, Held, Repeat}
 use Rattle.causal_inbox.specs.declared.answers.DeliverFault.TheVariants.{Conflict}
 use Rattle.causal_inbox.specs.Seen.{IsClockOf, uncovered}
 use Rattle.crdt_ops.specs.declared.op.Op.{Op}
 use Rattle.merge_laws.specs.Orders.{IsCausal}
+use Rattle.replica_links.specs.declared.message.Letter.{Letter}
+use Rattle.replica_links.specs.declared.message.LinkMsg.{LinkMsg}
+use Rattle.replica_links.specs.declared.message.LinkMsg.TheVariants.{Have, Ops, Stop}
 use Rattle.replica_links.specs.declared.took.Took.{Took}
 use Rattle.replica_lock.specs.Joins.{clock_of, id_of}
 use Rattle.replica_lock.specs.Passes.{Held as PassHeld, IsCalled}
@@ -113,3 +116,39 @@ AreGiven clock ops = (applied : List Op) × IsCausal id_of clock_of applied × (
 -- Want of memory is nothing that a caller of a replica behind its lock could know.
 abbrev pub MayLack : PassHeld → Type 0
 MayLack p = Unit {0}
+
+-- What becomes of a letter: its operations are taken; who asks by it is answered; and behind the one that says so no more is taken.
+abbrev pub IsLetterAnswered : {S P : Type 0} → (S → Op → Took → S → Type 0) → (S → S → Type 0) → (S → Type 0) → (S → List (ℕ × ℕ) → Type 0) → (S → List (ℕ × ℕ) → List Op → Type 0) → (P → ℕ → List (ℕ × ℕ) → P → Type 0) → (P → ℕ → List Op → P → Type 0)
+    → ℕ → LinkMsg → Bool → S → P → S → P → Type 0
+IsLetterAnswered takes drains lacks has gives asks hands from (Ops ops) more s p t q = (more ≡ true) × IsTaken takes drains lacks has asks s p from ops.items t q
+IsLetterAnswered takes drains lacks has gives asks hands from (Have clock) more s p t q = (more ≡ true) × (s ≡ t) × IsAnswered lacks gives hands s p from clock q
+IsLetterAnswered takes drains lacks has gives asks hands from Stop more s p t q = (more ≡ false) × (s ≡ t) × (p ≡ q)
+
+-- A turn of a link's worker: a letter is taken and answered, or these others are asked for what the replica lacks.
+abbrev pub IsTurn : {S P : Type 0} → (S → Op → Took → S → Type 0) → (S → S → Type 0) → (S → Type 0) → (S → List (ℕ × ℕ) → Type 0) → (S → List (ℕ × ℕ) → List Op → Type 0) → (P → ℕ → List (ℕ × ℕ) → P → Type 0) → (P → ℕ → List Op → P → Type 0)
+    → List ℕ → Option Letter → S → P → S → P → Type 0
+IsTurn takes drains lacks has gives asks hands peers (Some letter) s p t q = (more : Bool) × IsLetterAnswered takes drains lacks has gives asks hands letter.from letter.message more s p t q
+IsTurn takes drains lacks has gives asks hands peers None s p t q = (s ≡ t) × AreAsked lacks has asks s p peers q
+
+-- These turns, one behind the other.
+abbrev pub Turns : {S P : Type 0} → (S → Op → Took → S → Type 0) → (S → S → Type 0) → (S → Type 0) → (S → List (ℕ × ℕ) → Type 0) → (S → List (ℕ × ℕ) → List Op → Type 0) → (P → ℕ → List (ℕ × ℕ) → P → Type 0) → (P → ℕ → List Op → P → Type 0)
+    → List ℕ → List (Option Letter) → S → P → S → P → Type 0
+Turns takes drains lacks has gives asks hands peers [] s p t q = (s ≡ t) × (p ≡ q)
+Turns {S} {P} takes drains lacks has gives asks hands peers (turn ∷ turns) s p t q =
+    (next : S) × (sent : P) × IsTurn takes drains lacks has gives asks hands peers turn s p next sent × Turns takes drains lacks has gives asks hands peers turns next sent t q
+
+-- Nothing is made of a replica and of its way to the others but by such turns.
+abbrev pub TakesTurns : {S P : Type 0} → (S → Op → Took → S → Type 0) → (S → S → Type 0) → (S → Type 0) → (S → List (ℕ × ℕ) → Type 0) → (S → List (ℕ × ℕ) → List Op → Type 0) → (P → ℕ → List (ℕ × ℕ) → P → Type 0) → (P → ℕ → List Op → P → Type 0)
+    → List ℕ → S → P → S → P → Type 0
+TakesTurns takes drains lacks has gives asks hands peers s p t q = (turns : List (Option Letter)) × Turns takes drains lacks has gives asks hands peers turns s p t q
+
+-- Where it asks first, each of these others is asked.
+abbrev pub IsBegun : {S P : Type 0} → (S → Type 0) → (S → List (ℕ × ℕ) → Type 0) → (P → ℕ → List (ℕ × ℕ) → P → Type 0) → List ℕ → Bool → S → P → P → Type 0
+IsBegun lacks has asks peers true s p q = AreAsked lacks has asks s p peers q
+IsBegun lacks has asks peers false s p q = p ≡ q
+
+-- What a link's worker does: it asks the others first, where it is to; and behind that there are turns and nothing else.
+abbrev pub IsWorked : {S P : Type 0} → (S → Op → Took → S → Type 0) → (S → S → Type 0) → (S → Type 0) → (S → List (ℕ × ℕ) → Type 0) → (S → List (ℕ × ℕ) → List Op → Type 0) → (P → ℕ → List (ℕ × ℕ) → P → Type 0) → (P → ℕ → List Op → P → Type 0)
+    → List ℕ → Bool → S → P → S → P → Type 0
+IsWorked {S} {P} takes drains lacks has gives asks hands peers asks_first s p t q =
+    (begun : P) × IsBegun lacks has asks peers asks_first s p begun × TakesTurns takes drains lacks has gives asks hands peers s begun t q

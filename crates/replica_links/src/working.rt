@@ -1,5 +1,7 @@
 //! The thread of a link.
 
+ghost use Rattle.replica_links.specs.Links.{IsBegun, IsLetterAnswered, IsWorked, TakesTurns};
+
 use crate::answering::{Post, ask_all, give_ops, take_ops};
 use crate::handing::Taker;
 use crate::message::{Letter, LinkMsg};
@@ -16,6 +18,8 @@ pub struct Inbox<'a> {
     pub letters: &'a Receiver<Letter>,
     /// The places of the other replicas.
     pub peers: &'a [usize],
+    /// Whether they are asked before the first letter is taken, as a replica that has joined does.
+    pub asks_first: bool,
     /// They are asked each time that so long has passed, whatever came meanwhile.
     pub rest: Duration,
 }
@@ -60,42 +64,87 @@ fn has_come<R: Clock>(rt: &R, due: Instant) -> bool {
     Instant::now(rt).is_ok_and(|now| now >= due)
 }
 
-/// Takes and answers each letter, and passes the gate before each: the first time with 1. Now and then it asks the other replicas for what this one lacks. It ends
-/// at `Stop`, or once no letter and no sender is left.
+/// How far a link's worker is.
+#[derive(Drop)]
+struct Pace {
+    /// How many letters came.
+    letters: u64,
+    /// When the others are asked next; `None` where the clock can't be read.
+    due: Option<Instant>,
+}
+
+/// Asks the other replicas for what this one lacks, where the inbox says so; then takes and answers each letter, and passes the gate before each: the first time with
+/// 1. Now and then it asks the others again. It ends at `Stop`, or once no letter and no sender is left.
 pub fn link_worker<R: Wait + Clock, T: Taker, G: Gate, P: Post>(
     rt: &R,
     gate: &mut G,
     inbox: &Inbox<'_>,
     taker: &mut T,
     post: &mut P,
-) {
-    let mut number = 0u64;
-    let mut due = inbox.due(rt);
+)
+    ensures { IsWorked T.takes T.drains T.lacks T.has T.gives P.asks P.hands inbox.now.peers.now inbox.now.asks_first taker.old post.old taker.new post.new }
+{
+    begin(taker, post, inbox.peers, inbox.asks_first);
+    let mut pace = Pace {
+        letters: 0,
+        due: inbox.due(rt),
+    };
     for _ in rt.forever() {
-        match inbox.next(rt, due) {
-            Next::Letter(letter) => {
-                number = number.saturating_add(1);
-                gate.pass(number);
-                if !answer(taker, post, letter) {
-                    return;
-                }
-            }
-            Next::Due => {
-                ask_all(taker, post, inbox.peers);
-                due = inbox.due(rt);
-            }
-            Next::Over => return,
+        if !turn(rt, gate, inbox, &mut pace, taker, post) {
+            return;
         }
     }
 }
 
+/// Asks these replicas for all that this one lacks, where it is to ask first.
+fn begin<T: Taker, P: Post>(taker: &T, post: &mut P, peers: &[usize], asks: bool)
+    ensures { IsBegun T.lacks T.has P.asks peers.now asks taker.now post.old post.new }
+{
+    if asks {
+        ask_all(taker, post, peers);
+    }
+}
+
+/// Takes and answers the next letter, or asks the others where it is time; false where no more is to be taken.
+fn turn<R: Wait + Clock, T: Taker, G: Gate, P: Post>(
+    rt: &R,
+    gate: &mut G,
+    inbox: &Inbox<'_>,
+    pace: &mut Pace,
+    taker: &mut T,
+    post: &mut P,
+) -> bool
+    ensures { TakesTurns T.takes T.drains T.lacks T.has T.gives P.asks P.hands inbox.now.peers.now taker.old post.old taker.new post.new }
+{
+    match inbox.next(rt, pace.due) {
+        Next::Letter(letter) => {
+            pace.letters = pace.letters.saturating_add(1);
+            gate.pass(pace.letters);
+            answer(taker, post, letter)
+        }
+        Next::Due => {
+            ask_all(taker, post, inbox.peers);
+            pace.due = inbox.due(rt);
+            true
+        }
+        Next::Over => false,
+    }
+}
+
 /// Takes and answers a letter; false where no more is to be taken.
-fn answer<T: Taker, P: Post>(taker: &mut T, post: &mut P, letter: Letter) -> bool {
+fn answer<T: Taker, P: Post>(taker: &mut T, post: &mut P, letter: Letter) -> bool
+    ensures { IsLetterAnswered T.takes T.drains T.lacks T.has T.gives P.asks P.hands letter.from letter.message result taker.old post.old taker.new post.new }
+{
     let Letter { from, message } = letter;
     match message {
-        LinkMsg::Ops(ops) => take_ops(taker, post, from, ops),
-        LinkMsg::Have(clock) => give_ops(taker, post, from, clock),
-        LinkMsg::Stop => return false,
+        LinkMsg::Ops(ops) => {
+            take_ops(taker, post, from, ops);
+            true
+        }
+        LinkMsg::Have(clock) => {
+            give_ops(taker, post, from, clock);
+            true
+        }
+        LinkMsg::Stop => false,
     }
-    true
 }
