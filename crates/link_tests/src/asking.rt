@@ -76,6 +76,7 @@ fn serve<L: Ledger, R: Wait + Clock>(
     let inbox = Inbox {
         letters,
         peers: &peers,
+        asks_first: false,
         rest,
     };
     take(alloc, shared, pass, &mut mail, &inbox)

@@ -84,6 +84,7 @@ const CASES: &[Case<'static>] = &[
         "Own 2:1\n",
     ),
     (1, &["2:2 2=1 create x", "1:1 - create a"], "Own 1:1\n"),
+    (2, &["1:1 - create a", "2:1 1=1 create b"], "Own 2:1\n"),
     (
         3,
         &["1:2 1=1 create b", "1:1 - create a"],

@@ -197,6 +197,7 @@ fn run_side<L: Ledger + Send + Sync, M: Ledger + Send + Sync, R: Threads + Wait 
     let inbox = Inbox {
         letters,
         peers: &peers,
+        asks_first: false,
         rest: Duration::from_secs(3_600),
     };
     let (sent, link) = thread::join(

@@ -140,6 +140,22 @@ fn what_is_refused_is_asked_for(rt: HostRuntime) -> Result<(), Fail> {
 }
 
 #[test]
+fn what_stays_refused_is_asked_for_behind_each_answer(rt: HostRuntime) -> Result<(), Fail> {
+    let deeds = [
+        (0, Deed::Says("APPEND INBOX {1}\r\nx")),
+        (0, Deed::Says("APPEND INBOX {1}\r\nx")),
+        (1, Deed::Takes(&[Step::Pass(0), Step::Pass(0)])),
+        (0, Deed::Takes(&[Step::Pass(0)])),
+        (1, Deed::Takes(&[Step::Pass(0)])),
+    ];
+    let told = played(&rt, rt.alloc(), 4_294_967_294, &deeds)?;
+    let wanted =
+        "1 to 2: 1:1\n1 to 2: 1:2\n2 to 1: have 1=1\n1 to 2: 1:2\n2 to 1: have 1=1\nat 1\nat 2\n1:1 Applied 1\n1:2 Exhausted\n1:2 Exhausted\napart\n";
+    assert!(rt; is_told(told, wanted));
+    Ok(())
+}
+
+#[test]
 fn nothing_is_asked_for_at_a_conflict(rt: HostRuntime) -> Result<(), Fail> {
     let deeds = [
         (0, Deed::Says("CREATE a")),

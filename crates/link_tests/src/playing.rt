@@ -203,6 +203,7 @@ impl<L: Ledger> End<L> {
         let inbox = Inbox {
             letters: &from,
             peers: &[],
+            asks_first: false,
             rest: Duration::from_secs(3_600),
         };
         let mut taker = ReplicaTaker::new(rt, alloc, &self.shared, pass);

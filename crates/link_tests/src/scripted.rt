@@ -210,6 +210,19 @@ fn worked<R: Wait + rt::Clock>(
     clock: Option<ReplicaId>,
     script: &[(usize, Said)],
 ) -> Result<String, AllocError> {
+    worked_from(rt, alloc, answers, gives, clock, script, false)
+}
+
+/// The same, where it asks the others first or doesn't.
+fn worked_from<R: Wait + rt::Clock>(
+    rt: &R,
+    alloc: Global,
+    answers: &[Took],
+    gives: &[&str],
+    clock: Option<ReplicaId>,
+    script: &[(usize, Said)],
+    asks_first: bool,
+) -> Result<String, AllocError> {
     let (sender, calls) = unbounded(alloc)?;
     let (to, letters) = unbounded(alloc)?;
     for (from, said) in script {
@@ -227,6 +240,7 @@ fn worked<R: Wait + rt::Clock>(
     let inbox = Inbox {
         letters: &letters,
         peers: &[1, 2],
+        asks_first,
         rest: Duration::from_secs(3_600),
     };
     let mut gate = Notes { rt, calls: &sender };
@@ -299,6 +313,18 @@ fn nothing_is_handed_where_nothing_lacks(rt: HostRuntime) -> Result<(), Fail> {
     Ok(())
 }
 
+#[test]
+fn one_that_joined_asks_first(rt: HostRuntime) -> Result<(), Fail> {
+    let alloc = rt.alloc();
+    let script = [(1, Said::Ops(ONE)), (2, Said::Stop)];
+    let told = worked_from(&rt, alloc, &[], &[], ReplicaId::new(9), &script, true)?;
+    let wanted = "clock\nask 1 9=7\nclock\nask 2 9=7\npass 1\ndeliver 1:1\npass 2\n";
+    assert!(rt; told.as_str() == wanted);
+    let told = worked_from(&rt, alloc, &[], &[], None, &script, true)?;
+    assert!(rt; told.as_str() == "clock\nclock\npass 1\ndeliver 1:1\npass 2\n");
+    Ok(())
+}
+
 /// The calls that are made where these replicas are asked.
 fn asked_all<R: Wait>(
     rt: &R,
@@ -358,6 +384,7 @@ impl Heard {
         Inbox {
             letters: &self.letters,
             peers: &self.peers,
+            asks_first: false,
             rest: Duration::from_millis(5),
         }
     }
@@ -447,6 +474,7 @@ fn hurried<R: Wait + rt::Clock>(rt: &R, alloc: Global) -> Result<String, AllocEr
     let inbox = Inbox {
         letters: &letters,
         peers: &[1],
+        asks_first: false,
         rest: Duration::from_millis(20),
     };
     let mut gate = Slow {
