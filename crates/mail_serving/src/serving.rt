@@ -11,7 +11,7 @@ use crate::station::CopyOrder;
 use crossbeam_channel::Receiver;
 use imap_node::Node;
 use log::Log;
-use replica_links::{Gate, Inbox, Letter, ReplicaTaker, ask_all, link_worker};
+use replica_links::{Gate, Inbox, Letter, ReplicaTaker, link_worker};
 use replica_lock::{Book, Pass, Shared};
 use std::alloc::{AllocError, Global};
 use std::marker::Brand;
@@ -255,12 +255,10 @@ fn link<L: Ledger, R: Wait + Clock>(
     }
     let mut taker = ReplicaTaker::new(rt, alloc, desk.shared, pass);
     let mut mail = Mail::new(rt, desk.house, desk.own);
-    if ends.asks {
-        ask_all(&taker, &mut mail, &ends.peers);
-    }
     let inbox = Inbox {
         letters: &ends.letters,
         peers: &ends.peers,
+        asks_first: ends.asks,
         rest: Duration::from_secs(60),
     };
     link_worker(rt, &mut Open, &inbox, &mut taker, &mut mail);
