@@ -1,5 +1,5 @@
-use Rattle.std.proofs.Common.{◌≡◌, ◌⊎◌, inl, inr, ℕ, Bool, true, false, ◌&&◌, cond, List, [], ◌∷◌, ◌++◌, Option, None, Some, Result, Ok, Err, refl, sym, ap, ◌∙◌, subst, append_assoc, append-nil, map}
-use Rattle.std.proofs.lemmas.Bool.{cases_Bool, false≢true}
+use Rattle.std.proofs.Common.{◌≡◌, inl, ℕ, Bool, true, false, ◌&&◌, cond, List, [], ◌∷◌, ◌++◌, Option, None, Some, refl, sym, ap, ◌∙◌, subst, append_assoc, append-nil}
+use Rattle.std.proofs.lemmas.Bool.{false≢true}
 use Rattle.std.proofs.lemmas.List.Concat.{flat_map-append}
 use Rattle.crdt_ops.specs.declared.op.Op.{Op}
 use Rattle.imap_answers.specs.declared.answer.Answer.{Answer}
@@ -16,26 +16,28 @@ use Rattle.imap_lex.specs.declared.item.Item.{Item}
 use Rattle.imap_lex.specs.declared.item.Item.TheVariants.{Ready, Frame, Refused as RefusedItem}
 use Rattle.imap_node.specs.Commands.{is_idle, moves_to}
 use Rattle.imap_node.specs.Endings.{Course, ending_of}
-use Rattle.imap_node.specs.Nodes.{HasLoggedOut, IsGoing, NodeState, closed}
-use Rattle.imap_node.specs.Respond.{Holds, Responds, begun, ends_idling, leaves, left, session_after}
+use Rattle.imap_node.specs.Nodes.{HasLoggedOut, IsGoing, NodeState}
+use Rattle.imap_node.specs.Respond.{Holds, Responds, ends_idling, leaves, left, session_after}
 use Rattle.imap_node.specs.Sessions.{session_at, with_session}
+use Rattle.imap_node.specs.declared.input.Input.{Input}
 use Rattle.imap_node.specs.declared.input.Input.TheVariants as inputs
 use Rattle.imap_node.specs.declared.reply.Reply.{Reply}
 use Rattle.imap_node.specs.declared.reply.Reply.TheVariants.{Done, Refused}
 use Rattle.imap_node.proofs.SessionLemmas.{session_put}
-use Rattle.node_talk.specs.Conversation.{TakesBy, got, sent, sent_one, timed, timed_at, turns_of}
+use Rattle.node_talk.specs.Conversation.{TakesBy, got, sent, sent_one, timed, turns_of}
 use Rattle.node_talk.specs.Conversation as conversations
 use Rattle.node_talk.specs.Inputs.{IsRequest}
-use Rattle.node_talk.specs.Inputs as nodes
-use Rattle.node_talk.specs.Replies.{idling_at, is_without_memory, tag_of_idling}
+use Rattle.node_talk.specs.Replies.{answers_of, idling_at, is_without_memory, tag_of_idling}
+use Rattle.node_talk.specs.Streams.{ConversesAmid, Meanwhile}
 use Rattle.node_talk.specs.declared.requests.Request.{Request}
 use Rattle.node_talk.specs.declared.requests.Request.TheVariants as requests
 use Rattle.node_talk.specs.declared.turn.Turn.{Turn}
 use Rattle.node_talk.proofs.RequestLemmas.{handled, of_command}
-use Rattle.imap_talk.specs.NodePorts.{NodeSession, NodeSteps}
-use Rattle.imap_talk.specs.NodeTalks.{Stands, text_of_turn, text_sent}
-use Rattle.imap_talk.specs.Requests.{Handles, Takes, idling_behind, is_done, is_logout, logs_out, texts}
+use Rattle.imap_talk.specs.NodePorts.{NodeSession, NodeSteps, RespondsTo}
+use Rattle.imap_talk.specs.NodeTalks.{Came, Stands, each_alone, items_of, text_of_turn, text_sent}
+use Rattle.imap_talk.specs.Requests.{Handles, Takes, idling_behind, is_logout, logs_out, texts}
 use Rattle.imap_talk.specs.Talks.{Converses}
+use Rattle.imap_talk.proofs.MeanwhileLemmas.{going_meanwhile, idles_meanwhile, nothing_came}
 
 -- ---- what is sent
 
@@ -176,81 +178,153 @@ module _ (old new : NodeState) (n : ℕ) (line : IdleLine) where
 -- ---- one item
 
 -- The session goes on behind it, or it has logged out.
-abbrev pub GoesOn : Bool → NodeSession → ℕ → Option (List ℕ) → Type 0
-GoesOn false port n after = Stands port n after
-GoesOn true port n after = (port.session ≡ Some n) × HasLoggedOut port.node n
+abbrev pub GoesOn : {O : Type 0} → Bool → NodeSession O → ℕ → Option (List ℕ) → Type 0
+GoesOn {O} false port n after = Stands port n after
+GoesOn {O} true port n after = (port.session ≡ Some n) × HasLoggedOut port.node n
 
-module _ (old new : NodeSession) (n : ℕ) (given : List Answer) (after : Option (List ℕ)) (out : Bool) where
-  told_goes : (idling : Option (List ℕ)) → Stands old n idling → new ≡ old → after ≡ idling → out ≡ false → GoesOn out new n after × (new.moment ≡ old.moment)
-  told_goes idling st same idles on =
-      let now : Stands new n idling = subst (λ (s : NodeSession). Stands s n idling) (sym same) st in
-      let stands : Stands new n after = subst (λ (i : Option (List ℕ)). Stands new n i) (sym idles) now in
-      (subst (λ (o : Bool). GoesOn o new n after) (sym on) stands, ap (λ (s : NodeSession). s.moment) same)
+-- What came before an item, and what the node made of it at the moment at which it came.
+pub record Taken {O : Type 0} (old new : NodeSession O) (n : ℕ) (item : Item) (given : List Answer) (after : Option (List ℕ)) (out : Bool) : Type 0 where
+  pub mid : NodeState
+  pub moment : ℕ
+  pub beside : Meanwhile n old.node mid
+  pub takes : conversations.Takes mid n (timed moment item) given new.node
+  pub goes : GoesOn out new n after
 
-  module _ (tagged : Tagged) (reply : Reply) (st : Stands old n None) (r : Responds old.node n (inputs.Command old.moment tagged) reply new.node) (session : new.session ≡ Some n) where
+-- What came before an input of this session, and what the node responded to it.
+record Responded {O : Type 0} (old new : NodeSession O) (n : ℕ) (input : ℕ → Input) (reply : Reply) (idling : Option (List ℕ)) : Type 0 where
+  mid : NodeState
+  moment : ℕ
+  beside : Meanwhile n old.node mid
+  responds : Responds mid n (input moment) reply new.node
+  session : new.session ≡ Some n
+  going : IsGoing mid n
+  idles : idling_at mid n ≡ idling
+
+module _ {O : Type 0} (comes : O → ℕ → NodeState → ℕ → NodeState → O → Type 0) (old new : NodeSession O) (n : ℕ) where
+  responded : (input : ℕ → Input) (reply : Reply) (idling : Option (List ℕ)) → Stands old n idling → RespondsTo comes old input reply new → Responded old new n input reply idling
+  responded input reply idling st r =
+      let same : r.number ≡ n = some_is (sym r.opened ∙ st.session) in
+      let beside : Meanwhile n old.node r.mid = subst (λ (k : ℕ). Meanwhile k old.node r.mid) same r.turn.beside in
+      record {
+        mid = r.mid;
+        moment = r.moment;
+        beside = beside;
+        responds = subst (λ (k : ℕ). Responds r.mid k (input r.moment) reply new.node) same r.responds;
+        session = r.session ∙ ap Some same;
+        going = going_meanwhile n old.node r.mid beside st.going;
+        idles = idles_meanwhile n old.node r.mid beside ∙ st.idles;
+      }
+
+module _ {O : Type 0} (old new : NodeSession O) (n : ℕ) (item : Item) (given : List Answer) (after : Option (List ℕ)) (out : Bool) (idling : Option (List ℕ)) where
+  told_taken : (answer : Answer) → Stands old n idling → IsRequest idling item (requests.Told answer) → given ≡ answer ∷ [] → new ≡ old → after ≡ idling → out ≡ false
+      → Taken old new n item given after out
+  told_taken answer st i told same idles on =
+      let now : Stands new n idling = subst (λ (s : NodeSession O). Stands s n idling) (sym same) st in
+      let stands : Stands new n after = subst (λ (k : Option (List ℕ)). Stands new n k) (sym idles) now in
+      let took = handled idling old.node new.node n 0 item (requests.Told answer) given i (told, ap (λ (s : NodeSession O). s.node) same) in
+      record {
+        mid = old.node;
+        moment = 0;
+        beside = nothing_came n old.node;
+        takes = subst (λ (k : Option (List ℕ)). TakesBy k old.node n 0 item given new.node) (sym st.idles) took;
+        goes = subst (λ (o : Bool). GoesOn o new n after) (sym on) stands;
+      }
+
+  module _ (tagged : Tagged) (reply : Reply) (r : Responded old new n (λ moment. inputs.Command moment tagged) reply None) where
     said_goes : (b : Bool) → logs_out tagged reply ≡ b → GoesOn b new n (idling_behind tagged reply)
     said_goes false e =
-        record { session = session; going = command_goes old.node new.node n old.moment tagged reply st.going e r; idles = command_idles old.node new.node n old.moment tagged reply st.idles r }
-    said_goes true e = (session, command_ends old.node new.node n old.moment tagged reply e r)
+        record { session = r.session; going = command_goes r.mid new.node n r.moment tagged reply r.going e r.responds; idles = command_idles r.mid new.node n r.moment tagged reply r.idles r.responds }
+    said_goes true e = (r.session, command_ends r.mid new.node n r.moment tagged reply e r.responds)
 
     said_on : after ≡ idling_behind tagged reply → out ≡ logs_out tagged reply → GoesOn out new n after
     said_on idles on =
-        let now : GoesOn (logs_out tagged reply) new n after = subst (λ (i : Option (List ℕ)). GoesOn (logs_out tagged reply) new n i) (sym idles) (said_goes (logs_out tagged reply) refl) in
+        let now : GoesOn (logs_out tagged reply) new n after = subst (λ (k : Option (List ℕ)). GoesOn (logs_out tagged reply) new n k) (sym idles) (said_goes (logs_out tagged reply) refl) in
         subst (λ (o : Bool). GoesOn o new n after) (sym on) now
 
-  line_on : (idling : Option (List ℕ)) (line : IdleLine) (reply : Reply) → Stands old n idling → Responds old.node n (inputs.Line line) reply new.node → new.session ≡ Some n → is_without_memory reply ≡ false
-      → after ≡ None → out ≡ false → GoesOn out new n after
-  line_on idling line reply st r session m idles on =
-      let now : Stands new n None = record { session = session; going = line_goes old.node new.node n line reply st.going r; idles = line_idles old.node new.node n line reply m r } in
-      let stands : Stands new n after = subst (λ (i : Option (List ℕ)). Stands new n i) (sym idles) now in
-      subst (λ (o : Bool). GoesOn o new n after) (sym on) stands
+    command_taken : idling ≡ None → IsRequest idling item (requests.Command tagged) → given ≡ answers_of tagged.tag reply → after ≡ idling_behind tagged reply → out ≡ logs_out tagged reply
+        → Taken old new n item given after out
+    command_taken none i told idles on =
+        let took = handled idling r.mid new.node n r.moment item (requests.Command tagged) given i (reply, r.responds, told) in
+        record {
+          mid = r.mid;
+          moment = r.moment;
+          beside = r.beside;
+          takes = subst (λ (k : Option (List ℕ)). TakesBy k r.mid n r.moment item given new.node) (none ∙ sym r.idles) took;
+          goes = said_on idles on;
+        }
 
-  module _ (idling : Option (List ℕ)) (st : Stands old n idling) where
-    -- what the port makes of a request is what its node makes of it
-    at_node : (request : Request) → Handles NodeSteps old idling request given new after out → nodes.Handles old.node n old.moment request given new.node
-    at_node (requests.Told answer) h = (h.0, ap (λ (s : NodeSession). s.node) h.1)
-    at_node (requests.Command tagged) h =
-        (h.0, subst (λ (k : ℕ). Responds old.node k (inputs.Command old.moment tagged) h.0 new.node) (some_is (sym h.1.1 ∙ st.session)) h.1.2, h.2)
-    at_node (requests.Line own line) h =
-        (h.0, subst (λ (k : ℕ). Responds old.node k (inputs.Line line) h.0 new.node) (some_is (sym h.1.1 ∙ st.session)) h.1.2, h.2, h.3)
+  line_taken : (own : List ℕ) (line : IdleLine) (reply : Reply) → Responded old new n (λ moment. inputs.Line line) reply idling → IsRequest idling item (requests.Line own line)
+      → is_without_memory reply ≡ false → given ≡ answers_of own reply → after ≡ None → out ≡ false → Taken old new n item given after out
+  line_taken own line reply r i m told idles on =
+      let now : Stands new n None = record { session = r.session; going = line_goes r.mid new.node n line reply r.going r.responds; idles = line_idles r.mid new.node n line reply m r.responds } in
+      let stands : Stands new n after = subst (λ (k : Option (List ℕ)). Stands new n k) (sym idles) now in
+      let took = handled idling r.mid new.node n r.moment item (requests.Line own line) given i (reply, r.responds, m, told) in
+      record {
+        mid = r.mid;
+        moment = r.moment;
+        beside = r.beside;
+        takes = subst (λ (k : Option (List ℕ)). TakesBy k r.mid n r.moment item given new.node) (sym r.idles) took;
+        goes = subst (λ (o : Bool). GoesOn o new n after) (sym on) stands;
+      }
 
-    stands_behind : (item : Item) (request : Request) → IsRequest idling item request → Handles NodeSteps old idling request given new after out → GoesOn out new n after × (new.moment ≡ old.moment)
-    unfolding at_node
-    stands_behind item (requests.Told answer) i h = told_goes idling st h.1 h.2 h.3
-    stands_behind item (requests.Command tagged) i h =
-        let awake : Stands old n None = subst (λ (k : Option (List ℕ)). Stands old n k) (of_command idling item tagged i) st in
-        (said_on tagged h.0 awake (at_node (requests.Command tagged) h).1 (h.1.3 ∙ ap Some (some_is (sym h.1.1 ∙ st.session))) h.3 h.4, h.1.4)
-    stands_behind item (requests.Line own line) i h =
-        (line_on idling line h.0 st (at_node (requests.Line own line) h).1 (h.1.3 ∙ ap Some (some_is (sym h.1.1 ∙ st.session))) h.2 h.4 h.5, h.1.4)
+module _ {O : Type 0} (comes : O → ℕ → NodeState → ℕ → NodeState → O → Type 0) where
+  taken_by : (old new : NodeSession O) (n : ℕ) (given : List Answer) (after : Option (List ℕ)) (out : Bool) (idling : Option (List ℕ)) → Stands old n idling
+      → (item : Item) (request : Request) → IsRequest idling item request → Handles (NodeSteps comes) old idling request given new after out → Taken old new n item given after out
+  taken_by old new n given after out idling st item (requests.Told answer) i h = told_taken old new n item given after out idling answer st i h.0 h.1 h.2 h.3
+  taken_by old new n given after out idling st item (requests.Command tagged) i h =
+      let none : idling ≡ None = of_command idling item tagged i in
+      let awake : Stands old n None = subst (λ (k : Option (List ℕ)). Stands old n k) none st in
+      command_taken old new n item given after out idling tagged h.0 (responded comes old new n (λ moment. inputs.Command moment tagged) h.0 None awake h.1) none i h.2 h.3 h.4
+  taken_by old new n given after out idling st item (requests.Line own line) i h =
+      line_taken old new n item given after out idling own line h.0 (responded comes old new n (λ moment. inputs.Line line) h.0 idling st h.1) i h.2 h.3 h.4 h.5
 
-    pub taken : (item : Item) → Takes NodeSteps old idling item given new after out
-        → conversations.Takes old.node n (timed old.moment item) given new.node × GoesOn out new n after × (new.moment ≡ old.moment)
-    taken item t =
-        let on = stands_behind item t.0 t.1 t.2 in
-        let took = handled idling old.node new.node n old.moment item t.0 given t.1 (at_node t.0 t.2) in
-        (subst (λ (i : Option (List ℕ)). TakesBy i old.node n old.moment item given new.node) (sym st.idles) took, on.0, on.1)
+  -- what the port makes of an item is what its node makes of it, behind what came before
+  pub taken : (old new : NodeSession O) (n : ℕ) (given : List Answer) (after : Option (List ℕ)) (out : Bool) (idling : Option (List ℕ)) → Stands old n idling
+      → (item : Item) → Takes (NodeSteps comes) old idling item given new after out → Taken old new n item given after out
+  taken old new n given after out idling st item t = taken_by old new n given after out idling st item t.0 t.1 t.2
 
--- ---- many items
+  -- ---- many items
 
-pub conversed : (items : List Item) (old mid : NodeSession) (n : ℕ) (idling between : Option (List ℕ)) (said : List ℕ) → Stands old n idling → Converses NodeSteps old idling items said mid between
-    → Stands mid n between
-    × (mid.moment ≡ old.moment)
-    × ((tail : List conversations.Timed) (more : List Turn) (last : NodeState) → conversations.Converses mid.node n tail more last
-    → (turns : List Turn) × conversations.Converses old.node n (timed_at old.moment items ++ tail) turns last × (text_sent turns ≡ said ++ text_sent more))
-conversed [] old mid n idling between said st h =
-    let now : Stands mid n idling = subst (λ (s : NodeSession). Stands s n idling) (sym h.1) st in (
-      subst (λ (i : Option (List ℕ)). Stands mid n i) (sym h.2) now,
-      ap (λ (s : NodeSession). s.moment) h.1,
-      λ tail more last k. (more, subst (λ (s : NodeSession). conversations.Converses s.node n tail more last) h.1 k, ap (λ t. t ++ text_sent more) (sym h.0)),
-    )
-conversed (item ∷ items) old mid n idling between said st h =
-    let t = taken old h.1 n h.0 h.2 false idling st item h.4 in
-    let r = conversed items h.1 mid n h.2 between h.3 t.1 h.6 in (
-      r.0,
-      r.1 ∙ t.2,
-      λ tail more last k. let q = r.2 tail more last k in (
-        turns_of item h.0 ++ q.0,
-        (h.0, h.1.node, t.0, inl (t.1.going, (q.0, refl, subst (λ (m : ℕ). conversations.Converses h.1.node n (timed_at m items ++ tail) q.0 last) t.2 q.1))),
-        turns_texts item h.0 q.0 ∙ ap (λ x. texts h.0 ++ x) q.2 ∙ sym (append_assoc (texts h.0) h.3 (text_sent more)) ∙ ap (λ x. x ++ text_sent more) (sym h.5),
-      ),
-    )
+  -- Behind these items the session stands so; and a conversation from there on is one over all.
+  pub record Conversed (old mid : NodeSession O) (n : ℕ) (items : List Item) (between : Option (List ℕ)) (said : List ℕ) : Type 0 where
+    pub stands : Stands mid n between
+    pub on : (tail : List Came) (more : List Turn) (last : NodeState) → ConversesAmid mid.node n (each_alone tail) more last
+        → (came : List Came) × (turns : List Turn) × (items_of came ≡ items ++ items_of tail) × ConversesAmid old.node n (each_alone came) turns last × (text_sent turns ≡ said ++ text_sent more)
+
+  module _ (old mid next : NodeSession O) (n : ℕ) (item : Item) (items : List Item) (given : List Answer) (between after : Option (List ℕ)) (rest said : List ℕ)
+      (t : Taken old next n item given between false) (r : Conversed next mid n items after rest) (e : said ≡ texts given ++ rest) where
+    one_more : (tail : List Came) (more : List Turn) (last : NodeState) → ConversesAmid mid.node n (each_alone tail) more last
+        → (came : List Came) × (turns : List Turn) × (items_of came ≡ item ∷ items ++ items_of tail) × ConversesAmid old.node n (each_alone came) turns last × (text_sent turns ≡ said ++ text_sent more)
+    one_more tail more last k =
+        let q = r.on tail more last k in (
+          record { node = t.mid; moment = t.moment; item = item } ∷ q.0,
+          turns_of item given ++ q.1,
+          ap (λ (is : List Item). item ∷ is) q.2,
+          (
+            turns_of item given,
+            next.node,
+            t.beside,
+            (given, next.node, t.takes, inl (t.goes.going, ([], sym (append-nil (turns_of item given)), (refl, refl)))),
+            inl (t.goes.going, (q.1, refl, q.3)),
+          ),
+          turns_texts item given q.1 ∙ ap (λ x. texts given ++ x) q.4 ∙ sym (append_assoc (texts given) rest (text_sent more)) ∙ ap (λ x. x ++ text_sent more) (sym e),
+        )
+
+  pub conversed : (items : List Item) (old mid : NodeSession O) (n : ℕ) (idling between : Option (List ℕ)) (said : List ℕ) → Stands old n idling
+      → Converses (NodeSteps comes) old idling items said mid between → Conversed old mid n items between said
+  conversed [] old mid n idling between said st h =
+      let now : Stands mid n idling = subst (λ (s : NodeSession O). Stands s n idling) (sym h.1) st in
+      record {
+        stands = subst (λ (k : Option (List ℕ)). Stands mid n k) (sym h.2) now;
+        on = λ tail more last k. (
+          tail,
+          more,
+          refl,
+          subst (λ (s : NodeSession O). ConversesAmid s.node n (each_alone tail) more last) h.1 k,
+          ap (λ t. t ++ text_sent more) (sym h.0),
+        );
+      }
+  conversed (item ∷ items) old mid n idling between said st h =
+      let t = taken old h.1 n h.0 h.2 false idling st item h.4 in
+      let r = conversed items h.1 mid n h.2 between h.3 t.goes h.6 in
+      record { stands = r.stands; on = one_more old mid h.1 n item items h.0 h.2 between h.3 said t r h.5 }

@@ -1,4 +1,4 @@
-use Rattle.std.proofs.Common.{◌≡◌, ◌<◌, ◌≤◌, ◌-◌, ℕ, List, ◌++◌, Option, None, Some, false, ap, sym, subst, arith, length, take, drop, length-drop, take-append-drop, take_all}
+use Rattle.std.proofs.Common.{◌≡◌, ◌≤◌, ◌-◌, ℕ, List, Option, None, Some, false, ap, sym, subst, arith, length, take, drop, length-drop, take-append-drop, take_all}
 use Rattle.std.specs.Io.KnownBytes.{Appends}
 use Rattle.imap_talk.specs.Devices.{Took, TookSome}
 

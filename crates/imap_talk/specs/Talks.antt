@@ -1,9 +1,9 @@
-use Rattle.std.specs.Prelude.{◌≡◌, ◌⊎◌, ℕ, Bool, true, false, Option, Some, None, List, [], ◌∷◌, ◌++◌, Result, Ok, Err, IsOk}
+use Rattle.std.specs.Prelude.{◌≡◌, ◌⊎◌, ℕ, Bool, true, false, Option, None, List, [], ◌∷◌, ◌++◌, Result, Ok, Err, IsOk}
 use Rattle.imap_answers.specs.Printed.{printed}
 use Rattle.imap_answers.specs.declared.answer.Answer.{Answer}
 use Rattle.imap_answers.specs.declared.answer.Answer.TheVariants.{Greeting}
 use Rattle.imap_answers.specs.declared.words.Login.{Login}
-use Rattle.imap_lex.specs.Reading.{Cut, IsPrefix, Progress, goes_on, start}
+use Rattle.imap_lex.specs.Reading.{Cut, IsPrefix, goes_on, start}
 use Rattle.imap_lex.specs.declared.fault.Fault.{Fault}
 use Rattle.imap_lex.specs.declared.fault.Fault.TheVariants.{LineTooLong, LiteralTooLong, NulByte, NoMemory as NoRoomForItem, Failed}
 use Rattle.imap_lex.specs.declared.item.Item.{Item}

@@ -1,4 +1,4 @@
-//! A node that nothing else uses, as a port.
+//! A node as a port.
 
 ghost use Rattle.std.specs.Prelude.{◌≡◌, IfNone, IfSome, None, Some};
 ghost use Rattle.imap_node.specs.Sessions.{IsOpen};
@@ -6,40 +6,40 @@ ghost use Rattle.imap_talk.specs.NodePorts.{IsAway, login_by};
 
 use crate::ends::Port;
 use crate::fault::PortFault;
+use crate::others::Others;
 use imap_answers::Login;
 use imap_node::{Auth, Node, OpenFault, Reply, SessionNo};
 use imap_syntax::{IdleLine, Tagged};
-use imap_types::Moment;
 use std::alloc::Global;
 use std::marker::Model;
 
-/// One session of a node that nothing else uses. All its commands come at one moment.
+/// One session of a node, to which others come before each of the session's calls.
 #[derive(Drop)]
-pub struct NodePort {
+pub struct NodePort<O: Others> {
     node: Node,
     auth: Option<Auth>,
-    moment: Moment,
     session: Option<SessionNo>,
+    others: O,
 }
 
-impl Model for NodePort {
+impl<O: Others> Model for NodePort<O> {
     ghost use Rattle.imap_talk.specs.NodePorts.{NodeSession};
 
-    ghost Value = { NodeSession };
+    ghost Value = { NodeSession O };
 
-    ghost view = { λ p. record { node = p.node.state; auth = p.auth; session = p.session; moment = p.moment } };
+    ghost view = { λ p. record { node = p.node.state; auth = p.auth; session = p.session; others = p.others } };
 }
 
-impl NodePort {
-    /// A session that is to be opened at this node, once, for a user who becomes known so, and whose commands come at this moment.
-    pub fn new(node: Node, auth: Auth, moment: Moment) -> NodePort
-        ensures { result ≡ record { node = node.state; auth = Some auth; session = None; moment = moment } }
+impl<O: Others> NodePort<O> {
+    /// A session that is to be opened at this node, once, for a user who becomes known so, and the others who come to the node.
+    pub fn new(node: Node, auth: Auth, others: O) -> NodePort<O>
+        ensures { result ≡ record { node = node.state; auth = Some auth; session = None; others = others } }
     {
         NodePort {
             node,
             auth: Some(auth),
-            moment,
             session: None,
+            others,
         }
     }
 
@@ -72,14 +72,14 @@ fn login_by(auth: &Auth) -> Login
     }
 }
 
-impl Port for NodePort {
+impl<O: Others> Port for NodePort<O> {
     ghost use Rattle.imap_talk.specs.NodePorts.{NodeCloses, NodeOpens, NodeSteps};
 
     ghost opens = { λ s r t. NodeOpens s r t };
 
-    ghost steps = { λ s call r t. NodeSteps s call r t };
+    ghost steps = { λ s call r t. NodeSteps O.comes s call r t };
 
-    ghost closes = { λ s t. NodeCloses s t };
+    ghost closes = { λ s t. NodeCloses O.comes s t };
 
     fn open(&mut self, _alloc: Global) -> Result<Login, PortFault> {
         let Some(auth) = self.auth.take() else {
@@ -100,20 +100,24 @@ impl Port for NodePort {
         let Some(session) = self.open_session() else {
             return Err(PortFault::PassedOver);
         };
-        Ok(self.node.command(alloc, session, self.moment, tagged))
+        let moment = self.others.come(alloc, session, &mut self.node);
+        Ok(self.node.command(alloc, session, moment, tagged))
     }
 
     fn done(&mut self, alloc: Global, line: IdleLine) -> Result<Reply, PortFault> {
         let Some(session) = self.open_session() else {
             return Err(PortFault::PassedOver);
         };
+        let _moment = self.others.come(alloc, session, &mut self.node);
         Ok(self.node.done(alloc, session, line))
     }
 
-    fn close(&mut self, _alloc: Global) {
-        if let Some(session) = self.open_session() {
-            self.node.close(session);
-            self.session = None;
-        }
+    fn close(&mut self, alloc: Global) {
+        let Some(session) = self.open_session() else {
+            return;
+        };
+        let _ = self.others.come(alloc, session, &mut self.node);
+        self.node.close(session);
+        self.session = None;
     }
 }

@@ -1,4 +1,4 @@
-use Rattle.std.proofs.Common.{[], None, take, ap, refl, rules, arith}
+use Rattle.std.proofs.Common.{None, take, ap, refl, rules}
 use Rattle.imap_lex.specs.Reading.{Framing}
 use Rattle.imap_talk.proofs.TalkLemmas.{underway_closed, underway_ends, underway_first, underway_on, underway_read_failed, underway_write_failed, underway_wrote}
 use Rattle.imap_talk.proofs.talking.answer_all.Goals as goal

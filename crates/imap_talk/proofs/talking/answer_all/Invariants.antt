@@ -1,4 +1,4 @@
-use Rattle.std.proofs.Common.{◌≡◌, ◌+◌, ◌<◌, length}
+use Rattle.std.proofs.Common.{◌≡◌, length}
 use Rattle.imap_talk.proofs.TalkLemmas.{Underway}
 use Rattle.imap_talk.proofs.talking.answer_all.Given as goal
 

@@ -1,4 +1,4 @@
-use Rattle.std.proofs.Common.{List, ap, subst, sym}
+use Rattle.std.proofs.Common.{List, ap, subst}
 use Rattle.imap_lex.specs.Reading.{Cut, goes_on}
 use Rattle.imap_lex.specs.declared.item.Item.{Item}
 use Rattle.imap_talk.specs.Talks.{Leaves}

@@ -1,4 +1,4 @@
-use Rattle.std.proofs.Common.{◌++◌, inl, refl, rules, ◌∙◌}
+use Rattle.std.proofs.Common.{◌++◌, inl, refl, rules}
 use Rattle.imap_answers.specs.Printed.{printed}
 use Rattle.imap_answers.specs.declared.answer.Answer.TheVariants.{Greeting}
 use Rattle.imap_talk.proofs.TalkLemmas.{said_behind}

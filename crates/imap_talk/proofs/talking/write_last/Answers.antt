@@ -1,4 +1,4 @@
-use Rattle.std.proofs.Common.{◌≡◌, List, ℕ, [], ◌++◌, inr, refl, false, subst}
+use Rattle.std.proofs.Common.{◌≡◌, List, ℕ, [], inr, refl, false, subst}
 use Rattle.imap_talk.specs.Devices.{Said, TookSome}
 use Rattle.imap_talk.specs.Endings.{bye_text_of}
 use Rattle.imap_talk.proofs.TalkLemmas.{said_lost, took_less}
