@@ -1,12 +1,15 @@
 //! Conversations over the port of a node.
 
+use crdt_ops::SoundOp;
 use imap_node::{Auth, Credentials, Node};
-use imap_talk::{Ended, Given, NodePort, Written, converse, nodes_converse};
+use imap_talk::{
+    Deliveries, Ended, Given, Nobody, NodePort, Others, Written, converse, nodes_converse,
+};
 use imap_types::{Moment, Octets};
 use std::alloc::Global;
 use std::sync::Wait;
 use std::test::*;
-use tags_clocks::ReplicaId;
+use tags_clocks::{Clock, ReplicaId};
 use uid_projection::Start;
 
 /// What a known user of a new replica says.
@@ -25,17 +28,52 @@ const UNKNOWN: &[u8] =
 const LET_IN: &[u8] =
     b"* OK [CAPABILITY IMAP4rev2 IDLE CONDSTORE] ready\r\na BAD not now\r\nb NO [AUTHENTICATIONFAILED] login failed\r\nc OK LOGIN completed\r\nd OK CREATE completed\r\n";
 
-/// A port of a new replica, for a user who becomes known so.
-fn port(alloc: Global, auth: Auth) -> Option<NodePort> {
+/// What a user of another replica says.
+const ELSEWHERE: &[u8] = b"a APPEND INBOX {3+}\r\nabc\r\nb APPEND INBOX {3+}\r\ndef\r\n";
+
+/// What that user is told.
+const MADE: &[u8] =
+    b"* PREAUTH [CAPABILITY IMAP4rev2 IDLE CONDSTORE] ready\r\na OK [APPENDUID 2 1] APPEND completed\r\nb OK [APPENDUID 2 2] APPEND completed\r\n";
+
+/// What a user says to whose replica the other one's operations come, one before each command.
+const ASKED: &[u8] =
+    b"a STATUS INBOX (MESSAGES UIDNEXT)\r\nb STATUS INBOX (MESSAGES UIDNEXT)\r\nc STATUS INBOX (MESSAGES UIDNEXT)\r\n";
+
+/// What that user is told.
+const GROWN: &[u8] =
+    b"* PREAUTH [CAPABILITY IMAP4rev2 IDLE CONDSTORE] ready\r\n* STATUS INBOX (MESSAGES 1 UIDNEXT 2)\r\na OK STATUS completed\r\n* STATUS INBOX (MESSAGES 2 UIDNEXT 3)\r\nb OK STATUS completed\r\n* STATUS INBOX (MESSAGES 2 UIDNEXT 3)\r\nc OK STATUS completed\r\n";
+
+/// A new replica with this number.
+fn node(alloc: Global, number: u32) -> Option<Node> {
     let start = Start {
-        replica: ReplicaId::new(1)?,
+        replica: ReplicaId::new(number)?,
         uid: 1,
         k: 1,
     };
-    match Node::new(alloc, start) {
-        Ok(node) => Some(NodePort::new(node, auth, Moment::epoch())),
-        Err(_) => None,
+    Node::new(alloc, start).ok()
+}
+
+/// A port of a new replica to which nobody else comes, for a user who becomes known so.
+fn port(alloc: Global, number: u32, auth: Auth) -> Option<NodePort<Nobody>> {
+    Some(NodePort::new(node(alloc, number)?, auth, Nobody::new(Moment::epoch())))
+}
+
+/// What another replica issues in a conversation, the last first.
+fn issued<R: Wait>(rt: &R, alloc: Global, most: usize) -> Option<Vec<SoundOp>> {
+    let mut port = port(alloc, 2, Auth::Preauth)?;
+    if !is_told(
+        rt,
+        alloc,
+        &mut port,
+        (ELSEWHERE, most),
+        Ended::PeerClosed,
+        MADE,
+    ) {
+        return None;
     }
+    let mut ops = port.node().ops_since(alloc, &Clock::new(alloc)).ok()?;
+    ops.reverse();
+    Some(ops)
 }
 
 /// A user who has to log in with this name and this password.
@@ -49,10 +87,10 @@ fn user(alloc: Global, name: &[u8], password: &[u8]) -> Option<Auth> {
 }
 
 /// Whether a conversation over what is said, in pieces of so many octets, ends so and tells this text.
-fn is_told<R: Wait>(
+fn is_told<R: Wait, O: Others>(
     rt: &R,
     alloc: Global,
-    port: &mut NodePort,
+    port: &mut NodePort<O>,
     said: (&[u8], usize),
     ended: Ended,
     told: &[u8],
@@ -65,7 +103,7 @@ fn is_told<R: Wait>(
 
 /// Whether a known user is served to the LOGOUT, and nobody behind it.
 fn is_known_served<R: Wait>(rt: &R, alloc: Global, most: usize) -> Option<bool> {
-    let mut port = port(alloc, Auth::Preauth)?;
+    let mut port = port(alloc, 1, Auth::Preauth)?;
     let served = is_told(rt, alloc, &mut port, (KNOWN, most), Ended::Logout, TOLD);
     let again = is_told(
         rt,
@@ -80,16 +118,31 @@ fn is_known_served<R: Wait>(rt: &R, alloc: Global, most: usize) -> Option<bool> 
 
 /// Whether a user who has to log in is let in with both, name and password, alone.
 fn is_unknown_served<R: Wait>(rt: &R, alloc: Global, most: usize) -> Option<bool> {
-    let mut port = port(alloc, user(alloc, b"me", b"secret")?)?;
+    let mut port = port(alloc, 1, user(alloc, b"me", b"secret")?)?;
     let ended = Ended::PeerClosed;
     Some(is_told(rt, alloc, &mut port, (UNKNOWN, most), ended, LET_IN))
 }
 
+/// Whether a user is told before each command what another replica did, as it came.
+fn is_told_of_others<R: Wait>(rt: &R, alloc: Global, most: usize) -> Option<bool> {
+    let others = Deliveries::new(Moment::epoch(), issued(rt, alloc, most)?);
+    let mut port = NodePort::new(node(alloc, 1)?, Auth::Preauth, others);
+    let ended = Ended::PeerClosed;
+    Some(is_told(rt, alloc, &mut port, (ASKED, most), ended, GROWN))
+}
+
 #[test]
 fn a_node_is_talked_to(rt: HostRuntime) {
-    nodes_converse();
+    nodes_converse::<Deliveries>();
     for most in [1usize, 4_096] {
         assert_eq!(rt; is_known_served(&rt, rt.alloc(), most), Some(true));
         assert_eq!(rt; is_unknown_served(&rt, rt.alloc(), most), Some(true));
+    }
+}
+
+#[test]
+fn operations_come_between_commands(rt: HostRuntime) {
+    for most in [1usize, 4_096] {
+        assert_eq!(rt; is_told_of_others(&rt, rt.alloc(), most), Some(true));
     }
 }
