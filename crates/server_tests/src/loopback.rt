@@ -21,6 +21,8 @@ enum Visit {
     Two,
     /// Clients of two replicas, and one of a third that joins.
     Three,
+    /// Clients of a replica, where another can't join.
+    Alone,
     /// A client that has to log in.
     Password,
     /// A client that asks when its message came.
@@ -38,6 +40,7 @@ impl Visit {
         match self {
             Visit::Two => visit_two(rt, alloc, house),
             Visit::Three => visit_three(rt, alloc, house),
+            Visit::Alone => visit_alone(rt, alloc, house),
             Visit::Password => visit_password(rt, alloc, house),
             Visit::Clock => visit_clock(rt, alloc, house),
         }
@@ -150,6 +153,31 @@ fn visit_three<R: Wait + Clock + Net<Listener = TcpListener, Stream = TcpStream>
     fine &= third.say(b"DONE\r\n", b"d OK IDLE completed\r\n")?;
     fine &= third.say(b"z LOGOUT\r\n", b"z OK LOGOUT completed\r\n")?;
     fine &= second.say(b"z LOGOUT\r\n", b"z OK LOGOUT completed\r\n")?;
+    Ok(fine)
+}
+
+/// What two clients of one replica do, one behind the other, where another replica was to join between them and can't; whether each was told what it should be.
+fn visit_alone<R: Wait + Clock + Net<Listener = TcpListener, Stream = TcpStream>>(
+    rt: &R,
+    alloc: Global,
+    house: &House<'_>,
+) -> io::Result<bool> {
+    let Some(one) = address_at(rt, house, 0) else {
+        return Ok(false);
+    };
+    let mut first = Client::connect(rt, alloc, one)?;
+    let mut fine = first.say(b"a CREATE work\r\n", b"a OK CREATE completed\r\n")?;
+    fine &= first.say(b"z LOGOUT\r\n", b"z OK LOGOUT completed\r\n")?;
+    let mut second = Client::connect(rt, alloc, one)?;
+    fine &= second.say(
+        b"a LIST \"\" w*\r\n",
+        b"* LIST () \"/\" work\r\na OK LIST completed\r\n",
+    )?;
+    fine &= second.say(b"z LOGOUT\r\n", b"z OK LOGOUT completed\r\n")?;
+    fine &= house
+        .stations
+        .get(1)
+        .is_some_and(|station| !station.is_open(rt));
     Ok(fine)
 }
 
@@ -303,6 +331,38 @@ fn a_replica_joins_when_the_first_connection_has_ended(rt: HostRuntime) {
         "2=127.0.0.1:0",
     ];
     assert_eq!(rt; served(&rt, rt.alloc(), &words, Visit::Three), Some(true));
+}
+
+/// Serves one replica, where another is to join at an address that is taken; whether the server ended well and the clients were told what they should be.
+fn served_alone<
+    R: Threads
+        + Wait
+        + Clock
+        + Log
+        + Print
+        + Sync
+        + Net<Listener = TcpListener, Stream = TcpStream>,
+>(rt: &R, alloc: Global) -> Option<bool> {
+    let taken = TcpListener::bind(rt, "127.0.0.1:0").ok()?;
+    let address = taken.local_addr().ok()?;
+    let join = format!(in alloc; "2={address}/1").ok()?;
+    let words = [
+        "imap_server",
+        "--preauth",
+        "--stop-after",
+        "2",
+        "--join",
+        join.as_str(),
+        "1=127.0.0.1:0",
+    ];
+    let fine = served(rt, alloc, &words, Visit::Alone);
+    drop(taken);
+    fine
+}
+
+#[test]
+fn the_run_goes_on_where_a_replica_cannot_join(rt: HostRuntime) {
+    assert_eq!(rt; served_alone(&rt, rt.alloc()), Some(true));
 }
 
 #[test]

@@ -1,10 +1,10 @@
 //! Command lines.
 
-use mail_serving::{Access, SettingsFault, access_of, read_settings};
+use mail_serving::{Access, Join, JoinEnd, Place, SettingsFault, access_of, read_settings};
 use std::alloc::{AllocError, Global};
 use std::test::*;
 
-/// What the settings of these words are, as a text.
+/// What the settings of these words are, as a text; what the program prints where they are none, but for faults of the words, which are clap's.
 fn told(alloc: Global, words: &[&str]) -> Result<String, AllocError> {
     let mut owned = Vec::new(alloc);
     for word in words {
@@ -23,11 +23,7 @@ fn told(alloc: Global, words: &[&str]) -> Result<String, AllocError> {
             )
         }
         Err(SettingsFault::Words(_)) => format!(in alloc; "words"),
-        Err(SettingsFault::Access) => format!(in alloc; "access"),
-        Err(SettingsFault::BadReplica(text)) => format!(in alloc; "bad {text}"),
-        Err(SettingsFault::BadJoin(text)) => format!(in alloc; "bad join {text}"),
-        Err(SettingsFault::Twice(replica)) => format!(in alloc; "twice {replica}"),
-        Err(SettingsFault::NoMemory) => format!(in alloc; "no memory"),
+        Err(why) => format!(in alloc; "{why}"),
     }
 }
 
@@ -42,15 +38,27 @@ fn come_to(alloc: Global, words: &[&str], wanted: &str) -> bool {
 #[test]
 fn access_is_named_once(rt: HostRuntime) {
     let alloc = rt.alloc();
-    assert!(rt; come_to(alloc, &["imap_server", "1=127.0.0.1:1"], "access"));
+    assert!(rt;
+        come_to(
+            alloc,
+            &["imap_server", "1=127.0.0.1:1"],
+            "usage: give --preauth, or --user and --pass"
+        )
+    );
     assert!(rt;
         come_to(
             alloc,
             &["imap_server", "--preauth", "--user", "u", "1=a"],
-            "access"
+            "usage: give --preauth, or --user and --pass"
         )
     );
-    assert!(rt; come_to(alloc, &["imap_server", "--user", "u", "1=a"], "access"));
+    assert!(rt;
+        come_to(
+            alloc,
+            &["imap_server", "--user", "u", "1=a"],
+            "usage: give --preauth, or --user and --pass"
+        )
+    );
     assert!(rt;
         come_to(
             alloc,
@@ -69,7 +77,7 @@ fn access_is_named_once(rt: HostRuntime) {
 
 /// Whether this word, behind a replica, is told as a bad one.
 fn is_bad(alloc: Global, word: &str) -> bool {
-    match format!(in alloc; "bad {word}") {
+    match format!(in alloc; "usage: bad replica {word}") {
         Ok(wanted) => come_to(alloc, &["imap_server", "--preauth", "7=b", word], &wanted),
         Err(_) => false,
     }
@@ -96,7 +104,7 @@ fn replicas_are_named_apart(rt: HostRuntime) {
         come_to(
             alloc,
             &["imap_server", "--preauth", "1=a", "2=b", "1=c"],
-            "twice 1"
+            "usage: replica 1 twice"
         )
     );
 }
@@ -126,7 +134,7 @@ fn other_words_are_refused(rt: HostRuntime) {
 
 /// Whether this word is told as no replica that can join where 1 and 2 are there.
 fn cannot_join(alloc: Global, word: &str) -> bool {
-    match format!(in alloc; "bad join {word}") {
+    match format!(in alloc; "usage: bad join {word}") {
         Ok(wanted) => come_to(
             alloc,
             &["imap_server", "--preauth", "--join", word, "1=a", "2=b"],
@@ -162,7 +170,7 @@ fn joins_name_replicas_and_peers(rt: HostRuntime) {
         come_to(
             alloc,
             &["imap_server", "--preauth", "--join", "2=a/1", "1=a", "2=b"],
-            "twice 2"
+            "usage: replica 2 twice"
         )
     );
     assert!(rt;
@@ -194,14 +202,14 @@ fn joins_name_replicas_and_peers(rt: HostRuntime) {
                 "1=a",
                 "2=b"
             ],
-            "bad join 3=a/4"
+            "usage: bad join 3=a/4"
         )
     );
     assert!(rt;
         come_to(
             alloc,
             &["imap_server", "--preauth", "--join", "x", "1=a", "y"],
-            "bad y"
+            "usage: bad replica y"
         )
     );
 }
@@ -221,4 +229,37 @@ fn users_and_passwords_stand_in_their_places(rt: HostRuntime) {
     assert_eq!(rt; access_of(true, None, Some("secret")), None);
     assert_eq!(rt; access_of(false, None, Some("secret")), None);
     assert_eq!(rt; access_of(false, None, None), None);
+}
+
+/// Whether what is printed of a replica that was to join is this.
+fn is_printed(alloc: Global, end: JoinEnd<'_>, wanted: &str) -> bool {
+    match format!(in alloc; "{end}") {
+        Ok(text) => text.as_str() == wanted,
+        Err(_) => false,
+    }
+}
+
+#[test]
+fn joins_are_told(rt: HostRuntime) {
+    let join = Join {
+        place: Place {
+            replica: 3,
+            address: "127.0.0.1:1433",
+        },
+        peer: 1,
+    };
+    assert!(rt;
+        is_printed(
+            rt.alloc(),
+            JoinEnd::Joined(join),
+            "joined 3 1\nlistening 3 127.0.0.1:1433"
+        )
+    );
+    assert!(rt; is_printed(rt.alloc(), JoinEnd::Failed(join), "cannot join 3 1"));
+}
+
+#[test]
+fn want_of_memory_is_a_fault_of_the_run(rt: HostRuntime) {
+    let text = format!(in rt.alloc(); "{}", SettingsFault::NoMemory);
+    assert!(rt; text.is_ok_and(|text| text.as_str() == "run fault"));
 }
