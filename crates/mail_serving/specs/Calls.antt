@@ -1,4 +1,4 @@
-use Rattle.std.specs.Prelude.{◌≡◌, ◌⊎◌, ℕ, List, [], Option, Some, Result, Ok, Err}
+use Rattle.std.specs.Prelude.{◌≡◌, ◌⊎◌, ◌≤◌, ℕ, List, [], Option, None, Some, Result, Ok, Err}
 use Rattle.std.specs.List.{flat_map}
 use Rattle.imap_answers.specs.Printed.{printed}
 use Rattle.imap_answers.specs.declared.words.Login.{Login}
@@ -18,10 +18,6 @@ use Rattle.replica_lock.specs.declared.event.BookEvent.TheVariants as events
 use Rattle.replica_lock.specs.declared.outcome.Outcome.{Outcome}
 use Rattle.replica_lock.specs.declared.outcome.Outcome.TheVariants.{Opened, Replied}
 
--- A replica behind its lock was called to open a session for the users that the server lets in, and this came of it.
-abbrev pub IsOpening : Access → Outcome → Type 0
-IsOpening access outcome = (p : Held) × (q : Held) × IsCalled p (events.Open (auth_of access)) q × (q.last ≡ Some outcome)
-
 -- A pass made one call with this event, or none.
 abbrev pub CallsOnce : Held → BookEvent → Held → Type 0
 CallsOnce p event q = (q ≡ p) ⊎ IsCalled p event q
@@ -34,20 +30,40 @@ CallsOnceIn p event q = (q ≡ p) ⊎ IsCalledIn p event q
 abbrev pub CommandsOnce : Held → Tagged → Held → Type 0
 CommandsOnce p tagged q = (q ≡ p) ⊎ ((moment : ℕ) × IsCalledIn p (λ n. events.Command n moment tagged) q)
 
+-- The session of a pass was closed by one call, or it had none.
+abbrev pub IsClosedIn : Held → Held → Type 0
+IsClosedIn p q = ((p.session ≡ None) × (q ≡ p)) ⊎ IsCalledIn p (λ n. events.Close n) q
+
 -- The text of the answers to the poll with this outcome, one behind the other; none where it was refused.
 abbrev pub text_told : Option Outcome → List ℕ
 text_told (Some (Replied reply)) = flat_map printed (polled_answers reply)
 text_told _ = []
 
--- What a connection is told of the beginning of its session: it was opened by one such call, and the greeting says how its user becomes known; or the call found too many
--- sessions; or there was no session for another reason.
-abbrev pub OpensByCall : Access → Result Login PortFault → Type 0
-OpensByCall access (Ok login) = (login ≡ login_of access) × ((n : ℕ) × IsOpening access (Opened (Ok n)))
-OpensByCall access (Err TooManySessions) = IsOpening access (Opened (Err refusals.TooManySessions))
-OpensByCall access (Err fault) = Unit {0}
+-- What is told of the beginning of a session, by the pass before it and behind it: it was opened by one such call, and the greeting says how its user becomes known; or the call found
+-- too many sessions; or there was no session for another reason.
+abbrev pub OpensIn : Access → Held → Result Login PortFault → Held → Type 0
+OpensIn access p (Ok login) q = (login ≡ login_of access) × IsCalled p (events.Open (auth_of access)) q × ((n : ℕ) × (q.last ≡ Some (Opened (Ok n))))
+OpensIn access p (Err TooManySessions) q = IsCalled p (events.Open (auth_of access)) q × (q.last ≡ Some (Opened (Err refusals.TooManySessions)))
+OpensIn access p (Err fault) q = Unit {0}
 
--- What a connection is told of a command, or of a line of IDLE: what came of one call with just this command, at some moment, or with just this line, in the session of a pass.
-abbrev pub StepsByCall : Asked → Result Reply PortFault → Type 0
-StepsByCall (asked.Command tagged) (Ok reply) = (p : Held) × (q : Held) × (moment : ℕ) × IsCalledIn p (λ n. events.Command n moment tagged) q × (q.last ≡ Some (Replied reply))
-StepsByCall (asked.Line line) (Ok reply) = (p : Held) × (q : Held) × IsCalledIn p (λ n. events.Line n line) q × (q.last ≡ Some (Replied reply))
-StepsByCall call (Err fault) = Unit {0}
+-- What is told of a command, or of a line of IDLE, by the pass before it and behind it: the outcome of one call with just this command, at some moment, or with just this line, in the
+-- session of the pass.
+abbrev pub StepsIn : Held → Asked → Result Reply PortFault → Held → Type 0
+StepsIn p (asked.Command tagged) (Ok reply) q = (moment : ℕ) × IsCalledIn p (λ n. events.Command n moment tagged) q × (q.last ≡ Some (Replied reply))
+StepsIn p (asked.Line line) (Ok reply) q = IsCalledIn p (λ n. events.Line n line) q × (q.last ≡ Some (Replied reply))
+StepsIn p call (Err fault) q = Unit {0}
+
+-- A pass that had seen the journal at least up to one place has seen it up to another one since.
+abbrev pub GoesFrom : ℕ → Held → Held → ℕ → Type 0
+GoesFrom from p q to = (from ≤ p.seen) × (to ≡ q.seen)
+
+-- What a connection is told of the beginning of its session comes of a call of some pass, between these places of the journal.
+abbrev pub OpensByCall : Access → ℕ → Result Login PortFault → ℕ → Type 0
+OpensByCall access from (Ok login) to = (p : Held) × (q : Held) × GoesFrom from p q to × OpensIn access p (Ok login) q
+OpensByCall access from (Err TooManySessions) to = (p : Held) × (q : Held) × GoesFrom from p q to × OpensIn access p (Err TooManySessions) q
+OpensByCall access from (Err fault) to = Unit {0}
+
+-- What it is told of a command, or of a line of IDLE, comes of a call of some pass, between these places of the journal: the call's entry stands at the second one, above the first.
+abbrev pub StepsByCall : ℕ → Asked → Result Reply PortFault → ℕ → Type 0
+StepsByCall from call (Ok reply) to = (p : Held) × (q : Held) × GoesFrom from p q to × StepsIn p call (Ok reply) q
+StepsByCall from call (Err fault) to = Unit {0}

@@ -1,3 +1,4 @@
 pub mod Calls
 pub mod Logins
+pub mod Options
 pub mod Settings

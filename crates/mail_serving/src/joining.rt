@@ -2,11 +2,12 @@
 
 use crate::house::House;
 use crate::settings::{Join, Place};
-use crate::station::CopyOrder;
+use crate::station::{CopyOrder, others};
 use crdt_ops::SoundOp;
 use crossbeam_channel::{Receiver, Sender, unbounded};
 use replica_lock::{Book, Pass, Shared};
 use std::alloc::Global;
+use std::fmt;
 use std::net::{Net, TcpListener, TcpStream};
 use std::rt::Clock;
 use std::sync::Wait;
@@ -27,6 +28,41 @@ pub struct Newcomer<'a> {
     pub done: Sender<()>,
 }
 
+/// A replica that is there: its book, where it listens, and the places of the others.
+#[derive(Drop)]
+pub struct Joined {
+    /// Its book.
+    pub book: Book,
+    /// Where it listens.
+    pub listener: TcpListener,
+    /// The places of the others.
+    pub peers: Vec<usize>,
+}
+
+/// What became of a replica that was to join; as a text, what the program prints of it.
+#[derive(Clone, Copy, Debug, PartialEq, Eq)]
+pub enum JoinEnd<'a> {
+    /// It joined, and listens.
+    Joined(Join<'a>),
+    /// It couldn't.
+    Failed(Join<'a>),
+}
+
+impl fmt::Display for JoinEnd<'_> {
+    fn fmt<W: fmt::Write>(&self, f: &mut fmt::Formatter<W>) -> fmt::Result {
+        match self {
+            JoinEnd::Joined(Join { place, peer }) => {
+                let Place { replica, address } = place;
+                write!(f, "joined {replica} {peer}\nlistening {replica} {address}")
+            }
+            JoinEnd::Failed(Join { place, peer }) => {
+                let Place { replica, .. } = place;
+                write!(f, "cannot join {replica} {peer}")
+            }
+        }
+    }
+}
+
 impl Newcomer<'_> {
     /// Waits until it is told to join, and does: it listens, takes what its peer applied, and is there for the others from then on. It tells that it did, or that it
     /// couldn't; `None` then.
@@ -37,10 +73,14 @@ impl Newcomer<'_> {
         house: &House<'_>,
         replica: ReplicaId,
         own: usize,
-    ) -> Option<(Book, TcpListener)> {
+    ) -> Option<Joined> {
         self.begin.recv(rt).ok()?;
         let joined = self.try_join(rt, alloc, house, replica, own);
-        self.tell(rt, joined.is_some());
+        let end = match joined {
+            Some(_) => JoinEnd::Joined(self.join),
+            None => JoinEnd::Failed(self.join),
+        };
+        let _ = println!(rt; "{end}");
         let _ = self.done.send(rt, ());
         joined
     }
@@ -52,30 +92,29 @@ impl Newcomer<'_> {
         house: &House<'_>,
         replica: ReplicaId,
         own: usize,
-    ) -> Option<(Book, TcpListener)> {
+    ) -> Option<Joined> {
         let station = house.stations.get(own)?;
-        let listener = TcpListener::bind(rt, self.join.place.address).ok()?;
+        let peers = others(alloc, house.stations.len(), own).ok()?;
+        let Ok(listener) = TcpListener::bind(rt, self.join.place.address) else {
+            drop(peers);
+            return None;
+        };
         let Ok(address) = listener.local_addr() else {
+            drop(peers);
             drop(listener);
             return None;
         };
         let Some(book) = book_with(rt, alloc, house, replica, self.peer) else {
+            drop(peers);
             drop(listener);
             return None;
         };
         station.open(rt, address);
-        Some((book, listener))
-    }
-
-    fn tell<R: Print>(&self, rt: &R, has_joined: bool) {
-        let Join { place, peer } = self.join;
-        let Place { replica, address } = place;
-        if !has_joined {
-            let _ = println!(rt; "cannot join {replica} {peer}");
-            return;
-        }
-        let _ = println!(rt; "joined {replica} {peer}");
-        let _ = println!(rt; "listening {replica} {address}");
+        Some(Joined {
+            book,
+            listener,
+            peers,
+        })
     }
 }
 

@@ -16,7 +16,7 @@ mod station;
 
 pub use connection::{Desk, talk_over};
 pub use house::{House, Stop};
-pub use joining::Newcomer;
+pub use joining::{JoinEnd, Newcomer};
 pub use outlet::Outlet;
 pub use program::{RunFault, open_all, run};
 pub use serving::{Beginning, Part, serve, serve_over};

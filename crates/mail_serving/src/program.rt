@@ -94,15 +94,15 @@ fn obey<
 
 /// Prints what is wrong with the command line, or the help that it asked for.
 fn explain<R: Print + AllocGlobal>(rt: &R, why: SettingsFault<'_>) -> u8 {
-    let printed = match why {
-        SettingsFault::Words(error) => return explain_words(rt, error),
-        SettingsFault::Access => println!(rt; "usage: give --preauth, or --user and --pass"),
-        SettingsFault::BadReplica(text) => println!(rt; "usage: bad replica {text}"),
-        SettingsFault::BadJoin(text) => println!(rt; "usage: bad join {text}"),
-        SettingsFault::Twice(replica) => println!(rt; "usage: replica {replica} twice"),
-        SettingsFault::NoMemory => return fault(rt),
-    };
-    match printed {
+    match why {
+        SettingsFault::Words(error) => explain_words(rt, error),
+        SettingsFault::NoMemory => fault(rt),
+        why => tell_usage(rt, why),
+    }
+}
+
+fn tell_usage<R: Print>(rt: &R, why: SettingsFault<'_>) -> u8 {
+    match println!(rt; "{why}") {
         Ok(()) => 2,
         Err(_) => 1,
     }

@@ -1,13 +1,12 @@
 //! Replicas that listen.
 
-ghost use Rattle.std.specs.Prelude.{◌≡◌, IfOk};
-ghost use Rattle.mail_serving.specs.Settings.{all_but};
+ghost use Rattle.std.specs.Prelude.{◌≡◌};
 
 use crate::connection::{Desk, connection_worker, turn_away};
 use crate::house::House;
-use crate::joining::{Newcomer, lend_copies};
+use crate::joining::{Joined, Newcomer, lend_copies};
 use crate::mailing::Mail;
-use crate::station::CopyOrder;
+use crate::station::{CopyOrder, others};
 use crossbeam_channel::Receiver;
 use imap_node::Node;
 use log::Log;
@@ -170,18 +169,22 @@ fn run_part<
         orders,
         beginning,
     } = part;
-    let Ok(peers) = others(alloc, house.stations.len(), own) else {
-        return false;
-    };
-    let (book, listener, asks) = match beginning {
-        Beginning::Listening(listener) => match new_book(alloc, replica) {
-            Some(book) => (book, listener, false),
-            None => return false,
-        },
+    let (begun, asks) = match beginning {
+        Beginning::Listening(listener) => (listens(alloc, house, replica, own, listener), false),
         Beginning::Joining(newcomer) => match newcomer.join(rt, alloc, house, replica, own) {
-            Some((book, listener)) => (book, listener, true),
+            Some(joined) => (Some(joined), true),
             None => return true,
         },
+    };
+    let Some(
+        Joined {
+            book,
+            listener,
+            peers,
+        },
+    ) = begun
+    else {
+        return false;
     };
     let ends = Ends {
         own,
@@ -192,6 +195,30 @@ fn run_part<
         asks,
     };
     run_replica::<Brand, R>(rt, alloc, Blank::new(4_294_967_295), house, book, ends)
+}
+
+/// A new replica that listens; `None` where there is no memory for it.
+fn listens(
+    alloc: Global,
+    house: &House<'_>,
+    replica: ReplicaId,
+    own: usize,
+    listener: TcpListener,
+) -> Option<Joined> {
+    let Ok(peers) = others(alloc, house.stations.len(), own) else {
+        drop(listener);
+        return None;
+    };
+    let Some(book) = new_book(alloc, replica) else {
+        drop(peers);
+        drop(listener);
+        return None;
+    };
+    Some(Joined {
+        book,
+        listener,
+        peers,
+    })
 }
 
 /// A replica that has received nothing, whose UIDs count from 1.
@@ -205,20 +232,6 @@ fn new_book(alloc: Global, replica: ReplicaId) -> Option<Book> {
         Ok(node) => Some(Book::new(alloc, node)),
         Err(_) => None,
     }
-}
-
-/// All of so many places but one, ascending.
-#[tactic(auto, using(crate::proofs::PlaceLemmas::all_but_own, crate::proofs::PlaceLemmas::all_but_other))]
-fn others(alloc: Global, places: usize, own: usize) -> Result<Vec<usize>, AllocError>
-    ensures { IfOk result (λ others. others.items ≡ all_but own places) }
-{
-    let mut others = Vec::with_capacity(alloc, places)?;
-    for place in 0..places {
-        if place != own {
-            others.push(place)?;
-        }
-    }
-    Ok(others)
 }
 
 fn run_replica<

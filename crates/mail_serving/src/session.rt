@@ -1,11 +1,11 @@
 //! One session of a replica behind its lock, as a port.
 
-ghost use Rattle.std.specs.Prelude.{◌≡◌, ◌⊎◌, ℕ, Err, IfOk, Ok, Some};
+ghost use Rattle.std.specs.Prelude.{◌≡◌, ◌⊎◌, ℕ, Err, IfOk, Ok, OnErr, OnOk, Some};
 ghost use Rattle.std.specs.Option.{option_map};
 ghost use Rattle.imap_node.specs.declared.sessions.OpenFault.TheVariants as refusals;
 ghost use Rattle.imap_talk.specs.Asked as asked;
 ghost use Rattle.imap_talk.specs.declared.fault.PortFault.TheVariants.{NoRoom, TooManySessions, Torn};
-ghost use Rattle.mail_serving.specs.Calls.{CallsOnce, CallsOnceIn, CommandsOnce, OpensByCall, StepsByCall};
+ghost use Rattle.mail_serving.specs.Calls.{CallsOnce, CallsOnceIn, CommandsOnce, IsClosedIn, OpensByCall, OpensIn, StepsByCall, StepsIn};
 ghost use Rattle.mail_serving.specs.Logins.{auth_of};
 ghost use Rattle.replica_lock.specs.declared.event.BookEvent.TheVariants as events;
 ghost use Rattle.replica_lock.specs.declared.outcome.Outcome.TheVariants.{Opened, Replied};
@@ -39,6 +39,8 @@ pub struct SessionPort<'a, L: Ledger, R: Wait + Clock, G: Gate> {
     outlet: &'a Outlet,
     gate: &'a mut G,
     commands: u64,
+    /// How far the pass had seen the journal behind the last call of this port.
+    seen: u64,
 }
 
 impl<'a, L: Ledger, R: Wait + Clock, G: Gate> SessionPort<'a, L, R, G> {
@@ -61,6 +63,7 @@ impl<'a, L: Ledger, R: Wait + Clock, G: Gate> SessionPort<'a, L, R, G> {
             outlet,
             gate,
             commands: 0,
+            seen: 0,
         }
     }
 }
@@ -68,7 +71,7 @@ impl<'a, L: Ledger, R: Wait + Clock, G: Gate> SessionPort<'a, L, R, G> {
 impl<'a, L: Ledger, R: Wait + Clock, G: Gate> SessionPort<'a, L, R, G> {
     /// Opens the session in its pass, by one call at most.
     fn open_in(&self, alloc: Global, pass: &mut Pass<L>) -> Result<Login, PortFault>
-        ensures told { OpensByCall self.now.house.now.access result }
+        ensures told { OpensIn self.now.house.now.access pass.old result pass.new }
         ensures once { CallsOnce pass.old (events.Open (auth_of self.now.house.now.access)) pass.new }
     {
         if pass.session().is_some() {
@@ -90,7 +93,7 @@ impl<'a, L: Ledger, R: Wait + Clock, G: Gate> SessionPort<'a, L, R, G> {
         pass: &mut Pass<L>,
         tagged: Tagged,
     ) -> Result<Reply, PortFault>
-        ensures told { StepsByCall (asked.Command tagged) result }
+        ensures told { StepsIn pass.old (asked.Command tagged) result pass.new }
         ensures once { CommandsOnce pass.old tagged pass.new }
     {
         if pass.session().is_none() {
@@ -109,7 +112,7 @@ impl<'a, L: Ledger, R: Wait + Clock, G: Gate> SessionPort<'a, L, R, G> {
 
     /// Gives the session a line of IDLE in its pass, by one call at most.
     fn line_in(&self, alloc: Global, pass: &mut Pass<L>, line: IdleLine) -> Result<Reply, PortFault>
-        ensures told { StepsByCall (asked.Line line) result }
+        ensures told { StepsIn pass.old (asked.Line line) result pass.new }
         ensures once { CallsOnceIn pass.old (λ n. events.Line n line) pass.new }
     {
         if pass.session().is_none() {
@@ -122,6 +125,18 @@ impl<'a, L: Ledger, R: Wait + Clock, G: Gate> SessionPort<'a, L, R, G> {
         }
     }
 
+    /// Closes the session of its pass, by one call, if it has one. An error leaves the pass as it was.
+    fn close_in(&self, alloc: Global, pass: &mut Pass<L>) -> Result<(), CallFault>
+        ensures ok { OnOk result (IsClosedIn pass.old pass.new) }
+        ensures err { OnErr result (pass.new ≡ pass.old) }
+    {
+        self.outlet.set_idles(self.rt, false);
+        if pass.session().is_none() {
+            return Ok(());
+        }
+        self.shared.close(self.rt, alloc, pass)
+    }
+
     /// Hands on what a command issued, and says whether the session idles behind it.
     fn follow(&self, alloc: Global, idles: bool, last: Option<&Outcome>) {
         let mail = Mail::new(self.rt, self.house, self.own);
@@ -131,35 +146,47 @@ impl<'a, L: Ledger, R: Wait + Clock, G: Gate> SessionPort<'a, L, R, G> {
 }
 
 impl<'a, L: Ledger, R: Wait + Clock, G: Gate> Port for SessionPort<'a, L, R, G> {
-    ghost opens = { λ s r t. OpensByCall s.house.now.access r };
+    ghost opens = { λ s r t. OpensByCall s.house.now.access s.seen r t.seen };
 
-    ghost steps = { λ s call r t. StepsByCall call r };
+    ghost steps = { λ s call r t. StepsByCall s.seen call r t.seen };
 
     ghost closes = { λ s t. Unit {0} };
 
     fn open(&mut self, alloc: Global) -> Result<Login, PortFault> {
         let mut pass = self.pass.lock(self.rt);
-        self.open_in(alloc, &mut pass)
+        if pass.seen() < self.seen {
+            return Err(PortFault::Torn);
+        }
+        let told = self.open_in(alloc, &mut pass);
+        self.seen = pass.seen();
+        told
     }
 
     fn command(&mut self, alloc: Global, tagged: Tagged) -> Result<Reply, PortFault> {
         self.commands = self.commands.saturating_add(1);
         self.gate.pass(self.commands);
         let mut pass = self.pass.lock(self.rt);
-        self.command_in(alloc, &mut pass, tagged)
+        if pass.seen() < self.seen {
+            return Err(PortFault::Torn);
+        }
+        let told = self.command_in(alloc, &mut pass, tagged);
+        self.seen = pass.seen();
+        told
     }
 
     fn done(&mut self, alloc: Global, line: IdleLine) -> Result<Reply, PortFault> {
         let mut pass = self.pass.lock(self.rt);
-        self.line_in(alloc, &mut pass, line)
+        if pass.seen() < self.seen {
+            return Err(PortFault::Torn);
+        }
+        let told = self.line_in(alloc, &mut pass, line);
+        self.seen = pass.seen();
+        told
     }
 
     fn close(&mut self, alloc: Global) {
         let mut pass = self.pass.lock(self.rt);
-        self.outlet.set_idles(self.rt, false);
-        if pass.session().is_some() {
-            let _ = self.shared.close(self.rt, alloc, &mut pass);
-        }
+        let _ = self.close_in(alloc, &mut pass);
     }
 }
 

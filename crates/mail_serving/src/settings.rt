@@ -1,13 +1,16 @@
 //! The program's command line.
 
-ghost use Rattle.std.specs.Prelude.{◌≡◌, ◌++◌, ◌∷◌, ◌<◌, [], false, true, IfNone, IfOk, IfSome, OnOk, Some, slice_get};
+ghost use Rattle.std.specs.Prelude.{◌≡◌, ◌++◌, ◌∷◌, ◌<◌, [], false, true, IfNone, IfOk, IfSome, OnOk, Some, map, slice_get};
+ghost use Rattle.clap.specs.Words.{app_of, found_of, matches_of, rows_of};
+ghost use Rattle.mail_serving.specs.Options.{NamesAccess, server_words, with_access_words, with_replica_words};
 ghost use Rattle.mail_serving.specs.Settings.{AreNames, HavePeers, access_of, is_named, names_of, newcomers_of};
 ghost use Rattle.mail_serving.specs.declared.settings.Join.{Join as Joining};
 
 use clap::builder::ValueParser;
 use clap::error::ErrorKind;
-use clap::{Arg, ArgAction, Command, Error};
+use clap::{Arg, ArgAction, ArgMatches, Command, Error};
 use std::alloc::{AllocError, Global};
+use std::convert::AsStr;
 
 /// Who may use the server.
 #[derive(Clone, Copy, Debug, PartialEq, Eq)]
@@ -96,20 +99,26 @@ fn joining_among(joins: &[Join<'_>], name: u16) -> Option<usize>
     None
 }
 
-/// What is wrong with the command line.
-#[derive(Drop)]
+/// What is wrong with the command line; as a text, what the program prints of it.
+#[derive(Debug, Drop, thiserror::Error)]
 pub enum SettingsFault<'a> {
     /// Its words, or it asks for help.
+    #[error("{0}")]
     Words(Error),
     /// It names no access, or two.
+    #[error("usage: give --preauth, or --user and --pass")]
     Access,
     /// This word names no replica.
+    #[error("usage: bad replica {0}")]
     BadReplica(&'a str),
     /// This word names no replica that is to join, or no peer that is there by then.
+    #[error("usage: bad join {0}")]
     BadJoin(&'a str),
     /// Two replicas have this name.
+    #[error("usage: replica {0} twice")]
     Twice(u16),
     /// There was no memory for it.
+    #[error("run fault")]
     NoMemory,
 }
 
@@ -124,11 +133,13 @@ impl<'a> From<AllocError> for SettingsFault<'a> {
 }
 
 /// Reads the words of a command line, the program's name first. Its words are judged first, then the access, then the replicas in their order, then those that are
-/// to join in theirs. The replicas' names are from 1 to 65,535, and no two are the same; each that joins takes the operations of one that is there before it.
+/// to join in theirs. The access is what clap finds in the words: `--preauth` alone, or `--user` and `--pass` without it. The replicas' names are from 1 to 65,535, and no
+/// two are the same; each that joins takes the operations of one that is there before it.
 pub fn read_settings<'a>(
     alloc: Global,
     words: &'a [String],
 ) -> Result<CommandLine<'a>, SettingsFault<'a>>
+    ensures access { IfOk result (λ settings. NamesAccess (matches_of server_words (map ⟦<String as AsStr>⟧.text words.entry.now)) settings.access) }
     ensures names { IfOk result (λ settings. AreNames (names_of settings.places.items ++ newcomers_of settings.joins.items)) }
     ensures peers { IfOk result (λ settings. HavePeers (names_of settings.places.items) settings.joins.items) }
 {
@@ -136,11 +147,7 @@ pub fn read_settings<'a>(
         Ok(matches) => matches,
         Err(error) => return Err(SettingsFault::Words(error)),
     };
-    let Some(access) = access_of(
-        matches.get_flag("preauth"),
-        matches.get_str("user"),
-        matches.get_str("pass"),
-    ) else {
+    let Some(access) = access_in(&matches) else {
         return Err(SettingsFault::Access);
     };
     let stop_after = matches.get_one::<u32>("stop-after");
@@ -159,19 +166,36 @@ pub fn read_settings<'a>(
     })
 }
 
-fn matched<'a>(alloc: Global, words: &'a [String]) -> Result<clap::ArgMatches<'a>, Error> {
-    described(alloc)?.try_get_matches_from(words)
+/// The access that was found; `None` where none was, or two.
+fn access_in<'a>(matches: &ArgMatches<'a>) -> Option<Access<'a>>
+    ensures { IfSome result (λ access. NamesAccess (rows_of (found_of matches.now)) access) }
+{
+    let is_preauth = matches.get_flag("preauth");
+    let user = matches.get_str("user");
+    let pass = matches.get_str("pass");
+    access_of(is_preauth, user, pass)
+}
+
+fn matched<'a>(alloc: Global, words: &'a [String]) -> Result<ArgMatches<'a>, Error>
+    ensures { IfOk result (λ matches. rows_of (found_of matches) ≡ matches_of server_words (map ⟦<String as AsStr>⟧.text words.entry.now)) }
+{
+    let command = described(alloc)?;
+    command.try_get_matches_from(words)
 }
 
 /// The words that the program knows.
-fn described<'a>(alloc: Global) -> Result<Command<'a>, AllocError> {
+fn described<'a>(alloc: Global) -> Result<Command<'a>, AllocError>
+    ensures { IfOk result (λ command. app_of command ≡ server_words) }
+{
     let command = Command::new(alloc, "imap_server").about("Serve mail from linked replicas");
     let command = with_access(alloc, command)?;
     with_replicas(alloc, command)
 }
 
 /// Adds the words that say which users are known.
-fn with_access<'a>(alloc: Global, command: Command<'a>) -> Result<Command<'a>, AllocError> {
+fn with_access<'a>(alloc: Global, command: Command<'a>) -> Result<Command<'a>, AllocError>
+    ensures { IfOk result (λ more. app_of more ≡ with_access_words (app_of command.entry)) }
+{
     let preauth = Arg::new(alloc, "preauth")
         .long("preauth")
         .action(ArgAction::SetTrue)
@@ -190,7 +214,9 @@ fn with_access<'a>(alloc: Global, command: Command<'a>) -> Result<Command<'a>, A
 }
 
 /// Adds the words that say which replicas there are, which join, and when the server ends.
-fn with_replicas<'a>(alloc: Global, command: Command<'a>) -> Result<Command<'a>, AllocError> {
+fn with_replicas<'a>(alloc: Global, command: Command<'a>) -> Result<Command<'a>, AllocError>
+    ensures { IfOk result (λ more. app_of more ≡ with_replica_words (app_of command.entry)) }
+{
     let stop = Arg::new(alloc, "stop-after")
         .long("stop-after")
         .action(ArgAction::Set)

@@ -1,8 +1,12 @@
 //! The replicas of a server, as the others reach them.
 
+ghost use Rattle.std.specs.Prelude.{◌≡◌, IfOk};
+ghost use Rattle.mail_serving.specs.Settings.{all_but};
+
 use crdt_ops::SoundOp;
 use crossbeam_channel::{Receiver, Sender};
 use replica_links::{Letter, LinkMsg};
+use std::alloc::{AllocError, Global};
 use std::net::{Net, SocketAddr, TcpListener, TcpStream};
 use std::sync::{Mutex, Wait};
 
@@ -97,4 +101,18 @@ impl Newcomers {
         }
         calls.clear();
     }
+}
+
+/// All of so many places but one, ascending.
+#[tactic(auto, using(crate::proofs::PlaceLemmas::all_but_own, crate::proofs::PlaceLemmas::all_but_other))]
+pub fn others(alloc: Global, places: usize, own: usize) -> Result<Vec<usize>, AllocError>
+    ensures { IfOk result (λ others. others.items ≡ all_but own places) }
+{
+    let mut others = Vec::with_capacity(alloc, places)?;
+    for place in 0..places {
+        if place != own {
+            others.push(place)?;
+        }
+    }
+    Ok(others)
 }

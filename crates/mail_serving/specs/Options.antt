@@ -1,0 +1,52 @@
+use Rattle.std.specs.Prelude.{◌≡◌, true, List, None, Some, codes}
+use Rattle.clap.specs.Lexer.{usize_max}
+use Rattle.clap.specs.Words.{App, Row, Rule, first_of, new_app, new_rule, one_of, with_rule}
+use Rattle.clap.specs.declared.builder.action.ArgAction.TheVariants.{Append, Set, SetTrue}
+use Rattle.clap.specs.declared.builder.value_parser.ValueParser.TheVariants.{Unsigned}
+use Rattle.mail_serving.specs.declared.settings.Access.{Access}
+use Rattle.mail_serving.specs.declared.settings.Access.TheVariants.{Password, Preauth}
+
+-- ---- the words that the program knows
+
+abbrev pub preauth_word : Rule
+preauth_word = record (new_rule (codes "preauth")) { long = Some (codes "preauth"); action = Some SetTrue }
+
+abbrev pub user_word : Rule
+user_word = record (new_rule (codes "user")) { long = Some (codes "user"); action = Some Set }
+
+abbrev pub pass_word : Rule
+pass_word = record (new_rule (codes "pass")) { long = Some (codes "pass"); action = Some Set }
+
+abbrev pub stop_word : Rule
+stop_word = record (new_rule (codes "stop-after")) { long = Some (codes "stop-after"); action = Some Set; parser = Some (Unsigned 0 4294967295) }
+
+abbrev pub join_word : Rule
+join_word = record (new_rule (codes "join")) { long = Some (codes "join"); action = Some Append }
+
+abbrev pub replica_word : Rule
+replica_word =
+    record (new_rule (codes "REPLICA")) { required = true; action = Some Append; range = Some (record { start_inclusive = 1; end_inclusive = usize_max }) }
+
+-- Those that say which users are known.
+abbrev pub with_access_words : App → App
+with_access_words app = with_rule (with_rule (with_rule app preauth_word) user_word) pass_word
+
+-- Those that say which replicas there are, which join, and when the server ends.
+abbrev pub with_replica_words : App → App
+with_replica_words app = with_rule (with_rule (with_rule app stop_word) join_word) replica_word
+
+-- All.
+abbrev pub server_words : App
+server_words = with_replica_words (with_access_words (new_app (codes "imap_server")))
+
+-- ---- who may use the server
+
+-- `--preauth` was found: its value is there, and isn't the one that it has where it isn't given.
+abbrev pub IsPreauth : List Row → Type 0
+IsPreauth rows = ((one_of (codes "preauth") rows ≡ None) → ⊥) × ((one_of (codes "preauth") rows ≡ Some (codes "false")) → ⊥)
+
+-- The access that was found: `--preauth`, and neither `--user` nor `--pass`; or both of these, and not `--preauth`.
+abbrev pub NamesAccess : List Row → Access → Type 0
+NamesAccess rows Preauth = IsPreauth rows × (first_of (codes "user") rows ≡ None) × (first_of (codes "pass") rows ≡ None)
+NamesAccess rows (Password user pass) =
+    ((one_of (codes "preauth") rows ≡ Some (codes "true")) → ⊥) × (first_of (codes "user") rows ≡ Some user.now) × (first_of (codes "pass") rows ≡ Some pass.now)
