@@ -8,4 +8,3 @@ pub mod ListLemmas
 pub mod FlagLemmas
 pub mod ReadLemmas
 pub mod MeaningLemmas
-pub mod VersionLemmas

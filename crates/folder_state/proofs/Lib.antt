@@ -1,10 +1,5 @@
 pub mod EntryLemmas
-pub mod KeptLemmas
-pub mod TagLemmas
-pub mod LoopLemmas
 pub mod SetLemmas
 pub mod ToldLemmas
 pub mod LaterLemmas
 pub mod LendingLemmas
-pub mod VersionLemmas
-pub mod LentLemmas

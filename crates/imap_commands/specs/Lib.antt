@@ -9,7 +9,6 @@ pub mod Fetching
 pub mod Gives
 pub mod Issued
 pub mod Lawful
-pub mod Limits
 pub mod Mailboxes
 pub mod Named
 pub mod Printing

@@ -16,7 +16,6 @@ mod fetching;
 mod flag_sets;
 mod issued;
 mod laws;
-mod limits;
 mod mailboxes;
 mod named;
 mod printable;
@@ -25,7 +24,6 @@ mod selecting;
 mod session;
 mod storing;
 mod telling;
-mod versions;
 
 pub use appending::{append_tells, append_wants};
 pub use asking::{

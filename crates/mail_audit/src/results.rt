@@ -165,8 +165,6 @@ fn unsound(fields: &[u8]) -> Option<OutcomeLine>
         Some(broken(BrokenRule::UnlawfulFlags))
     } else if fields == b"Unsound U5".as_slice() {
         Some(broken(BrokenRule::InboxDeleted))
-    } else if fields == b"Unsound U6".as_slice() {
-        Some(broken(BrokenRule::OldIdCount))
     } else {
         None
     }

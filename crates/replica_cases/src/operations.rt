@@ -34,7 +34,6 @@ fn fault_word(fault: Unsound) -> &'static str {
         Unsound::UnlawfulName => "UnlawfulName",
         Unsound::UnlawfulFlags => "UnlawfulFlags",
         Unsound::DeleteOfInbox => "DeleteOfInbox",
-        Unsound::Count => "Count",
     }
 }
 
