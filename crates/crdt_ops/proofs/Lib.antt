@@ -8,3 +8,4 @@ pub mod ListLemmas
 pub mod FlagLemmas
 pub mod ReadLemmas
 pub mod MeaningLemmas
+pub mod VersionLemmas

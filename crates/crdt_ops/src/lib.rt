@@ -20,7 +20,7 @@ mod write;
 pub use copies::copied_ops;
 pub use fault::OpFault;
 pub use ids::Ids;
-pub use kind::Kind;
+pub use kind::{Kind, MAX_OLD_IDS};
 pub use laws::{one_set_means_one, present_tags_are_listed};
 pub use message::Message;
 pub use names::place_name;

@@ -10,13 +10,13 @@ use Rattle.crdt_ops.specs.Order.{same_id}
 use Rattle.crdt_ops.specs.Sets.{Body, Letter, first_given}
 use Rattle.crdt_ops.proofs.Members.{any_filtered}
 use Rattle.folder_state.specs.declared.tables.FolderEntry.{FolderEntry}
-use Rattle.folder_state.specs.declared.tables.MessageEntry.{MessageEntry}
 use Rattle.folder_state.specs.declared.tables.LetterEntry.{LetterEntry}
 use Rattle.folder_state.specs.Keys.{is_among, is_at}
+use Rattle.folder_state.specs.Kept.{Tagged}
 use Rattle.folder_state.specs.Entries.{body_in, letter_in, tag_in}
 
 -- the tests say that folder and id are equal
-at_is : (f g : List ℕ) (i j : OpId) → is_at f i g j ≡ true → (f ≡ g) × (i ≡ j)
+pub at_is : (f g : List ℕ) (i j : OpId) → is_at f i g j ≡ true → (f ≡ g) × (i ≡ j)
 at_is f g i j h =
     let p = and_parts (bytes_eq f g) (same_id i j) h in
     ((bytes_eq-Decides f g).0 p.0, (ids_decide i j).0 p.1)
@@ -30,6 +30,14 @@ cond-none true = refl
 cond-none false = refl
 
 module _ {E : Type 0} where
+  or_or : {Y : Type 0} (x y z : Option Y) → option_or x (option_or y z) ≡ option_or (option_or x y) z
+  or_or None y z = refl
+  or_or (Some v) y z = refl
+
+  pub first_append : {Y : Type 0} (f : E → Option Y) (xs ys : List E) → first_given f (xs ++ ys) ≡ option_or (first_given f xs) (first_given f ys)
+  first_append f [] ys = refl
+  first_append f (x ∷ xs) ys = ap (option_or (f x)) (first_append f xs ys) ∙ or_or (f x) (first_given f xs) (first_given f ys)
+
   module _ {Y : Type 0} (g : E → Y) where
     first_cond : (f : E → Option Y) (b : Bool) (e : E) (es : List E) → first_given f (cond b (e ∷ es) es) ≡ cond b (option_or (f e) (first_given f es)) (first_given f es)
     first_cond f true e es = refl
@@ -48,12 +56,7 @@ module _ {E : Type 0} where
         ∙ first_step (p e) (q e) r (g e) (first_given (λ e. cond (p e) (Some (g e)) None) es) (first_given (λ e. cond (p e) (Some (g e)) None) (filter q es)) (h e) (first_filtered p q r h es)
 
     first-push : (f : E → Option Y) (es : List E) (e : E) → first_given f (es ++ e ∷ []) ≡ option_or (first_given f es) (f e)
-    first-push f [] e = or-none (f e)
-    first-push f (x ∷ es) e = ap (option_or (f x)) (first-push f es e) ∙ or_or (f x) (first_given f es) (f e)
-      where
-        or_or : (x y z : Option Y) → option_or x (option_or y z) ≡ option_or (option_or x y) z
-        or_or None y z = refl
-        or_or (Some v) y z = refl
+    first-push f es e = first_append f es (e ∷ []) ∙ ap (option_or (first_given f es)) (or-none (f e))
 
     put_step : (r : Bool) (y : Y) (rest : Option Y) → option_or (cond r None rest) (cond r (Some y) None) ≡ cond r (Some y) rest
     put_step true y rest = refl
@@ -73,19 +76,26 @@ tags_left old new folder ids e f i =
     ∙ any_filtered (λ entry. is_at f i entry.folder entry.id) (λ entry. not (is_among entry.folder entry.id folder ids)) (is_among f i folder ids)
     (λ entry h k. not (is_among (sym (at_is f entry.folder i entry.id h).0 k) (sym (at_is f entry.folder i entry.id h).1 k) folder ids)) old
 
--- the messages that are left
-pub bodies_left : (old new : List MessageEntry) (folder : List ℕ) (ids : List OpId) → new ≡ filter (λ entry. not (is_among entry.folder entry.id folder ids)) old → (f : List ℕ) (i : OpId) → body_in new f i ≡ cond (is_among f i folder ids) None (body_in old f i)
+-- the message tags that are left
+pub bodies_left : (old new : List Tagged) (folder : List ℕ) (ids : List OpId) → new ≡ filter (λ tag. not (is_among tag.folder tag.id folder ids)) old → (f : List ℕ) (i : OpId) → body_in new f i ≡ cond (is_among f i folder ids) None (body_in old f i)
 bodies_left old new folder ids e f i =
     ap (λ es. body_in es f i) e
-    ∙ first_filtered (λ (entry : MessageEntry). let body : Body = record { flags = entry.flags; origin = entry.origin } in body) (λ entry. is_at f i entry.folder entry.id) (λ entry. not (is_among entry.folder entry.id folder ids)) (is_among f i folder ids)
-    (λ entry h k. not (is_among (sym (at_is f entry.folder i entry.id h).0 k) (sym (at_is f entry.folder i entry.id h).1 k) folder ids)) old
+    ∙ first_filtered (λ (tag : Tagged). let body : Body = record { flags = tag.flags; origin = tag.origin } in body) (λ tag. is_at f i tag.folder tag.id) (λ tag. not (is_among tag.folder tag.id folder ids)) (is_among f i folder ids)
+    (λ tag h k. not (is_among (sym (at_is f tag.folder i tag.id h).0 k) (sym (at_is f tag.folder i tag.id h).1 k) folder ids)) old
 
--- a message put in
-pub body_put : (old new : List MessageEntry) (message : MessageEntry) → new ≡ filter (λ entry. not (is_at entry.folder entry.id message.folder message.id)) old ++ message ∷ [] → (f : List ℕ) (i : OpId) → body_in new f i ≡ cond (is_at f i message.folder message.id) (Some (record { flags = message.flags; origin = message.origin })) (body_in old f i)
-body_put old new message e f i =
-    ap (λ es. body_in es f i) e
-    ∙ first_put (λ (entry : MessageEntry). let body : Body = record { flags = entry.flags; origin = entry.origin } in body) (λ entry. is_at f i entry.folder entry.id) (λ entry. not (is_at entry.folder entry.id message.folder message.id)) message
-    (λ entry h k. not (is_at (sym (at_is f entry.folder i entry.id h).0 k) (sym (at_is f entry.folder i entry.id h).1 k) message.folder message.id)) old
+-- a message tag put among others, of which none in front has its folder and id
+pub body_among : (tag : Tagged) (front back : List Tagged) → body_in front tag.folder tag.id ≡ None → (f : List ℕ) (i : OpId) → body_in (front ++ tag ∷ back) f i ≡ cond (is_at f i tag.folder tag.id) (Some (record { flags = tag.flags; origin = tag.origin })) (body_in (front ++ back) f i)
+body_among tag front back n f i =
+    let body : Body = record { flags = tag.flags; origin = tag.origin } in
+    let g : Tagged → Option Body = λ t. cond (is_at f i t.folder t.id) (Some (record { flags = t.flags; origin = t.origin })) None in
+    first_append g front (tag ∷ back)
+    ∙ among (is_at f i tag.folder tag.id) (first_given g front) (first_given g back) body
+    (λ h. (λ k. body_in front ((at_is f tag.folder i tag.id h).0 k) ((at_is f tag.folder i tag.id h).1 k)) ∙ n)
+    ∙ ap (cond (is_at f i tag.folder tag.id) (Some body)) (sym (first_append g front back))
+  where
+    among : (r : Bool) (x y : Option Body) (b : Body) → (r ≡ true → x ≡ None) → option_or x (option_or (cond r (Some b) None) y) ≡ cond r (Some b) (option_or x y)
+    among true x y b h = ap (λ (o : Option Body). option_or o (Some b)) (h refl)
+    among false x y b h = refl
 
 -- a date and text put in
 pub letter_put : (old new : List LetterEntry) (letter : LetterEntry) → new ≡ filter (λ entry. not (same_id entry.id letter.id)) old ++ letter ∷ [] → (i : OpId) → letter_in new i ≡ cond (same_id i letter.id) (Some (record { date = letter.date; text = letter.text })) (letter_in old i)

@@ -16,13 +16,14 @@ use Rattle.crdt_ops.specs.TagLaws.{adds_own}
 use Rattle.crdt_ops.proofs.Members.{any_in}
 use Rattle.folder_state.specs.declared.folders.Folders.{Folders}
 use Rattle.folder_state.specs.declared.tables.FolderEntry.{FolderEntry}
-use Rattle.folder_state.specs.declared.tables.MessageEntry.{MessageEntry}
 use Rattle.folder_state.specs.Contents.{Contents, HasTag, IsFolder, IsMadeBy, contents_by, effect_of, no_contents}
 use Rattle.folder_state.specs.Entries.{body_in, tag_in}
 use Rattle.folder_state.specs.Keys.{is_at}
+use Rattle.folder_state.specs.Kept.{Tagged, message_tags}
 use Rattle.folder_state.specs.Later.{after, has_body, has_tag_after, is_some, told}
 use Rattle.folder_state.specs.Tables.{contents_of}
 use Rattle.folder_state.proofs.SetLemmas.{contents_made}
+use Rattle.folder_state.proofs.TagLemmas.{any_tags}
 use Rattle.folder_state.proofs.ToldLemmas.{body_at, exists_by_set, present_body}
 
 fold_append : (v : Contents) (xs ys : List Op) → after v (xs ++ ys) ≡ after (after v xs) ys
@@ -86,13 +87,16 @@ after_from (o ∷ ops) c n i h =
     ]
 
 -- the folder is there after them
-pub exists_later : (f : Folders) (n : List ℕ) (ops : List Op) (result : Bool) → result ≡ (bytes_eq n inbox || (list_any (λ e. has_tag_after (told f.tags.items f.messages.items) ops n e.id) f.tags.items || (list_any (λ e. has_tag_after (told f.tags.items f.messages.items) ops n e.id) f.messages.items || list_any (λ o. has_tag_after (told f.tags.items f.messages.items) ops n o.id) ops))) → (result ≡ true) ↔ IsFolder (after (contents_of f) ops) n
-exists_later f n ops result e =
+pub exists_later : (f : Folders) (n : List ℕ) (ops : List Op) (result : Bool) → result ≡ (bytes_eq n inbox || (list_any (λ e. has_tag_after (told f.tags.items (message_tags f.messages.entries)) ops n e.id) f.tags.items || (list_any (λ e. list_any (λ v. has_tag_after (told f.tags.items (message_tags f.messages.entries)) ops n v.id) e.versions) f.messages.entries || list_any (λ o. has_tag_after (told f.tags.items (message_tags f.messages.entries)) ops n o.id) ops))) → (result ≡ true) ↔ IsFolder (after (contents_of f) ops) n
+exists_later f n ops result r =
     let c = contents_of f in
-    let t = told f.tags.items f.messages.items in
+    let t = told f.tags.items (message_tags f.messages.entries) in
+    let e =
+    r ∙ ap (λ b. bytes_eq n inbox || (list_any (λ (x : FolderEntry). has_tag_after t ops n x.id) f.tags.items || (b || list_any (λ (x : Op). has_tag_after t ops n x.id) ops)))
+    (any_tags (λ (x : Tagged). has_tag_after t ops n x.id) f.messages.entries) in
     let at = λ (i : OpId). has_tag_after t ops n i in
     let a = list_any (λ (x : FolderEntry). has_tag_after t ops n x.id) f.tags.items in
-    let b = list_any (λ (x : MessageEntry). has_tag_after t ops n x.id) f.messages.items in
+    let b = list_any (λ (x : Tagged). has_tag_after t ops n x.id) (message_tags f.messages.entries) in
     let d = list_any (λ (x : Op). has_tag_after t ops n x.id) ops in
     let here = λ (i : OpId) (h : has_tag_after t ops n i ≡ true). (has_by c ops n i).1 (same_told c t ops n i refl refl ∙ h) in (
       λ h. elim (or_cases (bytes_eq n inbox) (a || (b || d)) (sym e ∙ h)) [
@@ -100,7 +104,7 @@ exists_later f n ops result e =
         | inr k ↦ inr (elim (or_cases a (b || d) k) [
           | inl l ↦ let w = (any_in (λ (x : FolderEntry). has_tag_after t ops n x.id) f.tags.items).0 l in (w.0.id, here w.0.id w.2)
           | inr l ↦ elim (or_cases b d l) [
-            | inl m ↦ let w = (any_in (λ (x : MessageEntry). has_tag_after t ops n x.id) f.messages.items).0 m in (w.0.id, here w.0.id w.2)
+            | inl m ↦ let w = (any_in (λ (x : Tagged). has_tag_after t ops n x.id) (message_tags f.messages.entries)).0 m in (w.0.id, here w.0.id w.2)
             | inr m ↦ let w = (any_in (λ (x : Op). has_tag_after t ops n x.id) ops).0 m in (w.0.id, here w.0.id w.2)
           ]
         ])
@@ -116,9 +120,9 @@ exists_later f n ops result e =
                     let own : w.0 ≡ v.0.id = (ids_decide w.0 v.0.id).0 (and_parts (bytes_eq n v.0.folder) (same_id w.0 v.0.id) v.2).1 in
                     or_left a (b || d) ((any_in (λ (x : FolderEntry). has_tag_after t ops n x.id) f.tags.items).1 (v.0, v.1, subst (λ j. has_tag_after t ops n j ≡ true) own there))
                 | inr k ↦
-                    let v = (body_at f.messages.items n w.0).0 k in
+                    let v = (body_at (message_tags f.messages.entries) n w.0).0 k in
                     let own : w.0 ≡ v.0.id = (ids_decide w.0 v.0.id).0 (and_parts (bytes_eq n v.0.folder) (same_id w.0 v.0.id) v.2).1 in
-                    or_right a (b || d) (or_left b d ((any_in (λ (x : MessageEntry). has_tag_after t ops n x.id) f.messages.items).1 (v.0, v.1, subst (λ j. has_tag_after t ops n j ≡ true) own there)))
+                    or_right a (b || d) (or_left b d ((any_in (λ (x : Tagged). has_tag_after t ops n x.id) (message_tags f.messages.entries)).1 (v.0, v.1, subst (λ j. has_tag_after t ops n j ≡ true) own there)))
               ]
               | inr u ↦ or_right a (b || d) (or_right b d ((any_in (λ (x : Op). has_tag_after t ops n x.id) ops).1 (u.0, u.1, subst (λ j. has_tag_after t ops n j ≡ true) u.2 there)))
             ])
@@ -128,15 +132,3 @@ exists_later f n ops result e =
 -- contents after more operations were made by all of them
 pub made_after : (c : Contents) (list ops : List Op) → IsMadeBy c list → AreSound IsSound (list ++ ops) → IsCausal (λ (o : Op). o.id) (λ o. o.clock) (list ++ ops) → IsMadeBy (after c ops) (list ++ ops)
 made_after c list ops m s d = record { sound = s; causal = d; made = ap (λ v. after v ops) m.made ∙ sym (fold_append no_contents list ops) }
-
-same_bool : (a b : Bool) → (a ≡ true → b ≡ true) → (b ≡ true → a ≡ true) → a ≡ b
-same_bool true b h k = sym (h refl)
-same_bool false true h k = absurd (false≢true (k refl))
-same_bool false false h k = refl
-
-pub message_later : (c : Contents) (list ops : List Op) (n : List ℕ) (i : OpId) → IsMadeBy (after c ops) (list ++ ops) → has_body (after c ops) n i ≡ is_present (list ++ ops) (MessageTag n i)
-message_later c list ops n i m =
-    let p = present_body (list ++ ops) n i in
-    let s = some_is ((contents_by (list ++ ops)).bodies n i) in
-    ap (λ (v : Contents). has_body v n i) (contents_made (after c ops) (list ++ ops) m)
-    ∙ same_bool (has_body (contents_by (list ++ ops)) n i) (is_present (list ++ ops) (MessageTag n i)) (λ h. p.0 (s.1 h)) (λ h. s.0 (p.1 h))

@@ -1,5 +1,10 @@
 pub mod EntryLemmas
+pub mod KeptLemmas
+pub mod TagLemmas
+pub mod LoopLemmas
 pub mod SetLemmas
 pub mod ToldLemmas
 pub mod LaterLemmas
 pub mod LendingLemmas
+pub mod VersionLemmas
+pub mod LentLemmas

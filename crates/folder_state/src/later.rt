@@ -8,11 +8,15 @@ ghost use Rattle.crdt_ops.specs.Tags.{FolderTag, MessageTag, adds, removes};
 ghost use Rattle.folder_state.specs.Contents.{Contents};
 ghost use Rattle.folder_state.specs.Later.{after, has_body, has_tag_after, is_some, told};
 ghost use Rattle.folder_state.specs.Entries.{body_in, tag_in};
+ghost use Rattle.folder_state.specs.Kept.{message_tags};
 
+use crate::entry::MessageEntry;
 use crate::lookups::is_inbox;
-use crate::tables::{FolderEntry, MessageEntry, is_among, is_at};
+use crate::reading::body_at;
+use crate::tables::{FolderEntry, is_among, is_at};
 use crdt_ops::{Kind, Op, SoundOp};
 use imap_types::Name;
+use message_versions::Version;
 use tags_clocks::OpId;
 
 /// Whether the operation adds the folder tag.
@@ -58,12 +62,12 @@ pub fn removes_message(op: &Op, folder: &Name, id: OpId) -> bool
 {
     match &op.kind {
         Kind::Delete { folder: own, seen } => is_among(folder, id, own, seen.as_slice()),
-        Kind::Expunge { folder: own, old } => is_at(folder, id, own, *old),
+        Kind::Expunge { folder: own, olds } => is_among(folder, id, own, olds.as_slice()),
         Kind::Store {
             folder: own,
-            old,
+            olds,
             ..
-        } => is_at(folder, id, own, *old),
+        } => is_among(folder, id, own, olds.as_slice()),
         Kind::Create { .. } => false,
         Kind::Append { .. } => false,
         Kind::Subscribe { .. } => false,
@@ -115,7 +119,7 @@ fn has_tag_after(
     id: &OpId,
     ops: &[SoundOp],
 ) -> bool
-    ensures { result ≡ has_tag_after (told tags.now messages.now) ops.now folder.now id.now }
+    ensures { result ≡ has_tag_after (told tags.now (message_tags messages.now)) ops.now folder.now id.now }
 {
     tag_after(ops, folder, id, has_tag_at(tags, folder, id))
         || message_after(ops, folder, id, has_message_at(messages, folder, id))
@@ -131,14 +135,12 @@ fn has_tag_at(tags: &[FolderEntry], folder: &Name, id: &OpId) -> bool
 
 /// Whether the message tag is among these.
 pub fn has_message_at(messages: &[MessageEntry], folder: &Name, id: &OpId) -> bool
-    ensures { result ≡ is_some (body_in messages.now folder.now id.now) }
+    ensures { result ≡ is_some (body_in (message_tags messages.now) folder.now id.now) }
 {
-    for entry in messages {
-        if is_at(folder, *id, &entry.folder, entry.id) {
-            return true;
-        }
+    match body_at(messages, folder, id) {
+        Some(_) => true,
+        None => false,
     }
-    false
 }
 
 /// Whether the folder is INBOX, or a tag of it is left of those that it has and those that the operations add.
@@ -148,7 +150,7 @@ pub fn has_folder_after(
     folder: &Name,
     ops: &[SoundOp],
 ) -> bool
-    ensures { result ≡ (bytes_eq folder.now inbox || (list_any (λ e. has_tag_after (told tags.now messages.now) ops.now folder.now e.id) tags.now || (list_any (λ e. has_tag_after (told tags.now messages.now) ops.now folder.now e.id) messages.now || list_any (λ o. has_tag_after (told tags.now messages.now) ops.now folder.now o.id) ops.now))) }
+    ensures { result ≡ (bytes_eq folder.now inbox || (list_any (λ e. has_tag_after (told tags.now (message_tags messages.now)) ops.now folder.now e.id) tags.now || (list_any (λ e. list_any (λ v. has_tag_after (told tags.now (message_tags messages.now)) ops.now folder.now v.id) e.versions) messages.now || list_any (λ o. has_tag_after (told tags.now (message_tags messages.now)) ops.now folder.now o.id) ops.now))) }
 {
     is_inbox(folder)
         || any_tag_left(tags, messages, folder, ops)
@@ -163,7 +165,7 @@ fn any_tag_left(
     folder: &Name,
     ops: &[SoundOp],
 ) -> bool
-    ensures { result ≡ list_any (λ e. has_tag_after (told tags.now messages.now) ops.now folder.now e.id) tags.now }
+    ensures { result ≡ list_any (λ e. has_tag_after (told tags.now (message_tags messages.now)) ops.now folder.now e.id) tags.now }
 {
     for entry in tags {
         if has_tag_after(tags, messages, folder, &entry.id, ops) {
@@ -180,10 +182,28 @@ fn any_message_left(
     folder: &Name,
     ops: &[SoundOp],
 ) -> bool
-    ensures { result ≡ list_any (λ e. has_tag_after (told tags.now messages.now) ops.now folder.now e.id) messages.now }
+    ensures { result ≡ list_any (λ e. list_any (λ v. has_tag_after (told tags.now (message_tags messages.now)) ops.now folder.now v.id) e.versions) messages.now }
 {
     for entry in messages {
-        if has_tag_after(tags, messages, folder, &entry.id, ops) {
+        if any_version_left(tags, messages, folder, ops, entry.versions()) {
+            return true;
+        }
+    }
+    false
+}
+
+/// Whether a tag of the folder with a version's id is left.
+fn any_version_left(
+    tags: &[FolderEntry],
+    messages: &[MessageEntry],
+    folder: &Name,
+    ops: &[SoundOp],
+    versions: &[Version],
+) -> bool
+    ensures { result ≡ list_any (λ v. has_tag_after (told tags.now (message_tags messages.now)) ops.now folder.now v.id) versions.now }
+{
+    for version in versions {
+        if has_tag_after(tags, messages, folder, &version.id, ops) {
             return true;
         }
     }
@@ -197,7 +217,7 @@ fn any_added_left(
     folder: &Name,
     ops: &[SoundOp],
 ) -> bool
-    ensures { result ≡ list_any (λ o. has_tag_after (told tags.now messages.now) ops.now folder.now o.id) ops.now }
+    ensures { result ≡ list_any (λ o. has_tag_after (told tags.now (message_tags messages.now)) ops.now folder.now o.id) ops.now }
 {
     for op in ops {
         if has_tag_after(tags, messages, folder, &op.op().id, ops) {

@@ -129,8 +129,10 @@ pub enum Refusal {
     LoginFailed,
     /// `NO`: a change in a mailbox selected by EXAMINE.
     ReadOnly,
-    /// `NO [LIMIT]`: a message would bear more than 32 keywords.
+    /// `NO [LIMIT]`: an operation would give a message more than 32 keywords.
     TooManyKeywords,
+    /// `NO [LIMIT]`: an operation would name more than 64 versions of a message.
+    TooManyVersions,
     /// `NO [LIMIT]`: a keyword of more than 64 octets.
     KeywordTooLong,
     /// `NO [LIMIT]`: a counter is at its end.
@@ -169,6 +171,7 @@ impl Refusal {
             Refusal::LoginFailed => b"NO [AUTHENTICATIONFAILED] login failed",
             Refusal::ReadOnly => b"NO mailbox is read-only",
             Refusal::TooManyKeywords => b"NO [LIMIT] too many keywords",
+            Refusal::TooManyVersions => b"NO [LIMIT] too many versions",
             Refusal::KeywordTooLong => b"NO [LIMIT] keyword too long",
             Refusal::NumberUsedUp => b"NO [LIMIT] number used up",
             Refusal::LiteralTooLong => b"NO [LIMIT] literal too long",

@@ -7,7 +7,7 @@ use Rattle.std.specs.declared.cmp.Ordering.TheVariants.{Less, Equal, Greater}
 use Rattle.std.proofs.lemmas.Bool.{and_from, and_parts}
 use Rattle.std.proofs.lemmas.Bool.Decides.{nat_tests}
 use Rattle.crdt_ops.specs.declared.kind.Kind.{Kind}
-use Rattle.crdt_ops.specs.declared.kind.Kind.TheVariants.{Append, Expunge, Store}
+use Rattle.crdt_ops.specs.declared.kind.Kind.TheVariants.{Create, Delete, Append, Expunge, Store, Subscribe, Unsubscribe}
 use Rattle.imap_answers.specs.declared.words.Refusal.{Refusal}
 use Rattle.imap_syntax.specs.declared.fetch.FetchItem.{FetchItem}
 use Rattle.imap_syntax.specs.declared.store.StoreMode.{StoreMode}
@@ -15,7 +15,6 @@ use Rattle.imap_syntax.specs.declared.store.StoreMode.TheVariants.{Replace, Add,
 use Rattle.imap_query.specs.Fetching.{is_kept, is_marked}
 use Rattle.imap_query.specs.declared.fetching.FetchMode.{FetchMode}
 use Rattle.imap_types.specs.Ascending.{compared}
-use Rattle.imap_types.specs.Flags.{IsLawfulFlags}
 use Rattle.imap_types.specs.Keywords.{has_keyword, is_lawful_keyword, with_text}
 use Rattle.imap_types.specs.declared.flags.Flags.{Flags}
 use Rattle.imap_types.specs.declared.sequence_set.SequenceRange.{SequenceRange}
@@ -27,10 +26,11 @@ use Rattle.session_view.specs.Views.{same_flags}
 use Rattle.session_view.specs.declared.entry.Entry.{Entry}
 use Rattle.imap_commands.specs.Changing.{changed_flags, united}
 use Rattle.imap_commands.specs.Copying.{append_of, appends_of, copy_wants, move_wants, removal_of, removals_of}
-use Rattle.imap_commands.specs.Expunging.{close_wants, expunge_at, expunge_of, expunge_wants, uid_expunge_wants}
-use Rattle.imap_commands.specs.Fetching.{fetch_wants, mode_of, seen_flags, seen_store}
-use Rattle.imap_commands.specs.Issued.{AreIssuable, HaveLawfulFlags, IsIssuable}
-use Rattle.imap_commands.specs.Storing.{has_unlawful_keyword, is_overfull, store_of, store_wants, stores_of, those_taken}
+use Rattle.imap_commands.specs.Expunging.{close_wants, expunge_at, expunge_of, expunge_wants, expunges_at, expunges_of, uid_expunge_wants}
+use Rattle.imap_commands.specs.Fetching.{fetch_wants, mode_of, seen_flags, seen_store, seen_stores}
+use Rattle.imap_commands.specs.Issued.{AreIssuable, AreListedIds, AreListedWithOrigin, HaveLawfulKeywords, IsIssuable}
+use Rattle.imap_commands.specs.Limits.{has_many_keywords, has_many_versions, within_limits}
+use Rattle.imap_commands.specs.Storing.{has_unlawful_keyword, store_of, store_wants, stores_of, those_taken}
 use Rattle.imap_commands.specs.Told.{entry_at, message_at, row_for}
 use Rattle.imap_commands.proofs.ChangingLemmas.{all_filtered}
 
@@ -107,19 +107,29 @@ lawful_change Replace old given h i = i
 lawful_change Add old given h i = all_united is_lawful_keyword given.keywords old.keywords i h
 lawful_change Remove old given h i = all_filtered is_lawful_keyword (λ (keyword : List ℕ). not (has_keyword keyword given.keywords)) old.keywords h
 
-few_enough : (n : ℕ) → nat_lt 32 n ≡ false → n ≤ 32
-few_enough n h = grind (arith, nat_tests)
+-- ---- limits
 
--- ---- STORE
+-- an issuable operation, apart from how many keywords and ids it carries
+abbrev IsWanted : List ℕ → List ℕ → List Listed → Kind → Type 0
+IsWanted folder destination rows (Store f flags olds origin) = (f ≡ folder) × (list_all is_lawful_keyword flags.keywords ≡ true) × AreListedWithOrigin rows olds origin
+IsWanted folder destination rows (Expunge f olds) = (f ≡ folder) × AreListedIds rows olds
+IsWanted folder destination rows (Append f flags date text) = (f ≡ destination) × (list_all is_lawful_keyword flags.keywords ≡ true)
+IsWanted folder destination rows (Create f) = ⊥
+IsWanted folder destination rows (Delete f seen) = ⊥
+IsWanted folder destination rows (Subscribe name) = ⊥
+IsWanted folder destination rows (Unsubscribe name seen) = ⊥
 
-store_issuable : (folder destination : List ℕ) (rows : List Listed) (mode : StoreMode) (given : Flags) (message : Option Listed) → ((row : Listed) → message ≡ Some row → IsIn row rows) → HaveLawfulFlags rows
-    → list_all is_lawful_keyword given.keywords ≡ true → is_overfull mode given message ≡ false → (kind : Kind) → IsIn kind (store_of folder mode given message) → IsIssuable folder destination rows kind
-store_issuable folder destination rows mode given None m l k o kind i = absurd i
-store_issuable folder destination rows mode given (Some row) m l k o kind i =
-    let is_in : IsIn row rows = m row refl in
-    let flags = changed_flags mode row.flags given in
-    let lawful : IsLawfulFlags flags = (few_enough (length flags.keywords) o, lawful_change mode row.flags given (l row is_in).1 k) in
-    one_unless (IsIssuable folder destination rows) (same_flags flags row.flags) (Store folder flags row.id row.origin) (refl, lawful, (row, is_in, refl, refl)) kind i
+few_enough : (n most : ℕ) → nat_lt most n ≡ false → n ≤ most
+few_enough n most h = grind (arith, nat_tests)
+
+few_issuable : (folder destination : List ℕ) (rows : List Listed) (kind : Kind) → IsWanted folder destination rows kind → has_many_keywords kind ≡ false → has_many_versions kind ≡ false → IsIssuable folder destination rows kind
+few_issuable folder destination rows (Store f flags olds origin) w k v = (w.0, (few_enough (length flags.keywords) 32 k, w.1), few_enough (length olds) 64 v, w.2)
+few_issuable folder destination rows (Expunge f olds) w k v = (w.0, few_enough (length olds) 64 v, w.1)
+few_issuable folder destination rows (Append f flags date text) w k v = (w.0, (few_enough (length flags.keywords) 32 k, w.1))
+few_issuable folder destination rows (Create f) w k v = absurd w
+few_issuable folder destination rows (Delete f seen) w k v = absurd w
+few_issuable folder destination rows (Subscribe name) w k v = absurd w
+few_issuable folder destination rows (Unsubscribe name seen) w k v = absurd w
 
 neither : (a b : Bool) → (a || b) ≡ false → (a ≡ false) × (b ≡ false)
 neither true b h = cc
@@ -131,6 +141,32 @@ none_of_them test (y ∷ xs) x h i =
     let parts = neither (test y) (list_any test xs) h in
     elim i [ inl e ↦ subst (λ z. test z ≡ false) e parts.0 | inr n ↦ none_of_them test xs x parts.1 n ]
 
+-- what is within the limits is all that was wanted
+pub within_is : (wanted kinds : List Kind) → within_limits wanted ≡ Ok kinds → kinds ≡ wanted
+within_is wanted kinds h =
+    let keywords = unless_refused (list_any has_many_keywords wanted) _ _ kinds h in
+    let versions = unless_refused (list_any has_many_versions wanted) _ _ kinds keywords.1 in
+    ok_is (λ found. found ≡ wanted) wanted kinds _ refl versions.1 refl
+
+-- what is issued within the limits is issuable
+within_issuable : (folder destination : List ℕ) (rows : List Listed) (wanted kinds : List Kind) → within_limits wanted ≡ Ok kinds → ((kind : Kind) → IsIn kind wanted → IsWanted folder destination rows kind) → AreIssuable folder destination rows kinds
+within_issuable folder destination rows wanted kinds h w =
+    let keywords = unless_refused (list_any has_many_keywords wanted) _ _ kinds h in
+    let versions = unless_refused (list_any has_many_versions wanted) _ _ kinds keywords.1 in
+    ok_is (AreIssuable folder destination rows) wanted kinds _ refl versions.1
+    (λ kind i. few_issuable folder destination rows kind (w kind i) (none_of_them has_many_keywords wanted kind keywords.0 i) (none_of_them has_many_versions wanted kind versions.0 i))
+
+-- ---- STORE
+
+store_wanted : (folder destination : List ℕ) (rows : List Listed) (mode : StoreMode) (given : Flags) (message : Option Listed) → ((row : Listed) → message ≡ Some row → IsIn row rows) → HaveLawfulKeywords rows
+    → list_all is_lawful_keyword given.keywords ≡ true → (kind : Kind) → IsIn kind (store_of folder mode given message) → IsWanted folder destination rows kind
+store_wanted folder destination rows mode given None m l k kind i = absurd i
+store_wanted folder destination rows mode given (Some row) m l k kind i =
+    let is_in : IsIn row rows = m row refl in
+    let flags = changed_flags mode row.flags given in
+    let lawful : list_all is_lawful_keyword flags.keywords ≡ true = lawful_change mode row.flags given (l row is_in) k in
+    one_unless (IsWanted folder destination rows) (same_flags flags row.flags) (Store folder flags row.versions row.origin) (refl, lawful, (row, is_in, refl, refl)) kind i
+
 not_false : (b : Bool) → not b ≡ false → b ≡ true
 not_false true h = refl
 not_false false h = cc
@@ -138,113 +174,113 @@ not_false false h = cc
 lawful_given : (flags : Flags) → has_unlawful_keyword flags ≡ false → list_all is_lawful_keyword flags.keywords ≡ true
 lawful_given flags h = not_false (list_all is_lawful_keyword flags.keywords) h
 
-pub stores_of_issuable : (folder destination : List ℕ) (rows : List Listed) (view : List Entry) (numbers : List ℕ) (mode : StoreMode) (given : Flags) (kinds : List Kind) → HaveLawfulFlags rows
-    → has_unlawful_keyword given ≡ false → stores_of folder rows view numbers mode given ≡ Ok kinds → AreIssuable folder destination rows kinds
-stores_of_issuable folder destination rows view numbers mode given kinds l u h =
-    let parts = unless_refused (list_any (λ n. is_overfull mode given (message_at rows view n)) numbers) _ _ kinds h in
-    ok_is (AreIssuable folder destination rows) (flat_map (λ n. store_of folder mode given (message_at rows view n)) numbers) kinds _ refl parts.1
-    (each_flat (IsIssuable folder destination rows) (λ n. store_of folder mode given (message_at rows view n)) numbers
-    (λ n i. store_issuable folder destination rows mode given (message_at rows view n) (λ row e. message_is_in rows (entry_at view n) row e) l (lawful_given given u)
-    (none_of_them (λ n. is_overfull mode given (message_at rows view n)) numbers n parts.0 i)))
+stores_wanted : (folder destination : List ℕ) (rows : List Listed) (view : List Entry) (numbers : List ℕ) (mode : StoreMode) (given : Flags) → HaveLawfulKeywords rows → has_unlawful_keyword given ≡ false
+    → (kind : Kind) → IsIn kind (stores_of folder rows view numbers mode given) → IsWanted folder destination rows kind
+stores_wanted folder destination rows view numbers mode given l u =
+    each_flat (IsWanted folder destination rows) (λ n. store_of folder mode given (message_at rows view n)) numbers
+    (λ n i. store_wanted folder destination rows mode given (message_at rows view n) (λ row e. message_is_in rows (entry_at view n) row e) l (lawful_given given u))
 
 -- STORE issues Stores of listed messages, with lawful flags.
 pub store_wants_issuable : (folder destination : List ℕ) (before : List Listed) (view : List Entry) (read_only by_uid : Bool) (set : List SequenceRange) (since : Option ℕ) (mode : StoreMode) (given : Flags) (kinds : List Kind)
-    → HaveLawfulFlags before → store_wants folder before view read_only by_uid set since mode given ≡ Ok kinds → AreIssuable folder destination before kinds
+    → HaveLawfulKeywords before → store_wants folder before view read_only by_uid set since mode given ≡ Ok kinds → AreIssuable folder destination before kinds
 store_wants_issuable folder destination before view read_only by_uid set since mode given kinds l h =
     let in_range = unless_refused (not (is_in_range by_uid set view)) _ _ kinds h in
     let writable = unless_refused read_only _ _ kinds in_range.1 in
     let lawful = unless_refused (has_unlawful_keyword given) _ _ kinds writable.1 in
-    stores_of_issuable folder destination before view (those_taken before view since (resolved by_uid set view)) mode given kinds l lawful.0 lawful.1
+    let taken = those_taken before view since (resolved by_uid set view) in
+    within_issuable folder destination before (stores_of folder before view taken mode given) kinds lawful.1 (stores_wanted folder destination before view taken mode given l lawful.0)
 
 -- ---- EXPUNGE
 
-expunge_issuable : (folder destination : List ℕ) (rows : List Listed) (row : Listed) → IsIn row rows → (kind : Kind) → IsIn kind (expunge_of folder row) → IsIssuable folder destination rows kind
-expunge_issuable folder destination rows row m kind i =
-    one_where (IsIssuable folder destination rows) row.flags.deleted (Expunge folder row.id) (refl, (row, m, refl)) kind i
+expunge_wanted : (folder destination : List ℕ) (rows : List Listed) (row : Listed) → IsIn row rows → (kind : Kind) → IsIn kind (expunge_of folder row) → IsWanted folder destination rows kind
+expunge_wanted folder destination rows row m kind i =
+    one_where (IsWanted folder destination rows) row.flags.deleted (Expunge folder row.versions) (refl, (row, m, refl)) kind i
 
-expunges_issuable : (folder destination : List ℕ) (rows : List Listed) → AreIssuable folder destination rows (flat_map (expunge_of folder) rows)
-expunges_issuable folder destination rows = each_flat (IsIssuable folder destination rows) (expunge_of folder) rows (λ row m. expunge_issuable folder destination rows row m)
+expunges_wanted : (folder destination : List ℕ) (rows : List Listed) (kind : Kind) → IsIn kind (expunges_of folder rows) → IsWanted folder destination rows kind
+expunges_wanted folder destination rows = each_flat (IsWanted folder destination rows) (expunge_of folder) rows (λ row m. expunge_wanted folder destination rows row m)
 
 -- EXPUNGE issues Expunges of listed messages.
 pub expunge_wants_issuable : (folder destination : List ℕ) (before : List Listed) (read_only : Bool) (kinds : List Kind) → expunge_wants folder before read_only ≡ Ok kinds → AreIssuable folder destination before kinds
 expunge_wants_issuable folder destination before read_only kinds h =
     let writable = unless_refused read_only _ _ kinds h in
-    ok_is (AreIssuable folder destination before) (flat_map (expunge_of folder) before) kinds _ refl writable.1 (expunges_issuable folder destination before)
+    within_issuable folder destination before (expunges_of folder before) kinds writable.1 (expunges_wanted folder destination before)
 
 -- CLOSE does too, or issues nothing.
 pub close_wants_issuable : (folder destination : List ℕ) (before : List Listed) (read_only : Bool) (kinds : List Kind) → close_wants folder before read_only ≡ Ok kinds → AreIssuable folder destination before kinds
 close_wants_issuable folder destination before true kinds h = ok_is (AreIssuable folder destination before) [] kinds _ refl h (λ kind i. absurd i)
-close_wants_issuable folder destination before false kinds h = ok_is (AreIssuable folder destination before) (flat_map (expunge_of folder) before) kinds _ refl h (expunges_issuable folder destination before)
+close_wants_issuable folder destination before false kinds h = within_issuable folder destination before (expunges_of folder before) kinds h (expunges_wanted folder destination before)
 
-expunge_at_issuable : (folder destination : List ℕ) (rows : List Listed) (message : Option Listed) → ((row : Listed) → message ≡ Some row → IsIn row rows) → (kind : Kind) → IsIn kind (expunge_at folder message) → IsIssuable folder destination rows kind
-expunge_at_issuable folder destination rows None m kind i = absurd i
-expunge_at_issuable folder destination rows (Some row) m kind i = expunge_issuable folder destination rows row (m row refl) kind i
+expunge_at_wanted : (folder destination : List ℕ) (rows : List Listed) (message : Option Listed) → ((row : Listed) → message ≡ Some row → IsIn row rows) → (kind : Kind) → IsIn kind (expunge_at folder message) → IsWanted folder destination rows kind
+expunge_at_wanted folder destination rows None m kind i = absurd i
+expunge_at_wanted folder destination rows (Some row) m kind i = expunge_wanted folder destination rows row (m row refl) kind i
 
 -- So does UID EXPUNGE.
 pub uid_expunge_wants_issuable : (folder destination : List ℕ) (before : List Listed) (view : List Entry) (read_only : Bool) (set : List SequenceRange) (kinds : List Kind) → uid_expunge_wants folder before view read_only set ≡ Ok kinds → AreIssuable folder destination before kinds
 uid_expunge_wants_issuable folder destination before view read_only set kinds h =
     let writable = unless_refused read_only _ _ kinds h in
-    ok_is (AreIssuable folder destination before) (flat_map (λ n. expunge_at folder (message_at before view n)) (resolved true set view)) kinds _ refl writable.1
-    (each_flat (IsIssuable folder destination before) (λ n. expunge_at folder (message_at before view n)) (resolved true set view)
-    (λ n i. expunge_at_issuable folder destination before (message_at before view n) (λ row e. message_is_in before (entry_at view n) row e)))
+    let numbers = resolved true set view in
+    within_issuable folder destination before (expunges_at folder before view numbers) kinds writable.1
+    (each_flat (IsWanted folder destination before) (λ n. expunge_at folder (message_at before view n)) numbers
+    (λ n i. expunge_at_wanted folder destination before (message_at before view n) (λ row e. message_is_in before (entry_at view n) row e)))
 
 -- ---- FETCH
 
-seen_issuable : (folder destination : List ℕ) (rows : List Listed) (items : List FetchItem) (mode : FetchMode) (message : Option Listed) → ((row : Listed) → message ≡ Some row → IsIn row rows) → HaveLawfulFlags rows
-    → (kind : Kind) → IsIn kind (seen_store folder items mode message) → IsIssuable folder destination rows kind
-seen_issuable folder destination rows items mode None m l kind i = absurd i
-seen_issuable folder destination rows items mode (Some row) m l kind i =
+seen_wanted : (folder destination : List ℕ) (rows : List Listed) (items : List FetchItem) (mode : FetchMode) (message : Option Listed) → ((row : Listed) → message ≡ Some row → IsIn row rows) → HaveLawfulKeywords rows
+    → (kind : Kind) → IsIn kind (seen_store folder items mode message) → IsWanted folder destination rows kind
+seen_wanted folder destination rows items mode None m l kind i = absurd i
+seen_wanted folder destination rows items mode (Some row) m l kind i =
     let is_in : IsIn row rows = m row refl in
-    one_where (IsIssuable folder destination rows) (is_kept mode.changed_since row && is_marked items mode row) (Store folder (seen_flags row.flags) row.id row.origin) (refl, l row is_in, (row, is_in, refl, refl)) kind i
+    one_where (IsWanted folder destination rows) (is_kept mode.changed_since row && is_marked items mode row) (Store folder (seen_flags row.flags) row.versions row.origin) (refl, l row is_in, (row, is_in, refl, refl)) kind i
 
 -- FETCH issues Stores of listed messages, with lawful flags.
 pub fetch_wants_issuable : (folder destination : List ℕ) (before : List Listed) (view : List Entry) (read_only by_uid : Bool) (set : List SequenceRange) (items : List FetchItem) (changed_since : Option ℕ) (kinds : List Kind)
-    → HaveLawfulFlags before → fetch_wants folder before view read_only by_uid set items changed_since ≡ Ok kinds → AreIssuable folder destination before kinds
+    → HaveLawfulKeywords before → fetch_wants folder before view read_only by_uid set items changed_since ≡ Ok kinds → AreIssuable folder destination before kinds
 fetch_wants_issuable folder destination before view read_only by_uid set items changed_since kinds l h =
     let in_range = unless_refused (not (is_in_range by_uid set view)) _ _ kinds h in
     let mode = mode_of by_uid false read_only changed_since in
-    ok_is (AreIssuable folder destination before) (flat_map (λ n. seen_store folder items mode (message_at before view n)) (resolved by_uid set view)) kinds _ refl in_range.1
-    (each_flat (IsIssuable folder destination before) (λ n. seen_store folder items mode (message_at before view n)) (resolved by_uid set view)
-    (λ n i. seen_issuable folder destination before items mode (message_at before view n) (λ row e. message_is_in before (entry_at view n) row e) l))
+    let numbers = resolved by_uid set view in
+    within_issuable folder destination before (seen_stores folder before view items mode numbers) kinds in_range.1
+    (each_flat (IsWanted folder destination before) (λ n. seen_store folder items mode (message_at before view n)) numbers
+    (λ n i. seen_wanted folder destination before items mode (message_at before view n) (λ row e. message_is_in before (entry_at view n) row e) l))
 
 -- ---- COPY and MOVE
 
-append_issuable : (folder destination : List ℕ) (rows : List Listed) (message : Option Listed) → ((row : Listed) → message ≡ Some row → IsIn row rows) → HaveLawfulFlags rows
-    → (kind : Kind) → IsIn kind (append_of destination message) → IsIssuable folder destination rows kind
-append_issuable folder destination rows None m l kind i = absurd i
-append_issuable folder destination rows (Some row) m l kind i = only_one (IsIssuable folder destination rows) (Append destination row.flags row.date row.text) (refl, l row (m row refl)) kind i
+append_wanted : (folder destination : List ℕ) (rows : List Listed) (message : Option Listed) → ((row : Listed) → message ≡ Some row → IsIn row rows) → HaveLawfulKeywords rows
+    → (kind : Kind) → IsIn kind (append_of destination message) → IsWanted folder destination rows kind
+append_wanted folder destination rows None m l kind i = absurd i
+append_wanted folder destination rows (Some row) m l kind i = only_one (IsWanted folder destination rows) (Append destination row.flags row.date row.text) (refl, l row (m row refl)) kind i
 
-appends_issuable : (folder destination : List ℕ) (rows : List Listed) (view : List Entry) (numbers : List ℕ) → HaveLawfulFlags rows → AreIssuable folder destination rows (appends_of destination rows view numbers)
-appends_issuable folder destination rows view numbers l =
-    each_flat (IsIssuable folder destination rows) (λ n. append_of destination (message_at rows view n)) numbers
-    (λ n i. append_issuable folder destination rows (message_at rows view n) (λ row e. message_is_in rows (entry_at view n) row e) l)
+appends_wanted : (folder destination : List ℕ) (rows : List Listed) (view : List Entry) (numbers : List ℕ) → HaveLawfulKeywords rows → (kind : Kind) → IsIn kind (appends_of destination rows view numbers) → IsWanted folder destination rows kind
+appends_wanted folder destination rows view numbers l =
+    each_flat (IsWanted folder destination rows) (λ n. append_of destination (message_at rows view n)) numbers
+    (λ n i. append_wanted folder destination rows (message_at rows view n) (λ row e. message_is_in rows (entry_at view n) row e) l)
 
-removal_issuable : (folder destination : List ℕ) (rows : List Listed) (message : Option Listed) → ((row : Listed) → message ≡ Some row → IsIn row rows) → (kind : Kind) → IsIn kind (removal_of folder message) → IsIssuable folder destination rows kind
-removal_issuable folder destination rows None m kind i = absurd i
-removal_issuable folder destination rows (Some row) m kind i = only_one (IsIssuable folder destination rows) (Expunge folder row.id) (refl, (row, m row refl, refl)) kind i
+removal_wanted : (folder destination : List ℕ) (rows : List Listed) (message : Option Listed) → ((row : Listed) → message ≡ Some row → IsIn row rows) → (kind : Kind) → IsIn kind (removal_of folder message) → IsWanted folder destination rows kind
+removal_wanted folder destination rows None m kind i = absurd i
+removal_wanted folder destination rows (Some row) m kind i = only_one (IsWanted folder destination rows) (Expunge folder row.versions) (refl, (row, m row refl, refl)) kind i
 
-removals_issuable : (folder destination : List ℕ) (rows : List Listed) (view : List Entry) (numbers : List ℕ) → AreIssuable folder destination rows (removals_of folder rows view numbers)
-removals_issuable folder destination rows view numbers =
-    each_flat (IsIssuable folder destination rows) (λ n. removal_of folder (message_at rows view n)) numbers
-    (λ n i. removal_issuable folder destination rows (message_at rows view n) (λ row e. message_is_in rows (entry_at view n) row e))
+removals_wanted : (folder destination : List ℕ) (rows : List Listed) (view : List Entry) (numbers : List ℕ) (kind : Kind) → IsIn kind (removals_of folder rows view numbers) → IsWanted folder destination rows kind
+removals_wanted folder destination rows view numbers =
+    each_flat (IsWanted folder destination rows) (λ n. removal_of folder (message_at rows view n)) numbers
+    (λ n i. removal_wanted folder destination rows (message_at rows view n) (λ row e. message_is_in rows (entry_at view n) row e))
 
 -- COPY issues Appends in the destination, with lawful flags.
 pub copy_wants_issuable : (folder destination : List ℕ) (is_there : Bool) (before : List Listed) (view : List Entry) (by_uid : Bool) (set : List SequenceRange) (kinds : List Kind)
-    → HaveLawfulFlags before → copy_wants destination is_there before view by_uid set ≡ Ok kinds → AreIssuable folder destination before kinds
+    → HaveLawfulKeywords before → copy_wants destination is_there before view by_uid set ≡ Ok kinds → AreIssuable folder destination before kinds
 copy_wants_issuable folder destination is_there before view by_uid set kinds l h =
     let in_range = unless_refused (not (is_in_range by_uid set view)) _ _ kinds h in
     let found = unless_refused (not is_there) _ _ kinds in_range.1 in
-    ok_is (AreIssuable folder destination before) (appends_of destination before view (resolved by_uid set view)) kinds _ refl found.1
-    (appends_issuable folder destination before view (resolved by_uid set view) l)
+    let numbers = resolved by_uid set view in
+    within_issuable folder destination before (appends_of destination before view numbers) kinds found.1 (appends_wanted folder destination before view numbers l)
 
 -- MOVE issues these and Expunges of listed messages.
 pub move_wants_issuable : (folder destination : List ℕ) (is_there : Bool) (before : List Listed) (view : List Entry) (read_only by_uid : Bool) (set : List SequenceRange) (kinds : List Kind)
-    → HaveLawfulFlags before → move_wants folder destination is_there before view read_only by_uid set ≡ Ok kinds → AreIssuable folder destination before kinds
+    → HaveLawfulKeywords before → move_wants folder destination is_there before view read_only by_uid set ≡ Ok kinds → AreIssuable folder destination before kinds
 move_wants_issuable folder destination is_there before view read_only by_uid set kinds l h =
     let in_range = unless_refused (not (is_in_range by_uid set view)) _ _ kinds h in
     let writable = unless_refused read_only _ _ kinds in_range.1 in
     let found = unless_refused (not is_there) _ _ kinds writable.1 in
     let numbers = resolved by_uid set view in
-    ok_is (AreIssuable folder destination before) (appends_of destination before view numbers ++ removals_of folder before view numbers) kinds _ refl found.1
-    (each_append (IsIssuable folder destination before) (appends_of destination before view numbers) (removals_of folder before view numbers)
-    (appends_issuable folder destination before view numbers l) (removals_issuable folder destination before view numbers))
+    within_issuable folder destination before (appends_of destination before view numbers ++ removals_of folder before view numbers) kinds found.1
+    (each_append (IsWanted folder destination before) (appends_of destination before view numbers) (removals_of folder before view numbers)
+    (appends_wanted folder destination before view numbers l) (removals_wanted folder destination before view numbers))

@@ -52,7 +52,7 @@ login_lawful credentials user password kinds e = nothing_by (are_right credentia
 create_by : (lawful is_there : Bool) (folder : List ℕ) (kinds : List Kind) → (lawful ≡ true → IsLawfulName folder)
     → (if lawful then (if is_there then Err MailboxExists else Ok (Create folder ∷ [])) else Err NameNotAllowed) ≡ Ok kinds → AreLawfulKinds kinds
 create_by true true folder kinds n e = never MailboxExists kinds e
-create_by true false folder kinds n e = one (Create folder) kinds (record { name = n refl; flags = tt; inbox_stays = λ k. k }) e
+create_by true false folder kinds n e = one (Create folder) kinds (record { name = n refl; flags = tt; inbox_stays = λ k. k; count = tt }) e
 create_by false is_there folder kinds n e = never NameNotAllowed kinds e
 
 pub create_lawful : (is_there : Bool) (name : List ℕ) (kinds : List Kind) → create_wants is_there name ≡ Ok kinds → AreLawfulKinds kinds
@@ -62,7 +62,7 @@ create_lawful is_there name kinds e = create_by (is_lawful_name (created_name na
 delete_by : (is_there is_inbox : Bool) (seen : List OpId) (name : List ℕ) (kinds : List Kind) → IsLawfulName name → (is_inbox ≡ false → name ≡ inbox → ⊥)
     → (if is_there then (if is_inbox then Err InboxStays else Ok (Delete name seen ∷ [])) else Err NoSuchMailbox) ≡ Ok kinds → AreLawfulKinds kinds
 delete_by true true seen name kinds n i e = never InboxStays kinds e
-delete_by true false seen name kinds n i e = one (Delete name seen) kinds (record { name = n; flags = tt; inbox_stays = i refl }) e
+delete_by true false seen name kinds n i e = one (Delete name seen) kinds (record { name = n; flags = tt; inbox_stays = i refl; count = tt }) e
 delete_by false is_inbox seen name kinds n i e = never NoSuchMailbox kinds e
 
 not_inbox : (name : List ℕ) → bytes_eq name inbox ≡ false → name ≡ inbox → ⊥
@@ -75,7 +75,7 @@ delete_lawful is_there seen name kinds n e = delete_by is_there (bytes_eq name i
 subscribe_by : (lawful is_subscribed : Bool) (name : List ℕ) (kinds : List Kind) → (lawful ≡ true → IsLawfulName name)
     → (if lawful then Ok (if is_subscribed then [] else Subscribe name ∷ []) else Err NameNotAllowed) ≡ Ok kinds → AreLawfulKinds kinds
 subscribe_by true true name kinds n e = none kinds e
-subscribe_by true false name kinds n e = one (Subscribe name) kinds (record { name = n refl; flags = tt; inbox_stays = λ k. k }) e
+subscribe_by true false name kinds n e = one (Subscribe name) kinds (record { name = n refl; flags = tt; inbox_stays = λ k. k; count = tt }) e
 subscribe_by false is_subscribed name kinds n e = never NameNotAllowed kinds e
 
 pub subscribe_lawful : (is_subscribed : Bool) (name : List ℕ) (kinds : List Kind) → subscribe_wants is_subscribed name ≡ Ok kinds → AreLawfulKinds kinds
@@ -85,7 +85,7 @@ subscribe_lawful is_subscribed name kinds e = subscribe_by (is_lawful_name name)
 unsubscribe_by : (lawful : Bool) (seen : List OpId) (name : List ℕ) (kinds : List Kind) → (lawful ≡ true → IsLawfulName name)
     → (if lawful then Ok (unsubscribes seen name) else Err NameNotAllowed) ≡ Ok kinds → AreLawfulKinds kinds
 unsubscribe_by true [] name kinds n e = none kinds e
-unsubscribe_by true (id ∷ ids) name kinds n e = one (Unsubscribe name (id ∷ ids)) kinds (record { name = n refl; flags = tt; inbox_stays = λ k. k }) e
+unsubscribe_by true (id ∷ ids) name kinds n e = one (Unsubscribe name (id ∷ ids)) kinds (record { name = n refl; flags = tt; inbox_stays = λ k. k; count = tt }) e
 unsubscribe_by false seen name kinds n e = never NameNotAllowed kinds e
 
 pub unsubscribe_lawful : (seen : List OpId) (name : List ℕ) (kinds : List Kind) → unsubscribe_wants seen name ≡ Ok kinds → AreLawfulKinds kinds
@@ -98,7 +98,7 @@ append_by : (is_there lawful many : Bool) (name : List ℕ) (flags : Flags) (dat
 append_by true true true name flags date text kinds n l m e = never TooManyKeywords kinds e
 append_by true true false name flags date text kinds n l m e =
     let few : length flags.keywords ≤ 32 = grind (arith, nat_tests) in
-    one (Append name flags date text) kinds (record { name = n; flags = (few, sym l); inbox_stays = λ k. k }) e
+    one (Append name flags date text) kinds (record { name = n; flags = (few, sym l); inbox_stays = λ k. k; count = tt }) e
 append_by true false many name flags date text kinds n l m e = never KeywordTooLong kinds e
 append_by false lawful many name flags date text kinds n l m e = never NoDestination kinds e
 

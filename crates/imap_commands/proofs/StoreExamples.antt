@@ -1,12 +1,12 @@
--- Worked examples of what STORE, UID EXPUNGE and COPY want and tell.
-use Rattle.std.proofs.Common.{◌≡◌, refl, ℕ, Bool, true, false, List, [], ◌∷◌, Option, Some, None}
+-- Worked examples of what STORE, EXPUNGE, UID EXPUNGE and COPY want and tell.
+use Rattle.std.proofs.Common.{◌≡◌, refl, ℕ, zero, suc, true, false, List, [], ◌∷◌, Some, None}
 use Rattle.std.specs.Prelude.{Ok, Err}
 use Rattle.crdt_ops.specs.declared.kind.Kind.TheVariants as kind
 use Rattle.imap_answers.specs.declared.answer.Answer.{Answer}
 use Rattle.imap_answers.specs.declared.answer.Answer.TheVariants.{Fetch}
 use Rattle.imap_answers.specs.declared.codes.Code.TheVariants.{CopyUid, ExpungeIssued, Modified}
-use Rattle.imap_answers.specs.declared.words.Refusal.TheVariants.{NoSuchMessage, ReadOnly}
-use Rattle.imap_syntax.specs.declared.store.StoreMode.TheVariants.{Add, Remove}
+use Rattle.imap_answers.specs.declared.words.Refusal.TheVariants.{NoSuchMessage, ReadOnly, TooManyVersions}
+use Rattle.imap_syntax.specs.declared.store.StoreMode.TheVariants.{Add, Remove, Replace}
 use Rattle.imap_types.specs.declared.flags.Flags.{Flags}
 use Rattle.imap_types.specs.declared.sequence_set.SequenceBound.TheVariants.{Number}
 use Rattle.imap_types.specs.declared.sequence_set.SequenceRange.{SequenceRange}
@@ -16,7 +16,7 @@ use Rattle.session_view.specs.declared.entry.Entry.{Entry}
 use Rattle.tags_clocks.specs.declared.id.OpId.{OpId}
 use Rattle.imap_commands.specs.Changing.{changed_flags}
 use Rattle.imap_commands.specs.Copying.{copy_tells}
-use Rattle.imap_commands.specs.Expunging.{uid_expunge_tells}
+use Rattle.imap_commands.specs.Expunging.{close_wants, expunge_wants, uid_expunge_tells}
 use Rattle.imap_commands.specs.Storing.{store_tells, store_wants}
 
 abbrev bare : Flags
@@ -25,8 +25,18 @@ bare = record { answered = false; flagged = false; deleted = false; seen = false
 abbrev flagged : Flags
 flagged = record bare { flagged = true }
 
+abbrev seen : Flags
+seen = record bare { seen = true }
+
+abbrev versioned : ℕ → ℕ → OpId → List OpId → Flags → Listed
+versioned uid modseq origin versions flags = record { uid = uid; modseq = modseq; origin = origin; versions = versions; flags = flags; date = []; text = [] }
+
 abbrev message : ℕ → ℕ → OpId → Flags → Listed
-message uid modseq id flags = record { uid = uid; modseq = modseq; id = id; origin = id; flags = flags; date = []; text = [] }
+message uid modseq id flags = versioned uid modseq id (id ∷ []) flags
+
+abbrev copies : ℕ → OpId → List OpId
+copies zero id = []
+copies (suc n) id = id ∷ copies n id
 
 abbrev shown : ℕ → Entry
 shown uid = record { uid = uid; flags = bare }
@@ -40,16 +50,16 @@ modseq_alone n modseq = Fetch n (record { uid = None; flags = None; date = None;
 module _ (a b c d e : OpId) (folder : List ℕ) where
   -- Three messages, of which the second changed after mod-sequence 4.
   abbrev before : List Listed
-  before = message 1 2 a bare ∷ message 2 5 b (record bare { seen = true }) ∷ message 3 4 c bare ∷ []
+  before = message 1 2 a bare ∷ message 2 5 b seen ∷ message 3 4 c bare ∷ []
 
   abbrev after : List Listed
-  after = message 1 6 d flagged ∷ message 2 5 b (record bare { seen = true }) ∷ message 3 7 e flagged ∷ []
+  after = message 1 6 d flagged ∷ message 2 5 b seen ∷ message 3 7 e flagged ∷ []
 
   abbrev view : List Entry
   view = shown 1 ∷ shown 2 ∷ shown 3 ∷ []
 
   -- STORE 1:3 (UNCHANGEDSINCE 4) +FLAGS.SILENT (\Flagged)
-  stores_two : store_wants folder before view false false (from_to 1 3) (Some 4) Add flagged ≡ Ok (kind.Store folder flagged a a ∷ kind.Store folder flagged c c ∷ [])
+  stores_two : store_wants folder before view false false (from_to 1 3) (Some 4) Add flagged ≡ Ok (kind.Store folder flagged (a ∷ []) a ∷ kind.Store folder flagged (c ∷ []) c ∷ [])
   unfolding changed_flags same_flags
   stores_two = refl
 
@@ -80,3 +90,27 @@ module _ (a b c d e : OpId) (folder : List ℕ) where
   -- COPY 1:2 into a mailbox whose next UID was 7, where UIDs 7 and 8 are then.
   copies_are_told : copy_tells before view false (from_to 1 2) 65537 7 (message 5 2 a bare ∷ message 7 3 d bare ∷ message 8 4 e bare ∷ []) ≡ record { own = []; silent = []; code = Some (CopyUid 65537 (1 ∷ 2 ∷ []) (7 ∷ 8 ∷ [])) }
   copies_are_told = refl
+
+  -- A message with two versions, told as one: STORE 1 -FLAGS (\Seen) names both, and so does EXPUNGE.
+  stores_for_both : store_wants folder (versioned 1 4 a (b ∷ d ∷ []) (record flagged { seen = true }) ∷ []) (shown 1 ∷ []) false false (from_to 1 1) None Remove seen ≡ Ok (kind.Store folder flagged (b ∷ d ∷ []) a ∷ [])
+  unfolding changed_flags same_flags
+  stores_for_both = refl
+
+  expunges_both : expunge_wants folder (versioned 1 4 a (b ∷ d ∷ []) (record bare { deleted = true }) ∷ []) false ≡ Ok (kind.Expunge folder (b ∷ d ∷ []) ∷ [])
+  expunges_both = refl
+
+  -- A message with 65 versions can't be changed; with 64 it can. Where nothing changes nothing is refused.
+  too_many_for_store : store_wants folder (versioned 1 66 a (copies 65 b) seen ∷ []) (shown 1 ∷ []) false false (from_to 1 1) None Replace bare ≡ Err TooManyVersions
+  unfolding changed_flags same_flags
+  too_many_for_store = refl
+
+  few_enough_for_store : store_wants folder (versioned 1 66 a (copies 64 b) seen ∷ []) (shown 1 ∷ []) false false (from_to 1 1) None Replace bare ≡ Ok (kind.Store folder bare (copies 64 b) a ∷ [])
+  unfolding changed_flags same_flags
+  few_enough_for_store = refl
+
+  unchanged_is_not_refused : store_wants folder (versioned 1 66 a (copies 65 b) seen ∷ []) (shown 1 ∷ []) false false (from_to 1 1) None Replace seen ≡ Ok []
+  unfolding changed_flags same_flags
+  unchanged_is_not_refused = refl
+
+  too_many_for_close : close_wants folder (versioned 1 66 a (copies 65 b) (record bare { deleted = true }) ∷ []) false ≡ Err TooManyVersions
+  too_many_for_close = refl

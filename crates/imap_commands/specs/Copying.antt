@@ -1,4 +1,4 @@
-use Rattle.std.specs.Prelude.{ℕ, ◌-◌, Bool, true, not, List, [], ◌∷◌, ◌++◌, map, flat_map, Option, Some, None, Result, Ok, Err, if◌then◌else◌}
+use Rattle.std.specs.Prelude.{ℕ, ◌-◌, Bool, true, not, List, [], ◌∷◌, ◌++◌, map, flat_map, Option, Some, None, Result, Err, if◌then◌else◌}
 use Rattle.crdt_ops.specs.declared.kind.Kind.{Kind}
 use Rattle.crdt_ops.specs.declared.kind.Kind.TheVariants.{Append, Expunge}
 use Rattle.imap_answers.specs.declared.answer.Answer.{Answer}
@@ -13,10 +13,11 @@ use Rattle.mail_listing.specs.Listed.{Listed}
 use Rattle.mail_listing.specs.Listing.{beyond}
 use Rattle.session_view.specs.Sets.{is_in_range, resolved}
 use Rattle.session_view.specs.declared.entry.Entry.{Entry}
+use Rattle.imap_commands.specs.Limits.{within_limits}
 use Rattle.imap_commands.specs.Named.{names_of, those_there}
 use Rattle.imap_commands.specs.Told.{Telling, gone_code, message_at}
 
--- The Append of a message's copy, with its flags, date and text.
+-- The Append of a message's copy, with its flags, date and text: one version for all that the message has.
 abbrev pub append_of : List ℕ → Option Listed → List Kind
 append_of destination None = []
 append_of destination (Some row) = Append destination row.flags row.date row.text ∷ []
@@ -25,10 +26,10 @@ append_of destination (Some row) = Append destination row.flags row.date row.tex
 abbrev pub appends_of : List ℕ → List Listed → List Entry → List ℕ → List Kind
 appends_of destination before view numbers = flat_map (λ n. append_of destination (message_at before view n)) numbers
 
--- The Expunge of a message that is moved, marked as deleted or not.
+-- The Expunge of a message that is moved, marked as deleted or not: it takes all its versions out.
 abbrev pub removal_of : List ℕ → Option Listed → List Kind
 removal_of folder None = []
-removal_of folder (Some row) = Expunge folder row.id ∷ []
+removal_of folder (Some row) = Expunge folder row.versions ∷ []
 
 abbrev pub removals_of : List ℕ → List Listed → List Entry → List ℕ → List Kind
 removals_of folder before view numbers = flat_map (λ n. removal_of folder (message_at before view n)) numbers
@@ -38,7 +39,7 @@ abbrev pub copy_wants : List ℕ → Bool → List Listed → List Entry → Boo
 copy_wants destination is_there before view by_uid set =
     if not (is_in_range by_uid set view) then Err NoSuchMessage
     else (if not is_there then Err NoDestination
-    else Ok (appends_of destination before view (resolved by_uid set view)))
+    else within_limits (appends_of destination before view (resolved by_uid set view)))
 
 -- What MOVE issues, or the first reason against it: first all copies, then what takes the messages out (RFC 9051, section 6.4.8).
 abbrev pub move_wants : List ℕ → List ℕ → Bool → List Listed → List Entry → Bool → Bool → List SequenceRange → Result (List Kind) Refusal
@@ -46,7 +47,7 @@ move_wants folder destination is_there before view read_only by_uid set =
     if not (is_in_range by_uid set view) then Err NoSuchMessage
     else (if read_only then Err ReadOnly
     else (if not is_there then Err NoDestination
-    else Ok (appends_of destination before view (resolved by_uid set view) ++ removals_of folder before view (resolved by_uid set view))))
+    else within_limits (appends_of destination before view (resolved by_uid set view) ++ removals_of folder before view (resolved by_uid set view))))
 
 -- The UIDs of the messages that are copied, of those with these numbers.
 abbrev pub sources_of : List Listed → List Entry → List ℕ → List ℕ

@@ -7,31 +7,40 @@ use Rattle.imap_types.specs.declared.sequence_set.SequenceRange.{SequenceRange}
 use Rattle.mail_listing.specs.Listed.{Listed}
 use Rattle.session_view.specs.Sets.{resolved}
 use Rattle.session_view.specs.declared.entry.Entry.{Entry}
+use Rattle.imap_commands.specs.Limits.{within_limits}
 use Rattle.imap_commands.specs.Told.{Telling, gone_code, message_at}
 
--- The Expunge of a message, where it is marked as deleted.
+-- The Expunge of a message, where one of its versions is marked as deleted: it takes all of them out.
 abbrev pub expunge_of : List ℕ → Listed → List Kind
-expunge_of folder row = if row.flags.deleted then Expunge folder row.id ∷ [] else []
+expunge_of folder row = if row.flags.deleted then Expunge folder row.versions ∷ [] else []
 
--- The same of a message that may be gone.
+-- The Expunges of all messages that are marked so.
+abbrev pub expunges_of : List ℕ → List Listed → List Kind
+expunges_of folder before = flat_map (expunge_of folder) before
+
+-- The Expunge of a message that may be gone.
 abbrev pub expunge_at : List ℕ → Option Listed → List Kind
 expunge_at folder None = []
 expunge_at folder (Some row) = expunge_of folder row
 
--- What EXPUNGE issues, or why not: it takes out what is marked as deleted (RFC 9051, section 6.4.3).
+-- What EXPUNGE issues, or the first reason against it: it takes out what is marked as deleted (RFC 9051, section 6.4.3).
 abbrev pub expunge_wants : List ℕ → List Listed → Bool → Result (List Kind) Refusal
-expunge_wants folder before read_only = if read_only then Err ReadOnly else Ok (flat_map (expunge_of folder) before)
+expunge_wants folder before read_only = if read_only then Err ReadOnly else within_limits (expunges_of folder before)
 
--- What UID EXPUNGE issues, or why not: of the messages that the set names alone (RFC 9051, section 6.4.9).
+-- Those of the messages with these numbers.
+abbrev pub expunges_at : List ℕ → List Listed → List Entry → List ℕ → List Kind
+expunges_at folder before view numbers = flat_map (λ n. expunge_at folder (message_at before view n)) numbers
+
+-- What UID EXPUNGE issues, or the first reason against it: of the messages that the set names alone (RFC 9051, section 6.4.9).
 abbrev pub uid_expunge_wants : List ℕ → List Listed → List Entry → Bool → List SequenceRange → Result (List Kind) Refusal
 uid_expunge_wants folder before view read_only set =
     if read_only then Err ReadOnly
-    else Ok (flat_map (λ n. expunge_at folder (message_at before view n)) (resolved true set view))
+    else within_limits (expunges_at folder before view (resolved true set view))
 
 -- What UID EXPUNGE tells.
 abbrev pub uid_expunge_tells : List Listed → List Entry → List SequenceRange → Telling
 uid_expunge_tells before view set = record { own = []; silent = []; code = gone_code before view (resolved true set view) }
 
--- What CLOSE issues: nothing in a mailbox that is only read (RFC 9051, section 6.4.1).
+-- What CLOSE issues, or why not: nothing in a mailbox that is only read (RFC 9051, section 6.4.1).
 abbrev pub close_wants : List ℕ → List Listed → Bool → Result (List Kind) Refusal
-close_wants folder before read_only = if read_only then Ok [] else Ok (flat_map (expunge_of folder) before)
+close_wants folder before read_only = if read_only then Ok [] else within_limits (expunges_of folder before)

@@ -1,4 +1,4 @@
-use Rattle.std.specs.Prelude.{ℕ, Bool, true, false, not, ◌&&◌, List, [], ◌∷◌, flat_map, Option, Some, None, Result, Ok, Err, if◌then◌else◌}
+use Rattle.std.specs.Prelude.{ℕ, Bool, true, false, not, ◌&&◌, List, [], ◌∷◌, flat_map, Option, Some, None, Result, Err, if◌then◌else◌}
 use Rattle.crdt_ops.specs.declared.kind.Kind.{Kind}
 use Rattle.crdt_ops.specs.declared.kind.Kind.TheVariants.{Store}
 use Rattle.imap_answers.specs.declared.words.Refusal.{Refusal}
@@ -12,6 +12,7 @@ use Rattle.imap_types.specs.declared.sequence_set.SequenceRange.{SequenceRange}
 use Rattle.mail_listing.specs.Listed.{Listed}
 use Rattle.session_view.specs.Sets.{is_in_range, resolved}
 use Rattle.session_view.specs.declared.entry.Entry.{Entry}
+use Rattle.imap_commands.specs.Limits.{within_limits}
 use Rattle.imap_commands.specs.Told.{Telling, entry_at, gone_code, message_at}
 
 -- How FETCH asks.
@@ -22,17 +23,22 @@ mode_of by_uid condstore read_only changed_since = record { by_uid = by_uid; con
 abbrev pub seen_flags : Flags → Flags
 seen_flags flags = record flags { seen = true }
 
--- The Store of `\Seen` of a message: where the mailbox is read-write, an item sets it, the message was kept by CHANGEDSINCE and lacks it.
+-- The Store of `\Seen` of a message, in place of all its versions: where the mailbox is read-write, an item sets it, the message was kept
+-- by CHANGEDSINCE and none of its versions has it.
 abbrev pub seen_store : List ℕ → List FetchItem → FetchMode → Option Listed → List Kind
 seen_store folder items mode None = []
 seen_store folder items mode (Some row) =
-    if is_kept mode.changed_since row && is_marked items mode row then Store folder (seen_flags row.flags) row.id row.origin ∷ [] else []
+    if is_kept mode.changed_since row && is_marked items mode row then Store folder (seen_flags row.flags) row.versions row.origin ∷ [] else []
 
--- What FETCH issues, or why not (RFC 9051, section 6.4.5; RFC 7162, section 3.1.4).
+-- The Stores of `\Seen` of the messages with these numbers.
+abbrev pub seen_stores : List ℕ → List Listed → List Entry → List FetchItem → FetchMode → List ℕ → List Kind
+seen_stores folder before view items mode numbers = flat_map (λ n. seen_store folder items mode (message_at before view n)) numbers
+
+-- What FETCH issues, or the first reason against it (RFC 9051, section 6.4.5; RFC 7162, section 3.1.4).
 abbrev pub fetch_wants : List ℕ → List Listed → List Entry → Bool → Bool → List SequenceRange → List FetchItem → Option ℕ → Result (List Kind) Refusal
 fetch_wants folder before view read_only by_uid set items changed_since =
     if not (is_in_range by_uid set view) then Err NoSuchMessage
-    else Ok (flat_map (λ n. seen_store folder items (mode_of by_uid false read_only changed_since) (message_at before view n)) (resolved by_uid set view))
+    else within_limits (seen_stores folder before view items (mode_of by_uid false read_only changed_since) (resolved by_uid set view))
 
 -- A message of a view as queries see it.
 abbrev pub shown_at : ℕ → Option Entry → List Shown

@@ -1,27 +1,31 @@
-use Rattle.std.specs.Prelude.{◌≡◌, ℕ, List}
+use Rattle.std.specs.Prelude.{◌≡◌, ◌≤◌, ℕ, List, length, IsTrue}
+use Rattle.std.specs.List.{list_all}
 use Rattle.crdt_ops.specs.declared.kind.Kind.{Kind}
 use Rattle.crdt_ops.specs.declared.kind.Kind.TheVariants.{Create, Delete, Append, Expunge, Store, Subscribe, Unsubscribe}
 use Rattle.imap_types.specs.Flags.{IsLawfulFlags}
+use Rattle.imap_types.specs.Keywords.{is_lawful_keyword}
 use Rattle.mail_listing.specs.Listed.{Listed}
 use Rattle.merge_laws.specs.Orders.{IsIn}
 use Rattle.tags_clocks.specs.declared.id.OpId.{OpId}
 
--- Each message of a listing has flags that it may bear.
-abbrev pub HaveLawfulFlags : List Listed → Type 0
-HaveLawfulFlags rows = (row : Listed) → IsIn row rows → IsLawfulFlags row.flags
+-- Each keyword of a message of a listing is one that a message may bear. (A message's versions together may have more of them than one
+-- operation may carry.)
+abbrev pub HaveLawfulKeywords : List Listed → Type 0
+HaveLawfulKeywords rows = (row : Listed) → IsIn row rows → IsTrue (list_all is_lawful_keyword row.flags.keywords)
 
--- The id is that of a message of the listing.
-abbrev pub IsListedId : List Listed → OpId → Type 0
-IsListedId rows old = (row : Listed) × IsIn row rows × (old ≡ row.id)
+-- The ids are those of all versions of a message of the listing.
+abbrev pub AreListedIds : List Listed → List OpId → Type 0
+AreListedIds rows olds = (row : Listed) × IsIn row rows × (olds ≡ row.versions)
 
--- The two are the id of a message of the listing and that of its Append.
-abbrev pub AreListedIds : List Listed → OpId → OpId → Type 0
-AreListedIds rows old origin = (row : Listed) × IsIn row rows × (old ≡ row.id) × (origin ≡ row.origin)
+-- They are, and the other id is that of the message's Append.
+abbrev pub AreListedWithOrigin : List Listed → List OpId → OpId → Type 0
+AreListedWithOrigin rows olds origin = (row : Listed) × IsIn row rows × (olds ≡ row.versions) × (origin ≡ row.origin)
 
--- A lawful change of a message that a folder's listing has, or a copy with lawful flags in the destination.
+-- A lawful change of a message that a folder's listing has, which names no more ids than one operation may, or a copy with lawful flags
+-- in the destination.
 abbrev pub IsIssuable : List ℕ → List ℕ → List Listed → Kind → Type 0
-IsIssuable folder destination rows (Store f flags old origin) = (f ≡ folder) × IsLawfulFlags flags × AreListedIds rows old origin
-IsIssuable folder destination rows (Expunge f old) = (f ≡ folder) × IsListedId rows old
+IsIssuable folder destination rows (Store f flags olds origin) = (f ≡ folder) × IsLawfulFlags flags × (length olds ≤ 64) × AreListedWithOrigin rows olds origin
+IsIssuable folder destination rows (Expunge f olds) = (f ≡ folder) × (length olds ≤ 64) × AreListedIds rows olds
 IsIssuable folder destination rows (Append f flags date text) = (f ≡ destination) × IsLawfulFlags flags
 IsIssuable folder destination rows (Create f) = ⊥
 IsIssuable folder destination rows (Delete f seen) = ⊥

@@ -9,6 +9,7 @@ pub mod Fetching
 pub mod Gives
 pub mod Issued
 pub mod Lawful
+pub mod Limits
 pub mod Mailboxes
 pub mod Named
 pub mod Printing

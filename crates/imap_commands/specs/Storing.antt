@@ -1,5 +1,5 @@
-use Rattle.std.specs.Prelude.{ℕ, nat_le, nat_lt, Bool, true, false, not, ◌&&◌, ◌||◌, is_some, List, [], ◌∷◌, length, flat_map, Option, Some, None, Result, Ok, Err, if◌then◌else◌}
-use Rattle.std.specs.List.{filter, list_all, list_any}
+use Rattle.std.specs.Prelude.{ℕ, nat_le, Bool, true, false, not, ◌&&◌, ◌||◌, is_some, List, [], ◌∷◌, flat_map, Option, Some, None, Result, Err, if◌then◌else◌}
+use Rattle.std.specs.List.{filter, list_all}
 use Rattle.crdt_ops.specs.declared.kind.Kind.{Kind}
 use Rattle.crdt_ops.specs.declared.kind.Kind.TheVariants.{Store}
 use Rattle.imap_answers.specs.declared.answer.Answer.{Answer}
@@ -7,7 +7,7 @@ use Rattle.imap_answers.specs.declared.answer.Answer.TheVariants.{Fetch}
 use Rattle.imap_answers.specs.declared.codes.Code.{Code}
 use Rattle.imap_answers.specs.declared.codes.Code.TheVariants.{Modified}
 use Rattle.imap_answers.specs.declared.words.Refusal.{Refusal}
-use Rattle.imap_answers.specs.declared.words.Refusal.TheVariants.{KeywordTooLong, NoSuchMessage, ReadOnly, TooManyKeywords}
+use Rattle.imap_answers.specs.declared.words.Refusal.TheVariants.{KeywordTooLong, NoSuchMessage, ReadOnly}
 use Rattle.imap_syntax.specs.declared.store.StoreMode.{StoreMode}
 use Rattle.imap_query.specs.Fetching.{where_told}
 use Rattle.imap_types.specs.Keywords.{is_lawful_keyword}
@@ -19,6 +19,7 @@ use Rattle.session_view.specs.Views.{same_flags}
 use Rattle.session_view.specs.declared.entry.Entry.{Entry}
 use Rattle.session_view.specs.declared.replaying.Silent.{Silent}
 use Rattle.imap_commands.specs.Changing.{changed_flags}
+use Rattle.imap_commands.specs.Limits.{within_limits}
 use Rattle.imap_commands.specs.Named.{names_of}
 use Rattle.imap_commands.specs.Told.{Telling, entry_at, gone_code, message_at}
 
@@ -48,22 +49,15 @@ those_taken before view since numbers = filter (λ n. is_taken since (message_at
 abbrev pub those_refused : List Listed → List Entry → Option ℕ → List ℕ → List ℕ
 those_refused before view since numbers = filter (λ n. is_refused since (message_at before view n)) numbers
 
--- A message would bear too many keywords.
-abbrev pub is_overfull : StoreMode → Flags → Option Listed → Bool
-is_overfull mode given None = false
-is_overfull mode given (Some row) = nat_lt 32 (length (changed_flags mode row.flags given).keywords)
-
--- The Store of a message, where its flags change.
+-- The Store of a message, where its flags change: one version with the new flags in place of all that it has.
 abbrev pub store_of : List ℕ → StoreMode → Flags → Option Listed → List Kind
 store_of folder mode given None = []
 store_of folder mode given (Some row) =
-    if same_flags (changed_flags mode row.flags given) row.flags then [] else Store folder (changed_flags mode row.flags given) row.id row.origin ∷ []
+    if same_flags (changed_flags mode row.flags given) row.flags then [] else Store folder (changed_flags mode row.flags given) row.versions row.origin ∷ []
 
--- The Stores of the messages with these numbers, unless one would bear too many keywords.
-abbrev pub stores_of : List ℕ → List Listed → List Entry → List ℕ → StoreMode → Flags → Result (List Kind) Refusal
-stores_of folder before view numbers mode given =
-    if list_any (λ n. is_overfull mode given (message_at before view n)) numbers then Err TooManyKeywords
-    else Ok (flat_map (λ n. store_of folder mode given (message_at before view n)) numbers)
+-- The Stores of the messages with these numbers.
+abbrev pub stores_of : List ℕ → List Listed → List Entry → List ℕ → StoreMode → Flags → List Kind
+stores_of folder before view numbers mode given = flat_map (λ n. store_of folder mode given (message_at before view n)) numbers
 
 -- What STORE issues, or the first reason against it (RFC 9051, section 6.4.6; RFC 7162, section 3.1.3).
 abbrev pub store_wants : List ℕ → List Listed → List Entry → Bool → Bool → List SequenceRange → Option ℕ → StoreMode → Flags → Result (List Kind) Refusal
@@ -71,7 +65,7 @@ store_wants folder before view read_only by_uid set since mode given =
     if not (is_in_range by_uid set view) then Err NoSuchMessage
     else (if read_only then Err ReadOnly
     else (if has_unlawful_keyword given then Err KeywordTooLong
-    else stores_of folder before view (those_taken before view since (resolved by_uid set view)) mode given))
+    else within_limits (stores_of folder before view (those_taken before view since (resolved by_uid set view)) mode given)))
 
 -- FETCH of a message as it is behind the command.
 abbrev pub stored_answer : Bool → Bool → Bool → ℕ → Option Listed → List Answer

@@ -10,8 +10,10 @@ ghost use Rattle.imap_commands.specs.Copying.{append_of, appends_of, copied_code
 ghost use Rattle.imap_commands.specs.Gives.{Gives};
 ghost use Rattle.imap_commands.specs.Told.{gone_code, message_at};
 
+use crate::limits::within_limits;
 use crate::named::{named, names_of, resolved, set_of, those_there};
 use crate::telling::{Telling, gone_code, message_at};
+use crate::versions::old_ids;
 use crdt_ops::Kind;
 use imap_answers::{Answer, Code, Notice, Refusal};
 use imap_types::{Name, NumberSet, Octets, SequenceSet};
@@ -30,8 +32,8 @@ struct Copied {
     gone: Option<Code>,
 }
 
-/// What COPY issues in the destination, or the first reason against it: `NoSuchMessage`, `NoDestination`. `NoMemory` may come in place of
-/// any answer. The texts are copied.
+/// What COPY issues in the destination, or the first reason against it: `NoSuchMessage`, `NoDestination`, `TooManyKeywords` (more than 32
+/// on a message). `NoMemory` may come in place of any answer. The texts are copied.
 pub fn copy_wants(
     alloc: Global,
     destination: &Name,
@@ -56,11 +58,11 @@ pub fn copy_wants(
         &numbers,
         &mut kinds,
     )?;
-    Ok(kinds)
+    within_limits(kinds)
 }
 
-/// What MOVE issues, or the first reason against it: `NoSuchMessage`, `ReadOnly`, `NoDestination`. `NoMemory` may come in place of any
-/// answer. It issues all copies in the destination first, then what takes the messages out of the folder. The texts are copied.
+/// What MOVE issues, or the first reason against it: `NoSuchMessage`, `ReadOnly`, `NoDestination`, `TooManyKeywords` (more than 32 on a
+/// message), `TooManyVersions` (more than 64 of one). `NoMemory` may come in place of any answer. It issues all copies in the destination first, then what takes the messages out of the folder. The texts are copied.
 pub fn move_wants(
     alloc: Global,
     folder: &Name,
@@ -91,7 +93,7 @@ pub fn move_wants(
         &mut kinds,
     )?;
     push_removals(alloc, folder, before, view.entries(), &numbers, &mut kinds)?;
-    Ok(kinds)
+    within_limits(kinds)
 }
 
 /// Adds the Appends of the messages with these numbers.
@@ -125,7 +127,7 @@ fn push_append(
         return Ok(());
     };
     let folder = destination.copy(alloc)?;
-    let flags = row.flags.copy(alloc)?;
+    let flags = row.versions.flags(alloc)?;
     let text = Octets::copied_from(alloc, row.text)?;
     kinds.push(Kind::Append {
         folder,
@@ -168,7 +170,7 @@ fn push_removal(
     };
     kinds.push(Kind::Expunge {
         folder: folder.copy(alloc)?,
-        old: row.id,
+        olds: old_ids(alloc, &row.versions)?,
     })?;
     Ok(())
 }

@@ -1,14 +1,15 @@
 //! EXPUNGE, UID EXPUNGE and CLOSE (RFC 9051, sections 6.4.3, 6.4.9 and 6.4.1).
 
-ghost use Rattle.std.specs.Prelude.{◌≡◌, ◌++◌, flat_map, IfOk, OnOk};
+ghost use Rattle.std.specs.Prelude.{◌≡◌, ◌++◌, IfOk, OnOk};
 ghost use Rattle.std.specs.List.{slice_get};
 ghost use Rattle.mail_listing.specs.Listing.{listed};
-ghost use Rattle.imap_commands.specs.Expunging.{close_wants, expunge_at, expunge_of, expunge_wants, uid_expunge_tells, uid_expunge_wants};
+ghost use Rattle.imap_commands.specs.Expunging.{close_wants, expunge_at, expunge_of, expunge_wants, expunges_at, expunges_of, uid_expunge_tells, uid_expunge_wants};
 ghost use Rattle.imap_commands.specs.Gives.{Gives};
-ghost use Rattle.imap_commands.specs.Told.{message_at};
 
+use crate::limits::within_limits;
 use crate::named::resolved;
 use crate::telling::{Telling, gone_code, message_at};
+use crate::versions::old_ids;
 use crdt_ops::Kind;
 use imap_answers::Refusal;
 use imap_types::{Name, SequenceSet};
@@ -16,8 +17,9 @@ use mail_listing::{Row, Rows};
 use session_view::{Entry, View};
 use std::alloc::{AllocError, Global};
 
-/// What EXPUNGE issues in this folder, or why not (`ReadOnly`, `NoMemory`): it takes out the messages of the listing that are marked as
-/// deleted, those among them that the session wasn't told of yet. It looks at each message once.
+/// What EXPUNGE issues in this folder, or the first reason against it: `ReadOnly`, `TooManyVersions` (more than 64 of a message that it
+/// takes out). `NoMemory` may come in place of any answer. It takes out the messages of the listing that are marked as deleted, those among
+/// them that the session wasn't told of yet. It looks at each message once.
 pub fn expunge_wants(
     alloc: Global,
     folder: &Name,
@@ -29,10 +31,10 @@ pub fn expunge_wants(
     if read_only {
         return Err(Refusal::ReadOnly);
     }
-    Ok(expunges(alloc, folder, before)?)
+    within_limits(expunges_of(alloc, folder, before)?)
 }
 
-/// What CLOSE issues: what EXPUNGE does, and nothing in a mailbox that is only read; or `NoMemory`.
+/// What CLOSE issues, or why not (`TooManyVersions`, `NoMemory`): what EXPUNGE does, and nothing in a mailbox that is only read.
 pub fn close_wants(
     alloc: Global,
     folder: &Name,
@@ -44,12 +46,12 @@ pub fn close_wants(
     if read_only {
         return Ok(Vec::new(alloc));
     }
-    Ok(expunges(alloc, folder, before)?)
+    within_limits(expunges_of(alloc, folder, before)?)
 }
 
 /// The Expunges of all messages that are marked as deleted.
-fn expunges(alloc: Global, folder: &Name, before: &Rows<'_>) -> Result<Vec<Kind>, AllocError>
-    ensures { IfOk result (λ kinds. kinds.items ≡ flat_map (expunge_of folder.now) before.now) }
+fn expunges_of(alloc: Global, folder: &Name, before: &Rows<'_>) -> Result<Vec<Kind>, AllocError>
+    ensures { IfOk result (λ kinds. kinds.items ≡ expunges_of folder.now before.now) }
 {
     let mut kinds = Vec::new(alloc);
     for place in 0..before.count() as usize {
@@ -83,18 +85,19 @@ fn push_expunge(
 ) -> Result<(), AllocError>
     ensures { OnOk result (kinds.new.items ≡ kinds.old.items ++ expunge_of folder.now (listed row.now)) }
 {
-    if !row.flags.deleted {
+    if !row.versions.deleted() {
         return Ok(());
     }
     kinds.push(Kind::Expunge {
         folder: folder.copy(alloc)?,
-        old: row.id,
+        olds: old_ids(alloc, &row.versions)?,
     })?;
     Ok(())
 }
 
-/// What UID EXPUNGE issues, or why not (`ReadOnly`, `NoMemory`): it takes out those of the view's messages that the set names by UIDs and
-/// that are marked as deleted.
+/// What UID EXPUNGE issues, or the first reason against it: `ReadOnly`, `TooManyVersions` (more than 64 of a message that it takes out).
+/// `NoMemory` may come in place of any answer. It takes out those of the view's messages that the set names by UIDs and that are marked as
+/// deleted.
 pub fn uid_expunge_wants(
     alloc: Global,
     folder: &Name,
@@ -109,18 +112,19 @@ pub fn uid_expunge_wants(
         return Err(Refusal::ReadOnly);
     }
     let numbers = resolved(alloc, true, set, view)?;
-    Ok(expunges_of(alloc, folder, before, view.entries(), &numbers)?)
+    let kinds = expunges_at(alloc, folder, before, view.entries(), &numbers)?;
+    within_limits(kinds)
 }
 
 /// The Expunges of those messages that are marked as deleted.
-fn expunges_of(
+fn expunges_at(
     alloc: Global,
     folder: &Name,
     before: &Rows<'_>,
     view: &[Entry],
     numbers: &[u32],
 ) -> Result<Vec<Kind>, AllocError>
-    ensures { IfOk result (λ kinds. kinds.items ≡ flat_map (λ n. expunge_at folder.now (message_at before.now view.now n)) numbers.now) }
+    ensures { IfOk result (λ kinds. kinds.items ≡ expunges_at folder.now before.now view.now numbers.now) }
 {
     let mut kinds = Vec::new(alloc);
     for number in numbers {

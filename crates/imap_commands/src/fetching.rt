@@ -1,22 +1,28 @@
 //! FETCH and UID FETCH (RFC 9051, section 6.4.5; RFC 7162, section 3.1.4).
 
-ghost use Rattle.std.specs.Prelude.{◌≡◌, ◌++◌, flat_map, IfOk, OnOk};
-ghost use Rattle.imap_commands.specs.Fetching.{fetch_tells, fetch_wants, seen_flags, seen_store, shown_at, shown_of};
+ghost use Rattle.std.specs.Prelude.{◌≡◌, ◌++◌, IfOk, OnOk};
+ghost use Rattle.message_versions.specs.Unions.{united};
+ghost use Rattle.imap_commands.specs.Fetching.{fetch_tells, fetch_wants, seen_flags, seen_store, seen_stores, shown_at, shown_of};
 ghost use Rattle.imap_commands.specs.Gives.{Gives};
 ghost use Rattle.imap_commands.specs.Told.{entry_at, message_at};
 
+use crate::limits::within_limits;
 use crate::named::{named, resolved};
 use crate::telling::{Telling, entry_at, gone_code, message_at};
+use crate::versions::old_ids;
 use crdt_ops::Kind;
 use imap_answers::Refusal;
 use imap_query::{FetchMode, Shown, fetch, is_kept, is_marked};
 use imap_syntax::FetchItem;
 use imap_types::{Flags, Name, SequenceSet};
 use mail_listing::Rows;
+use message_versions::Versions;
 use session_view::{Entry, View};
 use std::alloc::{AllocError, Global};
 
-/// What FETCH issues in this folder, or why not (`NoSuchMessage`, `NoMemory`): Stores of `\Seen`, where it reads a section without PEEK.
+/// What FETCH issues in this folder, or the first reason against it: `NoSuchMessage`, `TooManyKeywords` (more than 32 on a message that it
+/// marks), `TooManyVersions` (more than 64 of such a message). `NoMemory` may come in place of any answer. It issues Stores of `\Seen`,
+/// where it reads a section without PEEK.
 pub fn fetch_wants(
     alloc: Global,
     folder: &Name,
@@ -37,7 +43,8 @@ pub fn fetch_wants(
         writable: !read_only,
         changed_since,
     };
-    Ok(seen_stores(alloc, folder, before, view.entries(), &numbers, items, mode)?)
+    let kinds = seen_stores(alloc, folder, before, view.entries(), &numbers, items, mode)?;
+    within_limits(kinds)
 }
 
 /// The Stores of `\Seen` of the messages with these numbers.
@@ -50,7 +57,7 @@ fn seen_stores(
     items: &[FetchItem],
     mode: FetchMode,
 ) -> Result<Vec<Kind>, AllocError>
-    ensures { IfOk result (λ kinds. kinds.items ≡ flat_map (λ n. seen_store folder.now items.now mode (message_at before.now view.now n)) numbers.now) }
+    ensures { IfOk result (λ kinds. kinds.items ≡ seen_stores folder.now before.now view.now items.now mode numbers.now) }
 {
     let mut kinds = Vec::new(alloc);
     for number in numbers {
@@ -85,18 +92,18 @@ fn push_seen(
     }
     kinds.push(Kind::Store {
         folder: folder.copy(alloc)?,
-        flags: seen_flags(alloc, row.flags)?,
-        old: row.id,
+        flags: seen_flags(alloc, &row.versions)?,
+        olds: old_ids(alloc, &row.versions)?,
         origin: row.origin,
     })?;
     Ok(())
 }
 
-/// Flags with `\Seen`.
-fn seen_flags(alloc: Global, flags: &Flags) -> Result<Flags, AllocError>
-    ensures { IfOk result (λ seen. seen ≡ seen_flags flags.now) }
+/// The flags of a message's versions together, with `\Seen`.
+fn seen_flags(alloc: Global, versions: &Versions<'_>) -> Result<Flags, AllocError>
+    ensures { IfOk result (λ seen. seen ≡ seen_flags (united versions.now.list.now)) }
 {
-    let mut seen = flags.copy(alloc)?;
+    let mut seen = versions.flags(alloc)?;
     seen.seen = true;
     Ok(seen)
 }

@@ -16,6 +16,7 @@ mod fetching;
 mod flag_sets;
 mod issued;
 mod laws;
+mod limits;
 mod mailboxes;
 mod named;
 mod printable;
@@ -24,6 +25,7 @@ mod selecting;
 mod session;
 mod storing;
 mod telling;
+mod versions;
 
 pub use appending::{append_tells, append_wants};
 pub use asking::{

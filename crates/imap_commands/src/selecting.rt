@@ -4,6 +4,7 @@ ghost use Rattle.std.specs.Prelude.{◌≡◌, ◌++◌, ◌+◌, ◌∷◌, [],
 ghost use Rattle.imap_answers.specs.declared.answer.Answer.TheVariants.{Exists as ExistsAnswer, Flags as FlagsAnswer, List as ListAnswer, Tell as TellAnswer};
 ghost use Rattle.imap_answers.specs.declared.codes.Notice.TheVariants.{HighestModSeq as HighestModSeqNotice, PermanentFlags as PermanentFlagsNotice, UidNext as UidNextNotice, UidValidity as UidValidityNotice};
 ghost use Rattle.imap_answers.specs.declared.mailbox.MailboxState.TheVariants.{There};
+ghost use Rattle.message_versions.specs.Unions.{united};
 ghost use Rattle.imap_commands.specs.Gives.{Gives};
 ghost use Rattle.imap_commands.specs.Selecting.{access_code, flags_in_use, listed_keywords, mailbox_answers, permanent_flags, select_tells, select_wants, with_keywords, with_rows};
 
@@ -13,6 +14,7 @@ use imap_answers::{Answer, Code, MailboxState, Notice, Refusal};
 use imap_query::Marks;
 use imap_types::{Flags, Keywords, Name, Octets};
 use mail_listing::Rows;
+use message_versions::Versions;
 use std::alloc::{AllocError, Global};
 
 /// What SELECT and EXAMINE issue, which is nothing, or why they are refused: `NoSuchMailbox` where the mailbox isn't there
@@ -182,9 +184,21 @@ fn add_keywords_at(
     ensures { OnOk result (with_rows (drop (place + 1) rows.now) keywords.new ≡ with_rows (drop place rows.now) keywords.old) }
 {
     match rows.row_at(place as usize) {
-        Some(row) => add_keywords(alloc, row.flags.keywords.as_slice(), keywords),
+        Some(row) => add_keywords_of(alloc, &row.versions, keywords),
         None => Ok(()),
     }
+}
+
+/// Adds the keywords of a message's versions.
+fn add_keywords_of(
+    alloc: Global,
+    versions: &Versions<'_>,
+    keywords: &mut Keywords,
+) -> Result<(), AllocError>
+    ensures { OnOk result (keywords.new ≡ with_keywords (united versions.now.list.now).keywords keywords.old) }
+{
+    let flags = versions.flags(alloc)?;
+    add_keywords(alloc, flags.keywords.as_slice(), keywords)
 }
 
 fn add_keywords(alloc: Global, words: &[Octets], keywords: &mut Keywords) -> Result<(), AllocError>

@@ -1,31 +1,35 @@
 //! STORE and UID STORE (RFC 9051, section 6.4.6; RFC 7162, section 3.1.3).
 
 ghost use Rattle.std.specs.Prelude.{◌≡◌, ◌&&◌, ◌++◌, flat_map, not, is_some, IfOk, OnOk};
-ghost use Rattle.std.specs.List.{list_all, list_any};
+ghost use Rattle.std.specs.List.{list_all};
 ghost use Rattle.imap_types.specs.Keywords.{is_lawful_keyword};
 ghost use Rattle.imap_types.specs.Numbers.{AreRisingFrom};
 ghost use Rattle.mail_listing.specs.Listing.{listed};
+ghost use Rattle.message_versions.specs.Unions.{united};
 ghost use Rattle.imap_query.specs.Fetching.{where_told};
 ghost use Rattle.session_view.specs.Views.{same_flags};
 ghost use Rattle.imap_commands.specs.Gives.{Gives};
 ghost use Rattle.imap_commands.specs.Named.{names_of};
-ghost use Rattle.imap_commands.specs.Storing.{has_unlawful_keyword, is_overfull, is_refused, is_taken, is_unchanged, modified_code, silent_at, silents_of, store_of, store_tells, store_wants, stored_answer, stored_answers, stores_of, those_refused, those_taken};
+ghost use Rattle.imap_commands.specs.Storing.{has_unlawful_keyword, is_refused, is_taken, is_unchanged, modified_code, silent_at, silents_of, store_of, store_tells, store_wants, stored_answer, stored_answers, stores_of, those_refused, those_taken};
 ghost use Rattle.imap_commands.specs.Told.{entry_at, gone_code, message_at};
 
 use crate::changing::changed;
+use crate::limits::within_limits;
 use crate::named::{named, names_of, resolved, set_of};
 use crate::telling::{Telling, entry_at, gone_code, message_at};
+use crate::versions::old_ids;
 use crdt_ops::Kind;
 use imap_answers::{Answer, Code, FetchItems, Refusal, Sections};
 use imap_syntax::StoreMode;
-use imap_types::{Flags, MAX_KEYWORDS, Name, Octets, SequenceSet, is_lawful_keyword};
+use imap_types::{Flags, Name, Octets, SequenceSet, is_lawful_keyword};
 use mail_listing::{Row, Rows};
+use message_versions::Versions;
 use session_view::{Entry, Silent, View};
 use std::alloc::{AllocError, Global};
 
 /// What STORE issues in this folder, or the first reason against it: `NoSuchMessage`, `ReadOnly`, `KeywordTooLong` (a keyword that no
-/// message may bear), `TooManyKeywords` (more than 32 on a message that it changes). `NoMemory` may come in place of any answer. It looks
-/// each named message up three times, by binary search.
+/// message may bear), `TooManyKeywords` (more than 32 on a message that it changes), `TooManyVersions` (more than 64 of such a message).
+/// `NoMemory` may come in place of any answer. It looks each named message up twice, by binary search.
 pub fn store_wants(
     alloc: Global,
     folder: &Name,
@@ -48,25 +52,8 @@ pub fn store_wants(
         return Err(Refusal::KeywordTooLong);
     }
     let taken = those_taken(alloc, before, view.entries(), unchanged_since, &numbers)?;
-    stores_of(alloc, folder, before, view.entries(), &taken, mode, given)
-}
-
-/// The Stores of the messages with these numbers, unless one would bear too many keywords.
-fn stores_of(
-    alloc: Global,
-    folder: &Name,
-    before: &Rows<'_>,
-    view: &[Entry],
-    numbers: &[u32],
-    mode: StoreMode,
-    given: &Flags,
-) -> Result<Vec<Kind>, Refusal>
-    ensures { Gives (λ kinds. kinds.items) result (stores_of folder.now before.now view.now numbers.now mode given.now) }
-{
-    if are_overfull(alloc, before, view, numbers, mode, given)? {
-        return Err(Refusal::TooManyKeywords);
-    }
-    Ok(stores(alloc, folder, before, view, numbers, mode, given)?)
+    let kinds = stores_of(alloc, folder, before, view.entries(), &taken, mode, given)?;
+    within_limits(kinds)
 }
 
 fn has_unlawful_keyword(flags: &Flags) -> bool
@@ -152,43 +139,8 @@ fn those_refused(
     Ok(refused)
 }
 
-/// Whether some of the messages would bear too many keywords.
-fn are_overfull(
-    alloc: Global,
-    before: &Rows<'_>,
-    view: &[Entry],
-    numbers: &[u32],
-    mode: StoreMode,
-    given: &Flags,
-) -> Result<bool, AllocError>
-    ensures { IfOk result (λ are. are ≡ list_any (λ n. is_overfull mode given.now (message_at before.now view.now n)) numbers.now) }
-{
-    for number in numbers {
-        if is_overfull(alloc, before, view, *number, mode, given)? {
-            return Ok(true);
-        }
-    }
-    Ok(false)
-}
-
-fn is_overfull(
-    alloc: Global,
-    before: &Rows<'_>,
-    view: &[Entry],
-    number: u32,
-    mode: StoreMode,
-    given: &Flags,
-) -> Result<bool, AllocError>
-    ensures { IfOk result (λ is. is ≡ is_overfull mode given.now (message_at before.now view.now number)) }
-{
-    match message_at(before, view, number) {
-        None => Ok(false),
-        Some(row) => Ok(changed(alloc, mode, row.flags, given)?.keywords.len() > MAX_KEYWORDS),
-    }
-}
-
-/// The Stores of the messages whose flags change.
-fn stores(
+/// The Stores of those of the messages with these numbers whose flags change.
+fn stores_of(
     alloc: Global,
     folder: &Name,
     before: &Rows<'_>,
@@ -197,7 +149,7 @@ fn stores(
     mode: StoreMode,
     given: &Flags,
 ) -> Result<Vec<Kind>, AllocError>
-    ensures { IfOk result (λ kinds. kinds.items ≡ flat_map (λ n. store_of folder.now mode given.now (message_at before.now view.now n)) numbers.now) }
+    ensures { IfOk result (λ kinds. kinds.items ≡ stores_of folder.now before.now view.now numbers.now mode given.now) }
 {
     let mut kinds = Vec::new(alloc);
     for number in numbers {
@@ -208,7 +160,7 @@ fn stores(
     Ok(kinds)
 }
 
-/// Adds the Store of a message, where its flags change.
+/// Adds the Store of a message, where its flags change: it takes the place of all its versions.
 fn push_store(
     alloc: Global,
     folder: &Name,
@@ -224,14 +176,15 @@ fn push_store(
     let Some(row) = message_at(before, view, number) else {
         return Ok(());
     };
-    let flags = changed(alloc, mode, row.flags, given)?;
-    if are_same(&flags, row.flags) {
+    let old = row.versions.flags(alloc)?;
+    let flags = changed(alloc, mode, &old, given)?;
+    if are_same(&flags, &old) {
         return Ok(());
     }
     kinds.push(Kind::Store {
         folder: folder.copy(alloc)?,
         flags,
-        old: row.id,
+        olds: old_ids(alloc, &row.versions)?,
         origin: row.origin,
     })?;
     Ok(())
@@ -373,7 +326,7 @@ fn push_answer(
     let Some(row) = message_at(after, view, number) else {
         return Ok(());
     };
-    let flags = flags_where(alloc, with_flags, row.flags)?;
+    let flags = flags_where(alloc, with_flags, &row.versions)?;
     answers.push(Answer::Fetch {
         number,
         items: FetchItems {
@@ -388,13 +341,18 @@ fn push_answer(
     Ok(())
 }
 
-fn flags_where(alloc: Global, told: bool, flags: &Flags) -> Result<Option<Flags>, AllocError>
-    ensures { IfOk result (λ copied. copied ≡ where_told told flags.now) }
+/// The flags of a message's versions together, where they are told.
+fn flags_where(
+    alloc: Global,
+    told: bool,
+    versions: &Versions<'_>,
+) -> Result<Option<Flags>, AllocError>
+    ensures { IfOk result (λ flags. flags ≡ where_told told (united versions.now.list.now)) }
 {
     if !told {
         return Ok(None);
     }
-    Ok(Some(flags.copy(alloc)?))
+    Ok(Some(versions.flags(alloc)?))
 }
 
 /// The flags that a session takes where STORE is silent.

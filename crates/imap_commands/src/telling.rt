@@ -84,7 +84,7 @@ pub fn entry_at(view: &[Entry], number: u32) -> Option<&Entry>
 }
 
 /// What the listing has for the view's message with this number; `None` where it is gone. A binary search.
-pub fn message_at<'a>(rows: &Rows<'a>, view: &[Entry], number: u32) -> Option<Row<'a>>
+pub fn message_at<'a>(rows: &'a Rows<'_>, view: &[Entry], number: u32) -> Option<Row<'a>>
     ensures { option_map listed result ≡ message_at rows.now view.now number }
 {
     match entry_at(view, number) {

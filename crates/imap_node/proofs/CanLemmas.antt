@@ -1,5 +1,5 @@
 use Rattle.std.proofs.Common.{◌≡◌, inl, inr, ℕ, Bool, true, false, List, [], ◌∷◌, Option, Some, None, arith, refl, sym, ap, subst}
-use Rattle.std.specs.Prelude.{Result, Ok, Err, not, nat_lt, length, ◌==◌, ◌<◌, zero, suc, slice_index, if◌then◌else◌}
+use Rattle.std.specs.Prelude.{Result, Ok, Err, not, nat_lt, length, ◌==◌, ◌<◌, ◌≤◌, zero, suc, slice_index, if◌then◌else◌}
 use Rattle.std.specs.List.{filter_map, list_all, list_any}
 use Rattle.std.specs.Str.{bytes_eq}
 use Rattle.std.proofs.lemmas.Bool.{and_parts, false≢true}
@@ -11,7 +11,7 @@ use Rattle.crdt_ops.specs.declared.kind.Kind.TheVariants as kinds
 use Rattle.crdt_ops.specs.declared.op.Op.{Op}
 use Rattle.crdt_ops.specs.Order.{id_order}
 use Rattle.crdt_ops.specs.Sets.{delete_set_of, folder_id, folders_of, subscription_id, subscription_tags_of}
-use Rattle.crdt_ops.specs.Sound.{AreCovered, CoversNamed, IsSound}
+use Rattle.crdt_ops.specs.Sound.{AreCovered, CoversNamed, IsCount, IsSound}
 use Rattle.crdt_ops.specs.Tags.{FolderTag, MessageTag, SubscriptionTag, Tag, added_by, adds, is_present, is_some_tag, name_of, present_tags, removes}
 use Rattle.crdt_ops.specs.TagLaws.{adds_own, same_tag_is}
 use Rattle.crdt_ops.proofs.MeaningLemmas.{folders_listed}
@@ -40,7 +40,7 @@ use Rattle.imap_syntax.specs.declared.command.Command.TheVariants as commands
 use Rattle.imap_syntax.specs.declared.idle.IdleLine.TheVariants.{Done as DoneLine, Other}
 use Rattle.imap_node.specs.declared.input.Input.{Input}
 use Rattle.imap_node.specs.declared.input.Input.TheVariants as inputs
-use Rattle.imap_commands.specs.Issued.{AreIssuable, HaveLawfulFlags, IsIssuable}
+use Rattle.imap_commands.specs.Issued.{AreIssuable, HaveLawfulKeywords, IsIssuable}
 use Rattle.imap_commands.specs.Lawful.{AreLawfulKinds, IsLawfulKind}
 use Rattle.imap_types.specs.Keywords.{is_lawful_keyword}
 use Rattle.imap_types.specs.Names.{IsLawfulName, inbox}
@@ -62,7 +62,8 @@ use Rattle.uid_projection.specs.Applied.{IsApplied}
 use Rattle.uid_projection.specs.Incarnations.{is_there, uidvalidity_of}
 use Rattle.uid_projection.specs.Listing.{listing}
 use Rattle.uid_projection.proofs.Listed.{row_in}
-use Rattle.uid_projection.proofs.ListingLaws.{flags_lawful, names_applied}
+use Rattle.uid_projection.proofs.ListingLaws.{keywords_lawful, names_applied}
+use Rattle.uid_projection.proofs.Versions.{version_in}
 
 -- ---- names
 
@@ -87,8 +88,8 @@ unfolding tag_name
 named_by t id (kinds.Create folder) h = ap tag_name (same_tag_is t (FolderTag folder id) h)
 named_by t id (kinds.Delete folder seen) h = absurd (false≢true h)
 named_by t id (kinds.Append folder flags date text) h = ap tag_name (same_tag_is t (MessageTag folder id) h)
-named_by t id (kinds.Expunge folder old) h = ap tag_name (same_tag_is t (FolderTag folder id) h)
-named_by t id (kinds.Store folder flags old origin) h = ap tag_name (same_tag_is t (MessageTag folder id) h)
+named_by t id (kinds.Expunge folder olds) h = ap tag_name (same_tag_is t (FolderTag folder id) h)
+named_by t id (kinds.Store folder flags olds origin) h = ap tag_name (same_tag_is t (MessageTag folder id) h)
 named_by t id (kinds.Subscribe name) h = ap tag_name (same_tag_is t (SubscriptionTag name id) h)
 named_by t id (kinds.Unsubscribe name seen) h = absurd (false≢true h)
 
@@ -120,7 +121,8 @@ listed_lawful : (start : Start) (folder : List ℕ) (ops : List Op) (row : Liste
 unfolding tag_name
 listed_lawful start folder ops row a i =
     let w = row_in start folder ops row i in
-    tag_lawful ops (MessageTag folder w.0) a.sound w.2.present
+    let v = (version_in folder ops w.0).0 w.1 in
+    tag_lawful ops (MessageTag folder v.0) a.sound v.1.0
 
 -- ---- ids
 
@@ -255,38 +257,45 @@ module _ (start : Start) (ops : List Op) (a : IsApplied ops) where
   pub view_row : (view : Seen) (row : Listed) → IsIn row (rows_for start ops view) → IsIn row (listing start view.name ops)
   view_row view row i = under_in view.uidvalidity (uidvalidity_of start view.name ops) (listing start view.name ops) row i
 
-  pub view_flags : (view : Seen) → HaveLawfulFlags (rows_for start ops view)
-  view_flags view = λ row i. flags_lawful start view.name ops row a (view_row view row i)
+  pub view_keywords : (view : Seen) → HaveLawfulKeywords (rows_for start ops view)
+  view_keywords view = λ row i. keywords_lawful start view.name ops row a (view_row view row i)
 
   module _ (view : Seen) (destination : List ℕ) (lawful : IsLawfulName destination) where
     name_of_view : (row : Listed) → IsIn row (rows_for start ops view) → IsLawfulName view.name
     name_of_view row i = listed_lawful start view.name ops row a (view_row view row i)
 
-    ids_of_row : (row : Listed) → IsIn row (rows_for start ops view) → HasId (λ (o : Op). o.id) ops row.id × HasId (λ (o : Op). o.id) ops row.origin
+    ids_of_row : (row : Listed) → IsIn row (rows_for start ops view)
+        → ((id : OpId) → IsIn id row.versions → HasId (λ (o : Op). o.id) ops id) × HasId (λ (o : Op). o.id) ops row.origin × (1 ≤ length row.versions)
     ids_of_row row i = names_applied start view.name ops row a (view_row view row i)
+
+    versions_covered : (clock : List (ℕ × ℕ)) → IsClockOf (λ (o : Op). o.id) ops clock → (row : Listed) → IsIn row (rows_for start ops view) → (olds : List OpId) → olds ≡ row.versions → AreCovered clock olds
+    versions_covered clock counts row i olds e = subst (AreCovered clock) (sym e) (covered_from clock row.versions (λ id h. (counts id).1 ((ids_of_row row i).0 id h)))
+
+    versions_counted : (row : Listed) → IsIn row (rows_for start ops view) → (olds : List OpId) → olds ≡ row.versions → length olds ≤ 64 → IsCount olds
+    versions_counted row i olds e few = (subst (λ (ids : List OpId). 1 ≤ length ids) (sym e) (ids_of_row row i).2, few)
 
     issuable_can : (kind : Kind) → IsIssuable view.name destination (rows_for start ops view) kind → CanIssue ops kind
     issuable_can (kinds.Create f) h = absurd h
     issuable_can (kinds.Delete f seen) h = absurd h
     issuable_can (kinds.Append f flags date text) h = record {
-      lawful = record { name = subst IsLawfulName (sym h.0) lawful; flags = h.1; inbox_stays = λ k. k };
+      lawful = record { name = subst IsLawfulName (sym h.0) lawful; flags = h.1; inbox_stays = λ k. k; count = tt };
       covered = λ clock counts. tt;
     }
-    issuable_can (kinds.Expunge f old) h =
-        let row = h.1.0 in
-        let i = h.1.1 in
-        record {
-          lawful = record { name = subst IsLawfulName (sym h.0) (name_of_view row i); flags = tt; inbox_stays = λ k. k };
-          covered = λ clock counts. subst (IsCause clock) (sym h.1.2) ((counts row.id).1 (ids_of_row row i).0);
-        }
-    issuable_can (kinds.Store f flags old origin) h =
+    issuable_can (kinds.Expunge f olds) h =
         let row = h.2.0 in
         let i = h.2.1 in
         record {
-          lawful = record { name = subst IsLawfulName (sym h.0) (name_of_view row i); flags = h.1; inbox_stays = λ k. k };
+          lawful = record { name = subst IsLawfulName (sym h.0) (name_of_view row i); flags = tt; inbox_stays = λ k. k; count = versions_counted row i olds h.2.2 h.1 };
+          covered = λ clock counts. versions_covered clock counts row i olds h.2.2;
+        }
+    issuable_can (kinds.Store f flags olds origin) h =
+        let row = h.3.0 in
+        let i = h.3.1 in
+        record {
+          lawful = record { name = subst IsLawfulName (sym h.0) (name_of_view row i); flags = h.1; inbox_stays = λ k. k; count = versions_counted row i olds h.3.2 h.2 };
           covered = λ clock counts. (
-            subst (IsCause clock) (sym h.2.2) ((counts row.id).1 (ids_of_row row i).0),
-            subst (IsCause clock) (sym h.2.3) ((counts row.origin).1 (ids_of_row row i).1),
+            versions_covered clock counts row i olds h.3.2,
+            subst (IsCause clock) (sym h.3.3) ((counts row.origin).1 (ids_of_row row i).1),
           );
         }
     issuable_can (kinds.Subscribe name) h = absurd h
@@ -387,20 +396,20 @@ module _ (start : Start) (ops : List Op) (a : IsApplied ops) (stamp : List ℕ) 
       nothing_where ops (list_all (step_is_in_range w.0.entries) steps) refusals.NoSuchMessage given w.2
   wanted_can (commands.Fetch by_uid set items changed_since) given e =
       let w = selected_wants state (λ view read_only. fetch_wants view.name (rows_for start ops view) view.entries read_only by_uid set items changed_since) given e in
-      issuable_all start ops a w.0 inbox inbox_lawful given (fetch_wants_issuable w.0.name inbox (rows_for start ops w.0) w.0.entries w.1 by_uid set items changed_since given (view_flags start ops a w.0) w.2)
+      issuable_all start ops a w.0 inbox inbox_lawful given (fetch_wants_issuable w.0.name inbox (rows_for start ops w.0) w.0.entries w.1 by_uid set items changed_since given (view_keywords start ops a w.0) w.2)
   wanted_can (commands.Store by_uid set unchanged_since action flags) given e =
       let w = selected_wants state (λ view read_only. store_wants view.name (rows_for start ops view) view.entries read_only by_uid set unchanged_since action.mode flags) given e in
-      issuable_all start ops a w.0 inbox inbox_lawful given (store_wants_issuable w.0.name inbox (rows_for start ops w.0) w.0.entries w.1 by_uid set unchanged_since action.mode flags given (view_flags start ops a w.0) w.2)
+      issuable_all start ops a w.0 inbox inbox_lawful given (store_wants_issuable w.0.name inbox (rows_for start ops w.0) w.0.entries w.1 by_uid set unchanged_since action.mode flags given (view_keywords start ops a w.0) w.2)
   wanted_can (commands.Copy by_uid set name) given e =
       let there = is_there name ops in
       let w = selected_wants state (λ view read_only. copy_wants name there (rows_for start ops view) view.entries by_uid set) given e in
       issuable_all start ops a w.0 name (there_lawful ops name a.sound (copy_there there name (rows_for start ops w.0) w.0.entries by_uid set given w.2)) given
-      (copy_wants_issuable w.0.name name there (rows_for start ops w.0) w.0.entries by_uid set given (view_flags start ops a w.0) w.2)
+      (copy_wants_issuable w.0.name name there (rows_for start ops w.0) w.0.entries by_uid set given (view_keywords start ops a w.0) w.2)
   wanted_can (commands.Move by_uid set name) given e =
       let there = is_there name ops in
       let w = selected_wants state (λ view read_only. move_wants view.name name there (rows_for start ops view) view.entries read_only by_uid set) given e in
       issuable_all start ops a w.0 name (there_lawful ops name a.sound (move_there w.0.name name there (rows_for start ops w.0) w.0.entries w.1 by_uid set given w.2)) given
-      (move_wants_issuable w.0.name name there (rows_for start ops w.0) w.0.entries w.1 by_uid set given (view_flags start ops a w.0) w.2)
+      (move_wants_issuable w.0.name name there (rows_for start ops w.0) w.0.entries w.1 by_uid set given (view_keywords start ops a w.0) w.2)
 
   pub input_can : (input : Input) (given : List Kind) → wants_of start ops stamp state input ≡ Ok given → CanIssueAll ops given
   input_can (inputs.Command moment tagged) given e = wanted_can tagged.command given e

@@ -27,6 +27,7 @@ next_sound replica applied front op counts c can n =
       name = can.lawful.name;
       flags = can.lawful.flags;
       inbox_stays = can.lawful.inbox_stays;
+      count = can.lawful.count;
     }
 
 -- the first operation of those that come next has a clock of what was applied

@@ -1,27 +1,26 @@
 use Rattle.std.specs.Str.{bytes_eq}
-use Rattle.std.specs.List.{cons_option, filter, filter_map, list_any}
+use Rattle.std.specs.List.{filter, list_any}
 use Rattle.std.specs.Option.{option_map}
 use Rattle.std.proofs.lemmas.Slice.Eq.{bytes_eq-Decides}
-use Rattle.std.proofs.Common.{◌≡◌, ◌⊎◌, inl, inr, ℕ, ◌+◌, ◌-◌, ◌≤◌, Bool, true, false, not, ◌&&◌, ◌||◌, List, [], ◌∷◌, ◌++◌, length, map, Option, Some, None, IsSome, nat_lt, nat_eq, refl, sym, ap, ◌∙◌, subst, append_assoc, append-nil, arith}
+use Rattle.std.proofs.Common.{◌≡◌, ◌↔◌, ◌⊎◌, inl, inr, ℕ, ◌+◌, ◌-◌, ◌<◌, ◌≤◌, Bool, true, false, cond, not, ◌&&◌, ◌||◌, List, [], ◌∷◌, ◌++◌, length, map, Option, Some, None, nat_lt, nat_eq, if◌then◌else◌, refl, sym, ap, ◌∙◌, subst, append_assoc, append-nil, arith}
 use Rattle.std.proofs.lemmas.Bool.{and_from, and_parts, cases_Bool, false≢true, false_from_ne_true}
 use Rattle.std.proofs.lemmas.Bool.Decides.{nat_tests}
 use Rattle.imap_answers.specs.Printable.{Each, Where}
 use Rattle.mail_listing.specs.Listed.{Listed}
-use Rattle.mail_listing.specs.Listing.{beyond, row_of}
+use Rattle.mail_listing.specs.Listing.{AreRisingRows, beyond, row_of}
 use Rattle.merge_laws.specs.Orders.{IsIn}
 use Rattle.tags_clocks.proofs.Decide.{ids_decide}
 use Rattle.tags_clocks.specs.declared.id.OpId.{OpId}
-use Rattle.crdt_ops.proofs.Members.{in_filter}
+use Rattle.crdt_ops.proofs.Members.{in_filter, in_map}
 use Rattle.crdt_ops.proofs.Presence.{Has}
 use Rattle.crdt_ops.specs.declared.kind.Kind.{Kind}
 use Rattle.crdt_ops.specs.declared.kind.Kind.TheVariants as kinds
 use Rattle.crdt_ops.specs.declared.op.Op.{Op}
+use Rattle.crdt_ops.specs.Meanings.{IsVersion}
 use Rattle.crdt_ops.specs.Order.{same_id}
-use Rattle.crdt_ops.specs.Sets.{Body, message_with}
-use Rattle.crdt_ops.specs.TagLaws.{same_id_is}
-use Rattle.crdt_ops.specs.Tags.{MessageTag, added_by, is_some_tag, removed_by, removes, same_tag}
-use Rattle.folder_state.specs.Contents.{Contents, contents_by}
-use Rattle.folder_state.proofs.ToldLemmas.{present_body}
+use Rattle.crdt_ops.specs.Sets.{Body, body_by}
+use Rattle.crdt_ops.specs.TagLaws.{adds_own, same_id_is}
+use Rattle.crdt_ops.specs.Tags.{MessageTag, added_by, adds, is_some_tag, removed_by, removes, same_tag}
 use Rattle.imap_commands.specs.Copying.{append_of, appends_of, removal_of, removals_of}
 use Rattle.imap_commands.specs.Named.{name_at, those_there}
 use Rattle.imap_commands.specs.Printing.{AreAsMany}
@@ -30,20 +29,18 @@ use Rattle.imap_commands.proofs.PrintSelected.{each_append, each_in}
 use Rattle.imap_types.specs.declared.sequence_set.SequenceRange.{SequenceRange}
 use Rattle.session_view.specs.Sets.{resolved}
 use Rattle.session_view.specs.declared.entry.Entry.{Entry as Seen}
-use Rattle.uid_projection.specs.declared.entry.Entry.{Entry}
 use Rattle.uid_projection.specs.declared.start.Start.{Start}
 use Rattle.uid_projection.specs.Applied.{IsApplied}
-use Rattle.uid_projection.specs.Chart.{IsChart}
 use Rattle.uid_projection.specs.Incarnations.{is_there}
-use Rattle.uid_projection.specs.Lines.{concerns_by, replaced_by, uidnext_of}
-use Rattle.uid_projection.specs.Listing.{listing, numbered}
-use Rattle.uid_projection.specs.Rows.{row_by}
-use Rattle.uid_projection.proofs.ChartOf.{chart_other, charted}
-use Rattle.uid_projection.proofs.ChartSteps.{chart_put, chart_removed}
+use Rattle.uid_projection.specs.Lines.{concerns_by, has_version, origin_added, uid_of, uidnext_of}
+use Rattle.uid_projection.specs.Listing.{listed_of, listing}
 use Rattle.uid_projection.proofs.HistoryLemmas.{once}
-use Rattle.uid_projection.proofs.Presence.{applied_front}
-use Rattle.uid_projection.proofs.RowLemmas.{rows_listed}
-use Rattle.imap_node.proofs.ThereLemmas.{IsNoDelete, kept_one, mapped_in}
+use Rattle.uid_projection.proofs.Keeping.{apart}
+use Rattle.uid_projection.proofs.Listed.{row_from, row_in}
+use Rattle.uid_projection.proofs.Presence.{adds_about, applied_front, removed_about}
+use Rattle.uid_projection.proofs.Steps.{uid_kept, uid_new, uidnext_here}
+use Rattle.uid_projection.proofs.Versions.{begun_added, origin_applied, origin_new, version_cases, version_in, version_kept}
+use Rattle.imap_node.proofs.ThereLemmas.{IsNoDelete, added_there, kept_one, mapped_in}
 
 -- ---- operations that copy
 
@@ -52,18 +49,22 @@ abbrev pub appends_to : List ℕ → Kind → Bool
 appends_to folder (kinds.Append name flags date text) = bytes_eq folder name
 appends_to folder _ = false
 
+-- these are ids of operations that came earlier
+abbrev pub HasAll : List Op → List OpId → Type 0
+HasAll before ids = (i : OpId) → IsIn i ids → Has before i
+
 -- an operation appends a message, or takes out one that came earlier
 abbrev pub IsCopying : List Op → Kind → Type 0
 IsCopying before (kinds.Append name flags date text) = Unit {0}
-IsCopying before (kinds.Expunge name old) = Has before old
+IsCopying before (kinds.Expunge name olds) = HasAll before olds
 IsCopying before _ = ⊥
 
 copying_stays : (before : List Op) (kind : Kind) → IsCopying before kind → IsNoDelete kind
 copying_stays before (kinds.Create name) h = tt
 copying_stays before (kinds.Delete name seen) h = absurd h
 copying_stays before (kinds.Append name flags date text) h = tt
-copying_stays before (kinds.Expunge name old) h = tt
-copying_stays before (kinds.Store name flags old origin) h = tt
+copying_stays before (kinds.Expunge name olds) h = tt
+copying_stays before (kinds.Store name flags olds origin) h = tt
 copying_stays before (kinds.Subscribe name) h = tt
 copying_stays before (kinds.Unsubscribe name seen) h = tt
 
@@ -71,16 +72,16 @@ elsewhere : (folder : List ℕ) (kind : Kind) → concerns_by folder kind ≡ fa
 elsewhere folder (kinds.Create name) h = refl
 elsewhere folder (kinds.Delete name seen) h = refl
 elsewhere folder (kinds.Append name flags date text) h = h
-elsewhere folder (kinds.Expunge name old) h = refl
-elsewhere folder (kinds.Store name flags old origin) h = refl
+elsewhere folder (kinds.Expunge name olds) h = refl
+elsewhere folder (kinds.Store name flags olds origin) h = refl
 elsewhere folder (kinds.Subscribe name) h = refl
 elsewhere folder (kinds.Unsubscribe name seen) h = refl
 
 -- what an Append to the folder is
-record Puts (folder : List ℕ) (front : List Op) (id : OpId) (kind : Kind) : Type 0 where
+record Puts (folder : List ℕ) (id : OpId) (kind : Kind) : Type 0 where
   counted : appends_to folder kind ≡ true
   own : is_some_tag (MessageTag folder id) (added_by id kind) ≡ true
-  none : replaced_by folder front kind ≡ None
+  origin : option_map (λ (b : Body). b.origin) (body_by id kind) ≡ Some id
   keeps : (i : OpId) → list_any (same_tag (MessageTag folder i)) (removed_by kind) ≡ false
 
 -- and what an Expunge in it
@@ -89,24 +90,29 @@ record Takes (before : List Op) (folder : List ℕ) (id : OpId) (kind : Kind) : 
   adds_none : (i : OpId) → is_some_tag (MessageTag folder i) (added_by id kind) ≡ false
   earlier : (i : OpId) → list_any (same_tag (MessageTag folder i)) (removed_by kind) ≡ true → Has before i
 
-or-none : (b : Bool) → (b || false) ≡ true → b ≡ true
-or-none true h = refl
-or-none false h = h
+or_parts : (a b : Bool) → (a || b) ≡ true → (a ≡ true) ⊎ (b ≡ true)
+or_parts true b h = inl refl
+or_parts false b h = inr h
 
-parts_of : (before front : List Op) (folder : List ℕ) (id : OpId) (kind : Kind) → IsCopying before kind → concerns_by folder kind ≡ true → Puts folder front id kind ⊎ Takes before folder id kind
-parts_of before front folder id (kinds.Create name) h c = absurd h
-parts_of before front folder id (kinds.Delete name seen) h c = absurd h
-parts_of before front folder id (kinds.Append name flags date text) h c =
-    inl (record { counted = c; own = and_from (bytes_eq folder name) (same_id id id) c ((ids_decide id id).1 refl); none = refl; keeps = λ i. refl })
-parts_of before front folder id (kinds.Expunge name old) h c =
-    inr (record {
-      counted = refl;
-      adds_none = λ i. refl;
-      earlier = λ i r. subst (Has before) (sym (same_id_is i old (and_parts (bytes_eq folder name) (same_id i old) (or-none (bytes_eq folder name && same_id i old) r)).1)) h;
-    })
-parts_of before front folder id (kinds.Store name flags old origin) h c = absurd h
-parts_of before front folder id (kinds.Subscribe name) h c = absurd h
-parts_of before front folder id (kinds.Unsubscribe name seen) h c = absurd h
+-- a message tag that is removed with these bears one of their ids
+removed_in : (folder name : List ℕ) (i : OpId) (olds : List OpId) → list_any (same_tag (MessageTag folder i)) (map (MessageTag name) olds) ≡ true → IsIn i olds
+removed_in folder name i [] h = absurd (false≢true h)
+removed_in folder name i (old ∷ olds) h =
+    elim (or_parts (bytes_eq folder name && same_id i old) (list_any (same_tag (MessageTag folder i)) (map (MessageTag name) olds)) h) [
+      | inl t ↦ inl (sym (same_id_is i old (and_parts (bytes_eq folder name) (same_id i old) t).1))
+      | inr t ↦ inr (removed_in folder name i olds t)
+    ]
+
+parts_of : (before : List Op) (folder : List ℕ) (id : OpId) (kind : Kind) → IsCopying before kind → concerns_by folder kind ≡ true → Puts folder id kind ⊎ Takes before folder id kind
+parts_of before folder id (kinds.Create name) h c = absurd h
+parts_of before folder id (kinds.Delete name seen) h c = absurd h
+parts_of before folder id (kinds.Append name flags date text) h c =
+    inl (record { counted = c; own = and_from (bytes_eq folder name) (same_id id id) c ((ids_decide id id).1 refl); origin = refl; keeps = λ i. refl })
+parts_of before folder id (kinds.Expunge name olds) h c =
+    inr (record { counted = refl; adds_none = λ i. refl; earlier = λ i r. h i (removed_in folder name i olds r) })
+parts_of before folder id (kinds.Store name flags olds origin) h c = absurd h
+parts_of before folder id (kinds.Subscribe name) h c = absurd h
+parts_of before folder id (kinds.Unsubscribe name seen) h c = absurd h
 
 -- ---- counts
 
@@ -121,184 +127,316 @@ more_counted test (x ∷ xs) ys =
     let c = more_counted test xs ys in
     omega (arith, a, b, c)
 
--- a filter that takes none of these leaves their number
-same_counted : {X : Type 0} (test kept : X → Bool) (xs : List X) → ((x : X) → IsIn x xs → test x ≡ true → kept x ≡ true) → length (filter test (filter kept xs)) ≡ length (filter test xs)
-same_counted test kept [] h = refl
-same_counted test kept (x ∷ xs) h =
-    let more = same_counted test kept xs (λ y i. h y (inr i)) in
-    let a = one_counted test x xs in
-    elim (cases_Bool (kept x)) [
-      | inl t ↦ rw t (let b = one_counted test x (filter kept xs) in omega (arith, a, b, more))
-      | inr f ↦
-          let out : test x ≡ false = false_from_ne_true (test x) (λ t. false≢true (sym f ∙ h x (inl refl) t)) in
-          let z : once (test x) ≡ 0 = ap once out in
-          rw f (omega (arith, a, z, more))
+-- ---- ascending lists
+
+-- the keys ascend strictly, the first of them from this number on
+abbrev Rises : {X : Type 0} → (X → ℕ) → ℕ → List X → Type 0
+Rises key low [] = Unit {0}
+Rises key low (x ∷ xs) = (low ≤ key x) × Rises key (key x + 1) xs
+
+rises_lower : {X : Type 0} (key : X → ℕ) (low high : ℕ) (xs : List X) → low ≤ high → Rises key high xs → Rises key low xs
+rises_lower key low high [] l h = tt
+rises_lower key low high (x ∷ xs) l h = let first : high ≤ key x = h.0 in (omega (arith, l, first), h.1)
+
+rises_end : {X : Type 0} (key : X → ℕ) (low : ℕ) (y : X) (xs : List X) → low ≤ key y → ((x : X) → IsIn x xs → key x < key y) → Rises key low xs → Rises key low (xs ++ y ∷ [])
+rises_end key low y [] l b h = (l, tt)
+rises_end key low y (x ∷ xs) l b h = let k : key x < key y = b x (inl refl) in (h.0, rises_end key (key x + 1) y xs (omega (arith, k)) (λ z i. b z (inr i)) h.1)
+
+-- other keys that are the same ascend too
+rises_same : {X : Type 0} (f g : X → ℕ) (low : ℕ) (xs : List X) → ((x : X) → IsIn x xs → f x ≡ g x) → Rises f low xs → Rises g low xs
+rises_same f g low [] e h = tt
+rises_same f g low (x ∷ xs) e h =
+    let same : f x ≡ g x = e x (inl refl) in
+    let first : low ≤ f x = h.0 in
+    (omega (arith, same, first), subst (λ (k : ℕ). Rises g (k + 1) xs) same (rises_same f g (f x + 1) xs (λ y i. e y (inr i)) h.1))
+
+rises_from : {X : Type 0} (key : X → ℕ) (low : ℕ) (y : X) (xs : List X) → Rises key low xs → IsIn y xs → low ≤ key y
+rises_from key low y [] h i = absurd i
+rises_from key low y (x ∷ xs) h i =
+    let first : low ≤ key x = h.0 in
+    elim i [
+      | inl e ↦ let same : key x ≡ key y = ap key e in omega (arith, first, same)
+      | inr t ↦ let rest : key x + 1 ≤ key y = rises_from key (key x + 1) y xs h.1 t in omega (arith, first, rest)
     ]
 
-none_counted : {X : Type 0} (test : X → Bool) (xs : List X) → ((x : X) → IsIn x xs → test x ≡ false) → length (filter test xs) ≡ 0
-none_counted test [] h = refl
-none_counted test (x ∷ xs) h =
-    let a = one_counted test x xs in
-    let z : once (test x) ≡ 0 = ap once (h x (inl refl)) in
-    let more = none_counted test xs (λ y i. h y (inr i)) in
-    omega (arith, a, z, more)
+first_same : {X : Type 0} (key : X → ℕ) (x y : X) (xs ys : List X) → Rises key (key x + 1) xs → Rises key (key y + 1) ys → IsIn x (y ∷ ys) → IsIn y (x ∷ xs) → x ≡ y
+first_same key x y xs ys g h i j =
+    elim i [
+      | inl e ↦ sym e
+      | inr s ↦ elim j [
+        | inl e ↦ e
+        | inr t ↦
+            let a : key y + 1 ≤ key x = rises_from key (key y + 1) x ys h s in
+            let b : key x + 1 ≤ key y = rises_from key (key x + 1) y xs g t in
+            absurd (omega (arith, a, b))
+      ]
+    ]
+
+is_behind : {X : Type 0} (key : X → ℕ) (x y : X) (ys : List X) → IsIn x (y ∷ ys) → key y < key x → IsIn x ys
+is_behind key x y ys i l = elim i [ inl e ↦ let same : key y ≡ key x = ap key e in absurd (omega (arith, same, l)) | inr t ↦ t ]
+
+-- two ascending lists with the same elements are one
+same_rising : {X : Type 0} (key : X → ℕ) (low high : ℕ) (xs ys : List X) → Rises key low xs → Rises key high ys → ((z : X) → IsIn z xs ↔ IsIn z ys) → xs ≡ ys
+same_rising key low high [] [] g h e = refl
+same_rising key low high [] (y ∷ ys) g h e = absurd ((e y).1 (inl refl))
+same_rising key low high (x ∷ xs) [] g h e = absurd ((e x).0 (inl refl))
+same_rising key low high (x ∷ xs) (y ∷ ys) g h e =
+    let first : x ≡ y = first_same key x y xs ys g.1 h.1 ((e x).0 (inl refl)) ((e y).1 (inl refl)) in
+    let same : key x ≡ key y = ap key first in
+    let rest : xs ≡ ys = same_rising key (key x + 1) (key y + 1) xs ys g.1 h.1 (λ z. (
+      λ i. let l : key x + 1 ≤ key z = rises_from key (key x + 1) z xs g.1 i in is_behind key z y ys ((e z).0 (inr i)) (omega (arith, l, same)),
+      λ i. let l : key y + 1 ≤ key z = rises_from key (key y + 1) z ys h.1 i in is_behind key z x xs ((e z).1 (inr i)) (omega (arith, l, same)),
+    )) in
+    λ i. first i ∷ rest i
 
 in_end : {X : Type 0} (x y : X) (xs : List X) → IsIn x (xs ++ y ∷ []) → IsIn x xs ⊎ (y ≡ x)
 in_end x y [] i = elim i [ inl e ↦ inr e | inr n ↦ absurd n ]
 in_end x y (z ∷ xs) i = elim i [ inl e ↦ inl (inl e) | inr t ↦ elim (in_end x y xs t) [ inl j ↦ inl (inr j) | inr e ↦ inr e ] ]
 
--- ---- the entries behind operations that copy
+in_front : {X : Type 0} (x y : X) (xs : List X) → IsIn x xs → IsIn x (xs ++ y ∷ [])
+in_front x y [] i = absurd i
+in_front x y (z ∷ xs) i = elim i [ inl e ↦ inl e | inr t ↦ inr (in_front x y xs t) ]
 
-abbrev from_uid : ℕ → Entry → Bool
-from_uid first e = nat_lt (first - 1) e.uid
+at_end : {X : Type 0} (y : X) (xs : List X) → IsIn y (xs ++ y ∷ [])
+at_end y [] = inl refl
+at_end y (z ∷ xs) = inr (at_end y xs)
+
+-- ---- the messages behind operations that copy
+
+-- the ids of those that append a message to the folder
+abbrev pub landing : List ℕ → List Op → List OpId
+landing folder ops = map (λ (o : Op). o.id) (filter (λ (o : Op). appends_to folder o.kind) ops)
+
+abbrev landing_by : Bool → OpId → List OpId
+landing_by b id = if b then id ∷ [] else []
+
+landing_more : (folder : List ℕ) (o : Op) (ops : List Op) → landing folder (o ∷ ops) ≡ landing_by (appends_to folder o.kind) o.id ++ landing folder ops
+landing_more folder o ops = elim (cases_Bool (appends_to folder o.kind)) [ inl t ↦ rw t refl | inr f ↦ rw f refl ]
 
 has_more : (i : OpId) (ops : List Op) (o : Op) → Has ops i → Has (ops ++ o ∷ []) i
 has_more i [] o h = absurd h
 has_more i (x ∷ ops) o h = elim h [ inl e ↦ inl e | inr t ↦ inr (has_more i ops o t) ]
 
-not_true : (b : Bool) → b ≡ false → not b ≡ true
-not_true b h = ap not h
+is_begun : (x y : Bool) → x ≡ true → y ≡ false → (x && not y) ≡ true
+is_begun true false p q = refl
+is_begun true true p q = absurd (false≢true (sym q))
+is_begun false y p q = absurd (false≢true p)
 
-module _ (start : Start) (folder : List ℕ) (before : List Op) (first : ℕ) (least : 1 ≤ first) where
-  -- so many entries have UIDs from the first one on, and they are none that came earlier
-  pub record Landed (ops : List Op) (n : ℕ) : Type 0 where
-    k : ℕ
-    u : ℕ
-    h : ℕ
-    es : List Entry
-    chart : IsChart start folder ops k u h es
-    count : length (filter (from_uid first) es) ≡ n
-    new : (e : Entry) → IsIn e es → first ≤ e.uid → Has before e.id → ⊥
-    next : first ≤ u
+not_begun : (x y : Bool) → y ≡ true → (x && not y) ≡ false
+not_begun true true q = refl
+not_begun true false q = absurd (false≢true q)
+not_begun false y q = refl
 
-  pub landed_one : (ops : List Op) (o : Op) (n : ℕ) → IsApplied (ops ++ o ∷ []) → ((i : OpId) → Has before i → Has ops i) → is_there folder (ops ++ o ∷ []) ≡ true → IsCopying before o.kind → Landed ops n
-      → Landed (ops ++ o ∷ []) (n + once (appends_to folder o.kind))
-  landed_one ops o n a earlier t c l =
-      let counted = l.count in
-      let next = l.next in
-      elim (cases_Bool (concerns_by folder o.kind)) [
-        | inl about ↦ elim (parts_of before ops folder o.id o.kind c about) [
-          | inl puts ↦
-              let fresh : Entry = record { id = o.id; uid = l.u; modseq = l.h + 1 } in
-              let w : once (appends_to folder o.kind) ≡ 1 = ap once puts.counted in
-              let m = more_counted (from_uid first) l.es (fresh ∷ []) in
-              let q = one_counted (from_uid first) fresh [] in
-              let p : from_uid first fresh ≡ true = grind (arith, nat_tests) in
-              let r : once (from_uid first fresh) ≡ 1 = ap once p in
-              record {
-                k = l.k;
-                u = l.u + 1;
-                h = l.h + 1;
-                es = l.es ++ fresh ∷ [];
-                chart = chart_put start folder ops o a t about l.k l.u l.h l.es l.chart puts.own puts.none (λ e i. puts.keeps e.id);
-                count = omega (arith, counted, w, m, q, r);
-                new = λ e i b had. elim (in_end e fresh l.es i) [
-                  | inl j ↦ l.new e j b had
-                  | inr j ↦ (a.causal ops o [] refl).1 (earlier o.id (subst (Has before) (sym (ap (λ (x : Entry). x.id) j)) had))
-                ];
-                next = omega (arith, next);
-              }
-          | inr takes ↦
-              let stays : Entry → Bool = λ e. not (removes (MessageTag folder e.id) o) in
-              let w : once (appends_to folder o.kind) ≡ 0 = ap once takes.counted in
-              let m = same_counted (from_uid first) stays l.es (λ e i from. not_true (removes (MessageTag folder e.id) o) (false_from_ne_true (removes (MessageTag folder e.id) o) (λ gone.
-              let above : first ≤ e.uid = grind (arith, nat_tests) in
-              l.new e i above (takes.earlier e.id gone)))) in
-              record {
-                k = l.k;
-                u = l.u;
-                h = l.h + 1;
-                es = filter stays l.es;
-                chart = chart_removed start folder ops o a t about l.k l.u l.h l.es l.chart takes.adds_none (filter stays l.es) refl;
-                count = omega (arith, counted, w, m);
-                new = λ e i b had. l.new e ((in_filter stays l.es e).0 i).0 b had;
-                next = next;
-              }
+same_some : (i j : OpId) → ◌≡◌ {A = Option OpId} (Some i) (Some j) → i ≡ j
+same_some i j h = cc
+
+module _ (start : Start) (folder : List ℕ) (before : List Op) (first : ℕ) where
+  -- the message of this origin is there, under a UID from the first one on
+  abbrev Lands : List Op → OpId → Type 0
+  Lands ops g = (has_version folder g ops ≡ true) × (first ≤ uid_of start folder ops g)
+
+  -- these messages have UIDs from the first one on, in this order, and their versions are none that came earlier
+  pub record Landed (ops : List Op) (origins : List OpId) : Type 0 where
+    rises : Rises (uid_of start folder ops) first origins
+    are : (g : OpId) → IsIn g origins ↔ Lands ops g
+    new : (g i : OpId) → IsVersion ops folder g i → first ≤ uid_of start folder ops g → Has before i → ⊥
+    next : first ≤ uidnext_of start folder ops
+
+  module _ (ops : List Op) (o : Op) (a : IsApplied (ops ++ o ∷ [])) (earlier : (i : OpId) → Has before i → Has ops i) (t : is_there folder (ops ++ o ∷ []) ≡ true) where
+    uid_stays : (g : OpId) → has_version folder g ops ≡ true → uid_of start folder (ops ++ o ∷ []) g ≡ uid_of start folder ops g
+    uid_stays g b = uid_kept start folder ops o g t (not_begun (has_version folder g (ops ++ o ∷ [])) (has_version folder g ops) b)
+
+    fresh : Has ops o.id → ⊥
+    fresh = (a.causal ops o [] refl).1
+
+    -- a message of which no version is removed stays, under its UID
+    lands_still : (g : OpId) → ((i : OpId) → IsVersion ops folder g i → first ≤ uid_of start folder ops g → removes (MessageTag folder i) o ≡ false) → Lands ops g → Lands (ops ++ o ∷ []) g
+    lands_still g stays w =
+        let v = (version_in folder ops g).0 w.0 in (
+          (version_in folder (ops ++ o ∷ []) g).1 (v.0, version_kept folder ops o a g v.0 v.1 (stays v.0 v.1 w.1)),
+          subst (λ (k : ℕ). first ≤ k) (sym (uid_stays g w.0)) w.1,
+        )
+
+    landed_before : (g : OpId) → has_version folder g ops ≡ true → Lands (ops ++ o ∷ []) g → Lands ops g
+    landed_before g b w = (b, subst (λ (k : ℕ). first ≤ k) (uid_stays g b) w.1)
+
+    -- a version behind the operation is none that came earlier
+    new_still : ((g i : OpId) → IsVersion ops folder g i → first ≤ uid_of start folder ops g → Has before i → ⊥)
+        → (g i : OpId) → IsVersion (ops ++ o ∷ []) folder g i → first ≤ uid_of start folder (ops ++ o ∷ []) g → Has before i → ⊥
+    new_still new g i v from had =
+        elim (version_cases folder ops o a g i v) [
+          | inl w ↦ new g i w.0 (subst (λ (k : ℕ). first ≤ k) (uid_stays g ((version_in folder ops g).1 (i, w.0))) from) had
+          | inr w ↦ fresh (earlier o.id (subst (Has before) (adds_own (MessageTag folder i) o w.0) had))
         ]
-        | inr other ↦
-            let w : once (appends_to folder o.kind) ≡ 0 = ap once (elsewhere folder o.kind other) in
-            record {
-              k = l.k;
-              u = l.u;
-              h = l.h;
-              es = l.es;
-              chart = chart_other start folder ops o a t other l.k l.u l.h l.es l.chart;
-              count = omega (arith, counted, w);
-              new = l.new;
-              next = next;
-            }
-      ]
 
-  landed_first : IsApplied before → first ≡ uidnext_of start folder before → Landed before 0
+    rises_still : (origins : List OpId) → ((g : OpId) → IsIn g origins ↔ Lands ops g) → Rises (uid_of start folder ops) first origins → Rises (uid_of start folder (ops ++ o ∷ [])) first origins
+    rises_still origins are r = rises_same (uid_of start folder ops) (uid_of start folder (ops ++ o ∷ [])) first origins (λ g i. sym (uid_stays g ((are g).0 i).0)) r
+
+    -- an Append's message is its own origin
+    put_origin : Puts folder o.id o.kind → origin_added folder o ≡ Some o.id
+    put_origin puts = ap (option_map (λ (b : Body). b.origin)) (ap (λ (b : Bool). cond {A = Option Body} b (body_by o.id o.kind) None) puts.own) ∙ puts.origin
+
+    -- an Append lands one message, under UIDNEXT
+    landed_put : (origins : List OpId) → Puts folder o.id o.kind → Landed ops origins → Landed (ops ++ o ∷ []) (origins ++ o.id ∷ [])
+    landed_put origins puts l =
+        let b = applied_front ops (o ∷ []) a in
+        let next = l.next in
+        let none : has_version folder o.id ops ≡ false = false_from_ne_true (has_version folder o.id ops) (λ h. fresh (origin_applied folder ops o.id b h)) in
+        let there : has_version folder o.id (ops ++ o ∷ []) ≡ true = (version_in folder (ops ++ o ∷ []) o.id).1 (o.id, (added_there ops o (MessageTag folder o.id) a puts.own, origin_new folder ops o a puts.own ∙ put_origin puts)) in
+        let own : uid_of start folder (ops ++ o ∷ []) o.id ≡ uidnext_of start folder ops = uid_new start folder ops o o.id t (is_begun (has_version folder o.id (ops ++ o ∷ [])) (has_version folder o.id ops) there none) in
+        let from : first ≤ uid_of start folder (ops ++ o ∷ []) o.id = subst (λ (k : ℕ). first ≤ k) (sym own) l.next in
+        let up = uidnext_here start folder ops o t in
+        record {
+          rises = rises_end (uid_of start folder (ops ++ o ∷ [])) first o.id origins from (λ g i.
+              let w = (l.are g).0 i in
+              let under = (apart start folder ops b).below g w.0 in
+              let same = uid_stays g w.0 in
+              omega (arith, under, same, own))
+              (rises_still origins l.are l.rises);
+          are = λ g. (
+            λ i. elim (in_end g o.id origins i) [
+              | inl j ↦ lands_still g (λ i v from. puts.keeps i) ((l.are g).0 j)
+              | inr e ↦ subst (λ (h : OpId). Lands (ops ++ o ∷ []) h) e (there, from)
+            ],
+            λ w. elim (cases_Bool (has_version folder g ops)) [
+              | inl h ↦ in_front g o.id origins ((l.are g).1 (landed_before g h w))
+              | inr f ↦ subst (λ (h : OpId). IsIn h (origins ++ o.id ∷ [])) (same_some o.id g (sym (put_origin puts) ∙ begun_added folder ops o a g (is_begun (has_version folder g (ops ++ o ∷ [])) (has_version folder g ops) w.0 f))) (at_end o.id origins)
+            ],
+          );
+          new = new_still l.new;
+          next = omega (arith, next, up);
+        }
+
+    -- an operation that adds no message tag of the folder, and removes none of these messages' versions, leaves them
+    landed_still : (origins : List OpId) → ((i : OpId) → adds (MessageTag folder i) o ≡ true → ⊥) → ((g i : OpId) → IsVersion ops folder g i → first ≤ uid_of start folder ops g → removes (MessageTag folder i) o ≡ false)
+        → Landed ops origins → Landed (ops ++ o ∷ []) origins
+    landed_still origins adds_none keeps l =
+        let next = l.next in
+        let up = uidnext_here start folder ops o t in
+        record {
+          rises = rises_still origins l.are l.rises;
+          are = λ g. (
+            λ i. lands_still g (keeps g) ((l.are g).0 i),
+            λ w.
+                let v = (version_in folder (ops ++ o ∷ []) g).0 w.0 in
+                elim (version_cases folder ops o a g v.0 v.1) [
+                  | inl x ↦ (l.are g).1 (landed_before g ((version_in folder ops g).1 (v.0, x.0)) w)
+                  | inr x ↦ absurd (adds_none v.0 x.0)
+                ],
+          );
+          new = new_still l.new;
+          next = omega (arith, next, up);
+        }
+
+    none_lands : (origins : List OpId) → appends_to folder o.kind ≡ false → Landed (ops ++ o ∷ []) origins → Landed (ops ++ o ∷ []) (origins ++ landing_by (appends_to folder o.kind) o.id)
+    none_lands origins f k = subst (λ (b : Bool). Landed (ops ++ o ∷ []) (origins ++ landing_by b o.id)) (sym f) (subst (Landed (ops ++ o ∷ [])) (sym (append-nil origins)) k)
+
+    pub landed_one : (origins : List OpId) → IsCopying before o.kind → Landed ops origins → Landed (ops ++ o ∷ []) (origins ++ landing_by (appends_to folder o.kind) o.id)
+    landed_one origins c l =
+        elim (cases_Bool (concerns_by folder o.kind)) [
+          | inl about ↦ elim (parts_of before folder o.id o.kind c about) [
+            | inl puts ↦ subst (λ (b : Bool). Landed (ops ++ o ∷ []) (origins ++ landing_by b o.id)) (sym puts.counted) (landed_put origins puts l)
+            | inr takes ↦
+                none_lands origins takes.counted
+                (landed_still origins (λ i h. false≢true (sym (takes.adds_none i) ∙ h)) (λ g i v from. false_from_ne_true (removes (MessageTag folder i) o) (λ gone. l.new g i v from (takes.earlier i gone))) l)
+          ]
+          | inr other ↦
+              none_lands origins (elsewhere folder o.kind other)
+              (landed_still origins (λ i h. false≢true (sym other ∙ adds_about folder i o.id o.kind (inr h))) (λ g i v from. false_from_ne_true (removes (MessageTag folder i) o) (λ r. false≢true (sym other ∙ removed_about folder i o.kind (inr r)))) l)
+        ]
+
+  landed_first : IsApplied before → first ≡ uidnext_of start folder before → Landed before []
   landed_first a e =
-      let c = charted start folder before a in
-      let next : c.1 ≡ first = c.4.is_uidnext ∙ sym e in
+      let below = (apart start folder before a).below in
       record {
-        k = c.0;
-        u = c.1;
-        h = c.2;
-        es = c.3;
-        chart = c.4;
-        count = none_counted (from_uid first) c.3 (λ x i. false_from_ne_true (from_uid first x) (λ t. let b = c.4.below x i in absurd (grind (arith, nat_tests))));
-        new = λ x i l had. let b = c.4.below x i in absurd (omega (arith, b, l, next));
-        next = omega (arith, next);
+        rises = tt;
+        are = λ g. (λ i. absurd i, λ w. let b = below g w.0 in let from = w.1 in absurd (omega (arith, b, from, e)));
+        new = λ g i v from had. let b = below g ((version_in folder before g).1 (i, v)) in absurd (omega (arith, b, from, e));
+        next = omega (arith, e);
       }
 
-  landed_all : (more ops : List Op) (n : ℕ) → IsApplied (ops ++ more) → ((i : OpId) → Has before i → Has ops i) → is_there folder ops ≡ true → ((o : Op) → IsIn o more → IsCopying before o.kind) → Landed ops n
-      → Landed (ops ++ more) (n + length (filter (λ (o : Op). appends_to folder o.kind) more))
-  landed_all [] ops n a earlier t c l =
-      let same : n + 0 ≡ n = omega arith in
-      subst (λ (xs : List Op). Landed xs (n + 0)) (sym (append-nil ops)) (subst (Landed ops) (sym same) l)
-  landed_all (o ∷ more) ops n a earlier t c l =
+  landed_all : (more ops : List Op) (origins : List OpId) → IsApplied (ops ++ more) → ((i : OpId) → Has before i → Has ops i) → is_there folder ops ≡ true → ((o : Op) → IsIn o more → IsCopying before o.kind) → Landed ops origins
+      → Landed (ops ++ more) (origins ++ landing folder more)
+  landed_all [] ops origins a earlier t c l = subst (λ (xs : List Op). Landed xs (origins ++ [])) (sym (append-nil ops)) (subst (Landed ops) (sym (append-nil origins)) l)
+  landed_all (o ∷ more) ops origins a earlier t c l =
       let same = append_assoc ops (o ∷ []) more in
       let b : IsApplied ((ops ++ o ∷ []) ++ more) = subst IsApplied (sym same) a in
       let d = applied_front (ops ++ o ∷ []) more b in
       let there = kept_one folder ops o d (copying_stays before o.kind (c o (inl refl))) t in
-      let one = landed_one ops o n d earlier there (c o (inl refl)) l in
-      let rest = landed_all more (ops ++ o ∷ []) (n + once (appends_to folder o.kind)) b (λ i h. has_more i ops o (earlier i h)) there (λ p i. c p (inr i)) one in
-      let count = one_counted (λ (p : Op). appends_to folder p.kind) o more in
-      let sum : n + once (appends_to folder o.kind) + length (filter (λ (p : Op). appends_to folder p.kind) more) ≡ n + length (filter (λ (p : Op). appends_to folder p.kind) (o ∷ more)) = omega (arith, count) in
-      subst (λ (xs : List Op). Landed xs (n + length (filter (λ (p : Op). appends_to folder p.kind) (o ∷ more)))) same (subst (Landed ((ops ++ o ∷ []) ++ more)) sum rest)
+      let by = landing_by (appends_to folder o.kind) o.id in
+      let one = landed_one ops o d earlier there origins (c o (inl refl)) l in
+      let rest = landed_all more (ops ++ o ∷ []) (origins ++ by) b (λ i h. has_more i ops o (earlier i h)) there (λ p i. c p (inr i)) one in
+      let joined : (origins ++ by) ++ landing folder more ≡ origins ++ landing folder (o ∷ more) = append_assoc origins by (landing folder more) ∙ ap (λ (ids : List OpId). origins ++ ids) (sym (landing_more folder o more)) in
+      subst (λ (xs : List Op). Landed xs (origins ++ landing folder (o ∷ more))) same (subst (Landed ((ops ++ o ∷ []) ++ more)) joined rest)
 
 -- ---- the rows behind them
 
-record HasRow (c : Contents) (folder : List ℕ) (e : Entry) : Type 0 where
-  row : Listed
-  is : row_by c folder e ≡ Some row
-  uid : row.uid ≡ e.uid
+abbrev uid_in : Listed → ℕ
+uid_in row = row.uid
 
-row_there : (c : Contents) (folder : List ℕ) (e : Entry) (o : Option Body) → c.bodies folder e.id ≡ o → IsSome o → HasRow c folder e
-row_there c folder e None b h = absurd (false≢true h)
-row_there c folder e (Some body) b h = record {
-  row = numbered e.uid e.modseq (message_with e.id c.letters body);
-  is = ap (λ (x : Option Body). option_map (numbered e.uid e.modseq) (option_map (message_with e.id c.letters) x)) b;
-  uid = refl;
-}
+-- the rows beyond a UID ascend
+beyond_rises : (low least : ℕ) (rows : List Listed) → AreRisingRows least rows → Rises uid_in least (beyond low rows)
+beyond_rises low least [] h = tt
+beyond_rises low least (row ∷ rows) h =
+    let from : least ≤ row.uid = h.0 in
+    let rest = beyond_rises low (row.uid + 1) rows h.1 in
+    elim (cases_Bool (nat_lt low row.uid)) [
+      | inl t ↦ rw t (from, rest)
+      | inr f ↦ rw f (rises_lower uid_in least (row.uid + 1) (beyond low rows) (omega (arith, from)) rest)
+    ]
 
-rows_counted : (c : Contents) (folder : List ℕ) (low : ℕ) (es : List Entry) → ((e : Entry) → IsIn e es → HasRow c folder e) → length (beyond low (filter_map (row_by c folder) es)) ≡ length (filter (λ (e : Entry). nat_lt low e.uid) es)
-rows_counted c folder low [] h = refl
-rows_counted c folder low (e ∷ es) h =
-    let w = h e (inl refl) in
-    let rest = filter_map (row_by c folder) es in
-    let more = rows_counted c folder low es (λ x i. h x (inr i)) in
-    let a = one_counted (λ (row : Listed). nat_lt low row.uid) w.row rest in
-    let b = one_counted (λ (x : Entry). nat_lt low x.uid) e es in
-    let s : once (nat_lt low w.row.uid) ≡ once (nat_lt low e.uid) = ap (λ u. once (nat_lt low u)) w.uid in
-    let front : length (beyond low (filter_map (row_by c folder) (e ∷ es))) ≡ length (beyond low (w.row ∷ rest)) = ap (λ (o : Option Listed). length (beyond low (cons_option o rest))) w.is in
-    omega (arith, front, a, b, s, more)
+listed_rises : (start : Start) (folder : List ℕ) (ops : List Op) (low : ℕ) (origins : List OpId) → Rises (uid_of start folder ops) low origins → Rises uid_in low (map (listed_of start folder ops) origins)
+listed_rises start folder ops low [] h = tt
+listed_rises start folder ops low (g ∷ origins) h = (h.0, listed_rises start folder ops (uid_of start folder ops g + 1) origins h.1)
 
--- as many rows have UIDs from the former UIDNEXT on as messages were appended
-pub rows_landed : (start : Start) (folder : List ℕ) (before issued : List Op) → 1 ≤ uidnext_of start folder before → IsApplied (before ++ issued) → is_there folder before ≡ true → ((o : Op) → IsIn o issued → IsCopying before o.kind)
-    → length (beyond (uidnext_of start folder before - 1) (listing start folder (before ++ issued))) ≡ length (filter (λ (o : Op). appends_to folder o.kind) issued)
-rows_landed start folder before issued least a t c =
+mapped_length : {X Y : Type 0} (f : X → Y) (xs : List X) → length (map f xs) ≡ length xs
+mapped_length f [] = refl
+mapped_length f (x ∷ xs) = let e = mapped_length f xs in omega (arith, e)
+
+is_over : (first n : ℕ) → 1 ≤ first → first ≤ n → nat_lt (first - 1) n ≡ true
+is_over first n l h = elim (cases_Bool (nat_lt (first - 1) n)) [ inl t ↦ t | inr f ↦ absurd (grind (arith, nat_tests)) ]
+
+from_over : (first n : ℕ) → 1 ≤ first → nat_lt (first - 1) n ≡ true → first ≤ n
+from_over first n l h = grind (arith, nat_tests)
+
+-- they are those of the messages
+beyond_lands : (start : Start) (folder : List ℕ) (before ops : List Op) (first : ℕ) (origins : List OpId) (row : Listed) → 1 ≤ first → ((g : OpId) → IsIn g origins ↔ Lands start folder before first ops g)
+    → IsIn row (beyond (first - 1) (listing start folder ops)) ↔ IsIn row (map (listed_of start folder ops) origins)
+beyond_lands start folder before ops first origins row least are =
+    let over : Listed → Bool = λ (x : Listed). nat_lt (first - 1) x.uid in
+    let f = in_filter over (listing start folder ops) row in
+    let m = in_map (listed_of start folder ops) origins row in (
+      λ i.
+          let w = f.0 i in
+          let r = row_in start folder ops row w.0 in
+          let from : first ≤ row.uid = from_over first row.uid least w.1 in
+          m.1 (r.0, (are r.0).1 (r.1, subst (λ (x : Listed). first ≤ x.uid) (sym r.2) from), r.2),
+      λ i.
+          let w = m.0 i in
+          let l = (are w.0).0 w.1 in
+          f.1 (subst (λ (x : Listed). IsIn x (listing start folder ops)) w.2 (row_from start folder ops w.0 l.0), is_over first row.uid least (subst (λ (x : Listed). first ≤ x.uid) w.2 l.1)),
+    )
+
+-- the rows with UIDs from the former UIDNEXT on are, in their order, those of the messages that were appended
+pub rows_are_landed : (start : Start) (folder : List ℕ) (before issued : List Op) → 1 ≤ uidnext_of start folder before → IsApplied (before ++ issued) → AreRisingRows 1 (listing start folder (before ++ issued)) → is_there folder before ≡ true
+    → ((o : Op) → IsIn o issued → IsCopying before o.kind)
+    → beyond (uidnext_of start folder before - 1) (listing start folder (before ++ issued)) ≡ map (listed_of start folder (before ++ issued)) (landing folder issued)
+rows_are_landed start folder before issued least a r t c =
     let first = uidnext_of start folder before in
     let ops = before ++ issued in
-    let l = landed_all start folder before first least issued before 0 a (λ i h. h) t c (landed_first start folder before first least (applied_front before issued a) refl) in
-    let v = contents_by ops in
-    let rows = rows_counted v folder (first - 1) l.es (λ e i. row_there v folder e (v.bodies folder e.id) refl ((present_body ops folder e.id).1 ((l.chart.are_entries e).0 i).present)) in
-    let listed = ap (λ (xs : List Listed). length (beyond (first - 1) xs)) (rows_listed start folder ops l.es l.chart.are_entries l.chart.ascending) in
-    let count = l.count in
-    omega (arith, rows, listed, count)
+    let origins = landing folder issued in
+    let l = landed_all start folder before first issued before [] a (λ i h. h) t c (landed_first start folder before first (applied_front before issued a) refl) in
+    same_rising uid_in 1 first (beyond (first - 1) (listing start folder ops)) (map (listed_of start folder ops) origins) (beyond_rises (first - 1) 1 (listing start folder ops) r) (listed_rises start folder ops first origins l.rises)
+    (λ row. beyond_lands start folder before ops first origins row least l.are)
+
+-- so they are as many
+rows_landed : (start : Start) (folder : List ℕ) (before issued : List Op) → 1 ≤ uidnext_of start folder before → IsApplied (before ++ issued) → AreRisingRows 1 (listing start folder (before ++ issued)) → is_there folder before ≡ true
+    → ((o : Op) → IsIn o issued → IsCopying before o.kind)
+    → length (beyond (uidnext_of start folder before - 1) (listing start folder (before ++ issued))) ≡ length (filter (λ (o : Op). appends_to folder o.kind) issued)
+rows_landed start folder before issued least a r t c =
+    ap (λ (rows : List Listed). length rows) (rows_are_landed start folder before issued least a r t c)
+    ∙ mapped_length (listed_of start folder (before ++ issued)) (landing folder issued)
+    ∙ mapped_length (λ (o : Op). o.id) (filter (λ (o : Op). appends_to folder o.kind) issued)
 
 -- ---- what COPY and MOVE issue
 
@@ -343,7 +481,7 @@ append_copying : (before : List Op) (folder : List ℕ) (m : Option Listed) → 
 append_copying before folder None = tt
 append_copying before folder (Some row) = (tt, tt)
 
-removal_copying : (before : List Op) (folder : List ℕ) (m : Option Listed) → Where (λ (row : Listed). Has before row.id) m → Each (IsCopying before) (removal_of folder m)
+removal_copying : (before : List Op) (folder : List ℕ) (m : Option Listed) → Where (λ (row : Listed). HasAll before row.versions) m → Each (IsCopying before) (removal_of folder m)
 removal_copying before folder None h = tt
 removal_copying before folder (Some row) h = (h, tt)
 
@@ -364,35 +502,32 @@ appends_copying before folder rows view [] = tt
 appends_copying before folder rows view (n ∷ numbers) =
     each_append (IsCopying before) (append_of folder (message_at rows view n)) (appends_of folder rows view numbers) (append_copying before folder (message_at rows view n)) (appends_copying before folder rows view numbers)
 
-pub removals_copying : (before : List Op) (folder : List ℕ) (rows : List Listed) (view : List Seen) (numbers : List ℕ) → ((row : Listed) → IsIn row rows → Has before row.id) → Each (IsCopying before) (removals_of folder rows view numbers)
+pub removals_copying : (before : List Op) (folder : List ℕ) (rows : List Listed) (view : List Seen) (numbers : List ℕ) → ((row : Listed) → IsIn row rows → HasAll before row.versions) → Each (IsCopying before) (removals_of folder rows view numbers)
 removals_copying before folder rows view [] h = tt
 removals_copying before folder rows view (n ∷ numbers) h =
     each_append (IsCopying before) (removal_of folder (message_at rows view n)) (removals_of folder rows view numbers)
-    (removal_copying before folder (message_at rows view n) (message_where (λ (row : Listed). Has before row.id) rows (entry_at view n) h)) (removals_copying before folder rows view numbers h)
+    (removal_copying before folder (message_at rows view n) (message_where (λ (row : Listed). HasAll before row.versions) rows (entry_at view n) h)) (removals_copying before folder rows view numbers h)
 
 mapped_copying : (before issued : List Op) (wanted : List Kind) → map (λ (o : Op). o.kind) issued ≡ wanted → Each (IsCopying before) wanted → (o : Op) → IsIn o issued → IsCopying before o.kind
 mapped_copying before issued wanted e h o i = each_in (IsCopying before) wanted o.kind h (subst (IsIn o.kind) e (mapped_in issued o i))
 
 -- kinds that copy land as many rows as they append
-pub kinds_landed : (start : Start) (folder : List ℕ) (before issued : List Op) (wanted : List Kind) → 1 ≤ uidnext_of start folder before → IsApplied (before ++ issued) → is_there folder before ≡ true
+pub kinds_landed : (start : Start) (folder : List ℕ) (before issued : List Op) (wanted : List Kind) → 1 ≤ uidnext_of start folder before → IsApplied (before ++ issued) → AreRisingRows 1 (listing start folder (before ++ issued))
+    → is_there folder before ≡ true
     → map (λ (o : Op). o.kind) issued ≡ wanted → Each (IsCopying before) wanted
     → length (beyond (uidnext_of start folder before - 1) (listing start folder (before ++ issued))) ≡ length (filter (appends_to folder) wanted)
-kinds_landed start folder before issued wanted least a t e c =
-    rows_landed start folder before issued least a t (mapped_copying before issued wanted e c) ∙ kinds_counted folder issued ∙ ap (λ ks. length (filter (appends_to folder) ks)) e
-
-mapped_length : {X Y : Type 0} (f : X → Y) (xs : List X) → length (map f xs) ≡ length xs
-mapped_length f [] = refl
-mapped_length f (x ∷ xs) = let e = mapped_length f xs in omega (arith, e)
+kinds_landed start folder before issued wanted least a r t e c =
+    rows_landed start folder before issued least a r t (mapped_copying before issued wanted e c) ∙ kinds_counted folder issued ∙ ap (λ ks. length (filter (appends_to folder) ks)) e
 
 -- as many come into the destination as have sources
 pub copies_landed : (start : Start) (folder : List ℕ) (before issued : List Op) (wanted : List Kind) (rows : List Listed) (view : List Seen) (by_uid : Bool) (set : List SequenceRange)
-    → 1 ≤ uidnext_of start folder before → IsApplied (before ++ issued) → is_there folder before ≡ true → map (λ (o : Op). o.kind) issued ≡ wanted → Each (IsCopying before) wanted
+    → 1 ≤ uidnext_of start folder before → IsApplied (before ++ issued) → AreRisingRows 1 (listing start folder (before ++ issued)) → is_there folder before ≡ true → map (λ (o : Op). o.kind) issued ≡ wanted → Each (IsCopying before) wanted
     → length (filter (appends_to folder) wanted) ≡ length (those_there rows view (resolved by_uid set view))
     → AreAsMany rows view by_uid set (uidnext_of start folder before) (listing start folder (before ++ issued))
-copies_landed start folder before issued wanted rows view by_uid set least a t e c n =
+copies_landed start folder before issued wanted rows view by_uid set least a r t e c n =
     let numbers = resolved by_uid set view in
     let low = uidnext_of start folder before - 1 in
-    let landed = kinds_landed start folder before issued wanted least a t e c in
+    let landed = kinds_landed start folder before issued wanted least a r t e c in
     let x = mapped_length (name_at true view) (those_there rows view numbers) in
     let y = mapped_length (λ (row : Listed). row.uid) (beyond low (listing start folder (before ++ issued))) in
     omega (arith, landed, x, y, n)

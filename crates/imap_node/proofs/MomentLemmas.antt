@@ -14,7 +14,7 @@ use Rattle.uid_projection.specs.Applied.{IsApplied}
 use Rattle.uid_projection.specs.Incarnations.{is_there, k_of, uidvalidity_of}
 use Rattle.uid_projection.specs.Lines.{uidnext_of}
 use Rattle.uid_projection.specs.Listing.{listing}
-use Rattle.uid_projection.proofs.Keeping.{for_good, uid_below}
+use Rattle.uid_projection.proofs.Keeping.{apart, for_good}
 use Rattle.uid_projection.proofs.Lasting.{Stays, stays_there}
 use Rattle.uid_projection.proofs.Listed.{row_in}
 use Rattle.uid_projection.proofs.Noted.{validity_inbox, validity_there}
@@ -130,9 +130,7 @@ next_grown start ops view a g e =
 pub row_below : (start : Start) (folder : List ℕ) (ops : List Op) (row : Listed) → IsApplied ops → IsIn row (listing start folder ops) → row.uid < uidnext_of start folder ops
 row_below start folder ops row a i =
     let w = row_in start folder ops row i in
-    let u : row.uid ≡ _ = ap (λ (r : Listed). r.uid) w.2.is in
-    let below = uid_below start folder ops a w.0 w.2.present in
-    omega (arith, u, below)
+    subst (λ (r : Listed). r.uid < uidnext_of start folder ops) w.2 ((apart start folder ops a).below w.0 w.1)
 
 pub is_or_not : (o : Option ℕ) (v : ℕ) → (o ≡ Some v) ⊎ ((o ≡ Some v) → ⊥)
 is_or_not None v = inr (λ e. let k : ◌≡◌ {A = Option ℕ} None (Some v) = e in cc)

@@ -1,7 +1,6 @@
 use Rattle.std.proofs.Common.{◌≡◌, inl, inr, ℕ, List, [], ◌∷◌, ◌++◌, ◌≤◌, arith, Option, Some, None, nat_eq, sym, ap, ◌∙◌, subst, map, if◌then◌else◌}
 use Rattle.std.specs.Prelude.{nat_lt, length, Ok}
 use Rattle.std.specs.List.{filter, list_all}
-use Rattle.crdt_ops.proofs.Presence.{Has}
 use Rattle.uid_projection.specs.Lines.{uidnext_of}
 use Rattle.std.proofs.lemmas.Bool.{cases_Bool}
 use Rattle.merge_laws.specs.Orders.{IsIn}
@@ -15,7 +14,7 @@ use Rattle.imap_answers.specs.declared.words.Refusal.{Refusal}
 use Rattle.imap_answers.specs.Printable.{Each, IsPrintable, IsTag, IsWide, Where}
 use Rattle.imap_commands.specs.Appending.{given_date}
 use Rattle.imap_commands.specs.Copying.{appends_of, removals_of}
-use Rattle.imap_commands.specs.Issued.{HaveLawfulFlags, IsIssuable}
+use Rattle.imap_commands.specs.Issued.{HaveLawfulKeywords, IsIssuable}
 use Rattle.imap_commands.specs.declared.session.Session.{Session}
 use Rattle.imap_commands.specs.declared.session.State.{State}
 use Rattle.imap_commands.specs.declared.session.State.TheVariants.{NotAuthenticated, Authenticated, Selected, LoggedOut}
@@ -29,6 +28,7 @@ use Rattle.imap_syntax.specs.declared.command.Tagged.{Tagged}
 use Rattle.imap_syntax.specs.declared.idle.IdleLine.{IdleLine}
 use Rattle.imap_types.specs.Keywords.{is_lawful_keyword}
 use Rattle.mail_listing.specs.Listed.{Listed}
+use Rattle.mail_listing.specs.Listing.{AreRisingRows}
 use Rattle.session_view.specs.Seen.{Seen, rows_under}
 use Rattle.session_view.specs.Sets.{is_in_range, resolved}
 use Rattle.session_view.specs.declared.replaying.Silent.{Silent}
@@ -36,7 +36,7 @@ use Rattle.uid_projection.specs.declared.start.Start.{Start}
 use Rattle.uid_projection.specs.Applied.{IsApplied}
 use Rattle.uid_projection.specs.Incarnations.{is_there, uidvalidity_of}
 use Rattle.uid_projection.specs.Listing.{listing}
-use Rattle.uid_projection.proofs.ListingLaws.{flags_lawful, names_applied}
+use Rattle.uid_projection.proofs.ListingLaws.{keywords_lawful, names_applied}
 use Rattle.imap_node.specs.declared.input.Input.{Input}
 use Rattle.imap_node.specs.declared.input.Input.TheVariants as inputs
 use Rattle.imap_node.specs.Commands.{is_idle, is_known, notice, wants}
@@ -47,13 +47,13 @@ use Rattle.imap_node.specs.Printing.{IsAnswerableIn, IsAnsweredWell, IsPresentab
 use Rattle.imap_node.specs.Respond.{Carries, begun, course_of, ends_idling, idle_tail, is_on, leaves, left, session_after, synced_course}
 use Rattle.imap_node.proofs.PrintLemmas.{LandsAll, NamesThere, course_well, moved_numbered, notice_printable, tail_printable, tells_printable}
 use Rattle.imap_node.specs.Sessions.{with_session}
-use Rattle.imap_node.proofs.LandingLemmas.{IsCopying, appends_copying, appends_counted, appends_to, copies_landed, more_counted, removals_copying, removals_counted}
-use Rattle.imap_node.proofs.ShownLemmas.{next_nonzero, shown_before}
+use Rattle.imap_node.proofs.LandingLemmas.{HasAll, IsCopying, appends_copying, appends_counted, appends_to, copies_landed, more_counted, removals_copying, removals_counted}
+use Rattle.imap_node.proofs.ShownLemmas.{listing_showable, next_nonzero, shown_before}
 use Rattle.imap_node.proofs.ThereLemmas.{IsNoDelete, append_there, copy_is, copy_there, move_is, move_there, stays_there, wanted_there}
 
 -- ---- the mailbox that a command names is there behind it
 
-under_lawful : (uidvalidity : ℕ) (now : Option ℕ) (rows : List Listed) → HaveLawfulFlags rows → HaveLawfulFlags (rows_under uidvalidity now rows)
+under_lawful : (uidvalidity : ℕ) (now : Option ℕ) (rows : List Listed) → HaveLawfulKeywords rows → HaveLawfulKeywords (rows_under uidvalidity now rows)
 under_lawful uidvalidity None rows h = λ row i. absurd i
 under_lawful uidvalidity (Some now) rows h =
     elim (cases_Bool (nat_eq now uidvalidity)) [
@@ -61,15 +61,15 @@ under_lawful uidvalidity (Some now) rows h =
       | inr f ↦ rw f (λ row i. absurd i)
     ]
 
-rows_lawful : (start : Start) (ops : List Op) (view : Seen) → IsApplied ops → HaveLawfulFlags (rows_for start ops view)
-rows_lawful start ops view a = under_lawful view.uidvalidity (uidvalidity_of start view.name ops) (listing start view.name ops) (λ row i. flags_lawful start view.name ops row a i)
+rows_lawful : (start : Start) (ops : List Op) (view : Seen) → IsApplied ops → HaveLawfulKeywords (rows_for start ops view)
+rows_lawful start ops view a = under_lawful view.uidvalidity (uidvalidity_of start view.name ops) (listing start view.name ops) (λ row i. keywords_lawful start view.name ops row a i)
 
 none_deleted : (folder destination : List ℕ) (rows : List Listed) (kind : Kind) → IsIssuable folder destination rows kind → IsNoDelete kind
 none_deleted folder destination rows (kinds.Create f) h = tt
 none_deleted folder destination rows (kinds.Delete f seen) h = absurd h
 none_deleted folder destination rows (kinds.Append f flags date text) h = tt
-none_deleted folder destination rows (kinds.Expunge f old) h = tt
-none_deleted folder destination rows (kinds.Store f flags old origin) h = tt
+none_deleted folder destination rows (kinds.Expunge f olds) h = tt
+none_deleted folder destination rows (kinds.Store f flags olds origin) h = tt
 none_deleted folder destination rows (kinds.Subscribe f) h = tt
 none_deleted folder destination rows (kinds.Unsubscribe f seen) h = tt
 
@@ -112,7 +112,7 @@ module _ (start : Start) (before issued : List Op) (stamp : List ℕ) (wanted : 
 
 -- ---- as many come into the destination as are copied
 
-under_has : (before : List Op) (uidvalidity : ℕ) (now : Option ℕ) (rows : List Listed) → ((row : Listed) → IsIn row rows → Has before row.id) → (row : Listed) → IsIn row (rows_under uidvalidity now rows) → Has before row.id
+under_has : (before : List Op) (uidvalidity : ℕ) (now : Option ℕ) (rows : List Listed) → ((row : Listed) → IsIn row rows → HasAll before row.versions) → (row : Listed) → IsIn row (rows_under uidvalidity now rows) → HasAll before row.versions
 under_has before uidvalidity None rows h = λ row i. absurd i
 under_has before uidvalidity (Some now) rows h =
     elim (cases_Bool (nat_eq now uidvalidity)) [
@@ -120,12 +120,15 @@ under_has before uidvalidity (Some now) rows h =
       | inr f ↦ rw f (λ row i. absurd i)
     ]
 
-rows_had : (start : Start) (ops : List Op) (view : Seen) → IsApplied ops → (row : Listed) → IsIn row (rows_for start ops view) → Has ops row.id
+rows_had : (start : Start) (ops : List Op) (view : Seen) → IsApplied ops → (row : Listed) → IsIn row (rows_for start ops view) → HasAll ops row.versions
 rows_had start ops view a = under_has ops view.uidvalidity (uidvalidity_of start view.name ops) (listing start view.name ops) (λ row i. (names_applied start view.name ops row a i).0)
 
 module _ (start : Start) (before issued : List Op) (stamp : List ℕ) (wanted : List Kind) (p : IsPresentable start (before ++ issued)) (m : map (λ (o : Op). o.kind) issued ≡ wanted) where
   at_least : (name : List ℕ) → 1 ≤ uidnext_of start name before
   at_least name = let n = (next_nonzero start name before (shown_before start before issued p)).0 in omega (arith, n)
+
+  rising : (name : List ℕ) → AreRisingRows 1 (listing start name (before ++ issued))
+  rising name = (listing_showable start name (before ++ issued) p).rising
 
   pub lands_all : (state : State) (command : Command) → wants start before stamp state command ≡ Ok wanted → LandsAll start before (before ++ issued) state command
   lands_all (NotAuthenticated credentials) command w = tt
@@ -137,7 +140,7 @@ module _ (start : Start) (before issued : List Op) (stamp : List ℕ) (wanted : 
       let appends = appends_of name rows view.entries numbers in
       let t = copy_there (is_in_range by_uid set view.entries) (is_there name before) appends wanted w in
       let is = copy_is (is_in_range by_uid set view.entries) (is_there name before) appends wanted w in
-      copies_landed start name before issued wanted rows view.entries by_uid set (at_least name) p.lasting.applied t m (subst (Each (IsCopying before)) (sym is) (appends_copying before name rows view.entries numbers))
+      copies_landed start name before issued wanted rows view.entries by_uid set (at_least name) p.lasting.applied (rising name) t m (subst (Each (IsCopying before)) (sym is) (appends_copying before name rows view.entries numbers))
       (ap (λ ks. length (filter (appends_to name) ks)) is ∙ appends_counted name rows view.entries numbers)
   lands_all (Selected view read_only) (commands.Move by_uid set name) w =
       let rows = rows_for start before view in
@@ -151,7 +154,7 @@ module _ (start : Start) (before issued : List Op) (stamp : List ℕ) (wanted : 
       let both = ap (λ ks. length (filter (appends_to name) ks)) is ∙ more_counted (appends_to name) appends removals in
       let one = appends_counted name rows view.entries numbers in
       let none = removals_counted view.name name rows view.entries numbers in
-      copies_landed start name before issued wanted rows view.entries by_uid set (at_least name) p.lasting.applied t m (subst (Each (IsCopying before)) (sym is) copying) (omega (arith, both, one, none))
+      copies_landed start name before issued wanted rows view.entries by_uid set (at_least name) p.lasting.applied (rising name) t m (subst (Each (IsCopying before)) (sym is) copying) (omega (arith, both, one, none))
   lands_all (Selected view read_only) _ w = tt
 
 -- ---- replies

@@ -4,7 +4,6 @@ use Rattle.std.proofs.lemmas.Bool.{cases_Bool}
 use Rattle.std.proofs.lemmas.Bool.Decides.{eqb_tells}
 use Rattle.crdt_ops.specs.declared.kind.Kind.{Kind}
 use Rattle.crdt_ops.specs.declared.op.Op.{Op}
-use Rattle.folder_state.specs.Contents.{contents_by}
 use Rattle.imap_answers.specs.declared.answer.Answer.{Answer}
 use Rattle.imap_answers.specs.declared.codes.Code.{Code}
 use Rattle.imap_answers.specs.declared.words.Refusal.{Refusal}
@@ -166,7 +165,7 @@ others_as_before old new n input (Refused why closed) (session, at, h) = subst (
 listing_rising : (start : Start) (folder : List ℕ) (ops : List Op) → 1 ≤ start.uid → IsApplied ops → AreRisingRows 1 (listing start folder ops)
 listing_rising start folder ops l a =
     let c = charted start folder ops a in
-    subst (AreRisingRows 1) (rows_listed start folder ops c.3 c.4.are_entries c.4.ascending) (rising_chart start folder ops (contents_by ops) c.0 c.1 c.2 c.3 l c.4)
+    subst (AreRisingRows 1) (rows_listed start folder ops c.3 c.5.are_entries c.5.ascending) (rising_chart start folder ops c.0 c.1 c.2 c.3 c.4 l c.5)
 
 under_rising : (uidvalidity : ℕ) (now : Option ℕ) (rows : List Listed) → AreRisingRows 1 rows → AreRisingRows 1 (rows_under uidvalidity now rows)
 under_rising uidvalidity None rows h = tt

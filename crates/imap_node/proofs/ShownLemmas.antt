@@ -140,8 +140,8 @@ unfolding tag_name
 named_by t id (kinds.Create folder) h = ap tag_name (same_tag_is t (FolderTag folder id) h)
 named_by t id (kinds.Delete folder seen) h = absurd (false≢true h)
 named_by t id (kinds.Append folder flags date text) h = ap tag_name (same_tag_is t (MessageTag folder id) h)
-named_by t id (kinds.Expunge folder old) h = ap tag_name (same_tag_is t (FolderTag folder id) h)
-named_by t id (kinds.Store folder flags old origin) h = ap tag_name (same_tag_is t (MessageTag folder id) h)
+named_by t id (kinds.Expunge folder olds) h = ap tag_name (same_tag_is t (FolderTag folder id) h)
+named_by t id (kinds.Store folder flags olds origin) h = ap tag_name (same_tag_is t (MessageTag folder id) h)
 named_by t id (kinds.Subscribe name) h = ap tag_name (same_tag_is t (SubscriptionTag name id) h)
 named_by t id (kinds.Unsubscribe name seen) h = absurd (false≢true h)
 

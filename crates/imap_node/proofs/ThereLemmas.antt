@@ -12,6 +12,8 @@ use Rattle.crdt_ops.specs.Order.{same_id}
 use Rattle.crdt_ops.specs.Tags.{FolderTag, MessageTag, Tag, added_by, adds, is_present, is_some_tag, removes}
 use Rattle.imap_answers.specs.declared.words.Refusal.{Refusal}
 use Rattle.imap_answers.specs.declared.words.Refusal.TheVariants.{KeywordTooLong, NoDestination, NoSuchMailbox, NoSuchMessage, NotNow, ReadOnly, TooManyKeywords}
+use Rattle.imap_commands.specs.Limits.{within_limits}
+use Rattle.imap_commands.proofs.IssuedLemmas.{within_is}
 use Rattle.uid_projection.specs.Applied.{IsApplied}
 use Rattle.uid_projection.specs.Incarnations.{is_there}
 use Rattle.uid_projection.specs.Lines.{concerns_by}
@@ -30,12 +32,12 @@ own_tag : (name : List ℕ) (id : OpId) (kind : Kind) → IsNoDelete kind → co
 own_tag name id (kinds.Create folder) k h = inl (and_from (bytes_eq name folder) (same_id id id) h ((ids_decide id id).1 refl))
 own_tag name id (kinds.Delete folder seen) k h = absurd k
 own_tag name id (kinds.Append folder flags date text) k h = inr (and_from (bytes_eq name folder) (same_id id id) h ((ids_decide id id).1 refl))
-own_tag name id (kinds.Expunge folder old) k h = inl (and_from (bytes_eq name folder) (same_id id id) h ((ids_decide id id).1 refl))
-own_tag name id (kinds.Store folder flags old origin) k h = inr (and_from (bytes_eq name folder) (same_id id id) h ((ids_decide id id).1 refl))
+own_tag name id (kinds.Expunge folder olds) k h = inl (and_from (bytes_eq name folder) (same_id id id) h ((ids_decide id id).1 refl))
+own_tag name id (kinds.Store folder flags olds origin) k h = inr (and_from (bytes_eq name folder) (same_id id id) h ((ids_decide id id).1 refl))
 own_tag name id (kinds.Subscribe folder) k h = absurd (false≢true h)
 own_tag name id (kinds.Unsubscribe folder seen) k h = absurd (false≢true h)
 
-added_there : (ops : List Op) (o : Op) (t : Tag) → IsApplied (ops ++ o ∷ []) → adds t o ≡ true → is_present (ops ++ o ∷ []) t ≡ true
+pub added_there : (ops : List Op) (o : Op) (t : Tag) → IsApplied (ops ++ o ∷ []) → adds t o ≡ true → is_present (ops ++ o ∷ []) t ≡ true
 added_there ops o t a e = presence_step ops o t a ∙ ap (λ b. b || (not (removes t o) && is_present ops t)) e
 
 pub kept_one : (name : List ℕ) (ops : List Op) (o : Op) → IsApplied (ops ++ o ∷ []) → IsNoDelete o.kind → is_there name ops ≡ true → is_there name (ops ++ o ∷ []) ≡ true
@@ -86,25 +88,25 @@ append_there true false lawful many kind wanted e = absurd cc
 append_there false there lawful many kind wanted e = absurd cc
 
 -- COPY and MOVE
-pub copy_there : (in_range there : Bool) (appends wanted : List Kind) → ◌≡◌ {A = Wanted} (if not in_range then Err NoSuchMessage else (if not there then Err NoDestination else Ok appends)) (Ok wanted) → there ≡ true
+pub copy_there : (in_range there : Bool) (appends wanted : List Kind) → ◌≡◌ {A = Wanted} (if not in_range then Err NoSuchMessage else (if not there then Err NoDestination else within_limits appends)) (Ok wanted) → there ≡ true
 copy_there true true appends wanted e = refl
 copy_there true false appends wanted e = absurd cc
 copy_there false there appends wanted e = absurd cc
 
-pub move_there : (in_range read_only there : Bool) (kinds wanted : List Kind) → ◌≡◌ {A = Wanted} (if not in_range then Err NoSuchMessage else (if read_only then Err ReadOnly else (if not there then Err NoDestination else Ok kinds))) (Ok wanted) → there ≡ true
+pub move_there : (in_range read_only there : Bool) (kinds wanted : List Kind) → ◌≡◌ {A = Wanted} (if not in_range then Err NoSuchMessage else (if read_only then Err ReadOnly else (if not there then Err NoDestination else within_limits kinds))) (Ok wanted) → there ≡ true
 move_there true false true kinds wanted e = refl
 move_there true false false kinds wanted e = absurd cc
 move_there true true there kinds wanted e = absurd cc
 move_there false read_only there kinds wanted e = absurd cc
 
 -- and what they issue
-pub copy_is : (in_range there : Bool) (appends wanted : List Kind) → ◌≡◌ {A = Wanted} (if not in_range then Err NoSuchMessage else (if not there then Err NoDestination else Ok appends)) (Ok wanted) → wanted ≡ appends
-copy_is true true appends wanted e = cc
+pub copy_is : (in_range there : Bool) (appends wanted : List Kind) → ◌≡◌ {A = Wanted} (if not in_range then Err NoSuchMessage else (if not there then Err NoDestination else within_limits appends)) (Ok wanted) → wanted ≡ appends
+copy_is true true appends wanted e = within_is appends wanted e
 copy_is true false appends wanted e = absurd cc
 copy_is false there appends wanted e = absurd cc
 
-pub move_is : (in_range read_only there : Bool) (kinds wanted : List Kind) → ◌≡◌ {A = Wanted} (if not in_range then Err NoSuchMessage else (if read_only then Err ReadOnly else (if not there then Err NoDestination else Ok kinds))) (Ok wanted) → wanted ≡ kinds
-move_is true false true kinds wanted e = cc
+pub move_is : (in_range read_only there : Bool) (kinds wanted : List Kind) → ◌≡◌ {A = Wanted} (if not in_range then Err NoSuchMessage else (if read_only then Err ReadOnly else (if not there then Err NoDestination else within_limits kinds))) (Ok wanted) → wanted ≡ kinds
+move_is true false true kinds wanted e = within_is kinds wanted e
 move_is true false false kinds wanted e = absurd cc
 move_is true true there kinds wanted e = absurd cc
 move_is false read_only there kinds wanted e = absurd cc

@@ -17,25 +17,17 @@ ghost use Rattle.imap_node.specs.declared.input.Input.{Input as OneInput};
 ghost use Rattle.imap_node.specs.declared.reply.Reply.{Reply as OneReply};
 ghost use Rattle.imap_node.specs.declared.reply.Reply.TheVariants.{Done};
 ghost use Rattle.imap_node.specs.declared.sessions.Auth.{Auth as How};
-ghost use Rattle.merge_laws.specs.Orders.{IsIn};
 ghost use Rattle.session_view.specs.Seen.{Seen};
 ghost use Rattle.session_view.specs.Views.{entries_of};
 ghost use Rattle.session_view.specs.declared.replaying.Silent.{Silent as Set};
 ghost use Rattle.uid_projection.specs.Applied.{IsApplied};
 ghost use Rattle.uid_projection.specs.Bounds.{IsLasting};
-ghost use Rattle.uid_projection.specs.ForGood.{BearsOrigin};
 ghost use Rattle.uid_projection.specs.declared.start.Start.{Start as First};
 
 /// What a reply issued is sound, bears the node's name, comes next behind what was applied, and has ids that nothing applied has. The node's
 /// list grew by it at its end, and by nothing else.
 pub fn issued_are_sound_and_new()
     ensures { (old new : NodeState) (n : ℕ) (input : OneInput) (reply : OneReply) → IsApplied old.applied → Responds old n input reply new → Issues old (issued_by reply) new }
-{}
-
-/// A Store that a reply issued bears the origin of the message that it changes: that which the operations applied give it. So the date and
-/// the text of a UID are for good, wherever the operation is applied.
-pub fn issued_stores_bear_their_origin()
-    ensures { (old new : NodeState) (n : ℕ) (input : OneInput) (reply : OneReply) (op : Operation) → IsApplied old.applied → Responds old n input reply new → IsIn op (issued_by reply) → BearsOrigin old.applied op.kind }
 {}
 
 /// The flags that a reply sets in silence and its answers, replayed on what the session saw, give what it sees: after a command, a

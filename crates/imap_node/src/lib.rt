@@ -24,9 +24,8 @@ mod wanting;
 pub use imap_commands::{Credentials, Session, State};
 pub use input::Input;
 pub use laws::{
-    counters_last, full_syncs_show_listing, issued_are_sound_and_new,
-    issued_stores_bear_their_origin, other_sessions_stay, replies_replay, views_ascend,
-    views_go_back,
+    counters_last, full_syncs_show_listing, issued_are_sound_and_new, other_sessions_stay,
+    replies_replay, views_ascend, views_go_back,
 };
 pub use node::Node;
 pub use planning::Plan;

@@ -114,7 +114,7 @@ fn items_of(
 {
     let sections = sections(alloc, row.text, items)?;
     let tells_flags = tells_flags(items, mode, old);
-    let flags = flags_where(alloc, tells_flags, row.flags)?;
+    let flags = flags_where(alloc, tells_flags, row)?;
     Ok(FetchItems {
         uid: tells_uid(items, mode).then_some(row.uid),
         flags,
@@ -137,13 +137,13 @@ fn date_where(told: bool, date: &DateTime) -> Option<DateTime>
     if told { Some(date.copy()) } else { None }
 }
 
-fn flags_where(alloc: Global, told: bool, flags: &Flags) -> Result<Option<Flags>, AllocError>
-    ensures { IfOk result (λ copied. copied ≡ where_told told flags.now) }
+fn flags_where(alloc: Global, told: bool, row: &Row<'_>) -> Result<Option<Flags>, AllocError>
+    ensures { IfOk result (λ flags. flags ≡ where_told told (listed row.now).flags) }
 {
     if !told {
         return Ok(None);
     }
-    Ok(Some(flags.copy(alloc)?))
+    Ok(Some(row.versions.flags(alloc)?))
 }
 
 /// Whether flags are told: where they are asked, or where reading a section sets `\Seen`.
@@ -158,7 +158,7 @@ fn tells_flags(items: &[FetchItem], mode: FetchMode, old: &Row<'_>) -> bool
 pub fn is_marked(items: &[FetchItem], mode: FetchMode, old: &Row<'_>) -> bool
     ensures { result ≡ is_marked items.now mode (listed old.now) }
 {
-    mode.writable && !old.flags.seen && set_seen(items)
+    mode.writable && !old.versions.seen() && set_seen(items)
 }
 
 fn set_seen(items: &[FetchItem]) -> bool

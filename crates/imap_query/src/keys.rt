@@ -85,10 +85,10 @@ fn is_so(
 {
     match test {
         SearchTest::All => Ok(true),
-        SearchTest::System { flag, is_set } => Ok(is_flagged(row.flags, *flag, *is_set)),
+        SearchTest::System { flag, is_set } => Ok(is_flagged(row, *flag, *is_set)),
         SearchTest::Keyword { keyword, is_set } => Ok(is_as(
             *is_set,
-            row.flags.keywords.contains(keyword.as_bytes()),
+            row.versions.has_keyword(keyword.as_bytes()),
         )),
         SearchTest::Holds { place, text } => holds_in(alloc, *place, text.as_bytes(), row.text),
         SearchTest::Header { name, text } => {

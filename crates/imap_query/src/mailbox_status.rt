@@ -69,13 +69,7 @@ fn counted(rows: &Rows<'_>, place: u32, flag: SystemFlag, is_set: bool) -> u32
 {
     match rows.row_at(place as usize) {
         None => 0,
-        Some(row) => {
-            if is_flagged(row.flags, flag, is_set) {
-                1
-            } else {
-                0
-            }
-        }
+        Some(row) => { if is_flagged(&row, flag, is_set) { 1 } else { 0 } }
     }
 }
 

@@ -213,6 +213,7 @@ refused-again tag refusal.NotInProfile rest = refl
 refused-again tag refusal.LoginFailed rest = refl
 refused-again tag refusal.ReadOnly rest = refl
 refused-again tag refusal.TooManyKeywords rest = refl
+refused-again tag refusal.TooManyVersions rest = refl
 refused-again tag refusal.KeywordTooLong rest = refl
 refused-again tag refusal.NumberUsedUp rest = refl
 refused-again tag refusal.LiteralTooLong rest = refl

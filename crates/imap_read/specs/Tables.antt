@@ -33,7 +33,7 @@ bye_reasons =
 
 abbrev pub refusals : List Refusal
 refusals =
-    refusal.NoSuchMailbox ∷ refusal.NoDestination ∷ refusal.MailboxExists ∷ refusal.NameNotAllowed ∷ refusal.InboxStays ∷ refusal.NotInProfile ∷ refusal.LoginFailed ∷ refusal.ReadOnly ∷ refusal.TooManyKeywords ∷ refusal.KeywordTooLong ∷ refusal.NumberUsedUp ∷ refusal.LiteralTooLong ∷ refusal.NoMemory ∷ refusal.UnknownCommand ∷ refusal.BadSyntax ∷ refusal.NotNow ∷ refusal.NoSuchMessage ∷ refusal.DoneExpected ∷ []
+    refusal.NoSuchMailbox ∷ refusal.NoDestination ∷ refusal.MailboxExists ∷ refusal.NameNotAllowed ∷ refusal.InboxStays ∷ refusal.NotInProfile ∷ refusal.LoginFailed ∷ refusal.ReadOnly ∷ refusal.TooManyKeywords ∷ refusal.TooManyVersions ∷ refusal.KeywordTooLong ∷ refusal.NumberUsedUp ∷ refusal.LiteralTooLong ∷ refusal.NoMemory ∷ refusal.UnknownCommand ∷ refusal.BadSyntax ∷ refusal.NotNow ∷ refusal.NoSuchMessage ∷ refusal.DoneExpected ∷ []
 
 abbrev pub commands : List CommandWord
 commands =

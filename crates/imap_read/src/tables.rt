@@ -152,6 +152,7 @@ pub fn refusal_word(bytes: &[u8]) -> Option<(Refusal, &[u8])>
         Refusal::LoginFailed,
         Refusal::ReadOnly,
         Refusal::TooManyKeywords,
+        Refusal::TooManyVersions,
         Refusal::KeywordTooLong,
         Refusal::NumberUsedUp,
         Refusal::LiteralTooLong,

@@ -3,13 +3,13 @@ use Rattle.std.proofs.lemmas.Bool.{and_from}
 use Rattle.std.specs.List.{list_all}
 use Rattle.crdt_ops.proofs.ListLemmas.{clock_lacks, name_lacks}
 use Rattle.crdt_ops.specs.Form.{HasFields, IsDated, IsInForm, IsSpelled}
-use Rattle.crdt_ops.specs.Text.{clock_text, flags_text, id_text, kind_text, letter_text, name_text, op_text}
+use Rattle.crdt_ops.specs.Text.{clock_text, flags_text, id_text, ids_text, kind_text, letter_text, name_text, op_text}
 use Rattle.crdt_ops.specs.declared.kind.Kind.{Kind}
 use Rattle.crdt_ops.specs.declared.kind.Kind.TheVariants.{Create, Delete, Append, Expunge, Store, Subscribe, Unsubscribe}
 use Rattle.crdt_ops.specs.declared.op.Op.{Op}
 use Rattle.text_fields.proofs.FieldLemmas.{chosen, cut_again, cut_takes, front_some, id_lacks}
 use Rattle.text_fields.specs.Reading.{cut_at, in_front}
-use Rattle.mail_audit.specs.Forms.{AreMessageFields, AreTagFields}
+use Rattle.mail_audit.specs.Forms.{AreIdsText, AreLetterFields, AreMessageFields, AreTagFields}
 
 -- the parts of a cut
 front_of : Option (List ℕ × List ℕ) → List ℕ
@@ -25,7 +25,7 @@ head_of [] = 0
 head_of (x ∷ xs) = x
 
 -- what stands before the first separator lacks it
-cut_lacks : (separator : ℕ) (text : List ℕ) (parts : List ℕ × List ℕ) → cut_at separator text ≡ Some parts → list_all (λ octet. not (eqb octet separator)) parts.0 ≡ true
+pub cut_lacks : (separator : ℕ) (text : List ℕ) (parts : List ℕ × List ℕ) → cut_at separator text ≡ Some parts → list_all (λ octet. not (eqb octet separator)) parts.0 ≡ true
 cut_lacks separator [] parts h = absurd cc
 cut_lacks separator (octet ∷ octets) parts h =
     elim (chosen (eqb octet separator) (Some ([], octets)) (in_front (octet ∷ []) (cut_at separator octets)) (Some parts) h) [
@@ -55,8 +55,8 @@ unfolding head_of
 by_delete (Create folder) fields f e = absurd (let k : 100 ≡ 99 = ap head_of e in omega (arith, k))
 by_delete (Delete folder seen) fields f e = (folder, seen, f.0, f.1, ap (drop 7) e)
 by_delete (Append folder flags date text) fields f e = absurd (let k : 100 ≡ 97 = ap head_of e in omega (arith, k))
-by_delete (Expunge folder old) fields f e = absurd (let k : 100 ≡ 101 = ap head_of e in omega (arith, k))
-by_delete (Store folder flags old origin) fields f e = absurd (let k : 100 ≡ 115 = ap head_of e in omega (arith, k))
+by_delete (Expunge folder olds) fields f e = absurd (let k : 100 ≡ 101 = ap head_of e in omega (arith, k))
+by_delete (Store folder flags olds origin) fields f e = absurd (let k : 100 ≡ 115 = ap head_of e in omega (arith, k))
 by_delete (Subscribe name) fields f e = absurd (let k : 100 ≡ 115 = ap head_of e in omega (arith, k))
 by_delete (Unsubscribe name seen) fields f e = absurd (let k : 100 ≡ 117 = ap head_of e in omega (arith, k))
 
@@ -65,8 +65,8 @@ unfolding head_of
 by_unsubscribe (Create folder) fields f e = absurd (let k : 117 ≡ 99 = ap head_of e in omega (arith, k))
 by_unsubscribe (Delete folder seen) fields f e = absurd (let k : 117 ≡ 100 = ap head_of e in omega (arith, k))
 by_unsubscribe (Append folder flags date text) fields f e = absurd (let k : 117 ≡ 97 = ap head_of e in omega (arith, k))
-by_unsubscribe (Expunge folder old) fields f e = absurd (let k : 117 ≡ 101 = ap head_of e in omega (arith, k))
-by_unsubscribe (Store folder flags old origin) fields f e = absurd (let k : 117 ≡ 115 = ap head_of e in omega (arith, k))
+by_unsubscribe (Expunge folder olds) fields f e = absurd (let k : 117 ≡ 101 = ap head_of e in omega (arith, k))
+by_unsubscribe (Store folder flags olds origin) fields f e = absurd (let k : 117 ≡ 115 = ap head_of e in omega (arith, k))
 by_unsubscribe (Subscribe name) fields f e = absurd (let k : 117 ≡ 115 = ap head_of e in omega (arith, k))
 by_unsubscribe (Unsubscribe name seen) fields f e = (name, seen, f.0, f.1, ap (drop 12) e)
 
@@ -82,25 +82,40 @@ unsubscribe_fields op fields s =
     let clock = (behind_id op (codes "1:1") (codes "- unsubscribe " ++ fields) s.0 refl s.1).1 in
     by_unsubscribe op.kind fields s.0.parts.fields (behind_clock op (codes "unsubscribe " ++ fields) s.0 clock)
 
-by_append : (op : Op) (kind : Kind) (id rest fields : List ℕ) → IsInForm op → id ≡ id_text op.id → fields ≡ id ++ 32 ∷ rest → HasFields kind → IsDated kind → codes "append INBOX " ++ rest ≡ kind_text kind → AreMessageFields fields
+by_append : (op : Op) (kind : Kind) (id rest : List ℕ) → IsInForm op → id ≡ id_text op.id → HasFields kind → IsDated kind → codes "append INBOX " ++ rest ≡ kind_text kind → AreLetterFields id rest
 unfolding head_of back_of
-by_append op (Create folder) id rest fields form i w f d e = absurd (let k : 97 ≡ 99 = ap head_of e in omega (arith, k))
-by_append op (Delete folder seen) id rest fields form i w f d e = absurd (let k : 97 ≡ 100 = ap head_of e in omega (arith, k))
-by_append op (Append folder flags date text) id rest fields form i w f d e =
+by_append op (Create folder) id rest form i f d e = absurd (let k : 97 ≡ 99 = ap head_of e in omega (arith, k))
+by_append op (Delete folder seen) id rest form i f d e = absurd (let k : 97 ≡ 100 = ap head_of e in omega (arith, k))
+by_append op (Append folder flags date text) id rest form i f d e =
     let tail = flags_text flags ++ 32 ∷ (date ++ 32 ∷ letter_text text) in
     let behind : codes "INBOX " ++ rest ≡ name_text folder ++ 32 ∷ tail = ap (drop 7) e in
     let same : rest ≡ tail = ap back_of (ap (cut_at 32) behind ∙ cut_again 32 (name_text folder) tail (name_lacks folder)) in
-    (op.id, flags, date, text, form.parts.id, f.1, d, f.3, w ∙ (λ j. i j ++ 32 ∷ same j))
-by_append op (Expunge folder old) id rest fields form i w f d e = absurd (let k : 97 ≡ 101 = ap head_of e in omega (arith, k))
-by_append op (Store folder flags old origin) id rest fields form i w f d e = absurd (let k : 97 ≡ 115 = ap head_of e in omega (arith, k))
-by_append op (Subscribe name) id rest fields form i w f d e = absurd (let k : 97 ≡ 115 = ap head_of e in omega (arith, k))
-by_append op (Unsubscribe name seen) id rest fields form i w f d e = absurd (let k : 97 ≡ 117 = ap head_of e in omega (arith, k))
+    (op.id, flags, date, text, form.parts.id, f.1, d, f.3, i, same)
+by_append op (Expunge folder olds) id rest form i f d e = absurd (let k : 97 ≡ 101 = ap head_of e in omega (arith, k))
+by_append op (Store folder flags olds origin) id rest form i f d e = absurd (let k : 97 ≡ 115 = ap head_of e in omega (arith, k))
+by_append op (Subscribe name) id rest form i f d e = absurd (let k : 97 ≡ 115 = ap head_of e in omega (arith, k))
+by_append op (Unsubscribe name seen) id rest form i f d e = absurd (let k : 97 ≡ 117 = ap head_of e in omega (arith, k))
 
 -- an id, and what an Append has behind its folder
-pub append_fields : (op : Op) (fields id rest : List ℕ) → Some (id, rest) ≡ cut_at 32 fields → IsSpelled op ((id ++ codes " - append INBOX ") ++ rest) → AreMessageFields fields
-append_fields op fields id rest c s =
-    let parts = behind_id op id (codes "- append INBOX " ++ rest) s.0 (cut_lacks 32 fields (id, rest) (sym c)) (sym (append_assoc id (codes " - append INBOX ") rest) ∙ s.1) in
-    by_append op op.kind id rest fields s.0 parts.0 (cut_takes 32 fields (id, rest) (sym c)) s.0.parts.fields s.0.date (behind_clock op (codes "append INBOX " ++ rest) s.0 parts.1)
+pub letter_fields : (op : Op) (id rest : List ℕ) → list_all (λ octet. not (eqb octet 32)) id ≡ true → IsSpelled op ((id ++ codes " - append INBOX ") ++ rest) → AreLetterFields id rest
+letter_fields op id rest l s =
+    let parts = behind_id op id (codes "- append INBOX " ++ rest) s.0 l (sym (append_assoc id (codes " - append INBOX ") rest) ∙ s.1) in
+    by_append op op.kind id rest s.0 parts.0 s.0.parts.fields s.0.date (behind_clock op (codes "append INBOX " ++ rest) s.0 parts.1)
+
+-- the ids that a Delete lists
+pub listed_ids : (op : Op) (text : List ℕ) → IsSpelled op (codes "1:1 - delete a " ++ text) → AreIdsText text
+unfolding back_of
+listed_ids op text s =
+    let t = delete_fields op (codes "a " ++ text) s in
+    (t.1, t.3, ap back_of (ap (cut_at 32) t.4 ∙ cut_again 32 (name_text t.0) (ids_text t.1) (name_lacks t.0)))
+
+-- the fields of a message's line, part by part
+pub message_fields : (fields origin behind versions rest : List ℕ) → Some (origin, behind) ≡ cut_at 32 fields → Some (versions, rest) ≡ cut_at 32 behind → AreIdsText versions → AreLetterFields origin rest → AreMessageFields fields
+message_fields fields origin behind versions rest c d v l = (
+    l.0, v.0, l.1, l.2, l.3,
+    l.4, v.1, l.5, l.6, l.7,
+    cut_takes 32 fields (origin, behind) (sym c) ∙ (λ j. l.8 j ++ 32 ∷ (cut_takes 32 behind (versions, rest) (sym d) ∙ (λ k. v.2 k ++ 32 ∷ l.9 k)) j),
+)
 
 -- ---- where such fields were found
 
@@ -112,9 +127,13 @@ pub where_unsubscribe : {E : Type 0} (result : Result Bool E) (fields : List ℕ
 where_unsubscribe (Ok spelled) fields h = λ t. let s = h t in unsubscribe_fields s.0 fields s.1
 where_unsubscribe (Err why) fields h = tt
 
-pub where_append : {E : Type 0} (result : Result Bool E) (fields id rest front : List ℕ) → Some (id, rest) ≡ cut_at 32 fields → front ≡ id ++ codes " - append INBOX " → IfOk result (λ spelled. IsTrue spelled → (op : Op) × IsSpelled op (front ++ rest)) → IfOk result (λ are. IsTrue are → AreMessageFields fields)
-where_append (Ok spelled) fields id rest front c e h = λ t. let s = h t in append_fields s.0 fields id rest c (subst (λ (f : List ℕ). IsSpelled s.0 (f ++ rest)) e s.1)
-where_append (Err why) fields id rest front c e h = tt
+pub where_append : {E : Type 0} (result : Result Bool E) (id rest front : List ℕ) → list_all (λ octet. not (eqb octet 32)) id ≡ true → front ≡ id ++ codes " - append INBOX " → IfOk result (λ spelled. IsTrue spelled → (op : Op) × IsSpelled op (front ++ rest)) → IfOk result (λ are. IsTrue are → AreLetterFields id rest)
+where_append (Ok spelled) id rest front l e h = λ t. let s = h t in letter_fields s.0 id rest l (subst (λ (f : List ℕ). IsSpelled s.0 (f ++ rest)) e s.1)
+where_append (Err why) id rest front l e h = tt
+
+pub where_listed : {E : Type 0} (result : Result Bool E) (text : List ℕ) → IfOk result (λ spelled. IsTrue spelled → (op : Op) × IsSpelled op (codes "1:1 - delete a " ++ text)) → IfOk result (λ are. IsTrue are → AreIdsText text)
+where_listed (Ok spelled) text h = λ t. let s = h t in listed_ids s.0 text s.1
+where_listed (Err why) text h = tt
 
 -- a line of a word and its fields
 pub line_of : (line word fields name : List ℕ) → Some (word, fields) ≡ cut_at 32 line → word ≡ name → line ≡ name ++ 32 ∷ fields

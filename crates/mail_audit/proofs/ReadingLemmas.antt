@@ -3,7 +3,7 @@ use Rattle.std.specs.Fmt.{decimal}
 use Rattle.mail_script.proofs.FieldLemmas.{cut_none}
 use Rattle.mail_script.specs.Fields.{IsId, IsReplica, id_text}
 use Rattle.mail_script.specs.Outcomes.{join_text, outcome_text, result_text, settled_text}
-use Rattle.mail_script.specs.declared.outcome.BrokenRule.TheVariants.{OwnEntry, UncoveredId, UnlawfulName, UnlawfulFlags, InboxDeleted}
+use Rattle.mail_script.specs.declared.outcome.BrokenRule.TheVariants.{OwnEntry, UncoveredId, UnlawfulName, UnlawfulFlags, InboxDeleted, OldIdCount}
 use Rattle.mail_script.specs.declared.outcome.DeliveryResult.{DeliveryResult}
 use Rattle.mail_script.specs.declared.outcome.DeliveryResult.TheVariants.{Applied, Held, Repeat, Conflict, HeldFull, Exhausted, NoMemory as NoMemoryForIt}
 use Rattle.mail_script.specs.declared.outcome.JoinResult.{JoinResult}
@@ -140,6 +140,7 @@ outcome_again (Unsound UncoveredId) h = refl
 outcome_again (Unsound UnlawfulName) h = refl
 outcome_again (Unsound UnlawfulFlags) h = refl
 outcome_again (Unsound InboxDeleted) h = refl
+outcome_again (Unsound OldIdCount) h = refl
 outcome_again (Drained r n true) h = drained_by r (decimal n ++ codes " stalled") (record { count = n; stalled = true }) h.0 (counted_stalled n h.1)
 outcome_again (Drained r n false) h = drained_by r (decimal n ++ []) (record { count = n; stalled = false }) h.0 (ap counted_at (append-nil (decimal n)) ∙ counted_alone n h.1)
 outcome_again (Settled result) h = settled_again result h

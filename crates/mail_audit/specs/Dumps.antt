@@ -32,11 +32,11 @@ dated_text message = 32 ∷ (message.date ++ 32 ∷ (letter_text message.text ++
 abbrev pub body_text : Message → List ℕ
 body_text message = flags_text message.flags ++ dated_text message
 
--- The line of a message.
+-- The line of a message: its origin, its versions, and what it says.
 abbrev pub message_line : Message → List ℕ
-message_line message = codes "message " ++ (id_text message.id ++ 32 ∷ body_text message)
+message_line message = codes "message " ++ (id_text message.origin ++ 32 ∷ (ids_text message.versions ++ 32 ∷ body_text message))
 
--- The lines of a folder: its own, and those of its messages by their ids.
+-- The lines of a folder: its own, and those of its messages by their origins.
 abbrev pub folder_lines : List Op → List ℕ → List ℕ
 folder_lines ops folder = folder_line ops folder ++ flat_map message_line (messages_of ops folder)
 

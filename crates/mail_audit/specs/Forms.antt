@@ -15,12 +15,23 @@ use Rattle.mail_audit.specs.Results.{IsResult}
 abbrev pub AreTagFields : List ℕ → Type 0
 AreTagFields fields = (name : List ℕ) × (ids : List OpId) × AreOctets name × AreIds ids × (fields ≡ name_text name ++ 32 ∷ ids_text ids)
 
--- An id with flags, a date and a text behind it.
-abbrev pub AreMessageFields : List ℕ → Type 0
-AreMessageFields fields =
+-- Ids as they are written.
+abbrev pub AreIdsText : List ℕ → Type 0
+AreIdsText text = (ids : List OpId) × AreIds ids × (text ≡ ids_text ids)
+
+-- An origin, and a message's flags, date and text, as they are written.
+abbrev pub AreLetterFields : List ℕ → List ℕ → Type 0
+AreLetterFields origin rest =
     (id : OpId) × (flags : Flags) × (date : List ℕ) × (text : List ℕ)
     × IsId id × HasWords flags × IsDateTime date × AreOctets text
-    × (fields ≡ id_text id ++ 32 ∷ (flags_text flags ++ 32 ∷ (date ++ 32 ∷ letter_text text)))
+    × (origin ≡ id_text id) × (rest ≡ flags_text flags ++ 32 ∷ (date ++ 32 ∷ letter_text text))
+
+-- An origin with versions, flags, a date and a text behind it.
+abbrev pub AreMessageFields : List ℕ → Type 0
+AreMessageFields fields =
+    (origin : OpId) × (versions : List OpId) × (flags : Flags) × (date : List ℕ) × (text : List ℕ)
+    × IsId origin × AreIds versions × HasWords flags × IsDateTime date × AreOctets text
+    × (fields ≡ id_text origin ++ 32 ∷ (ids_text versions ++ 32 ∷ (flags_text flags ++ 32 ∷ (date ++ 32 ∷ letter_text text))))
 
 -- A line in the form of a folder's, a message's or a subscription's.
 abbrev pub IsStateLine : List ℕ → Type 0

@@ -1,7 +1,7 @@
 -- How a line that tells a result is taken apart. What it says is told by its text (`IsResult`).
 use Rattle.std.specs.Prelude.{ℕ, true, false, List, Option, Some, None, codes, if◌then◌else◌}
 use Rattle.std.specs.Str.{bytes_eq}
-use Rattle.mail_script.specs.declared.outcome.BrokenRule.TheVariants.{OwnEntry, UncoveredId, UnlawfulName, UnlawfulFlags, InboxDeleted}
+use Rattle.mail_script.specs.declared.outcome.BrokenRule.TheVariants.{OwnEntry, UncoveredId, UnlawfulName, UnlawfulFlags, InboxDeleted, OldIdCount}
 use Rattle.mail_script.specs.declared.outcome.DeliveryResult.{DeliveryResult}
 use Rattle.mail_script.specs.declared.outcome.DeliveryResult.TheVariants.{Applied, Held, Repeat, Conflict, HeldFull, Exhausted, NoMemory}
 use Rattle.mail_script.specs.declared.outcome.JoinResult.{JoinResult}
@@ -84,7 +84,8 @@ unsound_at fields =
     (if bytes_eq fields (codes "Unsound U2") then Some (Unsound UncoveredId) else
     (if bytes_eq fields (codes "Unsound U3") then Some (Unsound UnlawfulName) else
     (if bytes_eq fields (codes "Unsound U4") then Some (Unsound UnlawfulFlags) else
-    (if bytes_eq fields (codes "Unsound U5") then Some (Unsound InboxDeleted) else None))))
+    (if bytes_eq fields (codes "Unsound U5") then Some (Unsound InboxDeleted) else
+    (if bytes_eq fields (codes "Unsound U6") then Some (Unsound OldIdCount) else None)))))
 
 -- The outcome behind `drain`.
 unfoldable pub drained_at : List ℕ → Option OutcomeLine

@@ -1,10 +1,11 @@
 //! Which lines can be read at all.
 
-ghost use Rattle.std.specs.Prelude.{◌++◌, IfOk, IsTrue, MatchOption};
+ghost use Rattle.std.specs.Prelude.{◌≡◌, ◌++◌, ◌==◌, IfOk, IsTrue, MatchOption, not, true};
+ghost use Rattle.std.specs.List.{list_all};
 ghost use Rattle.crdt_ops.specs.Form.{IsSpelled};
 ghost use Rattle.crdt_ops.specs.declared.op.Op.{Op as Operation};
 ghost use Rattle.mail_audit.specs.DumpLines.{IsDumpLine};
-ghost use Rattle.mail_audit.specs.Forms.{AreMessageFields, AreTagFields, IsOtherLine, IsSpokenLine, IsStateLine};
+ghost use Rattle.mail_audit.specs.Forms.{AreIdsText, AreLetterFields, AreMessageFields, AreTagFields, IsOtherLine, IsSpokenLine, IsStateLine};
 
 use crate::lines::{dump_begun, read_spoken};
 use crate::results::is_result;
@@ -112,13 +113,34 @@ fn are_unsubscribe_fields(alloc: Global, fields: &[u8]) -> Result<bool, AllocErr
     is_spelled(alloc, b"1:1 - unsubscribe ", fields)
 }
 
-/// Whether the fields are those of a message's line: an id, and what an Append has behind its folder.
+/// Whether the fields are those of a message's line: its origin, its versions, and its flags, date and text.
 fn are_message_fields(alloc: Global, fields: &[u8]) -> Result<bool, AllocError>
     ensures { IfOk result (λ are. IsTrue are → AreMessageFields fields.now) }
 {
-    let Some((id, rest)) = split(b' ', fields) else {
+    let Some((origin, behind)) = split(b' ', fields) else {
         return Ok(false);
     };
+    let Some((versions, rest)) = split(b' ', behind) else {
+        return Ok(false);
+    };
+    if !are_ids(alloc, versions)? {
+        return Ok(false);
+    }
+    are_letter_fields(alloc, origin, rest)
+}
+
+/// Whether the text is that of ids, as a Delete lists them.
+fn are_ids(alloc: Global, text: &[u8]) -> Result<bool, AllocError>
+    ensures { IfOk result (λ are. IsTrue are → AreIdsText text.now) }
+{
+    is_spelled(alloc, b"1:1 - delete a ", text)
+}
+
+/// Whether these are an id, and flags, a date and a text as an Append with this id has them behind its folder.
+fn are_letter_fields(alloc: Global, id: &[u8], rest: &[u8]) -> Result<bool, AllocError>
+    requires { list_all (λ octet. not (octet == 32)) id.now ≡ true }
+    ensures { IfOk result (λ are. IsTrue are → AreLetterFields id.now rest.now) }
+{
     let mut front = id.to_vec(alloc)?;
     front.extend_from_slice(b" - append INBOX ")?;
     is_spelled(alloc, &front, rest)

@@ -165,6 +165,8 @@ fn unsound(fields: &[u8]) -> Option<OutcomeLine>
         Some(broken(BrokenRule::UnlawfulFlags))
     } else if fields == b"Unsound U5".as_slice() {
         Some(broken(BrokenRule::InboxDeleted))
+    } else if fields == b"Unsound U6".as_slice() {
+        Some(broken(BrokenRule::OldIdCount))
     } else {
         None
     }

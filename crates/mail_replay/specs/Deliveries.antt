@@ -8,7 +8,7 @@ use Rattle.crdt_ops.specs.Form.{IsSpelled}
 use Rattle.crdt_ops.specs.Sound.{IsFirstFault, IsSound}
 use Rattle.crdt_ops.specs.declared.op.Op.{Op}
 use Rattle.crdt_ops.specs.declared.soundness.Unsound.{Unsound as Fault}
-use Rattle.crdt_ops.specs.declared.soundness.Unsound.TheVariants.{OwnClockEntry, UncoveredId, UnlawfulName, UnlawfulFlags, DeleteOfInbox}
+use Rattle.crdt_ops.specs.declared.soundness.Unsound.TheVariants.{OwnClockEntry, UncoveredId, UnlawfulName, UnlawfulFlags, DeleteOfInbox, Count}
 use Rattle.imap_node.specs.Deliveries.{Delivers, Drains, HoldsRipe, IsRefusedAt}
 use Rattle.imap_node.specs.Nodes.{NodeKept, NodeState}
 use Rattle.mail_script.specs.Outcomes.{outcome_line}
@@ -50,6 +50,7 @@ rule_told UncoveredId = rules.UncoveredId
 rule_told UnlawfulName = rules.UnlawfulName
 rule_told UnlawfulFlags = rules.UnlawfulFlags
 rule_told DeleteOfInbox = rules.InboxDeleted
+rule_told Count = rules.OldIdCount
 
 -- ---- deliveries
 

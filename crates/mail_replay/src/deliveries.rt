@@ -225,5 +225,6 @@ fn rule_told(why: Unsound) -> BrokenRule
         Unsound::UnlawfulName => BrokenRule::UnlawfulName,
         Unsound::UnlawfulFlags => BrokenRule::UnlawfulFlags,
         Unsound::DeleteOfInbox => BrokenRule::InboxDeleted,
+        Unsound::Count => BrokenRule::OldIdCount,
     }
 }

@@ -3,7 +3,7 @@ use Rattle.std.specs.Fmt.{decimal}
 use Rattle.tags_clocks.specs.declared.id.OpId.{OpId}
 use Rattle.mail_script.specs.Fields.{id_text}
 use Rattle.mail_script.specs.declared.outcome.BrokenRule.{BrokenRule}
-use Rattle.mail_script.specs.declared.outcome.BrokenRule.TheVariants.{OwnEntry, UncoveredId, UnlawfulName, UnlawfulFlags, InboxDeleted}
+use Rattle.mail_script.specs.declared.outcome.BrokenRule.TheVariants.{OwnEntry, UncoveredId, UnlawfulName, UnlawfulFlags, InboxDeleted, OldIdCount}
 use Rattle.mail_script.specs.declared.outcome.DeliveryResult.{DeliveryResult}
 use Rattle.mail_script.specs.declared.outcome.DeliveryResult.TheVariants.{Applied, Held, Repeat, Conflict, HeldFull, Exhausted, NoMemory as NoMemoryForIt}
 use Rattle.mail_script.specs.declared.outcome.JoinResult.{JoinResult}
@@ -39,6 +39,7 @@ rule_text UncoveredId = codes "U2"
 rule_text UnlawfulName = codes "U3"
 rule_text UnlawfulFlags = codes "U4"
 rule_text InboxDeleted = codes "U5"
+rule_text OldIdCount = codes "U6"
 
 -- An operation and the replica to which it was delivered.
 abbrev pub delivery_text : OpId → ℕ → List ℕ

@@ -67,6 +67,8 @@ pub enum BrokenRule {
     UnlawfulFlags,
     /// INBOX is deleted.
     InboxDeleted,
+    /// No old id is named, or more than 64.
+    OldIdCount,
 }
 
 /// A line of a script's output that is no line of a transcript or a dump.
@@ -325,6 +327,7 @@ impl BrokenRule {
             BrokenRule::UnlawfulName => b"U3",
             BrokenRule::UnlawfulFlags => b"U4",
             BrokenRule::InboxDeleted => b"U5",
+            BrokenRule::OldIdCount => b"U6",
         }
     }
 }

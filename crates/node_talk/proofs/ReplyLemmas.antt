@@ -48,6 +48,7 @@ without old new n line refusals.NotInProfile closed s m h r = absurd (false≢tr
 without old new n line refusals.LoginFailed closed s m h r = absurd (false≢true m)
 without old new n line refusals.ReadOnly closed s m h r = absurd (false≢true m)
 without old new n line refusals.TooManyKeywords closed s m h r = absurd (false≢true m)
+without old new n line refusals.TooManyVersions closed s m h r = absurd (false≢true m)
 without old new n line refusals.KeywordTooLong closed s m h r = absurd (false≢true m)
 without old new n line refusals.NumberUsedUp closed s m h r = absurd (false≢true m)
 without old new n line refusals.LiteralTooLong closed s m h r = absurd (false≢true m)

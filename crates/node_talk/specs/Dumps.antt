@@ -20,15 +20,15 @@ folder_line ops folder = codes "folder " ++ (name_text folder ++ 32 ∷ (ids_tex
 abbrev pub dated_text : Message → List ℕ
 dated_text message = 32 ∷ (message.date ++ 32 ∷ (letter_text message.text ++ 10 ∷ []))
 
--- What a message's line says behind its id: its flags, its date and its text.
+-- What a message's line says behind its versions: its flags, its date and its text.
 abbrev pub body_text : Message → List ℕ
 body_text message = flags_text message.flags ++ dated_text message
 
--- The line of a message.
+-- The line of a message: its origin, its versions, and what it says.
 abbrev pub message_line : Message → List ℕ
-message_line message = codes "message " ++ id_text message.id ++ 32 ∷ body_text message
+message_line message = codes "message " ++ (id_text message.origin ++ 32 ∷ (ids_text message.versions ++ 32 ∷ body_text message))
 
--- The lines of a folder's messages, by their ids.
+-- The lines of a folder's messages, by their origins.
 abbrev pub message_lines : List Op → List ℕ → List ℕ
 message_lines ops folder = flat_map message_line (messages_of ops folder)
 

@@ -195,7 +195,9 @@ fn push_message(alloc: Global, message: &Message, text: &mut Vec<u8>) -> Result<
     ensures { OnOk result (text.new.items ≡ text.old.items ++ message_line message.now) }
 {
     text.extend_from_slice(b"message ")?;
-    write_id(alloc, message.id, text)?;
+    write_id(alloc, message.origin, text)?;
+    text.push(b' ')?;
+    write_ids(alloc, &message.versions, text)?;
     text.push(b' ')?;
     push_body(message, text)
 }

@@ -3,7 +3,8 @@
 use crate::fields::octets;
 use case_text::{Trouble, cut, long_number, number};
 use imap_types::{DATE_TIME_OCTETS, DateTime, Escape, Flags, Octets};
-use mail_listing::{Row, Rows};
+use mail_listing::{HeldRow, HeldVersions, Rows};
+use message_versions::{Version, Versions};
 use std::alloc::Global;
 use tags_clocks::{OpId, ReplicaId};
 
@@ -11,7 +12,7 @@ use tags_clocks::{OpId, ReplicaId};
 #[derive(Drop)]
 pub struct Standing {
     modseq: u64,
-    flags: Flags,
+    versions: Vec<Version>,
 }
 
 /// A message of the mailbox.
@@ -55,8 +56,17 @@ pub fn standing_in(alloc: Global, text: &str) -> Result<Standing, Trouble> {
     let (modseq, flags) = cut(text)?;
     Ok(Standing {
         modseq: long_number(modseq)?,
-        flags: flags_in(alloc, flags)?,
+        versions: version_of(alloc, flags_in(alloc, flags)?)?,
     })
+}
+
+/// The one version of a message with these flags, under some id.
+fn version_of(alloc: Global, flags: Flags) -> Result<Vec<Version>, Trouble> {
+    let mut versions = Vec::new(alloc);
+    if let Some(id) = some_id() {
+        versions.push(Version { id, flags })?;
+    }
+    Ok(versions)
 }
 
 /// `()`, or flags with spaces between them in parentheses.
@@ -123,14 +133,13 @@ pub fn rows_of<'a>(
 }
 
 /// The row of a message, under some id.
-fn row_of<'a>(message: &'a Message, is_after: bool) -> Option<Row<'a>> {
+fn row_of<'a>(message: &'a Message, is_after: bool) -> Option<HeldRow<'a>> {
     let standing = message.stands(is_after);
-    Some(Row {
+    Some(HeldRow {
         uid: message.uid,
         modseq: standing.modseq,
-        id: some_id()?,
         origin: some_id()?,
-        flags: &standing.flags,
+        versions: HeldVersions::Lent(Versions::new(&standing.versions)),
         date: Some(&message.date),
         text: message.text.as_bytes(),
     })

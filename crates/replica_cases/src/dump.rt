@@ -38,14 +38,36 @@ fn tell_folders(folders: &Folders, names: &[Name], answer: &mut Words) {
 
 fn tell_messages(folders: &Folders, name: &Name, answer: &mut Words) {
     match folders.messages(answer.alloc(), name) {
-        Ok(messages) => tell_each(&messages, answer),
+        Ok(messages) => tell_each(folders, name, &messages, answer),
         Err(AllocError) => answer.give_up(),
     }
 }
 
-fn tell_each(messages: &[Message], answer: &mut Words) {
+fn tell_each(folders: &Folders, name: &Name, messages: &[Message], answer: &mut Words) {
     for message in messages {
         tell_copied(message, answer);
+        answer.put_if(!is_lent(folders, name, message), " lent otherwise");
+        tell_versions(folders, name, message, answer);
+    }
+}
+
+/// Whether the folders lend the same message.
+fn is_lent(folders: &Folders, name: &Name, message: &Message) -> bool {
+    match folders.message(name, &message.origin) {
+        Some(lent) => {
+            lent.origin == message.origin
+                && lent.text == message.text.as_bytes()
+                && lent.versions.has_flags(&message.flags)
+        }
+        None => false,
+    }
+}
+
+/// What the folders tell of the message's versions, where that is something else.
+fn tell_versions(folders: &Folders, name: &Name, message: &Message, answer: &mut Words) {
+    match folders.versions(answer.alloc(), name, &message.origin) {
+        Ok(ids) => answer.put_if(!ids.same(&message.versions), " versions otherwise"),
+        Err(AllocError) => answer.give_up(),
     }
 }
 
@@ -60,7 +82,8 @@ fn tell_copied(message: &Message, answer: &mut Words) {
 fn tell_same(message: &Message, copied: &Message, answer: &mut Words) {
     answer.put("\n  ");
     answer.put_if(!copied.same(message), "copied ");
-    answer.put_id("message ", copied.id);
+    answer.put_id("message ", copied.origin);
+    answer.put_ids(" ", &copied.versions);
     answer.put_flags(" ", &copied.flags);
     answer.put_after(" ", copied.date.as_bytes());
     answer.put_escaped(" =", copied.text.as_bytes());

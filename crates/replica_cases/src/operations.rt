@@ -34,6 +34,7 @@ fn fault_word(fault: Unsound) -> &'static str {
         Unsound::UnlawfulName => "UnlawfulName",
         Unsound::UnlawfulFlags => "UnlawfulFlags",
         Unsound::DeleteOfInbox => "DeleteOfInbox",
+        Unsound::Count => "Count",
     }
 }
 

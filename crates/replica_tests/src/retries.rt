@@ -41,7 +41,7 @@ const MIXED: &[&str] = &[
 
 /// What they end in, whatever was refused on the way.
 const MIXED_END: &str =
-    "5:1 - subscribe b\n1:1 - create a\n1:2 1=1 append a () \"17-Jul-1996 02:44:25 -0700\" =hello\n2:1 1=2 expunge a 1:2\n1:3 1=2,2=1 store a (\\Seen zed) 1:2 1:2\n5:2 5=1 unsubscribe b 5:1\n6:1 1=1 delete a 1:1\n7:1 5=1 subscribe b\nheld\nfolder INBOX -\nfolder a 2:1\nmessage 1:3 (\\Seen zed) \"17-Jul-1996 02:44:25 -0700\" =hello\nsubscribed b 7:1\n";
+    "5:1 - subscribe b\n1:1 - create a\n1:2 1=1 append a () \"17-Jul-1996 02:44:25 -0700\" =hello\n2:1 1=2 expunge a 1:2\n1:3 1=2,2=1 store a (\\Seen zed) 1:2 1:2\n5:2 5=1 unsubscribe b 5:1\n6:1 1=1 delete a 1:1\n7:1 5=1 subscribe b\nheld\nfolder INBOX -\nfolder a 2:1\nmessage 1:2 1:3 (\\Seen zed) \"17-Jul-1996 02:44:25 -0700\" =hello\nsubscribed b 7:1\n";
 
 /// The number of applications before the one for which memory is refused, and the answers: a delivery that is refused is made
 /// again, and one that stalls is followed by a drain.

@@ -82,7 +82,9 @@ fn tell_messages(
 
 fn tell_message(alloc: Global, message: &Message, text: &mut Vec<u8>) -> Result<(), AllocError> {
     text.extend_from_slice(b"message ")?;
-    write_id(alloc, message.id, text)?;
+    write_id(alloc, message.origin, text)?;
+    text.extend_from_slice(b" ")?;
+    write_ids(alloc, &message.versions, text)?;
     text.extend_from_slice(b" ")?;
     tell_content(message, text)
 }

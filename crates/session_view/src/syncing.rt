@@ -161,7 +161,7 @@ fn push_change(
 ) -> Result<(), AllocError>
     ensures { OnOk result (answers.new.items ≡ answers.old.items ++ change modseq number entry.now (Some (listed row.now))) }
 {
-    if !are_same(&entry.flags, row.flags) {
+    if !are_same(&entry.flags, row) {
         answers.push(change_of(alloc, modseq, number, row)?)?;
     }
     Ok(())
@@ -175,7 +175,7 @@ fn change_of(alloc: Global, modseq: bool, number: u32, row: &Row<'_>) -> Result<
         number,
         items: FetchItems {
             uid: Some(row.uid),
-            flags: Some(row.flags.copy(alloc)?),
+            flags: Some(row.versions.flags(alloc)?),
             date: None,
             size: None,
             modseq: if modseq { Some(row.modseq) } else { None },
@@ -184,11 +184,11 @@ fn change_of(alloc: Global, modseq: bool, number: u32, row: &Row<'_>) -> Result<
     })
 }
 
-/// Whether both are the same flags.
-fn are_same(flags: &Flags, others: &Flags) -> bool
-    ensures { result ≡ same_flags flags.now others.now }
+/// Whether the flags are those of the message now.
+fn are_same(flags: &Flags, row: &Row<'_>) -> bool
+    ensures { result ≡ same_flags flags.now (listed row.now).flags }
 {
-    flags.same(others)
+    row.versions.has_flags(flags)
 }
 
 /// The messages that stay, with the listing's flags.
@@ -221,7 +221,7 @@ fn push_kept(
         Some(row) => {
             kept.push(Entry {
                 uid: entry.uid,
-                flags: row.flags.copy(alloc)?,
+                flags: row.versions.flags(alloc)?,
             })?;
         }
         None => {
@@ -273,7 +273,7 @@ fn push_row(alloc: Global, row: &Row<'_>, entries: &mut Vec<Entry>) -> Result<()
 {
     entries.push(Entry {
         uid: row.uid,
-        flags: row.flags.copy(alloc)?,
+        flags: row.versions.flags(alloc)?,
     })?;
     Ok(())
 }

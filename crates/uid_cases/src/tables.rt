@@ -117,12 +117,27 @@ fn tell_place(rows: &Rows<'_>, place: usize, answer: &mut Words) {
     }
 }
 
-/// UID, mod-sequence, id, origin, flags and text of a message.
+/// UID, mod-sequence, the ids of its versions, origin, flags and text of a message.
 fn tell_row(row: &Row<'_>, answer: &mut Words) {
     answer.put_number(" ", u64::from(row.uid));
     answer.put_number(" ", row.modseq);
-    answer.put_id(" ", row.id);
+    tell_versions(row, answer);
     answer.put_id(" ", row.origin);
-    answer.put_flags(" ", row.flags);
+    tell_flags(row, answer);
     answer.put_escaped(" =", row.text);
+}
+
+fn tell_versions(row: &Row<'_>, answer: &mut Words) {
+    let mut mark = " ";
+    for version in row.versions.as_slice() {
+        answer.put_id(mark, version.id);
+        mark = ",";
+    }
+}
+
+fn tell_flags(row: &Row<'_>, answer: &mut Words) {
+    match row.versions.flags(answer.alloc()) {
+        Ok(flags) => answer.put_flags(" ", &flags),
+        Err(AllocError) => answer.give_up(),
+    }
 }

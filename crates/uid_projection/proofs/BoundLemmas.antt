@@ -1,9 +1,11 @@
 use Rattle.std.specs.Str.{bytes_eq}
-use Rattle.std.specs.List.{filter}
+use Rattle.std.specs.List.{filter, filter_map, flat_map}
 use Rattle.std.specs.Option.{unwrap_or}
 use Rattle.std.proofs.Common.{◌≡◌, inl, inr, ℕ, ◌+◌, ◌*◌, ◌<◌, ◌≤◌, ◌^◌, Bool, true, false, cond, ◌&&◌, List, [], ◌∷◌, ◌++◌, length, Option, Some, None, nat_lt, refl, sym, ap, ◌∙◌, subst, append_assoc, arith, rules, codes}
 use Rattle.std.proofs.lemmas.Bool.{cases_Bool, false≢true}
 use Rattle.std.proofs.lemmas.Slice.Eq.{bytes_eq-Decides}
+use Rattle.imap_types.specs.declared.flags.Flags.{Flags}
+use Rattle.imap_types.specs.Keywords.{is_lowered}
 use Rattle.imap_types.specs.DateTimes.{IsDateTime, date_time_picture}
 use Rattle.imap_types.specs.Names.{inbox}
 use Rattle.imap_types.proofs.Pictures.{pictured_by}
@@ -14,11 +16,10 @@ use Rattle.tags_clocks.specs.declared.id.OpId.{OpId}
 use Rattle.crdt_ops.specs.declared.kind.Kind.{Kind}
 use Rattle.crdt_ops.specs.declared.kind.Kind.TheVariants.{Create, Delete, Append, Expunge, Store, Subscribe, Unsubscribe}
 use Rattle.crdt_ops.specs.declared.op.Op.{Op}
-use Rattle.crdt_ops.specs.Form.{HasFields, HasWords, IsDated}
+use Rattle.crdt_ops.specs.Form.{HasFields, HasWords, IsDated, is_word}
 use Rattle.crdt_ops.specs.Order.{same_id}
-use Rattle.crdt_ops.specs.Sets.{Body, Letter, body_by, body_from, letter_by, letter_from, letter_of, no_letter}
-use Rattle.crdt_ops.specs.Tags.{MessageTag, adds}
-use Rattle.folder_state.specs.Contents.{contents_by}
+use Rattle.crdt_ops.specs.Sets.{Body, Letter, body_by, letter_by, letter_from, letter_of, message_of, no_letter, tag_flags_of, versions_of}
+use Rattle.message_versions.proofs.WordLemmas.{ascending_folded}
 use Rattle.uid_projection.specs.declared.start.Start.{Start}
 use Rattle.uid_projection.specs.Applied.{IsApplied}
 use Rattle.uid_projection.specs.Bounds.{AreWritable, HasBounds, IsCountable, IsLasting, IsLawfulStart, IsRowWithin, IsWritableRow}
@@ -28,15 +29,17 @@ use Rattle.uid_projection.specs.Incarnations.{is_there, k_of, uidvalidity_of}
 use Rattle.uid_projection.specs.Lines.{concerns, first_uid, highest_modseq_of, modseq_of, place_of, uid_of, uidnext_of}
 use Rattle.uid_projection.specs.Listing.{listing}
 use Rattle.uid_projection.proofs.ChartOf.{charted}
-use Rattle.uid_projection.proofs.Keeping.{body_chosen, given_by, uid_below}
+use Rattle.uid_projection.proofs.Keeping.{apart}
 use Rattle.uid_projection.proofs.Lasting.{begun}
 use Rattle.uid_projection.proofs.LaterCharts.{k_begins}
 use Rattle.uid_projection.proofs.LaterNumbers.{uidnext_within}
 use Rattle.uid_projection.proofs.Listed.{row_in}
+use Rattle.uid_projection.proofs.ListingLaws.{flags_carried, keywords_have}
 use Rattle.uid_projection.proofs.Noted.{validity_gone, validity_inbox, validity_there}
 use Rattle.uid_projection.proofs.Presence.{applied_front, there_tags}
 use Rattle.uid_projection.proofs.RowLemmas.{rising_chart, rows_listed}
 use Rattle.uid_projection.proofs.Steps.{by_last, k_here, k_none}
+use Rattle.uid_projection.proofs.Versions.{given_by}
 
 -- ---- counts
 
@@ -119,15 +122,15 @@ first_within start folder s = by (bytes_eq folder inbox)
 listing_rising : (start : Start) (folder : List ℕ) (ops : List Op) → 1 ≤ start.uid → IsApplied ops → AreRisingRows 1 (listing start folder ops)
 listing_rising start folder ops l a =
     let c = charted start folder ops a in
-    subst (AreRisingRows 1) (rows_listed start folder ops c.3 c.4.are_entries c.4.ascending) (rising_chart start folder ops (contents_by ops) c.0 c.1 c.2 c.3 l c.4)
+    subst (AreRisingRows 1) (rows_listed start folder ops c.3 c.5.are_entries c.5.ascending) (rising_chart start folder ops c.0 c.1 c.2 c.3 c.4 l c.5)
 
 row_within : (start : Start) (folder : List ℕ) (ops : List Op) (row : Listed) → IsLawfulStart start → IsApplied ops → IsIn row (listing start folder ops) → IsRowWithin (uidnext_of start folder ops) (length ops) row
 row_within start folder ops row s a i =
     let w = row_in start folder ops row i in
     let f = (first_within start folder s).0 in
-    let u : row.uid ≡ uid_of start folder ops w.0 = ap (λ (r : Listed). r.uid) w.2.is in
-    let m : row.modseq ≡ modseq_of folder ops w.0 = ap (λ (r : Listed). r.modseq) w.2.is in
-    let below = uid_below start folder ops a w.0 w.2.present in
+    let u : row.uid ≡ uid_of start folder ops w.0 = ap (λ (r : Listed). r.uid) (sym w.2) in
+    let m : row.modseq ≡ modseq_of folder ops w.0 = ap (λ (r : Listed). r.modseq) (sym w.2) in
+    let below = (apart start folder ops a).below w.0 w.1 in
     let few = modseq_bound folder ops w.0 in
     record {
       uid_from = omega (arith, u, f);
@@ -194,14 +197,28 @@ letter_written ops id w =
     let v = given_by (letter_from id) ops l e in
     letter_by_kind v.0.kind l (w v.0 v.1).0.date (w v.0 v.1).1 (letter_chosen (same_id id v.0.id) (letter_by v.0.kind) l v.2))
 
+-- each version's flags can be written
+carried_words : (ops : List Op) (folder : List ℕ) (g : OpId) (flags : Flags) → AreWritable ops → IsIn flags (filter_map (tag_flags_of ops folder) (versions_of ops folder g)) → HasWords flags
+carried_words ops folder g flags w i =
+    let v = flags_carried ops folder g flags i in
+    subst HasWords v.4 (words_by v.0.id v.0.kind v.1 (w v.0 v.2).0.parts.fields v.3)
+
+-- and so can the union of them
+words_written : (ops : List Op) (folder : List ℕ) (g : OpId) → AreWritable ops → HasWords (message_of ops folder g).flags
+words_written ops folder g w = (
+  (
+    keywords_have is_lowered ops folder g (λ flags i. (carried_words ops folder g flags w i).0.0),
+    ascending_folded [] (flat_map (λ (f : Flags). f.keywords) (filter_map (tag_flags_of ops folder) (versions_of ops folder g))) tt,
+  ),
+  keywords_have is_word ops folder g (λ flags i. (carried_words ops folder g flags w i).1),
+)
+
 pub rows_written : (start : Start) (folder : List ℕ) (ops : List Op) (row : Listed) → AreWritable ops → IsIn row (listing start folder ops) → IsWritableRow row
 rows_written start folder ops row w i =
     let r = row_in start folder ops row i in
-    let v = given_by (body_from folder r.0) ops r.1 r.2.carries in
-    let flags = words_by v.0.id v.0.kind r.1 (w v.0 v.1).0.parts.fields (body_chosen (adds (MessageTag folder r.0) v.0) (body_by v.0.id v.0.kind) r.1 v.2) in
-    let letter = letter_written ops r.1.origin w in
+    let letter = letter_written ops r.0 w in
     record {
-      flags = subst HasWords (sym (ap (λ (x : Listed). x.flags) r.2.is)) flags;
-      date = subst IsDateTime (sym (ap (λ (x : Listed). x.date) r.2.is)) letter.0;
-      text = subst (λ (t : List ℕ). length t < 2 ^ 64) (sym (ap (λ (x : Listed). x.text) r.2.is)) letter.1;
+      flags = subst (λ (x : Listed). HasWords x.flags) r.2 (words_written ops folder r.0 w);
+      date = subst (λ (x : Listed). IsDateTime x.date) r.2 letter.0;
+      text = subst (λ (x : Listed). length x.text < 2 ^ 64) r.2 letter.1;
     }

@@ -1,20 +1,31 @@
-use Rattle.std.proofs.Common.{◌≡◌, ◌↔◌, ◌⊎◌, inl, inr, ℕ, ◌+◌, ◌<◌, ◌≤◌, Bool, true, false, cond, not, ◌&&◌, List, [], ◌∷◌, ◌++◌, length, refl, sym, ap, ◌∙◌, subst, append_assoc, append-nil, arith, nat_le, nat_lt, get_or, take, drop, ◌-◌}
-use Rattle.std.proofs.lemmas.Bool.{cases_Bool, false≢true, leb-false, lt-ltb, ltb-true}
+use Rattle.std.specs.Option.{option_map}
+use Rattle.std.specs.Str.{bytes_eq}
+use Rattle.tags_clocks.specs.declared.id.OpId.{OpId}
+use Rattle.tags_clocks.proofs.Decide.{ids_decide}
+use Rattle.std.proofs.Common.{◌≡◌, ◌↔◌, ◌⊎◌, inl, inr, ℕ, ◌+◌, ◌<◌, ◌≤◌, Bool, true, false, cond, not, ◌&&◌, Option, Some, None, List, [], ◌∷◌, ◌++◌, length, refl, sym, ap, ◌∙◌, subst, append_assoc, append-nil, arith, nat_eq, nat_le, nat_lt, get_or, take, drop, ◌-◌}
+use Rattle.std.proofs.lemmas.Bool.{cases_Bool, eq-eqb, eqb-true, false≢true, false_from_ne_true, leb-false, lt-ltb, ltb-true}
 use Rattle.std.proofs.lemmas.List.{take_all, take_more, take-append-drop}
 use Rattle.merge_laws.proofs.Lists.{in_parts}
 use Rattle.merge_laws.specs.Orders.{IsIn}
+use Rattle.imap_types.specs.declared.flags.Flags.{Flags}
+use Rattle.crdt_ops.specs.declared.kind.Kind.{Kind}
+use Rattle.crdt_ops.specs.declared.kind.Kind.TheVariants.{Append, Store}
 use Rattle.crdt_ops.specs.declared.op.Op.{Op}
-use Rattle.crdt_ops.specs.Sets.{folders_of}
-use Rattle.crdt_ops.specs.Tags.{name_of}
+use Rattle.crdt_ops.specs.Order.{same_id}
+use Rattle.crdt_ops.specs.Sets.{Body, body_by, folders_of, origins_of}
+use Rattle.crdt_ops.specs.Tags.{MessageTag, added_by, is_some_tag, name_of}
+use Rattle.crdt_ops.proofs.VersionLemmas.{origins_listed}
 use Rattle.uid_projection.specs.declared.start.Start.{Start}
 use Rattle.uid_projection.specs.Applied.{IsApplied}
 use Rattle.uid_projection.specs.Exhaustion.{Exhausts, IsExhausted, LacksK, LacksUid}
 use Rattle.uid_projection.specs.History.{counted_all}
 use Rattle.uid_projection.specs.Incarnations.{begins, is_there}
-use Rattle.uid_projection.specs.Lines.{begins_line, first_uid, uidnext_of}
+use Rattle.uid_projection.specs.Lines.{begins_line, begins_line_of, first_uid, has_version, holds_of, origin_added, uidnext_of}
 use Rattle.uid_projection.proofs.HistoryLemmas.{once, all-append}
 use Rattle.uid_projection.proofs.Presence.{applied_front, same_bool, there_in}
 use Rattle.uid_projection.proofs.Steps.{uidnext_gone, uidnext_here}
+use Rattle.uid_projection.proofs.Touching.{version_added}
+use Rattle.uid_projection.proofs.Versions.{origin_applied, version_in}
 
 -- the operations in front and the next one, behind the list
 pub behind : (list front through : List Op) (o : Op) → through ≡ front ++ o ∷ [] → list ++ through ≡ (list ++ front) ++ o ∷ []
@@ -81,6 +92,43 @@ k_bound (o ∷ front) list =
     let r = k_bound front (list ++ o ∷ []) in
     omega (arith, r, e, m, b)
 
+-- ---- lines that begin
+
+pub has_as : (folder : List ℕ) (ops : List Op) (g : OpId) (r : Bool) → (r ≡ true) ↔ IsIn g (origins_of ops folder) → r ≡ has_version folder g ops
+has_as folder ops g r h =
+    let n = (origins_listed ops folder).1 g in
+    let v = version_in folder ops g in
+    same_bool r (has_version folder g ops) (λ t. v.1 (n.0 (h.0 t))) (λ t. h.1 (n.1 (v.0 t)))
+
+origin_put : (b c : Bool) (x : Body) → c ≡ true → option_map (λ (y : Body). y.origin) (cond (b && c) (Some x) None) ≡ cond b (Some x.origin) None
+origin_put true c x h = λ j. option_map (λ (y : Body). y.origin) (cond (h j) (Some x) None)
+origin_put false c x h = refl
+
+-- a line begins where the origin that is added has no version before
+begins_chosen : (folder : List ℕ) (ops : List Op) (o : Op) → IsApplied (ops ++ o ∷ []) → (b : Bool) (g : OpId) → origin_added folder o ≡ cond b (Some g) None → (b && not (has_version folder g ops)) ≡ begins_line folder ops o
+begins_chosen folder ops o a true g e =
+    let later : has_version folder g (ops ++ o ∷ []) ≡ true = (version_in folder (ops ++ o ∷ []) g).1 (o.id, version_added folder ops o a g e) in
+    sym (ap (holds_of (λ x. begins_line_of folder x ops o)) e ∙ (λ j. later j && not (has_version folder g ops)))
+begins_chosen folder ops o a false g e = sym (ap (holds_of (λ x. begins_line_of folder x ops o)) e)
+
+abbrev origin_by : List ℕ → OpId → Kind → Option OpId
+origin_by folder id kind = option_map (λ (y : Body). y.origin) (cond (is_some_tag (MessageTag folder id) (added_by id kind)) (body_by id kind) None)
+
+pub begins_append : (folder : List ℕ) (ops : List Op) (o : Op) → IsApplied (ops ++ o ∷ []) → (name : List ℕ) (flags : Flags) (date text : List ℕ) → o.kind ≡ Append name flags date text → bytes_eq folder name ≡ begins_line folder ops o
+begins_append folder ops o a name flags date text is =
+    let own : origin_added folder o ≡ cond (bytes_eq folder name) (Some o.id) None = ap (origin_by folder o.id) is ∙ origin_put (bytes_eq folder name) (same_id o.id o.id) (record { flags = flags; origin = o.id }) ((ids_decide o.id o.id).1 refl) in
+    let fresh : has_version folder o.id ops ≡ false = false_from_ne_true (has_version folder o.id ops) (λ h. (a.causal ops o [] refl).1 (origin_applied folder ops o.id (applied_front ops (o ∷ []) a) h)) in
+    plain (bytes_eq folder name) ∙ (λ j. bytes_eq folder name && not (sym fresh j)) ∙ begins_chosen folder ops o a (bytes_eq folder name) o.id own
+  where
+    plain : (b : Bool) → b ≡ (b && true)
+    plain true = refl
+    plain false = refl
+
+pub begins_store : (folder : List ℕ) (ops : List Op) (o : Op) → IsApplied (ops ++ o ∷ []) → (name : List ℕ) (flags : Flags) (olds : List OpId) (origin : OpId) → o.kind ≡ Store name flags olds origin → (bytes_eq folder name && not (has_version folder origin ops)) ≡ begins_line folder ops o
+begins_store folder ops o a name flags olds origin is =
+    begins_chosen folder ops o a (bytes_eq folder name) origin
+    (ap (origin_by folder o.id) is ∙ origin_put (bytes_eq folder name) (same_id o.id o.id) (record { flags = flags; origin = origin }) ((ids_decide o.id o.id).1 refl))
+
 -- the operations through a place
 pub take_op : (ops : List Op) (at : ℕ) (x o : Op) → at < length ops → x ≡ get_or ops at x → o ≡ x → take (at + 1) ops ≡ take at ops ++ o ∷ []
 take_op ops at x o l is e = take_more ops at x l ∙ (λ i. take at ops ++ (sym is ∙ sym e) i ∷ [])
@@ -113,6 +161,12 @@ uid_far start list front o folder first now own f n is next =
   where
     impossible : (n : ℕ) → n ≡ 4294967295 → n < 4294967295 → ⊥
     impossible n a b = omega (arith, a, b)
+
+pub uid_near : (start : Start) (list front : List Op) (o : Op) (folder : List ℕ) (b : Bool) (r : ℕ) → folder ≡ name_of o.kind → b ≡ true → b ≡ begins_line folder (list ++ front) o → r ≡ uidnext_of start folder (list ++ front) → (nat_eq r 4294967295 ≡ true) ↔ LacksUid start (list ++ front) o
+uid_near start list front o folder b r own t e is = (
+  λ h. (ap (λ n. begins_line n (list ++ front) o) (sym own) ∙ sym e ∙ t, ap (λ n. uidnext_of start n (list ++ front)) (sym own) ∙ sym is ∙ eqb-true r 4294967295 h),
+  λ w. eq-eqb r 4294967295 (is ∙ ap (λ n. uidnext_of start n (list ++ front)) own ∙ w.1),
+)
 
 -- ---- the first one that lacks a number
 

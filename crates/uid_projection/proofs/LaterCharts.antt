@@ -14,9 +14,9 @@ use Rattle.uid_projection.specs.Exhaustion.{Exhausts, IsExhausted}
 use Rattle.uid_projection.specs.History.{counted_all}
 use Rattle.uid_projection.specs.Incarnations.{begins, is_there}
 use Rattle.uid_projection.specs.Lines.{begins_line, concerns_by, first_uid, uidnext_of}
-use Rattle.uid_projection.specs.Shown.{takes_uid}
+use Rattle.uid_projection.specs.Moves.{added_origin, takes_uid}
 use Rattle.uid_projection.specs.Table.{IsAlike, IsAway, IsTable, IsUpTo}
-use Rattle.uid_projection.proofs.Arms.{chart_as}
+use Rattle.uid_projection.proofs.ChartSteps.{chart_as}
 use Rattle.uid_projection.proofs.Asked.{gone_without}
 use Rattle.uid_projection.proofs.Coming.{behind}
 use Rattle.uid_projection.proofs.HistoryLemmas.{once, all-append}
@@ -26,11 +26,11 @@ use Rattle.uid_projection.proofs.Tables.{gone_up, shown_away}
 
 -- ---- what is shown, whether the folder is there or not
 
-pub shown : (start : Start) (ops : List Op) (c : Chart) → IsUpTo start ops c → IsChart start c.folder ops (cond c.there c.k (start.k + counted_all begins ops)) c.uidnext c.highest c.entries.items
+pub shown : (start : Start) (ops : List Op) (c : Chart) → IsUpTo start ops c → IsChart start c.folder ops (cond c.there c.k (start.k + counted_all begins ops)) c.uidnext c.highest c.entries.items c.versions.items
 shown start ops c up =
     elim (cases_Bool c.there) [
-      | inl t ↦ subst (λ b. IsChart start c.folder ops (cond b c.k (start.k + counted_all begins ops)) c.uidnext c.highest c.entries.items) (sym t) (up.live t)
-      | inr f ↦ subst (λ b. IsChart start c.folder ops (cond b c.k (start.k + counted_all begins ops)) c.uidnext c.highest c.entries.items) (sym f) (shown_away start ops (start.k + counted_all begins ops) c f up refl)
+      | inl t ↦ subst (λ b. IsChart start c.folder ops (cond b c.k (start.k + counted_all begins ops)) c.uidnext c.highest c.entries.items c.versions.items) (sym t) (up.live t)
+      | inr f ↦ subst (λ b. IsChart start c.folder ops (cond b c.k (start.k + counted_all begins ops)) c.uidnext c.highest c.entries.items c.versions.items) (sym f) (shown_away start ops (start.k + counted_all begins ops) c f up refl)
     ]
 
 -- ---- one operation more
@@ -45,12 +45,12 @@ module _ (start : Start) (ops : List Op) (o : Op) (a : IsApplied (ops ++ o ∷ [
       lasts (inr (b, subst (λ n. 65535 < n) is (ltb-true 65535 k p.1)))
 
   -- so is the UID
-  pub uid_left : concerns_by c.folder o.kind ≡ true → (takes_uid o.kind c.entries.items && nat_eq c.uidnext 4294967295) ≡ true → ⊥
+  pub uid_left : concerns_by c.folder o.kind ≡ true → (takes_uid (added_origin o) c.entries.items && nat_eq c.uidnext 4294967295) ≡ true → ⊥
   uid_left about h =
-      let p = and_parts (takes_uid o.kind c.entries.items) (nat_eq c.uidnext 4294967295) h in
+      let p = and_parts (takes_uid (added_origin o) c.entries.items) (nat_eq c.uidnext 4294967295) h in
       let own : c.folder ≡ name_of o.kind = about_name c.folder o.kind about in
       let s = shown start ops c up in
-      let line : begins_line c.folder ops o ≡ true = line_by start c.folder ops o.id o.kind c.entries.items about s.are_entries p.0 in
+      let line : begins_line c.folder ops o ≡ true = line_by start c.folder ops o c.entries.items a about s.are_entries p.0 in
       let last : uidnext_of start c.folder ops ≡ 4294967295 = sym s.is_uidnext ∙ eqb-true c.uidnext 4294967295 p.1 in
       lasts (inl (subst (λ n. begins_line n ops o ≡ true) own line, ap (λ n. uidnext_of start n ops) (sym own) ∙ last))
 
@@ -98,10 +98,10 @@ k_begins start ops o k lasts is b =
 pub alike_up : (start : Start) (ops : List Op) (c d : Chart) → IsAlike c d → IsUpTo start ops c → IsUpTo start ops d
 alike_up start ops c d s up = record {
   there = s.there ∙ up.there ∙ ap (λ n. is_there n ops) (sym s.folder);
-  live = λ q. chart_as start ops c.folder d.folder c.k d.k c.uidnext d.uidnext c.highest d.highest c.entries.items d.entries.items s.folder s.k s.uidnext s.highest s.entries (up.live (sym s.there ∙ q));
-  away = λ q. let w = up.away (sym s.there ∙ q) in record { uidnext = s.uidnext ∙ w.uidnext ∙ ap (first_uid start) (sym s.folder); highest = s.highest ∙ w.highest; entries = s.entries ∙ w.entries };
+  live = λ q. chart_as start ops c.folder d.folder c.k d.k c.uidnext d.uidnext c.highest d.highest c.entries.items d.entries.items c.versions.items d.versions.items s.folder s.k s.uidnext s.highest s.entries s.versions (up.live (sym s.there ∙ q));
+  away = λ q. let w = up.away (sym s.there ∙ q) in record { uidnext = s.uidnext ∙ w.uidnext ∙ ap (first_uid start) (sym s.folder); highest = s.highest ∙ w.highest; entries = s.entries ∙ w.entries; versions = s.versions ∙ w.versions };
   small = λ q n. subst (λ m. m ≤ 65535) (sym s.k) (up.small (sym s.there ∙ q) (λ e. n (s.folder ∙ e)));
 }
 
 pub away_up : (start : Start) (ops : List Op) (k : ℕ) (charts : List Chart) (folder : List ℕ) (d : Chart) → IsTable start ops k charts → list_any (λ (c : Chart). bytes_eq c.folder folder) charts ≡ false → d.folder ≡ folder → d.there ≡ false → IsAway start d → IsUpTo start ops d
-away_up start ops k charts folder d t none own gone w = gone_up start ops d gone (ap (λ n. is_there n ops) own ∙ gone_without start ops k charts folder t none) w.uidnext w.highest w.entries
+away_up start ops k charts folder d t none own gone w = gone_up start ops d gone (ap (λ n. is_there n ops) own ∙ gone_without start ops k charts folder t none) w.uidnext w.highest w.entries w.versions

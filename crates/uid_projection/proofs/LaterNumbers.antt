@@ -1,9 +1,9 @@
 use Rattle.std.proofs.Common.{◌≡◌, inl, inr, ℕ, ◌+◌, ◌≤◌, Bool, true, false, cond, List, [], ◌∷◌, ◌++◌, length, refl, sym, ap, ◌∙◌, subst, append_assoc, append-nil, arith}
 use Rattle.std.specs.List.{list_any}
-use Rattle.std.proofs.lemmas.Bool.{and_parts, cases_Bool, cases_eq, cases_lt, or_parts}
+use Rattle.std.proofs.lemmas.Bool.{cases_Bool, cases_eq, cases_lt, or_parts}
 use Rattle.imap_types.specs.Names.{inbox}
 use Rattle.crdt_ops.specs.declared.op.Op.{Op}
-use Rattle.crdt_ops.specs.Tags.{MessageTag, adds, name_of}
+use Rattle.crdt_ops.specs.Tags.{name_of}
 use Rattle.crdt_ops.proofs.Members.{any_in}
 use Rattle.uid_projection.specs.declared.chart.Chart.{Chart}
 use Rattle.uid_projection.specs.declared.charts.Charts.{Charts}
@@ -13,14 +13,15 @@ use Rattle.uid_projection.specs.Exhaustion.{Exhausts, IsExhausted}
 use Rattle.uid_projection.specs.Following.{Follows, IsReadyFor}
 use Rattle.uid_projection.specs.History.{counted_all}
 use Rattle.uid_projection.specs.Incarnations.{begins, is_there, k_of}
-use Rattle.uid_projection.specs.Lines.{begins_line, concerns_by, first_uid, highest_modseq_of, is_none, replaced, uidnext_of}
+use Rattle.uid_projection.specs.Lines.{begins_line, concerns_by, first_uid, highest_modseq_of, uidnext_of}
 use Rattle.uid_projection.specs.Table.{IsTable}
 use Rattle.uid_projection.proofs.Coming.{behind}
 use Rattle.uid_projection.proofs.HistoryLemmas.{once}
 use Rattle.uid_projection.proofs.Lasting.{about_name, begun}
 use Rattle.uid_projection.proofs.LaterCharts.{shown}
-use Rattle.uid_projection.proofs.Presence.{adds_about, applied_front}
+use Rattle.uid_projection.proofs.Presence.{applied_front}
 use Rattle.uid_projection.proofs.Steps.{highest_gone, highest_here, k_here, k_none, uidnext_gone, uidnext_here}
+use Rattle.uid_projection.proofs.Touching.{line_about}
 
 -- ---- where none lacks a number, none of the others does behind the first
 
@@ -45,7 +46,7 @@ line_within : (start : Start) (folder : List ℕ) (list : List Op) (o : Op) → 
 line_within start folder list o l lasts =
     elim (cases_Bool (begins_line folder list o)) [
       | inl t ↦
-          let own : folder ≡ name_of o.kind = about_name folder o.kind (adds_about folder o.id o.id o.kind (inr (and_parts (adds (MessageTag folder o.id) o) (is_none (replaced folder list o)) t).0)) in
+          let own : folder ≡ name_of o.kind = about_name folder o.kind (line_about folder list o t) in
           let e : once (begins_line folder list o) ≡ 1 = ap once t in
           elim (cases_eq (uidnext_of start folder list) 4294967295) [
             | inl k ↦ absurd (lasts (inl (subst (λ n. begins_line n list o ≡ true) own t, ap (λ n. uidnext_of start n list) (sym own) ∙ k)))

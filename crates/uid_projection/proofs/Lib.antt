@@ -1,13 +1,13 @@
 pub mod HistoryLemmas
 pub mod Steps
 pub mod Presence
-pub mod Entries
+pub mod Versions
+pub mod Touching
+pub mod Listed
 pub mod ChartSteps
 pub mod ChartOf
 pub mod Lasting
-pub mod Listed
 pub mod Keeping
-pub mod Arms
 pub mod Tables
 pub mod Numbers
 pub mod RowLemmas

@@ -22,6 +22,8 @@ use Rattle.uid_projection.specs.Readiness.{less_room}
 use Rattle.uid_projection.specs.Shown.{Shows}
 use Rattle.uid_projection.specs.Table.{HasRooms, IsNextOn, IsTable, IsUpTo}
 use Rattle.uid_projection.proofs.Asked.{up_at}
+use Rattle.uid_projection.proofs.ChartOf.{chart_first}
+use Rattle.uid_projection.proofs.ChartSteps.{chart_as}
 use Rattle.uid_projection.proofs.Lasting.{about_name}
 use Rattle.uid_projection.proofs.Presence.{inbox_there, there_tags}
 use Rattle.uid_projection.proofs.Tables.{table_unmoved}
@@ -69,21 +71,9 @@ unmoved x list o f w r = record {
 }
 
 -- nothing applied
-pub first_table : (start : Start) (c : Chart) (charts : List Chart) → charts ≡ c ∷ [] → c.folder ≡ inbox → c.there ≡ true → c.k ≡ start.k → c.uidnext ≡ start.uid → c.highest ≡ 1 → c.entries.items ≡ [] → IsTable start [] start.k charts
-first_table start c charts items own t k u h es =
-    let first : IsChart start inbox [] start.k start.uid 1 [] = record {
-      is_k = omega arith;
-      is_uidnext = omega arith;
-      is_highest = omega arith;
-      are_entries = λ e. (λ i. absurd i, λ w. absurd (false≢true w.present));
-      ascending = tt;
-      below = λ e i. absurd i;
-    } in
-    let a = subst (λ n. IsChart start n [] start.k start.uid 1 []) (sym own) first in
-    let b = subst (λ n. IsChart start c.folder [] n start.uid 1 []) (sym k) a in
-    let d = subst (λ n. IsChart start c.folder [] c.k n 1 []) (sym u) b in
-    let e = subst (λ n. IsChart start c.folder [] c.k c.uidnext n []) (sym h) d in
-    let s : Shows start [] c = subst (λ xs. IsChart start c.folder [] c.k c.uidnext c.highest xs) (sym es) e in
+pub first_table : (start : Start) (c : Chart) (charts : List Chart) → charts ≡ c ∷ [] → c.folder ≡ inbox → c.there ≡ true → c.k ≡ start.k → c.uidnext ≡ start.uid → c.highest ≡ 1 → c.entries.items ≡ [] → c.versions.items ≡ [] → IsTable start [] start.k charts
+first_table start c charts items own t k u h es vs =
+    let s : Shows start [] c = chart_as start [] inbox c.folder start.k c.k start.uid c.uidnext 1 c.highest [] c.entries.items [] c.versions.items own k u h es vs (chart_first start inbox) in
     subst (IsTable start [] start.k) (sym items) (record {
       is_k = omega arith;
       shows = λ x i. elim i [
@@ -109,7 +99,7 @@ validity_at start list k charts name t at c r l is own other away there =
     let was : c.there ≡ is_there name list = up.there ∙ ap (λ n. is_there n list) own in
     elim (cases_Bool c.there) [
       | inl q ↦
-          let s : IsChart start name list c.k c.uidnext c.highest c.entries.items = subst (λ n. IsChart start n list c.k c.uidnext c.highest c.entries.items) own (up.live q) in
+          let s : IsChart start name list c.k c.uidnext c.highest c.entries.items c.versions.items = subst (λ n. IsChart start n list c.k c.uidnext c.highest c.entries.items c.versions.items) own (up.live q) in
           let small = up.small q (λ e. false≢true (sym other ∙ (bytes_eq-Decides name inbox).1 (sym own ∙ e))) in
           there q small ∙ (λ i. Some (65536 * s.is_k i + start.replica))
           ∙ (λ i. cond (sym other i) (Some start.replica) (cond ((sym q ∙ was) i) (Some (65536 * k_of start name list + start.replica)) None))

@@ -14,7 +14,7 @@ use Rattle.uid_projection.specs.Table.{HasRooms}
 pub less_room : (m n : ℕ) (folder : List ℕ) (charts : List Chart) → m ≤ n → HasRooms n folder charts → HasRooms m folder charts
 less_room m n folder charts l r = record {
   found = r.found;
-  rooms = λ c i e. let w = r.rooms c i e in let p = w.places in let h = w.highest in record { places = omega (arith, p, l); highest = omega (arith, h, l); uidnext = w.uidnext };
+  rooms = λ c i e. let w = r.rooms c i e in let p = w.places in let v = w.version_places in let h = w.highest in record { places = omega (arith, p, l); version_places = omega (arith, v, l); highest = omega (arith, h, l); uidnext = w.uidnext };
 }
 
 -- What is ready for some operations is ready for the first of them.

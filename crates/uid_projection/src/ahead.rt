@@ -1,6 +1,6 @@
 //! Whether operations that come next would need a number that a counter doesn't have. Nothing here takes memory.
 
-ghost use Rattle.std.specs.Prelude.{◌≡◌, ◌↔◌, ◌≤◌, ◌<◌, ◌+◌, ◌-◌, ℕ, List, [], ◌∷◌, ◌++◌, nat_le, if◌then◌else◌, IsTrue};
+ghost use Rattle.std.specs.Prelude.{◌≡◌, ◌↔◌, ◌≤◌, ◌<◌, ◌+◌, ◌-◌, ◌&&◌, not, ℕ, List, [], ◌∷◌, ◌++◌, nat_le, if◌then◌else◌, IsTrue};
 ghost use Rattle.std.specs.Str.{bytes_eq};
 ghost use Rattle.crdt_ops.specs.declared.op.Op.{Op as Operation};
 ghost use Rattle.folder_state.specs.Contents.{IsMadeBy};
@@ -10,7 +10,7 @@ ghost use Rattle.uid_projection.specs.Applied.{IsApplied};
 ghost use Rattle.uid_projection.specs.Exhaustion.{Exhausts, IsExhausted, LacksK, LacksUid};
 ghost use Rattle.uid_projection.specs.History.{counted_all};
 ghost use Rattle.uid_projection.specs.Incarnations.{begins};
-ghost use Rattle.uid_projection.specs.Lines.{begins_line, first_uid, uidnext_of};
+ghost use Rattle.uid_projection.specs.Lines.{begins_line, first_uid, has_version, uidnext_of};
 ghost use Rattle.uid_projection.specs.Table.{IsTable};
 
 use crate::chart::Chart;
@@ -19,6 +19,7 @@ use crate::table::uidnext_in;
 use crdt_ops::{Kind, Op, SoundOp};
 use folder_state::Folders;
 use imap_types::Name;
+use tags_clocks::OpId;
 
 /// Whether one of these operations would need a number that a counter doesn't have, applied behind those in front of it. The
 /// folders are those of the list for which the charts stand. Its cost grows as the operations times the charts; near the end of
@@ -58,7 +59,7 @@ fn lacks(
 
 /// Whether it would need a UID, and none is left.
 fn lacks_uid(start: &Start, charts: &[Chart], value: &Folders, front: &[SoundOp], op: &Op) -> bool
-    ensures { (list : List Operation) (k : ℕ) → IsApplied (list ++ front.now) → IsTable start.now list k charts.now → IsMadeBy (contents_of value.now) list → IsTrue result ↔ LacksUid start.now (list ++ front.now) op.now }
+    ensures { (list : List Operation) (k : ℕ) → IsApplied ((list ++ front.now) ++ op.now ∷ []) → IsTable start.now list k charts.now → IsMadeBy (contents_of value.now) list → IsTrue result ↔ LacksUid start.now (list ++ front.now) op.now }
 {
     let folder = op.kind.name();
     let first = first_of(start, folder);
@@ -79,21 +80,44 @@ fn is_near(uid: u32, more: usize) -> bool
 
 /// Whether a line of the folder begins with the operation, applied behind these.
 fn begins_line(value: &Folders, folder: &Name, front: &[SoundOp], op: &Op) -> bool
-    ensures { (list : List Operation) → IsApplied (list ++ front.now) → IsMadeBy (contents_of value.now) list → result ≡ begins_line folder.now (list ++ front.now) op.now }
+    ensures { (list : List Operation) → IsApplied ((list ++ front.now) ++ op.now ∷ []) → IsMadeBy (contents_of value.now) list → result ≡ begins_line folder.now (list ++ front.now) op.now }
 {
     match &op.kind {
         Kind::Append { folder: own, .. } => same(folder, own),
         Kind::Store {
             folder: own,
-            old,
+            origin,
             ..
-        } => same(folder, own) && !value.has_message_after(folder, old, front),
+        } => is_here_anew(value, folder, own, origin, front),
         Kind::Create { .. } => false,
         Kind::Delete { .. } => false,
         Kind::Expunge { .. } => false,
         Kind::Subscribe { .. } => false,
         Kind::Unsubscribe { .. } => false,
     }
+}
+
+/// Whether both are one folder, in which the origin has no version after these operations.
+fn is_here_anew(
+    value: &Folders,
+    folder: &Name,
+    own: &Name,
+    origin: &OpId,
+    front: &[SoundOp],
+) -> bool
+    ensures { (list : List Operation) → IsApplied (list ++ front.now) → IsMadeBy (contents_of value.now) list → result ≡ (bytes_eq folder.now own.now && not (has_version folder.now origin.now (list ++ front.now))) }
+{
+    if !same(folder, own) {
+        return false;
+    }
+    !has_version(value, folder, origin, front)
+}
+
+/// Whether the origin has a version in the folder after these operations.
+fn has_version(value: &Folders, folder: &Name, origin: &OpId, front: &[SoundOp]) -> bool
+    ensures { (list : List Operation) → IsApplied (list ++ front.now) → IsMadeBy (contents_of value.now) list → result ≡ has_version folder.now origin.now (list ++ front.now) }
+{
+    value.has_version_after(folder, origin, front)
 }
 
 /// Whether both are one name.

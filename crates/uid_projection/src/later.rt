@@ -1,9 +1,7 @@
 //! A folder's chart as operations to come would leave it.
 
 ghost use Rattle.std.specs.Prelude.{◌≡◌, ◌≤◌, ◌+◌, ◌==◌, nat_lt, ℕ, List, [], ◌∷◌, ◌++◌, true, false, not, ◌&&◌, ◌||◌, if◌then◌else◌, IfOk};
-ghost use Rattle.std.specs.List.{list_any};
 ghost use Rattle.crdt_ops.specs.declared.op.Op.{Op as Operation};
-ghost use Rattle.crdt_ops.specs.Order.{same_id};
 ghost use Rattle.folder_state.specs.Contents.{IsMadeBy};
 ghost use Rattle.folder_state.specs.Tables.{contents_of};
 ghost use Rattle.uid_projection.specs.Applied.{IsApplied};
@@ -11,12 +9,12 @@ ghost use Rattle.uid_projection.specs.Exhaustion.{Exhausts, IsExhausted};
 ghost use Rattle.uid_projection.specs.History.{counted_all};
 ghost use Rattle.uid_projection.specs.Incarnations.{begins, is_there};
 ghost use Rattle.uid_projection.specs.Lines.{concerns_by};
-ghost use Rattle.uid_projection.specs.Shown.{takes_uid};
+ghost use Rattle.uid_projection.specs.Moves.{added_origin, takes_uid};
 ghost use Rattle.uid_projection.specs.Table.{IsAlike, IsAway, IsRoomy, IsTable, IsUpTo};
 
 use crate::ahead::{begins, same};
 use crate::chart::{Chart, step};
-use crate::entry::Entry;
+use crate::moves::{added_origin, takes_uid};
 use crate::room::{away, make_room_in};
 use crate::start::Start;
 use crate::table::place_of;
@@ -24,7 +22,6 @@ use crdt_ops::{Kind, Op, SoundOp};
 use folder_state::Folders;
 use imap_types::Name;
 use std::alloc::{AllocError, Global};
-use tags_clocks::OpId;
 
 /// The folder's chart after these operations, applied in this order; `Err` where there is no memory for it. (No memory holds
 /// as many operations as a mod-sequence has numbers.)
@@ -85,6 +82,7 @@ fn copy_of(alloc: Global, chart: &Chart, more: usize) -> Result<Chart, AllocErro
         uidnext: chart.uidnext,
         highest: chart.highest,
         entries: chart.entries.as_slice().to_vec(alloc)?,
+        versions: chart.versions.as_slice().to_vec(alloc)?,
     };
     make_room_in(&mut copied, more)?;
     Ok(copied)
@@ -153,7 +151,7 @@ fn bring_up(chart: &mut Chart, start: &Start, next_k: u32, there: bool, op: &Op)
     if lacks_k(chart, next_k, there) {
         return;
     }
-    if lacks_uid(chart, &op.kind) {
+    if lacks_uid(chart, op) {
         return;
     }
     let mut k = next_k;
@@ -183,30 +181,8 @@ fn lacks_k(chart: &Chart, next_k: u32, there: bool) -> bool
 }
 
 /// Whether the operation takes a UID, and none is left.
-fn lacks_uid(chart: &Chart, kind: &Kind) -> bool
-    ensures { result ≡ (takes_uid kind.now chart.now.entries.items && chart.now.uidnext == 4294967295) }
+fn lacks_uid(chart: &Chart, op: &Op) -> bool
+    ensures { result ≡ (takes_uid (added_origin op.now) chart.now.entries.items && chart.now.uidnext == 4294967295) }
 {
-    takes_uid(kind, &chart.entries) && chart.uidnext == u32::MAX
-}
-
-/// Whether an operation about the folder of these entries takes a UID.
-fn takes_uid(kind: &Kind, entries: &[Entry]) -> bool
-    ensures { result ≡ takes_uid kind.now entries.now }
-{
-    match kind {
-        Kind::Append { .. } => true,
-        Kind::Store { old, .. } => !holds(entries, *old),
-        Kind::Create { .. } => false,
-        Kind::Delete { .. } => false,
-        Kind::Expunge { .. } => false,
-        Kind::Subscribe { .. } => false,
-        Kind::Unsubscribe { .. } => false,
-    }
-}
-
-/// Whether there is an entry of this tag.
-fn holds(entries: &[Entry], id: OpId) -> bool
-    ensures { result ≡ list_any (λ e. same_id e.id id) entries.now }
-{
-    entries.iter().any(|entry| entry.id == id)
+    takes_uid(&added_origin(op), &chart.entries) && chart.uidnext == u32::MAX
 }

@@ -114,6 +114,7 @@ pub fn away(alloc: Global, start: &Start, folder: &Name) -> Result<Chart, AllocE
         uidnext: first_of(start, folder),
         highest: 1,
         entries: Vec::new(alloc),
+        versions: Vec::new(alloc),
     })
 }
 
@@ -126,5 +127,6 @@ pub fn make_room_in(chart: &mut Chart, more: usize) -> Result<(), AllocError>
     if u64::MAX - chart.highest < more as u64 {
         return Err(AllocError);
     }
-    chart.entries.reserve(more)
+    chart.entries.reserve(more)?;
+    chart.versions.reserve(more)
 }

@@ -1,7 +1,8 @@
 //! Views, listings and sets, from text.
 
 use imap_types::{DateTime, Flags, Name, SequenceBound, SequenceRange, SequenceSet};
-use mail_listing::{Row, Rows};
+use mail_listing::{HeldRow, HeldVersions, Rows};
+use message_versions::{Version, Versions};
 use session_view::{Entry, View, are_rising};
 use std::alloc::{AllocError, Global};
 use tags_clocks::{OpId, ReplicaId};
@@ -10,8 +11,8 @@ use tags_clocks::{OpId, ReplicaId};
 #[derive(Drop)]
 pub struct Message {
     uid: u32,
-    flags: Flags,
     modseq: u64,
+    versions: Vec<Version>,
 }
 
 /// A view of INBOX; `None` where the text is none, or its UIDs don't ascend.
@@ -105,9 +106,22 @@ fn message_in(alloc: Global, text: &str) -> Result<Option<Message>, AllocError> 
         return Ok(None);
     };
     match entry_in(alloc, front)? {
-        Some(Entry { uid, flags }) => Ok(Some(Message { uid, flags, modseq })),
+        Some(Entry { uid, flags }) => Ok(Some(Message {
+            uid,
+            modseq,
+            versions: version_of(alloc, flags)?,
+        })),
         None => Ok(None),
     }
+}
+
+/// The one version of a message with these flags, under some id.
+fn version_of(alloc: Global, flags: Flags) -> Result<Vec<Version>, AllocError> {
+    let mut versions = Vec::new(alloc);
+    if let Some(id) = some_id() {
+        versions.push(Version { id, flags })?;
+    }
+    Ok(versions)
 }
 
 /// The rows of these messages; `None` where their UIDs don't ascend.
@@ -134,13 +148,12 @@ pub fn rows_of<'a>(
 }
 
 /// The row of a message, under some id.
-fn row_of<'a>(message: &'a Message, date: &'a DateTime) -> Option<Row<'a>> {
-    Some(Row {
+fn row_of<'a>(message: &'a Message, date: &'a DateTime) -> Option<HeldRow<'a>> {
+    Some(HeldRow {
         uid: message.uid,
         modseq: message.modseq,
-        id: some_id()?,
         origin: some_id()?,
-        flags: &message.flags,
+        versions: HeldVersions::Lent(Versions::new(&message.versions)),
         date: Some(date),
         text: b"",
     })

@@ -2,7 +2,7 @@ use Rattle.std.proofs.Common.{not, ◌&&◌, sym, ap, ◌∙◌}
 use Rattle.std.specs.List.{list_any}
 use Rattle.crdt_ops.specs.declared.kind.Kind.{Kind}
 use Rattle.crdt_ops.specs.Tags.{SubscriptionTag, removed_by, same_tag}
-use Rattle.crdt_ops.specs.TagLaws.{delete_keeps_subscriptions, unsubscribe_removes}
+use Rattle.crdt_ops.specs.TagLaws.{delete_keeps_subscriptions, olds_keep_subscriptions, unsubscribe_removes}
 use Rattle.subs_state.specs.Entries.{tag_in}
 use Rattle.subs_state.specs.Keys.{is_among}
 use Rattle.subs_state.proofs.table.forget_removed.Goals as goal
@@ -18,3 +18,13 @@ pub returns-in-Delete-clause-found : goal.returns-in-Delete-clause-found
 returns-in-Delete-clause-found c = λ n i.
     ap (λ b. not b && tag_in c.args.tags.now.items n i)
     (sym (ap (λ (kind : Kind). list_any (same_tag (SubscriptionTag n i)) (removed_by kind)) c.in-Delete.is ∙ delete_keeps_subscriptions n c.in-Delete.folder i c.in-Delete.seen))
+
+pub returns-in-Expunge-clause-found : goal.returns-in-Expunge-clause-found
+returns-in-Expunge-clause-found c = λ n i.
+    ap (λ b. not b && tag_in c.args.tags.now.items n i)
+    (sym (ap (λ (kind : Kind). list_any (same_tag (SubscriptionTag n i)) (removed_by kind)) c.in-Expunge.is ∙ olds_keep_subscriptions n c.in-Expunge.folder i c.in-Expunge.olds))
+
+pub returns-in-Store-clause-found : goal.returns-in-Store-clause-found
+returns-in-Store-clause-found c = λ n i.
+    ap (λ b. not b && tag_in c.args.tags.now.items n i)
+    (sym (ap (λ (kind : Kind). list_any (same_tag (SubscriptionTag n i)) (removed_by kind)) c.in-Store.is ∙ olds_keep_subscriptions n c.in-Store.folder i c.in-Store.olds))

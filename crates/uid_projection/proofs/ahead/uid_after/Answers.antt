@@ -1,5 +1,6 @@
-use Rattle.std.proofs.Common.{◌+◌, ◌++◌, take, arith}
-use Rattle.uid_projection.proofs.Coming.{applied_take, take_op, there_as, uid_told}
+use Rattle.std.proofs.Common.{◌+◌, ◌++◌, take, subst, arith}
+use Rattle.uid_projection.specs.Applied.{IsApplied}
+use Rattle.uid_projection.proofs.Coming.{applied_take, behind, take_op, there_as, uid_told}
 use Rattle.uid_projection.proofs.ahead.uid_after.Goals as goal
 
 pub loop-at-preserved : goal.loop-at-preserved
@@ -14,6 +15,6 @@ loop-at-preserved c =
           let b = applied_take list ops (at + 1) a in
           uid_told start n list (take at ops) (take (at + 1) ops) o c.exists_after-there.result c.begins_line-begun.result c.args.first c.loop-at.uid c.uid_behind-uid.result next f
           (there_as n (list ++ take (at + 1) ops) c.exists_after-there.result (c.exists_after-there.ensures.set list m b.sound b.causal))
-          (c.begins_line-begun.ensures list (applied_take list ops at a) m) (c.loop-at.invariant.told start list a m f is) c.uid_behind-uid.ensures.uid;
+          (c.begins_line-begun.ensures list (subst IsApplied (behind list (take at ops) (take (at + 1) ops) o next) b) m) (c.loop-at.invariant.told start list a m f is) c.uid_behind-uid.ensures.uid;
       bound = let w = c.uid_behind-uid.ensures.bound (4294967295 + at) c.loop-at.invariant.bound (omega arith) in omega (arith, w);
     }

@@ -16,7 +16,7 @@ returns-clause-up c = λ ops a now is up.
       | then-not-chart w ↦
           let p = w.open.ensures in
           let e = w.chart-is in
-          subst (IsOpen start ops old.folder) (sym e) (now_open start ops c.args.next_k.now old w.open.new.chart w.if-not-chart.true (c.requires.k t w.if-not-chart.true) p.folder p.there p.k p.uidnext p.highest p.entries is up)
+          subst (IsOpen start ops old.folder) (sym e) (now_open start ops c.args.next_k.now old w.open.new.chart w.if-not-chart.true (c.requires.k t w.if-not-chart.true) p.folder p.there p.k p.uidnext p.highest p.entries p.versions is up)
       | else-not-chart w ↦ still_open start ops old x w.chart-is w.if-not-chart.false up
     ] in
     let p = c.advance.ensures in

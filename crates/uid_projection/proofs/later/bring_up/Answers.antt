@@ -1,5 +1,5 @@
 use Rattle.std.proofs.Common.{sym, ◌∙◌, arith}
-use Rattle.uid_projection.specs.Shown.{takes_uid}
+use Rattle.uid_projection.specs.Moves.{added_origin, takes_uid}
 use Rattle.uid_projection.proofs.LaterCharts.{k_left, k_within, uid_left, uid_within}
 use Rattle.uid_projection.proofs.Tables.{other_shows}
 use Rattle.uid_projection.proofs.later.bring_up.Goals as goal
@@ -20,11 +20,13 @@ pub step-requires-clause-room : goal.step-requires-clause-room
 step-requires-clause-room c =
     let r = c.requires in
     let p = r.places in
+    let v = r.version_places in
     let h = r.highest in
     let chart = c.args.chart.now in
     record {
       place = omega (arith, p);
-      uid = uid_within (takes_uid c.args.op.now.kind chart.entries.items) chart.uidnext r.uidnext (sym c.lacks_uid.ensures ∙ c.if-lacks_uid.false);
+      version_place = omega (arith, v);
+      uid = uid_within (takes_uid (added_origin c.args.op.now) chart.entries.items) chart.uidnext r.uidnext (sym c.lacks_uid.ensures ∙ c.if-lacks_uid.false);
       highest = omega (arith, h);
     }
 

@@ -1,16 +1,13 @@
 use Rattle.std.proofs.Common.{ap, ◌∙◌, sym}
-use Rattle.folder_state.specs.Tables.{contents_of}
 use Rattle.uid_projection.proofs.RowLemmas.{found_row, row_then}
 use Rattle.uid_projection.proofs.rows.row_with.Goals as goal
 
 pub returns-in-Some : goal.returns-in-Some
-returns-in-Some c = λ s.
-    let v = contents_of c.args.value.now in
+returns-in-Some c = λ list m s.
     let n = c.args.folder.now in
-    c.row_at.ensures ∙ ap (row_then v n) (sym c.in-Some.is ∙ c.entry_with.ensures s) ∙ found_row v n c.args.uid c.args.entries.now s
+    c.row_at.ensures list m ∙ ap (row_then list n) (sym c.in-Some.is ∙ c.entry_with.ensures s) ∙ found_row list n c.args.uid c.args.entries.now s
 
 pub returns-in-None : goal.returns-in-None
-returns-in-None c = λ s.
-    let v = contents_of c.args.value.now in
+returns-in-None c = λ list m s.
     let n = c.args.folder.now in
-    ap (row_then v n) (sym c.in-None.is ∙ c.entry_with.ensures s) ∙ found_row v n c.args.uid c.args.entries.now s
+    ap (row_then list n) (sym c.in-None.is ∙ c.entry_with.ensures s) ∙ found_row list n c.args.uid c.args.entries.now s

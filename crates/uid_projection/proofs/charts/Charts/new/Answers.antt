@@ -14,5 +14,5 @@ returns-clause-follows c =
     record {
       first = c.requires;
       applied = record { sound = λ o h. absurd h; causal = λ front o back e. absurd (no_cut front o back e) };
-      table = first_table c.args.start d c.push.new.self.items (c.in_ok-push.ensures.items ∙ ap (λ xs. xs ++ d ∷ []) c.new-charts.ensures.items) w.0 w.1 w.2 w.3 w.4 w.5;
+      table = first_table c.args.start d c.push.new.self.items (c.in_ok-push.ensures.items ∙ ap (λ xs. xs ++ d ∷ []) c.new-charts.ensures.items) w.0 w.1 w.2 w.3 w.4 w.5 w.6;
     }

@@ -1,0 +1,78 @@
+//! How much one operation may carry.
+
+ghost use Rattle.std.specs.Prelude.{◌≡◌};
+ghost use Rattle.std.specs.List.{list_any};
+ghost use Rattle.imap_commands.specs.Gives.{Gives};
+ghost use Rattle.imap_commands.specs.Limits.{has_many_keywords, has_many_versions, within_limits};
+
+use crdt_ops::{Kind, MAX_OLD_IDS};
+use imap_answers::Refusal;
+use imap_types::MAX_KEYWORDS;
+
+/// These operations, or the first reason against them: `TooManyKeywords` where one gives a message more than 32 keywords, else
+/// `TooManyVersions` where one names more than 64 versions of a message.
+pub fn within_limits(kinds: Vec<Kind>) -> Result<Vec<Kind>, Refusal>
+    ensures { Gives (λ kinds. kinds.items) result (within_limits kinds.items) }
+{
+    if have_many_keywords(&kinds) {
+        drop(kinds);
+        return Err(Refusal::TooManyKeywords);
+    }
+    if have_many_versions(&kinds) {
+        drop(kinds);
+        return Err(Refusal::TooManyVersions);
+    }
+    Ok(kinds)
+}
+
+fn have_many_keywords(kinds: &[Kind]) -> bool
+    ensures { result ≡ list_any has_many_keywords kinds.now }
+{
+    for kind in kinds {
+        if has_many_keywords(kind) {
+            return true;
+        }
+    }
+    false
+}
+
+fn have_many_versions(kinds: &[Kind]) -> bool
+    ensures { result ≡ list_any has_many_versions kinds.now }
+{
+    for kind in kinds {
+        if has_many_versions(kind) {
+            return true;
+        }
+    }
+    false
+}
+
+/// Whether an operation gives a message more than 32 keywords.
+fn has_many_keywords(kind: &Kind) -> bool
+    ensures { result ≡ has_many_keywords kind.now }
+{
+    match kind {
+        Kind::Append { flags, .. } => flags.keywords.len() > MAX_KEYWORDS,
+        Kind::Store { flags, .. } => flags.keywords.len() > MAX_KEYWORDS,
+        Kind::Create { .. } => false,
+        Kind::Delete { .. } => false,
+        Kind::Expunge { .. } => false,
+        Kind::Subscribe { .. } => false,
+        Kind::Unsubscribe { .. } => false,
+    }
+}
+
+/// Whether an operation names more than 64 versions of a message.
+fn has_many_versions(kind: &Kind) -> bool
+    ensures { result ≡ has_many_versions kind.now }
+{
+    match kind {
+        Kind::Expunge { olds, .. } => olds.as_slice().len() > MAX_OLD_IDS,
+        Kind::Store { olds, .. } => olds.as_slice().len() > MAX_OLD_IDS,
+        Kind::Create { .. } => false,
+        Kind::Delete { .. } => false,
+        Kind::Append { .. } => false,
+        Kind::Subscribe { .. } => false,
+        Kind::Unsubscribe { .. } => false,
+    }
+}

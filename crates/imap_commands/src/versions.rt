@@ -1,0 +1,30 @@
+//! What operations say of a message that may have several versions.
+
+ghost use Rattle.std.specs.Prelude.{◌≡◌, IfOk};
+ghost use Rattle.message_versions.specs.Unions.{version_ids};
+
+use crdt_ops::Ids;
+use message_versions::{Version, Versions};
+use std::alloc::{AllocError, Global};
+use tags_clocks::OpId;
+
+/// The ids of all versions of a message, as operations name them. Those of a listing ascend; of others nothing is promised. `Err` where
+/// there is no memory.
+pub fn old_ids(alloc: Global, versions: &Versions<'_>) -> Result<Ids, AllocError>
+    ensures { IfOk result (λ olds. olds ≡ version_ids versions.now.list.now) }
+{
+    match Ids::new(ids_of(alloc, versions.as_slice())?) {
+        Ok(olds) => Ok(olds),
+        Err(_) => Err(AllocError),
+    }
+}
+
+fn ids_of(alloc: Global, versions: &[Version]) -> Result<Vec<OpId>, AllocError>
+    ensures { IfOk result (λ ids. ids.items ≡ version_ids versions.now) }
+{
+    let mut ids = Vec::with_capacity(alloc, versions.len())?;
+    for version in versions {
+        ids.push(version.id)?;
+    }
+    Ok(ids)
+}

@@ -1,0 +1,64 @@
+//! A row of a listing as it is kept.
+
+ghost use Rattle.std.specs.Prelude.{◌≡◌};
+ghost use Rattle.mail_listing.specs.Listing.{held, listed, versions_held};
+
+use crate::row::Row;
+use imap_types::DateTime;
+use message_versions::{Version, Versions};
+use tags_clocks::OpId;
+
+/// A message of a mailbox's listing as the listing keeps it: its versions lent, or its own where operations to come change
+/// them.
+#[derive(Drop)]
+pub struct HeldRow<'a> {
+    /// Its UID, from 1 to 4,294,967,294 (RFC 9051, section 2.3.1.1).
+    pub uid: u32,
+    /// Its mod-sequence, from 1 (RFC 7162, section 3.1).
+    pub modseq: u64,
+    /// The id of the Append that has its date and text.
+    pub origin: OpId,
+    /// Its versions, ascending by id, one at least.
+    pub versions: HeldVersions<'a>,
+    /// When it was received (RFC 9051, section 2.3.3); None where nothing tells it.
+    pub date: Option<&'a DateTime>,
+    /// Its octets.
+    pub text: &'a [u8],
+}
+
+/// The versions of a message of a listing.
+#[derive(Drop)]
+pub enum HeldVersions<'a> {
+    /// Lent by what keeps the message.
+    Lent(Versions<'a>),
+    /// The listing's own, ascending by id: what they are after operations to come.
+    Own(Vec<Version>),
+}
+
+impl HeldRow<'_> {
+    /// The row, lent.
+    pub fn row(&self) -> Row<'_>
+        ensures { listed result ≡ held self.now }
+    {
+        Row {
+            uid: self.uid,
+            modseq: self.modseq,
+            origin: self.origin,
+            versions: self.versions.as_versions(),
+            date: self.date,
+            text: self.text,
+        }
+    }
+}
+
+impl HeldVersions<'_> {
+    /// The versions, lent.
+    pub fn as_versions(&self) -> Versions<'_>
+        ensures { result.list.now ≡ versions_held self.now }
+    {
+        match self {
+            HeldVersions::Lent(versions) => Versions::new(versions.as_slice()),
+            HeldVersions::Own(versions) => Versions::new(versions),
+        }
+    }
+}

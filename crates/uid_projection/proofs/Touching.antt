@@ -1,0 +1,236 @@
+use Rattle.std.specs.List.{list_any}
+use Rattle.std.specs.Option.{option_map}
+use Rattle.std.proofs.Common.{◌≡◌, inl, inr, ℕ, Bool, true, false, cond, not, ◌&&◌, ◌||◌, List, [], ◌∷◌, ◌++◌, Option, Some, None, refl, sym, ap, ◌∙◌, subst}
+use Rattle.std.proofs.lemmas.Bool.{and_from, and_parts, cases_Bool, false≢true, false_from_ne_true, not-true, or_cases, or_parts}
+use Rattle.tags_clocks.specs.declared.id.OpId.{OpId}
+use Rattle.tags_clocks.proofs.Decide.{ids_decide}
+use Rattle.merge_laws.specs.Orders.{IsIn}
+use Rattle.merge_laws.proofs.Lists.{in_back, in_front, in_parts}
+use Rattle.crdt_ops.specs.declared.kind.Kind.{Kind}
+use Rattle.crdt_ops.specs.declared.kind.Kind.TheVariants.{Create, Delete, Append, Expunge, Store, Subscribe, Unsubscribe}
+use Rattle.crdt_ops.specs.declared.op.Op.{Op}
+use Rattle.crdt_ops.specs.Meanings.{IsVersion}
+use Rattle.crdt_ops.specs.Order.{is_some_id, same_id}
+use Rattle.crdt_ops.specs.Sets.{Body, body_by, versions_of}
+use Rattle.crdt_ops.specs.Tags.{MessageTag, added_by, adds, is_present, is_some_tag, removed_by, removed_ids, removes, same_tag}
+use Rattle.crdt_ops.specs.TagLaws.{adds_own, delete_removes_message_tags, olds_remove_message_tags, same_id_is}
+use Rattle.crdt_ops.proofs.Members.{any_in, in_filter}
+use Rattle.crdt_ops.proofs.OrderLemmas.{id_order_same, id_order_total, one_ascending}
+use Rattle.crdt_ops.proofs.VersionLemmas.{some_id, versions_listed}
+use Rattle.uid_projection.specs.declared.entry.ChartVersion.{ChartVersion}
+use Rattle.uid_projection.specs.declared.entry.Entry.{Entry}
+use Rattle.uid_projection.specs.declared.start.Start.{Start}
+use Rattle.uid_projection.specs.Applied.{IsApplied}
+use Rattle.uid_projection.specs.Chart.{AreEntries, AreVersions}
+use Rattle.uid_projection.specs.Lines.{begins_line, begins_line_of, changes_versions, concerns_by, has_version, holds_of, modseq_of, origin_added, same_ids, uid_of}
+use Rattle.uid_projection.specs.Moves.{added_origin, has_any, is_changed, is_held, left_versions, loses}
+use Rattle.uid_projection.proofs.Presence.{added_once, adds_about, presence_step, same_bool}
+use Rattle.uid_projection.proofs.Versions.{origin_new, same_itself, unchanged, version_cases, version_in, version_kept}
+
+own_id : (i : OpId) → same_id i i ≡ true
+own_id i = (ids_decide i i).1 refl
+
+pub same_origin : (g h : OpId) → ◌≡◌ {A = Option OpId} (Some g) (Some h) → g ≡ h
+same_origin g h e = cc
+
+pub no_origin : (g : OpId) → ◌≡◌ {A = Option OpId} None (Some g) → ⊥
+no_origin g e = cc
+
+-- ---- what an operation about a folder adds and removes
+
+origin_by : (folder : List ℕ) (id : OpId) (kind : Kind) → concerns_by folder kind ≡ true → option_map (λ (b : Body). b.origin) (cond (is_some_tag (MessageTag folder id) (added_by id kind)) (body_by id kind) None) ≡ option_map (λ (b : Body). b.origin) (body_by id kind)
+origin_by folder id (Create name) h = refl
+origin_by folder id (Delete name seen) h = refl
+origin_by folder id (Append name flags date text) h = λ k. option_map (λ (b : Body). b.origin) (cond (h k && own_id id k) (body_by id (Append name flags date text)) None)
+origin_by folder id (Expunge name olds) h = refl
+origin_by folder id (Store name flags olds origin) h = λ k. option_map (λ (b : Body). b.origin) (cond (h k && own_id id k) (body_by id (Store name flags olds origin)) None)
+origin_by folder id (Subscribe name) h = absurd (false≢true h)
+origin_by folder id (Unsubscribe name seen) h = absurd (false≢true h)
+
+-- the origin of the tag that an operation about the folder adds
+pub origin_here : (folder : List ℕ) (o : Op) → concerns_by folder o.kind ≡ true → origin_added folder o ≡ added_origin o
+origin_here folder o h = origin_by folder o.id o.kind h
+
+removed_by_kind : (folder : List ℕ) (i : OpId) (kind : Kind) → concerns_by folder kind ≡ true → list_any (same_tag (MessageTag folder i)) (removed_by kind) ≡ list_any (same_id i) (removed_ids kind)
+removed_by_kind folder i (Create name) h = refl
+removed_by_kind folder i (Delete name seen) h = delete_removes_message_tags folder name i seen ∙ ap (λ b. b && list_any (same_id i) seen) h
+removed_by_kind folder i (Append name flags date text) h = refl
+removed_by_kind folder i (Expunge name olds) h = olds_remove_message_tags folder name i olds ∙ ap (λ b. b && list_any (same_id i) olds) h
+removed_by_kind folder i (Store name flags olds origin) h = olds_remove_message_tags folder name i olds ∙ ap (λ b. b && list_any (same_id i) olds) h
+removed_by_kind folder i (Subscribe name) h = absurd (false≢true h)
+removed_by_kind folder i (Unsubscribe name seen) h = absurd (false≢true h)
+
+-- the message tags that it removes
+pub removed_here : (folder : List ℕ) (o : Op) → concerns_by folder o.kind ≡ true → (i : OpId) → removes (MessageTag folder i) o ≡ list_any (same_id i) (removed_ids o.kind)
+removed_here folder o h i = removed_by_kind folder i o.kind h
+
+-- a line begins by an operation about its folder
+pub line_about : (folder : List ℕ) (ops : List Op) (o : Op) → begins_line folder ops o ≡ true → concerns_by folder o.kind ≡ true
+line_about folder ops o h =
+    elim (cases_Bool (adds (MessageTag folder o.id) o)) [
+      | inl t ↦ adds_about folder o.id o.id o.kind (inr t)
+      | inr f ↦ absurd (false≢true (sym (ap (λ b. holds_of (λ g. begins_line_of folder g ops o) (option_map (λ (x : Body). x.origin) (cond b (body_by o.id o.kind) None))) f) ∙ h))
+    ]
+
+-- ---- one operation more
+
+module _ (folder : List ℕ) (ops : List Op) (o : Op) (a : IsApplied (ops ++ o ∷ [])) where
+  -- where an origin is added, so is a tag
+  tag_added : (g : OpId) → origin_added folder o ≡ Some g → adds (MessageTag folder o.id) o ≡ true
+  tag_added g h =
+      elim (cases_Bool (adds (MessageTag folder o.id) o)) [
+        | inl t ↦ t
+        | inr f ↦ absurd (no_origin g (sym (ap (λ b. option_map (λ (x : Body). x.origin) (cond b (body_by o.id o.kind) None)) f) ∙ h))
+      ]
+
+  -- it is a version of the origin
+  pub version_added : (g : OpId) → origin_added folder o ≡ Some g → IsVersion (ops ++ o ∷ []) folder g o.id
+  version_added g h =
+      let t = tag_added g h in (
+        presence_step ops o (MessageTag folder o.id) a ∙ (λ i. t i || (not (removes (MessageTag folder o.id) o) && is_present ops (MessageTag folder o.id))),
+        origin_new folder ops o a t ∙ h,
+      )
+
+  -- a version isn't added again
+  old_version : (g i : OpId) → IsVersion ops folder g i → adds (MessageTag folder i) o ≡ false
+  old_version g i v =
+      false_from_ne_true (adds (MessageTag folder i) o) (λ t.
+      false≢true (sym (added_once ops o (MessageTag folder i) a t) ∙ (and_parts (list_any (adds (MessageTag folder i)) ops) (not (list_any (removes (MessageTag folder i)) ops)) v.0).0))
+
+  -- one that is removed is none any more
+  version_removed : (g h i : OpId) → IsVersion ops folder g i → removes (MessageTag folder i) o ≡ true → IsVersion (ops ++ o ∷ []) folder h i → ⊥
+  version_removed g h i v r w =
+      false≢true (sym (presence_step ops o (MessageTag folder i) a ∙ (λ k. old_version g i v k || (not (r k) && is_present ops (MessageTag folder i)))) ∙ w.0)
+
+  -- the one that is added was none before
+  version_new : (g h : OpId) → origin_added folder o ≡ Some g → IsVersion ops folder h o.id → ⊥
+  version_new g h e v = false≢true (sym (old_version h o.id v) ∙ tag_added g e)
+
+  changed_removed : (g i : OpId) → IsVersion ops folder g i → removes (MessageTag folder i) o ≡ true → changes_versions folder g ops o ≡ true
+  changed_removed g i v r =
+      elim (cases_Bool (changes_versions folder g ops o)) [
+        | inl t ↦ t
+        | inr f ↦
+            let w = ((versions_listed (ops ++ o ∷ []) folder g).1 i).0 (subst (IsIn i) (unchanged folder ops o g f) (((versions_listed ops folder g).1 i).1 v)) in
+            absurd (version_removed g g i v r w)
+      ]
+
+  changed_added : (g : OpId) → origin_added folder o ≡ Some g → changes_versions folder g ops o ≡ true
+  changed_added g e =
+      elim (cases_Bool (changes_versions folder g ops o)) [
+        | inl t ↦ t
+        | inr f ↦
+            let w = ((versions_listed ops folder g).1 o.id).0 (subst (IsIn o.id) (sym (unchanged folder ops o g f)) (((versions_listed (ops ++ o ∷ []) folder g).1 o.id).1 (version_added g e))) in
+            absurd (version_new g g e w)
+      ]
+
+  -- versions stay where none is removed and none added
+  unchanged_by : (g : OpId) → ((i : OpId) → IsVersion ops folder g i → removes (MessageTag folder i) o ≡ false) → (origin_added folder o ≡ Some g → ⊥) → changes_versions folder g ops o ≡ false
+  unchanged_by g kept none =
+      let l = versions_listed (ops ++ o ∷ []) folder g in
+      let m = versions_listed ops folder g in
+      let same : versions_of ops folder g ≡ versions_of (ops ++ o ∷ []) folder g = one_ascending id_order_total id_order_same (versions_of ops folder g) (versions_of (ops ++ o ∷ []) folder g) m.0 l.0 (λ i. (
+        λ h. let v = (m.1 i).0 h in (l.1 i).1 (version_kept folder ops o a g i v (kept i v)),
+        λ h. (m.1 i).1 (elim (version_cases folder ops o a g i ((l.1 i).0 h)) [ inl w ↦ w.0 | inr w ↦ absurd (none w.1) ]),
+      )) in
+      ap not (ap (same_ids (versions_of ops folder g)) (sym same) ∙ same_itself (versions_of ops folder g))
+
+  -- where they stay, the origin still has one
+  pub there_still : (g : OpId) → changes_versions folder g ops o ≡ false → has_version folder g ops ≡ true → has_version folder g (ops ++ o ∷ []) ≡ true
+  there_still g n h =
+      let v = (version_in folder ops g).0 h in
+      let i = subst (IsIn v.0) (unchanged folder ops o g n) (((versions_listed ops folder g).1 v.0).1 v.1) in
+      (version_in folder (ops ++ o ∷ []) g).1 (v.0, ((versions_listed (ops ++ o ∷ []) folder g).1 v.0).0 i)
+
+  -- ---- the versions that are kept
+
+  module _ (removed : List OpId) (takes : (i : OpId) → removes (MessageTag folder i) o ≡ list_any (same_id i) removed) (added : Option OpId) (own : added ≡ origin_added folder o) (vs : List ChartVersion) (l : AreVersions folder ops vs) where
+    abbrev is_left : ChartVersion → Bool
+    is_left v = not (list_any (same_id v.id) removed)
+
+    abbrev is_lost : OpId → ChartVersion → Bool
+    is_lost g v = same_id v.origin g && list_any (same_id v.id) removed
+
+    lost_none : (g : OpId) → loses vs removed g ≡ false → (i : OpId) → IsVersion ops folder g i → removes (MessageTag folder i) o ≡ false
+    lost_none g f i v =
+        let x : ChartVersion = record { id = i; origin = g } in
+        takes i ∙ false_from_ne_true (list_any (same_id i) removed) (λ r. false≢true (sym f ∙ (any_in (is_lost g) vs).1 (x, (l x).1 v, and_from (same_id g g) (list_any (same_id i) removed) (own_id g) r)))
+
+    lost_one : (g : OpId) → loses vs removed g ≡ true → changes_versions folder g ops o ≡ true
+    lost_one g t =
+        let w = (any_in (is_lost g) vs).0 t in
+        let p = and_parts (same_id w.0.origin g) (list_any (same_id w.0.id) removed) w.2 in
+        let v : IsVersion ops folder g w.0.id = subst (λ (h : OpId). IsVersion ops folder h w.0.id) (same_id_is w.0.origin g p.0) ((l w.0).0 w.1) in
+        changed_removed g w.0.id v (takes w.0.id ∙ p.1)
+
+    -- the test of change says that the versions change
+    pub changed_is : (g : OpId) → is_changed vs removed added g ≡ changes_versions folder g ops o
+    changed_is g =
+        elim (cases_Bool (is_changed vs removed added g)) [
+          | inl t ↦ t ∙ sym (elim (or_cases (loses vs removed g) (is_some_id g added) t) [
+            | inl x ↦ lost_one g x
+            | inr x ↦ changed_added g (sym own ∙ (some_id g added).0 x)
+          ])
+          | inr f ↦
+              let p = or_parts (loses vs removed g) (is_some_id g added) f in
+              f ∙ sym (unchanged_by g (lost_none g p.0) (λ e. false≢true (sym p.1 ∙ (some_id g added).1 (own ∙ e))))
+        ]
+
+    old_left : (v : ChartVersion) → IsIn v (left_versions removed vs) → IsVersion (ops ++ o ∷ []) folder v.origin v.id
+    old_left v i =
+        let w = (in_filter is_left vs v).0 i in
+        version_kept folder ops o a v.origin v.id ((l v).0 w.0) (takes v.id ∙ not-true (list_any (same_id v.id) removed) w.1)
+
+    left_old : (v : ChartVersion) → IsVersion ops folder v.origin v.id → removes (MessageTag folder v.id) o ≡ false → IsIn v (left_versions removed vs)
+    left_old v x r = (in_filter is_left vs v).1 ((l v).1 x, ap not (sym (takes v.id) ∙ r))
+
+    -- after an operation that adds none
+    pub versions_left : origin_added folder o ≡ None → AreVersions folder (ops ++ o ∷ []) (left_versions removed vs)
+    versions_left none v = (
+      old_left v,
+      λ x. elim (version_cases folder ops o a v.origin v.id x) [
+        | inl w ↦ left_old v w.0 w.1
+        | inr w ↦ absurd (no_origin v.origin (sym none ∙ w.1))
+      ],
+    )
+
+    -- after one that adds a version
+    pub versions_more : (g : OpId) → origin_added folder o ≡ Some g → AreVersions folder (ops ++ o ∷ []) (left_versions removed vs ++ record { id = o.id; origin = g } ∷ [])
+    versions_more g e v =
+        let left = left_versions removed vs in
+        let fresh : ChartVersion = record { id = o.id; origin = g } in (
+          λ i. elim (in_parts v left (fresh ∷ []) i) [
+            | inl t ↦ old_left v t
+            | inr t ↦ elim t [ inl k ↦ subst (λ (x : ChartVersion). IsVersion (ops ++ o ∷ []) folder x.origin x.id) k (version_added g e) | inr n ↦ absurd n ]
+          ],
+          λ x. elim (version_cases folder ops o a v.origin v.id x) [
+            | inl w ↦ in_front v left (fresh ∷ []) (left_old v w.0 w.1)
+            | inr w ↦
+                let is : o.id ≡ v.id = sym (adds_own (MessageTag folder v.id) o w.0) in
+                let at : g ≡ v.origin = same_origin g v.origin (sym e ∙ w.1) in
+                in_back v left (fresh ∷ []) (inl (λ k. record { id = is k; origin = at k }))
+          ],
+        )
+
+-- an origin has a version where one is kept
+pub has_any_is : (folder : List ℕ) (ops : List Op) (vs : List ChartVersion) → AreVersions folder ops vs → (g : OpId) → has_any vs g ≡ has_version folder g ops
+has_any_is folder ops vs l g =
+    same_bool (has_any vs g) (has_version folder g ops)
+    (λ h.
+    let w = (any_in (λ (v : ChartVersion). same_id v.origin g) vs).0 h in
+    (version_in folder ops g).1 (w.0.id, subst (λ (x : OpId). IsVersion ops folder x w.0.id) (same_id_is w.0.origin g w.2) ((l w.0).0 w.1)))
+    (λ h.
+    let v = (version_in folder ops g).0 h in
+    let x : ChartVersion = record { id = v.0; origin = g } in
+    (any_in (λ (v : ChartVersion). same_id v.origin g) vs).1 (x, (l x).1 v.1, own_id g))
+
+-- and where it has an entry
+pub held_is : (start : Start) (folder : List ℕ) (ops : List Op) (es : List Entry) → AreEntries start folder ops es → (g : OpId) → is_held es g ≡ has_version folder g ops
+held_is start folder ops es l g =
+    same_bool (is_held es g) (has_version folder g ops)
+    (λ h.
+    let w = (any_in (λ (e : Entry). same_id e.origin g) es).0 h in
+    subst (λ (x : OpId). has_version folder x ops ≡ true) (same_id_is w.0.origin g w.2) ((l w.0).0 w.1).there)
+    (λ h.
+    let x : Entry = record { origin = g; uid = uid_of start folder ops g; modseq = modseq_of folder ops g } in
+    (any_in (λ (e : Entry). same_id e.origin g) es).1 (x, (l x).1 (record { there = h; uid = refl; modseq = refl }), own_id g))
