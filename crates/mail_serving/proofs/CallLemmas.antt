@@ -12,7 +12,7 @@ use Rattle.imap_talk.specs.declared.fault.PortFault.{PortFault}
 use Rattle.imap_talk.specs.declared.fault.PortFault.TheVariants.{NoMemory, NoRoom, PassedOver, TooManySessions, Torn}
 use Rattle.mail_serving.specs.Calls.{OpensByCall, OpensIn, StepsByCall, StepsIn}
 use Rattle.mail_serving.specs.Logins.{auth_of, login_of}
-use Rattle.mail_serving.specs.declared.settings.Access.{Access}
+use Rattle.server_settings.specs.declared.settings.Access.{Access}
 use Rattle.replica_lock.specs.Passes.{Held, IsCalled, IsCalledIn}
 use Rattle.replica_lock.specs.declared.event.BookEvent.TheVariants as events
 use Rattle.replica_lock.specs.declared.outcome.Outcome.{Outcome}

@@ -1,11 +1,8 @@
-use Rattle.std.proofs.Common.{◌≡◌, ◌≢◌, ◌+◌, ◌<◌, ◌==◌, ℕ, zero, suc, Bool, true, false, not, cond, List, [], ◌∷◌, ◌++◌, Option, Some, None, refl, sym, ap, ◌∙◌, subst, arith, append-nil, length, take, get_or, slice_get}
-use Rattle.std.specs.List.{filter, list_any, range_with_len}
-use Rattle.std.proofs.lemmas.Bool.{or_parts}
+use Rattle.std.proofs.Common.{◌≡◌, ◌≢◌, ◌+◌, ◌==◌, ℕ, zero, suc, true, false, not, cond, List, [], ◌∷◌, ◌++◌, refl, ap, ◌∙◌, subst, arith, append-nil}
+use Rattle.std.specs.List.{filter, range_with_len}
 use Rattle.std.proofs.lemmas.Bool.Decides.{nat_tests}
 use Rattle.std.proofs.lemmas.List.Elements.{filter-append}
-use Rattle.mail_serving.specs.Settings.{all_but, is_named, names_of, newcomers_of}
-use Rattle.mail_serving.specs.declared.settings.Join.{Join}
-use Rattle.mail_serving.specs.declared.settings.Place.{Place}
+use Rattle.mail_serving.specs.Places.{all_but}
 
 range_more : (a n : ℕ) → range_with_len a (suc n) ≡ range_with_len a n ++ (a + n) ∷ []
 range_more a zero = let e : a ≡ a + 0 = omega arith in ap (λ (x : ℕ). x ∷ []) e
@@ -32,61 +29,3 @@ all_but_other own n e =
     let k : suc n ≡ n + 1 = omega arith in
     let more : all_but own (suc n) ≡ all_but own n ++ n ∷ [] = rw f at (all_but_more own n) in
     subst (λ (m : ℕ). all_but own m ≡ all_but own n ++ n ∷ []) k more
-
--- the name at a place
-pub name_there : (places : List Place) (i : ℕ) (d : Place) → i < length places → slice_get (names_of places) i ≡ Some (get_or places i d).replica
-name_there [] i d l = absurd (omega arith)
-name_there (place ∷ places) zero d l = refl
-name_there (place ∷ places) (suc i) d l = name_there places i d (omega arith)
-
-pub newcomer_there : (joins : List Join) (i : ℕ) (d : Join) → i < length joins → slice_get (newcomers_of joins) i ≡ Some (get_or joins i d).place.replica
-newcomer_there [] i d l = absurd (omega arith)
-newcomer_there (join ∷ joins) zero d l = refl
-newcomer_there (join ∷ joins) (suc i) d l = newcomer_there joins i d (omega arith)
-
--- a name that isn't there
-unnamed_suc : (name : ℕ) (places : List Place) (i : ℕ) (d : Place) → i < length places → is_named name (names_of (take i places)) ≡ false → (get_or places i d).replica ≢ name
-    → is_named name (names_of (take (suc i) places)) ≡ false
-unnamed_suc name [] i d l none n = absurd (omega arith)
-unnamed_suc name (place ∷ places) zero d l none n = let f : (place.replica == name) ≡ false = grind (arith, nat_tests) in rw f refl
-unnamed_suc name (place ∷ places) (suc i) d l none n =
-    let p = or_parts (place.replica == name) (is_named name (names_of (take i places))) none in
-    rw p.0 (unnamed_suc name places i d (omega arith) p.1 n)
-
-pub unnamed_more : (name : ℕ) (places : List Place) (i : ℕ) (d : Place) → i < length places → is_named name (names_of (take i places)) ≡ false → (get_or places i d).replica ≢ name
-    → is_named name (names_of (take (i + 1) places)) ≡ false
-unnamed_more name places i d l none n =
-    let k : suc i ≡ i + 1 = omega arith in
-    subst (λ (m : ℕ). is_named name (names_of (take m places)) ≡ false) k (unnamed_suc name places i d l none n)
-
-unjoined_suc : (name : ℕ) (joins : List Join) (i : ℕ) (d : Join) → i < length joins → is_named name (newcomers_of (take i joins)) ≡ false → (get_or joins i d).place.replica ≢ name
-    → is_named name (newcomers_of (take (suc i) joins)) ≡ false
-unjoined_suc name [] i d l none n = absurd (omega arith)
-unjoined_suc name (join ∷ joins) zero d l none n = let f : (join.place.replica == name) ≡ false = grind (arith, nat_tests) in rw f refl
-unjoined_suc name (join ∷ joins) (suc i) d l none n =
-    let p = or_parts (join.place.replica == name) (is_named name (newcomers_of (take i joins))) none in
-    rw p.0 (unjoined_suc name joins i d (omega arith) p.1 n)
-
-pub unjoined_more : (name : ℕ) (joins : List Join) (i : ℕ) (d : Join) → i < length joins → is_named name (newcomers_of (take i joins)) ≡ false → (get_or joins i d).place.replica ≢ name
-    → is_named name (newcomers_of (take (i + 1) joins)) ≡ false
-unjoined_more name joins i d l none n =
-    let k : suc i ≡ i + 1 = omega arith in
-    subst (λ (m : ℕ). is_named name (newcomers_of (take m joins)) ≡ false) k (unjoined_suc name joins i d l none n)
-
--- two lists of names, one behind the other
-pub name_front : (names more : List ℕ) (i name : ℕ) → slice_get names i ≡ Some name → slice_get (names ++ more) i ≡ Some name
-name_front [] more i name h = cc
-name_front (n ∷ names) more zero name h = h
-name_front (n ∷ names) more (suc i) name h = name_front names more i name h
-
-pub name_behind : (names more : List ℕ) (i name : ℕ) → slice_get more i ≡ Some name → slice_get (names ++ more) (length names + i) ≡ Some name
-name_behind [] more i name h = let e : i ≡ 0 + i = omega arith in subst (λ (k : ℕ). slice_get more k ≡ Some name) e h
-name_behind (n ∷ names) more i name h =
-    let e : suc (length names) + i ≡ suc (length names + i) = omega arith in
-    rw e (name_behind names more i name h)
-
-pub unnamed_both : (names more : List ℕ) (name : ℕ) → is_named name names ≡ false → is_named name more ≡ false → is_named name (names ++ more) ≡ false
-unnamed_both [] more name a b = b
-unnamed_both (n ∷ names) more name a b =
-    let p = or_parts (n == name) (is_named name names) a in
-    rw p.0 (unnamed_both names more name p.1 b)

@@ -6,7 +6,7 @@ use Rattle.imap_node.specs.declared.reply.Reply.{Reply}
 use Rattle.imap_node.specs.declared.sessions.OpenFault.TheVariants as refusals
 use Rattle.imap_syntax.specs.declared.command.Tagged.{Tagged}
 use Rattle.mail_serving.specs.Logins.{auth_of, login_of}
-use Rattle.mail_serving.specs.declared.settings.Access.{Access}
+use Rattle.server_settings.specs.declared.settings.Access.{Access}
 use Rattle.imap_talk.specs.Asked.{Asked}
 use Rattle.imap_talk.specs.Asked as asked
 use Rattle.imap_talk.specs.declared.fault.PortFault.{PortFault}

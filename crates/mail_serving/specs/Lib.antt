@@ -1,4 +1,3 @@
 pub mod Calls
 pub mod Logins
-pub mod Options
-pub mod Settings
+pub mod Places

@@ -3,8 +3,8 @@ use Rattle.imap_answers.specs.declared.words.Login.{Login}
 use Rattle.imap_answers.specs.declared.words.Login.TheVariants.{Given, Wanted}
 use Rattle.imap_node.specs.declared.sessions.Auth.{Auth}
 use Rattle.imap_node.specs.declared.sessions.Auth.TheVariants as auths
-use Rattle.mail_serving.specs.declared.settings.Access.{Access}
-use Rattle.mail_serving.specs.declared.settings.Access.TheVariants.{Password, Preauth}
+use Rattle.server_settings.specs.declared.settings.Access.{Access}
+use Rattle.server_settings.specs.declared.settings.Access.TheVariants.{Password, Preauth}
 
 -- What a greeting says: the user is known, or has to log in.
 abbrev pub login_of : Access → Login

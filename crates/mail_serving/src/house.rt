@@ -3,11 +3,11 @@
 ghost use Rattle.std.specs.Prelude.{◌≡◌, IfOk};
 ghost use Rattle.mail_serving.specs.Logins.{auth_of, login_of};
 
-use crate::settings::Access;
 use crate::station::{Newcomers, Station};
 use imap_answers::Login;
 use imap_node::{Auth, Credentials};
 use imap_types::Octets;
+use server_settings::Access;
 use std::alloc::{AllocError, Global};
 use std::sync::{Mutex, Wait};
 

@@ -1,11 +1,11 @@
 //! Replicas that join while the server runs.
 
 use crate::house::House;
-use crate::settings::{Join, Place};
 use crate::station::{CopyOrder, others};
 use crdt_ops::SoundOp;
 use crossbeam_channel::{Receiver, Sender, unbounded};
 use replica_lock::{Book, Pass, Shared};
+use server_settings::{Join, Place};
 use std::alloc::Global;
 use std::fmt;
 use std::net::{Net, TcpListener, TcpStream};

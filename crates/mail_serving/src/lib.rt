@@ -1,4 +1,4 @@
-//! A mail server of linked replicas: its command line, the connections that it serves, the links of its replicas, and how replicas join it.
+//! A mail server of linked replicas: its way from a command line on, the connections that it serves, the links of its replicas, and how replicas join it.
 #![tactic(auto)]
 
 mod connection;
@@ -11,7 +11,6 @@ mod program;
 mod reading;
 mod serving;
 mod session;
-mod settings;
 mod station;
 
 pub use connection::{Desk, talk_over};
@@ -19,7 +18,9 @@ pub use house::{House, Stop};
 pub use joining::{JoinEnd, Newcomer};
 pub use outlet::Outlet;
 pub use program::{RunFault, open_all, run};
+pub use server_settings::{
+    Access, CommandLine, Join, Place, SettingsFault, access_of, read_settings,
+};
 pub use serving::{Beginning, Part, serve, serve_over};
 pub use session::SessionPort;
-pub use settings::{Access, CommandLine, Join, Place, SettingsFault, access_of, read_settings};
 pub use station::{Call, CopyOrder, Newcomers, Station};

@@ -3,11 +3,10 @@
 use crate::house::{House, Stop};
 use crate::joining::Newcomer;
 use crate::serving::{Beginning, Part, serve};
-use crate::settings::{CommandLine, Join, Place, SettingsFault, is_without_memory, read_settings};
 use crate::station::{Call, Newcomers, Station};
-use clap::Error;
 use crossbeam_channel::unbounded;
 use log::Log;
+use server_settings::{CommandLine, Join, Place, listen_at, settings_or_status, tell_fault};
 use std::alloc::{AllocError, AllocFailed, Global};
 use std::net::{Net, SocketAddr, TcpListener, TcpStream};
 use std::rt::{Clock, Env};
@@ -58,18 +57,13 @@ pub fn run<
 >(rt: &R) -> u8 {
     match words(rt) {
         Ok(words) => obey(rt, &words),
-        Err(_) => fault(rt),
+        Err(_) => tell_fault(rt),
     }
 }
 
 fn words<R: Env + AllocGlobal>(rt: &R) -> io::Result<Vec<String>> {
     let words = env::args(rt)?.collect(rt.alloc())?;
     Ok(words)
-}
-
-fn fault<R: Print>(rt: &R) -> u8 {
-    let _ = println!(rt; "run fault");
-    1
 }
 
 fn obey<
@@ -82,40 +76,14 @@ fn obey<
         + Sync
         + Net<Listener = TcpListener, Stream = TcpStream>,
 >(rt: &R, words: &[String]) -> u8 {
-    match read_settings(rt.alloc(), words) {
-        Ok(settings) => match run_as(rt, rt.alloc(), &settings) {
-            Ok(()) => 0,
-            Err(RunFault::Told) => 1,
-            Err(RunFault::Other) => fault(rt),
-        },
-        Err(why) => explain(rt, why),
-    }
-}
-
-/// Prints what is wrong with the command line, or the help that it asked for.
-fn explain<R: Print + AllocGlobal>(rt: &R, why: SettingsFault<'_>) -> u8 {
-    match why {
-        SettingsFault::Words(error) => explain_words(rt, error),
-        SettingsFault::NoMemory => fault(rt),
-        why => tell_usage(rt, why),
-    }
-}
-
-fn tell_usage<R: Print>(rt: &R, why: SettingsFault<'_>) -> u8 {
-    match println!(rt; "{why}") {
-        Ok(()) => 2,
-        Err(_) => 1,
-    }
-}
-
-fn explain_words<R: Print + AllocGlobal>(rt: &R, error: Error) -> u8 {
-    if is_without_memory(&error) {
-        return fault(rt);
-    }
-    let status = if error.use_stderr() { 2 } else { 0 };
-    match rt.print(error) {
-        Ok(()) => status,
-        Err(_) => 1,
+    let settings = match settings_or_status(rt, words) {
+        Ok(settings) => settings,
+        Err(status) => return status,
+    };
+    match run_as(rt, rt.alloc(), &settings) {
+        Ok(()) => 0,
+        Err(RunFault::Told) => 1,
+        Err(RunFault::Other) => tell_fault(rt),
     }
 }
 
@@ -171,12 +139,9 @@ fn open_place<R: Print + Net<Listener = TcpListener, Stream = TcpStream>>(
     place: &Place<'_>,
     stations: &mut Vec<Station>,
 ) -> Result<Part<'static>, RunFault> {
-    let Ok(listener) = TcpListener::bind(rt, place.address) else {
-        println!(rt; "cannot listen {} {}", place.replica, place.address)?;
+    let Some((listener, address)) = listen_at(rt, place)? else {
         return Err(RunFault::Told);
     };
-    let address = listener.local_addr()?;
-    println!(rt; "listening {} {}", place.replica, place.address)?;
     add_part(
         alloc,
         place.replica,

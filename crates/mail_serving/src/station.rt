@@ -1,7 +1,7 @@
 //! The replicas of a server, as the others reach them.
 
 ghost use Rattle.std.specs.Prelude.{◌≡◌, IfOk};
-ghost use Rattle.mail_serving.specs.Settings.{all_but};
+ghost use Rattle.mail_serving.specs.Places.{all_but};
 
 use crdt_ops::SoundOp;
 use crossbeam_channel::{Receiver, Sender};

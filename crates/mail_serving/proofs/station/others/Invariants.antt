@@ -1,5 +1,5 @@
 use Rattle.std.proofs.Common.{◌≡◌}
-use Rattle.mail_serving.specs.Settings.{all_but}
+use Rattle.mail_serving.specs.Places.{all_but}
 use Rattle.mail_serving.proofs.station.others.Given as goal
 
 abbrev pub invariant-loop-place : goal.invariant-loop-place

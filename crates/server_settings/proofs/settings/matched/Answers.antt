@@ -1,5 +1,5 @@
-use Rattle.mail_serving.proofs.WordLemmas.{found_in}
-use Rattle.mail_serving.proofs.settings.matched.Goals as goal
+use Rattle.server_settings.proofs.WordLemmas.{found_in}
+use Rattle.server_settings.proofs.settings.matched.Goals as goal
 
 pub returns : goal.returns
 returns c = found_in c.try_get_matches_from.result _ _ c.in_ok-command.ensures c.try_get_matches_from.ensures.matches

@@ -1,6 +1,6 @@
 use Rattle.std.proofs.Common.{◌≡◌, false, take}
-use Rattle.mail_serving.specs.Settings.{is_named, names_of}
-use Rattle.mail_serving.proofs.settings.place_among.Given as goal
+use Rattle.server_settings.specs.Settings.{is_named, names_of}
+use Rattle.server_settings.proofs.settings.place_among.Given as goal
 
 abbrev pub invariant-loop-at : goal.invariant-loop-at
 invariant-loop-at l = is_named l.name (names_of (take l.at l.places)) ≡ false

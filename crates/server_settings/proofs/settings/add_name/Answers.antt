@@ -1,7 +1,7 @@
 use Rattle.std.proofs.Common.{◌≡◌, ℕ, List, false, rules, sym, subst}
-use Rattle.mail_serving.specs.Settings.{AreNames, is_named}
-use Rattle.mail_serving.proofs.NameLemmas.{names_more}
-use Rattle.mail_serving.proofs.settings.add_name.Goals as goal
+use Rattle.server_settings.specs.Settings.{AreNames, is_named}
+use Rattle.server_settings.proofs.NameLemmas.{names_more}
+use Rattle.server_settings.proofs.settings.add_name.Goals as goal
 
 pub returns-in-Ok-clause-names : goal.returns-in-Ok-clause-names
 returns-in-Ok-clause-names c t =

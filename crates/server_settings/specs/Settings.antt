@@ -1,10 +1,10 @@
-use Rattle.std.specs.Prelude.{◌≡◌, ◌<◌, ◌==◌, ℕ, Bool, not, false, true, List, [], ◌∷◌, ◌++◌, Option, None, Some, map}
+use Rattle.std.specs.Prelude.{◌≡◌, ◌<◌, ◌==◌, ℕ, Bool, false, true, List, [], ◌∷◌, ◌++◌, Option, None, Some, map}
 use Rattle.std.specs.Borrow.{Bor}
-use Rattle.std.specs.List.{filter, list_any, range_with_len}
-use Rattle.mail_serving.specs.declared.settings.Access.{Access}
-use Rattle.mail_serving.specs.declared.settings.Access.TheVariants.{Password, Preauth}
-use Rattle.mail_serving.specs.declared.settings.Join.{Join}
-use Rattle.mail_serving.specs.declared.settings.Place.{Place}
+use Rattle.std.specs.List.{list_any}
+use Rattle.server_settings.specs.declared.settings.Access.{Access}
+use Rattle.server_settings.specs.declared.settings.Access.TheVariants.{Password, Preauth}
+use Rattle.server_settings.specs.declared.settings.Join.{Join}
+use Rattle.server_settings.specs.declared.settings.Place.{Place}
 
 -- The names of replicas.
 abbrev pub names_of : List Place → List ℕ
@@ -18,10 +18,6 @@ is_named name names = list_any (λ other. other == name) names
 abbrev pub AreNew : List ℕ → List ℕ → Type 0
 AreNew before [] = Unit {0}
 AreNew before (name ∷ names) = (0 < name) × (name < 65536) × (is_named name before ≡ false) × AreNew (before ++ name ∷ []) names
-
--- The places of so many replicas but one, ascending from 0.
-abbrev pub all_but : ℕ → ℕ → List ℕ
-all_but own places = filter (λ place. not (place == own)) (range_with_len 0 places)
 
 -- Each is from 1 to 65,535, and none stands twice.
 abbrev pub AreNames : List ℕ → Type 0

@@ -1,8 +1,8 @@
 use Rattle.std.proofs.Common.{refl}
 use Rattle.clap.specs.Words.{app_of, with_rule}
-use Rattle.mail_serving.specs.Options.{pass_word, preauth_word, user_word}
-use Rattle.mail_serving.proofs.OptionLemmas.{IsWord, added, added_last, named_word}
-use Rattle.mail_serving.proofs.settings.with_access.Goals as goal
+use Rattle.server_settings.specs.Options.{pass_word, preauth_word, user_word}
+use Rattle.server_settings.proofs.OptionLemmas.{IsWord, added, added_last, named_word}
+use Rattle.server_settings.proofs.settings.with_access.Goals as goal
 
 pub returns : goal.returns
 returns c =

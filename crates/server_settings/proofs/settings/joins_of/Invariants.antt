@@ -1,6 +1,6 @@
 use Rattle.std.proofs.Common.{◌≡◌, ◌++◌}
-use Rattle.mail_serving.specs.Settings.{AreNames, HavePeers, newcomers_of}
-use Rattle.mail_serving.proofs.settings.joins_of.Given as goal
+use Rattle.server_settings.specs.Settings.{AreNames, HavePeers, newcomers_of}
+use Rattle.server_settings.proofs.settings.joins_of.Given as goal
 
 abbrev pub invariant-loop-text : goal.invariant-loop-text
 invariant-loop-text l =

@@ -1,8 +1,8 @@
 use Rattle.std.proofs.Common.{◌≡◌, ◌∙◌, ◌∷◌, ◌++◌, [], true, ℕ, List, ap, append_assoc, sym, subst}
-use Rattle.mail_serving.specs.Settings.{HavePeers, is_named, newcomers_of}
-use Rattle.mail_serving.specs.declared.settings.Join.{Join as Joining}
-use Rattle.mail_serving.proofs.NameLemmas.{newcomers_more, peers_more}
-use Rattle.mail_serving.proofs.settings.joins_of.Goals as goal
+use Rattle.server_settings.specs.Settings.{HavePeers, is_named, newcomers_of}
+use Rattle.server_settings.specs.declared.settings.Join.{Join as Joining}
+use Rattle.server_settings.proofs.NameLemmas.{newcomers_more, peers_more}
+use Rattle.server_settings.proofs.settings.joins_of.Goals as goal
 
 pub loop-text-preserved : goal.loop-text-preserved
 loop-text-preserved c =

@@ -1,6 +1,6 @@
 use Rattle.clap.specs.Words.{found_of}
-use Rattle.mail_serving.proofs.WordLemmas.{access_found}
-use Rattle.mail_serving.proofs.settings.access_in.Goals as goal
+use Rattle.server_settings.proofs.WordLemmas.{access_found}
+use Rattle.server_settings.proofs.settings.access_in.Goals as goal
 
 pub returns : goal.returns
 returns c =

@@ -3,8 +3,8 @@ use Rattle.clap.specs.Lexer.{usize_max}
 use Rattle.clap.specs.Words.{App, Row, Rule, first_of, new_app, new_rule, one_of, with_rule}
 use Rattle.clap.specs.declared.builder.action.ArgAction.TheVariants.{Append, Set, SetTrue}
 use Rattle.clap.specs.declared.builder.value_parser.ValueParser.TheVariants.{Unsigned}
-use Rattle.mail_serving.specs.declared.settings.Access.{Access}
-use Rattle.mail_serving.specs.declared.settings.Access.TheVariants.{Password, Preauth}
+use Rattle.server_settings.specs.declared.settings.Access.{Access}
+use Rattle.server_settings.specs.declared.settings.Access.TheVariants.{Password, Preauth}
 
 -- ---- the words that the program knows
 

@@ -13,10 +13,10 @@ use Rattle.clap.specs.declared.parser.matches.MatchedArg.{MatchedArg}
 use Rattle.clap.specs.Simple.{App, HasMatchesOf, is_simple, matches_of}
 use Rattle.clap.specs.declared.parser.matches.ArgMatches.{ArgMatches}
 use Rattle.clap.proofs.OnLiterals.{clap_on_literals}
-use Rattle.mail_serving.specs.Options.{NamesAccess, server_words}
-use Rattle.mail_serving.specs.Settings.{access_of}
-use Rattle.mail_serving.specs.declared.settings.Access.{Access}
-use Rattle.mail_serving.specs.declared.settings.Access.TheVariants.{Password, Preauth}
+use Rattle.server_settings.specs.Options.{NamesAccess, server_words}
+use Rattle.server_settings.specs.Settings.{access_of}
+use Rattle.server_settings.specs.declared.settings.Access.{Access}
+use Rattle.server_settings.specs.declared.settings.Access.TheVariants.{Password, Preauth}
 
 -- ---- what is found, as rows
 

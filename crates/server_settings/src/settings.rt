@@ -2,9 +2,9 @@
 
 ghost use Rattle.std.specs.Prelude.{◌≡◌, ◌++◌, ◌∷◌, ◌<◌, [], false, true, IfNone, IfOk, IfSome, OnOk, Some, map, slice_get};
 ghost use Rattle.clap.specs.Words.{app_of, found_of, matches_of, rows_of};
-ghost use Rattle.mail_serving.specs.Options.{NamesAccess, server_words, with_access_words, with_replica_words};
-ghost use Rattle.mail_serving.specs.Settings.{AreNames, HavePeers, access_of, is_named, names_of, newcomers_of};
-ghost use Rattle.mail_serving.specs.declared.settings.Join.{Join as Joining};
+ghost use Rattle.server_settings.specs.Options.{NamesAccess, server_words, with_access_words, with_replica_words};
+ghost use Rattle.server_settings.specs.Settings.{AreNames, HavePeers, access_of, is_named, names_of, newcomers_of};
+ghost use Rattle.server_settings.specs.declared.settings.Join.{Join as Joining};
 
 use clap::builder::ValueParser;
 use clap::error::ErrorKind;
@@ -123,7 +123,7 @@ pub enum SettingsFault<'a> {
 }
 
 impl<'a> From<AllocError> for SettingsFault<'a> {
-    ghost use Rattle.mail_serving.specs.declared.settings.SettingsFault.TheVariants.{NoMemory};
+    ghost use Rattle.server_settings.specs.declared.settings.SettingsFault.TheVariants.{NoMemory};
 
     ghost from_gives = { λ _ fault. fault ≡ NoMemory };
 

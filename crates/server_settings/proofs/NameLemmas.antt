@@ -1,6 +1,6 @@
 use Rattle.std.proofs.Common.{◌≡◌, ◌<◌, ℕ, false, true, List, [], ◌∷◌, ◌++◌, append-nil, append_assoc, ap, refl, sym, subst}
-use Rattle.mail_serving.specs.Settings.{AreNames, AreNew, HavePeers, is_named, newcomers_of}
-use Rattle.mail_serving.specs.declared.settings.Join.{Join}
+use Rattle.server_settings.specs.Settings.{AreNames, AreNew, HavePeers, is_named, newcomers_of}
+use Rattle.server_settings.specs.declared.settings.Join.{Join}
 
 new_more : (before names : List ℕ) (name : ℕ) → AreNew before names → 0 < name → name < 65536 → is_named name (before ++ names) ≡ false → AreNew before (names ++ name ∷ [])
 new_more before [] name a p b n = (p, b, subst (λ (xs : List ℕ). is_named name xs ≡ false) (append-nil before) n, tt)

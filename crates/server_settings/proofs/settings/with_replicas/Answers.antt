@@ -2,9 +2,9 @@ use Rattle.std.proofs.Common.{◌≡◌, Some, refl, rules}
 use Rattle.clap.specs.Lexer.{usize_max}
 use Rattle.clap.specs.Words.{app_of, with_rule}
 use Rattle.clap.specs.declared.builder.value_parser.ValueParser.TheVariants.{Unsigned}
-use Rattle.mail_serving.specs.Options.{join_word, replica_word, stop_word}
-use Rattle.mail_serving.proofs.OptionLemmas.{IsWord, added, added_last, counted, named_word, parsed_word, required_word}
-use Rattle.mail_serving.proofs.settings.with_replicas.Goals as goal
+use Rattle.server_settings.specs.Options.{join_word, replica_word, stop_word}
+use Rattle.server_settings.proofs.OptionLemmas.{IsWord, added, added_last, counted, named_word, parsed_word, required_word}
+use Rattle.server_settings.proofs.settings.with_replicas.Goals as goal
 
 pub returns : goal.returns
 returns c =

@@ -1,0 +1,10 @@
+//! The command line of the mail server: its words, who may use the server, its replicas and those that are to join, and the addresses at which they listen.
+#![tactic(auto)]
+
+mod listening;
+mod settings;
+mod telling;
+
+pub use listening::listen_at;
+pub use settings::{Access, CommandLine, Join, Place, SettingsFault, access_of, read_settings};
+pub use telling::{settings_or_status, tell_fault};

@@ -1,0 +1,59 @@
+//! What the program says where its command line asks for nothing.
+
+ghost use Rattle.std.specs.Prelude.{◌++◌, IfOk, map};
+ghost use Rattle.clap.specs.Words.{matches_of};
+ghost use Rattle.server_settings.specs.Options.{NamesAccess, server_words};
+ghost use Rattle.server_settings.specs.Settings.{AreNames, HavePeers, names_of, newcomers_of};
+
+use crate::settings::{CommandLine, SettingsFault, is_without_memory, read_settings};
+use clap::Error;
+use std::convert::AsStr;
+
+/// Reads the words of a command line as `read_settings` does. Where they ask for nothing, it says why, or prints the help that they ask for, and gives the program's
+/// status: 0 behind help, 2 where the words are wrong, 1 where there was no memory or nothing could be printed.
+pub fn settings_or_status<'a, R: Print + AllocGlobal>(
+    rt: &R,
+    words: &'a [String],
+) -> Result<CommandLine<'a>, u8>
+    ensures access { IfOk result (λ settings. NamesAccess (matches_of server_words (map ⟦<String as AsStr>⟧.text words.entry.now)) settings.access) }
+    ensures names { IfOk result (λ settings. AreNames (names_of settings.places.items ++ newcomers_of settings.joins.items)) }
+    ensures peers { IfOk result (λ settings. HavePeers (names_of settings.places.items) settings.joins.items) }
+{
+    match read_settings(rt.alloc(), words) {
+        Ok(settings) => Ok(settings),
+        Err(why) => Err(explain(rt, why)),
+    }
+}
+
+/// Prints what is wrong with the command line, or the help that it asked for.
+fn explain<R: Print>(rt: &R, why: SettingsFault<'_>) -> u8 {
+    match why {
+        SettingsFault::Words(error) => explain_words(rt, error),
+        SettingsFault::NoMemory => tell_fault(rt),
+        why => tell_usage(rt, why),
+    }
+}
+
+/// Says that the program can't run, and gives its status.
+pub fn tell_fault<R: Print>(rt: &R) -> u8 {
+    let _ = println!(rt; "run fault");
+    1
+}
+
+fn tell_usage<R: Print>(rt: &R, why: SettingsFault<'_>) -> u8 {
+    match println!(rt; "{why}") {
+        Ok(()) => 2,
+        Err(_) => 1,
+    }
+}
+
+fn explain_words<R: Print>(rt: &R, error: Error) -> u8 {
+    if is_without_memory(&error) {
+        return tell_fault(rt);
+    }
+    let status = if error.use_stderr() { 2 } else { 0 };
+    match rt.print(error) {
+        Ok(()) => status,
+        Err(_) => 1,
+    }
+}
