@@ -7,9 +7,18 @@ use imap_lex::Limits;
 use imap_types::{Escape, EscapeFault, read_escaped, write_escaped};
 use std::alloc::{AllocError, Global};
 
+/// Plays the lines of a text, and tells each with what the code answers now. An error says that there is no memory.
+pub fn play(alloc: Global, text: &str) -> Result<Vec<u8>, AllocError> {
+    let mut page = Words::new(alloc);
+    for line in text.split_terminator('\n') {
+        page.put_result(answered(alloc, line));
+    }
+    page.finish()
+}
+
 /// The line with its LF. In a case, `KIND INPUT => ANSWER`, the answer is what the code answers now; comments, which begin with
 /// `#`, and empty lines are as they were.
-pub fn answered(alloc: Global, line: &str) -> Result<Vec<u8>, AllocError> {
+fn answered(alloc: Global, line: &str) -> Result<Vec<u8>, AllocError> {
     let mut words = Words::new(alloc);
     if line.is_empty() || line.starts_with('#') {
         words.put(line);

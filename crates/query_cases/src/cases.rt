@@ -6,9 +6,20 @@ use crate::texts::put_of_text;
 use case_text::{Trouble, Words};
 use std::alloc::{AllocError, Global};
 
+/// Plays the lines of a text, and tells each with what the code answers now. An error says that there is no memory.
+pub fn play(alloc: Global, text: &str) -> Result<Vec<u8>, AllocError> {
+    let mut stage = Stage::new(alloc);
+    let mut page = Words::new(alloc);
+    for line in text.split_terminator('\n') {
+        page.put_result(answered(alloc, &mut stage, line));
+    }
+    drop(stage);
+    page.finish()
+}
+
 /// The line with its LF. In a case, `KIND INPUT => ANSWER`, the answer is what the code answers now; comments, which begin with
 /// `#`, empty lines, and lines that set what is asked of are as they were.
-pub fn answered(alloc: Global, stage: &mut Stage, line: &str) -> Result<Vec<u8>, AllocError> {
+fn answered(alloc: Global, stage: &mut Stage, line: &str) -> Result<Vec<u8>, AllocError> {
     let mut words = Words::new(alloc);
     if line.is_empty() || line.starts_with('#') {
         words.put(line);

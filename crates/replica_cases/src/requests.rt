@@ -84,9 +84,19 @@ fn word_of(text: &str) -> Result<Word, Trouble> {
     Err(Trouble::NotACase)
 }
 
-/// What a line makes the program print: the line with its answer in place of the one that stands there. An error says that
-/// there is no memory.
-pub fn serve(alloc: Global, stage: &mut Stage, line: &str) -> Result<Vec<u8>, AllocError> {
+/// Plays the lines of a text, and tells each with its answer in place of the one that stands there. An error says that there is no memory.
+pub fn play(alloc: Global, text: &str) -> Result<Vec<u8>, AllocError> {
+    let mut stage = Stage::new(alloc)?;
+    let mut page = Words::new(alloc);
+    for line in text.split_terminator('\n') {
+        page.put_result(serve(alloc, &mut stage, line));
+    }
+    drop(stage);
+    page.finish()
+}
+
+/// What a line makes the page tell: the line with its answer in place of the one that stands there.
+fn serve(alloc: Global, stage: &mut Stage, line: &str) -> Result<Vec<u8>, AllocError> {
     let mut answer = Words::new(alloc);
     if !line.starts_with("  ") {
         serve_line(stage, line, &mut answer);

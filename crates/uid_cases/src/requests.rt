@@ -1,16 +1,30 @@
 //! Lines of the input: what is asked in each, and where its answer goes.
 
-use crate::stage::{Node, Stage, deliver, make_ready};
+use crate::stage::{Node, Stage, deliver, make_ready, usual};
 use crate::tables::{tell_after, tell_changed, tell_folder, tell_row_of};
 use case_text::{Trouble, Words, asked, cut, number, operation, replica};
 use causal_inbox::{Arrival, DeliverFault, Delivered, IssueFault};
 use std::alloc::{AllocError, Global};
 use std::mem;
+use tags_clocks::ReplicaId;
 use uid_projection::Start;
 
-/// What a line makes the program print: the line with its answer in place of the one that stands there. An error says that
-/// there is no memory.
-pub fn serve(alloc: Global, stage: &mut Stage, line: &str) -> Result<Vec<u8>, AllocError> {
+/// Plays the lines of a text, and tells each with its answer in place of the one that stands there. An error says that there is no memory.
+pub fn play(alloc: Global, text: &str) -> Result<Vec<u8>, AllocError> {
+    let Some(replica) = ReplicaId::new(1) else {
+        return Ok(Vec::new(alloc));
+    };
+    let mut stage = Stage::new(alloc, usual(replica))?;
+    let mut page = Words::new(alloc);
+    for line in text.split_terminator('\n') {
+        page.put_result(serve(alloc, &mut stage, line));
+    }
+    drop(stage);
+    page.finish()
+}
+
+/// What a line makes the page tell: the line with its answer in place of the one that stands there.
+fn serve(alloc: Global, stage: &mut Stage, line: &str) -> Result<Vec<u8>, AllocError> {
     let mut answer = Words::new(alloc);
     if !line.starts_with("  ") {
         serve_line(stage, line, &mut answer);

@@ -1,0 +1,18 @@
+//! Plays cases of IMAP texts, and tells each with what the code answers: where all is right, what it was given.
+//!
+//! A line is a case, `KIND INPUT => ANSWER`. The head of the cases says which kinds there are, and how inputs and answers are written.
+#![tactic(auto)]
+
+mod answers;
+mod cases;
+mod commands;
+mod flag_orders;
+mod frames;
+mod keys;
+mod numbers;
+mod parts;
+mod repeats;
+mod round_trips;
+mod streams;
+
+pub use cases::play;

@@ -1,0 +1,34 @@
+//! Plays the cases of what a replica's node is made of. Those of a kind stand behind a line `=== KIND` on the standard input; it prints that line,
+//! and what the cases come to. The head of the crate's file `stdin` says which kinds there are.
+#![tactic(auto)]
+
+use std::alloc::{AllocError, Global};
+use std::io::{self, Write};
+
+fn main(rt: HostRuntime) -> io::Result<()> {
+    let text = io::read_to_string(rt.alloc(), rt.reader())?;
+    for part in text.as_str().split("\n=== ").skip(1) {
+        print_part(&rt, part)?;
+    }
+    Ok(())
+}
+
+/// Prints the line of a kind, and what its cases come to.
+fn print_part(rt: &(impl Print + AllocGlobal), part: &str) -> io::Result<()> {
+    let (kind, cases) = part.split_once('\n').unwrap_or((part, ""));
+    let told = told(rt.alloc(), kind, cases)?;
+    println!(rt; "=== {kind}")?;
+    io::writer(rt).write_all(&told)
+}
+
+/// What the cases of a kind come to.
+fn told(alloc: Global, kind: &str, cases: &str) -> Result<Vec<u8>, AllocError> {
+    match kind {
+        "texts" => imap_cases::play(alloc, cases),
+        "operations" => replica_cases::play(alloc, cases),
+        "uids" => uid_cases::play(alloc, cases),
+        "views" => view_cases::play(alloc, cases),
+        "queries" => query_cases::play(alloc, cases),
+        _ => b"no such kind\n".to_vec(alloc),
+    }
+}

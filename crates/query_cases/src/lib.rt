@@ -1,0 +1,16 @@
+//! Plays cases of texts and of queries, and tells each with what the code answers: where all is right, what it was given.
+//!
+//! A line sets what is asked of, or is a case, `KIND INPUT => ANSWER`. The head of the cases says which lines there are, and how inputs
+//! and answers are written.
+#![tactic(auto)]
+
+mod cases;
+mod commands;
+mod fields;
+mod mailbox;
+mod messages;
+mod searches;
+mod stage;
+mod texts;
+
+pub use cases::play;
