@@ -29,11 +29,11 @@ cond-none : {Y : Type 0} (r : Bool) → ◌≡◌ {A = Option Y} None (cond r No
 cond-none true = refl
 cond-none false = refl
 
-module _ {E : Type 0} where
-  or_or : {Y : Type 0} (x y z : Option Y) → option_or x (option_or y z) ≡ option_or (option_or x y) z
-  or_or None y z = refl
-  or_or (Some v) y z = refl
+or_or : {Y : Type 0} (x y z : Option Y) → option_or x (option_or y z) ≡ option_or (option_or x y) z
+or_or None y z = refl
+or_or (Some v) y z = refl
 
+module _ {E : Type 0} where
   pub first_append : {Y : Type 0} (f : E → Option Y) (xs ys : List E) → first_given f (xs ++ ys) ≡ option_or (first_given f xs) (first_given f ys)
   first_append f [] ys = refl
   first_append f (x ∷ xs) ys = ap (option_or (f x)) (first_append f xs ys) ∙ or_or (f x) (first_given f xs) (first_given f ys)
