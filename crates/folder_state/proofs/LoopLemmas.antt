@@ -1,6 +1,6 @@
 use Rattle.std.proofs.Common.{◌≡◌, inl, inr, ℕ, zero, suc, ◌+◌, ◌<◌, ◌≤◌, add-one, arith, cond, true, false, List, [], ◌∷◌, ◌++◌, drop, get_or, length, map, set, take, vec_capacity, refl, sym, ap, ◌∙◌, subst}
 use Rattle.std.specs.Global.{Vec}
-use Rattle.std.proofs.lemmas.List.{append-nil, append_assoc, drop-set-lt, drop_all, drop_more, map-set, set-get_or, set_split, take-append-drop, take_all, take_more_set}
+use Rattle.std.proofs.lemmas.List.{append-nil, append_assoc, drop-set-lt, drop_all, drop_more, length-map, map-set, set-get_or, set_split, take-append-drop, take_all, take_more_set}
 use Rattle.std.specs.List.{list_any}
 use Rattle.tags_clocks.specs.declared.id.OpId.{OpId}
 use Rattle.merge_laws.specs.Orders.{IsIn}
@@ -36,6 +36,9 @@ set_bare now i x y e =
     ∙ sym (map-set (with_places 0) now i (get_or now i x))
     ∙ ap (map (with_places 0)) (set-get_or now i x)
 
+pub bare_long : (new old : List Kept) → map (with_places 0) new ≡ map (with_places 0) old → length new ≡ length old
+bare_long new old e = sym (length-map new (with_places 0)) ∙ ap length e ∙ length-map old (with_places 0)
+
 pub bare_one : (first now : List Kept) (i : ℕ) (x y : Kept) → y ≡ with_places y.places (get_or now i x) → map (with_places 0) now ≡ map (with_places 0) first → map (with_places 0) (set now i y) ≡ map (with_places 0) first
 bare_one first now i x y e h = set_bare now i x y e ∙ h
 
@@ -64,6 +67,12 @@ lists_all whole [] lists l h = subst (HaveLists whole) (append-nil lists) (h [] 
 lists_all whole (o ∷ os) lists l h = absurd (omega (arith, l))
 
 -- ---- a version put to its message
+
+-- the message of a place, where the list was lent
+pub found_place : (folder : List ℕ) (origin : OpId) (xs ys : List Kept) (i : ℕ) (x : Kept) → ys ≡ xs
+    → (i < length ys) × ((x : Kept) → x ≡ get_or ys i x → is_at folder origin x.folder x.origin ≡ true)
+    → x ≡ get_or xs i x → (i < length xs) × (is_at folder origin x.folder x.origin ≡ true)
+found_place folder origin xs ys i x e h g = (subst (λ zs. i < length zs) e h.0, h.1 x (g ∙ ap (λ zs. get_or zs i x) (sym e)))
 
 pub element : {X : Type 0} (xs : List X) (i : ℕ) (x : X) → i < length xs → x ≡ get_or xs i x → IsIn x xs
 element [] i x l e = absurd (omega (arith, l))
