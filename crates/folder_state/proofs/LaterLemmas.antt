@@ -1,30 +1,28 @@
 use Rattle.std.proofs.Common.{◌≡◌, ◌↔◌, ◌⊎◌, inl, inr, ℕ, Bool, true, false, cond, not, ◌&&◌, ◌||◌, Option, None, Some, IsSome, List, [], ◌∷◌, ◌++◌, refl, sym, ap, ◌∙◌, subst}
 use Rattle.std.specs.List.{list_any}
 use Rattle.std.specs.Str.{bytes_eq}
-use Rattle.std.proofs.lemmas.Bool.{and_from, and_parts, cases_Bool, false≢true, or_cases, or_left, or_right}
+use Rattle.std.proofs.lemmas.Bool.{and_parts, cases_Bool, false≢true, or_cases, or_left, or_right}
 use Rattle.std.proofs.lemmas.Slice.Eq.{bytes_eq-Decides}
 use Rattle.imap_types.specs.Names.{inbox}
 use Rattle.tags_clocks.specs.declared.id.OpId.{OpId}
 use Rattle.tags_clocks.proofs.Decide.{ids_decide}
-use Rattle.merge_laws.specs.Orders.{AreSound, IsCausal, IsIn, fold_of}
+use Rattle.merge_laws.specs.Orders.{AreSound, IsCausal, IsIn}
 use Rattle.crdt_ops.specs.declared.op.Op.{Op}
 use Rattle.crdt_ops.specs.Order.{same_id}
 use Rattle.crdt_ops.specs.Sets.{body_by}
 use Rattle.crdt_ops.specs.Sound.{IsSound}
-use Rattle.crdt_ops.specs.Tags.{FolderTag, MessageTag, adds, is_present, removes}
+use Rattle.crdt_ops.specs.Tags.{FolderTag, MessageTag, adds, removes}
 use Rattle.crdt_ops.specs.TagLaws.{adds_own}
 use Rattle.crdt_ops.proofs.Members.{any_in}
 use Rattle.folder_state.specs.declared.folders.Folders.{Folders}
 use Rattle.folder_state.specs.declared.tables.FolderEntry.{FolderEntry}
-use Rattle.folder_state.specs.Contents.{Contents, HasTag, IsFolder, IsMadeBy, contents_by, effect_of, no_contents}
-use Rattle.folder_state.specs.Entries.{body_in, tag_in}
+use Rattle.folder_state.specs.Contents.{Contents, HasTag, IsFolder, IsMadeBy, effect_of, no_contents}
 use Rattle.folder_state.specs.Keys.{is_at}
 use Rattle.folder_state.specs.Kept.{Tagged, message_tags}
 use Rattle.folder_state.specs.Later.{after, has_body, has_tag_after, is_some, told}
 use Rattle.folder_state.specs.Tables.{contents_of}
-use Rattle.folder_state.proofs.SetLemmas.{contents_made}
 use Rattle.folder_state.proofs.TagLemmas.{any_tags}
-use Rattle.folder_state.proofs.ToldLemmas.{body_at, exists_by_set, present_body}
+use Rattle.folder_state.proofs.ToldLemmas.{body_at}
 
 fold_append : (v : Contents) (xs ys : List Op) → after v (xs ++ ys) ≡ after (after v xs) ys
 fold_append v [] ys = refl

@@ -1,8 +1,7 @@
-use Rattle.std.proofs.Common.{◌≡◌, inl, inr, ℕ, ◌==◌, Bool, true, false, cond, not, ◌&&◌, Option, None, Some, List, [], ◌∷◌, ◌++◌, length, map, refl, sym, ap, ◌∙◌, subst}
+use Rattle.std.proofs.Common.{◌≡◌, inl, inr, ℕ, ◌==◌, Bool, true, false, cond, not, Option, None, Some, List, [], ◌∷◌, ◌++◌, length, map, refl, sym, ap, ◌∙◌, subst}
 use Rattle.std.specs.List.{cons_option, filter_map, list_any}
 use Rattle.std.specs.Option.{option_map, option_or, unwrap_or}
 use Rattle.std.specs.Str.{bytes_eq}
-use Rattle.std.specs.declared.cmp.Ordering.{Ordering}
 use Rattle.std.specs.declared.cmp.Ordering.TheVariants.{Less, Equal}
 use Rattle.std.proofs.lemmas.Bool.{and_from, and_parts, false≢true, false_from_ne_true}
 use Rattle.std.proofs.lemmas.Cmp.{tied_itself}
@@ -14,7 +13,7 @@ use Rattle.merge_laws.specs.Orders.{IsIn}
 use Rattle.merge_laws.proofs.Lists.{in_parts}
 use Rattle.crdt_ops.specs.declared.message.Message.{Message}
 use Rattle.crdt_ops.specs.Order.{IsAscending, id_order, same_id}
-use Rattle.crdt_ops.specs.Sets.{Body, Letter, first_given, no_letter}
+use Rattle.crdt_ops.specs.Sets.{Body, Letter, no_letter}
 use Rattle.crdt_ops.proofs.Members.{any_in, in_map}
 use Rattle.crdt_ops.proofs.OrderLemmas.{id_order_total}
 use Rattle.message_versions.specs.declared.version.Version.{Version}

@@ -1,4 +1,4 @@
-use Rattle.std.proofs.Common.{◌≡◌, inl, inr, ℕ, zero, suc, ◌+◌, ◌<◌, ◌≤◌, add-one, arith, cond, true, false, List, [], ◌∷◌, ◌++◌, drop, get_or, length, map, set, take, vec_capacity, refl, sym, ap, ◌∙◌, subst}
+use Rattle.std.proofs.Common.{◌≡◌, inl, inr, ℕ, zero, suc, ◌+◌, ◌<◌, ◌≤◌, add-one, arith, cond, true, false, List, [], ◌∷◌, ◌++◌, drop, get_or, length, map, set, take, vec_capacity, sym, ap, ◌∙◌, subst}
 use Rattle.std.specs.Global.{Vec}
 use Rattle.std.proofs.lemmas.List.{append-nil, append_assoc, drop-set-lt, drop_all, drop_more, length-map, map-set, set-get_or, set_split, take-append-drop, take_all, take_more_set}
 use Rattle.std.specs.List.{list_any}

@@ -9,7 +9,7 @@ use Rattle.imap_types.specs.declared.flags.Flags.{Flags}
 use Rattle.tags_clocks.specs.declared.id.OpId.{OpId}
 use Rattle.crdt_ops.specs.declared.op.Op.{Op}
 use Rattle.crdt_ops.specs.Order.{id_order, placed, same_id}
-use Rattle.crdt_ops.specs.Sets.{Body, first_given}
+use Rattle.crdt_ops.specs.Sets.{Body}
 use Rattle.message_versions.specs.declared.version.Version.{Version}
 use Rattle.message_versions.specs.Unions.{version_ids}
 use Rattle.folder_state.specs.Entries.{body_in, message_tag_of}

@@ -24,9 +24,8 @@ use Rattle.crdt_ops.proofs.Members.{any_in, in_filter_map, in_map}
 use Rattle.crdt_ops.proofs.OrderLemmas.{id_order_same, id_order_total, lists_by, one_ascending}
 use Rattle.crdt_ops.proofs.VersionLemmas.{origins_listed, some_id, versions_listed}
 use Rattle.folder_state.specs.declared.folders.Folders.{Folders}
-use Rattle.folder_state.specs.declared.tables.LetterEntry.{LetterEntry}
 use Rattle.folder_state.specs.Contents.{AreMessages, AreVersions, Contents, HasVersion, IsMadeBy, IsMessage, IsMessageOf, IsVersion, contents_by, effect_of, flags_in, message_in, origin_in}
-use Rattle.folder_state.specs.Entries.{body_in, letter_in, message_tag_of}
+use Rattle.folder_state.specs.Entries.{body_in, message_tag_of}
 use Rattle.folder_state.specs.Keys.{is_at}
 use Rattle.folder_state.specs.Kept.{Tagged, message_tags}
 use Rattle.folder_state.specs.Later.{after, is_brought, is_kept, is_version, message_from, told, version_brought, version_in, version_kept, version_list}

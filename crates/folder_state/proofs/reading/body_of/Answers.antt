@@ -1,4 +1,4 @@
-use Rattle.std.proofs.Common.{◌≡◌, Option, sym, ap, ◌∙◌, rules, true, false}
+use Rattle.std.proofs.Common.{◌≡◌, sym, ap, ◌∙◌, rules, true, false}
 use Rattle.std.specs.Option.{option_map}
 use Rattle.std.specs.Str.{bytes_eq}
 use Rattle.folder_state.specs.Later.{flags_among}

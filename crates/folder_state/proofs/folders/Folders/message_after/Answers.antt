@@ -1,4 +1,4 @@
-use Rattle.std.proofs.Common.{◌++◌, ◌∙◌, sym}
+use Rattle.std.proofs.Common.{◌++◌, sym}
 use Rattle.std.specs.Option.{option_map}
 use Rattle.folder_state.specs.Entries.{body_in, letter_in}
 use Rattle.folder_state.specs.Kept.{message_tags}

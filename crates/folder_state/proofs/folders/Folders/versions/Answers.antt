@@ -1,4 +1,4 @@
-use Rattle.std.proofs.Common.{◌≡◌, ◌∙◌, [], refl, sym, subst}
+use Rattle.std.proofs.Common.{◌∙◌, [], refl, sym, subst}
 use Rattle.folder_state.specs.Contents.{AreVersions}
 use Rattle.folder_state.specs.Kept.{message_tags}
 use Rattle.folder_state.specs.Later.{version_list}

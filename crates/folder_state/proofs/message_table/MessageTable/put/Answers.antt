@@ -1,4 +1,4 @@
-use Rattle.std.proofs.Common.{◌≤◌, ◌<◌, ◌+◌, None, Some, cond, arith, length, [], ◌∷◌, ap, subst, sym, ◌∙◌, vec_capacity}
+use Rattle.std.proofs.Common.{◌≤◌, ◌<◌, ◌+◌, Some, cond, arith, length, [], ◌∷◌, ap, subst, sym, ◌∙◌, vec_capacity}
 use Rattle.crdt_ops.specs.Sets.{Body}
 use Rattle.folder_state.specs.Entries.{body_in}
 use Rattle.folder_state.specs.Keys.{is_at}
