@@ -1,6 +1,6 @@
 //! The audit of what a script printed: whether what clients were told, and what dumps show, can be right.
 //!
-//! It shares no code with the servers: it reads frames by the grammar, answers by their texts, and operations by theirs.
+//! It shares no code with nodes and conversations: it reads frames by the grammar, answers by their texts, and operations by theirs, and applies these as replicas do.
 #![tactic(auto)]
 
 mod applying;
