@@ -3,9 +3,10 @@
 use crate::house::{House, Stop};
 use crate::joining::Newcomer;
 use crate::serving::{Beginning, Part, serve};
-use crate::station::{Call, Newcomers, Station};
-use crossbeam_channel::unbounded;
+use crate::station::{Call, CopyOrder, Newcomers, Station};
+use crossbeam_channel::{Receiver, Sender, unbounded};
 use log::Log;
+use replica_links::Letter;
 use server_settings::{CommandLine, Join, Place, listen_at, settings_or_status, tell_fault};
 use std::alloc::{AllocError, AllocFailed, Global};
 use std::net::{Net, SocketAddr, TcpListener, TcpStream};
@@ -106,23 +107,37 @@ fn run_as<
     Ok(())
 }
 
+/// What is made of the replicas while their addresses are gone through.
+#[derive(Drop)]
+struct Opened<'a> {
+    /// How the others reach each.
+    stations: Vec<Station>,
+    /// Their parts.
+    parts: Vec<Part<'a>>,
+    /// How those are called that are to join.
+    calls: Vec<Call>,
+}
+
 /// Listens at the addresses, in their order: what the threads of the server will share, and the parts of the replicas.
 pub fn open_all<'a, R: Print + Net<Listener = TcpListener, Stream = TcpStream>>(
     rt: &R,
     alloc: Global,
     settings: &CommandLine<'a>,
 ) -> Result<(House<'a>, Vec<Part<'a>>), RunFault> {
-    let mut stations = Vec::new(alloc);
-    let mut parts = Vec::new(alloc);
-    for place in settings.places.iter() {
-        let part = open_place(rt, alloc, place, &mut stations)?;
-        parts.push(part)?;
+    let mut opened = Opened {
+        stations: Vec::new(alloc),
+        parts: Vec::new(alloc),
+        calls: Vec::new(alloc),
+    };
+    if let Err(fault) = open_each(rt, alloc, settings, &mut opened) {
+        drop(opened);
+        return Err(fault);
     }
-    let mut calls = Vec::new(alloc);
-    for join in settings.joins.iter() {
-        let part = await_join(alloc, settings, join, &mut stations, &mut calls)?;
-        parts.push(part)?;
-    }
+    let Opened {
+        stations,
+        parts,
+        calls,
+    } = opened;
     let house = House {
         access: settings.access,
         stations,
@@ -132,23 +147,33 @@ pub fn open_all<'a, R: Print + Net<Listener = TcpListener, Stream = TcpStream>>(
     Ok((house, parts))
 }
 
+fn open_each<'a, R: Print + Net<Listener = TcpListener, Stream = TcpStream>>(
+    rt: &R,
+    alloc: Global,
+    settings: &CommandLine<'a>,
+    opened: &mut Opened<'a>,
+) -> Result<(), RunFault> {
+    for place in settings.places.iter() {
+        open_place(rt, alloc, place, opened)?;
+    }
+    for join in settings.joins.iter() {
+        await_join(alloc, settings, join, opened)?;
+    }
+    Ok(())
+}
+
 /// Listens at a replica's address, and tells so.
 fn open_place<R: Print + Net<Listener = TcpListener, Stream = TcpStream>>(
     rt: &R,
     alloc: Global,
     place: &Place<'_>,
-    stations: &mut Vec<Station>,
-) -> Result<Part<'static>, RunFault> {
+    opened: &mut Opened<'_>,
+) -> Result<(), RunFault> {
     let Some((listener, address)) = listen_at(rt, place)? else {
         return Err(RunFault::Told);
     };
-    add_part(
-        alloc,
-        place.replica,
-        Beginning::Listening(listener),
-        Some(address),
-        stations,
-    )
+    let beginning = Beginning::Listening(listener);
+    add_part(alloc, place.replica, beginning, Some(address), opened)
 }
 
 /// A replica that is to join, and how it is called.
@@ -156,42 +181,69 @@ fn await_join<'a>(
     alloc: Global,
     settings: &CommandLine<'a>,
     join: &Join<'a>,
-    stations: &mut Vec<Station>,
-    calls: &mut Vec<Call>,
-) -> Result<Part<'a>, RunFault> {
+    opened: &mut Opened<'a>,
+) -> Result<(), RunFault> {
     let Some(peer) = settings.place_named(join.peer) else {
         return Err(RunFault::Other);
     };
-    let (begin, begins) = unbounded(alloc)?;
-    let (ends, done) = unbounded(alloc)?;
-    calls.push(Call { begin, done })?;
+    let (begin, done) = add_call(alloc, &mut opened.calls)?;
     let newcomer = Newcomer {
         join: *join,
         peer,
-        begin: begins,
-        done: ends,
+        begin,
+        done,
     };
-    add_part(
-        alloc,
-        join.place.replica,
-        Beginning::Joining(newcomer),
-        None,
-        stations,
-    )
+    let beginning = Beginning::Joining(newcomer);
+    add_part(alloc, join.place.replica, beginning, None, opened)
 }
 
-/// One replica's parts, and its place among all.
+/// Adds a way to call a replica that is to join, and gives the replica's ends of it.
+fn add_call(alloc: Global, calls: &mut Vec<Call>) -> Result<(Receiver<()>, Sender<()>), RunFault> {
+    let (begin, begins) = unbounded(alloc)?;
+    let (ends, done) = unbounded(alloc)?;
+    calls.push(Call { begin, done })?;
+    Ok((begins, ends))
+}
+
+/// Adds one replica's parts, with its place among all.
 fn add_part<'a>(
     alloc: Global,
     name: u16,
     beginning: Beginning<'a>,
     address: Option<SocketAddr>,
-    stations: &mut Vec<Station>,
-) -> Result<Part<'a>, RunFault> {
+    opened: &mut Opened<'a>,
+) -> Result<(), RunFault> {
     let Some(replica) = ReplicaId::new(u32::from(name)) else {
+        drop(beginning);
         return Err(RunFault::Other);
     };
-    let own = stations.len();
+    let own = opened.stations.len();
+    let (letters, orders) = match add_station(alloc, address, &mut opened.stations) {
+        Ok(ends) => ends,
+        Err(fault) => {
+            drop(beginning);
+            return Err(fault);
+        }
+    };
+    let part = Part {
+        replica,
+        own,
+        letters,
+        orders,
+        beginning,
+    };
+    match opened.parts.push(part) {
+        Ok(()) => Ok(()),
+        Err(_) => Err(RunFault::Other),
+    }
+}
+
+/// Adds a replica as the others reach it, and gives the ends at which it hears them.
+fn add_station(
+    alloc: Global,
+    address: Option<SocketAddr>,
+    stations: &mut Vec<Station>,
+) -> Result<(Receiver<Letter>, Receiver<CopyOrder>), RunFault> {
     let (link, letters) = unbounded(alloc)?;
     let (orders, copies) = unbounded(alloc)?;
     stations.push(Station {
@@ -199,11 +251,5 @@ fn add_part<'a>(
         orders,
         address: Mutex::new(address),
     })?;
-    Ok(Part {
-        replica,
-        own,
-        letters,
-        orders: copies,
-        beginning,
-    })
+    Ok((letters, copies))
 }

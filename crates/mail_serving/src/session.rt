@@ -97,6 +97,7 @@ impl<'a, L: Ledger, R: Wait + Clock, G: Gate> SessionPort<'a, L, R, G> {
         ensures once { CommandsOnce pass.old tagged pass.new }
     {
         if pass.session().is_none() {
+            drop(tagged);
             return Err(PortFault::PassedOver);
         }
         let idles = matches!(&tagged.command, Command::Idle);
@@ -167,6 +168,7 @@ impl<'a, L: Ledger, R: Wait + Clock, G: Gate> Port for SessionPort<'a, L, R, G> 
         self.gate.pass(self.commands);
         let mut pass = self.pass.lock(self.rt);
         if pass.seen() < self.seen {
+            drop(tagged);
             return Err(PortFault::Torn);
         }
         let told = self.command_in(alloc, &mut pass, tagged);
