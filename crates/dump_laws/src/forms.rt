@@ -111,19 +111,19 @@ fn kind_fits(kind: &Kind)
             date_fits(date);
             text_fits(text);
         }
-        Kind::Expunge { folder, old } => {
+        Kind::Expunge { folder, olds } => {
             name_fits(folder);
-            id_fits(*old);
+            ids_fit(olds);
         }
         Kind::Store {
             folder,
             flags,
-            old,
+            olds,
             origin,
         } => {
             name_fits(folder);
             flags_fit(flags);
-            id_fits(*old);
+            ids_fit(olds);
             id_fits(*origin);
         }
         Kind::Subscribe { name } => name_fits(name),
