@@ -5,7 +5,6 @@ use Rattle.std.proofs.lemmas.Slice.Eq.{bytes_eq-Decides}
 use Rattle.std.proofs.Common.{◌≡◌, inl, inr, ℕ, ◌+◌, ◌-◌, ◌≤◌, Bool, true, false, List, [], ◌∷◌, ◌++◌, length, map, Option, Some, None, nat_eq, refl, sym, ap, ◌∙◌, subst, arith, if◌then◌else◌}
 use Rattle.std.proofs.lemmas.Bool.{cases_Bool}
 use Rattle.crdt_ops.proofs.Members.{in_filter}
-use Rattle.crdt_ops.proofs.Presence.{Has}
 use Rattle.crdt_ops.specs.declared.kind.Kind.{Kind}
 use Rattle.crdt_ops.specs.declared.kind.Kind.TheVariants as kinds
 use Rattle.crdt_ops.specs.declared.op.Op.{Op}
@@ -58,7 +57,7 @@ use Rattle.imap_node.specs.Replays.{view_at, view_in, view_of}
 use Rattle.imap_node.specs.Respond.{Responds, course_of, is_on, tail_of}
 use Rattle.imap_node.specs.declared.reply.Reply.TheVariants.{Done}
 use Rattle.imap_node.proofs.IssueLemmas.{issues_well}
-use Rattle.imap_node.proofs.LandingLemmas.{IsCopying, appends_copying, removals_copying}
+use Rattle.imap_node.proofs.LandingLemmas.{HasAll, IsCopying, appends_copying, removals_copying}
 use Rattle.imap_node.proofs.MomentLemmas.{validity_is}
 use Rattle.imap_node.proofs.ThereLemmas.{IsNoDelete, append_there, copy_is, copy_there, mapped_in, stays_there, move_is, move_there}
 use Rattle.node_laws.specs.Copies.{AreCopied, AreCopiesTold, HasCode, IsAppendTold, IsLanded, appends_among, asked, is_append_to}
@@ -137,11 +136,11 @@ line_code own sync tag code word wanted n s (t, w, i) =
 least_next : (start : Start) (name : List ℕ) (ops : List Op) → 1 ≤ start.uid → 1 ≤ uidnext_of start name ops
 least_next start name ops l = elim (cases_Bool (bytes_eq name inbox)) [ inl t ↦ rw t (omega arith) | inr f ↦ rw f (omega arith) ]
 
-under_has : (before : List Op) (uidvalidity : ℕ) (now : Option ℕ) (rows : List Listed) → ((row : Listed) → IsIn row rows → Has before row.id) → (row : Listed) → IsIn row (rows_under uidvalidity now rows) → Has before row.id
+under_has : (before : List Op) (uidvalidity : ℕ) (now : Option ℕ) (rows : List Listed) → ((row : Listed) → IsIn row rows → HasAll before row.versions) → (row : Listed) → IsIn row (rows_under uidvalidity now rows) → HasAll before row.versions
 under_has before uidvalidity None rows h = λ row i. absurd i
 under_has before uidvalidity (Some now) rows h = elim (cases_Bool (nat_eq now uidvalidity)) [ inl t ↦ rw t h | inr f ↦ rw f (λ row i. absurd i) ]
 
-rows_had : (start : Start) (ops : List Op) (view : Seen) → IsApplied ops → (row : Listed) → IsIn row (rows_for start ops view) → Has ops row.id
+rows_had : (start : Start) (ops : List Op) (view : Seen) → IsApplied ops → (row : Listed) → IsIn row (rows_for start ops view) → HasAll ops row.versions
 rows_had start ops view a = under_has ops view.uidvalidity (uidvalidity_of start view.name ops) (listing start view.name ops) (λ row i. (names_applied start view.name ops row a i).0)
 
 -- ---- COPY
@@ -156,7 +155,7 @@ module _ (start : Start) (before issued : List Op) (wanted : List Kind) (least :
   copies_are rows view numbers c f =
       let landed = listing start name (before ++ issued) in
       let low = uidnext_of start name before - 1 in
-      let ids = ids_landed start name before issued (least_next start name before least) a t (λ o i. each_in (IsCopying before) wanted o.kind c (subst (IsIn o.kind) m (mapped_in issued o i))) in
+      let ids = ids_landed start name before issued least (least_next start name before least) a t (λ o i. each_in (IsCopying before) wanted o.kind c (subst (IsIn o.kind) m (mapped_in issued o i))) in
       copied_all rows landed name view numbers (appends_among name issued) (beyond low landed) (λ r i. ((in_filter (λ (row : Listed). nat_lt low row.uid) landed r).0 i).0) ids
       (kinds_are name issued wanted (appends_of name rows view numbers) m f)
 

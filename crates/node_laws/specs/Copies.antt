@@ -41,7 +41,7 @@ pub record IsLanded (rows : List Listed) (number : ℕ) (op : Op) : Type 0 where
   pub row : Listed
   pub there : IsIn row rows
   pub numbered : row.uid ≡ number
-  pub appended : row.id ≡ op.id
+  pub appended : row.origin ≡ op.id
 
 -- The operation appends what the message with the one UID bears, and that is the message with the other one.
 pub record IsCopied (before after : List Listed) (name : List ℕ) (source copy : ℕ) (op : Op) : Type 0 where
