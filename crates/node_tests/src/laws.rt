@@ -5,6 +5,27 @@ use node_talk::{
     commands_are_answered, faults_can_be_printed, faults_end_the_stream, one_dump,
     others_come_between, pieces_are_one_stream,
 };
+use uid_projection::{
+    concurrent_stores_leave_one_message, keywords_are_lawful, names_are_applied,
+    numbers_are_for_good, numbers_have_bounds, rows_are_writable, store_beside_expunge,
+    uids_are_apart,
+};
+
+#[test]
+fn laws_of_numbers_can_be_called() {
+    numbers_are_for_good();
+    uids_are_apart();
+    numbers_have_bounds();
+}
+
+#[test]
+fn laws_of_listings_can_be_called() {
+    names_are_applied();
+    keywords_are_lawful();
+    rows_are_writable();
+    concurrent_stores_leave_one_message();
+    store_beside_expunge();
+}
 
 #[test]
 fn laws_of_answers_can_be_called() {
