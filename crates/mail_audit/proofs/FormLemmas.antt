@@ -112,9 +112,17 @@ listed_ids op text s =
 -- the fields of a message's line, part by part
 pub message_fields : (fields origin behind versions rest : List ℕ) → Some (origin, behind) ≡ cut_at 32 fields → Some (versions, rest) ≡ cut_at 32 behind → AreIdsText versions → AreLetterFields origin rest → AreMessageFields fields
 message_fields fields origin behind versions rest c d v l = (
-    l.0, v.0, l.1, l.2, l.3,
-    l.4, v.1, l.5, l.6, l.7,
-    cut_takes 32 fields (origin, behind) (sym c) ∙ (λ j. l.8 j ++ 32 ∷ (cut_takes 32 behind (versions, rest) (sym d) ∙ (λ k. v.2 k ++ 32 ∷ l.9 k)) j),
+  l.0,
+  v.0,
+  l.1,
+  l.2,
+  l.3,
+  l.4,
+  v.1,
+  l.5,
+  l.6,
+  l.7,
+  cut_takes 32 fields (origin, behind) (sym c) ∙ (λ j. l.8 j ++ 32 ∷ (cut_takes 32 behind (versions, rest) (sym d) ∙ (λ k. v.2 k ++ 32 ∷ l.9 k)) j),
 )
 
 -- ---- where such fields were found
