@@ -22,7 +22,7 @@ lent message = record {
   versions = version_ids message.versions.list.now;
   flags = united message.versions.list.now;
   date = unwrap_or (option_map (λ date. date.now) message.date) no_letter.date;
-  text = message.text.now;
+  text = unwrap_or (option_map (λ text. text.now) message.text) no_letter.text;
 }
 
 -- The message whose date and text are lent.
@@ -32,5 +32,5 @@ held message = record {
   versions = version_ids message.versions.items;
   flags = united message.versions.items;
   date = unwrap_or (option_map (λ date. date.now) message.date) no_letter.date;
-  text = message.text.now;
+  text = unwrap_or (option_map (λ text. text.now) message.text) no_letter.text;
 }

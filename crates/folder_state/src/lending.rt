@@ -20,7 +20,7 @@ use crate::reading::{body_at, letter_at};
 use crate::tables::{LetterEntry, is_at};
 use crate::versions::{version_ids, versions_after};
 use crdt_ops::{Kind, Op, SoundOp};
-use imap_types::{DateTime, Flags, Name};
+use imap_types::{DateTime, Flags, Name, Text};
 use message_versions::{Version, Versions};
 use std::alloc::{AllocError, Global};
 use tags_clocks::OpId;
@@ -34,8 +34,8 @@ pub struct LentMessage<'a> {
     pub versions: Versions<'a>,
     /// When it was received, as its origin says; None where that is no Append that was applied.
     pub date: Option<&'a DateTime>,
-    /// Its octets, as its origin says; none where that is no Append that was applied.
-    pub text: &'a [u8],
+    /// Its octets, as its origin says; None where that is no Append that was applied.
+    pub text: Option<&'a Text>,
 }
 
 /// A message of a folder, as it is after operations that come next: its date and text are lent by the folders and by these.
@@ -47,8 +47,8 @@ pub struct HeldMessage<'a> {
     pub versions: Vec<Version>,
     /// When it was received, as its origin says; None where that is no Append that was applied.
     pub date: Option<&'a DateTime>,
-    /// Its octets, as its origin says; none where that is no Append that was applied.
-    pub text: &'a [u8],
+    /// Its octets, as its origin says; None where that is no Append that was applied.
+    pub text: Option<&'a Text>,
 }
 
 /// What a message tag carries, lent.
@@ -62,7 +62,7 @@ pub struct LentBody<'a> {
 #[derive(Clone, Copy)]
 pub struct LentLetter<'a> {
     pub date: &'a DateTime,
-    pub text: &'a [u8],
+    pub text: &'a Text,
 }
 
 /// The message of this origin, where it has a version in the folder.
@@ -129,13 +129,13 @@ fn with_letter<'a>(
             origin: *origin,
             versions,
             date: Some(letter.date),
-            text: letter.text,
+            text: Some(letter.text),
         },
         None => LentMessage {
             origin: *origin,
             versions,
             date: None,
-            text: b"",
+            text: None,
         },
     }
 }
@@ -177,13 +177,13 @@ fn with_own<'a>(
             origin: *origin,
             versions,
             date: Some(letter.date),
-            text: letter.text,
+            text: Some(letter.text),
         },
         None => HeldMessage {
             origin: *origin,
             versions,
             date: None,
-            text: b"",
+            text: None,
         },
     }
 }
@@ -267,7 +267,7 @@ fn kept_letter<'a>(letters: &'a [LetterEntry], id: &OpId) -> Option<LentLetter<'
     match letter_at(letters, *id) {
         Some(letter) => Some(LentLetter {
             date: &letter.date,
-            text: letter.text.as_bytes(),
+            text: &letter.text,
         }),
         None => None,
     }
@@ -281,10 +281,7 @@ fn brought_letter<'a>(op: &'a Op, id: &OpId) -> Option<LentLetter<'a>>
         return None;
     }
     match &op.kind {
-        Kind::Append { date, text, .. } => Some(LentLetter {
-            date,
-            text: text.as_bytes(),
-        }),
+        Kind::Append { date, text, .. } => Some(LentLetter { date, text }),
         _ => None,
     }
 }

@@ -16,7 +16,7 @@ use crate::lending::LentBody;
 use crate::tables::LetterEntry;
 use crate::versions::{union_after, version_ids};
 use crdt_ops::{Ids, Message};
-use imap_types::{DateTime, Flags, Name, Octets};
+use imap_types::{DateTime, Flags, Name, Text};
 use message_versions::Version;
 use std::alloc::{AllocError, Global};
 use tags_clocks::OpId;
@@ -137,13 +137,13 @@ fn letter_copied(
     alloc: Global,
     letters: &[LetterEntry],
     id: OpId,
-) -> Result<(DateTime, Octets), AllocError>
+) -> Result<(DateTime, Text), AllocError>
     ensures date { IfOk result (λ copied. copied.0 ≡ (unwrap_or (letter_in letters.now id) no_letter).date) }
     ensures text { IfOk result (λ copied. copied.1 ≡ (unwrap_or (letter_in letters.now id) no_letter).text) }
 {
     match letter_at(letters, id) {
-        Some(letter) => Ok((letter.date.copy(), letter.text.copy(alloc)?)),
-        None => Ok((DateTime::epoch(), Octets::new(Vec::new(alloc)))),
+        Some(letter) => Ok((letter.date.copy(), letter.text.copy()?)),
+        None => Ok((DateTime::epoch(), Text::new(Vec::new(alloc))?)),
     }
 }
 

@@ -16,7 +16,7 @@ use crate::telling::{Telling, gone_code, message_at};
 use crate::versions::old_ids;
 use crdt_ops::Kind;
 use imap_answers::{Answer, Code, Notice, Refusal};
-use imap_types::{Name, NumberSet, Octets, SequenceSet};
+use imap_types::{Name, NumberSet, SequenceSet};
 use mail_listing::Rows;
 use session_view::{Entry, View};
 use std::alloc::{AllocError, Global};
@@ -33,7 +33,7 @@ struct Copied {
 }
 
 /// What COPY issues in the destination, or the first reason against it: `NoSuchMessage`, `NoDestination`, `TooManyKeywords` (more than 32
-/// on a message). `NoMemory` may come in place of any answer. The texts are copied.
+/// on a message). `NoMemory` may come in place of any answer. The copies share the texts.
 pub fn copy_wants(
     alloc: Global,
     destination: &Name,
@@ -62,7 +62,7 @@ pub fn copy_wants(
 }
 
 /// What MOVE issues, or the first reason against it: `NoSuchMessage`, `ReadOnly`, `NoDestination`, `TooManyKeywords` (more than 32 on a
-/// message), `TooManyVersions` (more than 64 of one). `NoMemory` may come in place of any answer. It issues all copies in the destination first, then what takes the messages out of the folder. The texts are copied.
+/// message), `TooManyVersions` (more than 64 of one). `NoMemory` may come in place of any answer. It issues all copies in the destination first, then what takes the messages out of the folder. The copies share the texts.
 pub fn move_wants(
     alloc: Global,
     folder: &Name,
@@ -128,7 +128,7 @@ fn push_append(
     };
     let folder = destination.copy(alloc)?;
     let flags = row.versions.flags(alloc)?;
-    let text = Octets::copied_from(alloc, row.text)?;
+    let text = row.copied_text(alloc)?;
     kinds.push(Kind::Append {
         folder,
         flags,

@@ -126,8 +126,8 @@ impl Node {
     /// What it costs, until the tables come: a name is looked up in all tags of folders and messages. With a mailbox selected each command makes that
     /// mailbox's listing, which costs the square of its messages, for its sync; so do SELECT, EXAMINE and STATUS of theirs, and COPY and MOVE of the
     /// destination. STORE, EXPUNGE, CLOSE, UID EXPUNGE, COPY, MOVE and a FETCH that sets \Seen make it a second time behind their operations, and copy these once. LIST costs
-    /// what `list_names` of `imap_query` says; SEARCH and FETCH go once over a text for each key or section that asks for it; APPEND goes once over
-    /// its text. LOGIN, ENABLE, NAMESPACE, CAPABILITY and LOGOUT cost what they name.
+    /// what `list_names` of `imap_query` says; SEARCH and FETCH go once over a text for each key or section that asks for it, but for a whole text, which the
+    /// answer shares with the message; APPEND, COPY and MOVE share texts and go over none. LOGIN, ENABLE, NAMESPACE, CAPABILITY and LOGOUT cost what they name.
     pub fn command(
         &mut self,
         alloc: Global,

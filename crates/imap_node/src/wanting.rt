@@ -30,7 +30,7 @@ use imap_commands::{
     store_wants, subscribe_wants, uid_expunge_wants, unsubscribe_wants,
 };
 use imap_syntax::{Command, FetchItem, IdleLine, SearchStep, StoreMode};
-use imap_types::{DateTime, Flags, Name, Octets, SequenceSet};
+use imap_types::{DateTime, Flags, Name, Octets, SequenceSet, Text};
 use std::alloc::{AllocError, Global};
 use tags_clocks::OpId;
 
@@ -287,7 +287,7 @@ fn wants_append(
     name: &Name,
     flags: &Flags,
     date: &Option<DateTime>,
-    text: &Octets,
+    text: &Text,
 ) -> Result<Vec<Kind>, Refusal>
     ensures { Gives (λ kinds. kinds.items) result (when_known state.now (append_wants (is_there name.now replica.now.applied) name.now flags.now date.now stamp.now text.now)) }
 {

@@ -3,7 +3,7 @@ use crate::many::Many;
 use crate::search::{SearchOption, SearchStep};
 use crate::status::StatusItem;
 use crate::store::StoreAction;
-use imap_types::{DateTime, Flags, Name, Octets, SequenceSet};
+use imap_types::{DateTime, Flags, Name, Octets, SequenceSet, Text};
 
 /// A command and its tag (RFC 9051, section 2.2.1).
 #[derive(Drop)]
@@ -80,7 +80,7 @@ pub enum Command {
         name: Name,
         flags: Flags,
         date: Option<DateTime>,
-        text: Octets,
+        text: Text,
     },
     /// RFC 2177, section 3.
     Idle,

@@ -5,7 +5,7 @@ use std::alloc::{AllocError, Global};
 use std::cmp::Ordering;
 use std::marker::Model;
 
-/// Any octets: a tag, a pattern, a message's text.
+/// Any octets, with memory of their own: a tag, a pattern, a keyword.
 #[derive(Drop)]
 pub struct Octets {
     octets: Vec<u8>,

@@ -4,7 +4,7 @@ ghost use Rattle.std.specs.Prelude.{◌≡◌};
 ghost use Rattle.mail_listing.specs.Listing.{held, listed, versions_held};
 
 use crate::row::Row;
-use imap_types::DateTime;
+use imap_types::{DateTime, Text};
 use message_versions::{Version, Versions};
 use tags_clocks::OpId;
 
@@ -22,8 +22,8 @@ pub struct HeldRow<'a> {
     pub versions: HeldVersions<'a>,
     /// When it was received (RFC 9051, section 2.3.3); None where nothing tells it.
     pub date: Option<&'a DateTime>,
-    /// Its octets.
-    pub text: &'a [u8],
+    /// Its octets; None where nothing tells them.
+    pub text: Option<&'a Text>,
 }
 
 /// The versions of a message of a listing.
