@@ -4,7 +4,7 @@ ghost use Rattle.std.specs.Prelude.{◌≡◌, ◌+◌, ◌<◌, ◌≤◌, [], 
 ghost use Rattle.std.specs.List.{slice_get};
 ghost use Rattle.std.specs.Map.Iter.{deref_pair};
 ghost use Rattle.std.specs.Option.{option_copied, option_map};
-ghost use Rattle.indexmap.specs.IndexMap.{spare};
+ghost use Rattle.indexmap.specs.IndexMap.{insert_entry, spare, swap_remove_entry};
 ghost use Rattle.tags_clocks.specs.declared.id.OpId.{OpId as Id};
 ghost use Rattle.mail_listing.specs.Telling.{is_id, kept, kept_at, lent};
 
@@ -82,7 +82,7 @@ impl Messages {
         self.by_origin.len()
     }
 
-    /// The origin and the message at this place, from 0, in no promised order; no edit but `forget` moves one.
+    /// The origin and the message at this place, from 0, in the order in which they were put in but for what `forget` moved.
     pub fn message_at(&self, place: usize) -> Option<(&OpId, &Message)>
         ensures entry { option_map deref_pair result ≡ slice_get self.now.entries place }
         ensures found { IfSome result (λ p. kept_at p.0.now self.now.entries ≡ Some p.1.now) }
@@ -116,9 +116,10 @@ impl Messages {
         self.by_origin.reserve(more)
     }
 
-    /// Puts a message in, in place of one of this origin. There is room for it.
+    /// Puts a message in, in place of one of this origin, else behind all others. There is room for it.
     pub fn put(&mut self, origin: &OpId, message: Message)
         requires room { 0 < self.old.room }
+        ensures entries { self.new.entries ≡ insert_entry is_id self.old.entries origin.now message }
         ensures found { (i : Id) → kept_at i self.new.entries ≡ (if is_id origin.now i then Some message else kept_at i self.old.entries) }
         ensures room { self.old.room ≤ self.new.room + 1 }
     {
@@ -141,6 +142,7 @@ impl Messages {
     /// Takes the message of this origin out, if it is there. The last one takes its place.
     pub fn forget(&mut self, origin: &OpId) -> Option<Message>
         ensures value { result ≡ kept_at origin.now self.old.entries }
+        ensures entries { self.new.entries ≡ swap_remove_entry (is_id origin.now) self.old.entries }
         ensures found { (i : Id) → kept_at i self.new.entries ≡ (if is_id origin.now i then None else kept_at i self.old.entries) }
         ensures room { self.old.room ≤ self.new.room }
     {

@@ -1,8 +1,8 @@
 //! A window on what a mailbox keeps.
 
-ghost use Rattle.std.specs.Prelude.{◌≡◌, length, option_map, IfOk};
+ghost use Rattle.std.specs.Prelude.{◌≡◌, Some, length, option_map, IfOk};
 ghost use Rattle.std.specs.List.{slice_get};
-ghost use Rattle.mail_listing.specs.Listing.{AreRisingRows, held, listed, versions_held};
+ghost use Rattle.mail_listing.specs.Listing.{AreRisingRows, held, listed};
 ghost use Rattle.mail_listing.specs.Telling.{AreTold, kept, kept_at, kept_in, lent, numbered, row_by, rows_by, told};
 
 use crate::held::{HeldRow, HeldVersions};
@@ -10,7 +10,6 @@ use crate::messages::{HeldMessage, LentMessage, Messages};
 use crate::row::Row;
 use entry_table::{Entry, EntryList, EntryOverlay};
 use indexmap::IndexMap;
-use message_versions::copied_versions;
 use std::alloc::{AllocError, Global};
 use std::marker::Model;
 use tags_clocks::OpId;

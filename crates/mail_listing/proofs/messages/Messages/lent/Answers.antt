@@ -1,4 +1,4 @@
-use Rattle.std.proofs.Common.{◌≡◌, ◌∙◌, ap, sym, Some, option_map}
+use Rattle.std.proofs.Common.{◌∙◌, ap, Some, option_map}
 use Rattle.mail_listing.specs.Telling.{MessageTable, kept, kept_at}
 use Rattle.mail_listing.proofs.messages.Messages.lent.Goals as goal
 

@@ -1,5 +1,4 @@
 use Rattle.std.proofs.Common.{◌≡◌, Some, IfSome, subst}
-use Rattle.tags_clocks.specs.declared.id.OpId.{OpId}
 use Rattle.mail_listing.specs.Telling.{MessageTable, kept_at}
 use Rattle.mail_listing.proofs.messages.Messages.message_at.Goals as goal
 

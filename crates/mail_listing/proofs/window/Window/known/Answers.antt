@@ -1,5 +1,6 @@
 use Rattle.std.proofs.Common.{subst}
 use Rattle.mail_listing.specs.Listing.{AreRisingRows}
+use Rattle.mail_listing.specs.Telling.{kept_in}
 use Rattle.mail_listing.proofs.WindowLemmas.{told_rising}
 use Rattle.mail_listing.proofs.window.Window.known.Goals as goal
 

@@ -1,4 +1,5 @@
 use Rattle.std.proofs.Common.{◌∙◌, sym, ap, length}
+use Rattle.mail_listing.specs.Telling.{kept_in}
 use Rattle.mail_listing.proofs.WindowLemmas.{told_length}
 use Rattle.mail_listing.proofs.window.Window.len.Goals as goal
 

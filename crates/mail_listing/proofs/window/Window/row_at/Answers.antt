@@ -1,5 +1,6 @@
 use Rattle.std.proofs.Common.{◌∙◌, sym, ap}
 use Rattle.std.specs.List.{slice_get}
+use Rattle.mail_listing.specs.Telling.{kept_in}
 use Rattle.mail_listing.proofs.WindowLemmas.{row_through, told_get}
 use Rattle.mail_listing.proofs.window.Window.row_at.Goals as goal
 

@@ -1,6 +1,7 @@
 use Rattle.std.proofs.Common.{◌∙◌, sym, ap, option_map}
 use Rattle.std.specs.List.{slice_get}
 use Rattle.mail_listing.specs.Listed.{Listed}
+use Rattle.mail_listing.specs.Telling.{kept_in}
 use Rattle.mail_listing.proofs.WindowLemmas.{told_uid}
 use Rattle.mail_listing.proofs.window.Window.uid_at.Goals as goal
 
