@@ -1,54 +1,35 @@
 -- Messages through a window, and searches by UID.
 use Rattle.std.specs.Result.{is_err, is_ok}
-use Rattle.std.proofs.Common.{Result, Ok, Err, IfOk, OnOk, ◌≡◌, inl, inr, ℕ, Bool, zero, suc, ◌+◌, ◌-◌, ◌<◌, ◌≤◌, true, false, nat_lt, nat_eq, ltb, ◌==◌, if◌then◌else◌, List, [], ◌∷◌, ◌++◌, length, drop, take, get_or, refl, sym, ap, arith, subst, Option, Some, None, option_map, IsSome}
+use Rattle.std.proofs.Common.{Result, Ok, Err, IfOk, OnOk, ◌≡◌, inl, inr, ℕ, Bool, zero, suc, ◌+◌, ◌-◌, ◌<◌, ◌≤◌, true, false, nat_lt, nat_eq, ltb, ◌==◌, if◌then◌else◌, List, [], ◌∷◌, ◌++◌, length, drop, take, get_or, refl, sym, ap, arith, subst, Option, Some, None, option_map}
 use Rattle.std.specs.List.{filter, slice_get}
 use Rattle.std.proofs.lemmas.Bool.{cases_Bool, cases_order}
 use Rattle.std.proofs.lemmas.Bool.Decides.{nat_tests}
 use Rattle.tags_clocks.specs.declared.id.OpId.{OpId}
 use Rattle.mail_listing.specs.Listed.{Listed}
 use Rattle.mail_listing.specs.Listing.{AreRisingRows, beyond, changed_since, last_uid, row_of}
-use Rattle.mail_listing.specs.Telling.{AreTold, row_by, rows_by, told_at}
+use Rattle.mail_listing.specs.Telling.{row_by, rows_by}
 use Rattle.entry_table.specs.declared.entry.Entry.{Entry}
-use Rattle.mail_listing.specs.declared.messages.Message.{Message}
-use Rattle.mail_listing.specs.declared.messages.HeldMessage.{HeldMessage}
+use Rattle.mail_listing.specs.declared.mailbox.Mailbox.{Mailbox}
+use Rattle.mail_listing.specs.declared.mailbox.HeldMessage.{HeldMessage}
 use Rattle.mail_listing.specs.Windows.{IsEdge, above}
 use Rattle.entry_table.specs.Entries.{AreRising}
 use Rattle.std.specs.Option.{option_to_list}
 
 -- ---- what is told
 
-some_of : {X : Type 0} (o : Option X) → IsSome o → (x : X) × (o ≡ Some x)
-some_of None h = absurd (cc h)
-some_of (Some x) h = (x, refl)
+pub told_length : (fresh : List (OpId × HeldMessage)) (mailbox : Mailbox) (es : List Entry) → length (rows_by fresh mailbox es) ≡ length es
+told_length fresh mailbox [] = refl
+told_length fresh mailbox (e ∷ es) = ap (λ n. suc n) (told_length fresh mailbox es)
 
--- The row of an entry, where there is one.
-abbrev pub row_through : List (OpId × HeldMessage) → List (OpId × Message) → Option Entry → Option Listed
-row_through fresh messages None = None
-row_through fresh messages (Some e) = row_by fresh messages e
+pub told_get : (fresh : List (OpId × HeldMessage)) (mailbox : Mailbox) (es : List Entry) (k : ℕ) → slice_get (rows_by fresh mailbox es) k ≡ option_map (row_by fresh mailbox) (slice_get es k)
+told_get fresh mailbox [] k = refl
+told_get fresh mailbox (e ∷ es) zero = refl
+told_get fresh mailbox (e ∷ es) (suc k) = told_get fresh mailbox es k
 
-pub told_length : (fresh : List (OpId × HeldMessage)) (messages : List (OpId × Message)) (es : List Entry) → AreTold fresh messages es → length (rows_by fresh messages es) ≡ length es
-told_length fresh messages [] h = refl
-told_length fresh messages (e ∷ es) h =
-    let s = some_of (told_at fresh messages e.origin) h.0 in
-    rw s.1 (ap (λ n. suc n) (told_length fresh messages es h.1))
-
-pub told_get : (fresh : List (OpId × HeldMessage)) (messages : List (OpId × Message)) (es : List Entry) (k : ℕ) → AreTold fresh messages es → slice_get (rows_by fresh messages es) k ≡ row_through fresh messages (slice_get es k)
-told_get fresh messages [] k h = refl
-told_get fresh messages (e ∷ es) zero h =
-    let s = some_of (told_at fresh messages e.origin) h.0 in
-    rw s.1 refl
-told_get fresh messages (e ∷ es) (suc k) h =
-    let s = some_of (told_at fresh messages e.origin) h.0 in
-    rw s.1 (told_get fresh messages es k h.1)
-
-pub told_uid : (fresh : List (OpId × HeldMessage)) (messages : List (OpId × Message)) (es : List Entry) (k : ℕ) → AreTold fresh messages es → option_map (λ (row : Listed). row.uid) (slice_get (rows_by fresh messages es) k) ≡ option_map (λ (e : Entry). e.uid) (slice_get es k)
-told_uid fresh messages [] k h = refl
-told_uid fresh messages (e ∷ es) zero h =
-    let s = some_of (told_at fresh messages e.origin) h.0 in
-    rw s.1 refl
-told_uid fresh messages (e ∷ es) (suc k) h =
-    let s = some_of (told_at fresh messages e.origin) h.0 in
-    rw s.1 (told_uid fresh messages es k h.1)
+pub told_uid : (fresh : List (OpId × HeldMessage)) (mailbox : Mailbox) (es : List Entry) (k : ℕ) → option_map (λ (row : Listed). row.uid) (slice_get (rows_by fresh mailbox es) k) ≡ option_map (λ (e : Entry). e.uid) (slice_get es k)
+told_uid fresh mailbox [] k = refl
+told_uid fresh mailbox (e ∷ es) zero = refl
+told_uid fresh mailbox (e ∷ es) (suc k) = told_uid fresh mailbox es k
 
 -- ---- ascending UIDs
 
@@ -209,11 +190,9 @@ given_ok (Ok v) x a b e h = h
 given_ok (Err v) x a b e h = absurd (cc e)
 
 -- The messages of entries by ascending UID.
-pub told_rising : (low : ℕ) (fresh : List (OpId × HeldMessage)) (messages : List (OpId × Message)) (es : List Entry) → AreRising low es → AreTold fresh messages es → AreRisingRows low (rows_by fresh messages es)
-told_rising low fresh messages [] r h = tt
-told_rising low fresh messages (e ∷ es) r h =
-    let s = some_of (told_at fresh messages e.origin) h.0 in
-    rw s.1 (r.0, told_rising (e.uid + 1) fresh messages es r.1 h.1)
+pub told_rising : (low : ℕ) (fresh : List (OpId × HeldMessage)) (mailbox : Mailbox) (es : List Entry) → AreRising low es → AreRisingRows low (rows_by fresh mailbox es)
+told_rising low fresh mailbox [] r = tt
+told_rising low fresh mailbox (e ∷ es) r = (r.0, told_rising (e.uid + 1) fresh mailbox es r.1)
 
 pub on_ok : {A B : Type 0} {P : Type 0} (r : Result A B) → is_err r ≡ false → OnOk r P → P
 on_ok (Ok v) e h = h

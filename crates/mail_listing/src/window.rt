@@ -3,52 +3,50 @@
 ghost use Rattle.std.specs.Prelude.{◌≡◌, Some, length, option_map, IfOk};
 ghost use Rattle.std.specs.List.{slice_get};
 ghost use Rattle.mail_listing.specs.Listing.{AreRisingRows, held, listed};
-ghost use Rattle.mail_listing.specs.Telling.{AreTold, kept, kept_at, kept_in, lent, numbered, row_by, rows_by, told};
+ghost use Rattle.std.specs.Option.{unwrap_or};
+ghost use Rattle.mail_listing.specs.Telling.{nothing_told, numbered, row_by, rows_by, told_by, told_in};
 
 use crate::held::{HeldRow, HeldVersions};
-use crate::messages::{HeldMessage, LentMessage, Messages};
+use crate::mailbox::{HeldMessage, Mailbox, bare_row};
 use crate::row::Row;
 use entry_table::{Entry, EntryList, EntryOverlay};
 use indexmap::IndexMap;
+use message_versions::copied_versions;
 use std::alloc::{AllocError, Global};
 use std::marker::Model;
 use tags_clocks::OpId;
 
-/// A mailbox's entries as operations to come leave them, with the messages that are kept and those that these operations make
-/// or change.
+/// A mailbox's entries as operations to come leave them, with its messages as they are kept and those that these operations make or
+/// change. (An entry without a message shows an empty one; those who make windows know that there is none.)
 #[derive(Drop)]
 pub struct Window<'a> {
     entries: EntryOverlay<'a>,
-    messages: Option<&'a Messages>,
+    mailbox: Mailbox<'a>,
     fresh: IndexMap<OpId, HeldMessage<'a>>,
 }
 
 impl<'a> Model for Window<'a> {
     ghost use Rattle.std.specs.Prelude.{List};
     ghost use Rattle.mail_listing.specs.Listed.{Listed};
-    ghost use Rattle.mail_listing.specs.Telling.{AreTold, kept_in, rows_by};
+    ghost use Rattle.mail_listing.specs.Telling.{rows_by};
 
     ghost Value = { List Listed };
 
-    ghost view = { λ w. rows_by w.fresh.entries (kept_in w.messages) w.entries.entries };
-
-    ghost invariant = { λ w. AreTold w.fresh.entries (kept_in w.messages) w.entries.entries };
+    ghost view = { λ w. rows_by w.fresh.entries w.mailbox w.entries.entries };
 }
 
 impl<'a> Window<'a> {
-    /// These entries, each of which has a message among the fresh ones (those that operations to come leave) or the kept ones;
-    /// None where none are kept.
+    /// These entries, with the messages that operations to come leave, and else those of the mailbox.
     pub fn new(
         entries: EntryOverlay<'a>,
-        messages: Option<&'a Messages>,
+        mailbox: Mailbox<'a>,
         fresh: IndexMap<OpId, HeldMessage<'a>>,
     ) -> Window<'a>
-        requires { AreTold fresh.entries (kept_in messages) entries.entries }
-        ensures { result ≡ rows_by fresh.entry.entries (kept_in messages.entry) entries.entry.entries }
+        ensures { result ≡ rows_by fresh.entry.entries mailbox.entry entries.entry.entries }
     {
         Window {
             entries,
-            messages,
+            mailbox,
             fresh,
         }
     }
@@ -77,12 +75,12 @@ impl<'a> Window<'a> {
         }
     }
 
-    /// The message at this place. Cost: as `uid_at`, and a look-up or two among the messages.
+    /// The message at this place. Cost: as `uid_at`, and three look-ups among the messages at most.
     pub fn row_at(&self, place: usize) -> Option<Row<'_>>
         ensures { option_map listed result ≡ slice_get self.now place }
     {
         match self.entries.get(place) {
-            Some(entry) => row_for(&self.fresh, self.messages, &entry),
+            Some(entry) => Some(row_for(&self.fresh, &self.mailbox, &entry)),
             None => None,
         }
     }
@@ -92,103 +90,62 @@ impl<'a> Window<'a> {
         ensures { IfOk result (λ row. option_map held row ≡ slice_get self.now place) }
     {
         match self.entries.get(place) {
-            Some(entry) => held_for(alloc, &self.fresh, self.messages, &entry),
+            Some(entry) => held_for(alloc, &self.fresh, &self.mailbox, &entry),
             None => Ok(None),
         }
     }
 }
 
-/// The row of an entry, where it has a message.
+/// The row of an entry.
 fn row_for<'r>(
     fresh: &'r IndexMap<OpId, HeldMessage<'_>>,
-    messages: Option<&'r Messages>,
+    mailbox: &Mailbox<'r>,
     entry: &Entry,
-) -> Option<Row<'r>>
-    ensures { option_map listed result ≡ row_by fresh.now.entries (kept_in messages.entry) entry.now }
+) -> Row<'r>
+    ensures { listed result ≡ row_by fresh.now.entries mailbox.now entry.now }
 {
     match fresh.get(&entry.origin) {
-        Some(message) => Some(row_over(entry, message)),
-        None => row_kept(messages, entry),
+        Some(message) => message.row(entry),
+        None => row_kept(mailbox, entry),
     }
 }
 
-/// The row of an entry, where its message is kept.
-fn row_kept<'r>(messages: Option<&'r Messages>, entry: &Entry) -> Option<Row<'r>>
-    ensures { option_map listed result ≡ option_map (numbered entry.now) (option_map kept (kept_at entry.now.origin (kept_in messages.entry))) }
+/// The row of an entry, as the mailbox tells it.
+fn row_kept<'r>(mailbox: &Mailbox<'r>, entry: &Entry) -> Row<'r>
+    ensures { listed result ≡ numbered entry.now (unwrap_or (told_in mailbox.now entry.now.origin) nothing_told) }
 {
-    match lent_in(messages, &entry.origin) {
-        Some(message) => Some(row_lent(entry, message)),
-        None => None,
+    match mailbox.row(entry) {
+        Some(row) => row,
+        None => bare_row(entry),
     }
 }
 
-/// The message of this origin, lent, where it is kept.
-fn lent_in<'r>(messages: Option<&'r Messages>, origin: &OpId) -> Option<LentMessage<'r>>
-    ensures { option_map lent result ≡ option_map kept (kept_at origin.now (kept_in messages.entry)) }
-{
-    match messages {
-        Some(messages) => messages.lent(origin),
-        None => None,
-    }
-}
-
-/// The row of an entry with its message, as operations to come leave it.
-fn row_over<'r>(entry: &Entry, message: &'r HeldMessage<'_>) -> Row<'r>
-    ensures { listed result ≡ numbered entry.now (told message.now) }
-{
-    Row {
-        uid: entry.uid,
-        modseq: entry.modseq,
-        origin: entry.origin,
-        versions: message.versions.as_versions(),
-        date: message.date,
-        text: message.text,
-    }
-}
-
-/// The row of an entry with its message, as it is kept.
-fn row_lent<'r>(entry: &Entry, message: LentMessage<'r>) -> Row<'r>
-    ensures { listed result ≡ numbered entry.now (lent message.entry) }
-{
-    Row {
-        uid: entry.uid,
-        modseq: entry.modseq,
-        origin: entry.origin,
-        versions: message.versions,
-        date: message.date,
-        text: message.text,
-    }
-}
-
-/// The row of an entry to be held, where it has a message; `Err` where there is no memory for its versions.
+/// The row of an entry to be held; `Err` where there is no memory for its versions.
 fn held_for<'a>(
     alloc: Global,
     fresh: &IndexMap<OpId, HeldMessage<'a>>,
-    messages: Option<&'a Messages>,
+    mailbox: &Mailbox<'a>,
     entry: &Entry,
 ) -> Result<Option<HeldRow<'a>>, AllocError>
-    ensures { IfOk result (λ row. option_map held row ≡ row_by fresh.now.entries (kept_in messages.entry) entry.now) }
+    ensures { IfOk result (λ row. option_map held row ≡ Some (row_by fresh.now.entries mailbox.now entry.now)) }
 {
     match fresh.get(&entry.origin) {
         Some(message) => held_over(alloc, entry, message),
-        None => Ok(held_kept(messages, entry)),
+        None => Ok(Some(held_kept(row_kept(mailbox, entry)))),
     }
 }
 
-/// The row of an entry to be held, where its message is kept.
-fn held_kept<'a>(messages: Option<&'a Messages>, entry: &Entry) -> Option<HeldRow<'a>>
-    ensures { option_map held result ≡ option_map (numbered entry.now) (option_map kept (kept_at entry.now.origin (kept_in messages.entry))) }
+/// The row to be held.
+fn held_kept<'a>(row: Row<'a>) -> HeldRow<'a>
+    ensures { held result ≡ listed row.entry }
 {
-    match lent_in(messages, &entry.origin) {
-        Some(message) => Some(HeldRow {
-            uid: entry.uid,
-            modseq: entry.modseq,
-            origin: entry.origin,
-            versions: HeldVersions::Lent(message.versions),
-            date: message.date,
-            text: message.text,
-        }),
-        None => None,
+    HeldRow {
+        uid: row.uid,
+        modseq: row.modseq,
+        origin: row.origin,
+        versions: HeldVersions::Lent(row.versions),
+        date: row.date,
+        text: row.text,
     }
 }
 
@@ -198,14 +155,14 @@ fn held_over<'a>(
     entry: &Entry,
     message: &HeldMessage<'a>,
 ) -> Result<Option<HeldRow<'a>>, AllocError>
-    ensures { IfOk result (λ row. option_map held row ≡ option_map (numbered entry.now) (Some (told message.now))) }
+    ensures { IfOk result (λ row. option_map held row ≡ Some (numbered entry.now (told_by message.now))) }
 {
-    let versions = message.versions.copy(alloc)?;
+    let versions = copied_versions(alloc, &message.versions)?;
     Ok(Some(HeldRow {
         uid: entry.uid,
         modseq: entry.modseq,
         origin: entry.origin,
-        versions,
+        versions: HeldVersions::Own(versions),
         date: message.date,
         text: message.text,
     }))
