@@ -13,7 +13,10 @@ pub trait EntryList {
     /// The entries.
     ghost entries: { Self → List Kept };
 
-    /// There is room for so many edits.
+    /// So many entries can be renewed or taken out, or put in where there is room for them.
+    ghost has_edits: { Self → ℕ → Type 0 };
+
+    /// There is room for so many entries more.
     ghost has_room: { Self → ℕ → Type 0 };
 
     /// How many there are.
@@ -31,16 +34,18 @@ pub trait EntryList {
     /// Gives the entry at this place another mod-sequence; its origin and its UID stay.
     fn renew(&mut self, place: usize, modseq: u64)
         requires within { place < length (entries self.old) }
-        requires room { has_room self.old 1 }
+        requires edits { has_edits self.old 1 }
         ensures entries { (e : Kept) → entries self.new ≡ set (entries self.old) place (record { origin = (get_or (entries self.old) place e).origin; uid = (get_or (entries self.old) place e).uid; modseq = modseq }) }
-        ensures room { (n : ℕ) → has_room self.old (n + 1) → has_room self.new n };
+        ensures edits { (n : ℕ) → has_edits self.old (n + 1) → has_edits self.new n }
+        ensures room { (n : ℕ) → has_room self.old n → has_room self.new n };
 
     /// Takes the entry at this place out.
     fn take_out(&mut self, place: usize)
         requires within { place < length (entries self.old) }
-        requires room { has_room self.old 1 }
+        requires edits { has_edits self.old 1 }
         ensures entries { entries self.new ≡ remove (entries self.old) place }
-        ensures room { (n : ℕ) → has_room self.old (n + 1) → has_room self.new n };
+        ensures edits { (n : ℕ) → has_edits self.old (n + 1) → has_edits self.new n }
+        ensures room { (n : ℕ) → has_room self.old n → has_room self.new n };
 
     /// Puts an entry behind all others.
     fn put(&mut self, entry: Entry)
@@ -48,7 +53,9 @@ pub trait EntryList {
         requires beyond { AreBelow entry.uid (entries self.old) }
         requires fresh { Lacks entry.origin (entries self.old) }
         requires fits { length (entries self.old) < 2 ^ 32 }
+        requires edits { has_edits self.old 1 }
         requires room { has_room self.old 1 }
         ensures entries { entries self.new ≡ entries self.old ++ entry ∷ [] }
+        ensures edits { (n : ℕ) → has_edits self.old (n + 1) → has_edits self.new n }
         ensures room { (n : ℕ) → has_room self.old (n + 1) → has_room self.new n };
 }

@@ -68,11 +68,13 @@ impl<'a> EntryOverlay<'a> {
 }
 
 impl<'a> EntryList for EntryOverlay<'a> {
-    ghost use Rattle.entry_table.specs.Tables.{HasEdits};
+    ghost use Rattle.std.specs.Prelude.{◌*◌, ◌≤◌};
 
     ghost entries = { λ o. o.entries };
 
-    ghost has_room = { HasEdits };
+    ghost has_edits = { λ o n. 2 * n ≤ o.places };
+
+    ghost has_room = { λ o n. n ≤ o.ids };
 
     fn len(&self) -> usize {
         self.list.len()

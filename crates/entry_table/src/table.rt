@@ -66,6 +66,8 @@ impl EntryList for EntryTable {
 
     ghost entries = { λ t. t.entries };
 
+    ghost has_edits = { λ t n. Unit {0} };
+
     ghost has_room = { λ t n. n ≤ t.room };
 
     fn len(&self) -> usize {

@@ -20,8 +20,12 @@ invariant_of-self c =
       subst (AreIndexed h) (sym c.push.ensures.items) (indexed_put h es x beside own),
     )
 
+pub returns-clause-edits : goal.returns-clause-edits
+returns-clause-edits c = λ n h.
+    let p = ap (λ o. o.places) c.self.view_is in
+    c.push.ensures.room n (subst (λ m. 2 * (n + 1) ≤ m) (sym p) h)
+
 pub returns-clause-room : goal.returns-clause-room
 returns-clause-room c = λ n h.
-    let p = ap (λ o. o.places) c.self.view_is in
     let q = ap (λ o. o.ids) c.self.view_is in
-    record { places = c.push.ensures.room n (subst (λ m. 2 * (n + 1) ≤ m) (sym p) h.places); ids = omega (arith, h.ids, q, c.note.ensures.room) }
+    omega (arith, h, q, c.note.ensures.room)

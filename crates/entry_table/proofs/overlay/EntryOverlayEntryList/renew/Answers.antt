@@ -36,8 +36,12 @@ returns-clause-entries c = λ e.
     let make : Entry → Entry = λ x. record { origin = x.origin; uid = x.uid; modseq = c.args.modseq } in
     c.replace.ensures.items ∙ ap (λ (x : Entry). set es k (make x)) (sym here) ∙ ap (λ es. set es k (make (get_or es k e))) same
 
+pub returns-clause-edits : goal.returns-clause-edits
+returns-clause-edits c = λ n h.
+    let p = ap (λ o. o.places) c.self.view_is in
+    c.replace.ensures.room n (subst (λ m. 2 * (n + 1) ≤ m) (sym p) h)
+
 pub returns-clause-room : goal.returns-clause-room
 returns-clause-room c = λ n h.
-    let p = ap (λ o. o.places) c.self.view_is in
     let q = ap (λ o. o.ids) c.self.view_is in
-    record { places = c.replace.ensures.room n (subst (λ m. 2 * (n + 1) ≤ m) (sym p) h.places); ids = omega (arith, h.ids) }
+    omega (arith, h, q)

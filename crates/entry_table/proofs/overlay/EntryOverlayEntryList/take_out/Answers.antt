@@ -11,8 +11,12 @@ invariant_of-self c =
       subst (AreIndexed f) (sym c.remove.ensures.items) (indexed_without f o.list.items c.args.place c.self.invariant.1),
     )
 
+pub returns-clause-edits : goal.returns-clause-edits
+returns-clause-edits c = λ n h.
+    let p = ap (λ o. o.places) c.self.view_is in
+    c.remove.ensures.room n (subst (λ m. 2 * (n + 1) ≤ m) (sym p) h)
+
 pub returns-clause-room : goal.returns-clause-room
 returns-clause-room c = λ n h.
-    let p = ap (λ o. o.places) c.self.view_is in
     let q = ap (λ o. o.ids) c.self.view_is in
-    record { places = c.remove.ensures.room n (subst (λ m. 2 * (n + 1) ≤ m) (sym p) h.places); ids = omega (arith, h.ids, q) }
+    omega (arith, h, q)
