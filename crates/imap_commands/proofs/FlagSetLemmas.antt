@@ -14,8 +14,8 @@ use Rattle.imap_types.specs.Keywords.{AreKeywords, has_keyword, is_lowered, lowe
 use Rattle.imap_types.specs.declared.flags.Flags.{Flags}
 use Rattle.imap_types.proofs.KeywordLemmas.{keywords_from_test, keywords_with}
 use Rattle.merge_laws.specs.Orders.{IsIn}
-use Rattle.imap_commands.specs.Changing.{changed_flags, remaining, united}
-use Rattle.imap_commands.proofs.BorneLemmas.{text_has, text_keeps, text_new}
+use Rattle.imap_commands.specs.Changing.{changed_flags, remaining}
+use Rattle.imap_commands.proofs.BorneLemmas.{text_has, text_keeps, text_new, united}
 use Rattle.imap_commands.proofs.ChangingLemmas.{remaining_are_keywords}
 
 -- ---- system flags

@@ -24,7 +24,8 @@ use Rattle.merge_laws.specs.Orders.{IsIn}
 use Rattle.session_view.specs.Sets.{is_in_range, resolved}
 use Rattle.session_view.specs.Views.{same_flags}
 use Rattle.session_view.specs.declared.entry.Entry.{Entry}
-use Rattle.imap_commands.specs.Changing.{changed_flags, united}
+use Rattle.imap_commands.specs.Changing.{changed_flags}
+use Rattle.imap_commands.proofs.BorneLemmas.{united}
 use Rattle.imap_commands.specs.Copying.{append_of, appends_of, copy_wants, move_wants, removal_of, removals_of}
 use Rattle.imap_commands.specs.Expunging.{close_wants, expunge_at, expunge_of, expunge_wants, expunges_at, expunges_of, uid_expunge_wants}
 use Rattle.imap_commands.specs.Fetching.{fetch_wants, mode_of, seen_flags, seen_store, seen_stores}

@@ -23,7 +23,7 @@ ghost use Rattle.imap_syntax.specs.declared.command.Tagged.{Tagged as Asked};
 ghost use Rattle.imap_syntax.specs.declared.fetch.FetchItem.{FetchItem};
 ghost use Rattle.imap_types.specs.declared.sequence_set.SequenceRange.{SequenceRange};
 ghost use Rattle.imap_commands.specs.Printing.{AreAsMany, AreNonzeroMarks, AreShowable, AreTellable, IsNumbered, IsAnswerable, IsPrintableTelling};
-ghost use Rattle.imap_commands.specs.Selecting.{select_tells};
+ghost use Rattle.imap_commands.specs.Selecting.{SelectTells};
 ghost use Rattle.imap_query.specs.declared.mailbox_status.Marks.{Marks};
 ghost use Rattle.mail_listing.specs.Listed.{Listed};
 ghost use Rattle.session_view.specs.Replay.{replayed};
@@ -35,8 +35,8 @@ ghost use Rattle.imap_answers.specs.declared.answer.Answer.{Answer};
 
 /// What SELECT and EXAMINE tell.
 pub fn select_is_printable()
-    ensures { (was_selected read_only : Bool) (name : List ℕ) (marks : Marks) (rows : List Listed) → IsFolded name → AreNonzeroMarks marks → AreShowable rows
-        → IsPrintableTelling (select_tells was_selected read_only name marks rows) }
+    ensures { (was_selected read_only : Bool) (name : List ℕ) (marks : Marks) (rows : List Listed) (told : Telling) → IsFolded name → AreNonzeroMarks marks → AreShowable rows
+        → SelectTells was_selected read_only name marks rows told → IsPrintableTelling told }
 {}
 
 /// Whatever is replayed, and synced, a view keeps ascending UIDs in 32 bits.

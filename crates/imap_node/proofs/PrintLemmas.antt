@@ -75,11 +75,9 @@ module _ (start : Start) (before issued : List Op) (p : IsPresentable start (bef
   tells_printable commands.Idle state modseq tag told t a v n l h = subst IsPrintableTelling (sym h) idle_printable
   tells_printable (commands.Enable names) state modseq tag told t a v n l h = subst IsPrintableTelling (sym h) (enable_printable names)
   tells_printable (commands.Select name condstore) state modseq tag told t a v n l h =
-      subst IsPrintableTelling (sym h)
-      (select_printable (is_selected state) false name (marks_of start name (before ++ issued)) (listing start name (before ++ issued)) a (marks_nonzero start name (before ++ issued) p n) (listing_showable start name (before ++ issued) p))
+      select_printable (is_selected state) false name (marks_of start name (before ++ issued)) (listing start name (before ++ issued)) told a (marks_nonzero start name (before ++ issued) p n) (listing_showable start name (before ++ issued) p) h
   tells_printable (commands.Examine name condstore) state modseq tag told t a v n l h =
-      subst IsPrintableTelling (sym h)
-      (select_printable (is_selected state) true name (marks_of start name (before ++ issued)) (listing start name (before ++ issued)) a (marks_nonzero start name (before ++ issued) p n) (listing_showable start name (before ++ issued) p))
+      select_printable (is_selected state) true name (marks_of start name (before ++ issued)) (listing start name (before ++ issued)) told a (marks_nonzero start name (before ++ issued) p n) (listing_showable start name (before ++ issued) p) h
   tells_printable (commands.Status name items) state modseq tag told t a v n l h =
       subst IsPrintableTelling (sym h)
       (status_printable name items (marks_of start name (before ++ issued)) (listing start name (before ++ issued)) a.0 a.1 (marks_nonzero start name (before ++ issued) p n) (listing_showable start name (before ++ issued) p))

@@ -18,7 +18,7 @@ use Rattle.imap_commands.specs.Expunging.{close_wants, expunge_wants, uid_expung
 use Rattle.imap_commands.specs.Fetching.{fetch_tells, fetch_wants}
 use Rattle.imap_commands.specs.Mailboxes.{create_wants, created_name, delete_wants, subscribe_wants, unsubscribe_wants}
 use Rattle.imap_commands.specs.Searching.{SearchTells, search_wants}
-use Rattle.imap_commands.specs.Selecting.{select_tells, select_wants}
+use Rattle.imap_commands.specs.Selecting.{SelectTells, select_wants}
 use Rattle.imap_commands.specs.Storing.{store_tells, store_wants}
 use Rattle.imap_commands.specs.Told.{Telling, nothing_told}
 use Rattle.imap_commands.specs.declared.session.Credentials.{Credentials}
@@ -104,17 +104,13 @@ abbrev pub tells_selected : State → (Seen → Bool → Telling) → Telling
 tells_selected (Selected view read_only) tell = tell view read_only
 tells_selected _ tell = nothing_told
 
--- What a command itself tells, by the operations before it and those with its own; LIST and SEARCH aside.
+-- What a command itself tells, by the operations before it and those with its own; SELECT, EXAMINE, LIST and SEARCH aside.
 abbrev pub tells : Start → List Op → List Op → State → Bool → Command → Telling
 tells start before after state modseq commands.Capability = capability_tells
 tells start before after state modseq commands.Namespace = namespace_tells
 tells start before after state modseq commands.Logout = logout_tells
 tells start before after state modseq commands.Idle = idle_tells
 tells start before after state modseq (commands.Enable names) = enable_tells names
-tells start before after state modseq (commands.Select name condstore) =
-    select_tells (is_selected state) false name (marks_of start name after) (listing start name after)
-tells start before after state modseq (commands.Examine name condstore) =
-    select_tells (is_selected state) true name (marks_of start name after) (listing start name after)
 tells start before after state modseq (commands.Status name items) =
     status_tells name items (marks_of start name after) (listing start name after)
 tells start before after state modseq (commands.Append name flags date text) = append_tells (validity_of start name after) (uidnext_of start name before)
@@ -134,8 +130,12 @@ abbrev pub SearchTellsSelected : Start → List Op → State → (Seen → List 
 SearchTellsSelected start ops (Selected view read_only) tells_it told = tells_it view (rows_for start ops view) told
 SearchTellsSelected start ops _ tells_it told = told ≡ nothing_told
 
--- What a command itself tells: LIST and SEARCH what the rules for them allow, which is one telling each.
+-- What a command itself tells: SELECT, EXAMINE, LIST and SEARCH what the rules for them allow, which is one telling each.
 abbrev pub Tells : Start → List Op → List Op → State → Bool → List ℕ → Command → Telling → Type 0
+Tells start before after state modseq tag (commands.Select name condstore) told =
+    SelectTells (is_selected state) false name (marks_of start name after) (listing start name after) told
+Tells start before after state modseq tag (commands.Examine name condstore) told =
+    SelectTells (is_selected state) true name (marks_of start name after) (listing start name after) told
 Tells start before after state modseq tag (commands.ListNames subscribed_only reference pattern return_subscribed) told =
     ListTells (record { subscribed_only = subscribed_only; return_subscribed = return_subscribed }) reference pattern (folders_of before) (subscribed_of before) told
 Tells start before after state modseq tag (commands.Search by_uid options steps) told =

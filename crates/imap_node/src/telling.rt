@@ -9,7 +9,7 @@ ghost use Rattle.imap_commands.specs.Copying.{copy_tells, move_tells};
 ghost use Rattle.imap_commands.specs.Expunging.{uid_expunge_tells};
 ghost use Rattle.imap_commands.specs.Fetching.{fetch_tells};
 ghost use Rattle.imap_commands.specs.Searching.{SearchTells};
-ghost use Rattle.imap_commands.specs.Selecting.{select_tells};
+ghost use Rattle.imap_commands.specs.Selecting.{SelectTells};
 ghost use Rattle.imap_commands.specs.Storing.{store_tells};
 ghost use Rattle.imap_node.specs.Commands.{SearchTellsSelected, Tells, is_selected, tells_selected};
 ghost use Rattle.imap_node.specs.Mailboxes.{marks_of, rows_for, validity_of};
@@ -198,7 +198,7 @@ fn tells_select(
     name: &Name,
 ) -> Result<Telling, AllocError>
     requires { IsReady replica.now ops.now }
-    ensures { IfOk result (λ told. told ≡ select_tells (is_selected state.now) read_only name.now (marks_of replica.now.start name.now (replica.now.applied ++ ops.now)) (listing replica.now.start name.now (replica.now.applied ++ ops.now))) }
+    ensures { IfOk result (λ told. SelectTells (is_selected state.now) read_only name.now (marks_of replica.now.start name.now (replica.now.applied ++ ops.now)) (listing replica.now.start name.now (replica.now.applied ++ ops.now)) told) }
 {
     let rows = replica.rows_after(alloc, name, ops)?;
     let marks = marks_after(replica, ops, name);
