@@ -1,11 +1,11 @@
-use Rattle.std.proofs.Common.{◌≡◌, ◌∙◌, ap, sym, subst, refl, arith, ℕ, ◌+◌, ◌≤◌, ◌<◌, ◌⊎◌, inl, inr, Bool, true, false, not, ◌&&◌, List, [], ◌∷◌, ◌++◌, ◌==◌, ◌||◌, length, length-append, Option, Some, None, codes}
+use Rattle.std.proofs.Common.{◌≡◌, ap, sym, subst, refl, arith, ℕ, ◌≤◌, ◌<◌, inl, inr, Bool, true, not, ◌&&◌, List, [], ◌∷◌, ◌++◌, ◌==◌, ◌||◌, length, length-append, Option, Some, None, codes}
 use Rattle.std.specs.List.{list_all}
 use Rattle.std.proofs.Math.Dec.{eqb-suc-zero}
 use Rattle.std.proofs.lemmas.Bool.{cases_Bool}
 use Rattle.imap_answers.specs.Printable.{AreFieldNames, Each, IsFolded, IsSection, IsSmall, IsTag, IsWide, Where}
 use Rattle.imap_syntax.specs.Commands.{IsSpelled, arguments, status_item}
-use Rattle.imap_syntax.specs.Items.{body_word, fast_items, fetch_item, fetched, field_names, partial, section}
-use Rattle.imap_syntax.specs.Languages.{each_behind, exactly, in_parens, listed, sp, word, ◌⌢◌}
+use Rattle.imap_syntax.specs.Items.{fast_items, fetch_item, fetched, field_names, partial, section}
+use Rattle.imap_syntax.specs.Languages.{each_behind, in_parens, listed, sp}
 use Rattle.imap_syntax.specs.Strings.{astring, escaped, literal, mailbox, run, text_of}
 use Rattle.imap_syntax.specs.declared.class.Class.{Class}
 use Rattle.imap_syntax.specs.declared.class.Class.TheVariants as classes

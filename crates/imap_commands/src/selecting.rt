@@ -65,7 +65,15 @@ fn told_of(
             notice: Notice::Closed,
         })?;
     }
-    push_mailbox(alloc, read_only, name, marks, rows.count(), keywords, &mut own)?;
+    push_mailbox(
+        alloc,
+        read_only,
+        name,
+        marks,
+        rows.count(),
+        keywords,
+        &mut own,
+    )?;
     Ok(Telling::new(own, Vec::new(alloc), Some(access_code(read_only))))
 }
 
