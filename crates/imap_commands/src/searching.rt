@@ -6,13 +6,13 @@ ghost use Rattle.session_view.specs.Views.{AreRising};
 ghost use Rattle.imap_commands.specs.Gives.{Gives};
 ghost use Rattle.imap_commands.specs.Searching.{SearchTells, search_wants, shown_from, step_is_in_range, test_is_in_range};
 
+use crate::asked::{OpenMailbox, SearchAsked};
 use crate::telling::Telling;
 use crdt_ops::Kind;
 use imap_answers::{Answer, Refusal};
 use imap_query::{Shown, search};
-use imap_syntax::{SearchOption, SearchStep, SearchTest};
+use imap_syntax::{SearchStep, SearchTest};
 use imap_types::Octets;
-use mail_listing::Rows;
 use session_view::{Entry, View, count_of};
 use std::alloc::{AllocError, Global};
 
@@ -59,17 +59,22 @@ fn test_is_in_range(view: &View, test: &SearchTest) -> bool
 /// `Err` where there is no memory.
 pub fn search_tells(
     alloc: Global,
-    rows: &Rows<'_>,
-    view: &View,
+    mailbox: &OpenMailbox<'_>,
     tag: &Octets,
-    by_uid: bool,
-    options: &[SearchOption],
-    steps: &[SearchStep],
+    asked: &SearchAsked<'_>,
 ) -> Result<Telling, AllocError>
-    ensures { IfOk result (λ told. SearchTells rows.now view.now.entries tag.now by_uid options.now steps.now told) }
+    ensures { IfOk result (λ told. SearchTells mailbox.now tag.now asked.now told) }
 {
-    let shown = all_shown(alloc, view.entries())?;
-    let results = search(alloc, &shown, rows, by_uid, steps, options)?;
+    let by_uid = asked.by_uid;
+    let shown = all_shown(alloc, mailbox.view.entries())?;
+    let results = search(
+        alloc,
+        &shown,
+        &mailbox.rows,
+        by_uid,
+        asked.steps,
+        asked.options,
+    )?;
     let tag = tag.copy(alloc)?;
     let mut own = Vec::new(alloc);
     own.push(Answer::Search {

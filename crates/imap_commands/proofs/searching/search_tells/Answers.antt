@@ -8,5 +8,5 @@ use Rattle.imap_commands.proofs.searching.search_tells.Goals as goal
 
 pub search-requires : goal.search-requires
 search-requires c =
-    subst (λ (shown : List Shown). AreRisingFrom 1 (map (name_of c.args.by_uid) shown)) (sym (c.deref.ensures.value ∙ c.in_ok-shown.ensures {u = tt} ∙ ap (shown_from 1) c.entries.ensures.entries))
-    (all_shown_rising c.args.by_uid c.args.view.now.entries c.entries.ensures.rising)
+    subst (λ (shown : List Shown). AreRisingFrom 1 (map (name_of c.asked.inside.by_uid) shown)) (sym (c.deref.ensures.value ∙ c.in_ok-shown.ensures {u = tt} ∙ ap (shown_from 1) c.entries.ensures.entries))
+    (all_shown_rising c.asked.inside.by_uid c.mailbox.inside.view.now.entries c.entries.ensures.rising)
