@@ -9,7 +9,8 @@ use Rattle.crdt_ops.specs.Sets.{Body, Letter}
 use Rattle.mail_listing.specs.Telling.{told_at}
 use Rattle.mail_listing.specs.declared.mailbox.HeldMessage.{HeldMessage}
 use Rattle.folder_state.specs.Contents.{Contents}
-use Rattle.folder_state.specs.Tables.{body_in_folder, contents_of, has_tag_in}
+use Rattle.folder_state.specs.Kept.{body_in_folder, has_tag_in}
+use Rattle.folder_state.specs.Tables.{contents_of}
 use Rattle.folder_state.specs.Telling.{message_told}
 use Rattle.folder_ahead.specs.declared.folder.FolderAhead.{FolderAhead}
 use Rattle.folder_ahead.specs.declared.folder.MailboxAhead.{MailboxAhead}

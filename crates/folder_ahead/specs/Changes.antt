@@ -1,20 +1,16 @@
 -- What operations change of one folder's tags, laid over what is kept.
-use Rattle.std.specs.Prelude.{◌≡◌, ◌⊎◌, ℕ, ◌||◌, Bool, true, false, Option, None, Some, IsSome, List, []}
+use Rattle.std.specs.Prelude.{◌≡◌, ◌⊎◌, ◌||◌, Bool, true, false, Option, None, Some, IsSome, List, []}
 use Rattle.std.specs.Global.{Vec}
-use Rattle.std.specs.List.{slice_get}
 use Rattle.std.specs.Map.{lookup}
 use Rattle.std.specs.Option.{option_map}
 use Rattle.std.specs.declared.cmp.Ordering.{Ordering}
-use Rattle.imap_types.specs.declared.flags.Flags.{Flags}
 use Rattle.tags_clocks.specs.declared.id.OpId.{OpId}
 use Rattle.merge_laws.specs.Orders.{IsIn}
 use Rattle.crdt_ops.specs.Order.{IsAscending, id_order, is_some_id, same_id}
 use Rattle.crdt_ops.specs.Sets.{Body, Letter}
 use Rattle.message_versions.specs.declared.version.Version.{Version}
 use Rattle.message_versions.specs.Unions.{version_ids}
-use Rattle.folder_state.specs.declared.folder.Folder.{Folder}
-use Rattle.folder_state.specs.Contents.{Contents}
-use Rattle.folder_state.specs.Tables.{body_in_folder, has_tag_in}
+use Rattle.folder_state.specs.Kept.{Kept as Folder, body_in_folder, has_tag_in}
 use Rattle.folder_ahead.specs.declared.changes.Change.{Change}
 use Rattle.folder_ahead.specs.declared.changes.LentLetter.{LentLetter}
 use Rattle.folder_ahead.specs.declared.messages.MessagesAhead.{MessagesAhead}

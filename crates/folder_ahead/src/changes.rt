@@ -30,11 +30,7 @@ pub struct LentLetter<'a> {
 }
 
 /// Notes whether the folder tag with this id is present. An error leaves all as it was.
-pub fn note_tag(
-    tags: &mut IndexMap<OpId, bool>,
-    id: &OpId,
-    present: bool,
-) -> Result<(), AllocError>
+pub fn note_tag(tags: &mut IndexMap<OpId, bool>, id: &OpId, present: bool) -> Result<(), AllocError>
     ensures { OnOk result ((i : Id) → lookup (same_id i) tags.new.entries ≡ (if same_id id.now i then Some present else lookup (same_id i) tags.old.entries)) }
 {
     if tags.insert(*id, present).is_err() {
@@ -80,7 +76,7 @@ pub fn note_letter<'a>(
     date: &'a DateTime,
     text: &'a Text,
 ) -> Result<(), AllocError>
-    ensures ok { OnOk result ((i : Id) → lookup (same_id i) letters.new.entries ≡ (if same_id id.now i then Some (record { date = date; text = text }) else lookup (same_id i) letters.old.entries)) }
+    ensures ok { OnOk result ((i : Id) → lookup (same_id i) letters.new.entries ≡ (if same_id id.now i then Some (record { date = date.entry; text = text.entry }) else lookup (same_id i) letters.old.entries)) }
     ensures err { OnErr result ((i : Id) → lookup (same_id i) letters.new.entries ≡ lookup (same_id i) letters.old.entries) }
 {
     if letters.insert(*id, LentLetter { date, text }).is_err() {

@@ -6,12 +6,12 @@ ghost use Rattle.std.specs.Map.{lookup};
 ghost use Rattle.std.specs.Option.{option_map};
 ghost use Rattle.tags_clocks.specs.declared.id.OpId.{OpId as Id};
 ghost use Rattle.crdt_ops.specs.Order.{same_id};
-ghost use Rattle.folder_state.specs.Tables.{body_in_folder};
+ghost use Rattle.folder_state.specs.Kept.{body_in_folder};
 ghost use Rattle.folder_ahead.specs.Changes.{AreAll, Grows, HasOrigin, IsWhole, bodies_of, kept_of, origin_of};
 
 use crate::changes::{Change, note_change};
-use crate::presence::has_change_put;
 use crate::over::{has_kept, has_listed, kept_origin, origin_of, place_kept, place_listed};
+use crate::presence::has_change_put;
 use crate::touched::{list, touch};
 use folder_state::Folder;
 use imap_types::Flags;
@@ -56,7 +56,7 @@ impl<'a> MessagesAhead<'a> {
     /// Takes the message tags with these ids out.
     pub fn take(&mut self, alloc: Global, ids: &[OpId]) -> Result<(), AllocError>
         ensures kept { self.new.kept ≡ self.old.kept }
-        ensures grows { Grows self.old.versions.entries self.new.versions.entries }
+        ensures grows { OnOk result (Grows self.old.versions.entries self.new.versions.entries) }
         ensures whole { OnOk result (IsWhole self.old → IsWhole self.new) }
         ensures bodies { OnOk result ((i : Id) → bodies_of self.new i ≡ (if list_any (same_id i) ids.now then None else bodies_of self.old i)) }
     {
@@ -69,7 +69,7 @@ impl<'a> MessagesAhead<'a> {
     /// Takes the message tag with this id out.
     fn take_one(&mut self, alloc: Global, id: &OpId) -> Result<(), AllocError>
         ensures kept { self.new.kept ≡ self.old.kept }
-        ensures grows { Grows self.old.versions.entries self.new.versions.entries }
+        ensures grows { OnOk result (Grows self.old.versions.entries self.new.versions.entries) }
         ensures whole { OnOk result (IsWhole self.old → IsWhole self.new) }
         ensures bodies { OnOk result ((i : Id) → bodies_of self.new i ≡ (if same_id id.now i then None else bodies_of self.old i)) }
     {
@@ -86,7 +86,7 @@ impl<'a> MessagesAhead<'a> {
         origin: &OpId,
     ) -> Result<(), AllocError>
         ensures kept { self.new.kept ≡ self.old.kept }
-        ensures grows { Grows self.old.versions.entries self.new.versions.entries }
+        ensures grows { OnOk result (Grows self.old.versions.entries self.new.versions.entries) }
         ensures whole { OnOk result (IsWhole self.old → IsWhole self.new) }
         ensures bodies { OnOk result ((i : Id) → bodies_of self.new i ≡ (if same_id id.now i then Some (record { flags = flags.now; origin = origin.now }) else bodies_of self.old i)) }
     {

@@ -5,7 +5,7 @@ ghost use Rattle.std.specs.List.{list_any};
 ghost use Rattle.std.specs.Option.{option_map};
 ghost use Rattle.tags_clocks.specs.declared.id.OpId.{OpId as Id};
 ghost use Rattle.merge_laws.specs.Orders.{IsIn};
-ghost use Rattle.folder_state.specs.Tables.{body_in_folder};
+ghost use Rattle.folder_state.specs.Kept.{body_in_folder};
 ghost use Rattle.message_versions.specs.declared.version.Version.{Version as Kept};
 ghost use Rattle.message_versions.specs.Unions.{version_ids};
 ghost use Rattle.folder_ahead.specs.Changes.{HasOrigin, IsLeft, IsPlaced, IsPut, bodies_of, ids_listed, is_version, kept_of, origin_of};

@@ -5,7 +5,7 @@ ghost use Rattle.std.specs.List.{slice_get};
 ghost use Rattle.std.specs.Map.{lookup};
 ghost use Rattle.tags_clocks.specs.declared.id.OpId.{OpId as Id};
 ghost use Rattle.crdt_ops.specs.Order.{same_id};
-ghost use Rattle.folder_state.specs.Tables.{id_at};
+ghost use Rattle.folder_state.specs.Kept.{folder_ids};
 ghost use Rattle.folder_ahead.specs.Changes.{IsKeptTag, at_key, is_put, is_tag, is_there, is_there_at, kept_of, tag_over};
 
 use crate::changes::Change;
@@ -121,7 +121,7 @@ fn is_there_at(
     place: usize,
 ) -> bool
     requires { kept_of messages.now ≡ Some folder.now }
-    ensures { result ≡ is_there_at tags.now.entries messages.now (id_at folder.now place) }
+    ensures { result ≡ is_there_at tags.now.entries messages.now (slice_get (folder_ids folder.now) place) }
 {
     match folder.id_at(place) {
         Some(id) => is_there(tags, messages, folder, &id),
