@@ -48,9 +48,9 @@ text_of : (x : Option Letter) → unwrap_or (option_map (λ (l : Letter). l.text
 text_of None = refl
 text_of (Some l) = refl
 
-pub held_told : (a : FolderAhead) (c : Contents) (o : OpId) (m : HeldMessage) → IsAhead c a → IsHeld a o m → HasVersion c a.name.now o → IsMessageOf c a.name.now o (Some (message_told o (told_by m)))
+pub held_told : (a : FolderAhead) (c : Contents) (o : OpId) (m : HeldMessage) → IsAhead c a → IsHeld a o m → HasVersion c a.name o → IsMessageOf c a.name o (Some (message_told o (told_by m)))
 held_told a c o m h held has =
-    let n = a.name.now in
+    let n = a.name in
     let vs = m.versions.items in
     let all = held.versions in
     let carried = λ (v : Version) (t : IsIn v vs). sym (h.bodies v.id) ∙ all.some.carried v t in
@@ -117,10 +117,10 @@ untouched_letter a o orderly none None x = ap (λ (y : Option LentLetter). chang
 untouched_letter a o orderly none (Some letter) x =
     absurd (let t = orderly.letters o (subst IsSome (sym x) cc) in let n = subst IsSome none t in cc)
 
-pub kept_told : (a : FolderAhead) (c : Contents) (o : OpId) (x : Option Message) → IsAhead c a → list_of a.messages o ≡ None → HasVersion c a.name.now o → IsMessageOf (contents_of a.value.now) a.name.now o x → IsMessageOf c a.name.now o x
+pub kept_told : (a : FolderAhead) (c : Contents) (o : OpId) (x : Option Message) → IsAhead c a → list_of a.messages o ≡ None → HasVersion c a.name o → IsMessageOf (contents_of a.value.now) a.name o x → IsMessageOf c a.name o x
 kept_told a c o x h none has told =
     let m = a.messages in
-    let n = a.name.now in
+    let n = a.name in
     let v = contents_of a.value.now in
     same_message c v n o
     (λ i e. sym (h.bodies i) ∙ untouched_ahead m o i h.orderly.whole none (ap origin_of (h.bodies i) ∙ e) ∙ sym (h.orderly.bodies i))
@@ -177,8 +177,8 @@ there_more a at old new w h = λ place o l e.
         ]
 
 pub all_told : (a : FolderAhead) (at : ℕ) (m : MailboxAhead) → length a.messages.versions.entries ≤ at → (IsOrderly a → AreHeld a m.fresh.entries) → AreThere a at m.fresh.entries
-    → ((o : OpId) → IsMessageOf (contents_of a.value.now) a.name.now o (option_map (message_told o) (told_in m.mailbox o)))
-    → (c : Contents) → IsAhead c a → (o : OpId) → HasVersion c a.name.now o → IsMessageOf c a.name.now o (message_ahead m o)
+    → ((o : OpId) → IsMessageOf (contents_of a.value.now) a.name o (option_map (message_told o) (told_in m.mailbox o)))
+    → (c : Contents) → IsAhead c a → (o : OpId) → HasVersion c a.name o → IsMessageOf c a.name o (message_ahead m o)
 all_told a at m long held there kept c h o has = from (lookup (same_id o) m.fresh.entries) refl
   where
     no_list : (x : Option (Vec OpId)) → list_of a.messages o ≡ x → lookup (same_id o) m.fresh.entries ≡ None → list_of a.messages o ≡ None
@@ -194,6 +194,6 @@ all_told a at m long held there kept c h o has = from (lookup (same_id o) m.fres
           | inr (inr b) ↦ absurd (let n = behind_all a.messages.versions.entries place (omega (arith, long, b)) in let q = sym n ∙ s in cc)
         ]
 
-    from : (x : Option HeldMessage) → lookup (same_id o) m.fresh.entries ≡ x → IsMessageOf c a.name.now o (message_ahead m o)
-    from None e = subst (λ (x : Option HeldMessage). IsMessageOf c a.name.now o (option_map (message_told o) (first_of (option_map told_by x) (told_in m.mailbox o)))) (sym e) (kept_told a c o _ h (no_list (list_of a.messages o) refl e) has (kept o))
-    from (Some message) e = subst (λ (x : Option HeldMessage). IsMessageOf c a.name.now o (option_map (message_told o) (first_of (option_map told_by x) (told_in m.mailbox o)))) (sym e) (held_told a c o message h (held h.orderly o message e) has)
+    from : (x : Option HeldMessage) → lookup (same_id o) m.fresh.entries ≡ x → IsMessageOf c a.name o (message_ahead m o)
+    from None e = subst (λ (x : Option HeldMessage). IsMessageOf c a.name o (option_map (message_told o) (first_of (option_map told_by x) (told_in m.mailbox o)))) (sym e) (kept_told a c o _ h (no_list (list_of a.messages o) refl e) has (kept o))
+    from (Some message) e = subst (λ (x : Option HeldMessage). IsMessageOf c a.name o (option_map (message_told o) (first_of (option_map told_by x) (told_in m.mailbox o)))) (sym e) (held_told a c o message h (held h.orderly o message e) has)

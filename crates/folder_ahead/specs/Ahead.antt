@@ -18,7 +18,7 @@ use Rattle.folder_ahead.specs.Changes.{AreAll, IsWhole, bodies_of, kept_of, lett
 
 -- The folder's name.
 abbrev pub folder_of : FolderAhead → List ℕ
-folder_of ahead = ahead.name.now
+folder_of ahead = ahead.name
 
 -- Whether its folder tag with this id is present.
 abbrev pub tags_ahead : FolderAhead → OpId → Bool
@@ -34,16 +34,16 @@ letters_ahead ahead = letter_over ahead.letters.entries (contents_of ahead.value
 
 -- What is kept is that of the folder; the message of each tag and of each date and text that changed is one of those that may have.
 pub record IsOrderly (ahead : FolderAhead) : Type 0 where
-  pub tags : (id : OpId) → (contents_of ahead.value.now).tags ahead.name.now id ≡ has_tag_in (kept_of ahead.messages) id
-  pub bodies : (id : OpId) → (contents_of ahead.value.now).bodies ahead.name.now id ≡ body_in_folder (kept_of ahead.messages) id
+  pub tags : (id : OpId) → (contents_of ahead.value.now).tags ahead.name id ≡ has_tag_in (kept_of ahead.messages) id
+  pub bodies : (id : OpId) → (contents_of ahead.value.now).bodies ahead.name id ≡ body_in_folder (kept_of ahead.messages) id
   pub whole : IsWhole ahead.messages
   pub letters : (id : OpId) → IsSome (lookup (same_id id) ahead.letters.entries) → IsSome (list_of ahead.messages id)
 
 -- The folder is as these contents have it.
 pub record IsAhead (contents : Contents) (ahead : FolderAhead) : Type 0 where
   pub orderly : IsOrderly ahead
-  pub tags : (id : OpId) → tags_ahead ahead id ≡ contents.tags ahead.name.now id
-  pub bodies : (id : OpId) → bodies_ahead ahead id ≡ contents.bodies ahead.name.now id
+  pub tags : (id : OpId) → tags_ahead ahead id ≡ contents.tags ahead.name id
+  pub bodies : (id : OpId) → bodies_ahead ahead id ≡ contents.bodies ahead.name id
   pub letters : (id : OpId) → letters_ahead ahead id ≡ contents.letters id
 
 -- The message has the versions of the origin, and the date and text of its Append.

@@ -31,7 +31,7 @@ use tags_clocks::OpId;
 /// One folder as operations to come leave it, applied one by one in order; what is kept stays as it is.
 #[derive(Drop)]
 pub struct FolderAhead<'a> {
-    name: &'a Name,
+    name: Name,
     value: &'a Folders,
     tags: IndexMap<OpId, bool>,
     messages: MessagesAhead<'a>,
@@ -49,18 +49,23 @@ pub struct MailboxAhead<'a> {
 }
 
 impl<'a> FolderAhead<'a> {
-    /// The folder as it is kept. Cost: one look-up.
-    pub fn new(alloc: Global, value: &'a Folders, name: &'a Name) -> FolderAhead<'a>
-        ensures folder { folder_of result ≡ name.now }
-        ensures ahead { IsAhead (contents_of value.now) result }
+    /// The folder as it is kept; `Err` where there is no memory for its name. Cost: one look-up.
+    pub fn new(
+        alloc: Global,
+        value: &'a Folders,
+        name: &Name,
+    ) -> Result<FolderAhead<'a>, AllocError>
+        ensures folder { IfOk result (λ ahead. folder_of ahead ≡ name.now) }
+        ensures ahead { IfOk result (λ ahead. IsAhead (contents_of value.now) ahead) }
     {
-        FolderAhead {
-            name,
+        let copied = name.copy(alloc)?;
+        Ok(FolderAhead {
+            name: copied,
             value,
             tags: IndexMap::new(alloc),
             messages: MessagesAhead::new(alloc, value.folder(name)),
             letters: IndexMap::new(alloc),
-        }
+        })
     }
 
     /// Applies an operation. An error, for want of memory, leaves the folder of no use but to be let go. Cost: what the
@@ -297,7 +302,7 @@ impl<'a> FolderAhead<'a> {
             self.hold_at(alloc, at, &mut fresh)?;
         }
         Ok(MailboxAhead {
-            mailbox: self.value.mailbox(self.name),
+            mailbox: self.value.mailbox(&self.name),
             fresh,
         })
     }
