@@ -18,7 +18,7 @@ use Rattle.crdt_ops.specs.Tags.{MessageTag, added_by, is_some_tag}
 use Rattle.uid_projection.specs.declared.start.Start.{Start}
 use Rattle.uid_projection.specs.Applied.{IsApplied}
 use Rattle.uid_projection.specs.Incarnations.{is_there}
-use Rattle.uid_projection.specs.Lines.{has_version, origin_added, uid_of, uidnext_of}
+use Rattle.uid_projection.specs.Lines.{has_version, origin_added, uidnext_of}
 use Rattle.uid_projection.specs.Listing.{listed_of, listing}
 use Rattle.uid_projection.proofs.ChartOf.{charted}
 use Rattle.uid_projection.proofs.Listed.{row_from}
