@@ -7,13 +7,9 @@ mod calls;
 #[cfg(test)]
 mod fixtures;
 #[cfg(test)]
-mod generated;
-#[cfg(test)]
 mod holding;
 #[cfg(test)]
 mod laws;
-#[cfg(test)]
-mod plain_inbox;
 #[cfg(test)]
 mod refusals;
 #[cfg(test)]
