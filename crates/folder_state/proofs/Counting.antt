@@ -2,15 +2,13 @@
 use Rattle.std.proofs.Common.{Result, Ok, Err, OnOk, ◌≡◌, ℕ, zero, suc, ◌+◌, ◌≤◌, ◌<◌, arith, Bool, true, false, cond, Option, None, Some, List, [], ◌∷◌, ◌++◌, drop, get_or, length, refl, sym, ap, subst, ◌∙◌}
 use Rattle.std.specs.Global.{Vec}
 use Rattle.std.specs.Option.{unwrap_or}
-use Rattle.std.specs.Str.{bytes_eq}
 use Rattle.std.specs.Vec.{vec_capacity}
-use Rattle.std.proofs.lemmas.Bool.{cases_Bool}
 use Rattle.std.proofs.lemmas.List.{append-nil, append_assoc, drop_all, drop_more}
 use Rattle.tags_clocks.specs.declared.id.OpId.{OpId}
 use Rattle.crdt_ops.specs.declared.op.Op.{Op}
-use Rattle.crdt_ops.specs.Order.{is_some_id, same_id}
+use Rattle.crdt_ops.specs.Order.{is_some_id}
 use Rattle.message_versions.specs.declared.version.Version.{Version}
-use Rattle.folder_state.specs.Rooms.{HaveLists, counted_at, counted_under, is_named, origin_by, tags_wanted, target, versions_wanted, wanted_by}
+use Rattle.folder_state.specs.Rooms.{HaveLists, is_named, origin_by, tags_wanted, target, versions_wanted, wanted_by}
 
 pub on_ok_by : {A E : Type 0} {P Q : Type 0} (r : Result A E) → (P → Q) → OnOk r P → OnOk r Q
 on_ok_by (Ok v) f h = f h

@@ -4,11 +4,10 @@ use Rattle.std.specs.Option.{option_map}
 use Rattle.std.proofs.Math.Seq.{take-suc}
 use Rattle.std.proofs.lemmas.Bool.{and_from, and_parts, cases_Bool, false≢true, or_cases, or_left, or_right}
 use Rattle.tags_clocks.specs.declared.id.OpId.{OpId}
-use Rattle.tags_clocks.proofs.Decide.{ids_decide}
 use Rattle.merge_laws.specs.Orders.{AreSound, IsCausal, IsIn}
 use Rattle.crdt_ops.specs.declared.op.Op.{Op}
 use Rattle.crdt_ops.specs.Order.{is_some_id}
-use Rattle.crdt_ops.specs.Sets.{Body, body_by, body_from}
+use Rattle.crdt_ops.specs.Sets.{Body, body_by}
 use Rattle.crdt_ops.specs.Sound.{IsSound}
 use Rattle.crdt_ops.specs.Tags.{FolderTag, MessageTag, adds, removes}
 use Rattle.crdt_ops.specs.TagLaws.{adds_own}
@@ -16,7 +15,7 @@ use Rattle.crdt_ops.proofs.Members.{any_in, in_map}
 use Rattle.crdt_ops.proofs.VersionLemmas.{some_id}
 use Rattle.message_versions.specs.declared.version.Version.{Version}
 use Rattle.message_versions.specs.Unions.{version_ids}
-use Rattle.folder_state.specs.Contents.{Contents, HasTag, HasVersion, IsMadeBy, IsVersion, effect_of, no_contents, origin_in}
+use Rattle.folder_state.specs.Contents.{Contents, HasTag, HasVersion, IsMadeBy, effect_of, no_contents, origin_in}
 use Rattle.folder_state.specs.Kept.{HasTagIn, Kept, body_in_folder, has_tag_in, held_in}
 use Rattle.folder_state.specs.Later.{after, alone, has_body, has_tag_after, is_brought, is_some, is_version}
 use Rattle.folder_state.specs.Rooms.{origin_by}
@@ -136,7 +135,7 @@ module _ (c : Contents) (n : List ℕ) (held : Option Kept) (tags : (i : OpId) �
                     k.0,
                     k.1,
                     and_from (is_some_id o (origin_by k.0.id k.0.kind)) (is_version (after (alone held) ops) n o k.0.id)
-                    ((some_id o (origin_by k.0.id k.0.kind)).1 origin) (subst (λ j. is_version (after (alone held) ops) n o j ≡ true) own here),
+                        ((some_id o (origin_by k.0.id k.0.kind)).1 origin) (subst (λ j. is_version (after (alone held) ops) n o j ≡ true) own here),
                   ))
             ],
       )

@@ -1,5 +1,5 @@
 -- Folders with more room, and the same tags.
-use Rattle.std.proofs.Common.{◌≡◌, ◌⊎◌, inl, inr, ℕ, ◌+◌, ◌≤◌, ◌<◌, arith, Bool, true, false, cond, Option, None, Some, List, [], ◌∷◌, ◌++◌, length, take, get_or, add-one, refl, sym, ap, subst, ◌∙◌}
+use Rattle.std.proofs.Common.{◌≡◌, ◌⊎◌, inl, inr, ℕ, ◌+◌, ◌≤◌, ◌<◌, arith, false, cond, Option, None, Some, List, [], ◌∷◌, ◌++◌, length, take, get_or, add-one, refl, sym, ap, subst, ◌∙◌}
 use Rattle.std.specs.Global.{Vec}
 use Rattle.std.specs.List.{list_any}
 use Rattle.std.specs.Map.{lookup}
@@ -12,12 +12,10 @@ use Rattle.tags_clocks.specs.declared.id.OpId.{OpId}
 use Rattle.merge_laws.specs.Orders.{IsIn}
 use Rattle.merge_laws.proofs.Lists.{in_parts}
 use Rattle.crdt_ops.specs.Order.{IsAscending, id_order, same_id}
-use Rattle.crdt_ops.specs.Sets.{Body}
-use Rattle.imap_types.specs.declared.flags.Flags.{Flags}
 use Rattle.message_versions.specs.declared.version.Version.{Version}
 use Rattle.message_versions.specs.Unions.{version_ids}
 use Rattle.folder_state.specs.Kept.{AreFiled, Kept, body_at, body_in_folder, flags_among, folder_at, has_tag_in, listed, versions_at}
-use Rattle.folder_state.specs.Rooms.{AreRoomier, AreRoomierLists, HasPlaces, HasRoomAt, HasVersionPlaces, HasVersionRoom, IsRoomier, IsRoomierIn, IsRoomierList, wanted_by}
+use Rattle.folder_state.specs.Rooms.{AreRoomier, AreRoomierLists, HasRoomAt, HasVersionPlaces, HasVersionRoom, IsRoomier, IsRoomierIn, IsRoomierList, wanted_by}
 use Rattle.folder_state.proofs.Filed.{carrying}
 use Rattle.folder_state.proofs.Lenses.{same_name, some_is}
 use Rattle.folder_state.proofs.Versions.{id_is, own_id}
@@ -144,8 +142,7 @@ room_kept old new roomier tags versions o None h = tt
 room_kept old new roomier tags versions o (Some n) h =
     let w = places_roomier (folder_at n old) (folder_at n new) (roomier n) h.0 h.1 in
     let p = h.2 in
-    let r = w.2 in
-    (
+    let r = w.2 in (
       w.0,
       w.1,
       record {

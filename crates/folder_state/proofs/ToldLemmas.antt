@@ -1,4 +1,4 @@
-use Rattle.std.proofs.Common.{◌≡◌, ◌↔◌, inl, inr, ℕ, ◌==◌, eqb-true, arith, length, Bool, true, false, cond, not, ◌&&◌, ◌||◌, Option, None, Some, IsSome, List, [], ◌∷◌, refl, sym, ap, ◌∙◌, subst}
+use Rattle.std.proofs.Common.{◌≡◌, ◌↔◌, inl, inr, ℕ, ◌==◌, eqb-true, arith, length, Bool, true, false, cond, not, Option, None, Some, IsSome, List, [], ◌∷◌, refl, sym, ap, ◌∙◌, subst}
 use Rattle.std.specs.Bool.{MatchBool}
 use Rattle.std.specs.Global.{Vec}
 use Rattle.std.specs.Map.{keys_of, lookup}

@@ -1,34 +1,31 @@
-use Rattle.std.proofs.Common.{◌≡◌, ◌↔◌, ◌⊎◌, inl, inr, ℕ, ◌<◌, Bool, true, false, cond, ◌&&◌, ◌||◌, Option, None, Some, IsSome, arith, length, List, [], ◌∷◌, map, refl, sym, ap, ◌∙◌, subst}
+use Rattle.std.proofs.Common.{◌≡◌, ◌↔◌, ◌⊎◌, inl, inr, ℕ, ◌<◌, Bool, true, false, cond, Option, None, Some, IsSome, arith, length, List, [], ◌∷◌, map, refl, sym, ap, ◌∙◌, subst}
 use Rattle.std.specs.Bool.{MatchBool}
 use Rattle.std.specs.Global.{Vec}
 use Rattle.std.specs.List.{cons_option, filter_map, list_any}
 use Rattle.std.specs.Map.{keys_of, lookup}
 use Rattle.std.specs.Option.{option_map, unwrap_or}
-use Rattle.std.proofs.lemmas.Bool.{and_from, and_parts, false≢true, or_cases, or_left, or_right}
+use Rattle.std.proofs.lemmas.Bool.{false≢true}
 use Rattle.tags_clocks.specs.declared.id.OpId.{OpId}
 use Rattle.tags_clocks.proofs.Decide.{ids_decide}
 use Rattle.merge_laws.specs.Orders.{IsIn}
 use Rattle.crdt_ops.specs.declared.message.Message.{Message}
 use Rattle.crdt_ops.specs.declared.op.Op.{Op}
 use Rattle.crdt_ops.specs.Meanings.{IsVersion as IsVersionBySet}
-use Rattle.crdt_ops.specs.Order.{IsListOf, id_order, is_some_id, same_id}
+use Rattle.crdt_ops.specs.Order.{IsListOf, id_order, same_id}
 use Rattle.crdt_ops.specs.Sets.{Body, Letter, body_by, body_from, first_given, letter_of, message_of, message_with, messages_of, no_letter, origins_of, tag_flags_of, versions_of}
 use Rattle.crdt_ops.specs.Tags.{MessageTag, adds, is_present, removes}
-use Rattle.crdt_ops.specs.TagLaws.{adds_own}
-use Rattle.imap_types.specs.declared.flags.Flags.{Flags}
 use Rattle.message_versions.specs.declared.version.Version.{Version}
 use Rattle.message_versions.specs.Unions.{union_of, united, version_ids}
 use Rattle.crdt_ops.proofs.Members.{any_in, in_map}
 use Rattle.crdt_ops.proofs.OrderLemmas.{id_order_same, id_order_total, one_ascending}
-use Rattle.crdt_ops.proofs.VersionLemmas.{origins_listed, some_id, versions_listed}
+use Rattle.crdt_ops.proofs.VersionLemmas.{origins_listed, versions_listed}
 use Rattle.mail_listing.specs.declared.mailbox.Letter.{Letter as KeptLetter}
 use Rattle.mail_listing.specs.Telling.{told, versions_in}
-use Rattle.folder_state.specs.Contents.{AreMessages, AreVersions, Contents, HasVersion, IsMadeBy, IsMessage, IsMessageOf, IsVersion, contents_by, effect_of, flags_in, message_in, origin_in}
-use Rattle.folder_state.specs.Kept.{AreFiled, AreFiledIn, AreVersionsOf, InFolder, Kept, body_at, body_in_folder, folder_contents, listed, versions_at}
-use Rattle.folder_state.specs.Later.{after, alone, is_brought, is_version}
-use Rattle.folder_state.specs.Rooms.{origin_by}
+use Rattle.folder_state.specs.Contents.{AreMessages, AreVersions, Contents, HasVersion, IsMadeBy, IsMessage, IsMessageOf, IsVersion, contents_by, effect_of, flags_in, message_in}
+use Rattle.folder_state.specs.Kept.{AreFiled, AreFiledIn, AreVersionsOf, InFolder, Kept, body_in_folder, folder_contents, listed, versions_at}
+use Rattle.folder_state.specs.Later.{after}
 use Rattle.folder_state.specs.Telling.{letter_told, message_kept, message_told}
-use Rattle.folder_state.proofs.Filed.{carried_by, carrying, key_found, no_versions, versions_are, versions_by}
+use Rattle.folder_state.proofs.Filed.{carried_by, carrying, key_found, no_versions, versions_by}
 use Rattle.folder_state.proofs.SetLemmas.{contents_made}
 use Rattle.folder_state.proofs.ToldLemmas.{filter_map_same}
 

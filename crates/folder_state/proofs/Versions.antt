@@ -1,5 +1,5 @@
 -- Lists of versions: their ids and flags, with one more or one less.
-use Rattle.std.proofs.Common.{◌≡◌, ◌↔◌, ◌⊎◌, inl, inr, ℕ, ◌+◌, ◌≤◌, ◌<◌, arith, Bool, true, false, cond, not, Option, None, Some, List, [], ◌∷◌, ◌++◌, length, map, refl, sym, ap, ◌∙◌, subst}
+use Rattle.std.proofs.Common.{◌≡◌, ◌↔◌, ◌⊎◌, inl, inr, ◌+◌, ◌≤◌, ◌<◌, arith, Bool, true, false, cond, not, None, Some, List, [], ◌∷◌, ◌++◌, length, map, refl, sym, ap, ◌∙◌, subst}
 use Rattle.std.specs.List.{filter}
 use Rattle.std.specs.Option.{option_or}
 use Rattle.std.specs.Ordering.{match_ordering}
@@ -11,7 +11,7 @@ use Rattle.imap_types.specs.declared.flags.Flags.{Flags}
 use Rattle.tags_clocks.specs.declared.id.OpId.{OpId}
 use Rattle.tags_clocks.proofs.Decide.{ids_decide}
 use Rattle.merge_laws.specs.Orders.{IsIn}
-use Rattle.merge_laws.proofs.Lists.{in_front, in_back, in_middle, in_parts}
+use Rattle.merge_laws.proofs.Lists.{in_middle}
 use Rattle.crdt_ops.specs.Order.{IsAscending, id_order, placed, same_id}
 use Rattle.crdt_ops.proofs.Members.{in_filter, in_map}
 use Rattle.crdt_ops.proofs.OrderLemmas.{ascending-placed, ascending_filtered, id_order_same, id_order_total}

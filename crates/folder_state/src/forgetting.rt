@@ -84,11 +84,7 @@ fn take_out(messages: &mut IndexMap<OpId, Vec<Version>>, origin: &OpId, id: &OpI
 }
 
 /// Takes the version with this id out of the message of this origin, and tells whether it has none left.
-fn take_version(
-    messages: &mut IndexMap<OpId, Vec<Version>>,
-    origin: &OpId,
-    id: &OpId,
-) -> bool
+fn take_version(messages: &mut IndexMap<OpId, Vec<Version>>, origin: &OpId, id: &OpId) -> bool
     ensures none { result ≡ true → versions_at messages.new.entries origin.now ≡ [] }
     ensures some { result ≡ false → (vs : Places Held) → lookup (same_id origin.now) messages.new.entries ≡ Some vs → 0 < length vs.items }
     ensures here { versions_at messages.new.entries origin.now ≡ without id.now (versions_at messages.old.entries origin.now) }

@@ -269,7 +269,12 @@ fn is_id(id: &OpId, given: Option<OpId>) -> bool
 }
 
 /// Whether the origin has a version in the folder after these operations, of those that it has and those that they add.
-pub fn has_version_left(held: Option<&Folder>, folder: &Name, origin: &OpId, ops: &[SoundOp]) -> bool
+pub fn has_version_left(
+    held: Option<&Folder>,
+    folder: &Name,
+    origin: &OpId,
+    ops: &[SoundOp],
+) -> bool
     ensures versions { (i : Id) → IsIn i (version_ids (versions_in (option_copied held.entry) origin.now)) ↔ (option_map (λ body. body.origin) (body_in_folder (option_copied held.entry) i) ≡ Some origin.now) }
     ensures left { result ≡ (list_any (λ version. is_version (after (alone (option_copied held.entry)) ops.now) folder.now origin.now version.id) (versions_in (option_copied held.entry) origin.now) || list_any (is_brought (option_copied held.entry) ops.now folder.now origin.now) ops.now) }
 {
@@ -318,13 +323,7 @@ fn brings_version(held: Option<&Folder>, folder: &Name, origin: &OpId, ops: &[So
 }
 
 /// Whether an operation adds a version of the origin that is left after all of them.
-fn is_brought(
-    held: Option<&Folder>,
-    folder: &Name,
-    origin: &OpId,
-    op: &Op,
-    ops: &[SoundOp],
-) -> bool
+fn is_brought(held: Option<&Folder>, folder: &Name, origin: &OpId, op: &Op, ops: &[SoundOp]) -> bool
     ensures { result ≡ is_brought (option_copied held.entry) ops.now folder.now origin.now op.now }
 {
     is_id(origin, origin_by(op)) && is_version_after(held, folder, origin, &op.id, ops)

@@ -51,11 +51,7 @@ pub fn lent_message<'a>(
     ensures { (c : Contents) (name : List ℕ) → ((i : Id) → c.bodies name i ≡ (folder_contents folder.now).bodies i) → c.letters origin.now ≡ option_map letter_told (lookup (same_id origin.now) letters.now.entries) → IsMessageOf c name origin.now (option_map lent result) }
 {
     match folder.versions_of(origin) {
-        Some(versions) => Some(with_letter(
-            letters.get(origin),
-            origin,
-            Versions::new(versions),
-        )),
+        Some(versions) => Some(with_letter(letters.get(origin), origin, Versions::new(versions))),
         None => None,
     }
 }

@@ -1,11 +1,8 @@
-use Rattle.std.proofs.Common.{◌≡◌, ◌∙◌, refl, rules, Bool, Option, None, Some, not, ◌&&◌, cond, ap, sym, subst}
+use Rattle.std.proofs.Common.{◌≡◌, ◌∙◌, refl, rules, Bool, Option, None, Some, ◌&&◌, cond, ap, sym, subst}
 use Rattle.std.specs.List.{list_any}
-use Rattle.std.specs.Str.{bytes_eq}
-use Rattle.tags_clocks.specs.declared.id.OpId.{OpId}
 use Rattle.crdt_ops.specs.Order.{same_id}
 use Rattle.crdt_ops.specs.Sets.{Body}
-use Rattle.folder_state.specs.Keys.{is_among}
-use Rattle.folder_state.specs.Kept.{body_in_folder, folder_at, folder_contents, has_tag_in}
+use Rattle.folder_state.specs.Kept.{body_in_folder, folder_at, has_tag_in}
 use Rattle.folder_state.specs.Rooms.{IsNoFullerIn}
 use Rattle.folder_state.proofs.Fuller.{no_fuller_in, no_fuller_now}
 use Rattle.folder_state.proofs.Lenses.{cond_nothing, folder_changed, told_now, told_same}

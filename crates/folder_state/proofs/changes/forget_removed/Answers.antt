@@ -1,4 +1,4 @@
-use Rattle.std.proofs.Common.{◌≡◌, ◌∙◌, None, not, ◌&&◌, cond, ap, sym}
+use Rattle.std.proofs.Common.{◌∙◌, None, not, ◌&&◌, cond, ap, sym}
 use Rattle.std.specs.List.{list_any}
 use Rattle.crdt_ops.specs.declared.kind.Kind.{Kind}
 use Rattle.crdt_ops.specs.Tags.{FolderTag, MessageTag, removed_by, same_tag}

@@ -1,16 +1,11 @@
-use Rattle.std.proofs.Common.{◌≡◌, ◌∙◌, ◌+◌, ℕ, refl, rules, Bool, true, false, Option, None, Some, not, ◌&&◌, ◌||◌, cond, ap, sym, subst}
+use Rattle.std.proofs.Common.{◌≡◌, ◌∙◌, ℕ, refl, rules, Bool, Option, None, Some, ◌&&◌, ◌||◌, ap, sym, subst}
 use Rattle.std.proofs.Common.{List}
 use Rattle.std.specs.Global.{Vec}
-use Rattle.std.specs.List.{list_any}
 use Rattle.std.specs.Map.{lookup}
-use Rattle.std.specs.Vec.{vec_capacity}
-use Rattle.std.specs.Str.{bytes_eq}
-use Rattle.tags_clocks.specs.declared.id.OpId.{OpId}
 use Rattle.crdt_ops.specs.Order.{same_id}
 use Rattle.crdt_ops.specs.Sets.{Body}
-use Rattle.folder_state.specs.Kept.{Kept, body_at, body_in_folder, folder_at, folder_contents, has_tag_in}
-use Rattle.folder_state.specs.Rooms.{HasPlaces, HasVersionRoom}
-use Rattle.folder_state.proofs.Filed.{carrying}
+use Rattle.folder_state.specs.Kept.{Kept, body_at, body_in_folder, folder_at, has_tag_in}
+use Rattle.folder_state.specs.Rooms.{HasPlaces}
 use Rattle.folder_state.proofs.Fuller.{room_left, same_lists}
 use Rattle.folder_state.proofs.Lenses.{folder_changed, some_is, told_now}
 use Rattle.folder_state.proofs.changes.put_tag.Goals as goal

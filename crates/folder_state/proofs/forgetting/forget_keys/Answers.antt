@@ -1,4 +1,4 @@
-use Rattle.std.proofs.Common.{◌≡◌, ◌≤◌, ◌+◌, arith, false, cond, not, ◌&&◌, ap, sym, ◌∙◌, take, refl}
+use Rattle.std.proofs.Common.{arith, false, cond, not, ◌&&◌, ap, sym, ◌∙◌, take}
 use Rattle.std.specs.List.{list_any}
 use Rattle.crdt_ops.specs.Order.{same_id}
 use Rattle.folder_state.proofs.Lenses.{any_more, key_gone, same_turned}

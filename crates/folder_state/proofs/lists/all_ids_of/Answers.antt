@@ -1,4 +1,4 @@
-use Rattle.std.proofs.Common.{◌≡◌, ◌∙◌, subst}
+use Rattle.std.proofs.Common.{◌∙◌, subst}
 use Rattle.tags_clocks.specs.declared.id.OpId.{OpId}
 use Rattle.merge_laws.specs.Orders.{IsIn}
 use Rattle.crdt_ops.specs.Order.{IsListOf, id_order}

@@ -1,4 +1,4 @@
-use Rattle.std.proofs.Common.{◌∷◌, ◌∙◌, ◌≤◌, ◌<◌, inl, inr, length, sym, subst}
+use Rattle.std.proofs.Common.{◌∷◌, ◌∙◌, ◌≤◌, ◌<◌, inl, inr, sym, subst}
 use Rattle.std.specs.List.{filter_map}
 use Rattle.std.specs.Option.{IfSome}
 use Rattle.std.proofs.lemmas.List.{take_all}

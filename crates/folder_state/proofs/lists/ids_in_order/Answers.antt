@@ -1,6 +1,6 @@
-use Rattle.std.proofs.Common.{rules, ◌≡◌, sym, subst}
+use Rattle.std.proofs.Common.{sym, subst}
 use Rattle.merge_laws.specs.Orders.{IsIn}
-use Rattle.crdt_ops.specs.Order.{IsListOf, id_order, in_order}
+use Rattle.crdt_ops.specs.Order.{IsListOf, id_order}
 use Rattle.crdt_ops.proofs.OrderLemmas.{id_order_same, id_order_total, in_order_lists}
 use Rattle.folder_state.proofs.Listing.{folded}
 use Rattle.folder_state.proofs.lists.ids_in_order.Goals as goal

@@ -1,7 +1,6 @@
-use Rattle.std.proofs.Common.{◌≡◌, ◌∙◌, [], ap, rules, sym, subst}
+use Rattle.std.proofs.Common.{sym, subst}
 use Rattle.std.proofs.lemmas.Bool.{false≢true}
 use Rattle.crdt_ops.specs.Order.{IsAscending, id_order}
-use Rattle.message_versions.specs.Unions.{version_ids}
 use Rattle.folder_state.proofs.Listing.{ids_done}
 use Rattle.folder_state.proofs.lists.ids_of.Goals as goal
 

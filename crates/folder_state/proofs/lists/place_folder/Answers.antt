@@ -1,4 +1,4 @@
-use Rattle.std.proofs.Common.{◌≡◌, ◌∙◌, [], OnOk, refl, ap, sym, subst}
+use Rattle.std.proofs.Common.{◌≡◌, ◌∙◌, [], OnOk, ap, subst}
 use Rattle.std.specs.List.{cons_option, fold}
 use Rattle.std.specs.Option.{IfSome, MatchOption}
 use Rattle.imap_types.specs.Ascending.{compared}

@@ -1,4 +1,4 @@
-use Rattle.std.proofs.Common.{◌≡◌, ◌↔◌, true, subst}
+use Rattle.std.proofs.Common.{◌≡◌, true, subst}
 use Rattle.std.specs.List.{list_any}
 use Rattle.tags_clocks.specs.declared.id.OpId.{OpId}
 use Rattle.merge_laws.specs.Orders.{IsIn}

@@ -1,4 +1,4 @@
-use Rattle.std.proofs.Common.{◌≡◌, [], ap, sym, ◌∙◌}
+use Rattle.std.proofs.Common.{ap, sym, ◌∙◌}
 use Rattle.crdt_ops.specs.Order.{placed}
 use Rattle.folder_state.specs.Kept.{by_id, listed}
 use Rattle.folder_state.proofs.Fuller.{first_fits, put_room}

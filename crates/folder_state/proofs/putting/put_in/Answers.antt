@@ -1,8 +1,6 @@
-use Rattle.std.proofs.Common.{◌≡◌, ◌+◌, ◌≤◌, ℕ, true, arith, rules, None, Some, cond, ap, sym, subst, ◌∙◌}
+use Rattle.std.proofs.Common.{◌+◌, ◌≤◌, arith, rules, cond, ap, sym, subst, ◌∙◌}
 use Rattle.std.specs.Map.{lookup}
-use Rattle.std.specs.Vec.{vec_capacity}
 use Rattle.indexmap.specs.IndexMap.{spare}
-use Rattle.tags_clocks.specs.declared.id.OpId.{OpId}
 use Rattle.crdt_ops.specs.Order.{placed, same_id}
 use Rattle.folder_state.specs.Kept.{IsPutIn, by_id, listed}
 use Rattle.folder_state.specs.Rooms.{HasVersionRoom}

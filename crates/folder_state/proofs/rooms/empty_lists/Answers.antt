@@ -2,7 +2,7 @@ use Rattle.std.proofs.Common.{◌≤◌, ℕ, subst}
 use Rattle.std.specs.Vec.{vec_capacity}
 use Rattle.tags_clocks.specs.declared.id.OpId.{OpId}
 use Rattle.crdt_ops.specs.declared.op.Op.{Op}
-use Rattle.folder_state.specs.Rooms.{counted_at, origin_by, versions_wanted, wanted_by}
+use Rattle.folder_state.specs.Rooms.{counted_at, origin_by, wanted_by}
 use Rattle.folder_state.proofs.Counting.{lists_all, lists_one}
 use Rattle.folder_state.proofs.rooms.empty_lists.Goals as goal
 

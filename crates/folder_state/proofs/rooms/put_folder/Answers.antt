@@ -1,4 +1,4 @@
-use Rattle.std.proofs.Common.{◌≡◌, ◌∙◌, None, Some, rules, ap, sym, subst}
+use Rattle.std.proofs.Common.{◌≡◌, ◌∙◌, None, Some, rules, sym, subst}
 use Rattle.folder_state.specs.Kept.{folder_at}
 use Rattle.folder_state.specs.Rooms.{IsRoomierIn}
 use Rattle.folder_state.proofs.Lenses.{folder_changed, on_err, on_ok}

@@ -1,6 +1,4 @@
-use Rattle.std.proofs.Common.{◌≡◌, ◌∙◌, Option, None, Some, rules, ap, sym, subst}
-use Rattle.tags_clocks.specs.declared.id.OpId.{OpId}
-use Rattle.folder_state.specs.Kept.{Kept, folder_at}
+use Rattle.std.proofs.Common.{Some, rules, sym, subst}
 use Rattle.folder_state.specs.Rooms.{AreRoomier}
 use Rattle.folder_state.proofs.Counting.{on_ok_by}
 use Rattle.folder_state.proofs.Lenses.{folder_changed}

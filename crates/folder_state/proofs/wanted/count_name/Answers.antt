@@ -1,4 +1,4 @@
-use Rattle.std.proofs.Common.{rules, ◌≡◌, ◌∙◌, ◌+◌, ℕ, cond, ap, sym, subst}
+use Rattle.std.proofs.Common.{rules, ◌≡◌, ◌∙◌, ◌+◌, cond, ap}
 use Rattle.std.specs.Str.{bytes_eq}
 use Rattle.folder_state.specs.Rooms.{counted_under}
 use Rattle.folder_state.proofs.Counting.{counted_more, on_ok_by}

@@ -1,4 +1,4 @@
-use Rattle.std.proofs.Common.{◌≡◌, ◌∙◌, Some, cond, ap, sym}
+use Rattle.std.proofs.Common.{◌∙◌, Some, cond, ap, sym}
 use Rattle.std.specs.Map.{lookup}
 use Rattle.std.specs.Option.{unwrap_or}
 use Rattle.crdt_ops.specs.Order.{same_id}

@@ -1,4 +1,4 @@
-use Rattle.std.proofs.Common.{◌≡◌, ◌∙◌, rules, Some, cond, ap, sym}
+use Rattle.std.proofs.Common.{◌≡◌, ◌∙◌, rules, Some, ap, sym}
 use Rattle.std.specs.Option.{unwrap_or}
 use Rattle.std.specs.Str.{bytes_eq}
 use Rattle.folder_state.proofs.Counting.{cond_counted}

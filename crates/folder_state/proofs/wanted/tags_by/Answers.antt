@@ -1,4 +1,4 @@
-use Rattle.std.proofs.Common.{◌≡◌, ◌∙◌, ◌+◌, ◌<◌, ℕ, List, arith, cond, ap, drop}
+use Rattle.std.proofs.Common.{◌≡◌, ◌∙◌, ◌+◌, ℕ, arith, cond, ap}
 use Rattle.folder_state.specs.Rooms.{counted_under, is_named, target}
 use Rattle.folder_state.proofs.Counting.{tags_behind, tags_done}
 use Rattle.folder_state.proofs.wanted.tags_by.Goals as goal

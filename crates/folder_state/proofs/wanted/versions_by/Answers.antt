@@ -1,4 +1,4 @@
-use Rattle.std.proofs.Common.{◌≡◌, ◌∙◌, ◌+◌, ◌<◌, ℕ, List, arith, cond, ap, drop}
+use Rattle.std.proofs.Common.{◌≡◌, ◌∙◌, ◌+◌, ℕ, arith, cond, ap}
 use Rattle.crdt_ops.specs.Order.{is_some_id}
 use Rattle.folder_state.specs.Rooms.{counted_at, origin_by}
 use Rattle.folder_state.proofs.Counting.{versions_behind, versions_done}

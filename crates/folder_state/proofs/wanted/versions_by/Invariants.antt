@@ -1,4 +1,4 @@
-use Rattle.std.proofs.Common.{◌≡◌, ◌+◌, ℕ, List, drop}
+use Rattle.std.proofs.Common.{◌≡◌, ◌+◌, drop}
 use Rattle.tags_clocks.specs.declared.id.OpId.{OpId}
 use Rattle.folder_state.specs.Rooms.{counted_at, versions_wanted}
 use Rattle.folder_state.proofs.wanted.versions_by.Given as goal

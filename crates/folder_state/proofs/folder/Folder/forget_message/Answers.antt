@@ -1,4 +1,4 @@
-use Rattle.std.proofs.Common.{◌≡◌, ◌≤◌, arith, Option, None, Some, cond, ap, sym, subst, ◌∙◌}
+use Rattle.std.proofs.Common.{◌≤◌, arith, None, cond, ap, sym, subst, ◌∙◌}
 use Rattle.std.specs.Map.{lookup}
 use Rattle.indexmap.specs.IndexMap.{spare}
 use Rattle.indexmap.specs.IndexSet.{spare as spare_keys}

@@ -1,4 +1,4 @@
-use Rattle.std.proofs.Common.{refl, Option, None, cond, take, ap, sym, ◌∙◌}
+use Rattle.std.proofs.Common.{refl, None, cond, take, ap, sym, ◌∙◌}
 use Rattle.std.specs.List.{list_any}
 use Rattle.crdt_ops.specs.Order.{same_id}
 use Rattle.folder_state.specs.Kept.{folder_contents}

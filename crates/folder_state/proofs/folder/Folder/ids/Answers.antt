@@ -1,4 +1,4 @@
-use Rattle.std.proofs.Common.{◌∙◌, ◌++◌, ◌≤◌, [], length, sym, subst, ap}
+use Rattle.std.proofs.Common.{◌∙◌, ◌++◌, ◌≤◌, [], sym, subst}
 use Rattle.std.specs.List.{cons_option}
 use Rattle.std.proofs.lemmas.List.{take_all}
 use Rattle.folder_state.specs.Kept.{folder_ids}

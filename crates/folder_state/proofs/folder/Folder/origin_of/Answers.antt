@@ -1,6 +1,5 @@
-use Rattle.std.proofs.Common.{◌≡◌, ◌∙◌, sym, subst}
+use Rattle.std.proofs.Common.{◌∙◌, sym, subst}
 use Rattle.std.specs.Map.{lookup}
-use Rattle.tags_clocks.specs.declared.id.OpId.{OpId}
 use Rattle.crdt_ops.specs.Order.{same_id}
 use Rattle.folder_state.specs.Kept.{AreFiled, Kept}
 use Rattle.folder_state.proofs.Filed.{origin_is}

@@ -1,4 +1,4 @@
-use Rattle.std.proofs.Common.{◌+◌, Option, None, Some, cond, ap, ◌∙◌}
+use Rattle.std.proofs.Common.{◌+◌, Some, cond, ap, ◌∙◌}
 use Rattle.crdt_ops.specs.Order.{same_id}
 use Rattle.folder_state.specs.Kept.{folder_contents}
 use Rattle.folder_state.proofs.Filed.{carrying, in_place_of}

@@ -1,6 +1,4 @@
-use Rattle.std.proofs.Common.{◌≡◌, ◌∙◌, ◌≤◌, arith, ap, sym, subst}
-use Rattle.indexmap.specs.IndexMap.{spare}
-use Rattle.indexmap.specs.IndexSet.{spare as spare_keys}
+use Rattle.std.proofs.Common.{◌∙◌, ◌≤◌, arith, sym, subst}
 use Rattle.folder_state.specs.Kept.{Kept}
 use Rattle.folder_state.specs.Rooms.{AreRoomierLists}
 use Rattle.folder_state.proofs.Roomier.{filed_roomier, roomier_lists}

@@ -1,4 +1,4 @@
-use Rattle.std.proofs.Common.{◌≡◌, ◌∙◌, None, Some, ap, sym, subst}
+use Rattle.std.proofs.Common.{◌≡◌, ◌∙◌, None, Some, sym, subst}
 use Rattle.std.specs.Map.{lookup}
 use Rattle.crdt_ops.specs.Order.{same_id}
 use Rattle.folder_state.specs.Kept.{AreFiled, AreVersionsOf, Kept, folder_contents}
