@@ -5,8 +5,8 @@ ghost use Rattle.mail_text.specs.Fields.{asks, before_colon, fields_of, goes_on,
 ghost use Rattle.mail_text.specs.Kept.{taken, takes};
 
 use crate::lines::{first_line, is_empty_line};
-use imap_types::Octets;
 use bstr::ByteSlice;
+use imap_types::Octets;
 use std::alloc::{AllocError, Global};
 
 /// The header fields of these names with the lines that continue them, in the order of the text, and then the empty

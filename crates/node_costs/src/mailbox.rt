@@ -33,6 +33,8 @@ fn tell_selected(rt: &HostRuntime, seat: &mut Seat, count: u32) -> Result<(), Tr
     let store = seat.timed(rt, &[mark.as_str(), unmark.as_str()], TURNS)?;
     let copy = seat.timed(rt, &[copy.as_str()], TURNS)?;
     let status = seat.timed(rt, &["a STATUS other (MESSAGES UIDNEXT)\r\n"], TURNS)?;
-    eprintln!(*rt; "  selected: NOOP {noop} ns, FETCH {fetch}, STORE {store}, COPY {copy}, STATUS of another {status}")?;
+    eprintln!(*rt;
+        "  selected: NOOP {noop} ns, FETCH {fetch}, STORE {store}, COPY {copy}, STATUS of another {status}"
+    )?;
     Ok(())
 }

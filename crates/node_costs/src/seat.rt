@@ -75,7 +75,9 @@ impl Seat {
         if !self.node.is_open(self.session) {
             return Err(Trouble::NotTaken);
         }
-        let reply = self.node.command(alloc, self.session, Moment::epoch(), tagged);
+        let reply = self
+            .node
+            .command(alloc, self.session, Moment::epoch(), tagged);
         match reply {
             Reply::Done { .. } => Ok(()),
             Reply::Refused { .. } => Err(Trouble::NotTaken),
@@ -83,12 +85,7 @@ impl Seat {
     }
 
     /// Gives the commands, again and again so many times, and tells the nanoseconds that one of them took in the mean.
-    pub fn timed(
-        &mut self,
-        rt: &HostRuntime,
-        texts: &[&str],
-        turns: u32,
-    ) -> Result<u64, Trouble> {
+    pub fn timed(&mut self, rt: &HostRuntime, texts: &[&str], turns: u32) -> Result<u64, Trouble> {
         let mut spent = 0u64;
         let mut given = 0u64;
         for _ in 0..turns {
