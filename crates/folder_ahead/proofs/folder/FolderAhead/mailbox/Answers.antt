@@ -14,4 +14,4 @@ pub returns : goal.returns
 returns c =
     let n = c.len-at-end.ensures.len in
     let long : length c.args.self.now.messages.versions.entries ≤ c.loop-at.at = omega (arith, n) in
-    all_told c.args.self.now c.loop-at.at (record { mailbox = c.mailbox.result; fresh = c.loop-at.fresh }) long c.loop-at.invariant.0 c.loop-at.invariant.1 c.mailbox.ensures
+    all_told c.args.self.now c.loop-at.at (record { mailbox = c.mailbox.result; fresh = c.loop-at.fresh }) long c.loop-at.invariant.0 c.loop-at.invariant.1 c.mailbox.ensures.contents
