@@ -121,7 +121,7 @@ fn are_answered_alike(
     Ok(are_alike(filing, plain))
 }
 
-/// Whether both answer this list alike, one application of which is refused.
+/// Whether both answer this list alike, an application of which is refused where it has as many as its number says.
 fn is_list_alike(alloc: Global, number: u32) -> Result<bool, Trouble> {
     let ops = generated(alloc, number)?;
     let before = Some(number);
