@@ -43,9 +43,13 @@ pub struct Node {
 }
 
 impl Model for Node {
+    ghost use Rattle.indexmap.specs.Layout.{hash_map_code, hash_set_code};
+    ghost use Rattle.std.specs.Coded.{codes};
     ghost use Rattle.imap_node.specs.Nodes.{NodeKept};
 
     ghost Value = { NodeKept };
+
+    ghost coded = { Prim.hlevel (codes, hash_map_code, hash_set_code) };
 
     ghost view = { λ n. record { state = record { start = n.replica.start; applied = n.replica.applied; held = n.replica.held; sessions = n.sessions }; room = n.replica.room } };
 }
