@@ -6,8 +6,7 @@ use Rattle.replica_lock.proofs.locked.Locked.settle.Goals as goal
 
 pub returns-in-Some-clause-denied : goal.returns-in-Some-clause-denied
 returns-in-Some-clause-denied g c =
-    let w = (c.in-Some.ensures {u = tt}).one in
-    (
+    let w = (c.in-Some.ensures {u = tt}).one in (
       sym c.gather-made.ensures.sum ∙ c.if-made-entries.false ∙ c.len-entries.ensures ∙ ap (λ (b : Recorded). length b.journal) c.self.view_is,
       (
         w.0,
