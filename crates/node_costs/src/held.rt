@@ -12,23 +12,56 @@ const TIMED: u32 = 200;
 /// Has so many operations held, which all wait for one, and tells how long a delivery takes of one more that waits, and of one that waits for
 /// none.
 pub fn times(rt: &HostRuntime, count: u32) -> Result<(), Trouble> {
-    let alloc = rt.alloc();
-    let mut far = Seat::new(alloc, 2)?;
-    let mut other = Seat::new(alloc, 3)?;
-    let mut near = Seat::new(alloc, 1)?;
-    far.give(alloc, "a CREATE first\r\n")?;
-    subscribe(alloc, &mut far, count)?;
-    subscribe(alloc, &mut other, TIMED)?;
-    let waiting = far.node.op_list().get(1..).unwrap_or(&[]);
-    let split = waiting.len().saturating_sub(TIMED as usize);
-    let (before, timed) = waiting.split_at(split.min(waiting.len()));
-    deliver_all(alloc, &mut near, before)?;
-    let early = time_of(rt, &mut near, timed)?;
+    let mut near = Seat::new(rt.alloc(), 1)?;
+    let told = times_at(rt, &mut near, count);
+    drop(near);
+    told
+}
+
+fn times_at(rt: &HostRuntime, near: &mut Seat, count: u32) -> Result<(), Trouble> {
+    let mut far = Seat::new(rt.alloc(), 2)?;
+    let told = times_from(rt, near, &mut far, count);
+    drop(far);
+    told
+}
+
+fn times_from(
+    rt: &HostRuntime,
+    near: &mut Seat,
+    far: &mut Seat,
+    count: u32,
+) -> Result<(), Trouble> {
+    let mut other = Seat::new(rt.alloc(), 3)?;
+    let told = tell_times(rt, near, far, &mut other, count);
+    drop(other);
+    told
+}
+
+fn tell_times(
+    rt: &HostRuntime,
+    near: &mut Seat,
+    far: &mut Seat,
+    other: &mut Seat,
+    count: u32,
+) -> Result<(), Trouble> {
+    far.give(rt.alloc(), "a CREATE first\r\n")?;
+    subscribe(rt.alloc(), far, count)?;
+    subscribe(rt.alloc(), other, TIMED)?;
+    let early = early_time(rt, near, far.node.op_list())?;
     let held = near.node.held().len();
-    let ripe = time_of(rt, &mut near, other.node.op_list())?;
+    let ripe = time_of(rt, near, other.node.op_list())?;
     println!(*rt; "{held} held")?;
     eprintln!(*rt; "{held} held: early delivery {early} ns, ripe delivery {ripe}")?;
-    release(rt, &mut near, far.node.op_list())
+    release(rt, near, far.node.op_list())
+}
+
+/// Delivers all but the first of the operations, and tells the nanoseconds of one of the last ones.
+fn early_time(rt: &HostRuntime, near: &mut Seat, ops: &[SoundOp]) -> Result<u64, Trouble> {
+    let waiting = ops.get(1..).unwrap_or(&[]);
+    let split = waiting.len().saturating_sub(TIMED as usize);
+    let (before, timed) = waiting.split_at(split);
+    deliver_all(rt.alloc(), near, before)?;
+    time_of(rt, near, timed)
 }
 
 /// Subscribes and unsubscribes so many times.

@@ -58,9 +58,8 @@ impl Seat {
             uid: 1,
             k: 1,
         };
-        let mut node = Node::new(alloc, start)?;
-        match node.open(Auth::Preauth) {
-            Ok(session) => Ok(Seat { node, session }),
+        match Node::new(alloc, start) {
+            Ok(node) => seated(node),
             Err(_) => Err(Trouble::NoMemory),
         }
     }
@@ -85,7 +84,12 @@ impl Seat {
     }
 
     /// Gives the commands, again and again so many times, and tells the nanoseconds that one of them took in the mean.
-    pub fn timed(&mut self, rt: &HostRuntime, texts: &[&str], turns: u32) -> Result<u64, Trouble> {
+    pub fn timed(
+        &mut self,
+        rt: &HostRuntime,
+        texts: &[&str],
+        turns: u32,
+    ) -> Result<u64, Trouble> {
         let mut spent = 0u64;
         let mut given = 0u64;
         for _ in 0..turns {
@@ -110,6 +114,18 @@ impl Seat {
         match self.node.deliver(alloc, op) {
             Ok(_) => Ok(()),
             Err(_) => Err(Trouble::NotTaken),
+        }
+    }
+}
+
+/// The node with a session of a known user.
+fn seated(node: Node) -> Result<Seat, Trouble> {
+    let mut node = node;
+    match node.open(Auth::Preauth) {
+        Ok(session) => Ok(Seat { node, session }),
+        Err(_) => {
+            drop(node);
+            Err(Trouble::NoMemory)
         }
     }
 }
