@@ -83,7 +83,7 @@ pub fn deliver_all(alloc: Global, seat: &mut Seat, ops: &[SoundOp]) -> Result<()
 }
 
 /// The nanoseconds of a delivery of one of the operations, in the mean.
-fn time_of(rt: &HostRuntime, seat: &mut Seat, ops: &[SoundOp]) -> Result<u64, Trouble> {
+pub fn time_of(rt: &HostRuntime, seat: &mut Seat, ops: &[SoundOp]) -> Result<u64, Trouble> {
     let start = Instant::now(rt)?;
     deliver_all(rt.alloc(), seat, ops)?;
     let spent = since(rt, start)?;

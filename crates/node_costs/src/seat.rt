@@ -83,22 +83,15 @@ impl Seat {
         }
     }
 
-    /// Gives the commands, again and again so many times, and tells the nanoseconds that one of them took in the mean.
-    pub fn timed(
-        &mut self,
-        rt: &HostRuntime,
-        texts: &[&str],
-        turns: u32,
-    ) -> Result<u64, Trouble> {
-        let mut spent = 0u64;
-        let mut given = 0u64;
+    /// Gives the commands, again and again so many times, and tells the nanoseconds that the fastest took.
+    pub fn timed(&mut self, rt: &HostRuntime, texts: &[&str], turns: u32) -> Result<u64, Trouble> {
+        let mut least = u64::MAX;
         for _ in 0..turns {
             for text in texts {
-                spent = spent.saturating_add(self.time_of(rt, text)?);
-                given = given.saturating_add(1);
+                least = least.min(self.time_of(rt, text)?);
             }
         }
-        Ok(spent.checked_div(given).unwrap_or(0))
+        Ok(least)
     }
 
     /// The nanoseconds that the command takes.
