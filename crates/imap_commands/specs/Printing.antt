@@ -4,7 +4,6 @@ use Rattle.imap_syntax.specs.declared.command.Command.{Command}
 use Rattle.imap_syntax.specs.declared.command.Command.TheVariants as commands
 use Rattle.imap_syntax.specs.declared.fetch.FetchItem.{FetchItem}
 use Rattle.imap_syntax.specs.declared.fetch.FetchItem.TheVariants.{Body, Flags, InternalDate, ModSeq, Size, Uid}
-use Rattle.imap_query.specs.Keys.{IsKey}
 use Rattle.imap_query.specs.declared.mailbox_status.Marks.{Marks}
 use Rattle.imap_types.specs.DateTimes.{IsDateTime}
 use Rattle.mail_listing.specs.Listed.{Listed}
@@ -66,11 +65,10 @@ abbrev pub AreAsMany : OpenMailbox → CopyAsked → Landing → Type 0
 AreAsMany mailbox asked landing =
     length (sources_of mailbox.rows mailbox.view (resolved asked.by_uid asked.messages mailbox.view)) ≡ length (copies_in landing.uidnext landing.rows)
 
--- What a command asks can be told: its names have INBOX in capitals, its items are some and can be told, and its steps are a key's.
+-- What a command asks can be told: its names have INBOX in capitals, and its items are some and can be told.
 abbrev pub IsAnswerable : Command → Type 0
 IsAnswerable (commands.Select name condstore) = IsFolded name
 IsAnswerable (commands.Examine name condstore) = IsFolded name
 IsAnswerable (commands.Status name items) = IsFolded name × (0 < length items)
-IsAnswerable (commands.Search by_uid options steps) = IsKey steps
 IsAnswerable (commands.Fetch by_uid messages items changed_since) = AreTellable items
 IsAnswerable _ = Unit {0}

@@ -46,9 +46,14 @@ abbrev pub shown_from : ℕ → List Entry → List Shown
 shown_from n [] = []
 shown_from n (e ∷ es) = record { number = n; uid = e.uid } ∷ shown_from (n + 1) es
 
--- What SEARCH tells of a mailbox: one answer, with the results of the key that its steps are (RFC 9051, section 6.4.4; RFC 7162, section
--- 3.1.5).
+-- What SEARCH finds in a mailbox: the results of the key that its steps are (RFC 9051, section 6.4.4; RFC 7162, section 3.1.5).
+pub record Finds (mailbox : OpenMailbox) (asked : SearchAsked) (results : SearchResults) : Type 0 where
+  pub key : Key
+  pub steps_are : asked.steps ≡ steps_of key
+  pub results_are : results ≡ results_of asked.options (asks_modseq key) (hits_in asked.by_uid key mailbox.rows (shown_from 1 mailbox.view))
+
+-- What SEARCH tells, which is one telling: one answer, with what it finds.
 pub record SearchTells (mailbox : OpenMailbox) (tag : List ℕ) (asked : SearchAsked) (told : Telling) : Type 0 where
   pub results : SearchResults
+  pub finds : Finds mailbox asked results
   pub only : told ≡ only_told (Search tag asked.by_uid results ∷ [])
-  pub found : (key : Key) → asked.steps ≡ steps_of key → results ≡ results_of asked.options (asks_modseq key) (hits_in asked.by_uid key mailbox.rows (shown_from 1 mailbox.view))

@@ -6,7 +6,7 @@ ghost use Rattle.mail_listing.specs.Listing.{listed};
 ghost use Rattle.imap_commands.specs.Told.{message_at};
 
 use crate::telling::message_at;
-use imap_syntax::{FetchItem, SearchOption, SearchStep, StoreAction};
+use imap_syntax::{FetchItem, SearchOption, SearchSteps, StoreAction};
 use imap_types::{Flags, Name, SequenceSet};
 use mail_listing::{Row, Rows};
 use session_view::View;
@@ -132,7 +132,7 @@ pub struct SearchAsked<'a> {
     /// What is told of those found.
     pub options: &'a [SearchOption],
     /// The key, in steps.
-    pub steps: &'a [SearchStep],
+    pub steps: &'a SearchSteps,
 }
 
 impl<'a> Model for SearchAsked<'a> {

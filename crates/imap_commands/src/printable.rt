@@ -13,7 +13,6 @@ ghost use Rattle.imap_query.specs.declared.naming.ListMode.{ListMode};
 ghost use Rattle.imap_commands.specs.Expunging.{uid_expunge_tells};
 ghost use Rattle.imap_commands.specs.Fetching.{fetch_tells};
 ghost use Rattle.imap_commands.specs.Searching.{SearchTells};
-ghost use Rattle.imap_query.specs.Keys.{IsKey};
 ghost use Rattle.imap_commands.specs.Storing.{store_tells};
 ghost use Rattle.imap_syntax.specs.Commands.{IsSpelled};
 ghost use Rattle.imap_syntax.specs.declared.command.Tagged.{Tagged as Asked};
@@ -83,10 +82,10 @@ pub fn constant_answers_are_printable()
     ensures idle { IsPrintableTelling idle_tells }
 {}
 
-/// What SEARCH tells, where its steps are a key's.
+/// What SEARCH tells.
 pub fn search_is_printable()
     ensures { (mailbox : OpenMailbox) (tag : List ℕ) (asked : SearchAsked) (told : Telling)
-        → IsTag tag → IsKey asked.steps → AreShowable mailbox.rows → IsNumbered mailbox.view → SearchTells mailbox tag asked told → IsPrintableTelling told }
+        → IsTag tag → AreShowable mailbox.rows → IsNumbered mailbox.view → SearchTells mailbox tag asked told → IsPrintableTelling told }
 {}
 
 /// What COPY and MOVE tell, where as many messages came into the destination as they copy.

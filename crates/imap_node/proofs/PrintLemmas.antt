@@ -111,7 +111,7 @@ module _ (start : Start) (before issued : List Op) (p : IsPresentable start (bef
       list_printable (record { subscribed_only = subscribed_only; return_subscribed = return_subscribed }) reference pattern (folders_of before) (subscribed_of before) told (folders_folded before sound)
       (subscriptions_folded before sound) h
   tells_printable (commands.Search by_uid options steps) (Selected view read_only) modseq tag told t a v n l h =
-      search_printable (mailbox_in start (before ++ issued) view read_only) tag (record { by_uid = by_uid; options = options; steps = steps }) told t a (rows_showable start (before ++ issued) view p) v h
+      search_printable (mailbox_in start (before ++ issued) view read_only) tag (record { by_uid = by_uid; options = options; steps = steps }) told t (rows_showable start (before ++ issued) view p) v h
   tells_printable (commands.Search by_uid options steps) (NotAuthenticated credentials) modseq tag told t a v n l h = subst IsPrintableTelling (sym h) nothing_printable
   tells_printable (commands.Search by_uid options steps) Authenticated modseq tag told t a v n l h = subst IsPrintableTelling (sym h) nothing_printable
   tells_printable (commands.Search by_uid options steps) LoggedOut modseq tag told t a v n l h = subst IsPrintableTelling (sym h) nothing_printable

@@ -90,7 +90,7 @@ pub fn tells(
             let asked = SearchAsked {
                 by_uid: *by_uid,
                 options: options.as_slice(),
-                steps: steps.as_slice(),
+                steps,
             };
             tells_search(alloc, replica, ops, state, tag, &asked)
         }

@@ -3,7 +3,7 @@ use Rattle.imap_syntax.specs.Keys.{all_of, and_all, key_over, key_within, search
 use Rattle.imap_syntax.specs.Languages.{each_behind, listed, never, sp}
 use Rattle.imap_syntax.specs.declared.search.SearchStep.{SearchStep}
 use Rattle.imap_syntax.specs.declared.search.SearchStep.TheVariants.{Not, Or, And}
-use Rattle.imap_query.specs.Keys.{Asks, Lacks, Either, Both, IsKey}
+use Rattle.imap_syntax.specs.SearchKeys.{Asks, Lacks, Either, Both, IsKey}
 
 AreKeys : List (List SearchStep) → Type 0
 AreKeys [] = Unit {0}
