@@ -17,7 +17,7 @@ ghost use Rattle.folder_ahead.specs.Changes.{written};
 
 use crate::changes::{LentLetter, note_letter, note_tag, note_tags_gone};
 use crate::messages::MessagesAhead;
-use crate::presence::{has_tag_left, has_tag_put};
+use crate::presence::{has_tag_left, has_tag_put, is_last_there};
 use crate::touched::touch;
 use crdt_ops::{Kind, Op, SoundOp};
 use folder_state::{Folder, Folders};
@@ -36,6 +36,7 @@ pub struct FolderAhead<'a> {
     tags: IndexMap<OpId, bool>,
     messages: MessagesAhead<'a>,
     letters: IndexMap<OpId, LentLetter<'a>>,
+    last: Option<OpId>,
 }
 
 /// A folder's messages as operations to come leave them: the mailbox as it is kept, and the messages that stand in place of
@@ -58,13 +59,14 @@ impl<'a> FolderAhead<'a> {
         ensures folder { IfOk result (λ ahead. folder_of ahead ≡ name.now) }
         ensures ahead { IfOk result (λ ahead. IsAhead (contents_of value.now) ahead) }
     {
-        let copied = name.copy(alloc)?;
+        let own = name.copy(alloc)?;
         Ok(FolderAhead {
-            name: copied,
+            name: own,
             value,
             tags: IndexMap::new(alloc),
             messages: MessagesAhead::new(alloc, value.folder(name)),
             letters: IndexMap::new(alloc),
+            last: None,
         })
     }
 
@@ -170,6 +172,7 @@ impl<'a> FolderAhead<'a> {
         if self.name.as_bytes() != folder.as_bytes() {
             return Ok(());
         }
+        self.last = Some(*id);
         note_tag(&mut self.tags, id, true)
     }
 
@@ -191,6 +194,7 @@ impl<'a> FolderAhead<'a> {
         if self.name.as_bytes() != folder.as_bytes() {
             return Ok(());
         }
+        self.last = Some(*id);
         self.messages.put(alloc, id, flags, origin)
     }
 
@@ -226,12 +230,14 @@ impl<'a> FolderAhead<'a> {
         note_letter(&mut self.letters, id, date, text)
     }
 
-    /// Whether the folder is there: INBOX, or a name with a present tag. Takes no memory. Cost: the tags that the operations
-    /// changed, from the last one on, and those that are kept, up to the first that is there.
+    /// Whether the folder is there: INBOX, or a name with a present tag. Takes no memory. Cost: two look-ups where the last tag
+    /// that was put in is there; else the tags that the operations changed, from the last one on, and those that are kept, up to
+    /// the first that is.
     pub fn exists(&self) -> bool
         ensures { (c : Contents) → IsAhead c self.now → IsTrue result ↔ IsFolder c (folder_of self.now) }
     {
         self.is_inbox()
+            || is_last_there(&self.tags, &self.messages, &self.last)
             || has_tag_put(&self.tags)
             || self.messages.has_put()
             || has_tag_left(&self.tags, &self.messages)

@@ -68,14 +68,16 @@ pub fn has_listed(messages: &MessagesAhead<'_>, ids: Option<&Vec<OpId>>, origin:
     }
 }
 
-/// Whether one of these ids is that of a version of the origin that is there.
+/// Whether one of these ids is that of a version of the origin that is there, the last of them first.
 fn has_one(messages: &MessagesAhead<'_>, ids: &[OpId], origin: &OpId) -> bool
     ensures { result ≡ list_any (is_version (bodies_of messages.now) origin.now) ids.now }
 {
-    for id in ids {
-        if is_version(messages, id, origin) {
+    let mut rest = ids;
+    while let [front @ .., last] = rest {
+        if is_version(messages, last, origin) {
             return true;
         }
+        rest = front;
     }
     false
 }

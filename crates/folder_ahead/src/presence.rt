@@ -3,9 +3,10 @@
 ghost use Rattle.std.specs.Prelude.{◌≡◌, true, false, Some};
 ghost use Rattle.std.specs.List.{slice_get};
 ghost use Rattle.std.specs.Map.{lookup};
+ghost use Rattle.std.specs.Option.{option_copied};
 ghost use Rattle.tags_clocks.specs.declared.id.OpId.{OpId as Id};
 ghost use Rattle.crdt_ops.specs.Order.{same_id};
-ghost use Rattle.folder_state.specs.Kept.{folder_ids};
+ghost use Rattle.folder_state.specs.Kept.{folder_ids, has_tag_in};
 ghost use Rattle.folder_ahead.specs.Changes.{IsKeptTag, at_key, is_put, is_tag, is_there, is_there_at, kept_of, tag_over};
 
 use crate::changes::Change;
@@ -84,6 +85,20 @@ fn is_put(changes: &IndexMap<OpId, Change<'_>>, id: &OpId) -> bool
     }
 }
 
+/// Whether a tag with this id is there, of either kind, where there is an id.
+pub fn is_last_there(
+    tags: &IndexMap<OpId, bool>,
+    messages: &MessagesAhead<'_>,
+    last: &Option<OpId>,
+) -> bool
+    ensures { result ≡ is_there_at tags.now.entries messages.now last.now }
+{
+    match last {
+        Some(id) => is_there(tags, messages, id),
+        None => false,
+    }
+}
+
 /// Whether a tag that is kept is there.
 pub fn has_tag_left(tags: &IndexMap<OpId, bool>, messages: &MessagesAhead<'_>) -> bool
     ensures yes { result ≡ true → (i : Id) × (is_there tags.now.entries messages.now i ≡ true) }
@@ -120,34 +135,37 @@ fn is_there_at(
     folder: &Folder,
     place: usize,
 ) -> bool
-    requires { kept_of messages.now ≡ Some folder.now }
     ensures { result ≡ is_there_at tags.now.entries messages.now (slice_get (folder_ids folder.now) place) }
 {
     match folder.id_at(place) {
-        Some(id) => is_there(tags, messages, folder, &id),
+        Some(id) => is_there(tags, messages, &id),
         None => false,
     }
 }
 
 /// Whether a tag with this id is there, of either kind.
-fn is_there(
-    tags: &IndexMap<OpId, bool>,
-    messages: &MessagesAhead<'_>,
-    folder: &Folder,
-    id: &OpId,
-) -> bool
-    requires { kept_of messages.now ≡ Some folder.now }
+fn is_there(tags: &IndexMap<OpId, bool>, messages: &MessagesAhead<'_>, id: &OpId) -> bool
     ensures { result ≡ is_there tags.now.entries messages.now id.now }
 {
-    has_tag(tags, folder, id) || messages.origin_of(id).is_some()
+    has_tag(tags, messages.kept, id) || messages.origin_of(id).is_some()
 }
 
 /// Whether the folder tag with this id is there.
-fn has_tag(tags: &IndexMap<OpId, bool>, folder: &Folder, id: &OpId) -> bool
-    ensures { result ≡ tag_over tags.now.entries (Some folder.now) id.now }
+fn has_tag(tags: &IndexMap<OpId, bool>, kept: Option<&Folder>, id: &OpId) -> bool
+    ensures { result ≡ tag_over tags.now.entries (option_copied kept.entry) id.now }
 {
     match tags.get(id).copied() {
         Some(present) => present,
-        None => folder.has_tag(id),
+        None => has_kept_tag(kept, id),
+    }
+}
+
+/// Whether the folder tag with this id is kept.
+fn has_kept_tag(kept: Option<&Folder>, id: &OpId) -> bool
+    ensures { result ≡ has_tag_in (option_copied kept.entry) id.now }
+{
+    match kept {
+        Some(folder) => folder.has_tag(id),
+        None => false,
     }
 }
