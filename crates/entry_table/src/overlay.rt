@@ -1,6 +1,6 @@
 //! Entries as operations to come would leave them.
 
-ghost use Rattle.std.specs.Prelude.{◌≡◌, IfOk, OnOk};
+ghost use Rattle.std.specs.Prelude.{◌≡◌, ◌≤◌, IfOk, OnOk};
 ghost use Rattle.entry_table.specs.Entries.{AreIndexed, AreRising, told, told_over};
 ghost use Rattle.entry_table.specs.Tables.{HasEdits};
 
@@ -57,10 +57,12 @@ impl<'a> EntryOverlay<'a> {
         let _list = &self.list;
     }
 
-    /// Room for so many edits more; `Err` where there is no memory. The entries stay.
+    /// Room for so many edits more; `Err` where there is no memory. The entries stay, and no room is lost.
     pub fn reserve(&mut self, edits: usize) -> Result<(), AllocError>
         ensures entries { self.new.entries ≡ self.old.entries }
         ensures ok { OnOk result (HasEdits self.new edits) }
+        ensures places { self.old.places ≤ self.new.places }
+        ensures ids { self.old.ids ≤ self.new.ids }
     {
         self.own.reserve(edits)?;
         self.list.reserve(edits)

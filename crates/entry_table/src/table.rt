@@ -43,7 +43,7 @@ impl EntryTable {
         }
     }
 
-    /// Room for so many entries more; `Err` where there is no memory. The entries stay.
+    /// Room for so many edits more; `Err` where there is no memory. The entries stay, and no room is lost.
     pub fn reserve(&mut self, alloc: Global, edits: usize) -> Result<(), AllocError>
         ensures entries { self.new.entries ≡ self.old.entries }
         ensures ok { OnOk result (edits ≤ self.new.room) }
