@@ -4,6 +4,8 @@
 #[cfg(test)]
 mod asking;
 #[cfg(test)]
+mod base;
+#[cfg(test)]
 mod fixtures;
 #[cfg(test)]
 mod four;
