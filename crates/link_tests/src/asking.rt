@@ -2,11 +2,11 @@
 
 ghost use Rattle.std.specs.Prelude.{◌≡◌};
 
-use crate::base::{Base, based, finished};
-use crate::fixtures::{both, fresh_book, open_one, say};
-use crate::links::{is_agreed, issued, say_and_send, take};
+use crate::fixtures::{fresh_book, open_one, say};
+use crate::links::{finished, is_agreed, issued, take};
 use crate::mail::{Lines, Mail, two_lines};
 use crate::told::tell_answers;
+use crdt_ops::SoundOp;
 use crossbeam_channel::Receiver;
 use replica_links::{Inbox, Letter, LinkMsg};
 use replica_lock::{Book, Pass, Shared};
@@ -20,18 +20,18 @@ use std::thread;
 use std::thread::Threads;
 use std::time::Duration;
 
-/// Gives a command whose message is lost; whether it issued one operation.
-fn say_and_lose<L: Ledger, R: Wait>(
+/// Gives a command, and tells what it issued.
+fn say_one<L: Ledger, R: Wait>(
     rt: &R,
     alloc: Global,
     shared: &Shared<L>,
     pass: &mut Pass<L>,
     line: &[u8],
-) -> Result<bool, AllocError> {
+) -> Result<Vec<SoundOp>, AllocError> {
     if !say(rt, alloc, shared, pass, line) {
-        return Ok(false);
+        return Ok(Vec::new(alloc));
     }
-    Ok(issued(alloc, pass)?.len() == 1)
+    issued(alloc, pass)
 }
 
 /// Makes three folders at a replica and sends the first two; the message with the third is lost.
@@ -44,10 +44,12 @@ fn send_two<L: Ledger, R: Wait>(
     if !open_one(mail.rt, alloc, shared, pass) {
         return Ok(false);
     }
-    let first = say_and_send(alloc, shared, pass, mail, "a CREATE a\r\n")?;
-    let second = say_and_send(alloc, shared, pass, mail, "b CREATE b\r\n")?;
-    let lost = say_and_lose(mail.rt, alloc, shared, pass, b"c CREATE c\r\n")?;
-    Ok(first == 1 && second == 1 && lost)
+    let first = say_one(mail.rt, alloc, shared, pass, b"a CREATE a\r\n")?;
+    let second = say_one(mail.rt, alloc, shared, pass, b"b CREATE b\r\n")?;
+    let third = say_one(mail.rt, alloc, shared, pass, b"c CREATE c\r\n")?;
+    let lost = third.len() == 1;
+    drop(third);
+    Ok(lost && mail.send(1, LinkMsg::Ops(first)) && mail.send(1, LinkMsg::Ops(second)))
 }
 
 /// Looks many times whether two replicas agree, and then stops both links; whether they did.
@@ -88,40 +90,17 @@ fn healed<L: Ledger + Send + Sync, M: Ledger + Send + Sync, R: Threads + Wait + 
     other_blank: Blank,
     books: (Book, Book),
     lines: &Lines,
-) -> Option<(bool, (Book, Book))>
+) -> Option<(bool, Book, Book)>
     requires one { (blank.name ≡ L.name) × (blank.parts ≡ L.parts) × (L.parts ≡ 4294967295) }
     requires two { (other_blank.name ≡ M.name) × (other_blank.parts ≡ M.parts) × (M.parts ≡ 4294967295) }
 {
-    match both(based::<L>(blank, books.0), based::<M>(other_blank, books.1)) {
-        Some((near, far)) => heal(rt, alloc, near, far, lines),
-        None => None,
-    }
-}
-
-fn heal<L: Ledger + Send + Sync, M: Ledger + Send + Sync, R: Threads + Wait + Clock + Sync>(
-    rt: &R,
-    alloc: Global,
-    near: Base<L>,
-    far: Base<M>,
-    lines: &Lines,
-) -> Option<(bool, (Book, Book))>
-    requires one { L.parts ≡ 4294967295 }
-    requires two { M.parts ≡ 4294967295 }
-{
-    let Base {
-        shared: one,
-        first,
-        mut client,
-        link,
-    } = near;
-    let Base {
-        shared: other,
-        first: far_first,
-        client: far_client,
-        link: far_link,
-    } = far;
+    let (one, mut first) = Shared::<L>::new(blank, books.0);
+    let (other, mut far) = Shared::<M>::new(other_blank, books.1);
+    let (Some(link), Some(far_link)) = (first.cut(), far.cut()) else {
+        return None;
+    };
     let mail = Mail::new(rt, 0, &lines.links);
-    let sent = send_two(alloc, &one, &mut client, &mail).unwrap_or(false);
+    let sent = send_two(alloc, &one, &mut first, &mail).unwrap_or(false);
     let (near, (distant, agreed)) = thread::join(
         rt,
         || serve(
@@ -145,15 +124,20 @@ fn heal<L: Ledger + Send + Sync, M: Ledger + Send + Sync, R: Threads + Wait + Cl
             || watch(alloc, &one, &other, &mail),
         ),
     );
-    let book = finished(alloc, one, (first, client, near));
-    let far_book = finished(alloc, other, (far_first, far_client, distant));
-    done_with(sent && agreed, both(book, far_book))
+    let book = finished(alloc, one, first, near);
+    let far_book = finished(alloc, other, far, distant);
+    both(sent && agreed, book, far_book)
 }
 
-fn done_with(done: bool, books: Option<(Book, Book)>) -> Option<(bool, (Book, Book))> {
-    match books {
-        Some(books) => Some((done, books)),
-        None => None,
+/// Both books, or nothing.
+fn both(done: bool, one: Option<Book>, other: Option<Book>) -> Option<(bool, Book, Book)> {
+    match (one, other) {
+        (Some(one), Some(other)) => Some((done, one, other)),
+        (one, other) => {
+            drop(one);
+            drop(other);
+            None
+        }
     }
 }
 
@@ -167,50 +151,30 @@ fn is_healed(alloc: Global, one: &Book, other: &Book) -> Result<bool, AllocError
     )
 }
 
-/// The same of books that go.
-fn are_healed(alloc: Global, books: (Book, Book)) -> Result<bool, AllocError> {
-    let (one, other) = books;
-    let healed = is_healed(alloc, &one, &other);
-    drop(one);
-    drop(other);
-    healed
-}
-
-/// The same at two new replicas.
-fn healed_two<R: Threads + Wait + Clock + Sync>(
-    rt: &R,
-    alloc: Global,
-    lines: &Lines,
-) -> Option<(bool, (Book, Book))> {
-    let books = both(fresh_book(alloc, 1), fresh_book(alloc, 2))?;
+/// The same at two new replicas: whether they agree in the end, and the second one was given each operation in order.
+fn healed_two<R: Threads + Wait + Clock + Sync>(rt: &R, alloc: Global) -> Result<bool, AllocError> {
+    let lines = two_lines(alloc)?;
+    let (Some(one), Some(other)) = (fresh_book(alloc, 1), fresh_book(alloc, 2)) else {
+        return Ok(false);
+    };
     let whole = 4_294_967_295;
-    healed::<Brand, Brand, R>(
+    let books = healed::<Brand, Brand, R>(
         rt,
         alloc,
         Blank::new(whole),
         Blank::new(whole),
-        books,
-        lines,
-    )
-}
-
-/// Whether they agree in the end, over new channels, and the second one was given each operation in order.
-fn healed_anew<R: Threads + Wait + Clock + Sync>(
-    rt: &R,
-    alloc: Global,
-) -> Result<bool, AllocError> {
-    let lines = two_lines(alloc)?;
-    let healed = healed_two(rt, alloc, &lines);
-    drop(lines);
-    match healed {
-        Some((done, books)) => Ok(are_healed(alloc, books)? && done),
+        (one, other),
+        &lines,
+    );
+    match books {
+        Some((done, one, other)) => Ok(is_healed(alloc, &one, &other)? && done),
         None => Ok(false),
     }
 }
 
 #[test]
 fn a_last_message_that_is_lost_is_asked_for(rt: HostRuntime) -> Result<(), Fail> {
-    let healed = healed_anew(&rt, rt.alloc())?;
+    let healed = healed_two(&rt, rt.alloc())?;
     assert!(rt; healed);
     Ok(())
 }

@@ -29,18 +29,6 @@ pub fn book_from(alloc: Global, number: u32, uid: u32) -> Option<Book> {
     }
 }
 
-/// Both, where both are there.
-pub fn both<A: Drop, B: Drop>(one: Option<A>, other: Option<B>) -> Option<(A, B)> {
-    match (one, other) {
-        (Some(one), Some(other)) => Some((one, other)),
-        (one, other) => {
-            drop(one);
-            drop(other);
-            None
-        }
-    }
-}
-
 /// Opens a session of a known user.
 pub fn open_one<L: Ledger, R: Wait>(
     rt: &R,
@@ -76,7 +64,6 @@ fn say_tagged<L: Ledger, R: Wait>(
     tagged: Tagged,
 ) -> bool {
     if pass.session().is_none() {
-        drop(tagged);
         return false;
     }
     shared

@@ -82,13 +82,7 @@ fn stands(book: &Book, place: u64, outcome: &Outcome) -> bool {
 
 /// How many outcomes stand where they were seen.
 fn standing(book: &Book, seen: &[(u64, Outcome)]) -> usize {
-    let mut count = 0usize;
-    for (place, outcome) in seen {
-        if stands(book, *place, outcome) {
-            count = count.saturating_add(1);
-        }
-    }
-    count
+    seen.iter().filter(|s| stands(book, s.0, &s.1)).count()
 }
 
 /// Whether the entry there is the command with this tag.
@@ -154,127 +148,41 @@ fn four<L: Ledger + Send + Sync, R: Threads + Wait + Sync>(
     requires parts { (blank.parts ≡ L.parts) × (L.parts ≡ 4294967295) }
 {
     let (shared, mut first) = Shared::<L>::new(blank, book);
-    let done = all_worked(rt, alloc, &shared, &mut first);
-    let gathered = gather(alloc, first, done);
-    match gathered {
-        Ok(gathered) => counted(alloc, shared, gathered),
-        Err(AllocError) => {
-            drop(shared);
-            Err(AllocError)
-        }
-    }
-}
-
-/// Four passes, cut from one, and the numbers of those who work with them.
-fn cut_four<L: Ledger>(
-    alloc: Global,
-    first: &mut Pass<L>,
-) -> Result<Vec<(u8, Pass<L>)>, AllocError> {
     let mut jobs = Vec::new(alloc);
     for client in 0..4u8 {
-        if let Some(pass) = first.cut() {
-            jobs.push((client, pass))?;
-        }
+        let Some(pass) = first.cut() else {
+            return Ok(None);
+        };
+        jobs.push((client, pass))?;
     }
-    Ok(jobs)
-}
-
-/// What the four bring back.
-fn all_worked<L: Ledger + Send + Sync, R: Threads + Wait + Sync>(
-    rt: &R,
-    alloc: Global,
-    shared: &Shared<L>,
-    first: &mut Pass<L>,
-) -> Result<Vec<Worked<L>>, AllocError> {
-    let jobs = cut_four(alloc, first)?;
-    Ok(thread::map_vec(
+    let lent = &shared;
+    let done = thread::map_vec(
         rt,
         jobs,
-        &|job: (u8, Pass<L>)| { work(rt, alloc, shared, job.1, job.0) },
-    )?)
-}
-
-/// All passes, what each worker saw, and whether every call was made.
-#[derive(Drop)]
-struct Gathered<L: Ledger> {
-    passes: Vec<Pass<L>>,
-    workers: Vec<(u8, Vec<(u64, Outcome)>)>,
-    whole: bool,
-}
-
-fn gather<L: Ledger>(
-    alloc: Global,
-    first: Pass<L>,
-    done: Result<Vec<Worked<L>>, AllocError>,
-) -> Result<Gathered<L>, AllocError> {
-    let mut gathered = Gathered {
-        passes: Vec::new(alloc),
-        workers: Vec::new(alloc),
-        whole: true,
-    };
-    let _ = gathered.passes.push(first);
-    match gather_all(&mut gathered, done) {
-        Ok(()) => Ok(gathered),
-        Err(AllocError) => {
-            drop(gathered);
-            Err(AllocError)
+        &|job: (u8, Pass<L>)| { work(rt, alloc, lent, job.1, job.0) },
+    )?;
+    let mut passes = Vec::new(alloc);
+    let mut workers = Vec::new(alloc);
+    passes.push(first)?;
+    for worked in done {
+        let Worked {
+            pass,
+            client,
+            seen,
+            whole,
+        } = worked;
+        if !whole {
+            return Ok(None);
         }
+        passes.push(pass)?;
+        workers.push((client, seen))?;
     }
-}
-
-fn gather_all<L: Ledger>(
-    gathered: &mut Gathered<L>,
-    done: Result<Vec<Worked<L>>, AllocError>,
-) -> Result<(), AllocError> {
-    for worked in done? {
-        gather_one(gathered, worked)?;
-    }
-    Ok(())
-}
-
-fn gather_one<L: Ledger>(gathered: &mut Gathered<L>, worked: Worked<L>) -> Result<(), AllocError> {
-    let Worked {
-        pass,
-        client,
-        seen,
-        whole,
-    } = worked;
-    gathered.whole = gathered.whole && whole;
-    let kept = gathered.passes.push(pass).is_ok();
-    gathered.workers.push((client, seen))?;
-    if kept { Ok(()) } else { Err(AllocError) }
-}
-
-/// What is found in the journal.
-fn counted<L: Ledger>(
-    alloc: Global,
-    shared: Shared<L>,
-    gathered: Gathered<L>,
-) -> Result<Option<Counts>, AllocError>
-    requires { L.parts ≡ 4294967295 }
-{
-    let Gathered {
-        passes,
-        workers,
-        whole,
-    } = gathered;
     match shared.finish(passes) {
         Ok(book) => {
-            let counts = told(alloc, &book, &workers);
-            let length = book.len();
-            drop(book);
-            drop(workers);
-            let (stand, own) = counts?;
-            Ok(if whole {
-                Some((length, stand, own))
-            } else {
-                None
-            })
+            let (stand, own) = told(alloc, &book, &workers)?;
+            Ok(Some((book.len(), stand, own)))
         }
-        Err(_) => {
-            drop(workers);
-            Ok(None)
-        }
+        Err(_) => Ok(None),
     }
 }
 

@@ -2,7 +2,7 @@
 
 ghost use Rattle.std.specs.Prelude.{◌≡◌};
 
-use crate::fixtures::{both, fresh_book, open_one};
+use crate::fixtures::{fresh_book, open_one};
 use replica_lock::{Book, Gate, Pass, Shared};
 use std::alloc::Global;
 use std::marker::Brand;
@@ -87,31 +87,21 @@ fn gates<L: Ledger + Send + Sync, M: Ledger + Send + Sync, R: Threads + Wait + S
 {
     let (one, mut pass) = Shared::<L>::new(blank, books.0);
     let (other, mut far) = Shared::<M>::new(other_blank, books.1);
-    let (apart, done) = raced(rt, alloc, &one, &other, &mut far, 1_000_000);
-    let (same, after) = raced(rt, alloc, &one, &one, &mut pass, 100_000);
-    drop(far);
-    drop(other);
-    drop(pass);
-    drop(one);
-    (apart, done, same, after)
-}
-
-/// Whether a call at a replica was answered while another's lock was held, or its own, for so many turns; and that it was in the end.
-fn raced<L: Ledger + Send + Sync, M: Ledger + Send + Sync, R: Threads + Wait + Sync>(
-    rt: &R,
-    alloc: Global,
-    locked: &Shared<L>,
-    called: &Shared<M>,
-    pass: &mut Pass<M>,
-    turns: u64,
-) -> (bool, bool) {
     let reached = AtomicU64::new(0);
     let answered = AtomicU64::new(0);
-    thread::join(
+    let (apart, done) = thread::join(
         rt,
-        || held(rt, locked, &reached, &answered, turns),
-        || opened(rt, alloc, called, pass, &reached, &answered),
-    )
+        || held(rt, &one, &reached, &answered, 1_000_000),
+        || opened(rt, alloc, &other, &mut far, &reached, &answered),
+    );
+    let reached = AtomicU64::new(0);
+    let answered = AtomicU64::new(0);
+    let (same, after) = thread::join(
+        rt,
+        || held(rt, &one, &reached, &answered, 100_000),
+        || opened(rt, alloc, &one, &mut pass, &reached, &answered),
+    );
+    (apart, done, same, after)
 }
 
 /// The same at two new replicas.
@@ -119,7 +109,7 @@ fn gates_of_two<R: Threads + Wait + Sync>(
     rt: &R,
     alloc: Global,
 ) -> Option<(bool, bool, bool, bool)> {
-    let books = both(fresh_book(alloc, 1), fresh_book(alloc, 2))?;
+    let books = (fresh_book(alloc, 1)?, fresh_book(alloc, 2)?);
     let whole = 4_294_967_295;
     Some(gates::<Brand, Brand, R>(rt, alloc, Blank::new(whole), Blank::new(whole), books))
 }
@@ -162,14 +152,11 @@ fn changes<L: Ledger + Send + Sync, R: Threads + Wait + Sync>(
 {
     let (one, mut pass) = Shared::<L>::new(blank, book);
     let begun = AtomicU64::new(0);
-    let told = thread::join(
+    thread::join(
         rt,
         || await_first(rt, &one, &begun),
         || begin(rt, alloc, &one, &mut pass, &begun),
-    );
-    drop(pass);
-    drop(one);
-    told
+    )
 }
 
 /// The same at a new replica.

@@ -2,7 +2,6 @@
 
 ghost use Rattle.std.specs.Prelude.{◌≡◌};
 
-use crate::base::{Base, based};
 use crate::fixtures::{fresh_book, open_one, say};
 use replica_lock::{Book, Pass, Shared};
 use std::alloc::Global;
@@ -74,23 +73,9 @@ fn two_idle<L: Ledger + Send + Sync, R: Threads + Wait + Sync>(
 ) -> Option<(bool, u64)>
     requires { (blank.name ≡ L.name) × (blank.parts ≡ L.parts) × (L.parts ≡ 4294967295) }
 {
-    match based::<L>(blank, book) {
-        Some(base) => Some(both_idle(rt, alloc, base)),
-        None => None,
-    }
-}
-
-fn both_idle<L: Ledger + Send + Sync, R: Threads + Wait + Sync>(
-    rt: &R,
-    alloc: Global,
-    base: Base<L>,
-) -> (bool, u64) {
-    let Base {
-        shared,
-        mut first,
-        client: mut one,
-        link: mut other,
-    } = base;
+    let (shared, mut first) = Shared::<L>::new(blank, book);
+    let mut one = first.cut()?;
+    let mut other = first.cut()?;
     let opened = open_one(rt, alloc, &shared, &mut one) && open_one(rt, alloc, &shared, &mut other);
     let begun = idle(rt, alloc, &shared, &mut one) && idle(rt, alloc, &shared, &mut other);
     let over = AtomicU64::new(0);
@@ -105,11 +90,7 @@ fn both_idle<L: Ledger + Send + Sync, R: Threads + Wait + Sync>(
             )
         },
     );
-    drop(other);
-    drop(one);
-    drop(first);
-    drop(shared);
-    (opened && begun, length)
+    Some((opened && begun, length))
 }
 
 /// The same at a new replica.

@@ -2,7 +2,7 @@
 
 ghost use Rattle.std.specs.Prelude.{◌≡◌};
 
-use crate::fixtures::{both, fresh_book, open_one, operation, say};
+use crate::fixtures::{fresh_book, open_one, operation, say};
 use crate::link::Step;
 use crate::playing::{Deed, play_two};
 use crate::told::{tell_answers, tell_id};
@@ -39,11 +39,7 @@ fn tell_joined(
         return text.push_str("no name\n");
     };
     match Book::join(alloc, id, ops) {
-        Ok(book) => {
-            let told = tell_book(text, &book);
-            drop(book);
-            told
-        }
+        Ok(book) => tell_book(text, &book),
         Err(fault) => tell_fault(text, fault),
     }
 }
@@ -112,11 +108,7 @@ const CASES: &[Case<'static>] = &[
 fn case_text(alloc: Global, name: u32, lines: &[&str]) -> Result<String, AllocError> {
     let mut text = String::new(alloc);
     let told = match operations(alloc, lines)? {
-        Some(ops) => {
-            let told = tell_joined(alloc, &mut text, name, &ops);
-            drop(ops);
-            told
-        }
+        Some(ops) => tell_joined(alloc, &mut text, name, &ops),
         None => Ok(()),
     };
     told?;
@@ -158,12 +150,18 @@ fn worked<L: Ledger, R: Wait>(
         && say(rt, alloc, &shared, &mut pass, b"d APPEND a {1}\r\nx\r\n");
     let ops = shared.ops_copy(rt, alloc, &pass).ok();
     let book = handed_out(alloc, shared, pass).ok();
-    if said {
-        both(book, ops)
-    } else {
-        drop(book);
-        drop(ops);
-        None
+    if said { both(book, ops) } else { None }
+}
+
+/// Both, or nothing.
+fn both(book: Option<Book>, ops: Option<Vec<SoundOp>>) -> Option<(Book, Vec<SoundOp>)> {
+    match (book, ops) {
+        (Some(book), Some(ops)) => Some((book, ops)),
+        (book, ops) => {
+            drop(book);
+            drop(ops);
+            None
+        }
     }
 }
 
@@ -254,44 +252,18 @@ fn lacking<L: Ledger, M: Ledger, R: Wait>(
 {
     let (one, mut first) = Shared::<L>::new(blank, books.0);
     let (other, mut second) = Shared::<M>::new(other_blank, books.1);
-    let opened = open_cut(rt, alloc, &one, &mut first);
-    let idle = second.cut();
-    let there = idle.is_some();
+    let (Some(mut cut), Some(idle)) = (first.cut(), second.cut()) else {
+        return None;
+    };
+    let opened = open_one(rt, alloc, &one, &mut cut) && open_one(rt, alloc, &other, &mut second);
+    drop(cut);
     drop(idle);
-    let open = open_one(rt, alloc, &other, &mut second);
     let fault = handed_out(alloc, one, first).err();
     let entries = match handed_out(alloc, other, second) {
-        Ok(book) => length_of(book),
+        Ok(book) => book.len(),
         Err(_) => 0,
     };
-    if opened && there && open {
-        Some((fault, entries))
-    } else {
-        None
-    }
-}
-
-/// Opens a session with a pass that goes.
-fn open_cut<L: Ledger, R: Wait>(
-    rt: &R,
-    alloc: Global,
-    shared: &Shared<L>,
-    first: &mut Pass<L>,
-) -> bool {
-    match first.cut() {
-        Some(mut cut) => {
-            let opened = open_one(rt, alloc, shared, &mut cut);
-            drop(cut);
-            opened
-        }
-        None => false,
-    }
-}
-
-fn length_of(book: Book) -> u64 {
-    let length = book.len();
-    drop(book);
-    length
+    if opened { Some((fault, entries)) } else { None }
 }
 
 /// Hands a book out, with one pass.
@@ -312,9 +284,23 @@ fn lacking_two<R: Wait>(rt: &R, alloc: Global) -> Option<(Option<FinishFault>, u
     let ops = operations(alloc, &["1:1 - create a", "1:2 1=1 create b"]).ok()??;
     let other = joined_book(alloc, 2, &ops);
     drop(ops);
-    let books = both(fresh_book(alloc, 1), other)?;
-    let whole = 4_294_967_295;
-    lacking::<Brand, Brand, R>(rt, alloc, Blank::new(whole), Blank::new(whole), books)
+    match (fresh_book(alloc, 1), other) {
+        (Some(one), Some(other)) => {
+            let whole = 4_294_967_295;
+            lacking::<Brand, Brand, R>(
+                rt,
+                alloc,
+                Blank::new(whole),
+                Blank::new(whole),
+                (one, other),
+            )
+        }
+        (one, other) => {
+            drop(one);
+            drop(other);
+            None
+        }
+    }
 }
 
 #[test]

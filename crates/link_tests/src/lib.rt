@@ -4,8 +4,6 @@
 #[cfg(test)]
 mod asking;
 #[cfg(test)]
-mod base;
-#[cfg(test)]
 mod fixtures;
 #[cfg(test)]
 mod four;

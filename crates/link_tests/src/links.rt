@@ -2,8 +2,7 @@
 
 ghost use Rattle.std.specs.Prelude.{◌≡◌};
 
-use crate::base::{Base, based, finished};
-use crate::fixtures::{both, fresh_book, open_one, say};
+use crate::fixtures::{fresh_book, open_one, say};
 use crate::mail::{Lines, Mail, Open, two_lines};
 use crdt_ops::SoundOp;
 use crossbeam_channel::Receiver;
@@ -56,7 +55,7 @@ fn peer_of(place: usize) -> usize {
 }
 
 /// Gives a command and sends what it issued; how many operations these are.
-pub fn say_and_send<L: Ledger, R: Wait>(
+fn say_and_send<L: Ledger, R: Wait>(
     alloc: Global,
     shared: &Shared<L>,
     pass: &mut Pass<L>,
@@ -163,25 +162,14 @@ pub fn take<L: Ledger, R: Wait + Clock>(
 
 /// Whether an operation stands in a list.
 fn has(ops: &[SoundOp], op: &SoundOp) -> bool {
-    for other in ops {
-        if other.same(op) {
-            return true;
-        }
-    }
-    false
+    ops.iter().any(|other| other.same(op))
 }
 
 /// How many operations one applied, and how many of these the other did.
 fn common(one: &Book, other: &Book) -> (usize, usize) {
     let ops = one.node().op_list();
     let others = other.node().op_list();
-    let mut shared = 0usize;
-    for op in ops {
-        if has(others, op) {
-            shared = shared.saturating_add(1);
-        }
-    }
-    (ops.len(), shared)
+    (ops.len(), ops.iter().filter(|op| has(others, op)).count())
 }
 
 /// What a link's ends at a replica bring back: the pass of the client, that of the link, and how many operations were sent.
@@ -224,6 +212,42 @@ fn run_side<L: Ledger + Send + Sync, M: Ledger + Send + Sync, R: Threads + Wait 
     }
 }
 
+/// Hands the book of a replica out, with all its passes.
+fn finished_side<L: Ledger>(
+    alloc: Global,
+    shared: Shared<L>,
+    first: Pass<L>,
+    side: Side<L>,
+) -> Option<Book>
+    requires { L.parts ≡ 4294967295 }
+{
+    let Side {
+        client,
+        link,
+        sent: _,
+    } = side;
+    let mut passes = Vec::new(alloc);
+    let _ = passes.push(first);
+    let _ = passes.push(client);
+    let _ = passes.push(link);
+    shared.finish(passes).ok()
+}
+
+/// The same of a replica with two passes.
+pub fn finished<L: Ledger>(
+    alloc: Global,
+    shared: Shared<L>,
+    first: Pass<L>,
+    link: Pass<L>,
+) -> Option<Book>
+    requires { L.parts ≡ 4294967295 }
+{
+    let mut passes = Vec::new(alloc);
+    let _ = passes.push(first);
+    let _ = passes.push(link);
+    shared.finish(passes).ok()
+}
+
 /// Two replicas with a client each and links both ways: how many operations were sent from each, how many the first applied at the end, and
 /// how many of these the other did.
 fn linked<L: Ledger + Send + Sync, M: Ledger + Send + Sync, R: Threads + Wait + Clock + Sync>(
@@ -237,34 +261,14 @@ fn linked<L: Ledger + Send + Sync, M: Ledger + Send + Sync, R: Threads + Wait + 
     requires one { (blank.name ≡ L.name) × (blank.parts ≡ L.parts) × (L.parts ≡ 4294967295) }
     requires two { (other_blank.name ≡ M.name) × (other_blank.parts ≡ M.parts) × (M.parts ≡ 4294967295) }
 {
-    match both(based::<L>(blank, books.0), based::<M>(other_blank, books.1)) {
-        Some((near, far)) => run_both(rt, alloc, near, far, lines),
-        None => None,
-    }
-}
-
-fn run_both<L: Ledger + Send + Sync, M: Ledger + Send + Sync, R: Threads + Wait + Clock + Sync>(
-    rt: &R,
-    alloc: Global,
-    near: Base<L>,
-    far: Base<M>,
-    lines: &Lines,
-) -> Option<(u64, u64, usize, usize)>
-    requires one { L.parts ≡ 4294967295 }
-    requires two { M.parts ≡ 4294967295 }
-{
-    let Base {
-        shared: one,
-        first,
-        client,
-        link,
-    } = near;
-    let Base {
-        shared: other,
-        first: far_first,
-        client: far_client,
-        link: far_link,
-    } = far;
+    let (one, mut first) = Shared::<L>::new(blank, books.0);
+    let (other, mut far) = Shared::<M>::new(other_blank, books.1);
+    let (Some(client), Some(link)) = (first.cut(), first.cut()) else {
+        return None;
+    };
+    let (Some(far_client), Some(far_link)) = (far.cut(), far.cut()) else {
+        return None;
+    };
     let done = AtomicU64::new(0);
     let (near, distant) = thread::join(
         rt,
@@ -285,26 +289,27 @@ fn run_both<L: Ledger + Send + Sync, M: Ledger + Send + Sync, R: Threads + Wait 
             &done,
         ),
     );
-    let Side { client, link, sent } = near;
-    let one = finished(alloc, one, (first, client, link));
-    let Side {
-        client,
-        link,
-        sent: far_sent,
-    } = distant;
-    let other = finished(alloc, other, (far_first, client, link));
-    counted((sent, far_sent), both(one, other))
+    let sent = (near.sent, distant.sent);
+    let one = finished_side(alloc, one, first, near);
+    let other = finished_side(alloc, other, far, distant);
+    counted(sent, one, other)
 }
 
-fn counted(sent: (u64, u64), books: Option<(Book, Book)>) -> Option<(u64, u64, usize, usize)> {
-    match books {
-        Some((one, other)) => {
+fn counted(
+    sent: (u64, u64),
+    one: Option<Book>,
+    other: Option<Book>,
+) -> Option<(u64, u64, usize, usize)> {
+    match (one, other) {
+        (Some(one), Some(other)) => {
             let (applied, shared) = common(&one, &other);
-            drop(one);
-            drop(other);
             Some((sent.0, sent.1, applied, shared))
         }
-        None => None,
+        (one, other) => {
+            drop(one);
+            drop(other);
+            None
+        }
     }
 }
 
@@ -312,34 +317,25 @@ fn counted(sent: (u64, u64), books: Option<(Book, Book)>) -> Option<(u64, u64, u
 fn linked_two<R: Threads + Wait + Clock + Sync>(
     rt: &R,
     alloc: Global,
-    lines: &Lines,
-) -> Option<(u64, u64, usize, usize)> {
-    let books = both(fresh_book(alloc, 1), fresh_book(alloc, 2))?;
+) -> Result<Option<(u64, u64, usize, usize)>, AllocError> {
+    let lines = two_lines(alloc)?;
+    let (Some(one), Some(other)) = (fresh_book(alloc, 1), fresh_book(alloc, 2)) else {
+        return Ok(None);
+    };
     let whole = 4_294_967_295;
-    linked::<Brand, Brand, R>(
+    Ok(linked::<Brand, Brand, R>(
         rt,
         alloc,
         Blank::new(whole),
         Blank::new(whole),
-        books,
-        lines,
-    )
-}
-
-/// The same over new channels.
-fn linked_anew<R: Threads + Wait + Clock + Sync>(
-    rt: &R,
-    alloc: Global,
-) -> Result<Option<(u64, u64, usize, usize)>, AllocError> {
-    let lines = two_lines(alloc)?;
-    let told = linked_two(rt, alloc, &lines);
-    drop(lines);
-    Ok(told)
+        (one, other),
+        &lines,
+    ))
 }
 
 #[test]
 fn linked_replicas_end_agreeing(rt: HostRuntime) -> Result<(), Fail> {
-    let told = linked_anew(&rt, rt.alloc())?;
+    let told = linked_two(&rt, rt.alloc())?;
     assert_eq!(rt; told, Some((1_000, 1_000, 2_000, 2_000)));
     Ok(())
 }

@@ -26,43 +26,15 @@ pub struct Lines {
 
 /// Two new channels.
 pub fn two_lines(alloc: Global) -> Result<Lines, AllocError> {
-    let one = unbounded(alloc)?;
-    match unbounded(alloc) {
-        Ok(other) => lines_of(alloc, one, other),
-        Err(AllocError) => {
-            drop(one);
-            Err(AllocError)
-        }
-    }
-}
-
-/// A channel: the way to a replica, and where its letters come.
-type Channel = (Sender<Letter>, Receiver<Letter>);
-
-fn lines_of(alloc: Global, one: Channel, other: Channel) -> Result<Lines, AllocError> {
+    let (to_one, for_one) = unbounded(alloc)?;
+    let (to_other, for_other) = unbounded(alloc)?;
     let mut links = Vec::new(alloc);
-    let done = link_both(&mut links, one.0, other.0);
-    let lines = Lines {
+    links.push(to_one)?;
+    links.push(to_other)?;
+    Ok(Lines {
         links,
-        inboxes: (one.1, other.1),
-    };
-    match done {
-        Ok(()) => Ok(lines),
-        Err(AllocError) => {
-            drop(lines);
-            Err(AllocError)
-        }
-    }
-}
-
-fn link_both(
-    links: &mut Vec<Sender<Letter>>,
-    one: Sender<Letter>,
-    other: Sender<Letter>,
-) -> Result<(), AllocError> {
-    let done = links.push(one).is_ok();
-    links.push(other)?;
-    if done { Ok(()) } else { Err(AllocError) }
+        inboxes: (for_one, for_other),
+    })
 }
 
 /// The way from the replica at one place to those at all places.

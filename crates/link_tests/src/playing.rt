@@ -2,12 +2,12 @@
 
 ghost use Rattle.std.specs.Prelude.{◌≡◌, IfSome, None};
 
-use crate::fixtures::{both, open_one, operation, say};
+use crate::fixtures::{open_one, operation, say};
 use crate::link::{Link, Outbox, Step};
 use crate::links::issued;
 use crate::mail::Open;
 use crate::told::{tell_answers, tell_message};
-use crossbeam_channel::{Receiver, unbounded};
+use crossbeam_channel::unbounded;
 use replica_links::{Inbox, Letter, LinkMsg, ReplicaTaker, ask_all, link_worker};
 use replica_lock::{Book, Pass, Shared};
 use std::alloc::{AllocError, Global};
@@ -188,19 +188,12 @@ impl<L: Ledger> End<L> {
         letters: Vec<Letter>,
         ways: &mut Ways,
     ) -> Result<bool, AllocError> {
-        let (from, sent) = came(rt, alloc, letters)?;
-        let kept = self.take_all(rt, alloc, &from, ways);
-        drop(from);
-        Ok(kept? && sent)
-    }
-
-    fn take_all<R: Wait + Clock>(
-        &mut self,
-        rt: &R,
-        alloc: Global,
-        from: &Receiver<Letter>,
-        ways: &mut Ways,
-    ) -> Result<bool, AllocError> {
+        let (to, from) = unbounded(alloc)?;
+        let mut sent = true;
+        for letter in letters {
+            sent = to.send(rt, letter).is_ok() && sent;
+        }
+        drop(to);
         let Some(pass) = self.fresh() else {
             return Ok(false);
         };
@@ -208,7 +201,7 @@ impl<L: Ledger> End<L> {
             sent: Vec::new(alloc),
         };
         let inbox = Inbox {
-            letters: from,
+            letters: &from,
             peers: &[],
             asks_first: false,
             rest: Duration::from_secs(3_600),
@@ -217,7 +210,7 @@ impl<L: Ledger> End<L> {
         link_worker(rt, &mut Open, &inbox, &mut taker, &mut outbox);
         let kept = self.passes.push(taker.into_pass()).is_ok();
         ways.send_all(self.own, outbox)?;
-        Ok(kept)
+        Ok(sent && kept)
     }
 
     /// Hands the book out, with all passes.
@@ -233,21 +226,6 @@ impl<L: Ledger> End<L> {
         let _ = passes.push(client);
         shared.finish(passes).ok()
     }
-}
-
-/// A channel in which these messages wait, and no more come; and whether it took them all.
-fn came<R: Wait>(
-    rt: &R,
-    alloc: Global,
-    letters: Vec<Letter>,
-) -> Result<(Receiver<Letter>, bool), AllocError> {
-    let (to, from) = unbounded(alloc)?;
-    let mut sent = true;
-    for letter in letters {
-        sent = to.send(rt, letter).is_ok() && sent;
-    }
-    drop(to);
-    Ok((from, sent))
 }
 
 /// Asks a replica for all that this one lacks, and gives the pass back.
@@ -314,15 +292,12 @@ fn ended(
     two: Option<Book>,
 ) -> Result<String, AllocError> {
     let mut text = text;
-    let told = match both(one, two) {
-        Some((one, two)) => {
-            let told = tell_ends(&mut text, &one, &two);
-            drop(one);
-            drop(two);
-            told
-        }
-        None => Ok(()),
+    let told = match (&one, &two) {
+        (Some(one), Some(two)) => tell_ends(&mut text, one, two),
+        _ => Ok(()),
     };
+    drop(one);
+    drop(two);
     done?;
     told?;
     Ok(text)

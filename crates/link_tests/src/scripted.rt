@@ -55,12 +55,12 @@ struct Scripted<'a, R: Wait> {
     notes: Notes<'a, R>,
     alloc: Global,
     /// What it answers, one delivery after another; behind them nothing lacks.
-    answers: &'static [Took],
+    answers: &'a [Took],
     given: usize,
     /// Its clock, of this replica's operations; `None` where it has no memory.
     clock: Option<ReplicaId>,
     /// What it gives to each one who asks.
-    gives: &'static [&'static str],
+    gives: &'a [&'a str],
 }
 
 impl<'a, R: Wait> Taker for Scripted<'a, R> {
@@ -186,121 +186,67 @@ enum Said<'a> {
     Stop,
 }
 
-/// The causes of the operation that a line spells.
-fn clock_of(alloc: Global, line: &str) -> Option<Clock> {
-    let op = operation(alloc, line)?;
-    let clock = op.clock().copy(alloc);
-    drop(op);
-    clock.ok()
-}
-
-fn letter(alloc: Global, from: usize, said: Said) -> Letter {
+fn letter(alloc: Global, from: usize, said: Said) -> Result<Letter, AllocError> {
     let message = match said {
         Said::Ops(lines) => match operations(alloc, lines) {
             Some(ops) => LinkMsg::Ops(ops),
             None => LinkMsg::Stop,
         },
-        Said::Have(line) => match clock_of(alloc, line) {
-            Some(clock) => LinkMsg::Have(clock),
+        Said::Have(line) => match operation(alloc, line) {
+            Some(op) => LinkMsg::Have(op.clock().copy(alloc)?),
             None => LinkMsg::Stop,
         },
         Said::Stop => LinkMsg::Stop,
     };
-    Letter { from, message }
-}
-
-/// How a replica answers, what it gives, and the number under which it has a clock: 0 is none's, and it has no memory then.
-#[derive(Clone, Copy)]
-struct Ways {
-    answers: &'static [Took],
-    gives: &'static [&'static str],
-    clock: u32,
-}
-
-/// A replica that gives nothing and lacks nothing.
-const CALM: Ways = Ways {
-    answers: &[],
-    gives: &[],
-    clock: 9,
-};
-
-fn scripted<'a, R: Wait>(
-    rt: &'a R,
-    alloc: Global,
-    calls: &'a Sender<Call>,
-    ways: &Ways,
-) -> Scripted<'a, R> {
-    Scripted {
-        notes: Notes { rt, calls },
-        alloc,
-        answers: ways.answers,
-        given: 0,
-        clock: ReplicaId::new(ways.clock),
-        gives: ways.gives,
-    }
-}
-
-/// Has the worker take what an inbox holds, at this gate, over a replica that answers so.
-fn serve<'a, R: Wait + rt::Clock, G: Gate>(
-    rt: &'a R,
-    alloc: Global,
-    calls: &'a Sender<Call>,
-    ways: &Ways,
-    gate: &mut G,
-    inbox: &Inbox,
-) {
-    let mut taker = scripted(rt, alloc, calls, ways);
-    let mut post = Notes { rt, calls };
-    link_worker(rt, gate, inbox, &mut taker, &mut post);
-}
-
-/// Where these letters wait, and no more come.
-fn letters_of<R: Wait>(
-    rt: &R,
-    alloc: Global,
-    script: &[(usize, Said)],
-) -> Result<Receiver<Letter>, AllocError> {
-    let (to, letters) = unbounded(alloc)?;
-    for (from, said) in script {
-        let _ = to.send(rt, letter(alloc, *from, *said));
-    }
-    drop(to);
-    Ok(letters)
+    Ok(Letter { from, message })
 }
 
 /// The calls that the worker makes over a replica that answers so, where these letters come.
 fn worked<R: Wait + rt::Clock>(
     rt: &R,
     alloc: Global,
-    ways: &Ways,
-    asks_first: bool,
+    answers: &[Took],
+    gives: &[&str],
+    clock: Option<ReplicaId>,
     script: &[(usize, Said)],
 ) -> Result<String, AllocError> {
-    let letters = letters_of(rt, alloc, script)?;
+    worked_from(rt, alloc, answers, gives, clock, script, false)
+}
+
+/// The same, where it asks the others first or doesn't.
+fn worked_from<R: Wait + rt::Clock>(
+    rt: &R,
+    alloc: Global,
+    answers: &[Took],
+    gives: &[&str],
+    clock: Option<ReplicaId>,
+    script: &[(usize, Said)],
+    asks_first: bool,
+) -> Result<String, AllocError> {
+    let (sender, calls) = unbounded(alloc)?;
+    let (to, letters) = unbounded(alloc)?;
+    for (from, said) in script {
+        let _ = to.send(rt, letter(alloc, *from, *said)?);
+    }
+    drop(to);
+    let mut taker = Scripted {
+        notes: Notes { rt, calls: &sender },
+        alloc,
+        answers,
+        given: 0,
+        clock,
+        gives,
+    };
     let inbox = Inbox {
         letters: &letters,
         peers: &[1, 2],
         asks_first,
         rest: Duration::from_secs(3_600),
     };
-    let told = told_of(rt, alloc, ways, &inbox);
-    drop(letters);
-    told
-}
-
-fn told_of<R: Wait + rt::Clock>(
-    rt: &R,
-    alloc: Global,
-    ways: &Ways,
-    inbox: &Inbox,
-) -> Result<String, AllocError> {
-    let (sender, calls) = unbounded(alloc)?;
     let mut gate = Notes { rt, calls: &sender };
-    serve(rt, alloc, &sender, ways, &mut gate, inbox);
-    let told = tell_calls(rt, alloc, &calls);
-    drop(calls);
-    drop(sender);
-    told
+    let mut post = Notes { rt, calls: &sender };
+    link_worker(rt, &mut gate, &inbox, &mut taker, &mut post);
+    tell_calls(rt, alloc, &calls)
 }
 
 const NOTHING: Took = Took {
@@ -327,87 +273,55 @@ const ONE: &[&str] = &["1:1 - create a"];
 
 const THREE: &[&str] = &["1:1 - create a", "1:2 1=1 create b", "2:1 - create c"];
 
-/// How a replica answers, whether it asks the others first, the letters that come, and the calls that the worker makes.
-type Case = (Ways, bool, &'static [(usize, Said<'static>)], &'static str);
-
-const CASES: &[Case] = &[
-    // What becomes of each message.
-    (
-        Ways {
-            answers: &[
-                STALLED, LACKING, NOTHING, NOTHING, BOTH, BOTH, NOTHING, STALLED, NOTHING, NOTHING,
-                LACKING,
-            ],
-            gives: THREE,
-            clock: 9,
-        },
-        false,
-        &[
-            (4, Said::Ops(THREE)),
-            (2, Said::Ops(ONE)),
-            (3, Said::Ops(THREE)),
-            (5, Said::Ops(ONE)),
-            (6, Said::Ops(THREE)),
-            (7, Said::Ops(&[])),
-            (8, Said::Have("1:3 1=2,4=1 create d")),
-            (9, Said::Stop),
-            (2, Said::Ops(ONE)),
-        ],
-        "pass 1\ndeliver 1:1\ndeliver 1:2\ndeliver 2:1\ndrain\nclock\nask 4 9=7\npass 2\ndeliver 1:1\npass 3\ndeliver 1:1\ndeliver 1:2\ndeliver 2:1\ndrain\nclock\nask 3 9=7\npass 4\ndeliver 1:1\ndrain\npass 5\ndeliver 1:1\ndeliver 1:2\ndeliver 2:1\nclock\nask 6 9=7\npass 6\npass 7\nsince 1=2,4=1\nhand 8 3\npass 8\n",
-    ),
-    // Nothing is sent without memory.
-    (
-        Ways {
-            answers: &[BOTH],
-            gives: THREE,
-            clock: 0,
-        },
-        false,
-        &[(4, Said::Ops(ONE)), (8, Said::Have("1:3 1=2,4=1 create d"))],
-        "pass 1\ndeliver 1:1\ndrain\nclock\npass 2\nsince 1=2,4=1\n",
-    ),
-    // Nothing is handed where nothing lacks.
-    (
-        CALM,
-        false,
-        &[(8, Said::Have("1:1 - create d")), (8, Said::Stop)],
-        "pass 1\nsince -\npass 2\n",
-    ),
-    // One that joined asks first.
-    (
-        CALM,
-        true,
-        &[(1, Said::Ops(ONE)), (2, Said::Stop)],
-        "clock\nask 1 9=7\nclock\nask 2 9=7\npass 1\ndeliver 1:1\npass 2\n",
-    ),
-    // It sends nothing without memory.
-    (
-        Ways {
-            answers: &[],
-            gives: &[],
-            clock: 0,
-        },
-        true,
-        &[(1, Said::Ops(ONE)), (2, Said::Stop)],
-        "clock\nclock\npass 1\ndeliver 1:1\npass 2\n",
-    ),
-];
-
-/// The first case in which the worker makes other calls.
-fn first_wrong<R: Wait + rt::Clock>(rt: &R, alloc: Global) -> Result<Option<usize>, AllocError> {
-    for (place, (ways, asks_first, script, wanted)) in CASES.iter().enumerate() {
-        let told = worked(rt, alloc, ways, *asks_first, script)?;
-        if told.as_str() != *wanted {
-            return Ok(Some(place));
-        }
-    }
-    Ok(None)
+#[test]
+fn what_becomes_of_each_message(rt: HostRuntime) -> Result<(), Fail> {
+    let script = [
+        (4, Said::Ops(THREE)),
+        (2, Said::Ops(ONE)),
+        (3, Said::Ops(THREE)),
+        (5, Said::Ops(ONE)),
+        (6, Said::Ops(THREE)),
+        (7, Said::Ops(&[])),
+        (8, Said::Have("1:3 1=2,4=1 create d")),
+        (9, Said::Stop),
+        (2, Said::Ops(ONE)),
+    ];
+    let answers = [
+        STALLED, LACKING, NOTHING, NOTHING, BOTH, BOTH, NOTHING, STALLED, NOTHING, NOTHING, LACKING,
+    ];
+    let told = worked(&rt, rt.alloc(), &answers, THREE, ReplicaId::new(9), &script)?;
+    let wanted =
+        "pass 1\ndeliver 1:1\ndeliver 1:2\ndeliver 2:1\ndrain\nclock\nask 4 9=7\npass 2\ndeliver 1:1\npass 3\ndeliver 1:1\ndeliver 1:2\ndeliver 2:1\ndrain\nclock\nask 3 9=7\npass 4\ndeliver 1:1\ndrain\npass 5\ndeliver 1:1\ndeliver 1:2\ndeliver 2:1\nclock\nask 6 9=7\npass 6\npass 7\nsince 1=2,4=1\nhand 8 3\npass 8\n";
+    assert!(rt; told.as_str() == wanted);
+    Ok(())
 }
 
 #[test]
-fn which_calls_the_worker_makes(rt: HostRuntime) -> Result<(), Fail> {
-    let wrong = first_wrong(&rt, rt.alloc())?;
-    assert_eq!(rt; wrong, None);
+fn nothing_is_sent_without_memory(rt: HostRuntime) -> Result<(), Fail> {
+    let script = [(4, Said::Ops(ONE)), (8, Said::Have("1:3 1=2,4=1 create d"))];
+    let told = worked(&rt, rt.alloc(), &[BOTH], THREE, None, &script)?;
+    let wanted = "pass 1\ndeliver 1:1\ndrain\nclock\npass 2\nsince 1=2,4=1\n";
+    assert!(rt; told.as_str() == wanted);
+    Ok(())
+}
+
+#[test]
+fn nothing_is_handed_where_nothing_lacks(rt: HostRuntime) -> Result<(), Fail> {
+    let script = [(8, Said::Have("1:1 - create d")), (8, Said::Stop)];
+    let told = worked(&rt, rt.alloc(), &[], &[], ReplicaId::new(9), &script)?;
+    assert!(rt; told.as_str() == "pass 1\nsince -\npass 2\n");
+    Ok(())
+}
+
+#[test]
+fn one_that_joined_asks_first(rt: HostRuntime) -> Result<(), Fail> {
+    let alloc = rt.alloc();
+    let script = [(1, Said::Ops(ONE)), (2, Said::Stop)];
+    let told = worked_from(&rt, alloc, &[], &[], ReplicaId::new(9), &script, true)?;
+    let wanted = "clock\nask 1 9=7\nclock\nask 2 9=7\npass 1\ndeliver 1:1\npass 2\n";
+    assert!(rt; told.as_str() == wanted);
+    let told = worked_from(&rt, alloc, &[], &[], None, &script, true)?;
+    assert!(rt; told.as_str() == "clock\nclock\npass 1\ndeliver 1:1\npass 2\n");
     Ok(())
 }
 
@@ -415,36 +329,29 @@ fn which_calls_the_worker_makes(rt: HostRuntime) -> Result<(), Fail> {
 fn asked_all<R: Wait>(
     rt: &R,
     alloc: Global,
-    ways: &Ways,
+    clock: Option<ReplicaId>,
     peers: &[usize],
 ) -> Result<String, AllocError> {
     let (sender, calls) = unbounded(alloc)?;
-    ask_by(rt, alloc, &sender, ways, peers);
-    let told = tell_calls(rt, alloc, &calls);
-    drop(calls);
-    drop(sender);
-    told
-}
-
-fn ask_by<'a, R: Wait>(
-    rt: &'a R,
-    alloc: Global,
-    calls: &'a Sender<Call>,
-    ways: &Ways,
-    peers: &[usize],
-) {
-    let taker = scripted(rt, alloc, calls, ways);
-    let mut post = Notes { rt, calls };
+    let taker = Scripted {
+        notes: Notes { rt, calls: &sender },
+        alloc,
+        answers: &[],
+        given: 0,
+        clock,
+        gives: &[],
+    };
+    let mut post = Notes { rt, calls: &sender };
     ask_all(&taker, &mut post, peers);
+    tell_calls(rt, alloc, &calls)
 }
 
 #[test]
 fn all_are_asked(rt: HostRuntime) -> Result<(), Fail> {
     let alloc = rt.alloc();
-    let told = asked_all(&rt, alloc, &CALM, &[3, 1, 2])?;
+    let told = asked_all(&rt, alloc, ReplicaId::new(9), &[3, 1, 2])?;
     assert!(rt; told.as_str() == "clock\nask 3 9=7\nclock\nask 1 9=7\nclock\nask 2 9=7\n");
-    let unable = Ways { clock: 0, ..CALM };
-    let told = asked_all(&rt, alloc, &unable, &[3, 1])?;
+    let told = asked_all(&rt, alloc, None, &[3, 1])?;
     assert!(rt; told.as_str() == "clock\nclock\n");
     Ok(())
 }
@@ -490,10 +397,18 @@ fn work_until_stopped<R: Wait + rt::Clock>(
     sender: Sender<Call>,
     heard: &Heard,
 ) {
+    let mut taker = Scripted {
+        notes: Notes { rt, calls: &sender },
+        alloc,
+        answers: &[],
+        given: 0,
+        clock: ReplicaId::new(9),
+        gives: &[],
+    };
     let inbox = heard.inbox();
     let mut gate = Notes { rt, calls: &sender };
-    serve(rt, alloc, &sender, &CALM, &mut gate, &inbox);
-    drop(sender);
+    let mut post = Notes { rt, calls: &sender };
+    link_worker(rt, &mut gate, &inbox, &mut taker, &mut post);
 }
 
 /// The calls that the worker makes where no letter comes.
@@ -504,39 +419,17 @@ fn rested<R: Threads + Wait + rt::Clock + Sync>(
     count: usize,
 ) -> Result<String, AllocError> {
     let (sender, calls) = unbounded(alloc)?;
-    match rest_of(rt, alloc, sender, &calls, (peers, count)) {
-        Ok(()) => {
-            let told = tell_calls(rt, alloc, &calls);
-            drop(calls);
-            told
-        }
-        Err(AllocError) => {
-            drop(calls);
-            Err(AllocError)
-        }
-    }
-}
-
-fn rest_of<R: Threads + Wait + rt::Clock + Sync>(
-    rt: &R,
-    alloc: Global,
-    sender: Sender<Call>,
-    calls: &Receiver<Call>,
-    asked: (&[usize], usize),
-) -> Result<(), AllocError> {
     let (to, letters) = unbounded(alloc)?;
     let heard = Heard {
         letters,
-        peers: asked.0.to_vec(alloc)?,
+        peers: peers.to_vec(alloc)?,
     };
     thread::join(
         rt,
         || work_until_stopped(rt, alloc, sender, &heard),
-        || stop_behind(rt, calls, asked.1, &to),
+        || stop_behind(rt, &calls, count, &to),
     );
-    drop(heard);
-    drop(to);
-    Ok(())
+    tell_calls(rt, alloc, &calls)
 }
 
 #[test]
@@ -564,37 +457,32 @@ impl<'a, R: Wait + rt::Clock> Gate for Slow<'a, R> {
 
 /// The calls that the worker makes where each of three letters takes longer than the others are left alone.
 fn hurried<R: Wait + rt::Clock>(rt: &R, alloc: Global) -> Result<String, AllocError> {
-    let script = [
-        (4, Said::Ops(&[])),
-        (4, Said::Ops(&[])),
-        (4, Said::Ops(&[])),
-    ];
-    let letters = letters_of(rt, alloc, &script)?;
+    let (sender, calls) = unbounded(alloc)?;
+    let (to, letters) = unbounded(alloc)?;
+    for _ in 0..3u8 {
+        let _ = to.send(rt, letter(alloc, 4, Said::Ops(&[]))?);
+    }
+    drop(to);
+    let mut taker = Scripted {
+        notes: Notes { rt, calls: &sender },
+        alloc,
+        answers: &[],
+        given: 0,
+        clock: ReplicaId::new(9),
+        gives: &[],
+    };
     let inbox = Inbox {
         letters: &letters,
         peers: &[1],
         asks_first: false,
         rest: Duration::from_millis(20),
     };
-    let told = told_slowly(rt, alloc, &inbox);
-    drop(letters);
-    told
-}
-
-fn told_slowly<R: Wait + rt::Clock>(
-    rt: &R,
-    alloc: Global,
-    inbox: &Inbox,
-) -> Result<String, AllocError> {
-    let (sender, calls) = unbounded(alloc)?;
     let mut gate = Slow {
         notes: Notes { rt, calls: &sender },
     };
-    serve(rt, alloc, &sender, &CALM, &mut gate, inbox);
-    let told = tell_calls(rt, alloc, &calls);
-    drop(calls);
-    drop(sender);
-    told
+    let mut post = Notes { rt, calls: &sender };
+    link_worker(rt, &mut gate, &inbox, &mut taker, &mut post);
+    tell_calls(rt, alloc, &calls)
 }
 
 /// Whether the other replica was asked between two of the letters.

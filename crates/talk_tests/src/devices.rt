@@ -53,40 +53,20 @@ fn is_lawful(course: &Course, whole: &[u8]) -> bool {
         && course.closed == 1
 }
 
-/// Whether a conversation over all that is said is so, in pieces of so many octets, with so many reads that are answered, and room for so many octets.
-fn goes_lawfully<R: Wait>(rt: &R, alloc: Global, most: usize, reads: u64, room: u64) -> bool {
-    let course = held(rt, alloc, SAID, most, reads, room);
-    let lawful = is_lawful(&course, TOLD);
-    drop(course);
-    lawful
-}
-
 /// The first number of reads with which a conversation isn't as it should be.
 fn first_unlawful_read<R: Wait>(rt: &R, alloc: Global, most: usize) -> Option<u64> {
-    for reads in 0..200u64 {
-        if !goes_lawfully(rt, alloc, most, reads, u64::MAX) {
-            return Some(reads);
-        }
-    }
-    None
+    (0..200u64).find(|reads| !is_lawful(&held(rt, alloc, SAID, most, *reads, u64::MAX), TOLD))
 }
 
 /// The first room with which a conversation isn't as it should be.
 fn first_unlawful_room<R: Wait>(rt: &R, alloc: Global, most: usize) -> Option<u64> {
-    for room in 0..400u64 {
-        if !goes_lawfully(rt, alloc, most, u64::MAX, room) {
-            return Some(room);
-        }
-    }
-    None
+    (0..400u64).find(|room| !is_lawful(&held(rt, alloc, SAID, most, u64::MAX, *room), TOLD))
 }
 
 /// Whether a conversation ends so and tells this text.
 fn ends_with<R: Wait>(rt: &R, alloc: Global, said: &[u8], ended: Ended, told: &[u8]) -> bool {
     let course = held(rt, alloc, said, 4_096, u64::MAX, u64::MAX);
-    let same = course.ended == ended && course.told.as_slice() == told && course.closed == 1;
-    drop(course);
-    same
+    course.ended == ended && course.told.as_slice() == told && course.closed == 1
 }
 
 #[test]
@@ -103,60 +83,52 @@ fn each_write_fails_in_turn(rt: HostRuntime) {
     }
 }
 
-/// Whether a reader that fails behind a command ends the conversation, whose command was answered.
-fn fails_behind_a_command<R: Wait>(rt: &R, alloc: Global) -> bool {
-    let course = held(rt, alloc, b"a NOOP\r\n", 4_096, 1, u64::MAX);
-    let right = course.ended == Ended::ReadFailed
-        && course.told.as_slice() == ANSWERED
-        && course.commands == 1
-        && course.closed == 1;
-    drop(course);
-    right
-}
-
 #[test]
 fn a_reader_fails_behind_a_command(rt: HostRuntime) {
-    assert!(rt; fails_behind_a_command(&rt, rt.alloc()));
-}
-
-/// What is told whose client gives one NOOP.
-const ANSWERED: &[u8] =
-    b"* PREAUTH [CAPABILITY IMAP4rev2 IDLE CONDSTORE] ready\r\na OK NOOP completed\r\n";
-
-/// What is said, how the conversation ends, and what is told.
-type Case<'a> = (&'a [u8], Ended, &'a [u8]);
-
-const CASES: &[Case<'static>] = &[
-    (SAID, Ended::Logout, TOLD),
-    (b"a NOOP\r\nb NO", Ended::PeerClosed, ANSWERED),
-    (
-        b"a NOOP\r\n\0",
-        Ended::Framing(Fault::NulByte),
-        b"* PREAUTH [CAPABILITY IMAP4rev2 IDLE CONDSTORE] ready\r\na OK NOOP completed\r\n* BYE NUL in text\r\n",
-    ),
-    (
-        b"a APPEND x {1048577+}\r\n",
-        Ended::Framing(Fault::LiteralTooLong),
-        b"* PREAUTH [CAPABILITY IMAP4rev2 IDLE CONDSTORE] ready\r\n* BYE literal too long\r\n",
-    ),
-    (
-        b"a APPEND x {1048577}\r\nb NOOP\r\n",
-        Ended::PeerClosed,
-        b"* PREAUTH [CAPABILITY IMAP4rev2 IDLE CONDSTORE] ready\r\na NO [LIMIT] literal too long\r\nb OK NOOP completed\r\n",
-    ),
-];
-
-/// The first case that ends otherwise.
-fn first_wrong_end<R: Wait>(rt: &R, alloc: Global) -> Option<usize> {
-    for (place, (said, ended, told)) in CASES.iter().enumerate() {
-        if !ends_with(rt, alloc, said, *ended, told) {
-            return Some(place);
-        }
-    }
-    None
+    let course = held(&rt, rt.alloc(), b"a NOOP\r\n", 4_096, 1, u64::MAX);
+    let told = b"* PREAUTH [CAPABILITY IMAP4rev2 IDLE CONDSTORE] ready\r\na OK NOOP completed\r\n";
+    assert!(rt; course.ended == Ended::ReadFailed);
+    assert!(rt; course.told.as_slice() == told.as_slice());
+    assert_eq!(rt; (course.commands, course.closed), (1, 1));
 }
 
 #[test]
 fn conversations_end(rt: HostRuntime) {
-    assert_eq!(rt; first_wrong_end(&rt, rt.alloc()), None);
+    let alloc = rt.alloc();
+    assert!(rt; ends_with(&rt, alloc, SAID, Ended::Logout, TOLD));
+    let told = b"* PREAUTH [CAPABILITY IMAP4rev2 IDLE CONDSTORE] ready\r\na OK NOOP completed\r\n";
+    assert!(rt; ends_with(&rt, alloc, b"a NOOP\r\nb NO", Ended::PeerClosed, told));
+    let told =
+        b"* PREAUTH [CAPABILITY IMAP4rev2 IDLE CONDSTORE] ready\r\na OK NOOP completed\r\n* BYE NUL in text\r\n";
+    assert!(rt;
+        ends_with(
+            &rt,
+            alloc,
+            b"a NOOP\r\n\0",
+            Ended::Framing(Fault::NulByte),
+            told
+        )
+    );
+    let told =
+        b"* PREAUTH [CAPABILITY IMAP4rev2 IDLE CONDSTORE] ready\r\n* BYE literal too long\r\n";
+    assert!(rt;
+        ends_with(
+            &rt,
+            alloc,
+            b"a APPEND x {1048577+}\r\n",
+            Ended::Framing(Fault::LiteralTooLong),
+            told
+        )
+    );
+    let told =
+        b"* PREAUTH [CAPABILITY IMAP4rev2 IDLE CONDSTORE] ready\r\na NO [LIMIT] literal too long\r\nb OK NOOP completed\r\n";
+    assert!(rt;
+        ends_with(
+            &rt,
+            alloc,
+            b"a APPEND x {1048577}\r\nb NOOP\r\n",
+            Ended::PeerClosed,
+            told
+        )
+    );
 }

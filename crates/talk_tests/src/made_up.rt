@@ -73,13 +73,10 @@ impl Port for MadeUp {
                     command: CommandWord::Idle,
                 },
             ),
-            IdleLine::Other => {
-                drop(tag);
-                Ok(Reply::Refused {
-                    why: Refusal::DoneExpected,
-                    closed: false,
-                })
-            }
+            IdleLine::Other => Ok(Reply::Refused {
+                why: Refusal::DoneExpected,
+                closed: false,
+            }),
         }
     }
 
@@ -113,14 +110,9 @@ fn replied(alloc: Global, answer: Answer) -> Result<Reply, PortFault> {
     }
 }
 
-fn one_of(alloc: Global, answer: Answer) -> Result<Vec<Answer>, AllocError> {
+fn reply_of(alloc: Global, answer: Answer) -> Result<Reply, AllocError> {
     let mut answers = Vec::new(alloc);
     answers.push(answer)?;
-    Ok(answers)
-}
-
-fn reply_of(alloc: Global, answer: Answer) -> Result<Reply, AllocError> {
-    let answers = one_of(alloc, answer)?;
     Ok(Reply::Done {
         answers: Answers::new(answers),
         silent: Silents::new(Vec::new(alloc)),

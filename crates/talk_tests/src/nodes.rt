@@ -55,41 +55,35 @@ fn node(alloc: Global, number: u32) -> Option<Node> {
 
 /// A port of a new replica to which nobody else comes, for a user who becomes known so.
 fn port(alloc: Global, number: u32, auth: Auth) -> Option<NodePort<Nobody>> {
-    let Some(node) = node(alloc, number) else {
-        drop(auth);
-        return None;
-    };
-    Some(NodePort::new(node, auth, Nobody::new(Moment::epoch())))
+    Some(NodePort::new(node(alloc, number)?, auth, Nobody::new(Moment::epoch())))
 }
 
 /// What another replica issues in a conversation, the last first.
 fn issued<R: Wait>(rt: &R, alloc: Global, most: usize) -> Option<Vec<SoundOp>> {
     let mut port = port(alloc, 2, Auth::Preauth)?;
-    let ended = Ended::PeerClosed;
-    let told = is_told(rt, alloc, &mut port, (ELSEWHERE, most), ended, MADE);
-    let ops = port.node().ops_since(alloc, &Clock::new(alloc)).ok();
-    drop(port);
-    if !told {
-        drop(ops);
+    if !is_told(
+        rt,
+        alloc,
+        &mut port,
+        (ELSEWHERE, most),
+        Ended::PeerClosed,
+        MADE,
+    ) {
         return None;
     }
-    let mut ops = ops?;
+    let mut ops = port.node().ops_since(alloc, &Clock::new(alloc)).ok()?;
     ops.reverse();
     Some(ops)
 }
 
 /// A user who has to log in with this name and this password.
 fn user(alloc: Global, name: &[u8], password: &[u8]) -> Option<Auth> {
-    let user = Octets::copied_from(alloc, name).ok()?;
-    match Octets::copied_from(alloc, password) {
-        Ok(password) => Some(Auth::Password {
-            credentials: Credentials { user, password },
-        }),
-        Err(_) => {
-            drop(user);
-            None
-        }
-    }
+    Some(Auth::Password {
+        credentials: Credentials {
+            user: Octets::copied_from(alloc, name).ok()?,
+            password: Octets::copied_from(alloc, password).ok()?,
+        },
+    })
 }
 
 /// Whether a conversation over what is said, in pieces of so many octets, ends so and tells this text.
@@ -119,33 +113,22 @@ fn is_known_served<R: Wait>(rt: &R, alloc: Global, most: usize) -> Option<bool> 
         Ended::Torn,
         b"* BYE replica changed\r\n",
     );
-    let own = port.node().replica().id();
-    drop(port);
-    Some(served && again && own == ReplicaId::new(1)?)
+    Some(served && again && port.node().replica().id() == ReplicaId::new(1)?)
 }
 
 /// Whether a user who has to log in is let in with both, name and password, alone.
 fn is_unknown_served<R: Wait>(rt: &R, alloc: Global, most: usize) -> Option<bool> {
     let mut port = port(alloc, 1, user(alloc, b"me", b"secret")?)?;
     let ended = Ended::PeerClosed;
-    let told = is_told(rt, alloc, &mut port, (UNKNOWN, most), ended, LET_IN);
-    drop(port);
-    Some(told)
+    Some(is_told(rt, alloc, &mut port, (UNKNOWN, most), ended, LET_IN))
 }
 
 /// Whether a user is told before each command what another replica did, as it came.
 fn is_told_of_others<R: Wait>(rt: &R, alloc: Global, most: usize) -> Option<bool> {
-    let ops = issued(rt, alloc, most)?;
-    let Some(node) = node(alloc, 1) else {
-        drop(ops);
-        return None;
-    };
-    let others = Deliveries::new(Moment::epoch(), ops);
-    let mut port = NodePort::new(node, Auth::Preauth, others);
+    let others = Deliveries::new(Moment::epoch(), issued(rt, alloc, most)?);
+    let mut port = NodePort::new(node(alloc, 1)?, Auth::Preauth, others);
     let ended = Ended::PeerClosed;
-    let told = is_told(rt, alloc, &mut port, (ASKED, most), ended, GROWN);
-    drop(port);
-    Some(told)
+    Some(is_told(rt, alloc, &mut port, (ASKED, most), ended, GROWN))
 }
 
 #[test]

@@ -81,38 +81,22 @@ fn trickled<R: Wait>(rt: &R, alloc: Global, reads: u64, writes: u64) -> Course {
     }
 }
 
-/// Whether a conversation over such devices ends so, with so many reads and writes that failed, and tells so much of the text.
-fn goes_so<R: Wait>(rt: &R, alloc: Global, calls: (u64, u64), ended: Ended, told: &[u8]) -> bool {
-    let course = trickled(rt, alloc, calls.0, calls.1);
-    let failed = (
-        u64::from(ended == Ended::ReadFailed),
-        u64::from(ended == Ended::WriteFailed),
-    );
-    let right = course.ended == ended && course.told.as_slice() == told && course.failed == failed;
-    drop(course);
-    right
-}
-
 #[test]
 fn octets_come_and_go_one_at_a_time(rt: HostRuntime) {
-    let whole = (u64::MAX, u64::MAX);
-    assert!(rt; goes_so(&rt, rt.alloc(), whole, Ended::Logout, TOLD));
-}
-
-/// Whether a reader that fails ends a conversation of which a beginning was told.
-fn fails_to_read<R: Wait>(rt: &R, alloc: Global) -> bool {
-    let course = trickled(rt, alloc, 20, u64::MAX);
-    let right = course.ended == Ended::ReadFailed
-        && course.told.len() < TOLD.len()
-        && TOLD.starts_with(&course.told)
-        && course.failed == (1, 0);
-    drop(course);
-    right
+    let course = trickled(&rt, rt.alloc(), u64::MAX, u64::MAX);
+    assert!(rt; course.ended == Ended::Logout);
+    assert!(rt; course.told.as_slice() == TOLD);
+    assert_eq!(rt; course.failed, (0, 0));
 }
 
 #[test]
 fn a_device_of_std_fails(rt: HostRuntime) {
-    assert!(rt; fails_to_read(&rt, rt.alloc()));
-    let writes = (u64::MAX, 30);
-    assert!(rt; goes_so(&rt, rt.alloc(), writes, Ended::WriteFailed, &TOLD[..20]));
+    let course = trickled(&rt, rt.alloc(), 20, u64::MAX);
+    assert!(rt; course.ended == Ended::ReadFailed);
+    assert!(rt; course.told.len() < TOLD.len() && TOLD.starts_with(&course.told));
+    assert_eq!(rt; course.failed, (1, 0));
+    let course = trickled(&rt, rt.alloc(), u64::MAX, 30);
+    assert!(rt; course.ended == Ended::WriteFailed);
+    assert!(rt; course.told.as_slice() == &TOLD[..20]);
+    assert_eq!(rt; course.failed, (0, 1));
 }

@@ -52,28 +52,30 @@ const fn row(input: &'static str, end: AuditEnd, line: &'static str) -> Case {
 }
 
 /// Right inputs, wrong ones and unreadable ones, with a last line that ends and with one that doesn't.
-const CASES: &[Case] = &[
-    row("", AuditEnd::Yes, "yes\n"),
-    row(RIGHT, AuditEnd::Yes, "yes\n"),
-    row("settle: Ok", AuditEnd::Yes, "yes\n"),
-    row(WRONG, AuditEnd::No(5), "no: line 5\n"),
-    row(WRONG_DUMP, AuditEnd::No(4), "no: line 4\n"),
-    row(
-        "settle: Ok\nx S: * 1 EXPUNGE",
-        AuditEnd::No(2),
-        "no: line 2\n",
-    ),
-    row(
-        "settle: Ok\nhello\nsettle: Ok\n",
-        AuditEnd::Unreadable(2),
-        "unreadable: line 2\n",
-    ),
-    row(
-        "dump 1\nop 1:1 - create work",
-        AuditEnd::Unreadable(2),
-        "unreadable: line 2\n",
-    ),
-];
+fn cases() -> [Case; 8] {
+    [
+        row("", AuditEnd::Yes, "yes\n"),
+        row(RIGHT, AuditEnd::Yes, "yes\n"),
+        row("settle: Ok", AuditEnd::Yes, "yes\n"),
+        row(WRONG, AuditEnd::No(5), "no: line 5\n"),
+        row(WRONG_DUMP, AuditEnd::No(4), "no: line 4\n"),
+        row(
+            "settle: Ok\nx S: * 1 EXPUNGE",
+            AuditEnd::No(2),
+            "no: line 2\n",
+        ),
+        row(
+            "settle: Ok\nhello\nsettle: Ok\n",
+            AuditEnd::Unreadable(2),
+            "unreadable: line 2\n",
+        ),
+        row(
+            "dump 1\nop 1:1 - create work",
+            AuditEnd::Unreadable(2),
+            "unreadable: line 2\n",
+        ),
+    ]
+}
 
 /// Gives at most so many octets a read, and `Interrupted` in place of each read whose number can be divided by `every`;
 /// by 0 none can.
@@ -200,9 +202,7 @@ impl Print for Screen {
 /// Whether the audit of what this reader gives ends so, and writes this line.
 fn ends<R: Read>(alloc: Global, reader: &mut R, end: AuditEnd, line: &str) -> bool {
     let mut written = Vec::new(alloc);
-    let right = audit(alloc, reader, &mut written) == end && written.as_slice() == line.as_bytes();
-    drop(written);
-    right
+    audit(alloc, reader, &mut written) == end && written.as_slice() == line.as_bytes()
 }
 
 /// Whether an input is audited as it should be, which comes by so many octets, with so many reads from one interruption to the next.
@@ -216,26 +216,17 @@ fn comes(alloc: Global, input: &[u8], how: (usize, u64), case: Case) -> bool {
     ends(alloc, &mut reader, case.end, case.line)
 }
 
-/// How inputs come: by so many octets, with so many reads from one interruption to the next.
-const HOWS: &[(usize, u64)] = &[(65_536, 0), (100_000, 2), (1, 0), (1, 2), (7, 3)];
-
 /// Whether a case is audited as it should be, however it comes.
 fn comes_in_pieces(alloc: Global, case: Case) -> bool {
-    for how in HOWS {
-        if !comes(alloc, case.input.as_bytes(), *how, case) {
-            return false;
-        }
-    }
-    true
+    [(65_536, 0), (100_000, 2), (1, 0), (1, 2), (7, 3)]
+        .iter()
+        .all(|how| comes(alloc, case.input.as_bytes(), *how, case))
 }
 
 fn first_wrong_case(alloc: Global) -> Option<usize> {
-    for (place, case) in CASES.iter().enumerate() {
-        if !comes_in_pieces(alloc, *case) {
-            return Some(place);
-        }
-    }
-    None
+    cases()
+        .iter()
+        .position(|case| !comes_in_pieces(alloc, *case))
 }
 
 #[test]
@@ -257,37 +248,32 @@ fn long_input(alloc: Global, last: &str) -> Result<Vec<u8>, AllocError> {
 fn is_read_whole(alloc: Global, case: Case) -> bool {
     match long_input(alloc, case.input) {
         Ok(input) => {
-            let right = input.len() > 196_608
+            input.len() > 196_608
                 && comes(alloc, &input, (65_536, 0), case)
-                && comes(alloc, &input, (4_099, 3), case);
-            drop(input);
-            right
+                && comes(alloc, &input, (4_099, 3), case)
         }
         Err(AllocError) => false,
     }
 }
 
-const LAST_LINES: &[Case] = &[
-    row("", AuditEnd::Yes, "yes\n"),
-    row(
-        "x S: * 1 EXPUNGE\n",
-        AuditEnd::No(12_001),
-        "no: line 12001\n",
-    ),
-    row(
-        "hello",
-        AuditEnd::Unreadable(12_001),
-        "unreadable: line 12001\n",
-    ),
-];
-
 fn reads_to_the_end(alloc: Global) -> bool {
-    for case in LAST_LINES {
-        if !is_read_whole(alloc, *case) {
-            return false;
-        }
-    }
-    true
+    is_read_whole(alloc, row("", AuditEnd::Yes, "yes\n"))
+        && is_read_whole(
+            alloc,
+            row(
+                "x S: * 1 EXPUNGE\n",
+                AuditEnd::No(12_001),
+                "no: line 12001\n",
+            ),
+        )
+        && is_read_whole(
+            alloc,
+            row(
+                "hello",
+                AuditEnd::Unreadable(12_001),
+                "unreadable: line 12001\n",
+            ),
+        )
 }
 
 #[test]
@@ -307,12 +293,7 @@ fn breaks_off(alloc: Global, before: usize, fault: ErrorKind) -> bool {
 
 /// The first read, of the right input one octet a read, at whose failure an audit ends otherwise than it should.
 fn first_wrong_read(alloc: Global) -> Option<usize> {
-    for before in 0..=RIGHT.len() {
-        if !breaks_off(alloc, before, ErrorKind::Other) {
-            return Some(before);
-        }
-    }
-    None
+    (0..=RIGHT.len()).find(|before| !breaks_off(alloc, *before, ErrorKind::Other))
 }
 
 fn tells_of_each_fault(alloc: Global) -> bool {
@@ -369,45 +350,24 @@ fn fails_behind(alloc: Global, case: Case, piece: usize, before: usize) -> bool 
         flushes: true,
     };
     let (end, count) = written(alloc, case, &mut pen);
-    let failed = pen.fault.is_none();
-    drop(pen);
-    if failed {
-        end == AuditEnd::WriteFailed && is_below(count, case.line.len())
+    if pen.fault.is_none() {
+        end == AuditEnd::WriteFailed && count.is_some_and(|count| count < case.line.len())
     } else {
         before > 0 && end == case.end && count == Some(case.line.len())
     }
 }
 
-fn is_below(count: Option<usize>, whole: usize) -> bool {
-    match count {
-        Some(count) => count < whole,
-        None => false,
-    }
-}
-
 /// Whether that is so behind any number of writes.
 fn fails_anywhere(alloc: Global, case: Case, piece: usize) -> bool {
-    for before in 0..=case.line.len() {
-        if !fails_behind(alloc, case, piece, before) {
-            return false;
-        }
-    }
-    true
-}
-
-fn fails_by_pieces(alloc: Global, case: Case) -> bool {
-    fails_anywhere(alloc, case, 1)
-        && fails_anywhere(alloc, case, 5)
-        && fails_anywhere(alloc, case, 1_000)
+    (0..=case.line.len()).all(|before| fails_behind(alloc, case, piece, before))
 }
 
 fn first_wrong_write(alloc: Global) -> Option<usize> {
-    for (place, case) in CASES.iter().enumerate() {
-        if !fails_by_pieces(alloc, *case) {
-            return Some(place);
-        }
-    }
-    None
+    cases().iter().position(|case| {
+        !fails_anywhere(alloc, *case, 1)
+            || !fails_anywhere(alloc, *case, 5)
+            || !fails_anywhere(alloc, *case, 1_000)
+    })
 }
 
 #[test]
@@ -429,33 +389,30 @@ fn written_wrong(
         fault,
         flushes,
     };
-    let told = written(alloc, row(WRONG, AuditEnd::No(5), "no: line 5\n"), &mut pen);
-    drop(pen);
-    told
-}
-
-/// Octets a write, a fault, whether the writer flushes, how the audit ends, and how many octets of its line are taken.
-type Writing = (usize, Option<ErrorKind>, bool, AuditEnd, usize);
-
-const WRITINGS: &[Writing] = &[
-    (1, None, true, AuditEnd::No(5), 11),
-    (1, Some(ErrorKind::Interrupted), true, AuditEnd::No(5), 11),
-    (1, None, false, AuditEnd::WriteFailed, 11),
-    (0, None, true, AuditEnd::WriteFailed, 0),
-];
-
-fn first_wrong_writing(alloc: Global) -> Option<usize> {
-    for (place, (piece, fault, flushes, end, count)) in WRITINGS.iter().enumerate() {
-        if written_wrong(alloc, *piece, *fault, *flushes) != (*end, Some(*count)) {
-            return Some(place);
-        }
-    }
-    None
+    written(alloc, row(WRONG, AuditEnd::No(5), "no: line 5\n"), &mut pen)
 }
 
 #[test]
 fn writes_the_whole_line(rt: HostRuntime) {
-    assert_eq!(rt; first_wrong_writing(rt.alloc()), None);
+    let alloc = rt.alloc();
+    let whole = Some(11);
+    assert_eq!(rt;
+        written_wrong(alloc, 1, None, true),
+        (AuditEnd::No(5), whole)
+    );
+    let interrupted = Some(ErrorKind::Interrupted);
+    assert_eq!(rt;
+        written_wrong(alloc, 1, interrupted, true),
+        (AuditEnd::No(5), whole)
+    );
+    assert_eq!(rt;
+        written_wrong(alloc, 1, None, false),
+        (AuditEnd::WriteFailed, whole)
+    );
+    assert_eq!(rt;
+        written_wrong(alloc, 0, None, true),
+        (AuditEnd::WriteFailed, Some(0))
+    );
 }
 
 /// Whether the program ends with this status and prints this line where it audits what this reader gives.
@@ -464,17 +421,11 @@ fn shows<S: Read + Drop>(alloc: Global, input: S, status: u8, line: &str) -> boo
         shown: RefCell::new(Vec::new(alloc)),
         works: true,
     };
-    let ended = audit_from(&(&screen, alloc), input);
-    let right = ended == status && has_shown(&screen, line);
-    drop(screen);
-    right
-}
-
-fn has_shown(screen: &Screen, line: &str) -> bool {
-    match screen.shown.try_borrow() {
-        Ok(shown) => shown.as_slice() == line.as_bytes(),
-        Err(_) => false,
-    }
+    audit_from(&(&screen, alloc), input) == status
+        && screen
+            .shown
+            .try_borrow()
+            .is_ok_and(|shown| shown.as_slice() == line.as_bytes())
 }
 
 /// Whether the program ends with status 3 where it can't print.
@@ -483,9 +434,7 @@ fn fails_without_a_screen(alloc: Global) -> bool {
         shown: RefCell::new(Vec::new(alloc)),
         works: false,
     };
-    let ended = audit_from(&(&screen, alloc), RIGHT.as_bytes());
-    drop(screen);
-    ended == 3
+    audit_from(&(&screen, alloc), RIGHT.as_bytes()) == 3
 }
 
 fn gives_each_status(alloc: Global) -> bool {

@@ -117,34 +117,18 @@ const fn row(before: usize, fault: ErrorKind, end: ReplayEnd, lines: usize) -> F
     }
 }
 
-const READERS: &[Failing] = &[
-    row(0, ErrorKind::Other, ReplayEnd::ReadFailed, 0),
-    row(7, ErrorKind::Other, ReplayEnd::ReadFailed, 0),
-    row(15, ErrorKind::Other, ReplayEnd::ReadFailed, 0),
-    row(16, ErrorKind::Other, ReplayEnd::ReadFailed, 1),
-    row(38, ErrorKind::Other, ReplayEnd::ReadFailed, 3),
-    row(45, ErrorKind::OutOfMemory, ReplayEnd::ReadFailed, 3),
-    row(65, ErrorKind::Other, ReplayEnd::ReadFailed, 12),
-    row(38, ErrorKind::Interrupted, ReplayEnd::Done, 12),
-];
-
 fn first_wrong_reader(alloc: Global) -> Option<usize> {
-    for (place, reader) in READERS.iter().enumerate() {
-        if !is_told(alloc, *reader) {
-            return Some(place);
-        }
-    }
-    None
-}
-
-fn lines_in(text: &[u8]) -> usize {
-    let mut lines = 0usize;
-    for octet in text {
-        if *octet == b'\n' {
-            lines = lines.saturating_add(1);
-        }
-    }
-    lines
+    let readers = [
+        row(0, ErrorKind::Other, ReplayEnd::ReadFailed, 0),
+        row(7, ErrorKind::Other, ReplayEnd::ReadFailed, 0),
+        row(15, ErrorKind::Other, ReplayEnd::ReadFailed, 0),
+        row(16, ErrorKind::Other, ReplayEnd::ReadFailed, 1),
+        row(38, ErrorKind::Other, ReplayEnd::ReadFailed, 3),
+        row(45, ErrorKind::OutOfMemory, ReplayEnd::ReadFailed, 3),
+        row(65, ErrorKind::Other, ReplayEnd::ReadFailed, 12),
+        row(38, ErrorKind::Interrupted, ReplayEnd::Done, 12),
+    ];
+    readers.iter().position(|reader| !is_told(alloc, *reader))
 }
 
 fn is_told(alloc: Global, failing: Failing) -> bool {
@@ -155,11 +139,10 @@ fn is_told(alloc: Global, failing: Failing) -> bool {
     };
     let mut printed = Vec::new(alloc);
     let end = replay(alloc, &mut reader, &mut printed);
-    let right = end == failing.end
-        && lines_in(&printed) == failing.lines
-        && FIRST_RUN_PRINTS.as_bytes().starts_with(&printed);
-    drop(printed);
-    right
+    let lines = printed.iter().filter(|octet| **octet == b'\n').count();
+    end == failing.end
+        && lines == failing.lines
+        && FIRST_RUN_PRINTS.as_bytes().starts_with(&printed)
 }
 
 #[test]
@@ -194,26 +177,19 @@ fn written(alloc: Global, room: usize, flushes: bool) -> (ReplayEnd, bool, usize
 
 /// The first number of octets for which the first run ends otherwise than it should at a writer that takes no more.
 fn first_wrong_room(alloc: Global) -> Option<usize> {
-    for room in 0..FIRST_RUN_PRINTS.len() {
-        if written(alloc, room, true) != (ReplayEnd::WriteFailed, true, room) {
-            return Some(room);
-        }
-    }
-    None
-}
-
-/// Whether a writer with room for all is told of as one, and one that doesn't flush as one that fails.
-fn ends_with_room(alloc: Global) -> bool {
-    let whole = FIRST_RUN_PRINTS.len();
-    let flushed = written(alloc, whole, true);
-    let unflushed = written(alloc, 1_000, false);
-    flushed == (ReplayEnd::Done, true, whole) && unflushed.0 == ReplayEnd::WriteFailed
+    (0..FIRST_RUN_PRINTS.len()).find(|room| written(alloc, *room, true)
+        != (ReplayEnd::WriteFailed, true, *room))
 }
 
 #[test]
 fn tells_of_writers_that_fail(rt: HostRuntime) {
     assert_eq!(rt; first_wrong_room(rt.alloc()), None);
-    assert!(rt; ends_with_room(rt.alloc()));
+    let whole = FIRST_RUN_PRINTS.len();
+    assert_eq!(rt;
+        written(rt.alloc(), whole, true),
+        (ReplayEnd::Done, true, whole)
+    );
+    assert_eq!(rt; written(rt.alloc(), 1_000, false).0, ReplayEnd::WriteFailed);
 }
 
 fn tells(alloc: Global, end: ReplayEnd, line: &str, status: u8) -> bool {
@@ -221,27 +197,20 @@ fn tells(alloc: Global, end: ReplayEnd, line: &str, status: u8) -> bool {
     tell(alloc, end, &mut printed) == status && printed.as_slice() == line.as_bytes()
 }
 
-/// How a replay ended, the line that is told of it, and the status.
-type Telling<'a> = (ReplayEnd, &'a str, u8);
-
-const TELLINGS: &[Telling<'static>] = &[
-    (ReplayEnd::Done, "", 0),
-    (ReplayEnd::BadScript { line: 2 }, "bad script: line 2\n", 3),
-    (ReplayEnd::ReadFailed, "cannot read\n", 3),
-    (ReplayEnd::WriteFailed, "", 3),
-    (ReplayEnd::NoMemory, "no memory\n", 3),
-];
-
-fn first_untold(alloc: Global) -> Option<usize> {
-    for (place, (end, line, status)) in TELLINGS.iter().enumerate() {
-        if !tells(alloc, *end, line, *status) {
-            return Some(place);
-        }
-    }
-    None
+fn tells_each_end(alloc: Global) -> bool {
+    tells(alloc, ReplayEnd::Done, "", 0)
+        && tells(
+            alloc,
+            ReplayEnd::BadScript { line: 2 },
+            "bad script: line 2\n",
+            3,
+        )
+        && tells(alloc, ReplayEnd::ReadFailed, "cannot read\n", 3)
+        && tells(alloc, ReplayEnd::WriteFailed, "", 3)
+        && tells(alloc, ReplayEnd::NoMemory, "no memory\n", 3)
 }
 
 #[test]
 fn tells_the_end(rt: HostRuntime) {
-    assert_eq!(rt; first_untold(rt.alloc()), None);
+    assert!(rt; tells_each_end(rt.alloc()));
 }

@@ -195,7 +195,6 @@ fn printed(alloc: Global) -> Option<Vec<u8>> {
     if end == ReplayEnd::Done {
         Some(printed)
     } else {
-        drop(printed);
         None
     }
 }
@@ -214,32 +213,15 @@ fn ops_of(dump: &str) -> usize {
     if !dump.contains("\nmessage ") || !dump.contains("\nsubscribed ") {
         return 0;
     }
-    let mut ops = 0usize;
-    for line in dump.lines() {
-        if line.starts_with("op ") {
-            ops = ops.saturating_add(1);
-        }
-    }
-    ops
-}
-
-/// A dump behind the replica's number in its first line.
-fn behind_number(dump: &str) -> Option<&str> {
-    match dump.get(1..) {
-        Some(rest) => Some(rest.trim_end()),
-        None => None,
-    }
+    dump.lines().filter(|line| line.starts_with("op ")).count()
 }
 
 /// How many dumps stand behind this one that are the same but for their first lines.
 fn same_dumps(first: &str, others: &str) -> usize {
-    let mut same = 0usize;
-    for dump in others.split("\ndump ") {
-        if behind_number(dump) == behind_number(first) {
-            same = same.saturating_add(1);
-        }
-    }
-    same
+    others
+        .split("\ndump ")
+        .filter(|dump| dump.get(1..).map(str::trim_end) == first.get(1..).map(str::trim_end))
+        .count()
 }
 
 /// Whether the five dumps are the same, of all operations.
@@ -247,13 +229,7 @@ fn replicas_agree(alloc: Global) -> bool {
     let Some(printed) = printed(alloc) else {
         return false;
     };
-    let agree = are_same(&printed);
-    drop(printed);
-    agree
-}
-
-fn are_same(printed: &[u8]) -> bool {
-    let Ok(text) = str::from_utf8(printed) else {
+    let Ok(text) = str::from_utf8(&printed) else {
         return false;
     };
     let Some((results, dumps)) = text.split_once("\ndump ") else {
