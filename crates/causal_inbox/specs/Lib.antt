@@ -1,5 +1,3 @@
-pub mod Cells
-pub mod Filing
 pub mod Seen
 pub mod Kept
 pub mod Delivery

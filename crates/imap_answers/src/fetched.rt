@@ -3,7 +3,7 @@
 ghost use Rattle.std.specs.Prelude.{◌≡◌, ◌↔◌, IfOk, IsTrue};
 
 use crate::codes::{are_same_flags, copied_flags};
-use imap_types::{DateTime, Flags, Section, Text};
+use imap_types::{DateTime, Flags, Octets, Section};
 use std::alloc::{AllocError, Global};
 use std::marker::Model;
 
@@ -75,8 +75,7 @@ pub struct SectionData {
     pub section: Section,
     /// Where the octets begin in the section, where a partial was asked.
     pub origin: Option<u32>,
-    /// Where the whole text is asked, shared with the message.
-    pub octets: Text,
+    pub octets: Octets,
 }
 
 impl SectionData {
@@ -96,7 +95,7 @@ impl SectionData {
         Ok(SectionData {
             section: self.section.copy(alloc)?,
             origin: self.origin,
-            octets: self.octets.copy()?,
+            octets: self.octets.copy(alloc)?,
         })
     }
 }

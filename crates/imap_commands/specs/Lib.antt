@@ -1,5 +1,4 @@
 pub mod Appending
-pub mod Asked
 pub mod Asking
 pub mod Changing
 pub mod Copying

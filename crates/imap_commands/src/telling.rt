@@ -80,10 +80,7 @@ impl Telling {
 pub fn entry_at(view: &[Entry], number: u32) -> Option<&Entry>
     ensures { option_copied result ≡ entry_at view.now number }
 {
-    if number == 0 {
-        return None;
-    }
-    view.get(number as usize - 1)
+    view.get((number as usize).saturating_sub(1))
 }
 
 /// What the listing has for the view's message with this number; `None` where it is gone. A binary search.

@@ -4,7 +4,6 @@ pub mod DateLaws
 pub mod DateTimeLaws
 pub mod Digits
 pub mod FlagLaws
-pub mod FlagSets
 pub mod FrameLaws
 pub mod Fronts
 pub mod ItemLaws

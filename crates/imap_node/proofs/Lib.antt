@@ -16,4 +16,3 @@ pub mod MomentLemmas
 pub mod QuietLemmas
 pub mod BackLemmas
 pub mod LastingLemmas
-pub mod ThreadLemmas

@@ -4,6 +4,7 @@ pub mod PlacingLemmas
 pub mod ListingLemmas
 pub mod SimplerLemmas
 pub mod CountLemmas
+pub mod GrammarLemmas
 pub mod HitLemmas
 pub mod KeyLemmas
 pub mod NamingLemmas

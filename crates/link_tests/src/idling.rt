@@ -35,58 +35,42 @@ fn feed<L: Ledger, R: Wait>(
 ) {
     let mut seen = pass.seen();
     for _ in rt.forever() {
-        let Some(session) = pass.session() else {
-            return;
-        };
-        let Some(now) = shared.wait_news(rt, session, seen) else {
-            return;
-        };
+        let now = shared.wait_change(rt, seen);
         if over.load(Ordering::SeqCst) != 0 {
             return;
         }
-        poll_one(rt, alloc, shared, pass);
+        if shared.stirred(rt, seen, now) {
+            poll_one(rt, alloc, shared, pass);
+        }
         seen = now;
     }
 }
 
-/// Lets other threads go on for a while.
-fn give_way() {
-    for _ in 0..100_000u32 {
-        thread::yield_now();
-    }
-}
-
-/// Makes an entry that is no news and then one that is, and looks at the journal's length after many turns behind each, the second time once there were two
-/// more entries; then ends it all by a drain.
+/// Waits for the first poll, then looks at the journal's length after many turns, and ends it all by a drain.
 fn watch<L: Ledger, R: Wait>(
     rt: &R,
     alloc: Global,
     shared: &Shared<L>,
     pass: &mut Pass<L>,
     over: &AtomicU64,
-) -> (u64, u64) {
-    let _ = open_one(rt, alloc, shared, pass);
-    give_way();
-    let quiet = shared.wait_change(rt, u64::MAX);
-    let _ = shared.drain(rt, alloc, pass);
-    for length in 6..8u64 {
-        let _ = shared.wait_change(rt, length);
+) -> u64 {
+    let _ = shared.wait_change(rt, 4);
+    for _ in 0..100_000u32 {
+        thread::yield_now();
     }
-    give_way();
     let length = shared.wait_change(rt, u64::MAX);
     over.store(1, Ordering::SeqCst);
     let _ = shared.drain(rt, alloc, pass);
-    (quiet, length)
+    length
 }
 
-/// Two idling sessions with a feeder each: whether all calls before were made, and the journal's length a while behind an entry that is no news, and behind one
-/// that is.
+/// Two idling sessions with a feeder each: the journal's length after a while, and whether all calls before were made.
 fn two_idle<L: Ledger + Send + Sync, R: Threads + Wait + Sync>(
     rt: &R,
     alloc: Global,
     blank: Blank,
     book: Book,
-) -> Option<(bool, (u64, u64))>
+) -> Option<(bool, u64)>
     requires { (blank.name ≡ L.name) × (blank.parts ≡ L.parts) × (L.parts ≡ 4294967295) }
 {
     let (shared, mut first) = Shared::<L>::new(blank, book);
@@ -95,7 +79,7 @@ fn two_idle<L: Ledger + Send + Sync, R: Threads + Wait + Sync>(
     let opened = open_one(rt, alloc, &shared, &mut one) && open_one(rt, alloc, &shared, &mut other);
     let begun = idle(rt, alloc, &shared, &mut one) && idle(rt, alloc, &shared, &mut other);
     let over = AtomicU64::new(0);
-    let (_, (_, lengths)) = thread::join(
+    let (_, (_, length)) = thread::join(
         rt,
         || feed(rt, alloc, &shared, &mut one, &over),
         || {
@@ -106,16 +90,16 @@ fn two_idle<L: Ledger + Send + Sync, R: Threads + Wait + Sync>(
             )
         },
     );
-    Some((opened && begun, lengths))
+    Some((opened && begun, length))
 }
 
 /// The same at a new replica.
-fn two_idle_at_one<R: Threads + Wait + Sync>(rt: &R, alloc: Global) -> Option<(bool, (u64, u64))> {
+fn two_idle_at_one<R: Threads + Wait + Sync>(rt: &R, alloc: Global) -> Option<(bool, u64)> {
     let book = fresh_book(alloc, 1)?;
     two_idle::<Brand, R>(rt, alloc, Blank::new(4_294_967_295), book)
 }
 
 #[test]
 fn idling_sessions_do_not_wake_one_another(rt: HostRuntime) {
-    assert_eq!(rt; two_idle_at_one(&rt, rt.alloc()), Some((true, (5, 8))));
+    assert_eq!(rt; two_idle_at_one(&rt, rt.alloc()), Some((true, 5)));
 }

@@ -101,11 +101,7 @@ impl Transcript {
     {
         match whole_answer(alloc, octets)? {
             None => Ok(false),
-            Some(answer) => {
-                let taken = self.take(alloc, &answer);
-                drop(answer);
-                taken
-            }
+            Some(answer) => self.take(alloc, &answer),
         }
     }
 

@@ -1,4 +1,3 @@
 pub mod Counts
 pub mod Journals
 pub mod JoinLemmas
-pub mod ThreadLemmas

@@ -1,9 +1,0 @@
-use denote.Param.Send.{sendable}
-use Rattle.std.below.core.proofs.atomic.AtomicU64.TheSendSync as atomic
-use Rattle.std.proofs.alloc.Global.TheSendSync as heap
-use Rattle.replica_lock.proofs.ThreadLemmas.{shared_sync}
-use Rattle.replica_lock.proofs.pass.Pass.TheSendSync as pass
-use Rattle.link_tests.proofs.idling.fn.two_idle.join+arg3.Goals as goal
-
-pub join-requires-send-F : goal.join-requires-send-F
-join-requires-send-F g c κs within = search (shared_sync, pass.the_send, heap.the_sync, atomic.the_sync, sendable) depth 60 fits 20000
