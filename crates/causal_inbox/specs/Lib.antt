@@ -1,3 +1,5 @@
+pub mod Cells
+pub mod Filing
 pub mod Seen
 pub mod Kept
 pub mod Delivery

@@ -5,6 +5,8 @@
 #![tactic(auto)]
 
 mod answers;
+mod cell;
+mod filing;
 mod held;
 mod held_ops;
 mod history;
@@ -17,8 +19,8 @@ pub use answers::{Arrival, DeliverFault, Delivered, Drained, IssueFault, Stall};
 pub use held_ops::{HeldIter, HeldOps};
 pub use inbox::{HELD_LIMIT, Inbox};
 pub use laws::{
-    delivery_is_received, issue_is_received, nothing_ripe_is_left, release_loses_nothing,
-    what_is_received_is_consistent,
+    delivery_is_received, filed_by_least_missing_cause, issue_is_received, nothing_ripe_is_left,
+    release_loses_nothing, what_is_received_is_consistent,
 };
 pub use owning::least_own;
 pub use search::find_in;

@@ -11,7 +11,7 @@ ghost use Rattle.crdt_ops.specs.Form.{AreIds, Each, HasFields, HasWords, IsDated
 ghost use Rattle.crdt_ops.specs.Sound.{HasLawfulFlags};
 
 use crdt_ops::{Ids, Kind, SoundOp};
-use imap_types::{DateTime, Flags, Name, Octets};
+use imap_types::{DateTime, Flags, Name, Text};
 use tags_clocks::{Clock, OpId, ReplicaId};
 
 /// Operations that were found sound have texts.
@@ -140,7 +140,7 @@ fn name_fits(name: &Name)
     octets_fit(name.as_bytes());
 }
 
-fn text_fits(text: &Octets)
+fn text_fits(text: &Text)
     ensures { AreOctets text.now }
 {
     octets_fit(text.as_bytes());

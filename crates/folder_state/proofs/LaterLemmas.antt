@@ -1,28 +1,25 @@
-use Rattle.std.proofs.Common.{◌≡◌, ◌↔◌, ◌⊎◌, inl, inr, ℕ, Bool, true, false, cond, not, ◌&&◌, ◌||◌, Option, None, Some, IsSome, List, [], ◌∷◌, ◌++◌, refl, sym, ap, ◌∙◌, subst}
+use Rattle.std.proofs.Common.{◌≡◌, ◌↔◌, ◌⊎◌, inl, inr, ℕ, ◌+◌, ◌<◌, add-one, Bool, true, false, cond, not, ◌&&◌, ◌||◌, Option, None, Some, IsSome, List, [], ◌∷◌, ◌++◌, get_or, length, take, refl, sym, ap, ◌∙◌, subst}
 use Rattle.std.specs.List.{list_any}
-use Rattle.std.specs.Str.{bytes_eq}
-use Rattle.std.proofs.lemmas.Bool.{and_parts, cases_Bool, false≢true, or_cases, or_left, or_right}
-use Rattle.std.proofs.lemmas.Slice.Eq.{bytes_eq-Decides}
-use Rattle.imap_types.specs.Names.{inbox}
+use Rattle.std.specs.Option.{option_map}
+use Rattle.std.proofs.Math.Seq.{take-suc}
+use Rattle.std.proofs.lemmas.Bool.{and_from, and_parts, cases_Bool, false≢true, or_cases, or_left, or_right}
 use Rattle.tags_clocks.specs.declared.id.OpId.{OpId}
-use Rattle.tags_clocks.proofs.Decide.{ids_decide}
 use Rattle.merge_laws.specs.Orders.{AreSound, IsCausal, IsIn}
 use Rattle.crdt_ops.specs.declared.op.Op.{Op}
-use Rattle.crdt_ops.specs.Order.{same_id}
-use Rattle.crdt_ops.specs.Sets.{body_by}
+use Rattle.crdt_ops.specs.Order.{is_some_id}
+use Rattle.crdt_ops.specs.Sets.{Body, body_by}
 use Rattle.crdt_ops.specs.Sound.{IsSound}
 use Rattle.crdt_ops.specs.Tags.{FolderTag, MessageTag, adds, removes}
 use Rattle.crdt_ops.specs.TagLaws.{adds_own}
-use Rattle.crdt_ops.proofs.Members.{any_in}
-use Rattle.folder_state.specs.declared.folders.Folders.{Folders}
-use Rattle.folder_state.specs.declared.tables.FolderEntry.{FolderEntry}
-use Rattle.folder_state.specs.Contents.{Contents, HasTag, IsFolder, IsMadeBy, effect_of, no_contents}
-use Rattle.folder_state.specs.Keys.{is_at}
-use Rattle.folder_state.specs.Kept.{Tagged, message_tags}
-use Rattle.folder_state.specs.Later.{after, has_body, has_tag_after, is_some, told}
-use Rattle.folder_state.specs.Tables.{contents_of}
-use Rattle.folder_state.proofs.TagLemmas.{any_tags}
-use Rattle.folder_state.proofs.ToldLemmas.{body_at}
+use Rattle.crdt_ops.proofs.Members.{any_in, in_map}
+use Rattle.crdt_ops.proofs.VersionLemmas.{some_id}
+use Rattle.message_versions.specs.declared.version.Version.{Version}
+use Rattle.message_versions.specs.Unions.{version_ids}
+use Rattle.folder_state.specs.Contents.{Contents, HasTag, HasVersion, IsMadeBy, effect_of, no_contents, origin_in}
+use Rattle.folder_state.specs.Kept.{HasTagIn, Kept, body_in_folder, has_tag_in, held_in}
+use Rattle.folder_state.specs.Later.{after, alone, has_body, has_tag_after, is_brought, is_some, is_version}
+use Rattle.folder_state.specs.Rooms.{origin_by}
+use Rattle.folder_state.proofs.VersionLemmas.{body_source, cond_some, origin_some}
 
 fold_append : (v : Contents) (xs ys : List Op) → after v (xs ++ ys) ≡ after (after v xs) ys
 fold_append v [] ys = refl
@@ -31,17 +28,6 @@ fold_append v (x ∷ xs) ys = fold_append (effect_of v x) xs ys
 some_is : {X : Type 0} (o : Option X) → IsSome o ↔ (is_some o ≡ true)
 some_is None = (λ h. absurd (false≢true h), λ h. absurd (false≢true h))
 some_is (Some x) = (λ h. refl, λ h. refl)
-
--- dates and texts make no difference to tags
-pub told_same : (c d : Contents) (ops : List Op) → c.tags ≡ d.tags → c.bodies ≡ d.bodies → ((after c ops).tags ≡ (after d ops).tags) × ((after c ops).bodies ≡ (after d ops).bodies)
-told_same c d [] e f = (e, f)
-told_same c d (o ∷ ops) e f =
-    told_same (effect_of c o) (effect_of d o) ops
-    (λ i folder id. adds (FolderTag folder id) o || (not (removes (FolderTag folder id) o) && e i folder id))
-    (λ i folder id. cond (adds (MessageTag folder id) o) (body_by o.id o.kind) (cond (removes (MessageTag folder id) o) None (f i folder id)))
-
-same_told : (c d : Contents) (ops : List Op) (n : List ℕ) (i : OpId) → c.tags ≡ d.tags → c.bodies ≡ d.bodies → has_tag_after c ops n i ≡ has_tag_after d ops n i
-same_told c d ops n i e f = let s = told_same c d ops e f in (λ k. s.0 k n i || is_some (s.1 k n i))
 
 -- a tag of either kind, by its test
 pub has_by : (c : Contents) (ops : List Op) (n : List ℕ) (i : OpId) → HasTag (after c ops) n i ↔ (has_tag_after c ops n i ≡ true)
@@ -84,48 +70,87 @@ after_from (o ∷ ops) c n i h =
       ]
     ]
 
--- the folder is there after them
-pub exists_later : (f : Folders) (n : List ℕ) (ops : List Op) (result : Bool) → result ≡ (bytes_eq n inbox || (list_any (λ e. has_tag_after (told f.tags.items (message_tags f.messages.entries)) ops n e.id) f.tags.items || (list_any (λ e. list_any (λ v. has_tag_after (told f.tags.items (message_tags f.messages.entries)) ops n v.id) e.versions) f.messages.entries || list_any (λ o. has_tag_after (told f.tags.items (message_tags f.messages.entries)) ops n o.id) ops))) → (result ≡ true) ↔ IsFolder (after (contents_of f) ops) n
-exists_later f n ops result r =
-    let c = contents_of f in
-    let t = told f.tags.items (message_tags f.messages.entries) in
-    let e =
-    r ∙ ap (λ b. bytes_eq n inbox || (list_any (λ (x : FolderEntry). has_tag_after t ops n x.id) f.tags.items || (b || list_any (λ (x : Op). has_tag_after t ops n x.id) ops)))
-    (any_tags (λ (x : Tagged). has_tag_after t ops n x.id) f.messages.entries) in
-    let at = λ (i : OpId). has_tag_after t ops n i in
-    let a = list_any (λ (x : FolderEntry). has_tag_after t ops n x.id) f.tags.items in
-    let b = list_any (λ (x : Tagged). has_tag_after t ops n x.id) (message_tags f.messages.entries) in
-    let d = list_any (λ (x : Op). has_tag_after t ops n x.id) ops in
-    let here = λ (i : OpId) (h : has_tag_after t ops n i ≡ true). (has_by c ops n i).1 (same_told c t ops n i refl refl ∙ h) in (
-      λ h. elim (or_cases (bytes_eq n inbox) (a || (b || d)) (sym e ∙ h)) [
-        | inl k ↦ inl ((bytes_eq-Decides n inbox).0 k)
-        | inr k ↦ inr (elim (or_cases a (b || d) k) [
-          | inl l ↦ let w = (any_in (λ (x : FolderEntry). has_tag_after t ops n x.id) f.tags.items).0 l in (w.0.id, here w.0.id w.2)
-          | inr l ↦ elim (or_cases b d l) [
-            | inl m ↦ let w = (any_in (λ (x : Tagged). has_tag_after t ops n x.id) (message_tags f.messages.entries)).0 m in (w.0.id, here w.0.id w.2)
-            | inr m ↦ let w = (any_in (λ (x : Op). has_tag_after t ops n x.id) ops).0 m in (w.0.id, here w.0.id w.2)
-          ]
-        ])
-      ],
-      λ h. e ∙ elim h [
-        | inl k ↦ or_left (bytes_eq n inbox) (a || (b || d)) ((bytes_eq-Decides n inbox).1 k)
-        | inr w ↦
-            let there : has_tag_after t ops n w.0 ≡ true = same_told t c ops n w.0 refl refl ∙ (has_by c ops n w.0).0 w.1 in
-            or_right (bytes_eq n inbox) (a || (b || d)) (elim (after_from ops c n w.0 w.1) [
-              | inl u ↦ elim u [
-                | inl k ↦
-                    let v = (any_in (λ (x : FolderEntry). is_at n w.0 x.folder x.id) f.tags.items).0 k in
-                    let own : w.0 ≡ v.0.id = (ids_decide w.0 v.0.id).0 (and_parts (bytes_eq n v.0.folder) (same_id w.0 v.0.id) v.2).1 in
-                    or_left a (b || d) ((any_in (λ (x : FolderEntry). has_tag_after t ops n x.id) f.tags.items).1 (v.0, v.1, subst (λ j. has_tag_after t ops n j ≡ true) own there))
-                | inr k ↦
-                    let v = (body_at (message_tags f.messages.entries) n w.0).0 k in
-                    let own : w.0 ≡ v.0.id = (ids_decide w.0 v.0.id).0 (and_parts (bytes_eq n v.0.folder) (same_id w.0 v.0.id) v.2).1 in
-                    or_right a (b || d) (or_left b d ((any_in (λ (x : Tagged). has_tag_after t ops n x.id) (message_tags f.messages.entries)).1 (v.0, v.1, subst (λ j. has_tag_after t ops n j ≡ true) own there)))
-              ]
-              | inr u ↦ or_right a (b || d) (or_right b d ((any_in (λ (x : Op). has_tag_after t ops n x.id) ops).1 (u.0, u.1, subst (λ j. has_tag_after t ops n j ≡ true) u.2 there)))
-            ])
-      ],
-    )
+-- ---- one folder by itself
+
+-- what becomes of a tag hangs on what it was
+tag_alike : (c d : Contents) (ops : List Op) (n : List ℕ) (i : OpId) → c.tags n i ≡ d.tags n i → (after c ops).tags n i ≡ (after d ops).tags n i
+tag_alike c d [] n i e = e
+tag_alike c d (o ∷ ops) n i e = tag_alike (effect_of c o) (effect_of d o) ops n i (λ k. adds (FolderTag n i) o || (not (removes (FolderTag n i) o) && e k))
+
+body_alike : (c d : Contents) (ops : List Op) (n : List ℕ) (i : OpId) → c.bodies n i ≡ d.bodies n i → (after c ops).bodies n i ≡ (after d ops).bodies n i
+body_alike c d [] n i e = e
+body_alike c d (o ∷ ops) n i e = body_alike (effect_of c o) (effect_of d o) ops n i (λ k. cond (adds (MessageTag n i) o) (body_by o.id o.kind) (cond (removes (MessageTag n i) o) None (e k)))
+
+module _ (c : Contents) (n : List ℕ) (held : Option Kept) (tags : (i : OpId) → c.tags n i ≡ has_tag_in held i) (bodies : (i : OpId) → c.bodies n i ≡ body_in_folder held i) (ops : List Op) where
+  alike : (i : OpId) → has_tag_after c ops n i ≡ has_tag_after (alone held) ops n i
+  alike i = λ k. tag_alike c (alone held) ops n i (tags i) k || is_some (body_alike c (alone held) ops n i (bodies i) k)
+
+  -- whether a tag is left
+  pub tag_left : (ids : List OpId) → ((i : OpId) → IsIn i ids ↔ HasTagIn (held_in held) i) → (r : Bool) → r ≡ (list_any (λ i. has_tag_after (alone held) ops n i) ids || list_any (λ o. has_tag_after (alone held) ops n o.id) ops) → (r ≡ true) ↔ ((i : OpId) × HasTag (after c ops) n i)
+  tag_left ids listed r e =
+      let a = list_any (λ (i : OpId). has_tag_after (alone held) ops n i) ids in
+      let b = list_any (λ (o : Op). has_tag_after (alone held) ops n o.id) ops in
+      let there = λ (i : OpId) (t : has_tag_after (alone held) ops n i ≡ true). (has_by c ops n i).1 (alike i ∙ t) in (
+        λ t. elim (or_cases a b (sym e ∙ t)) [
+          | inl k ↦ let w = (any_in (λ (i : OpId). has_tag_after (alone held) ops n i) ids).0 k in (w.0, there w.0 w.2)
+          | inr k ↦ let w = (any_in (λ (o : Op). has_tag_after (alone held) ops n o.id) ops).0 k in (w.0.id, there w.0.id w.2)
+        ],
+        λ w.
+            let here : has_tag_after (alone held) ops n w.0 ≡ true = sym (alike w.0) ∙ (has_by c ops n w.0).0 w.1 in
+            e ∙ elim (after_from ops c n w.0 w.1) [
+              | inl u ↦
+                  let own : HasTagIn (held_in held) w.0 = elim u [ inl t ↦ inl (sym (tags w.0) ∙ t) | inr t ↦ inr (subst IsSome (bodies w.0) t) ] in
+                  or_left a b ((any_in (λ (i : OpId). has_tag_after (alone held) ops n i) ids).1 (w.0, (listed w.0).1 own, here))
+              | inr u ↦ or_right a b ((any_in (λ (o : Op). has_tag_after (alone held) ops n o.id) ops).1 (u.0, u.1, subst (λ j. has_tag_after (alone held) ops n j ≡ true) u.2 here))
+            ],
+      )
+
+  -- whether a version is left
+  pub version_left : (o : OpId) (vs : List Version) → ((i : OpId) → IsIn i (version_ids vs) ↔ (option_map (λ (b : Body). b.origin) (body_in_folder held i) ≡ Some o)) → (r : Bool) → r ≡ (list_any (λ v. is_version (after (alone held) ops) n o v.id) vs || list_any (is_brought held ops n o) ops) → (r ≡ true) ↔ HasVersion (after c ops) n o
+  version_left o vs listed r e =
+      let a = list_any (λ (v : Version). is_version (after (alone held) ops) n o v.id) vs in
+      let b = list_any (is_brought held ops n o) ops in
+      let same = λ (i : OpId). body_alike c (alone held) ops n i (bodies i) in
+      let there = λ (i : OpId) (t : is_version (after (alone held) ops) n o i ≡ true). ap (option_map (λ (b : Body). b.origin)) (same i) ∙ (some_id o (origin_in (after (alone held) ops) n i)).0 t in (
+        λ t. elim (or_cases a b (sym e ∙ t)) [
+          | inl k ↦ let w = (any_in (λ (v : Version). is_version (after (alone held) ops) n o v.id) vs).0 k in (w.0.id, there w.0.id w.2)
+          | inr k ↦
+              let w = (any_in (is_brought held ops n o) ops).0 k in
+              (w.0.id, there w.0.id (and_parts (is_some_id o (origin_by w.0.id w.0.kind)) (is_version (after (alone held) ops) n o w.0.id) w.2).1)
+        ],
+        λ h.
+            let f = origin_some ((after c ops).bodies n h.0) o h.1 in
+            let here : is_version (after (alone held) ops) n o h.0 ≡ true = (some_id o (origin_in (after (alone held) ops) n h.0)).1 (ap (option_map (λ (b : Body). b.origin)) (sym (same h.0)) ∙ h.1) in
+            e ∙ elim (body_source ops c n h.0 f.0 f.1) [
+              | inl k ↦
+                  let own = (listed h.0).1 (ap (option_map (λ (b : Body). b.origin)) (sym (bodies h.0) ∙ k) ∙ ap (λ (j : OpId). Some j) f.2) in
+                  let v = (in_map (λ (v : Version). v.id) vs h.0).0 own in
+                  or_left a b ((any_in (λ (v : Version). is_version (after (alone held) ops) n o v.id) vs).1 (v.0, v.1, subst (λ j. is_version (after (alone held) ops) n o j ≡ true) (sym v.2) here))
+              | inr k ↦
+                  let adds_it = cond_some (adds (MessageTag n h.0) k.0) (body_by k.0.id k.0.kind) f.0 k.2 in
+                  let own : h.0 ≡ k.0.id = adds_own (MessageTag n h.0) k.0 adds_it in
+                  let by : body_by k.0.id k.0.kind ≡ Some f.0 = (λ j. cond (sym adds_it j) (body_by k.0.id k.0.kind) None) ∙ k.2 in
+                  let origin : origin_by k.0.id k.0.kind ≡ Some o = ap (option_map (λ (b : Body). b.origin)) by ∙ ap (λ (j : OpId). Some j) f.2 in
+                  or_right a b ((any_in (is_brought held ops n o) ops).1 (
+                    k.0,
+                    k.1,
+                    and_from (is_some_id o (origin_by k.0.id k.0.kind)) (is_version (after (alone held) ops) n o k.0.id)
+                        ((some_id o (origin_by k.0.id k.0.kind)).1 origin) (subst (λ j. is_version (after (alone held) ops) n o j ≡ true) own here),
+                  ))
+            ],
+      )
+
+-- ---- one operation more
+
+pub after_more : (c : Contents) (ops : List Op) (m : ℕ) (o : Op) → m < length ops → o ≡ get_or ops m o → after c (take (m + 1) ops) ≡ effect_of (after c (take m ops)) o
+after_more c ops m o l e =
+    ap (λ j. after c (take j ops)) (add-one m) ∙ ap (after c) (take-suc ops m o l) ∙ fold_append c (take m ops) (get_or ops m o ∷ [])
+    ∙ ap (effect_of (after c (take m ops))) (sym e)
+
+pub origin_more : (a r : Bool) (x y : Option Body) → option_map (λ (b : Body). b.origin) (cond a x (cond r None y)) ≡ cond a (option_map (λ (b : Body). b.origin) x) (cond r None (option_map (λ (b : Body). b.origin) y))
+origin_more true r x y = refl
+origin_more false true x y = refl
+origin_more false false x y = refl
 
 -- contents after more operations were made by all of them
 pub made_after : (c : Contents) (list ops : List Op) → IsMadeBy c list → AreSound IsSound (list ++ ops) → IsCausal (λ (o : Op). o.id) (λ o. o.clock) (list ++ ops) → IsMadeBy (after c ops) (list ++ ops)

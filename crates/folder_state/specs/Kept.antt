@@ -1,54 +1,121 @@
-use Rattle.std.specs.Prelude.{◌≡◌, ◌⊎◌, ℕ, ◌+◌, ◌≤◌, ◌==◌, Bool, true, false, not, ◌&&◌, Option, None, Some, List, [], ◌∷◌, ◌++◌, length, map, if◌then◌else◌}
-use Rattle.std.specs.List.{filter, flat_map, list_any}
+use Rattle.std.specs.Prelude.{◌≡◌, ◌⊎◌, ◌↔◌, ℕ, ◌<◌, ◌≤◌, ◌==◌, not, Bool, true, false, Option, None, Some, IsSome, List, [], ◌++◌, length, if◌then◌else◌}
+use Rattle.std.specs.Global.{Vec}
+use Rattle.std.specs.List.{filter, list_any}
+use Rattle.std.specs.Map.{keys_of, lookup}
+use Rattle.std.specs.Option.{option_map}
 use Rattle.std.specs.Str.{bytes_eq}
 use Rattle.std.specs.declared.cmp.Ordering.{Ordering}
+use Rattle.std.specs.Vec.{vec_capacity}
 use Rattle.imap_types.specs.declared.flags.Flags.{Flags}
 use Rattle.tags_clocks.specs.declared.id.OpId.{OpId}
 use Rattle.merge_laws.specs.Orders.{IsIn}
-use Rattle.crdt_ops.specs.Order.{id_order, placed, same_id}
+use Rattle.crdt_ops.specs.Order.{IsAscending, id_order, placed, same_id}
+use Rattle.crdt_ops.specs.Sets.{Body, first_given}
 use Rattle.message_versions.specs.declared.version.Version.{Version}
 use Rattle.message_versions.specs.Unions.{version_ids}
-use Rattle.folder_state.specs.Keys.{is_at}
 
--- A message of a folder as it is kept, once for all its versions, with the number of places for versions that it has.
+-- What is kept of a folder: the ids of its folder tags, the versions of each origin, the origin of each version by its id, and how
+-- many more of each can be put in with no more memory.
 pub record Kept : Type 0 where
-  pub folder : List ℕ
-  pub origin : OpId
-  pub versions : List Version
-  pub places : ℕ
+  pub tags : List OpId
+  pub messages : List (OpId × Vec Version)
+  pub origins : List (OpId × OpId)
+  pub tag_room : ℕ
+  pub message_room : ℕ
+  pub origin_room : ℕ
 
--- A message tag, with what it carries.
-pub record Tagged : Type 0 where
-  pub folder : List ℕ
-  pub id : OpId
-  pub flags : Flags
-  pub origin : OpId
+-- The folder of this name, if it is there.
+abbrev pub folder_at : List ℕ → List (Vec ℕ × Kept) → Option Kept
+folder_at name folders = lookup (λ (key : Vec ℕ). bytes_eq name key.items) folders
 
--- The message tag of a version.
-abbrev pub tagged : Kept → Version → Tagged
-tagged kept version = record { folder = kept.folder; id = version.id; flags = version.flags; origin = kept.origin }
+-- What a folder contains: whether the folder tag of this id is present, and what the message tag of this id carries, where it is
+-- present.
+pub record InFolder : Type 0 where
+  pub tags : OpId → Bool
+  pub bodies : OpId → Option Body
 
--- The message tags of a message.
-abbrev pub tags_at : Kept → List Tagged
-tags_at kept = map (tagged kept) kept.versions
+-- The versions that are found, if any are.
+abbrev pub listed : Option (Vec Version) → List Version
+listed None = []
+listed (Some versions) = versions.items
 
--- The message tags of messages.
-abbrev pub message_tags : List Kept → List Tagged
-message_tags messages = flat_map tags_at messages
+-- The versions of an origin.
+abbrev pub versions_at : List (OpId × Vec Version) → OpId → List Version
+versions_at messages origin = listed (lookup (same_id origin) messages)
 
--- Two messages are of different folders, or they have different origins and no version in common.
-abbrev pub IsApart : Kept → Kept → Type 0
-IsApart a b = a.folder ≡ b.folder → (a.origin ≡ b.origin → ⊥) × ((id : OpId) → IsIn id (version_ids a.versions) → IsIn id (version_ids b.versions) → ⊥)
+-- The flags of the version with this id.
+abbrev pub flags_among : List Version → OpId → Option Flags
+flags_among versions id = first_given (λ version. if same_id id version.id then Some version.flags else None) versions
 
--- Each two of these messages are apart.
-abbrev pub AreApart : List Kept → Type 0
-AreApart [] = Unit {0}
-AreApart (x ∷ xs) = ((y : Kept) → IsIn y xs → IsApart x y) × AreApart xs
+-- What the version with this id and origin carries.
+abbrev pub body_at : List (OpId × Vec Version) → OpId → Option OpId → Option Body
+body_at messages id None = None
+body_at messages id (Some origin) = option_map (λ flags. record { flags = flags; origin = origin }) (flags_among (versions_at messages origin) id)
 
--- The messages that are kept, and the number of places for messages.
-pub record Table : Type 0 where
-  pub entries : List Kept
-  pub room : ℕ
+-- What is found in a folder.
+abbrev pub folder_contents : Kept → InFolder
+folder_contents folder = record {
+  tags = λ id. list_any (same_id id) folder.tags;
+  bodies = λ id. body_at folder.messages id (lookup (same_id id) folder.origins);
+}
+
+-- The same of a folder that may not be there: no tags, then.
+abbrev pub has_tag_in : Option Kept → OpId → Bool
+has_tag_in None id = false
+has_tag_in (Some folder) id = (folder_contents folder).tags id
+
+abbrev pub body_in_folder : Option Kept → OpId → Option Body
+body_in_folder None id = None
+body_in_folder (Some folder) id = (folder_contents folder).bodies id
+
+abbrev pub held_in : Option Kept → InFolder
+held_in folder = record { tags = has_tag_in folder; bodies = body_in_folder folder }
+
+abbrev pub messages_in : Option Kept → List (OpId × Vec Version)
+messages_in None = []
+messages_in (Some folder) = folder.messages
+
+-- The folder has a tag with this id, of either kind.
+abbrev pub HasTagIn : InFolder → OpId → Type 0
+HasTagIn folder id = (folder.tags id ≡ true) ⊎ IsSome (folder.bodies id)
+
+-- The ids of all its tags.
+abbrev pub folder_ids : Kept → List OpId
+folder_ids folder = folder.tags ++ keys_of folder.origins
+
+abbrev pub ids_in : Option Kept → List OpId
+ids_in None = []
+ids_in (Some folder) = folder_ids folder
+
+-- The versions of an origin in a folder that may not be there.
+abbrev pub versions_in : Option Kept → OpId → List Version
+versions_in folder origin = versions_at (messages_in folder) origin
+
+-- Whether it has a tag.
+abbrev pub has_ids : Kept → Bool
+has_ids folder = not (length (folder_ids folder) == 0)
+
+-- The name of a folder that has a tag.
+abbrev pub folder_named : Vec ℕ × Kept → Option (List ℕ)
+folder_named entry = if has_ids entry.1 then Some entry.0.items else None
+
+-- The versions are those of an origin, one at least, ascending by id, each with what its tag carries.
+pub record AreVersionsOf (folder : InFolder) (origin : OpId) (versions : List Version) : Type 0 where
+  pub some : 0 < length versions
+  pub ascending : IsAscending id_order (version_ids versions)
+  pub listed : (i : OpId) → IsIn i (version_ids versions) ↔ (option_map (λ body. body.origin) (folder.bodies i) ≡ Some origin)
+  pub carried : (v : Version) → IsIn v versions → folder.bodies v.id ≡ Some (record { flags = v.flags; origin = origin })
+
+-- Each message has a version, its versions ascend by id, and the origin of each id is told just where a version of that origin has
+-- it.
+pub record AreFiled (messages : List (OpId × Vec Version)) (origins : List (OpId × OpId)) : Type 0 where
+  pub some : (o : OpId) (vs : Vec Version) → lookup (same_id o) messages ≡ Some vs → 0 < length vs.items
+  pub ascending : (o : OpId) → IsAscending id_order (version_ids (versions_at messages o))
+  pub both : (i o : OpId) → (lookup (same_id i) origins ≡ Some o) ↔ IsIn i (version_ids (versions_at messages o))
+
+abbrev pub AreFiledIn : Option Kept → Type 0
+AreFiledIn None = Unit {0}
+AreFiledIn (Some folder) = AreFiled folder.messages folder.origins
 
 -- ---- what changes
 
@@ -56,54 +123,23 @@ pub record Table : Type 0 where
 abbrev pub by_id : Version → Version → Ordering
 by_id a b = id_order a.id b.id
 
--- The message without the versions that have one of these ids, where it is of this folder.
-abbrev pub without : List ℕ → List OpId → Kept → Kept
-without folder ids kept =
-    if bytes_eq kept.folder folder then record {
-      folder = kept.folder;
-      origin = kept.origin;
-      versions = filter (λ version. not (list_any (same_id version.id) ids)) kept.versions;
-      places = kept.places;
-    } else kept
+-- The versions without the one with this id.
+abbrev pub without : OpId → List Version → List Version
+without id versions = filter (λ version. not (same_id id version.id)) versions
 
--- The message with one version more, in its place.
-abbrev pub with_version : Version → Kept → Kept
-with_version version kept = record { folder = kept.folder; origin = kept.origin; versions = placed by_id version kept.versions; places = kept.places }
+-- The version with this id was taken out of the message of this origin, and the message, where it had no other; what is found of
+-- others is as before.
+pub record IsTakenOut (origin id : OpId) (old new : List (OpId × Vec Version)) : Type 0 where
+  pub here : versions_at new origin ≡ without id (versions_at old origin)
+  pub beside : (o : OpId) → same_id o origin ≡ false → lookup (same_id o) new ≡ lookup (same_id o) old
+  pub some : (vs : Vec Version) → lookup (same_id origin) new ≡ Some vs → 0 < length vs.items
+  pub places : (vs : Vec Version) → lookup (same_id origin) new ≡ Some vs → (ws : Vec Version) × (lookup (same_id origin) old ≡ Some ws) × (length vs.items ≤ length ws.items) × (vec_capacity vs ≡ vec_capacity ws)
 
--- The message with so many places.
-abbrev pub with_places : ℕ → Kept → Kept
-with_places places kept = record { folder = kept.folder; origin = kept.origin; versions = kept.versions; places = places }
+-- The version was put to the message of its origin; what is found of others is as before.
+pub record IsPutIn (origin : OpId) (version : Version) (old new : List (OpId × Vec Version)) : Type 0 where
+  pub here : versions_at new origin ≡ placed by_id version (versions_at old origin)
+  pub beside : (o : OpId) → same_id o origin ≡ false → lookup (same_id o) new ≡ lookup (same_id o) old
 
--- Whether a message has a version.
-abbrev pub has_versions : Kept → Bool
-has_versions kept = not (length kept.versions == 0)
-
--- Whether a message has a version and is of this folder.
-abbrev pub is_of : List ℕ → Kept → Bool
-is_of folder kept = bytes_eq folder kept.folder && has_versions kept
-
--- Whether a message is of this folder and origin and has a version.
-abbrev pub has_versions_at : List ℕ → OpId → Kept → Bool
-has_versions_at folder origin kept = is_at folder origin kept.folder kept.origin && has_versions kept
-
--- The folder of a message that has a version.
-abbrev pub folder_named : Kept → Option (List ℕ)
-folder_named kept = if has_versions kept then Some kept.folder else None
-
--- ---- room
-
--- Each message has room for so many versions more as are asked for at its folder and origin.
-abbrev pub HavePlaces : (List ℕ → OpId → ℕ) → List Kept → Type 0
-HavePlaces wanted messages = (x : Kept) → IsIn x messages → length x.versions + wanted x.folder x.origin ≤ x.places
-
--- ---- a version put to its message
-
--- A message with one version.
-abbrev pub first_of : List ℕ → OpId → Version → ℕ → Kept
-first_of folder origin version places = record { folder = folder; origin = origin; versions = version ∷ []; places = places }
-
--- The version was put to the message of this folder and origin, or to a message behind all, with so many places, where there was none.
-abbrev pub IsPutIn : List ℕ → OpId → Version → ℕ → List Kept → List Kept → Type 0
-IsPutIn folder origin version places old new =
-    ((front : List Kept) × (x : Kept) × (back : List Kept) × (old ≡ front ++ x ∷ back) × (is_at folder origin x.folder x.origin ≡ true) × (new ≡ front ++ with_version version x ∷ back))
-    ⊎ ((list_any (λ x. is_at folder origin x.folder x.origin) old ≡ false) × (new ≡ old ++ first_of folder origin version places ∷ []))
+-- The folder is found by its name, and its versions and origins agree.
+abbrev pub IsKnown : List (Vec ℕ × Kept) → Vec ℕ × Kept → Type 0
+IsKnown folders entry = (folder_at entry.0.items folders ≡ Some entry.1) × AreFiled entry.1.messages entry.1.origins

@@ -1,70 +1,152 @@
-use Rattle.std.specs.Prelude.{◌≡◌, ℕ, ◌+◌, ◌≤◌, Bool, false, List, [], ◌∷◌, if◌then◌else◌}
-use Rattle.std.proofs.Common.{arith}
+use Rattle.std.specs.Prelude.{◌≡◌, ℕ, ◌+◌, ◌≤◌, Bool, false, Option, None, Some, List, [], ◌∷◌, if◌then◌else◌, length}
 use Rattle.std.specs.Global.{Vec}
+use Rattle.std.specs.Map.{lookup}
+use Rattle.std.specs.Option.{option_map, unwrap_or}
+use Rattle.std.specs.Str.{bytes_eq}
 use Rattle.std.specs.Vec.{vec_capacity}
 use Rattle.tags_clocks.specs.declared.id.OpId.{OpId}
 use Rattle.crdt_ops.specs.declared.kind.Kind.{Kind}
 use Rattle.crdt_ops.specs.declared.kind.Kind.TheVariants.{Create, Delete, Append, Expunge, Store, Subscribe, Unsubscribe}
 use Rattle.crdt_ops.specs.declared.op.Op.{Op}
+use Rattle.crdt_ops.specs.Order.{is_some_id, same_id}
+use Rattle.crdt_ops.specs.Sets.{body_by}
 use Rattle.message_versions.specs.declared.version.Version.{Version}
-use Rattle.folder_state.specs.Keys.{is_at}
+use Rattle.folder_state.specs.Kept.{Kept, folder_at}
 
--- Whether an operation of this id and kind adds a version of this folder and origin.
-abbrev pub adds_there : List ℕ → OpId → OpId → Kind → Bool
-adds_there folder origin id (Create own) = false
-adds_there folder origin id (Delete own seen) = false
-adds_there folder origin id (Append own flags date text) = is_at folder origin own id
-adds_there folder origin id (Expunge own olds) = false
-adds_there folder origin id (Store own flags olds own_origin) = is_at folder origin own own_origin
-adds_there folder origin id (Subscribe name) = false
-adds_there folder origin id (Unsubscribe name seen) = false
+-- The folder of the tag that an operation adds.
+abbrev pub target : Kind → Option (List ℕ)
+target (Create folder) = Some folder
+target (Delete folder seen) = None
+target (Append folder flags date text) = Some folder
+target (Expunge folder olds) = Some folder
+target (Store folder flags olds origin) = Some folder
+target (Subscribe name) = None
+target (Unsubscribe name seen) = None
 
--- One place at this folder and origin, and none elsewhere.
-abbrev pub one_at : List ℕ → OpId → List ℕ → OpId → ℕ
-one_at own own_origin folder origin = if is_at folder origin own own_origin then 1 else 0
+-- The origin of the version that an operation of this id and kind adds.
+abbrev pub origin_by : OpId → Kind → Option OpId
+origin_by id kind = option_map (λ body. body.origin) (body_by id kind)
 
--- The number of versions of this folder and origin that an operation adds: none or one.
-abbrev pub added_there : Op → List ℕ → OpId → ℕ
-added_there op folder origin = if adds_there folder origin op.id op.kind then 1 else 0
+abbrev pub is_named : List ℕ → Option (List ℕ) → Bool
+is_named name None = false
+is_named name (Some other) = bytes_eq name other
 
--- The number of versions of this folder and origin that operations add.
-abbrev pub needed : List Op → List ℕ → OpId → ℕ
-needed [] folder origin = 0
-needed (op ∷ ops) folder origin = added_there op folder origin + needed ops folder origin
+-- The number of operations that add a tag of this folder.
+abbrev pub tags_wanted : List Op → List ℕ → ℕ
+tags_wanted [] name = 0
+tags_wanted (op ∷ ops) name = (if is_named name (target op.kind) then 1 else 0) + tags_wanted ops name
 
--- So many places are wanted at the folder and origin of the version that an operation of this id and kind adds; none where it
--- adds none.
-abbrev pub wanted_by : (List ℕ → OpId → ℕ) → OpId → Kind → ℕ
-wanted_by wanted id (Create own) = 0
-wanted_by wanted id (Delete own seen) = 0
-wanted_by wanted id (Append own flags date text) = wanted own id
-wanted_by wanted id (Expunge own olds) = 0
-wanted_by wanted id (Store own flags olds own_origin) = wanted own own_origin
-wanted_by wanted id (Subscribe name) = 0
-wanted_by wanted id (Unsubscribe name seen) = 0
+-- The number of operations that add a version of this origin, in whatever folder.
+abbrev pub versions_wanted : List Op → OpId → ℕ
+versions_wanted [] origin = 0
+versions_wanted (op ∷ ops) origin = (if is_some_id origin (origin_by op.id op.kind) then 1 else 0) + versions_wanted ops origin
 
--- For each operation there is an empty list with places for the versions of its folder and origin that it and those behind it add.
+-- So many versions of the origin, where there is one.
+abbrev pub wanted_by : (OpId → ℕ) → Option OpId → ℕ
+wanted_by versions None = 0
+wanted_by versions (Some origin) = versions origin
+
+-- Counts by folder and by origin.
+pub record Counts : Type 0 where
+  pub tags : List (Vec ℕ × ℕ)
+  pub versions : List (OpId × ℕ)
+
+-- What is counted under a name, and at an id.
+abbrev pub counted_under : List ℕ → List (Vec ℕ × ℕ) → ℕ
+counted_under name counts = unwrap_or (lookup (λ (key : Vec ℕ). bytes_eq name key.items) counts) 0
+
+abbrev pub counted_at : OpId → List (OpId × ℕ) → ℕ
+counted_at id counts = unwrap_or (lookup (same_id id) counts) 0
+
+-- ---- the room that there is
+
+-- So many tags more can be put into the folder with no more memory.
+pub record HasPlaces (folder : Kept) (count : ℕ) : Type 0 where
+  pub tags : count ≤ folder.tag_room
+  pub messages : count ≤ folder.message_room
+  pub origins : count ≤ folder.origin_room
+
+-- So many versions more fit into the message of the origin, where it is there.
+abbrev pub HasVersionRoom : List (OpId × Vec Version) → OpId → ℕ → Type 0
+HasVersionRoom messages origin count = (versions : Vec Version) → lookup (same_id origin) messages ≡ Some versions → length versions.items + count ≤ vec_capacity versions
+
+-- The same where there may be no origin.
+abbrev pub HasVersionPlaces : Kept → Option OpId → ℕ → Type 0
+HasVersionPlaces folder None count = Unit {0}
+HasVersionPlaces folder (Some origin) count = HasVersionRoom folder.messages origin count
+
+-- The folder is there, with room for the tags that are wanted in it, and in its message of the origin for the versions.
+abbrev pub HasRoomAt : (List ℕ → ℕ) → (OpId → ℕ) → Option OpId → Option (List ℕ) → (List ℕ → Option Kept) → Type 0
+HasRoomAt tags versions origin None folders = Unit {0}
+HasRoomAt tags versions origin (Some name) folders = (folder : Kept) × (folders name ≡ Some folder) × HasPlaces folder (tags name) × HasVersionPlaces folder origin (wanted_by versions origin)
+
+-- The folder of the tag that the operation adds is there, with room for what these operations add.
+abbrev pub HasRoomFor : List Op → Op → (List ℕ → Option Kept) → Type 0
+HasRoomFor ops op folders = HasRoomAt (tags_wanted ops) (versions_wanted ops) (origin_by op.id op.kind) (target op.kind) folders
+
+-- For each operation that adds a version there is an empty list with places for the versions of its origin that it and those behind it
+-- add.
 abbrev pub HaveLists : List Op → List (Vec Version) → Type 0
 HaveLists [] lists = Unit {0}
 HaveLists (op ∷ ops) [] = ⊥
-HaveLists (op ∷ ops) (list ∷ lists) = (list.items ≡ []) × (wanted_by (needed (op ∷ ops)) op.id op.kind ≤ vec_capacity list) × HaveLists ops lists
+HaveLists (op ∷ ops) (list ∷ lists) = (list.items ≡ []) × (wanted_by (versions_wanted (op ∷ ops)) (origin_by op.id op.kind) ≤ vec_capacity list) × HaveLists ops lists
 
-wanted_less : (few many : List ℕ → OpId → ℕ) → ((folder : List ℕ) (origin : OpId) → few folder origin ≤ many folder origin) → (id : OpId) (kind : Kind) → wanted_by few id kind ≤ wanted_by many id kind
-wanted_less few many h id (Create own) = omega arith
-wanted_less few many h id (Delete own seen) = omega arith
-wanted_less few many h id (Append own flags date text) = h own id
-wanted_less few many h id (Expunge own olds) = omega arith
-wanted_less few many h id (Store own flags olds own_origin) = h own own_origin
-wanted_less few many h id (Subscribe name) = omega arith
-wanted_less few many h id (Unsubscribe name seen) = omega arith
+-- ---- how it changes
 
-needed_first : (o : Op) (os : List Op) (folder : List ℕ) (origin : OpId) → needed (o ∷ []) folder origin ≤ needed (o ∷ os) folder origin
-needed_first o os folder origin = omega arith
+-- Nothing was put in, and no room was lost.
+pub record IsNoFuller (old new : Kept) : Type 0 where
+  pub tags : old.tag_room ≤ new.tag_room
+  pub messages : old.message_room ≤ new.message_room
+  pub origins : old.origin_room ≤ new.origin_room
+  pub versions : (o : OpId) (n : ℕ) → HasVersionRoom old.messages o n → HasVersionRoom new.messages o n
 
--- What is kept for some operations serves the first of them.
-pub lists_first : (o : Op) (os : List Op) (lists : List (Vec Version)) → HaveLists (o ∷ os) lists → HaveLists (o ∷ []) lists
-lists_first o os [] h = absurd h
-lists_first o os (list ∷ lists) h =
-    let few = wanted_less (needed (o ∷ [])) (needed (o ∷ os)) (needed_first o os) o.id o.kind in
-    let many = h.1 in
-    (h.0, omega (arith, few, many), tt)
+abbrev pub IsNoFullerIn : Option Kept → Option Kept → Type 0
+IsNoFullerIn None new = Unit {0}
+IsNoFullerIn (Some old) None = ⊥
+IsNoFullerIn (Some old) (Some new) = IsNoFuller old new
+
+abbrev pub AreNoFuller : List (Vec ℕ × Kept) → List (Vec ℕ × Kept) → Type 0
+AreNoFuller old new = (name : List ℕ) → IsNoFullerIn (folder_at name old) (folder_at name new)
+
+-- The versions are the same, and there are no fewer places for them.
+abbrev pub IsRoomierList : Option (Vec Version) → Option (Vec Version) → Type 0
+IsRoomierList None None = Unit {0}
+IsRoomierList None (Some new) = ⊥
+IsRoomierList (Some old) None = ⊥
+IsRoomierList (Some old) (Some new) = (new.items ≡ old.items) × (vec_capacity old ≤ vec_capacity new)
+
+abbrev pub AreRoomierLists : List (OpId × Vec Version) → List (OpId × Vec Version) → Type 0
+AreRoomierLists old new = (o : OpId) → IsRoomierList (lookup (same_id o) old) (lookup (same_id o) new)
+
+-- The same tags, and no less room.
+pub record IsRoomier (old new : Kept) : Type 0 where
+  pub tags : new.tags ≡ old.tags
+  pub origins : new.origins ≡ old.origins
+  pub versions : AreRoomierLists old.messages new.messages
+  pub tag_room : old.tag_room ≤ new.tag_room
+  pub message_room : old.message_room ≤ new.message_room
+  pub origin_room : old.origin_room ≤ new.origin_room
+
+-- Of a folder that wasn't there: no tags.
+abbrev pub IsRoomierIn : Option Kept → Option Kept → Type 0
+IsRoomierIn None None = Unit {0}
+IsRoomierIn None (Some new) = (new.tags ≡ []) × (new.messages ≡ []) × (new.origins ≡ [])
+IsRoomierIn (Some old) None = ⊥
+IsRoomierIn (Some old) (Some new) = IsRoomier old new
+
+abbrev pub AreRoomier : List (Vec ℕ × Kept) → List (Vec ℕ × Kept) → Type 0
+AreRoomier old new = (name : List ℕ) → IsRoomierIn (folder_at name old) (folder_at name new)
+
+-- A tag was put into the folder, as a version of the origin, where there is one; what room is left serves what is wanted behind it,
+-- also where a message was made of a list with so many places.
+abbrev pub LeavesRoom : List ℕ → Option OpId → ℕ → (List ℕ → Option Kept) → (List ℕ → Option Kept) → Type 0
+LeavesRoom name origin places old new =
+    (tags : List ℕ → ℕ) (versions : OpId → ℕ) (o : Option OpId) (t : Option (List ℕ))
+    → HasRoomAt (λ n. (if bytes_eq n name then 1 else 0) + tags n) (λ i. (if is_some_id i origin then 1 else 0) + versions i) o t old
+    → wanted_by (λ i. (if is_some_id i origin then 1 else 0) + versions i) origin ≤ places
+    → HasRoomAt tags versions o t new
+
+-- The same of the tag that an operation adds, and the operations behind it.
+abbrev pub LeavesRoomBehind : Op → ℕ → (List ℕ → Option Kept) → (List ℕ → Option Kept) → Type 0
+LeavesRoomBehind op places old new =
+    (rest : List Op) (o : Op) → HasRoomFor (op ∷ rest) o old → wanted_by (versions_wanted (op ∷ rest)) (origin_by op.id op.kind) ≤ places → HasRoomFor rest o new

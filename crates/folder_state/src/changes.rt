@@ -1,52 +1,37 @@
-//! What an operation changes in the lists.
+//! What an operation changes in the tables.
 
-ghost use Rattle.std.specs.Prelude.{◌≡◌, ◌≤◌, ◌<◌, ◌+◌, ℕ, List, [], ◌∷◌, None, Some, not, ◌&&◌, ◌||◌, if◌then◌else◌, length};
-ghost use Rattle.std.specs.Option.{option_or};
-ghost use Rattle.std.specs.Vec.{vec_len, vec_capacity};
+ghost use Rattle.std.specs.Prelude.{◌≡◌, ◌≤◌, ◌<◌, ◌+◌, ℕ, List, [], ◌∷◌, None, Some, not, ◌&&◌, ◌||◌, if◌then◌else◌};
+ghost use Rattle.std.specs.Map.{lookup};
+ghost use Rattle.std.specs.Option.{option_map, option_or};
+ghost use Rattle.std.specs.Vec.{vec_capacity};
+ghost use Rattle.indexmap.specs.IndexMap.{spare};
 ghost use Rattle.tags_clocks.specs.declared.id.OpId.{OpId as Id};
+ghost use Rattle.crdt_ops.specs.Order.{same_id};
 ghost use Rattle.crdt_ops.specs.Tags.{FolderTag, MessageTag, adds, removes};
 ghost use Rattle.crdt_ops.specs.Sets.{body_by, letter_from};
-ghost use Rattle.crdt_ops.specs.declared.op.Op.{Op as Operation};
-ghost use Rattle.folder_state.specs.Entries.{body_in, letter_in, tag_in};
-ghost use Rattle.folder_state.specs.Keys.{is_at};
-ghost use Rattle.folder_state.specs.Kept.{HavePlaces, message_tags};
-ghost use Rattle.folder_state.specs.Rooms.{needed, one_at, wanted_by};
+ghost use Rattle.folder_state.specs.Keys.{is_among, is_at};
+ghost use Rattle.folder_state.specs.Kept.{Kept, body_in_folder, folder_at, has_tag_in};
+ghost use Rattle.folder_state.specs.Rooms.{AreNoFuller, HasPlaces, HasRoomFor, HasVersionRoom, LeavesRoom, LeavesRoomBehind, origin_by, versions_wanted, wanted_by};
+ghost use Rattle.folder_state.specs.Telling.{letter_told};
 
-use crate::message_table::MessageTable;
-use crate::tables::{FolderEntry, LetterEntry, forget_tags, put_letter, put_tag};
+use crate::folder::Folder;
 use crdt_ops::{Kind, Op};
 use imap_types::{Flags, Name};
+use indexmap::IndexMap;
+use mail_listing::Letter;
 use message_versions::Version;
 use tags_clocks::OpId;
 
-/// Takes out the folder tags that the operation removes.
-pub fn forget_removed_tags(tags: &mut Vec<FolderEntry>, op: &Op)
-    ensures found { (f : List ℕ) (i : Id) → tag_in tags.new.items f i ≡ (not (removes (FolderTag f i) op.now) && tag_in tags.old.items f i) }
-    ensures len { vec_len tags.new ≤ vec_len tags.old }
-    ensures capacity { vec_capacity tags.new ≡ vec_capacity tags.old }
+/// Takes out the tags that the operation removes.
+pub fn forget_removed(by_name: &mut IndexMap<Vec<u8>, Folder>, op: &Op)
+    ensures tags { (f : List ℕ) (i : Id) → has_tag_in (folder_at f by_name.new.entries) i ≡ (not (removes (FolderTag f i) op.now) && has_tag_in (folder_at f by_name.old.entries) i) }
+    ensures bodies { (f : List ℕ) (i : Id) → body_in_folder (folder_at f by_name.new.entries) i ≡ (if removes (MessageTag f i) op.now then None else body_in_folder (folder_at f by_name.old.entries) i) }
+    ensures room { AreNoFuller by_name.old.entries by_name.new.entries }
 {
     match &op.kind {
-        Kind::Delete { folder, seen } => forget_tags(tags, folder, seen.as_slice()),
-        Kind::Create { .. } => {}
-        Kind::Append { .. } => {}
-        Kind::Expunge { .. } => {}
-        Kind::Store { .. } => {}
-        Kind::Subscribe { .. } => {}
-        Kind::Unsubscribe { .. } => {}
-    }
-}
-
-/// Takes out the message tags that the operation removes.
-pub fn forget_removed_messages(messages: &mut MessageTable, op: &Op)
-    ensures found { (f : List ℕ) (i : Id) → body_in (message_tags messages.new.entries) f i ≡ (if removes (MessageTag f i) op.now then None else body_in (message_tags messages.old.entries) f i) }
-    ensures len { length messages.new.entries ≤ length messages.old.entries }
-    ensures room { messages.new.room ≡ messages.old.room }
-    ensures places { (wanted : List ℕ → Id → ℕ) → HavePlaces wanted messages.old.entries → HavePlaces wanted messages.new.entries }
-{
-    match &op.kind {
-        Kind::Delete { folder, seen } => messages.forget(folder, seen.as_slice()),
-        Kind::Expunge { folder, olds } => messages.forget(folder, olds.as_slice()),
-        Kind::Store { folder, olds, .. } => messages.forget(folder, olds.as_slice()),
+        Kind::Delete { folder, seen } => forget_both(by_name, folder, seen.as_slice()),
+        Kind::Expunge { folder, olds } => forget_messages(by_name, folder, olds.as_slice()),
+        Kind::Store { folder, olds, .. } => forget_messages(by_name, folder, olds.as_slice()),
         Kind::Create { .. } => {}
         Kind::Append { .. } => {}
         Kind::Subscribe { .. } => {}
@@ -54,71 +39,129 @@ pub fn forget_removed_messages(messages: &mut MessageTable, op: &Op)
     }
 }
 
-/// Puts in the tag that the operation adds, and an Append's date and text; each list has room for one more. Where the message of a
-/// version isn't there yet, this list, which is empty, is that of its versions.
+/// Takes out the folder's tags of both kinds with these ids.
+fn forget_both(by_name: &mut IndexMap<Vec<u8>, Folder>, name: &Name, ids: &[OpId])
+    ensures tags { (f : List ℕ) (i : Id) → has_tag_in (folder_at f by_name.new.entries) i ≡ (not (is_among f i name.now ids.now) && has_tag_in (folder_at f by_name.old.entries) i) }
+    ensures bodies { (f : List ℕ) (i : Id) → body_in_folder (folder_at f by_name.new.entries) i ≡ (if is_among f i name.now ids.now then None else body_in_folder (folder_at f by_name.old.entries) i) }
+    ensures room { AreNoFuller by_name.old.entries by_name.new.entries }
+{
+    match by_name.get_mut(name.as_bytes()) {
+        Some(folder) => folder.forget(ids),
+        None => {}
+    }
+}
+
+/// Takes out the folder's message tags with these ids.
+fn forget_messages(by_name: &mut IndexMap<Vec<u8>, Folder>, name: &Name, ids: &[OpId])
+    ensures tags { (f : List ℕ) (i : Id) → has_tag_in (folder_at f by_name.new.entries) i ≡ has_tag_in (folder_at f by_name.old.entries) i }
+    ensures bodies { (f : List ℕ) (i : Id) → body_in_folder (folder_at f by_name.new.entries) i ≡ (if is_among f i name.now ids.now then None else body_in_folder (folder_at f by_name.old.entries) i) }
+    ensures room { AreNoFuller by_name.old.entries by_name.new.entries }
+{
+    match by_name.get_mut(name.as_bytes()) {
+        Some(folder) => folder.forget_messages(ids),
+        None => {}
+    }
+}
+
+/// Puts in the tag that the operation adds, and an Append's date and text; there is room for them. Where the message of a version isn't
+/// there yet, this list, which is empty, is that of its versions.
 pub fn keep_added(
-    tags: &mut Vec<FolderEntry>,
-    messages: &mut MessageTable,
-    letters: &mut Vec<LetterEntry>,
+    by_name: &mut IndexMap<Vec<u8>, Folder>,
+    letters: &mut IndexMap<OpId, Letter>,
     op: Op,
-    places: Vec<Version>,
+    list: Vec<Version>,
 )
-    requires tags { vec_len tags.old < vec_capacity tags.old }
-    requires messages { length messages.old.entries < messages.old.room }
-    requires letters { vec_len letters.old < vec_capacity letters.old }
-    requires places { HavePlaces (needed (op ∷ [])) messages.old.entries }
-    requires list { (places.items ≡ []) × (wanted_by (needed (op ∷ [])) op.id op.kind ≤ vec_capacity places) }
-    ensures found_tags { (f : List ℕ) (i : Id) → tag_in tags.new.items f i ≡ (adds (FolderTag f i) op || tag_in tags.old.items f i) }
-    ensures found_bodies { (f : List ℕ) (i : Id) → body_in (message_tags messages.new.entries) f i ≡ (if adds (MessageTag f i) op then body_by op.id op.kind else body_in (message_tags messages.old.entries) f i) }
-    ensures found_letters { (i : Id) → letter_in letters.new.items i ≡ option_or (letter_from i op) (letter_in letters.old.items i) }
-    ensures tags_len { vec_len tags.new ≤ vec_len tags.old + 1 }
-    ensures tags_capacity { vec_capacity tags.new ≡ vec_capacity tags.old }
-    ensures messages_len { length messages.new.entries ≤ length messages.old.entries + 1 }
-    ensures messages_room { messages.new.room ≡ messages.old.room }
-    ensures messages_places { (ops : List Operation) → HavePlaces (needed (op ∷ ops)) messages.old.entries → wanted_by (needed (op ∷ ops)) op.id op.kind ≤ vec_capacity places → HavePlaces (needed ops) messages.new.entries }
-    ensures letters_len { vec_len letters.new ≤ vec_len letters.old + 1 }
-    ensures letters_capacity { vec_capacity letters.new ≡ vec_capacity letters.old }
+    requires room { HasRoomFor (op ∷ []) op (λ name. folder_at name by_name.old.entries) }
+    requires letters { 0 < spare letters.old }
+    requires list { (list.items ≡ []) × (wanted_by (versions_wanted (op ∷ [])) (origin_by op.id op.kind) ≤ vec_capacity list) }
+    ensures tags { (f : List ℕ) (i : Id) → has_tag_in (folder_at f by_name.new.entries) i ≡ (adds (FolderTag f i) op || has_tag_in (folder_at f by_name.old.entries) i) }
+    ensures bodies { (f : List ℕ) (i : Id) → body_in_folder (folder_at f by_name.new.entries) i ≡ (if adds (MessageTag f i) op then body_by op.id op.kind else body_in_folder (folder_at f by_name.old.entries) i) }
+    ensures letters { (i : Id) → option_map letter_told (lookup (same_id i) letters.new.entries) ≡ option_or (letter_from i op) (option_map letter_told (lookup (same_id i) letters.old.entries)) }
+    ensures letters_room { spare letters.old ≤ spare letters.new + 1 }
+    ensures room { LeavesRoomBehind op (vec_capacity list) (λ name. folder_at name by_name.old.entries) (λ name. folder_at name by_name.new.entries) }
 {
     let Op { id, clock: _, kind } = op;
     match kind {
-        Kind::Create { folder } => put_tag(tags, folder, id),
+        Kind::Create { folder } => put_tag(by_name, &folder, &id),
+        Kind::Expunge { folder, .. } => put_tag(by_name, &folder, &id),
         Kind::Append {
             folder,
             flags,
             date,
             text,
         } => {
-            put_first(messages, folder, &id, flags, places);
-            put_letter(letters, LetterEntry { id, date, text });
+            put_first(by_name, &folder, &id, flags, list);
+            put_letter(letters, &id, Letter { date, text });
         }
-        Kind::Expunge { folder, .. } => put_tag(tags, folder, id),
         Kind::Store {
             folder,
             flags,
             origin,
             ..
-        } => messages.put(folder, &origin, Version { id, flags }, places),
+        } => put_message(by_name, &folder, &origin, Version { id, flags }, list),
         Kind::Delete { .. } => {}
         Kind::Subscribe { .. } => {}
         Kind::Unsubscribe { .. } => {}
     }
 }
 
+/// Puts a folder tag in, for which there is room.
+fn put_tag(by_name: &mut IndexMap<Vec<u8>, Folder>, name: &Name, id: &OpId)
+    requires { (folder : Kept) × (folder_at name.now by_name.old.entries ≡ Some folder) × HasPlaces folder 1 }
+    ensures tags { (f : List ℕ) (i : Id) → has_tag_in (folder_at f by_name.new.entries) i ≡ (is_at f i name.now id.now || has_tag_in (folder_at f by_name.old.entries) i) }
+    ensures bodies { (f : List ℕ) (i : Id) → body_in_folder (folder_at f by_name.new.entries) i ≡ body_in_folder (folder_at f by_name.old.entries) i }
+    ensures room { LeavesRoom name.now None 0 (λ n. folder_at n by_name.old.entries) (λ n. folder_at n by_name.new.entries) }
+{
+    match by_name.get_mut(name.as_bytes()) {
+        Some(folder) => folder.put_tag(id),
+        None => unreachable!(),
+    }
+}
+
+/// Puts a message tag in, for which there is room, in place of one with its folder and id.
+fn put_message(
+    by_name: &mut IndexMap<Vec<u8>, Folder>,
+    name: &Name,
+    origin: &OpId,
+    version: Version,
+    list: Vec<Version>,
+)
+    requires room { (folder : Kept) × (folder_at name.now by_name.old.entries ≡ Some folder) × HasPlaces folder 1 × HasVersionRoom folder.messages origin.now 1 }
+    requires list { (list.items ≡ []) × (1 ≤ vec_capacity list) }
+    ensures tags { (f : List ℕ) (i : Id) → has_tag_in (folder_at f by_name.new.entries) i ≡ has_tag_in (folder_at f by_name.old.entries) i }
+    ensures bodies { (f : List ℕ) (i : Id) → body_in_folder (folder_at f by_name.new.entries) i ≡ (if is_at f i name.now version.id then Some (record { flags = version.flags; origin = origin.now }) else body_in_folder (folder_at f by_name.old.entries) i) }
+    ensures room { LeavesRoom name.now (Some origin.now) (vec_capacity list) (λ n. folder_at n by_name.old.entries) (λ n. folder_at n by_name.new.entries) }
+{
+    match by_name.get_mut(name.as_bytes()) {
+        Some(folder) => folder.put_message(origin, version, list),
+        None => unreachable!(),
+    }
+}
+
 /// Puts the message tag of an Append in, which is its own origin.
 fn put_first(
-    messages: &mut MessageTable,
-    folder: Name,
+    by_name: &mut IndexMap<Vec<u8>, Folder>,
+    name: &Name,
     id: &OpId,
     flags: Flags,
-    places: Vec<Version>,
+    list: Vec<Version>,
 )
-    requires room { length messages.old.entries < messages.old.room }
-    requires places { HavePlaces (one_at folder id.now) messages.old.entries }
-    requires list { (places.items ≡ []) × (1 ≤ vec_capacity places) }
-    ensures found { (f : List ℕ) (i : Id) → body_in (message_tags messages.new.entries) f i ≡ (if is_at f i folder id.now then Some (record { flags = flags; origin = id.now }) else body_in (message_tags messages.old.entries) f i) }
-    ensures len { length messages.new.entries ≤ length messages.old.entries + 1 }
-    ensures room { messages.new.room ≡ messages.old.room }
-    ensures places { (wanted : List ℕ → Id → ℕ) → HavePlaces (λ f o. one_at folder id.now f o + wanted f o) messages.old.entries → one_at folder id.now folder id.now + wanted folder id.now ≤ vec_capacity places → HavePlaces wanted messages.new.entries }
+    requires room { (folder : Kept) × (folder_at name.now by_name.old.entries ≡ Some folder) × HasPlaces folder 1 × HasVersionRoom folder.messages id.now 1 }
+    requires list { (list.items ≡ []) × (1 ≤ vec_capacity list) }
+    ensures tags { (f : List ℕ) (i : Id) → has_tag_in (folder_at f by_name.new.entries) i ≡ has_tag_in (folder_at f by_name.old.entries) i }
+    ensures bodies { (f : List ℕ) (i : Id) → body_in_folder (folder_at f by_name.new.entries) i ≡ (if is_at f i name.now id.now then Some (record { flags = flags; origin = id.now }) else body_in_folder (folder_at f by_name.old.entries) i) }
+    ensures room { LeavesRoom name.now (Some id.now) (vec_capacity list) (λ n. folder_at n by_name.old.entries) (λ n. folder_at n by_name.new.entries) }
 {
-    messages.put(folder, id, Version { id: *id, flags }, places);
+    put_message(by_name, name, id, Version { id: *id, flags }, list);
+}
+
+/// Puts a date and text in, for which there is room, in place of those with its id.
+fn put_letter(letters: &mut IndexMap<OpId, Letter>, id: &OpId, letter: Letter)
+    requires { 0 < spare letters.old }
+    ensures found { (i : Id) → option_map letter_told (lookup (same_id i) letters.new.entries) ≡ (if same_id i id.now then Some (record { date = letter.date; text = letter.text }) else option_map letter_told (lookup (same_id i) letters.old.entries)) }
+    ensures room { spare letters.old ≤ spare letters.new + 1 }
+{
+    if letters.insert(*id, letter).is_err() {
+        unreachable!();
+    }
 }

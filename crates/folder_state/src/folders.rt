@@ -1,16 +1,17 @@
 //! The replicated folders.
 
-use crate::changes::{forget_removed_messages, forget_removed_tags, keep_added};
-use crate::later::has_folder_after;
-use crate::lending::{HeldMessage, LentMessage, held_message, lent_message};
-use crate::lookups::{all_ids, folder_names, has_folder, message_ids, tag_ids};
-use crate::message_table::MessageTable;
-use crate::reading::{messages_of, origin_ids};
-use crate::rooms::empty_lists;
-use crate::tables::{FolderEntry, LetterEntry};
-use crate::versions::{has_version_after, version_ids};
+use crate::changes::{forget_removed, keep_added};
+use crate::folder::Folder;
+use crate::later::{has_tag_left, has_tags, has_version_left, has_versions};
+use crate::lending::{LentMessage, lent_message, messages_lent};
+use crate::lists::{all_ids, folder_names, is_inbox, tag_ids, version_ids};
+use crate::reading::folder_messages;
+use crate::rooms::{empty_lists, reserve_folders};
+use crate::wanted::Wanted;
 use crdt_ops::{Ids, Message, SoundOp, copied_ops};
 use imap_types::Name;
+use indexmap::IndexMap;
+use mail_listing::{Letter, Mailbox};
 use merge_laws::Replicated;
 use message_versions::Version;
 use std::alloc::{AllocError, Global};
@@ -20,9 +21,8 @@ use tags_clocks::OpId;
 /// Folders with their messages, changed by operations in any causal order.
 #[derive(Drop)]
 pub struct Folders {
-    tags: Vec<FolderEntry>,
-    messages: MessageTable,
-    letters: Vec<LetterEntry>,
+    by_name: IndexMap<Vec<u8>, Folder>,
+    letters: IndexMap<OpId, Letter>,
     spare: VecDeque<SoundOp>,
     lists: VecDeque<Vec<Version>>,
 }
@@ -30,13 +30,16 @@ pub struct Folders {
 impl Folders {
     ghost use Rattle.std.specs.Prelude.{◌≡◌, ◌↔◌, List, None, Some, IfOk, IsTrue, true, if◌then◌else◌};
     ghost use Rattle.std.specs.List.{list_any};
-    ghost use Rattle.std.specs.Option.{option_map};
+    ghost use Rattle.std.specs.Option.{option_copied, option_map};
+    ghost use Rattle.tags_clocks.specs.declared.id.OpId.{OpId as Id};
     ghost use Rattle.imap_types.specs.Ascending.{compared};
     ghost use Rattle.std.specs.Prelude.{◌++◌};
     ghost use Rattle.merge_laws.specs.Orders.{AreSound, IsCausal, IsIn};
     ghost use Rattle.crdt_ops.specs.Sound.{IsSound};
     ghost use Rattle.folder_state.specs.Later.{after};
-    ghost use Rattle.folder_state.specs.Lending.{held, lent};
+    ghost use Rattle.folder_state.specs.Kept.{body_in_folder, has_tag_in};
+    ghost use Rattle.folder_state.specs.Telling.{lent, letter_told, message_told};
+    ghost use Rattle.mail_listing.specs.Telling.{told_in};
     ghost use Rattle.crdt_ops.specs.declared.op.Op.{Op as Operation};
     ghost use Rattle.crdt_ops.specs.Order.{IsListOf, id_order, same_id};
     ghost use Rattle.crdt_ops.specs.Sets.{delete_set_of, folder_tags_of, folders_of, message_of, messages_of, origins_of, versions_of};
@@ -48,29 +51,61 @@ impl Folders {
         ensures { contents_of result ≡ no_contents }
     {
         Folders {
-            tags: Vec::new(alloc),
-            messages: MessageTable::new(alloc),
-            letters: Vec::new(alloc),
+            by_name: IndexMap::new(alloc),
+            letters: IndexMap::new(alloc),
             spare: VecDeque::new(alloc),
             lists: VecDeque::new(alloc),
         }
     }
 
-    /// Whether this folder is there: INBOX, or a name with a present tag. Takes no memory.
+    /// What is kept of this folder, where it has a table. Cost: a look-up.
+    pub fn folder(&self, name: &Name) -> Option<&Folder>
+        ensures tags { (i : Id) → (contents_of self.now).tags name.now i ≡ has_tag_in (option_copied result) i }
+        ensures bodies { (i : Id) → (contents_of self.now).bodies name.now i ≡ body_in_folder (option_copied result) i }
+    {
+        self.by_name.get(name.as_bytes())
+    }
+
+    /// The folder's messages as they are kept, lent, with the dates and texts of all Appends. Cost: a look-up.
+    pub fn mailbox(&self, name: &Name) -> Mailbox<'_>
+        ensures contents { (origin : Id) → IsMessageOf (contents_of self.now) name.now origin (option_map (message_told origin) (told_in result origin)) }
+    {
+        Mailbox {
+            messages: messages_lent(self.folder(name)),
+            letters: &self.letters,
+        }
+    }
+
+    /// The date and text of the Append with this id, where one was applied, whatever its folder. Cost: a look-up.
+    pub fn letter(&self, id: &OpId) -> Option<&Letter>
+        ensures { option_map letter_told (option_copied result) ≡ (contents_of self.now).letters id.now }
+    {
+        self.letters.get(id)
+    }
+
+    /// Whether this folder is there: INBOX, or a name with a present tag. Takes no memory. Cost: a look-up.
     pub fn exists(&self, name: &Name) -> bool
         ensures contents { IsTrue result ↔ IsFolder (contents_of self.now) name.now }
         ensures set { (ops : List Operation) → IsMadeBy (contents_of self.now) ops → IsTrue result ↔ IsIn name.now (folders_of ops) }
     {
-        has_folder(&self.tags, self.messages.entries(), name)
+        is_inbox(name) || has_tags(self.folder(name))
     }
 
-    /// Whether this folder will be there after these operations, applied in this order. Takes no memory; its cost grows as the
-    /// operations times the tags and operations together.
+    /// Whether this folder will be there after these operations, applied in this order. Takes no memory; its cost grows at most as
+    /// the operations times the folder's tags and operations together.
     pub fn exists_after(&self, name: &Name, ops: &[SoundOp]) -> bool
         ensures contents { IsTrue result ↔ IsFolder (after (contents_of self.now) ops.now) name.now }
         ensures set { (list : List Operation) → IsMadeBy (contents_of self.now) list → AreSound IsSound (list ++ ops.now) → IsCausal (λ (o : Operation). o.id) (λ o. o.clock) (list ++ ops.now) → IsTrue result ↔ IsIn name.now (folders_of (list ++ ops.now)) }
     {
-        has_folder_after(&self.tags, self.messages.entries(), name, ops)
+        is_inbox(name) || has_tag_left(self.folder(name), name, ops)
+    }
+
+    /// Whether the origin has a version in the folder. Takes no memory. Cost: a look-up.
+    pub fn has_version(&self, folder: &Name, origin: &OpId) -> bool
+        ensures contents { IsTrue result ↔ HasVersion (contents_of self.now) folder.now origin.now }
+        ensures set { (ops : List Operation) → IsMadeBy (contents_of self.now) ops → IsTrue result ↔ IsIn origin.now (origins_of ops folder.now) }
+    {
+        has_versions(self.folder(folder), origin)
     }
 
     /// Whether the origin will have a version in the folder after these operations, applied in this order. Takes no memory.
@@ -78,40 +113,19 @@ impl Folders {
         ensures contents { IsTrue result ↔ HasVersion (after (contents_of self.now) ops.now) folder.now origin.now }
         ensures set { (list : List Operation) → IsMadeBy (contents_of self.now) list → AreSound IsSound (list ++ ops.now) → IsCausal (λ (o : Operation). o.id) (λ o. o.clock) (list ++ ops.now) → IsTrue result ↔ IsIn origin.now (origins_of (list ++ ops.now) folder.now) }
     {
-        has_version_after(self.messages.entries(), ops, folder, origin)
+        has_version_left(self.folder(folder), folder, origin, ops)
     }
 
     /// The folder's message of this origin, all of it lent by the folders; None where the origin has no version in the folder.
-    /// Takes no memory. Cost: a pass over the messages and one over the texts.
+    /// Takes no memory. Cost: a look-up or three.
     pub fn message<'a>(&'a self, folder: &Name, origin: &OpId) -> Option<LentMessage<'a>>
         ensures contents { IsMessageOf (contents_of self.now) folder.now origin.now (option_map lent result) }
         ensures set { (list : List Operation) → IsMadeBy (contents_of self.now) list → option_map lent result ≡ (if list_any (same_id origin.now) (origins_of list folder.now) then Some (message_of list folder.now origin.now) else None) }
     {
-        lent_message(self.messages.entries(), &self.letters, folder, origin)
-    }
-
-    /// The folder's message of this origin after these operations, applied in this order, its date and text lent by the folders
-    /// and the operations; None where the origin has no version in the folder then; `Err` where there is no memory for its
-    /// versions. Cost: a pass over the messages, the texts and the operations, and two for each version.
-    pub fn message_after<'a>(
-        &'a self,
-        alloc: Global,
-        folder: &Name,
-        origin: &OpId,
-        ops: &'a [SoundOp],
-    ) -> Result<Option<HeldMessage<'a>>, AllocError>
-        ensures contents { IfOk result (λ message. IsMessageOf (after (contents_of self.now) ops.now) folder.now origin.now (option_map held message)) }
-        ensures set { (list : List Operation) → IsMadeBy (contents_of self.now) list → AreSound IsSound (list ++ ops.now) → IsCausal (λ (o : Operation). o.id) (λ o. o.clock) (list ++ ops.now) → IfOk result (λ message. option_map held message ≡ (if list_any (same_id origin.now) (origins_of (list ++ ops.now) folder.now) then Some (message_of (list ++ ops.now) folder.now origin.now) else None)) }
-    {
-        let message = held_message(
-            alloc,
-            self.messages.entries(),
-            &self.letters,
-            ops,
-            folder,
-            origin,
-        )?;
-        Ok(message)
+        match self.folder(folder) {
+            Some(found) => lent_message(found, &self.letters, origin),
+            None => None,
+        }
     }
 
     /// The names of the folders that are there, ascending by octets, INBOX among them; `Err` where there is no memory for
@@ -120,7 +134,7 @@ impl Folders {
         ensures contents { IfOk result (λ names. IsListOf compared (IsFolder (contents_of self.now)) names.items) }
         ensures set { (ops : List Operation) → IsMadeBy (contents_of self.now) ops → IfOk result (λ names. names.items ≡ folders_of ops) }
     {
-        let names = folder_names(alloc, &self.tags, self.messages.entries())?;
+        let names = folder_names(alloc, &self.by_name)?;
         Ok(names)
     }
 
@@ -129,7 +143,7 @@ impl Folders {
         ensures contents { IfOk result (λ ids. IsListOf id_order (λ i. (contents_of self.now).tags folder.now i ≡ true) ids) }
         ensures set { (ops : List Operation) → IsMadeBy (contents_of self.now) ops → IfOk result (λ ids. ids ≡ folder_tags_of ops folder.now) }
     {
-        let ids = tag_ids(alloc, &self.tags, folder)?;
+        let ids = tag_ids(alloc, self.folder(folder))?;
         Ok(ids)
     }
 
@@ -139,7 +153,7 @@ impl Folders {
         ensures contents { IfOk result (λ ids. AreVersions (contents_of self.now) folder.now origin.now ids) }
         ensures set { (ops : List Operation) → IsMadeBy (contents_of self.now) ops → IfOk result (λ ids. ids ≡ versions_of ops folder.now origin.now) }
     {
-        let ids = version_ids(alloc, self.messages.entries(), &[], folder, origin)?;
+        let ids = version_ids(alloc, self.folder(folder), origin)?;
         Ok(ids)
     }
 
@@ -151,15 +165,7 @@ impl Folders {
         ensures contents { IfOk result (λ messages. AreMessages (contents_of self.now) folder.now messages.items) }
         ensures set { (ops : List Operation) → IsMadeBy (contents_of self.now) ops → IfOk result (λ messages. messages.items ≡ messages_of ops folder.now) }
     {
-        let ids = message_ids(alloc, self.messages.entries(), folder)?;
-        let origins = origin_ids(alloc, self.messages.entries(), folder, ids.as_slice())?;
-        let messages = messages_of(
-            alloc,
-            self.messages.entries(),
-            &self.letters,
-            folder,
-            origins.as_slice(),
-        )?;
+        let messages = folder_messages(alloc, self.folder(folder), &self.letters)?;
         Ok(messages)
     }
 
@@ -169,7 +175,7 @@ impl Folders {
         ensures contents { IfOk result (λ ids. IsListOf id_order (HasTag (contents_of self.now) folder.now) ids) }
         ensures set { (ops : List Operation) → IsMadeBy (contents_of self.now) ops → IfOk result (λ ids. ids ≡ delete_set_of ops folder.now) }
     {
-        let ids = all_ids(alloc, &self.tags, self.messages.entries(), folder)?;
+        let ids = all_ids(alloc, self.folder(folder))?;
         Ok(ids)
     }
 }
@@ -197,9 +203,9 @@ impl Replicated for Folders {
 
     fn prepare(&mut self, alloc: Global, ops: &[SoundOp]) -> Result<(), AllocError> {
         let copies = copied_ops(alloc, ops)?;
-        let lists = empty_lists(alloc, ops)?;
-        self.tags.reserve(ops.len())?;
-        self.messages.reserve(ops)?;
+        let wanted = Wanted::by(alloc, ops)?;
+        let lists = empty_lists(alloc, ops, &wanted)?;
+        reserve_folders(alloc, &mut self.by_name, ops, &wanted)?;
         self.letters.reserve(ops.len())?;
         self.spare = copies;
         self.lists = lists;
@@ -207,16 +213,14 @@ impl Replicated for Folders {
     }
 
     fn apply(&mut self, op: &SoundOp) {
-        forget_removed_tags(&mut self.tags, op.op());
-        forget_removed_messages(&mut self.messages, op.op());
+        forget_removed(&mut self.by_name, op.op());
         match self.spare.pop_front() {
             Some(copy) => match self.lists.pop_front() {
-                Some(places) => keep_added(
-                    &mut self.tags,
-                    &mut self.messages,
+                Some(list) => keep_added(
+                    &mut self.by_name,
                     &mut self.letters,
                     copy.into_op(),
-                    places,
+                    list,
                 ),
                 None => unreachable!(),
             },

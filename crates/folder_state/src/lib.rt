@@ -1,22 +1,24 @@
 //! Folders and their messages, as replicated values (Jungnickel, Oldenburg, Loibl, OPODIS 2017).
 //!
-//! [`Folders`] keeps the present folder tags of the operations applied, each message once for all its versions (its present message
-//! tags), and the dates and texts of all Appends. What it tells of any causal list of sound operations is what the set of them means.
+//! [`Folders`] keeps a table for each folder, found by its name: the present folder tags of the operations applied, each message once
+//! for all its versions (its present message tags), found by its origin, and the origin of each version. Beside them stand the dates and
+//! texts of all Appends. What it tells of any causal list of sound operations is what the set of them means.
 #![tactic(auto)]
 
 mod changes;
-mod entry;
+mod folder;
 mod folders;
+mod forgetting;
 mod later;
 mod laws;
 mod lending;
-mod lookups;
-mod message_table;
+mod lists;
+mod putting;
 mod reading;
 mod rooms;
-mod tables;
-mod versions;
+mod wanted;
 
+pub use folder::Folder;
 pub use folders::Folders;
 pub use laws::{contents_follow_the_set, folders_for_all_orders};
-pub use lending::{HeldMessage, LentMessage};
+pub use lending::LentMessage;

@@ -1,128 +1,81 @@
-//! The messages that the lists tell.
+//! A folder's messages, copied.
 
-ghost use Rattle.std.specs.Prelude.{◌≡◌, None, Some, [], map, IfOk, MatchOption};
-ghost use Rattle.std.specs.List.{filter_map};
-ghost use Rattle.std.specs.Option.{option_map, unwrap_or};
-ghost use Rattle.crdt_ops.specs.Order.{id_order, in_order};
+ghost use Rattle.std.specs.Prelude.{◌≡◌, ℕ, IfOk, List, map};
+ghost use Rattle.std.specs.Map.{lookup};
+ghost use Rattle.std.specs.Option.{option_copied, option_map, unwrap_or};
+ghost use Rattle.tags_clocks.specs.declared.id.OpId.{OpId as Id};
+ghost use Rattle.crdt_ops.specs.Order.{same_id};
 ghost use Rattle.crdt_ops.specs.Sets.{no_letter};
-ghost use Rattle.folder_state.specs.Contents.{origin_in};
-ghost use Rattle.folder_state.specs.Entries.{body_in, letter_in};
-ghost use Rattle.folder_state.specs.Kept.{message_tags, tags_at};
-ghost use Rattle.folder_state.specs.Later.{flags_among, message_from, told};
-ghost use Rattle.folder_state.specs.Lending.{borne};
+ghost use Rattle.folder_state.specs.Contents.{AreMessages, Contents};
+ghost use Rattle.folder_state.specs.Kept.{body_in_folder, folder_contents};
+ghost use Rattle.folder_state.specs.Telling.{letter_told, message_kept};
 
-use crate::entry::MessageEntry;
-use crate::lending::LentBody;
-use crate::tables::LetterEntry;
-use crate::versions::{union_after, version_ids};
-use crdt_ops::{Ids, Message};
-use imap_types::{DateTime, Flags, Name, Octets};
-use message_versions::Version;
+use crate::folder::Folder;
+use crate::lists::{ids_in_order, ids_of};
+use crdt_ops::Message;
+use imap_types::{DateTime, Text};
+use indexmap::IndexMap;
+use mail_listing::Letter;
+use message_versions::Versions;
 use std::alloc::{AllocError, Global};
 use tags_clocks::OpId;
 
-/// The folder's messages of these origins, in their order; `Err` where there is no memory for them.
-pub fn messages_of(
+/// The folder's messages, ascending by their origins; `Err` where there is no memory for them.
+pub fn folder_messages(
     alloc: Global,
-    entries: &[MessageEntry],
-    letters: &[LetterEntry],
-    folder: &Name,
-    origins: &[OpId],
+    folder: Option<&Folder>,
+    letters: &IndexMap<OpId, Letter>,
 ) -> Result<Vec<Message>, AllocError>
-    ensures { IfOk result (λ messages. messages.items ≡ map (message_from (message_tags entries.now) letters.now folder.now) origins.now) }
+    ensures { (c : Contents) (name : List ℕ) → ((i : Id) → c.bodies name i ≡ body_in_folder (option_copied folder.entry) i) → ((i : Id) → c.letters i ≡ option_map letter_told (lookup (same_id i) letters.now.entries)) → IfOk result (λ messages. AreMessages c name messages.items) }
 {
-    let mut messages = Vec::with_capacity(alloc, origins.len())?;
-    for origin in origins {
-        messages.push(message(alloc, entries, letters, folder, origin)?)?;
+    match folder {
+        Some(folder) => messages_in(alloc, folder, letters),
+        None => Ok(Vec::new(alloc)),
     }
+}
+
+fn messages_in(
+    alloc: Global,
+    folder: &Folder,
+    letters: &IndexMap<OpId, Letter>,
+) -> Result<Vec<Message>, AllocError>
+    ensures { (c : Contents) (name : List ℕ) → ((i : Id) → c.bodies name i ≡ (folder_contents folder.now).bodies i) → ((i : Id) → c.letters i ≡ option_map letter_told (lookup (same_id i) letters.now.entries)) → IfOk result (λ messages. AreMessages c name messages.items) }
+{
+    let list = folder.origins(alloc)?;
+    let origins = ids_in_order(alloc, &list)?;
+    let messages = messages_of(alloc, folder, letters, origins.as_slice())?;
     Ok(messages)
 }
 
-/// The origins of the folder's message tags with these ids, ascending; `Err` where there is no memory for them.
-pub fn origin_ids(
+/// The folder's messages of these origins, in their order; `Err` where there is no memory for them.
+fn messages_of(
     alloc: Global,
-    entries: &[MessageEntry],
-    folder: &Name,
-    ids: &[OpId],
-) -> Result<Ids, AllocError>
-    ensures { IfOk result (λ origins. origins ≡ in_order id_order (filter_map (origin_in (told [] (message_tags entries.now)) folder.now) ids.now)) }
+    folder: &Folder,
+    letters: &IndexMap<OpId, Letter>,
+    origins: &[OpId],
+) -> Result<Vec<Message>, AllocError>
+    ensures { IfOk result (λ messages. messages.items ≡ map (message_kept folder.now.messages letters.now.entries) origins.now) }
 {
-    let mut origins = Ids::none(alloc);
-    for id in ids {
-        if let Some(origin) = origin_at(entries, folder, id) {
-            origins.insert(origin)?;
-        }
+    let mut messages = Vec::with_capacity(alloc, origins.len())?;
+    for origin in origins {
+        messages.push(message(alloc, folder, letters, origin)?)?;
     }
-    Ok(origins)
-}
-
-/// The origin of the message tag of this folder and id, where it is present.
-fn origin_at(entries: &[MessageEntry], folder: &Name, id: &OpId) -> Option<OpId>
-    ensures { result ≡ origin_in (told [] (message_tags entries.now)) folder.now id.now }
-{
-    match body_at(entries, folder, id) {
-        Some(body) => Some(body.origin),
-        None => None,
-    }
-}
-
-/// What the message tag of this folder and id carries, where it is present.
-pub fn body_at<'a>(entries: &'a [MessageEntry], folder: &Name, id: &OpId) -> Option<LentBody<'a>>
-    ensures { option_map borne result ≡ body_in (message_tags entries.now) folder.now id.now }
-{
-    for entry in entries {
-        if let Some(body) = body_of(entry, folder, id) {
-            return Some(body);
-        }
-    }
-    None
-}
-
-/// What the version with this id carries, where the message is of this folder and has it.
-fn body_of<'a>(entry: &'a MessageEntry, folder: &Name, id: &OpId) -> Option<LentBody<'a>>
-    ensures { option_map borne result ≡ body_in (tags_at entry.now) folder.now id.now }
-{
-    if folder.as_bytes() == entry.folder().as_bytes() {
-        lent_flags(flags_of(entry.versions(), id), entry.origin())
-    } else {
-        None
-    }
-}
-
-fn lent_flags<'a>(flags: Option<&'a Flags>, origin: OpId) -> Option<LentBody<'a>>
-    ensures { option_map borne result ≡ option_map (λ flags. record { flags = flags; origin = origin }) (option_map (λ flags. flags.now) flags.entry) }
-{
-    match flags {
-        Some(flags) => Some(LentBody { flags, origin }),
-        None => None,
-    }
-}
-
-/// The flags of the version with this id.
-fn flags_of<'a>(versions: &'a [Version], id: &OpId) -> Option<&'a Flags>
-    ensures { option_map (λ flags. flags.now) result ≡ flags_among versions.now id.now }
-{
-    for version in versions {
-        if *id == version.id {
-            return Some(&version.flags);
-        }
-    }
-    None
+    Ok(messages)
 }
 
 /// The message of an origin, with its Append's date and text, or with none where the origin is no Append.
 fn message(
     alloc: Global,
-    entries: &[MessageEntry],
-    letters: &[LetterEntry],
-    folder: &Name,
+    folder: &Folder,
+    letters: &IndexMap<OpId, Letter>,
     origin: &OpId,
 ) -> Result<Message, AllocError>
-    ensures { IfOk result (λ message. message ≡ message_from (message_tags entries.now) letters.now folder.now origin.now) }
+    ensures { IfOk result (λ message. message ≡ message_kept folder.now.messages letters.now.entries origin.now) }
 {
-    let versions = version_ids(alloc, entries, &[], folder, origin)?;
-    let flags = union_after(alloc, entries, &[], folder, versions.as_slice())?;
-    let (date, text) = letter_copied(alloc, letters, *origin)?;
+    let list = folder.versions_at(origin);
+    let versions = ids_of(alloc, list)?;
+    let flags = Versions::new(list).flags(alloc)?;
+    let (date, text) = letter_copied(alloc, letters, origin)?;
     Ok(Message {
         origin: *origin,
         versions,
@@ -135,26 +88,14 @@ fn message(
 /// Copies of the date and text of the Append with this id, or those of a message without one.
 fn letter_copied(
     alloc: Global,
-    letters: &[LetterEntry],
-    id: OpId,
-) -> Result<(DateTime, Octets), AllocError>
-    ensures date { IfOk result (λ copied. copied.0 ≡ (unwrap_or (letter_in letters.now id) no_letter).date) }
-    ensures text { IfOk result (λ copied. copied.1 ≡ (unwrap_or (letter_in letters.now id) no_letter).text) }
+    letters: &IndexMap<OpId, Letter>,
+    id: &OpId,
+) -> Result<(DateTime, Text), AllocError>
+    ensures date { IfOk result (λ copied. copied.0 ≡ (unwrap_or (option_map letter_told (lookup (same_id id.now) letters.now.entries)) no_letter).date) }
+    ensures text { IfOk result (λ copied. copied.1 ≡ (unwrap_or (option_map letter_told (lookup (same_id id.now) letters.now.entries)) no_letter).text) }
 {
-    match letter_at(letters, id) {
-        Some(letter) => Ok((letter.date.copy(), letter.text.copy(alloc)?)),
-        None => Ok((DateTime::epoch(), Octets::new(Vec::new(alloc)))),
+    match letters.get(id) {
+        Some(letter) => Ok((letter.date.copy(), letter.text.copy()?)),
+        None => Ok((DateTime::epoch(), Text::new(Vec::new(alloc))?)),
     }
-}
-
-/// The date and text of the Append with this id.
-pub fn letter_at(letters: &[LetterEntry], id: OpId) -> Option<&LetterEntry>
-    ensures { MatchOption result (letter_in letters.now id ≡ None) (λ letter. letter_in letters.now id ≡ Some (record { date = letter.now.date; text = letter.now.text })) }
-{
-    for letter in letters {
-        if id == letter.id {
-            return Some(letter);
-        }
-    }
-    None
 }

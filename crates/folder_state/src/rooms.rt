@@ -1,75 +1,184 @@
-//! How much room operations need.
+//! Room made for operations.
 
-ghost use Rattle.std.specs.Prelude.{◌≡◌, ◌+◌, ◌≤◌, [], IfOk};
+ghost use Rattle.std.specs.Prelude.{◌≡◌, ◌≤◌, ℕ, List, [], None, Some, IfOk, OnOk};
 ghost use Rattle.std.specs.Vec.{vec_capacity};
-ghost use Rattle.folder_state.specs.Rooms.{HaveLists, adds_there, needed, wanted_by};
+ghost use Rattle.indexmap.specs.IndexMap.{spare};
+ghost use Rattle.tags_clocks.specs.declared.id.OpId.{OpId as Id};
+ghost use Rattle.merge_laws.specs.Orders.{IsIn};
+ghost use Rattle.crdt_ops.specs.declared.op.Op.{Op as Operation};
+ghost use Rattle.folder_state.specs.Kept.{Kept, folder_at};
+ghost use Rattle.folder_state.specs.Rooms.{AreRoomier, AreRoomierLists, HasPlaces, HasRoomAt, HasRoomFor, HasVersionPlaces, HasVersionRoom, HaveLists, IsRoomier, counted_at, counted_under, origin_by, tags_wanted, target, versions_wanted, wanted_by};
 
-use crate::tables::is_at;
-use crdt_ops::{Kind, Op, SoundOp};
-use imap_types::Name;
+use crate::folder::Folder;
+use crate::later::origin_by;
+use crate::wanted::{Wanted, target};
+use crdt_ops::{Op, SoundOp};
+use indexmap::IndexMap;
 use message_versions::Version;
 use std::alloc::{AllocError, Global};
 use std::collections::VecDeque;
 use tags_clocks::OpId;
 
-/// The number of versions of this folder and origin that the operations add. Cost: a pass over them.
-pub fn needed(ops: &[SoundOp], folder: &Name, origin: &OpId) -> usize
-    ensures { result ≡ needed ops.now folder.now origin.now }
-{
-    let mut count = 0;
-    for op in ops {
-        if adds_there(op.op(), folder, origin) {
-            count += 1;
-        }
-    }
-    count
-}
-
-/// For each operation an empty list, with places for the versions of its folder and origin that it and those behind it add; `Err`
-/// where there is no memory for one. Cost: for each operation a pass over those behind it.
-pub fn empty_lists(alloc: Global, ops: &[SoundOp]) -> Result<VecDeque<Vec<Version>>, AllocError>
+/// For each operation an empty list, with places for the versions of its origin that it and those behind it add; `Err` where there is
+/// no memory for one.
+pub fn empty_lists(
+    alloc: Global,
+    ops: &[SoundOp],
+    wanted: &Wanted,
+) -> Result<VecDeque<Vec<Version>>, AllocError>
+    requires { (origin : Id) → counted_at origin wanted.now.versions ≡ versions_wanted ops.now origin }
     ensures { IfOk result (λ lists. HaveLists ops.now lists.items) }
 {
     let mut lists = VecDeque::new(alloc);
-    let mut left = ops;
-    while let [first, behind @ ..] = left {
-        lists.push_back(empty_list(alloc, first.op(), left)?)?;
-        left = behind;
+    for op in ops {
+        lists.push_back(empty_list(alloc, op.op(), wanted)?)?;
     }
     Ok(lists)
 }
 
-/// An empty list with places for the versions of the operation's folder and origin that these add.
-fn empty_list(alloc: Global, op: &Op, ops: &[SoundOp]) -> Result<Vec<Version>, AllocError>
+/// An empty list with places for the versions that are wanted of the operation's origin.
+fn empty_list(alloc: Global, op: &Op, wanted: &Wanted) -> Result<Vec<Version>, AllocError>
     ensures items { IfOk result (λ list. list.items ≡ []) }
-    ensures capacity { IfOk result (λ list. wanted_by (needed ops.now) op.now.id op.now.kind ≤ vec_capacity list) }
+    ensures capacity { IfOk result (λ list. wanted_by (λ o. counted_at o wanted.now.versions) (origin_by op.now.id op.now.kind) ≤ vec_capacity list) }
 {
-    let list = Vec::with_capacity(alloc, wanted_by(op, ops))?;
+    let list = Vec::with_capacity(alloc, wanted.versions_of(&origin_by(op)))?;
     Ok(list)
 }
 
-/// The number of versions of the operation's folder and origin that these add; 0 where it adds none.
-fn wanted_by(op: &Op, ops: &[SoundOp]) -> usize
-    ensures { result ≡ wanted_by (needed ops.now) op.now.id op.now.kind }
+/// Makes room in each folder for the tags that the operations add to it, and in each of their messages for the versions; a folder
+/// that isn't there is put in. An error leaves all tags as they were. Cost: some look-ups for each operation.
+pub fn reserve_folders(
+    alloc: Global,
+    by_name: &mut IndexMap<Vec<u8>, Folder>,
+    ops: &[SoundOp],
+    wanted: &Wanted,
+) -> Result<(), AllocError>
+    requires tags { (name : List ℕ) → counted_under name wanted.now.tags ≡ tags_wanted ops.now name }
+    requires versions { (origin : Id) → counted_at origin wanted.now.versions ≡ versions_wanted ops.now origin }
+    ensures roomier { AreRoomier by_name.old.entries by_name.new.entries }
+    ensures rooms { OnOk result ((o : Operation) → IsIn o ops.now → HasRoomFor ops.now o (λ name. folder_at name by_name.new.entries)) }
 {
-    match &op.kind {
-        Kind::Append { folder, .. } => needed(ops, folder, &op.id),
-        Kind::Store { folder, origin, .. } => needed(ops, folder, origin),
-        _ => 0,
+    for op in ops {
+        reserve_for(alloc, by_name, op.op(), wanted)?;
+    }
+    Ok(())
+}
+
+/// Makes so much room as is wanted in the folder of the operation's tag, and in its message.
+fn reserve_for(
+    alloc: Global,
+    by_name: &mut IndexMap<Vec<u8>, Folder>,
+    op: &Op,
+    wanted: &Wanted,
+) -> Result<(), AllocError>
+    ensures roomier { AreRoomier by_name.old.entries by_name.new.entries }
+    ensures ok { OnOk result (HasRoomAt (λ n. counted_under n wanted.now.tags) (λ o. counted_at o wanted.now.versions) (origin_by op.now.id op.now.kind) (target op.now.kind) (λ name. folder_at name by_name.new.entries)) }
+{
+    let origin = origin_by(op);
+    match target(op) {
+        Some(name) => reserve_in(
+            alloc,
+            by_name,
+            name.as_bytes(),
+            wanted.tags_of(name),
+            &origin,
+            wanted.versions_of(&origin),
+        ),
+        None => Ok(()),
     }
 }
 
-/// Whether the operation adds a version of this folder and origin.
-fn adds_there(op: &Op, folder: &Name, origin: &OpId) -> bool
-    ensures { result ≡ adds_there folder.now origin.now op.now.id op.now.kind }
+/// Makes room for so many tags in the folder, which is put in where it isn't there, and for so many versions in the message of the
+/// origin, where both are there.
+fn reserve_in(
+    alloc: Global,
+    by_name: &mut IndexMap<Vec<u8>, Folder>,
+    name: &[u8],
+    tags: usize,
+    origin: &Option<OpId>,
+    versions: usize,
+) -> Result<(), AllocError>
+    ensures roomier { AreRoomier by_name.old.entries by_name.new.entries }
+    ensures ok { OnOk result ((folder : Kept) × (folder_at name.now by_name.new.entries ≡ Some folder) × HasPlaces folder tags × HasVersionPlaces folder origin.now versions) }
 {
-    match &op.kind {
-        Kind::Append { folder: own, .. } => is_at(folder, *origin, own, op.id),
-        Kind::Store {
-            folder: own,
-            origin: own_origin,
-            ..
-        } => is_at(folder, *origin, own, *own_origin),
-        _ => false,
+    match by_name.get_mut(name) {
+        Some(folder) => folder.reserve(tags, origin, versions),
+        None => put_folder(alloc, by_name, name, tags),
+    }
+}
+
+/// Puts a folder in that isn't there, with room for so many tags.
+fn put_folder(
+    alloc: Global,
+    by_name: &mut IndexMap<Vec<u8>, Folder>,
+    name: &[u8],
+    tags: usize,
+) -> Result<(), AllocError>
+    requires { folder_at name.now by_name.old.entries ≡ None }
+    ensures roomier { AreRoomier by_name.old.entries by_name.new.entries }
+    ensures ok { OnOk result ((folder : Kept) × (folder_at name.now by_name.new.entries ≡ Some folder) × HasPlaces folder tags × (folder.messages ≡ [])) }
+{
+    let folder = Folder::with_room(alloc, tags)?;
+    let key = name.to_vec(alloc)?;
+    if by_name.insert(key, folder).is_err() {
+        return Err(AllocError);
+    }
+    Ok(())
+}
+
+impl Folder {
+    /// No tags, and room for so many; `Err` where there is no memory for it.
+    fn with_room(alloc: Global, tags: usize) -> Result<Folder, AllocError>
+        ensures empty { IfOk result (λ folder. (folder.tags ≡ []) × (folder.messages ≡ []) × (folder.origins ≡ [])) }
+        ensures room { IfOk result (λ folder. HasPlaces folder tags) }
+    {
+        let mut folder = Folder::new(alloc);
+        folder.reserve_tags(tags)?;
+        Ok(folder)
+    }
+
+    /// Makes room for so many tags, and for so many versions in the message of the origin, where it is there. An error leaves all tags as
+    /// they were.
+    fn reserve(
+        &mut self,
+        tags: usize,
+        origin: &Option<OpId>,
+        versions: usize,
+    ) -> Result<(), AllocError>
+        ensures roomier { IsRoomier self.old self.new }
+        ensures ok { OnOk result (HasPlaces self.new tags × HasVersionPlaces self.new origin.now versions) }
+    {
+        self.reserve_tags(tags)?;
+        match origin {
+            Some(origin) => reserve_versions(&mut self.messages, origin, versions),
+            None => Ok(()),
+        }
+    }
+
+    /// Makes room for so many tags.
+    fn reserve_tags(&mut self, tags: usize) -> Result<(), AllocError>
+        ensures same { (self.new.tags ≡ self.old.tags) × (self.new.messages ≡ self.old.messages) × (self.new.origins ≡ self.old.origins) }
+        ensures grown { (self.old.tag_room ≤ self.new.tag_room) × (self.old.message_room ≤ self.new.message_room) × (self.old.origin_room ≤ self.new.origin_room) }
+        ensures ok { OnOk result (HasPlaces self.new tags) }
+    {
+        self.tags.reserve(tags)?;
+        self.messages.reserve(tags)?;
+        self.origins.reserve(tags)
+    }
+}
+
+/// Makes room for so many versions in the message of the origin, where it is there.
+fn reserve_versions(
+    messages: &mut IndexMap<OpId, Vec<Version>>,
+    origin: &OpId,
+    versions: usize,
+) -> Result<(), AllocError>
+    ensures roomier { AreRoomierLists messages.old.entries messages.new.entries }
+    ensures spare { spare messages.old ≤ spare messages.new }
+    ensures ok { OnOk result (HasVersionRoom messages.new.entries origin.now versions) }
+{
+    match messages.get_mut(origin) {
+        Some(list) => list.reserve(versions),
+        None => Ok(()),
     }
 }

@@ -1,6 +1,6 @@
 //! What sessions do while another one idles.
 
-use crate::scene::{command, selected};
+use crate::scene::{give_text, selected};
 use case_runs::Chance;
 use case_text::Trouble;
 use imap_node::{Node, SessionNo};
@@ -16,11 +16,10 @@ pub fn deed(
 ) -> Result<(), Trouble> {
     let count = count_in(alloc, node, session, name)?;
     let text = match count {
-        None => format!(in alloc; "a CREATE {name}\r\n")?,
-        Some(count) => work(alloc, chance, name, count)?,
+        None => format!(in alloc; "a CREATE {name}\r\n"),
+        Some(count) => work(alloc, chance, name, count),
     };
-    drop(command(alloc, node, session, text.as_str())?);
-    Ok(())
+    give_text(alloc, node, session, text?)
 }
 
 /// How many messages the mailbox has; `None` where it isn't there.
@@ -31,7 +30,11 @@ fn count_in(
     name: &str,
 ) -> Result<Option<u32>, Trouble> {
     match selected(alloc, node, session, name)? {
-        Some(client) => Ok(Some(u32::try_from(client.count()).unwrap_or(u32::MAX))),
+        Some(client) => {
+            let count = client.count();
+            drop(client);
+            Ok(Some(u32::try_from(count).unwrap_or(u32::MAX)))
+        }
         None => Ok(None),
     }
 }

@@ -1,12 +1,12 @@
 //! One run, and how it ends.
 
 use crate::deeds::{append, deed};
-use crate::scene::{Scene, command, done, poll, selected, session};
+use crate::scene::{Scene, command, done, give, give_text, poll, selected, session};
 use crate::watch::Watch;
 use case_runs::{Chance, Client};
 use case_text::Trouble;
 use crdt_ops::SoundOp;
-use imap_node::{Answers, Node};
+use imap_node::{Answers, Node, SessionNo};
 use std::alloc::Global;
 
 /// How a run ended.
@@ -30,7 +30,10 @@ pub fn played(alloc: Global, number: u64) -> Result<Ending, Trouble> {
     let name = if chance.is_one_in(2) { "INBOX" } else { "work" };
     let mut scene = Scene::new(alloc)?;
     let mut watch = Watch::new(alloc);
-    play(alloc, &mut chance, &mut scene, name, &mut watch)
+    let ending = play(alloc, &mut chance, &mut scene, name, &mut watch);
+    drop(watch);
+    drop(scene);
+    ending
 }
 
 fn play(
@@ -57,37 +60,55 @@ fn prepare(
     scene: &mut Scene,
     name: &str,
 ) -> Result<(), Trouble> {
-    drop(command(
-        alloc,
-        &mut scene.near,
-        scene.hands.near,
-        "a CREATE work\r\n",
-    )?);
-    drop(command(
-        alloc,
-        &mut scene.near,
-        scene.hands.near,
-        "a CREATE other\r\n",
-    )?);
+    let session = scene.hands.near;
+    give(alloc, &mut scene.near, session, "a CREATE work\r\n")?;
+    give(alloc, &mut scene.near, session, "a CREATE other\r\n")?;
+    append_some(alloc, chance, &mut scene.near, session, name)?;
+    exchange(alloc, chance, &scene.near, &mut scene.far)
+}
+
+/// Up to five messages.
+fn append_some(
+    alloc: Global,
+    chance: &mut Chance,
+    node: &mut Node,
+    session: SessionNo,
+    name: &str,
+) -> Result<(), Trouble> {
     for _ in 0..chance.below(6) {
         let text = append(alloc, chance, name)?;
-        drop(command(alloc, &mut scene.near, scene.hands.near, text.as_str())?);
+        give_text(alloc, node, session, text)?;
     }
-    exchange(alloc, chance, &scene.near, &mut scene.far)
+    Ok(())
 }
 
 /// The watching session selects the mailbox, learns its messages, and idles.
 fn begin(alloc: Global, scene: &mut Scene, name: &str, watch: &mut Watch) -> Result<(), Trouble> {
-    let select = format!(in alloc; "a SELECT {name}\r\n")?;
-    learn(alloc, scene, watch, select.as_str())?;
+    learn_by_select(alloc, scene, name, watch)?;
     learn(alloc, scene, watch, "b UID FETCH 1:* FLAGS\r\n")?;
     learn(alloc, scene, watch, "c IDLE\r\n")
+}
+
+fn learn_by_select(
+    alloc: Global,
+    scene: &mut Scene,
+    name: &str,
+    watch: &mut Watch,
+) -> Result<(), Trouble> {
+    let select = format!(in alloc; "a SELECT {name}\r\n")?;
+    let done = learn(alloc, scene, watch, select.as_str());
+    drop(select);
+    done
 }
 
 /// All clients hear what the watching session is answered.
 fn learn(alloc: Global, scene: &mut Scene, watch: &mut Watch, text: &str) -> Result<(), Trouble> {
     match command(alloc, &mut scene.near, scene.hands.watcher, text)? {
-        Some(answers) => Ok(watch.hear_all(alloc, answers.as_slice())?),
+        Some(answers) => {
+            let heard = watch.hear_all(alloc, answers.as_slice());
+            drop(answers);
+            Ok(heard?)
+        }
         None => Err(Trouble::NotACase),
     }
 }
@@ -105,11 +126,13 @@ fn step(
         3 | 4 => deed(alloc, chance, &mut scene.far, scene.hands.far, name),
         5 => exchange(alloc, chance, &scene.far, &mut scene.near),
         6 => exchange(alloc, chance, &scene.near, &mut scene.far),
-        _ => {
-            let told = poll(alloc, &mut scene.near, scene.hands.watcher)?;
-            hear(alloc, watch, told)
-        }
+        _ => listen(alloc, scene, watch),
     }
+}
+
+fn listen(alloc: Global, scene: &mut Scene, watch: &mut Watch) -> Result<(), Trouble> {
+    let told = poll(alloc, &mut scene.near, scene.hands.watcher)?;
+    hear(alloc, watch, told)
 }
 
 fn end(alloc: Global, scene: &mut Scene, watch: &mut Watch) -> Result<(), Trouble> {
@@ -119,7 +142,11 @@ fn end(alloc: Global, scene: &mut Scene, watch: &mut Watch) -> Result<(), Troubl
 
 fn hear(alloc: Global, watch: &mut Watch, told: Option<Answers>) -> Result<(), Trouble> {
     match told {
-        Some(answers) => Ok(watch.hear(alloc, answers.as_slice())?),
+        Some(answers) => {
+            let heard = watch.hear(alloc, answers.as_slice());
+            drop(answers);
+            Ok(heard?)
+        }
         None => Err(Trouble::NoMemory),
     }
 }
@@ -150,27 +177,70 @@ fn deliver(alloc: Global, node: &mut Node, op: SoundOp) -> Result<(), Trouble> {
 /// How the clients' views stand beside what a new session sees.
 fn judged(alloc: Global, scene: &mut Scene, name: &str, watch: &Watch) -> Result<Ending, Trouble> {
     let fresh = fresh(alloc, &mut scene.near, name)?;
-    let has_ended = fresh.validity() != watch.whole.validity();
+    let ending = beside(alloc, watch, &fresh);
+    drop(fresh);
+    Ok(ending)
+}
+
+/// The same, where a new session sees this.
+fn beside(alloc: Global, watch: &Watch, fresh: &Client) -> Ending {
+    if fresh.validity() == watch.whole.validity() {
+        return compared(watch, fresh, false);
+    }
     let empty = Client::new(alloc);
-    let there = if has_ended { &empty } else { &fresh };
-    Ok(Ending {
+    let ending = compared(watch, &empty, true);
+    drop(empty);
+    ending
+}
+
+fn compared(watch: &Watch, there: &Client, has_ended: bool) -> Ending {
+    Ending {
         is_right: watch.whole.is_right_by(there),
         without_expunge: watch.without_expunge.is_right_by(there),
         without_exists: watch.without_exists.is_right_by(there),
         without_fetch: watch.without_fetch.is_right_by(there),
         has_ended,
-    })
+    }
 }
 
 /// What a new session sees of the mailbox, with the UIDs and flags of all its messages; nothing where it isn't there.
 fn fresh(alloc: Global, node: &mut Node, name: &str) -> Result<Client, Trouble> {
     let session = session(node)?;
-    let Some(mut client) = selected(alloc, node, session, name)? else {
-        return Ok(Client::new(alloc));
-    };
-    let Some(answers) = command(alloc, node, session, "b UID FETCH 1:* FLAGS\r\n")? else {
-        return Err(Trouble::NoMemory);
-    };
-    client.take_all(alloc, answers.as_slice())?;
-    Ok(client)
+    match selected(alloc, node, session, name)? {
+        Some(client) => told_all(alloc, node, session, client),
+        None => Ok(Client::new(alloc)),
+    }
+}
+
+/// What a client knows of the mailbox once it fetched the UIDs and flags of all its messages.
+fn told_all(
+    alloc: Global,
+    node: &mut Node,
+    session: SessionNo,
+    client: Client,
+) -> Result<Client, Trouble> {
+    let mut client = client;
+    match fetch_all(alloc, node, session, &mut client) {
+        Ok(()) => Ok(client),
+        Err(trouble) => {
+            drop(client);
+            Err(trouble)
+        }
+    }
+}
+
+fn fetch_all(
+    alloc: Global,
+    node: &mut Node,
+    session: SessionNo,
+    client: &mut Client,
+) -> Result<(), Trouble> {
+    match command(alloc, node, session, "b UID FETCH 1:* FLAGS\r\n")? {
+        Some(answers) => {
+            let taken = client.take_all(alloc, answers.as_slice());
+            drop(answers);
+            Ok(taken?)
+        }
+        None => Err(Trouble::NoMemory),
+    }
 }

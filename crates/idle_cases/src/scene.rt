@@ -34,10 +34,28 @@ pub struct Hands {
 impl Scene {
     /// Two replicas that received nothing, with their sessions.
     pub fn new(alloc: Global) -> Result<Scene, Trouble> {
-        let mut near = node(alloc, 1)?;
-        let mut far = node(alloc, 2)?;
-        let hands = open_hands(&mut near, &mut far)?;
-        Ok(Scene { near, far, hands })
+        let near = node(alloc, 1)?;
+        match node(alloc, 2) {
+            Ok(far) => opened(near, far),
+            Err(trouble) => {
+                drop(near);
+                Err(trouble)
+            }
+        }
+    }
+}
+
+/// Two replicas, with their sessions.
+fn opened(near: Node, far: Node) -> Result<Scene, Trouble> {
+    let mut near = near;
+    let mut far = far;
+    match open_hands(&mut near, &mut far) {
+        Ok(hands) => Ok(Scene { near, far, hands }),
+        Err(trouble) => {
+            drop(far);
+            drop(near);
+            Err(trouble)
+        }
     }
 }
 
@@ -92,6 +110,24 @@ pub fn command(
     Ok(answers_in(node.command(alloc, session, Moment::epoch(), tagged)))
 }
 
+/// Gives a command, whatever it is answered.
+pub fn give(alloc: Global, node: &mut Node, session: SessionNo, text: &str) -> Result<(), Trouble> {
+    drop(command(alloc, node, session, text)?);
+    Ok(())
+}
+
+/// The same with a text of its own.
+pub fn give_text(
+    alloc: Global,
+    node: &mut Node,
+    session: SessionNo,
+    text: String,
+) -> Result<(), Trouble> {
+    let done = give(alloc, node, session, text.as_str());
+    drop(text);
+    done
+}
+
 fn spelled(alloc: Global, text: &str) -> Result<Tagged, Trouble> {
     match parse(alloc, text.as_bytes()) {
         Ok(tagged) => Ok(tagged),
@@ -138,14 +174,25 @@ pub fn selected(
     name: &str,
 ) -> Result<Option<Client>, Trouble> {
     let select = format!(in alloc; "a SELECT {name}\r\n")?;
-    match command(alloc, node, session, select.as_str())? {
-        Some(answers) => heard(alloc, &answers),
+    let told = command(alloc, node, session, select.as_str());
+    drop(select);
+    match told? {
+        Some(answers) => {
+            let client = heard(alloc, &answers);
+            drop(answers);
+            client
+        }
         None => Ok(None),
     }
 }
 
 fn heard(alloc: Global, answers: &Answers) -> Result<Option<Client>, Trouble> {
     let mut client = Client::new(alloc);
-    client.take_all(alloc, answers.as_slice())?;
-    Ok(Some(client))
+    match client.take_all(alloc, answers.as_slice()) {
+        Ok(()) => Ok(Some(client)),
+        Err(AllocError) => {
+            drop(client);
+            Err(Trouble::NoMemory)
+        }
+    }
 }

@@ -84,11 +84,21 @@ impl Tally {
 }
 
 fn told(alloc: Global, first: u64, tally: &Tally) -> Result<String, AllocError> {
+    let how = how_told(alloc, tally)?;
+    let told = line(alloc, first, tally, how.as_str());
+    drop(how);
+    told
+}
+
+fn how_told(alloc: Global, tally: &Tally) -> Result<String, AllocError> {
+    match tally.first_wrong {
+        None => format!(in alloc; "all end as they should"),
+        Some(run) => format!(in alloc; "run {run} does not"),
+    }
+}
+
+fn line(alloc: Global, first: u64, tally: &Tally, how: &str) -> Result<String, AllocError> {
     let last = first.saturating_add(99);
-    let how = match tally.first_wrong {
-        None => format!(in alloc; "all end as they should")?,
-        Some(run) => format!(in alloc; "run {run} does not")?,
-    };
     let expunge = some_or_none(tally.needs_expunge);
     let exists = some_or_none(tally.needs_exists);
     let fetch = some_or_none(tally.needs_fetch);

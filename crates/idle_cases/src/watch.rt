@@ -42,22 +42,61 @@ impl Watch {
     /// Each hears of these answers what it hears. An error says that there is no memory.
     pub fn hear(&mut self, alloc: Global, answers: &[Answer]) -> Result<(), AllocError> {
         for answer in answers {
-            self.whole.take(alloc, answer)?;
-            self.pass_over(alloc, answer)?;
+            self.hear_one(alloc, answer)?;
         }
         Ok(())
     }
 
-    fn pass_over(&mut self, alloc: Global, answer: &Answer) -> Result<(), AllocError> {
-        if !matches!(answer, Answer::Expunge { .. }) {
-            self.without_expunge.take(alloc, answer)?;
-        }
-        if !matches!(answer, Answer::Exists { .. }) {
-            self.without_exists.take(alloc, answer)?;
-        }
-        if !matches!(answer, Answer::Fetch { .. }) {
-            self.without_fetch.take(alloc, answer)?;
-        }
+    fn hear_one(&mut self, alloc: Global, answer: &Answer) -> Result<(), AllocError> {
+        let kind = kind_of(answer);
+        self.whole.take(alloc, answer)?;
+        hear_unless(&mut self.without_expunge, alloc, answer, kind.is_expunge)?;
+        hear_unless(&mut self.without_exists, alloc, answer, kind.is_exists)?;
+        hear_unless(&mut self.without_fetch, alloc, answer, kind.is_fetch)
+    }
+}
+
+/// Which client passes over an answer.
+#[derive(Clone, Copy)]
+struct Kind {
+    is_expunge: bool,
+    is_exists: bool,
+    is_fetch: bool,
+}
+
+const OTHER: Kind = Kind {
+    is_expunge: false,
+    is_exists: false,
+    is_fetch: false,
+};
+
+fn kind_of(answer: &Answer) -> Kind {
+    match answer {
+        Answer::Expunge { .. } => Kind {
+            is_expunge: true,
+            ..OTHER
+        },
+        Answer::Exists { .. } => Kind {
+            is_exists: true,
+            ..OTHER
+        },
+        Answer::Fetch { .. } => Kind {
+            is_fetch: true,
+            ..OTHER
+        },
+        _ => OTHER,
+    }
+}
+
+fn hear_unless(
+    client: &mut Client,
+    alloc: Global,
+    answer: &Answer,
+    passes: bool,
+) -> Result<(), AllocError> {
+    if passes {
         Ok(())
+    } else {
+        client.take(alloc, answer)
     }
 }

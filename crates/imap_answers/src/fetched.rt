@@ -3,7 +3,7 @@
 ghost use Rattle.std.specs.Prelude.{◌≡◌, ◌↔◌, IfOk, IsTrue};
 
 use crate::codes::{are_same_flags, copied_flags};
-use imap_types::{DateTime, Flags, Octets, Section};
+use imap_types::{DateTime, Flags, Section, Text};
 use std::alloc::{AllocError, Global};
 use std::marker::Model;
 
@@ -75,7 +75,8 @@ pub struct SectionData {
     pub section: Section,
     /// Where the octets begin in the section, where a partial was asked.
     pub origin: Option<u32>,
-    pub octets: Octets,
+    /// Where the whole text is asked, shared with the message.
+    pub octets: Text,
 }
 
 impl SectionData {
@@ -95,7 +96,7 @@ impl SectionData {
         Ok(SectionData {
             section: self.section.copy(alloc)?,
             origin: self.origin,
-            octets: self.octets.copy(alloc)?,
+            octets: self.octets.copy()?,
         })
     }
 }

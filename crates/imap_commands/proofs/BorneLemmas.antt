@@ -1,6 +1,7 @@
 use Rattle.std.proofs.Common.{◌≡◌, ◌↔◌, ◌⊎◌, inl, inr, ℕ, List, [], ◌∷◌, sym, refl, ap, subst, ◌∙◌}
 use Rattle.std.specs.declared.cmp.Ordering.{Ordering}
 use Rattle.std.specs.declared.cmp.Ordering.TheVariants.{Less, Equal, Greater}
+use Rattle.std.specs.List.{fold}
 use Rattle.std.specs.Ordering.{match_ordering}
 use Rattle.std.proofs.lemmas.Cmp.{nat_list_cmp_total, tied_itself}
 use Rattle.std.proofs.lemmas.Map.Lookups.{exact_bytes}
@@ -9,7 +10,18 @@ use Rattle.imap_types.specs.Keywords.{AreKeywords, lowered, with_text}
 use Rattle.imap_types.proofs.KeywordLemmas.{keywords_with}
 use Rattle.merge_laws.specs.Orders.{IsIn}
 use Rattle.mail_listing.specs.Listed.{Listed}
-use Rattle.imap_commands.specs.Selecting.{AreBorne, IsBorne, listed_keywords, with_keywords, with_rows}
+use Rattle.imap_commands.specs.Selecting.{AreBorne, IsBorne}
+
+-- A set of keywords with more of them in lower case, and with those of messages, one after another.
+abbrev pub with_keywords : List (List ℕ) → List (List ℕ) → List (List ℕ)
+with_keywords words keywords = fold (λ done word. with_text (lowered word) done) keywords words
+
+abbrev pub with_rows : List Listed → List (List ℕ) → List (List ℕ)
+with_rows rows keywords = fold (λ done row. fold (λ done word. with_text (lowered word) done) done row.flags.keywords) keywords rows
+
+-- The keywords with those that are given, which are in lower case.
+abbrev pub united : List (List ℕ) → List (List ℕ) → List (List ℕ)
+united given keywords = fold (λ done word. with_text word done) keywords given
 
 -- ---- what is there once a text is put in
 
@@ -100,7 +112,7 @@ rows_set (row ∷ rows) vs h = rows_set rows (with_keywords row.flags.keywords v
 none_in : (x : List ℕ) (rows : List Listed) → IsBorne rows x ⊎ IsIn x [] → IsBorne rows x
 none_in x rows h = elim h [ inl b ↦ b | inr t ↦ absurd t ]
 
-pub borne : (rows : List Listed) → AreBorne rows (listed_keywords rows)
+pub borne : (rows : List Listed) → AreBorne rows (with_rows rows [])
 borne rows = record {
   set = rows_set rows [] (refl, tt);
   exactly = λ word. (λ h. none_in word rows (rows_has word rows [] h), rows_new word rows []);

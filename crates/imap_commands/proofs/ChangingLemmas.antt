@@ -1,29 +1,12 @@
-use Rattle.std.proofs.Common.{◌≡◌, ◌∙◌, ap, sym, refl, arith, ℕ, zero, suc, ◌+◌, ◌<◌, inl, inr, Bool, true, false, List, [], ◌∷◌, length, drop, get_or, Option, Some, None, if◌then◌else◌}
+use Rattle.std.proofs.Common.{◌≡◌, ◌∙◌, sym, refl, ℕ, inl, inr, Bool, true, false, List, [], ◌∷◌, Option, Some, None, if◌then◌else◌}
 use Rattle.std.specs.Prelude.{not}
 use Rattle.std.specs.List.{filter, list_all}
 use Rattle.std.proofs.lemmas.Bool.{and_from, and_parts, cases_Bool}
 use Rattle.std.proofs.lemmas.Cmp.{nat_list_cmp_total}
-use Rattle.std.proofs.lemmas.Slice.Eq.{bytes_eq-Decides}
 use Rattle.imap_types.specs.Ascending.{AreAscending, ComesBefore}
-use Rattle.imap_types.specs.Keywords.{AreKeywords, are_keywords, has_keyword, is_lowered, lowered, with_text}
-use Rattle.imap_types.proofs.KeywordLemmas.{dropped, test_from_keywords}
-use Rattle.imap_commands.specs.Changing.{remaining, united}
-
--- ---- keywords put in
-
-lowered_at : (words : List (List ℕ)) (i : ℕ) (d : List ℕ) → list_all is_lowered words ≡ true → i < length words → lowered (get_or words i d) ≡ get_or words i d
-lowered_at [] i d h l = absurd (omega arith)
-lowered_at (word ∷ words) zero d h l = (bytes_eq-Decides (lowered word) word).0 (and_parts (is_lowered word) (list_all is_lowered words) h).0
-lowered_at (word ∷ words) (suc i) d h l = lowered_at words i d (and_parts (is_lowered word) (list_all is_lowered words) h).1 (omega arith)
-
--- one keyword more
-pub united_more : (given : List (List ℕ)) (i : ℕ) (word : List ℕ) (old new total : List (List ℕ)) → list_all is_lowered given ≡ true → i < length given → word ≡ get_or given i word
-    → new ≡ with_text (lowered word) old → united (drop i given) old ≡ total → united (drop (i + 1) given) new ≡ total
-united_more given i word old new total h l e n t =
-    let low : lowered word ≡ word = ap lowered e ∙ lowered_at given i word h l ∙ sym e in
-    ap (λ ks. united (drop (i + 1) given) ks) (n ∙ ap (λ w. with_text w old) low)
-    ∙ ap (λ ws. united ws old) (sym (dropped given i word l e))
-    ∙ t
+use Rattle.imap_types.specs.Keywords.{AreKeywords, are_keywords, has_keyword, is_lowered}
+use Rattle.imap_types.proofs.KeywordLemmas.{test_from_keywords}
+use Rattle.imap_commands.specs.Changing.{remaining}
 
 -- ---- keywords left
 

@@ -1,8 +1,8 @@
-use Rattle.std.proofs.Common.{◌≡◌, ◌↔◌, ◌⊎◌, inl, inr, ℕ, Bool, true, false, ◌||◌, ◌&&◌, List, [], ◌∷◌, refl, sym, ap, ◌∙◌, subst}
+use Rattle.std.proofs.Common.{◌≡◌, ◌↔◌, ◌⊎◌, inl, inr, ℕ, Bool, true, false, ◌||◌, ◌&&◌, List, [], ◌∷◌, refl, sym, ◌∙◌, subst}
 use Rattle.std.specs.Prelude.{IsTrue, not}
 use Rattle.std.specs.List.{list_all}
 use Rattle.std.specs.Str.{bytes_eq}
-use Rattle.std.proofs.lemmas.Bool.{and_parts, cases_Bool, false≢true}
+use Rattle.std.proofs.lemmas.Bool.{and_parts, false≢true}
 use Rattle.std.proofs.lemmas.Slice.Eq.{bytes_eq-Decides}
 use Rattle.crdt_ops.proofs.Members.{any_in, in_filter}
 use Rattle.imap_syntax.specs.declared.flags.SystemFlag.{SystemFlag}
@@ -14,8 +14,8 @@ use Rattle.imap_types.specs.Keywords.{AreKeywords, has_keyword, is_lowered, lowe
 use Rattle.imap_types.specs.declared.flags.Flags.{Flags}
 use Rattle.imap_types.proofs.KeywordLemmas.{keywords_from_test, keywords_with}
 use Rattle.merge_laws.specs.Orders.{IsIn}
-use Rattle.imap_commands.specs.Changing.{changed_flags, remaining, united}
-use Rattle.imap_commands.proofs.BorneLemmas.{text_has, text_keeps, text_new}
+use Rattle.imap_commands.specs.Changing.{changed_flags, remaining}
+use Rattle.imap_commands.proofs.BorneLemmas.{text_has, text_keeps, text_new, united}
 use Rattle.imap_commands.proofs.ChangingLemmas.{remaining_are_keywords}
 
 -- ---- system flags

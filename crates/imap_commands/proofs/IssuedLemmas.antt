@@ -24,7 +24,9 @@ use Rattle.merge_laws.specs.Orders.{IsIn}
 use Rattle.session_view.specs.Sets.{is_in_range, resolved}
 use Rattle.session_view.specs.Views.{same_flags}
 use Rattle.session_view.specs.declared.entry.Entry.{Entry}
-use Rattle.imap_commands.specs.Changing.{changed_flags, united}
+use Rattle.imap_commands.specs.Asked.{CopyAsked, FetchAsked, OpenMailbox, StoreAsked}
+use Rattle.imap_commands.specs.Changing.{changed_flags}
+use Rattle.imap_commands.proofs.BorneLemmas.{united}
 use Rattle.imap_commands.specs.Copying.{append_of, appends_of, copy_wants, move_wants, removal_of, removals_of}
 use Rattle.imap_commands.specs.Expunging.{close_wants, expunge_at, expunge_of, expunge_wants, expunges_at, expunges_of, uid_expunge_wants}
 use Rattle.imap_commands.specs.Fetching.{fetch_wants, mode_of, seen_flags, seen_store, seen_stores}
@@ -174,21 +176,23 @@ not_false false h = cc
 lawful_given : (flags : Flags) → has_unlawful_keyword flags ≡ false → list_all is_lawful_keyword flags.keywords ≡ true
 lawful_given flags h = not_false (list_all is_lawful_keyword flags.keywords) h
 
-stores_wanted : (folder destination : List ℕ) (rows : List Listed) (view : List Entry) (numbers : List ℕ) (mode : StoreMode) (given : Flags) → HaveLawfulKeywords rows → has_unlawful_keyword given ≡ false
-    → (kind : Kind) → IsIn kind (stores_of folder rows view numbers mode given) → IsWanted folder destination rows kind
-stores_wanted folder destination rows view numbers mode given l u =
-    each_flat (IsWanted folder destination rows) (λ n. store_of folder mode given (message_at rows view n)) numbers
-    (λ n i. store_wanted folder destination rows mode given (message_at rows view n) (λ row e. message_is_in rows (entry_at view n) row e) l (lawful_given given u))
+stores_wanted : (mailbox : OpenMailbox) (destination : List ℕ) (asked : StoreAsked) (numbers : List ℕ) → HaveLawfulKeywords mailbox.rows → has_unlawful_keyword asked.flags ≡ false
+    → (kind : Kind) → IsIn kind (stores_of mailbox asked numbers) → IsWanted mailbox.name destination mailbox.rows kind
+stores_wanted mailbox destination asked numbers l u =
+    let rows = mailbox.rows in
+    let view = mailbox.view in
+    each_flat (IsWanted mailbox.name destination rows) (λ n. store_of mailbox.name asked.action.mode asked.flags (message_at rows view n)) numbers
+    (λ n i. store_wanted mailbox.name destination rows asked.action.mode asked.flags (message_at rows view n) (λ row e. message_is_in rows (entry_at view n) row e) l (lawful_given asked.flags u))
 
 -- STORE issues Stores of listed messages, with lawful flags.
-pub store_wants_issuable : (folder destination : List ℕ) (before : List Listed) (view : List Entry) (read_only by_uid : Bool) (set : List SequenceRange) (since : Option ℕ) (mode : StoreMode) (given : Flags) (kinds : List Kind)
-    → HaveLawfulKeywords before → store_wants folder before view read_only by_uid set since mode given ≡ Ok kinds → AreIssuable folder destination before kinds
-store_wants_issuable folder destination before view read_only by_uid set since mode given kinds l h =
-    let in_range = unless_refused (not (is_in_range by_uid set view)) _ _ kinds h in
-    let writable = unless_refused read_only _ _ kinds in_range.1 in
-    let lawful = unless_refused (has_unlawful_keyword given) _ _ kinds writable.1 in
-    let taken = those_taken before view since (resolved by_uid set view) in
-    within_issuable folder destination before (stores_of folder before view taken mode given) kinds lawful.1 (stores_wanted folder destination before view taken mode given l lawful.0)
+pub store_wants_issuable : (mailbox : OpenMailbox) (destination : List ℕ) (asked : StoreAsked) (kinds : List Kind) → HaveLawfulKeywords mailbox.rows → store_wants mailbox asked ≡ Ok kinds
+    → AreIssuable mailbox.name destination mailbox.rows kinds
+store_wants_issuable mailbox destination asked kinds l h =
+    let in_range = unless_refused (not (is_in_range asked.by_uid asked.messages mailbox.view)) _ _ kinds h in
+    let writable = unless_refused mailbox.read_only _ _ kinds in_range.1 in
+    let lawful = unless_refused (has_unlawful_keyword asked.flags) _ _ kinds writable.1 in
+    let taken = those_taken mailbox.rows mailbox.view asked.unchanged_since (resolved asked.by_uid asked.messages mailbox.view) in
+    within_issuable mailbox.name destination mailbox.rows (stores_of mailbox asked taken) kinds lawful.1 (stores_wanted mailbox destination asked taken l lawful.0)
 
 -- ---- EXPUNGE
 
@@ -200,25 +204,31 @@ expunges_wanted : (folder destination : List ℕ) (rows : List Listed) (kind : K
 expunges_wanted folder destination rows = each_flat (IsWanted folder destination rows) (expunge_of folder) rows (λ row m. expunge_wanted folder destination rows row m)
 
 -- EXPUNGE issues Expunges of listed messages.
-pub expunge_wants_issuable : (folder destination : List ℕ) (before : List Listed) (read_only : Bool) (kinds : List Kind) → expunge_wants folder before read_only ≡ Ok kinds → AreIssuable folder destination before kinds
-expunge_wants_issuable folder destination before read_only kinds h =
-    let writable = unless_refused read_only _ _ kinds h in
-    within_issuable folder destination before (expunges_of folder before) kinds writable.1 (expunges_wanted folder destination before)
+pub expunge_wants_issuable : (mailbox : OpenMailbox) (destination : List ℕ) (kinds : List Kind) → expunge_wants mailbox ≡ Ok kinds → AreIssuable mailbox.name destination mailbox.rows kinds
+expunge_wants_issuable mailbox destination kinds h =
+    let writable = unless_refused mailbox.read_only _ _ kinds h in
+    within_issuable mailbox.name destination mailbox.rows (expunges_of mailbox.name mailbox.rows) kinds writable.1 (expunges_wanted mailbox.name destination mailbox.rows)
 
 -- CLOSE does too, or issues nothing.
-pub close_wants_issuable : (folder destination : List ℕ) (before : List Listed) (read_only : Bool) (kinds : List Kind) → close_wants folder before read_only ≡ Ok kinds → AreIssuable folder destination before kinds
-close_wants_issuable folder destination before true kinds h = ok_is (AreIssuable folder destination before) [] kinds _ refl h (λ kind i. absurd i)
-close_wants_issuable folder destination before false kinds h = within_issuable folder destination before (expunges_of folder before) kinds h (expunges_wanted folder destination before)
+close_by : (read_only : Bool) (folder destination : List ℕ) (rows : List Listed) (kinds : List Kind) → (if read_only then Ok [] else within_limits (expunges_of folder rows)) ≡ Ok kinds → AreIssuable folder destination rows kinds
+close_by true folder destination rows kinds h = ok_is (AreIssuable folder destination rows) [] kinds _ refl h (λ kind i. absurd i)
+close_by false folder destination rows kinds h = within_issuable folder destination rows (expunges_of folder rows) kinds h (expunges_wanted folder destination rows)
+
+pub close_wants_issuable : (mailbox : OpenMailbox) (destination : List ℕ) (kinds : List Kind) → close_wants mailbox ≡ Ok kinds → AreIssuable mailbox.name destination mailbox.rows kinds
+close_wants_issuable mailbox destination kinds h = close_by mailbox.read_only mailbox.name destination mailbox.rows kinds h
 
 expunge_at_wanted : (folder destination : List ℕ) (rows : List Listed) (message : Option Listed) → ((row : Listed) → message ≡ Some row → IsIn row rows) → (kind : Kind) → IsIn kind (expunge_at folder message) → IsWanted folder destination rows kind
 expunge_at_wanted folder destination rows None m kind i = absurd i
 expunge_at_wanted folder destination rows (Some row) m kind i = expunge_wanted folder destination rows row (m row refl) kind i
 
 -- So does UID EXPUNGE.
-pub uid_expunge_wants_issuable : (folder destination : List ℕ) (before : List Listed) (view : List Entry) (read_only : Bool) (set : List SequenceRange) (kinds : List Kind) → uid_expunge_wants folder before view read_only set ≡ Ok kinds → AreIssuable folder destination before kinds
-uid_expunge_wants_issuable folder destination before view read_only set kinds h =
-    let writable = unless_refused read_only _ _ kinds h in
-    let numbers = resolved true set view in
+pub uid_expunge_wants_issuable : (mailbox : OpenMailbox) (destination : List ℕ) (uids : List SequenceRange) (kinds : List Kind) → uid_expunge_wants mailbox uids ≡ Ok kinds → AreIssuable mailbox.name destination mailbox.rows kinds
+uid_expunge_wants_issuable mailbox destination uids kinds h =
+    let writable = unless_refused mailbox.read_only _ _ kinds h in
+    let folder = mailbox.name in
+    let before = mailbox.rows in
+    let view = mailbox.view in
+    let numbers = resolved true uids view in
     within_issuable folder destination before (expunges_at folder before view numbers) kinds writable.1
     (each_flat (IsWanted folder destination before) (λ n. expunge_at folder (message_at before view n)) numbers
     (λ n i. expunge_at_wanted folder destination before (message_at before view n) (λ row e. message_is_in before (entry_at view n) row e)))
@@ -233,13 +243,17 @@ seen_wanted folder destination rows items mode (Some row) m l kind i =
     one_where (IsWanted folder destination rows) (is_kept mode.changed_since row && is_marked items mode row) (Store folder (seen_flags row.flags) row.versions row.origin) (refl, l row is_in, (row, is_in, refl, refl)) kind i
 
 -- FETCH issues Stores of listed messages, with lawful flags.
-pub fetch_wants_issuable : (folder destination : List ℕ) (before : List Listed) (view : List Entry) (read_only by_uid : Bool) (set : List SequenceRange) (items : List FetchItem) (changed_since : Option ℕ) (kinds : List Kind)
-    → HaveLawfulKeywords before → fetch_wants folder before view read_only by_uid set items changed_since ≡ Ok kinds → AreIssuable folder destination before kinds
-fetch_wants_issuable folder destination before view read_only by_uid set items changed_since kinds l h =
-    let in_range = unless_refused (not (is_in_range by_uid set view)) _ _ kinds h in
-    let mode = mode_of by_uid false read_only changed_since in
-    let numbers = resolved by_uid set view in
-    within_issuable folder destination before (seen_stores folder before view items mode numbers) kinds in_range.1
+pub fetch_wants_issuable : (mailbox : OpenMailbox) (destination : List ℕ) (asked : FetchAsked) (kinds : List Kind) → HaveLawfulKeywords mailbox.rows → fetch_wants mailbox asked ≡ Ok kinds
+    → AreIssuable mailbox.name destination mailbox.rows kinds
+fetch_wants_issuable mailbox destination asked kinds l h =
+    let in_range = unless_refused (not (is_in_range asked.by_uid asked.messages mailbox.view)) _ _ kinds h in
+    let folder = mailbox.name in
+    let before = mailbox.rows in
+    let view = mailbox.view in
+    let items = asked.items in
+    let mode = mode_of mailbox false asked in
+    let numbers = resolved asked.by_uid asked.messages view in
+    within_issuable folder destination before (seen_stores mailbox asked numbers) kinds in_range.1
     (each_flat (IsWanted folder destination before) (λ n. seen_store folder items mode (message_at before view n)) numbers
     (λ n i. seen_wanted folder destination before items mode (message_at before view n) (λ row e. message_is_in before (entry_at view n) row e) l))
 
@@ -265,22 +279,30 @@ removals_wanted folder destination rows view numbers =
     (λ n i. removal_wanted folder destination rows (message_at rows view n) (λ row e. message_is_in rows (entry_at view n) row e))
 
 -- COPY issues Appends in the destination, with lawful flags.
-pub copy_wants_issuable : (folder destination : List ℕ) (is_there : Bool) (before : List Listed) (view : List Entry) (by_uid : Bool) (set : List SequenceRange) (kinds : List Kind)
-    → HaveLawfulKeywords before → copy_wants destination is_there before view by_uid set ≡ Ok kinds → AreIssuable folder destination before kinds
-copy_wants_issuable folder destination is_there before view by_uid set kinds l h =
-    let in_range = unless_refused (not (is_in_range by_uid set view)) _ _ kinds h in
+pub copy_wants_issuable : (mailbox : OpenMailbox) (asked : CopyAsked) (is_there : Bool) (kinds : List Kind) → HaveLawfulKeywords mailbox.rows → copy_wants mailbox asked is_there ≡ Ok kinds
+    → AreIssuable mailbox.name asked.destination mailbox.rows kinds
+copy_wants_issuable mailbox asked is_there kinds l h =
+    let in_range = unless_refused (not (is_in_range asked.by_uid asked.messages mailbox.view)) _ _ kinds h in
     let found = unless_refused (not is_there) _ _ kinds in_range.1 in
-    let numbers = resolved by_uid set view in
+    let folder = mailbox.name in
+    let destination = asked.destination in
+    let before = mailbox.rows in
+    let view = mailbox.view in
+    let numbers = resolved asked.by_uid asked.messages view in
     within_issuable folder destination before (appends_of destination before view numbers) kinds found.1 (appends_wanted folder destination before view numbers l)
 
 -- MOVE issues these and Expunges of listed messages.
-pub move_wants_issuable : (folder destination : List ℕ) (is_there : Bool) (before : List Listed) (view : List Entry) (read_only by_uid : Bool) (set : List SequenceRange) (kinds : List Kind)
-    → HaveLawfulKeywords before → move_wants folder destination is_there before view read_only by_uid set ≡ Ok kinds → AreIssuable folder destination before kinds
-move_wants_issuable folder destination is_there before view read_only by_uid set kinds l h =
-    let in_range = unless_refused (not (is_in_range by_uid set view)) _ _ kinds h in
-    let writable = unless_refused read_only _ _ kinds in_range.1 in
+pub move_wants_issuable : (mailbox : OpenMailbox) (asked : CopyAsked) (is_there : Bool) (kinds : List Kind) → HaveLawfulKeywords mailbox.rows → move_wants mailbox asked is_there ≡ Ok kinds
+    → AreIssuable mailbox.name asked.destination mailbox.rows kinds
+move_wants_issuable mailbox asked is_there kinds l h =
+    let in_range = unless_refused (not (is_in_range asked.by_uid asked.messages mailbox.view)) _ _ kinds h in
+    let writable = unless_refused mailbox.read_only _ _ kinds in_range.1 in
     let found = unless_refused (not is_there) _ _ kinds writable.1 in
-    let numbers = resolved by_uid set view in
+    let folder = mailbox.name in
+    let destination = asked.destination in
+    let before = mailbox.rows in
+    let view = mailbox.view in
+    let numbers = resolved asked.by_uid asked.messages view in
     within_issuable folder destination before (appends_of destination before view numbers ++ removals_of folder before view numbers) kinds found.1
     (each_append (IsWanted folder destination before) (appends_of destination before view numbers) (removals_of folder before view numbers)
     (appends_wanted folder destination before view numbers l) (removals_wanted folder destination before view numbers))

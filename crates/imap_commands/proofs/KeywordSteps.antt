@@ -1,11 +1,13 @@
-use Rattle.std.proofs.Common.{◌≡◌, ◌∙◌, ap, sym, ℕ, ◌+◌, List, ◌∷◌, ◌++◌, drop, Option, Some, None}
+use Rattle.std.proofs.Common.{◌≡◌, ◌∙◌, ap, sym, subst, ℕ, ◌+◌, ◌≤◌, List, [], ◌∷◌, ◌++◌, length, drop, Option, Some, None}
 use Rattle.std.specs.Prelude.{OnOk, Result, Ok, Err}
 use Rattle.std.specs.declared.alloc.AllocError.{AllocError}
 use Rattle.std.specs.List.{slice_get}
 use Rattle.std.specs.Option.{option_to_list}
 use Rattle.imap_query.proofs.CountLemmas.{from_place}
 use Rattle.mail_listing.specs.Listed.{Listed}
-use Rattle.imap_commands.specs.Selecting.{with_keywords, with_rows}
+use Rattle.imap_commands.specs.Selecting.{AreBorne}
+use Rattle.imap_commands.proofs.BorneLemmas.{borne, with_keywords, with_rows}
+use Rattle.imap_commands.proofs.PlaceLemmas.{drop_past}
 
 -- the keywords of the message at a place, and of those behind it
 pub row_read : (rows : List Listed) (place : ℕ) (row : Listed) (keywords : List (List ℕ)) → Some row ≡ slice_get rows place
@@ -27,3 +29,9 @@ pub row_added : (rows : List Listed) (place : ℕ) (row : Listed) (words keyword
 row_added rows place row words keywords new (Ok done) e w h =
     ap (with_rows (drop (place + 1) rows)) (h ∙ ap (λ (ws : List (List ℕ)). with_keywords ws keywords) w) ∙ row_read rows place row keywords e
 row_added rows place row words keywords new (Err why) e w h = tt
+
+-- behind the last message they are those that all bear
+pub all_borne : (rows : List Listed) (place : ℕ) (keywords : List (List ℕ)) → length rows ≤ place → with_rows (drop place rows) keywords ≡ with_rows rows [] → AreBorne rows keywords
+all_borne rows place keywords l e =
+    let all : keywords ≡ with_rows rows [] = sym (ap (λ (some : List Listed). with_rows some keywords) (drop_past rows place l)) ∙ e in
+    subst (AreBorne rows) (sym all) (borne rows)

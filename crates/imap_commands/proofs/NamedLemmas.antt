@@ -2,6 +2,7 @@ use Rattle.std.proofs.Common.{◌≡◌, ◌∙◌, ap, sym, subst, refl, arith,
 use Rattle.std.specs.Prelude.{max}
 use Rattle.std.specs.List.{filter, slice_get}
 use Rattle.std.proofs.lemmas.Bool.{cases_Bool}
+use Rattle.std.proofs.lemmas.Bool.Decides.{eqb_tells}
 use Rattle.imap_types.specs.Numbers.{AreRisingFrom, greatest}
 use Rattle.imap_types.specs.declared.sequence_set.SequenceRange.{SequenceRange}
 use Rattle.imap_query.specs.Search.{name_of as shown_name}
@@ -44,7 +45,10 @@ at_length (x ∷ front) e es = at_length front e es
 entry_there : (view front : List Entry) (e : Entry) (es : List Entry) (n : ℕ) → view ≡ front ++ e ∷ es → n ≡ length front + 1 → entry_at view n ≡ Some e
 entry_there view front e es n v m =
     let k : n - 1 ≡ length front = omega (arith, m) in
-    ap (λ (xs : List Entry). slice_get xs (n - 1)) v ∙ ap (λ j. slice_get (front ++ e ∷ es) j) k ∙ at_length front e es
+    elim (eqb_tells n 0) [
+      | inl t ↦ let z = t.1 in absurd (omega (arith, m, z))
+      | inr f ↦ rw f.0 (ap (λ (xs : List Entry). slice_get xs (n - 1)) v ∙ ap (λ j. slice_get (front ++ e ∷ es) j) k ∙ at_length front e es)
+    ]
 
 name_there : (by_uid : Bool) (view front : List Entry) (e : Entry) (es : List Entry) (n : ℕ) → view ≡ front ++ e ∷ es → n ≡ length front + 1 → name_at by_uid view n ≡ (if by_uid then e.uid else n)
 name_there true view front e es n v m = ap uid_in (entry_there view front e es n v m)

@@ -8,7 +8,7 @@ use Rattle.imap_commands.specs.Expunging.{expunge_at, expunge_of}
 abbrev uids_of : List Listed → List ℕ
 uids_of rows = map (λ (row : Listed). row.uid) rows
 
-drop_past : {A : Type 0} (xs : List A) (n : ℕ) → length xs ≤ n → drop n xs ≡ []
+pub drop_past : {A : Type 0} (xs : List A) (n : ℕ) → length xs ≤ n → drop n xs ≡ []
 drop_past [] zero l = refl
 drop_past [] (suc n) l = refl
 drop_past (x ∷ xs) zero l = absurd (omega arith)

@@ -8,6 +8,7 @@ use Rattle.mail_listing.specs.Listing.{beyond}
 use Rattle.session_view.specs.Sets.{resolved}
 use Rattle.session_view.specs.declared.entry.Entry.{Entry}
 use Rattle.imap_commands.specs.Appending.{append_tells}
+use Rattle.imap_commands.specs.Asked.{CopyAsked, Landing, OpenMailbox}
 use Rattle.imap_commands.specs.Copying.{copied_code, copies_in, copy_tells, move_tells, moved_answers, sources_of}
 use Rattle.imap_commands.specs.Named.{those_there}
 use Rattle.imap_commands.specs.Printing.{AreAsMany, AreShowable, IsNumbered, IsPrintableTelling, IsShowable}
@@ -59,21 +60,27 @@ copies_uids uidnext landed r = record {
 
 -- ---- COPY, MOVE and APPEND
 
-pub copy_printable : (before : List Listed) (view : List Entry) (by_uid : Bool) (set : List SequenceRange) (uidvalidity uidnext : ℕ) (landed : List Listed)
-    → IsNumbered view → IsNonzero uidvalidity → AreShowable landed → AreAsMany before view by_uid set uidnext landed → IsPrintableTelling (copy_tells before view by_uid set uidvalidity uidnext landed)
-copy_printable before view by_uid set uidvalidity uidnext landed v u r e = record {
-  own = tt;
-  code =
-      copied_printable uidvalidity (sources_of before view (resolved by_uid set view)) (copies_in uidnext landed) (gone_code before view (resolved by_uid set view)) u (sources_uids before view by_uid set v)
-      (copies_uids uidnext landed r) e (gone_printable before view (resolved by_uid set view));
-}
+pub copy_printable : (mailbox : OpenMailbox) (asked : CopyAsked) (landing : Landing) → IsNumbered mailbox.view → IsNonzero landing.uidvalidity → AreShowable landing.rows → AreAsMany mailbox asked landing
+    → IsPrintableTelling (copy_tells mailbox asked landing)
+copy_printable mailbox asked landing v u r e =
+    let numbers = resolved asked.by_uid asked.messages mailbox.view in
+    record {
+      own = tt;
+      code =
+          copied_printable landing.uidvalidity (sources_of mailbox.rows mailbox.view numbers) (copies_in landing.uidnext landing.rows) (gone_code mailbox.rows mailbox.view numbers) u
+          (sources_uids mailbox.rows mailbox.view asked.by_uid asked.messages v) (copies_uids landing.uidnext landing.rows r) e (gone_printable mailbox.rows mailbox.view numbers);
+    }
 
-pub move_printable : (before : List Listed) (view : List Entry) (by_uid : Bool) (set : List SequenceRange) (uidvalidity uidnext : ℕ) (landed : List Listed)
-    → IsNumbered view → IsNonzero uidvalidity → AreShowable landed → AreAsMany before view by_uid set uidnext landed → IsPrintableTelling (move_tells before view by_uid set uidvalidity uidnext landed)
-move_printable before view by_uid set uidvalidity uidnext landed v u r e = record {
-  own = moved_printable uidvalidity (sources_of before view (resolved by_uid set view)) (copies_in uidnext landed) u (sources_uids before view by_uid set v) (copies_uids uidnext landed r) e;
-  code = gone_printable before view (resolved by_uid set view);
-}
+pub move_printable : (mailbox : OpenMailbox) (asked : CopyAsked) (landing : Landing) → IsNumbered mailbox.view → IsNonzero landing.uidvalidity → AreShowable landing.rows → AreAsMany mailbox asked landing
+    → IsPrintableTelling (move_tells mailbox asked landing)
+move_printable mailbox asked landing v u r e =
+    let numbers = resolved asked.by_uid asked.messages mailbox.view in
+    record {
+      own =
+          moved_printable landing.uidvalidity (sources_of mailbox.rows mailbox.view numbers) (copies_in landing.uidnext landing.rows) u (sources_uids mailbox.rows mailbox.view asked.by_uid asked.messages v)
+          (copies_uids landing.uidnext landing.rows r) e;
+      code = gone_printable mailbox.rows mailbox.view numbers;
+    }
 
 pub append_printable : (uidvalidity uid : ℕ) → IsNonzero uidvalidity → IsNonzero uid → IsPrintableTelling (append_tells uidvalidity uid)
 append_printable uidvalidity uid v u = record { own = tt; code = (v, u) }

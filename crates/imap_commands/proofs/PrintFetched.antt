@@ -14,7 +14,6 @@ use Rattle.imap_query.specs.declared.shown.Shown.{Shown}
 use Rattle.imap_types.specs.DateTimes.{IsDateTime}
 use Rattle.imap_types.specs.declared.section.Section.{Section}
 use Rattle.imap_types.specs.declared.section.Section.TheVariants as section
-use Rattle.imap_types.specs.declared.sequence_set.SequenceRange.{SequenceRange}
 use Rattle.mail_listing.specs.Listed.{Listed}
 use Rattle.mail_listing.specs.Listing.{row_of}
 use Rattle.mail_text.specs.Fields.{asked_in, empty_line, field_lines, fields_in, fields_of, first_asked, goes_on}
@@ -23,6 +22,7 @@ use Rattle.mail_text.specs.Lines.{body_lines, header_lines, in_first, is_empty_l
 use Rattle.mail_text.proofs.LineLemmas.{lines-joined}
 use Rattle.session_view.specs.Sets.{resolved}
 use Rattle.session_view.specs.declared.entry.Entry.{Entry}
+use Rattle.imap_commands.specs.Asked.{FetchAsked, OpenMailbox}
 use Rattle.imap_commands.specs.Fetching.{fetch_tells, mode_of, shown_at, shown_of}
 use Rattle.imap_commands.specs.Printing.{AreShowable, AreTellable, IsNumbered, IsPrintableTelling, IsShowable, IsTellable}
 use Rattle.imap_commands.specs.Told.{are_some_gone, entry_at, gone_code}
@@ -240,11 +240,16 @@ shown_nonzero : (n : ℕ) (e : Option Entry) → IsNonzero n → Each IsNumberNo
 shown_nonzero n None h = tt
 shown_nonzero n (Some e) h = (h, tt)
 
-pub fetch_printable : (before after : List Listed) (view : List Entry) (read_only condstore by_uid : Bool) (set : List SequenceRange) (items : List FetchItem) (changed_since : Option ℕ)
-    → AreShowable after → IsNumbered view → AreTellable items → IsPrintableTelling (fetch_tells before after view read_only condstore by_uid set items changed_since)
-fetch_printable before after view read_only condstore by_uid set items changed_since r v t =
+pub fetch_printable : (mailbox : OpenMailbox) (after : List Listed) (condstore : Bool) (asked : FetchAsked) → AreShowable after → IsNumbered mailbox.view → AreTellable asked.items
+    → IsPrintableTelling (fetch_tells mailbox after condstore asked)
+fetch_printable mailbox after condstore asked r v t =
+    let before = mailbox.rows in
+    let view = mailbox.view in
+    let by_uid = asked.by_uid in
+    let set = asked.messages in
+    let items = asked.items in
     let numbers = resolved by_uid set view in
-    let mode = mode_of by_uid condstore read_only changed_since in
+    let mode = mode_of mailbox condstore asked in
     record {
       own =
           each_flat IsNumberNonzero IsPrintable (λ shown. answer_of items mode shown (row_of shown.uid before) (row_of shown.uid after)) (shown_of view numbers)

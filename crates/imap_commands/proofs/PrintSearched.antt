@@ -5,8 +5,7 @@ use Rattle.imap_answers.specs.declared.mailbox.SearchResults.{SearchResults}
 use Rattle.imap_answers.specs.Printable.{AreHits, AreResults, Each, IsModSeq, IsNonzero, IsSet, IsSmall, IsTag, IsWide, Where}
 use Rattle.imap_syntax.specs.declared.search.SearchOption.{SearchOption}
 use Rattle.imap_syntax.specs.declared.search.SearchOption.TheVariants as option
-use Rattle.imap_syntax.specs.declared.search.SearchStep.{SearchStep}
-use Rattle.imap_query.specs.Keys.{IsKey, Key, hits}
+use Rattle.imap_query.specs.Keys.{Key, hits}
 use Rattle.imap_query.specs.Search.{asks_modseq, first_hit, hit_of, hits_among, hits_in, last_hit, last_shown, modseq_in, name_of, number_in, results_of, told_modseq, wants, wants_all, wants_ends, where_wanted}
 use Rattle.imap_query.specs.Tests.{is_so}
 use Rattle.imap_query.specs.declared.searching.Hit.{Hit}
@@ -16,6 +15,7 @@ use Rattle.mail_listing.specs.Listed.{Listed}
 use Rattle.mail_listing.specs.Listing.{row_of}
 use Rattle.session_view.specs.Views.{AreRising}
 use Rattle.session_view.specs.declared.entry.Entry.{Entry}
+use Rattle.imap_commands.specs.Asked.{OpenMailbox, SearchAsked}
 use Rattle.imap_commands.specs.Printing.{AreShowable, IsNumbered, IsPrintableTelling, IsShowable}
 use Rattle.imap_commands.specs.Searching.{SearchTells, shown_from}
 use Rattle.imap_commands.specs.Told.{Telling, only_told}
@@ -215,13 +215,17 @@ results_printable options asked found r h =
       modseq = modseq_told asked options found h;
     }
 
-pub search_printable : (rows : List Listed) (view : List Entry) (tag : List ℕ) (by_uid : Bool) (options : List SearchOption) (steps : List SearchStep) (told : Telling)
-    → IsTag tag → IsKey steps → AreShowable rows → IsNumbered view → SearchTells rows view tag by_uid options steps told → IsPrintableTelling told
-search_printable rows view tag by_uid options steps told t k r v s =
+pub search_printable : (mailbox : OpenMailbox) (tag : List ℕ) (asked : SearchAsked) (told : Telling) → IsTag tag → AreShowable mailbox.rows → IsNumbered mailbox.view → SearchTells mailbox tag asked told
+    → IsPrintableTelling told
+search_printable mailbox tag asked told t r v s =
+    let rows = mailbox.rows in
+    let view = mailbox.view in
+    let by_uid = asked.by_uid in
+    let options = asked.options in
     let shown = shown_from 1 view in
-    let found = hits_in by_uid k.key rows shown in
+    let found = hits_in by_uid s.finds.key rows shown in
     let l = view_small view v in
     let both = all_both 1 1 view (omega arith) (omega arith) (omega (arith, l)) v.rising v.small in
-    let rising = from_one by_uid (map number_at found) (hits_rising by_uid k.key (last_shown shown) rows 1 1 view v.rising) in
-    let results = results_printable options (asks_modseq k.key) found rising (all_hits_told by_uid k.key (last_shown shown) rows shown r.each both) in
-    subst IsPrintableTelling (sym (s.only ∙ ap (λ (found : SearchResults). only_told (Search tag by_uid found ∷ [])) (s.found k.key k.steps_are))) (only_printable (_ ∷ []) ((t, results), tt))
+    let rising = from_one by_uid (map number_at found) (hits_rising by_uid s.finds.key (last_shown shown) rows 1 1 view v.rising) in
+    let results = results_printable options (asks_modseq s.finds.key) found rising (all_hits_told by_uid s.finds.key (last_shown shown) rows shown r.each both) in
+    subst IsPrintableTelling (sym (s.only ∙ ap (λ (found : SearchResults). only_told (Search tag by_uid found ∷ [])) s.finds.results_are)) (only_printable (_ ∷ []) ((t, results), tt))

@@ -10,8 +10,8 @@ use Rattle.mail_listing.specs.Listed.{Listed}
 use Rattle.mail_listing.specs.Listing.{AreRisingRows}
 use Rattle.merge_laws.specs.Orders.{IsIn}
 use Rattle.imap_commands.specs.Printing.{AreNonzeroMarks, AreShowable, IsPrintableTelling, IsShowable}
-use Rattle.imap_commands.specs.Selecting.{access_code, closed_answers, flags_in_use, listed_keywords, mailbox_answers, permanent_flags, select_tells}
-use Rattle.imap_commands.proofs.BorneLemmas.{borne}
+use Rattle.imap_commands.specs.Selecting.{AreBorne, SelectTells, access_code, closed_answers, flags_in_use, mailbox_answers, permanent_flags}
+use Rattle.imap_commands.specs.Told.{Telling}
 
 -- ---- each of a list
 
@@ -56,17 +56,17 @@ rows_small rows h = let n = row_count 1 rows h.rising h.each (omega arith) in om
 
 -- ---- SELECT and EXAMINE
 
-use_atoms : (rows : List Listed) → Each IsShowable rows → Each IsAtom (listed_keywords rows)
-use_atoms rows h =
-    each_of IsAtom (listed_keywords rows) (λ word i.
-    let b = ((borne rows).exactly word).0 i in
+use_atoms : (rows : List Listed) (keywords : List (List ℕ)) → AreBorne rows keywords → Each IsShowable rows → Each IsAtom keywords
+use_atoms rows keywords are h =
+    each_of IsAtom keywords (λ word i.
+    let b = (are.exactly word).0 i in
     let f = (each_in IsShowable rows b.0 h b.1).flags in
     let low : is_lowered b.2.0 ≡ true = all_in is_lowered b.0.flags.keywords b.2.0 f.0.0 b.2.1 in
     let same : lowered b.2.0 ≡ b.2.0 = (bytes_eq-Decides (lowered b.2.0) b.2.0).0 low in
     subst IsAtom (sym same ∙ b.2.2) (each_in IsAtom b.0.flags.keywords b.2.0 f.1 b.2.1))
 
-use_flags : (rows : List Listed) → Each IsShowable rows → AreFlags (flags_in_use rows)
-use_flags rows h = ((borne rows).set, use_atoms rows h)
+use_flags : (rows : List Listed) (keywords : List (List ℕ)) → AreBorne rows keywords → Each IsShowable rows → AreFlags (flags_in_use keywords)
+use_flags rows keywords are h = (are.set, use_atoms rows keywords are h)
 
 permanent : (read_only : Bool) (flags : Flags) → AreFlags flags → Where AreFlags (permanent_flags read_only flags)
 permanent true flags h = tt
@@ -80,14 +80,16 @@ access : (read_only : Bool) → IsCode (access_code read_only)
 access true = tt
 access false = tt
 
-opened : (read_only : Bool) (name : List ℕ) (marks : Marks) (rows : List Listed) → IsFolded name → AreNonzeroMarks marks → AreShowable rows → Each IsPrintable (mailbox_answers read_only name marks rows)
-opened read_only name marks rows f m h =
-    let flags = use_flags rows h.each in
-    (flags, (rows_small rows h, (f, (m.uidvalidity, (m.uidnext, (permanent read_only (flags_in_use rows) flags, (m.highest, tt)))))))
+opened : (read_only : Bool) (name : List ℕ) (marks : Marks) (rows : List Listed) (flags : Flags) → AreFlags flags → IsFolded name → AreNonzeroMarks marks → AreShowable rows
+    → Each IsPrintable (mailbox_answers read_only name marks (length rows) flags)
+opened read_only name marks rows flags a f m h = (a, (rows_small rows h, (f, (m.uidvalidity, (m.uidnext, (permanent read_only flags a, (m.highest, tt)))))))
 
-pub select_printable : (was_selected read_only : Bool) (name : List ℕ) (marks : Marks) (rows : List Listed) → IsFolded name → AreNonzeroMarks marks → AreShowable rows
-    → IsPrintableTelling (select_tells was_selected read_only name marks rows)
-select_printable was_selected read_only name marks rows f m h = record {
-  own = each_append IsPrintable (closed_answers was_selected) (mailbox_answers read_only name marks rows) (closed was_selected) (opened read_only name marks rows f m h);
-  code = access read_only;
-}
+pub select_printable : (was_selected read_only : Bool) (name : List ℕ) (marks : Marks) (rows : List Listed) (told : Telling) → IsFolded name → AreNonzeroMarks marks → AreShowable rows
+    → SelectTells was_selected read_only name marks rows told → IsPrintableTelling told
+select_printable was_selected read_only name marks rows told f m h s =
+    let flags = use_flags rows s.keywords s.borne h.each in
+    let all = mailbox_answers read_only name marks (length rows) (flags_in_use s.keywords) in
+    subst IsPrintableTelling (sym s.only) (record {
+      own = each_append IsPrintable (closed_answers was_selected) all (closed was_selected) (opened read_only name marks rows (flags_in_use s.keywords) flags f m h);
+      code = access read_only;
+    })

@@ -1,11 +1,11 @@
-use Rattle.std.proofs.Common.{◌≡◌, ◌∙◌, ap, sym, subst, refl, arith, ℕ, ◌+◌, ◌≤◌, ◌<◌, ◌⊎◌, inl, inr, Bool, true, false, not, ◌&&◌, List, [], ◌∷◌, ◌++◌, ◌==◌, ◌||◌, length, length-append, Option, Some, None, codes}
+use Rattle.std.proofs.Common.{◌≡◌, ap, sym, subst, refl, arith, ℕ, ◌≤◌, ◌<◌, inl, inr, Bool, true, not, ◌&&◌, List, [], ◌∷◌, ◌++◌, ◌==◌, ◌||◌, length, length-append, Option, Some, None, codes}
 use Rattle.std.specs.List.{list_all}
 use Rattle.std.proofs.Math.Dec.{eqb-suc-zero}
 use Rattle.std.proofs.lemmas.Bool.{cases_Bool}
 use Rattle.imap_answers.specs.Printable.{AreFieldNames, Each, IsFolded, IsSection, IsSmall, IsTag, IsWide, Where}
 use Rattle.imap_syntax.specs.Commands.{IsSpelled, arguments, status_item}
-use Rattle.imap_syntax.specs.Items.{body_word, fast_items, fetch_item, fetched, field_names, partial, section}
-use Rattle.imap_syntax.specs.Languages.{each_behind, exactly, in_parens, listed, sp, word, ◌⌢◌}
+use Rattle.imap_syntax.specs.Items.{fast_items, fetch_item, fetched, field_names, partial, section}
+use Rattle.imap_syntax.specs.Languages.{each_behind, in_parens, listed, sp}
 use Rattle.imap_syntax.specs.Strings.{astring, escaped, literal, mailbox, run, text_of}
 use Rattle.imap_syntax.specs.declared.class.Class.{Class}
 use Rattle.imap_syntax.specs.declared.class.Class.TheVariants as classes
@@ -15,7 +15,6 @@ use Rattle.imap_syntax.specs.declared.command.Tagged.{Tagged}
 use Rattle.imap_syntax.specs.declared.fetch.FetchItem.{FetchItem}
 use Rattle.imap_syntax.specs.declared.fetch.FetchItem.TheVariants as item
 use Rattle.imap_syntax.specs.declared.fetch.Partial.{Partial}
-use Rattle.imap_query.proofs.GrammarLemmas.{search-key}
 use Rattle.imap_types.specs.Keywords.{is_tag_octet}
 use Rattle.imap_types.specs.declared.section.Section.{Section}
 use Rattle.imap_types.specs.declared.section.Section.TheVariants as sections
@@ -160,7 +159,7 @@ answerable : (command : Command) (text : List ℕ) → arguments command text �
 answerable (commands.Select name condstore) text h w = name_folded name h.3.0 h.3.2
 answerable (commands.Examine name condstore) text h w = name_folded name h.3.0 h.3.2
 answerable (commands.Status name items) text h w = (name_folded name h.3.0 h.3.2, asked_some sp status_item items h.3.3.3.3.0 h.3.3.3.3.2)
-answerable (commands.Search by_uid options steps) text h w = search-key steps h.3.3.3.1 h.3.3.3.3
+answerable (commands.Search by_uid options steps) text h w = tt
 answerable (commands.Fetch by_uid messages items changed_since) text h w =
     let a = back_wide text h.0 h.1 h.4 w in
     let b = back_wide h.1 h.3.0 h.3.1 h.3.4 a in

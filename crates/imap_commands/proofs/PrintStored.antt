@@ -1,17 +1,16 @@
-use Rattle.std.proofs.Common.{◌≡◌, refl, arith, ℕ, inl, inr, Bool, true, false, ◌||◌, List, [], ◌∷◌, Option, Some, None, flat_map}
+use Rattle.std.proofs.Common.{◌≡◌, refl, sym, arith, ℕ, inl, inr, Bool, true, false, not, ◌&&◌, ◌||◌, List, [], ◌∷◌, Option, Some, None, flat_map}
 use Rattle.std.specs.Prelude.{is_some}
-use Rattle.std.proofs.lemmas.Bool.{false≢true}
+use Rattle.std.proofs.lemmas.Bool.{cases_Bool, false≢true}
 use Rattle.imap_answers.specs.declared.codes.Code.{Code}
 use Rattle.imap_answers.specs.declared.fetched.FetchItems.{FetchItems}
 use Rattle.imap_answers.specs.Printable.{AreFetchItems, AreFlags, Each, IsCode, IsModSeq, IsNonzero, IsPrintable, IsSmall, Where}
-use Rattle.imap_syntax.specs.declared.store.StoreMode.{StoreMode}
 use Rattle.imap_query.specs.Fetching.{where_told}
 use Rattle.imap_types.specs.Numbers.{AreRisingFrom}
-use Rattle.imap_types.specs.declared.flags.Flags.{Flags}
 use Rattle.imap_types.specs.declared.sequence_set.SequenceRange.{SequenceRange}
 use Rattle.mail_listing.specs.Listed.{Listed}
 use Rattle.session_view.specs.Sets.{resolved}
 use Rattle.session_view.specs.declared.entry.Entry.{Entry}
+use Rattle.imap_commands.specs.Asked.{OpenMailbox, StoreAsked}
 use Rattle.imap_commands.specs.Expunging.{uid_expunge_tells}
 use Rattle.imap_commands.specs.Named.{names_of}
 use Rattle.imap_commands.specs.Printing.{AreShowable, IsNumbered, IsPrintableTelling, IsShowable}
@@ -39,9 +38,13 @@ stored_some by_uid true with_modseq row e = inr (inl refl)
 stored_some by_uid false true row e = inr (inr (inr (inr (inl refl))))
 stored_some by_uid false false row e = absurd (false≢true e)
 
-stored_one : (by_uid with_flags with_modseq : Bool) (n : ℕ) (row : Option Listed) → (with_flags || with_modseq) ≡ true → IsNonzero n → Where IsShowable row → Each IsPrintable (stored_answer by_uid with_flags with_modseq n row)
-stored_one by_uid with_flags with_modseq n None e k h = tt
-stored_one by_uid with_flags with_modseq n (Some row) e k h =
+stored_one : (condstore : Bool) (asked : StoreAsked) (n : ℕ) (row : Option Listed) → (not asked.action.silent || (is_some asked.unchanged_since || condstore)) ≡ true → IsNonzero n → Where IsShowable row
+    → Each IsPrintable (stored_answer condstore asked n row)
+stored_one condstore asked n None e k h = tt
+stored_one condstore asked n (Some row) e k h =
+    let by_uid = asked.by_uid in
+    let with_flags = not asked.action.silent in
+    let with_modseq = is_some asked.unchanged_since || condstore in
     let items : AreFetchItems (stored_items by_uid with_flags with_modseq row) = record {
       some = told_at (stored_items by_uid with_flags with_modseq row) (stored_some by_uid with_flags with_modseq row e);
       uid = where_is IsNonzero by_uid row.uid h.uid;
@@ -53,17 +56,24 @@ stored_one by_uid with_flags with_modseq n (Some row) e k h =
     } in
     ((k, items), tt)
 
-stored_each : (after : List Listed) (view : List Entry) (by_uid with_flags with_modseq : Bool) (taken : List ℕ) → (with_flags || with_modseq) ≡ true → AreShowable after → Each IsNonzero taken
-    → Each IsPrintable (flat_map (λ n. stored_answer by_uid with_flags with_modseq n (message_at after view n)) taken)
-stored_each after view by_uid with_flags with_modseq taken e r k =
-    each_flat IsNonzero IsPrintable (λ n. stored_answer by_uid with_flags with_modseq n (message_at after view n)) taken
-    (λ n h. stored_one by_uid with_flags with_modseq n (message_at after view n) e h (message_showable after (entry_at view n) r.each)) k
+stored_each : (after : List Listed) (view : List Entry) (condstore : Bool) (asked : StoreAsked) (taken : List ℕ) → (not asked.action.silent || (is_some asked.unchanged_since || condstore)) ≡ true → AreShowable after
+    → Each IsNonzero taken → Each IsPrintable (flat_map (λ n. stored_answer condstore asked n (message_at after view n)) taken)
+stored_each after view condstore asked taken e r k =
+    each_flat IsNonzero IsPrintable (λ n. stored_answer condstore asked n (message_at after view n)) taken
+    (λ n h. stored_one condstore asked n (message_at after view n) e h (message_showable after (entry_at view n) r.each)) k
 
-stored_printable : (after : List Listed) (view : List Entry) (condstore by_uid : Bool) (since : Option ℕ) (silent : Bool) (taken : List ℕ) → AreShowable after → Each IsNonzero taken
-    → Each IsPrintable (stored_answers after view condstore by_uid since silent taken)
-stored_printable after view condstore by_uid since false taken r k = stored_each after view by_uid true (is_some since || condstore) taken refl r k
-stored_printable after view condstore by_uid None true taken r k = tt
-stored_printable after view condstore by_uid (Some modseq) true taken r k = stored_each after view by_uid false true taken refl r k
+-- where something is told of each, something is told
+told_of_each : (silent given condstore : Bool) → (silent && not given) ≡ false → (not silent || (given || condstore)) ≡ true
+told_of_each false given condstore e = refl
+told_of_each true true condstore e = refl
+told_of_each true false condstore e = absurd (false≢true (sym e))
+
+stored_printable : (after : List Listed) (view : List Entry) (condstore : Bool) (asked : StoreAsked) (taken : List ℕ) → AreShowable after → Each IsNonzero taken → Each IsPrintable (stored_answers after view condstore asked taken)
+stored_printable after view condstore asked taken r k =
+    elim (cases_Bool (asked.action.silent && not (is_some asked.unchanged_since))) [
+      | inl t ↦ rw t tt
+      | inr f ↦ rw f (stored_each after view condstore asked taken (told_of_each asked.action.silent (is_some asked.unchanged_since) condstore f) r k)
+    ]
 
 -- ---- those that it refuses
 
@@ -71,15 +81,19 @@ modified_printable : (refused : List ℕ) (code : Option Code) → AreRisingFrom
 modified_printable [] code r s h = h
 modified_printable (n ∷ refused) code r s h = record { filled = omega arith; rising = r; small = greatest_small (n ∷ refused) s }
 
-pub store_printable : (before after : List Listed) (view : List Entry) (condstore by_uid : Bool) (set : List SequenceRange) (since : Option ℕ) (mode : StoreMode) (silent : Bool) (given : Flags)
-    → AreShowable after → IsNumbered view → IsPrintableTelling (store_tells before after view condstore by_uid set since mode silent given)
-store_printable before after view condstore by_uid set since mode silent given r v =
+pub store_printable : (mailbox : OpenMailbox) (after : List Listed) (condstore : Bool) (asked : StoreAsked) → AreShowable after → IsNumbered mailbox.view → IsPrintableTelling (store_tells mailbox after condstore asked)
+store_printable mailbox after condstore asked r v =
+    let before = mailbox.rows in
+    let view = mailbox.view in
+    let by_uid = asked.by_uid in
+    let set = asked.messages in
+    let since = asked.unchanged_since in
     let numbers = resolved by_uid set view in
     let named = numbers_nonzero by_uid set view v in
     let taken : ℕ → Bool = λ n. is_taken since (message_at before view n) in
     let refused : ℕ → Bool = λ n. is_refused since (message_at before view n) in
     record {
-      own = stored_printable after view condstore by_uid since silent (those_taken before view since numbers) r (each_filtered IsNonzero taken numbers named);
+      own = stored_printable after view condstore asked (those_taken before view since numbers) r (each_filtered IsNonzero taken numbers named);
       code =
           modified_printable (names_of by_uid view (those_refused before view since numbers)) (gone_code before view numbers) (names_rising by_uid by_uid set refused view v.rising)
           (names_small by_uid view (those_refused before view since numbers) v.small (each_filtered IsNonzero refused numbers named)) (gone_printable before view numbers);
@@ -87,5 +101,5 @@ store_printable before after view condstore by_uid set since mode silent given r
 
 -- ---- UID EXPUNGE
 
-pub uid_expunge_printable : (before : List Listed) (view : List Entry) (set : List SequenceRange) → IsPrintableTelling (uid_expunge_tells before view set)
-uid_expunge_printable before view set = record { own = tt; code = gone_printable before view (resolved true set view) }
+pub uid_expunge_printable : (mailbox : OpenMailbox) (uids : List SequenceRange) → IsPrintableTelling (uid_expunge_tells mailbox uids)
+uid_expunge_printable mailbox uids = record { own = tt; code = gone_printable mailbox.rows mailbox.view (resolved true uids mailbox.view) }

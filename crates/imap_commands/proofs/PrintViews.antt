@@ -62,7 +62,7 @@ entry_small (e ∷ es) zero h = h.0
 entry_small (e ∷ es) (suc k) h = entry_small es k h.1
 
 name_small : (name_uid : Bool) (view : List Entry) (n : ℕ) → AreSmall view → IsSmall n → IsSmall (name_at name_uid view n)
-name_small true view n h s = entry_small view (n - 1) h
+name_small true view n h s = elim (cases_Bool (nat_eq n 0)) [ inl t ↦ rw t (omega arith) | inr f ↦ rw f (entry_small view (n - 1) h) ]
 name_small false view n h s = s
 
 pub names_small : (name_uid : Bool) (view : List Entry) (numbers : List ℕ) → AreSmall view → Each IsNonzero numbers → Each IsSmall (names_of name_uid view numbers)

@@ -8,11 +8,11 @@ use Rattle.imap_answers.specs.declared.codes.Code.TheVariants as codes
 use Rattle.imap_answers.specs.declared.codes.Notice.TheVariants as notice
 use Rattle.imap_answers.specs.declared.words.Refusal.{Refusal}
 use Rattle.imap_answers.specs.declared.words.Refusal.TheVariants.{NoDestination, NoSuchMessage, ReadOnly}
-use Rattle.imap_types.specs.declared.sequence_set.SequenceRange.{SequenceRange}
 use Rattle.mail_listing.specs.Listed.{Listed}
 use Rattle.mail_listing.specs.Listing.{beyond}
 use Rattle.session_view.specs.Sets.{is_in_range, resolved}
 use Rattle.session_view.specs.declared.entry.Entry.{Entry}
+use Rattle.imap_commands.specs.Asked.{CopyAsked, Landing, OpenMailbox}
 use Rattle.imap_commands.specs.Limits.{within_limits}
 use Rattle.imap_commands.specs.Named.{names_of, those_there}
 use Rattle.imap_commands.specs.Told.{Telling, gone_code, message_at}
@@ -34,20 +34,23 @@ removal_of folder (Some row) = Expunge folder row.versions ∷ []
 abbrev pub removals_of : List ℕ → List Listed → List Entry → List ℕ → List Kind
 removals_of folder before view numbers = flat_map (λ n. removal_of folder (message_at before view n)) numbers
 
--- What COPY issues, or the first reason against it (RFC 9051, section 6.4.7).
-abbrev pub copy_wants : List ℕ → Bool → List Listed → List Entry → Bool → List SequenceRange → Result (List Kind) Refusal
-copy_wants destination is_there before view by_uid set =
-    if not (is_in_range by_uid set view) then Err NoSuchMessage
+-- What COPY issues, or the first reason against it, where the destination is there or isn't (RFC 9051, section 6.4.7).
+abbrev pub copy_wants : OpenMailbox → CopyAsked → Bool → Result (List Kind) Refusal
+copy_wants mailbox asked is_there =
+    if not (is_in_range asked.by_uid asked.messages mailbox.view) then Err NoSuchMessage
     else (if not is_there then Err NoDestination
-    else within_limits (appends_of destination before view (resolved by_uid set view)))
+    else within_limits (appends_of asked.destination mailbox.rows mailbox.view (resolved asked.by_uid asked.messages mailbox.view)))
 
 -- What MOVE issues, or the first reason against it: first all copies, then what takes the messages out (RFC 9051, section 6.4.8).
-abbrev pub move_wants : List ℕ → List ℕ → Bool → List Listed → List Entry → Bool → Bool → List SequenceRange → Result (List Kind) Refusal
-move_wants folder destination is_there before view read_only by_uid set =
-    if not (is_in_range by_uid set view) then Err NoSuchMessage
-    else (if read_only then Err ReadOnly
+abbrev pub move_wants : OpenMailbox → CopyAsked → Bool → Result (List Kind) Refusal
+move_wants mailbox asked is_there =
+    if not (is_in_range asked.by_uid asked.messages mailbox.view) then Err NoSuchMessage
+    else (if mailbox.read_only then Err ReadOnly
     else (if not is_there then Err NoDestination
-    else within_limits (appends_of destination before view (resolved by_uid set view) ++ removals_of folder before view (resolved by_uid set view))))
+    else within_limits (
+    appends_of asked.destination mailbox.rows mailbox.view (resolved asked.by_uid asked.messages mailbox.view)
+    ++ removals_of mailbox.name mailbox.rows mailbox.view (resolved asked.by_uid asked.messages mailbox.view)
+    )))
 
 -- The UIDs of the messages that are copied, of those with these numbers.
 abbrev pub sources_of : List Listed → List Entry → List ℕ → List ℕ
@@ -67,23 +70,22 @@ abbrev pub moved_answers : ℕ → List ℕ → List ℕ → List Answer
 moved_answers uidvalidity [] copies = []
 moved_answers uidvalidity (n ∷ sources) copies = Tell (notice.CopyUid uidvalidity (n ∷ sources) copies) ∷ []
 
--- What COPY tells: by the listing before it, the destination's UIDVALIDITY, its UIDNEXT before the command and its listing after it
--- (RFC 9051, sections 6.4.7 and 7.1).
-abbrev pub copy_tells : List Listed → List Entry → Bool → List SequenceRange → ℕ → ℕ → List Listed → Telling
-copy_tells before view by_uid set uidvalidity uidnext landed =
-    let numbers = resolved by_uid set view in
+-- What COPY tells, by the mailbox before it and where its copies are (RFC 9051, sections 6.4.7 and 7.1).
+abbrev pub copy_tells : OpenMailbox → CopyAsked → Landing → Telling
+copy_tells mailbox asked landing =
+    let numbers = resolved asked.by_uid asked.messages mailbox.view in
     record {
       own = [];
       silent = [];
-      code = copied_code uidvalidity (sources_of before view numbers) (copies_in uidnext landed) (gone_code before view numbers);
+      code = copied_code landing.uidvalidity (sources_of mailbox.rows mailbox.view numbers) (copies_in landing.uidnext landing.rows) (gone_code mailbox.rows mailbox.view numbers);
     }
 
 -- What MOVE tells, by the same (RFC 9051, section 6.4.8).
-abbrev pub move_tells : List Listed → List Entry → Bool → List SequenceRange → ℕ → ℕ → List Listed → Telling
-move_tells before view by_uid set uidvalidity uidnext landed =
-    let numbers = resolved by_uid set view in
+abbrev pub move_tells : OpenMailbox → CopyAsked → Landing → Telling
+move_tells mailbox asked landing =
+    let numbers = resolved asked.by_uid asked.messages mailbox.view in
     record {
-      own = moved_answers uidvalidity (sources_of before view numbers) (copies_in uidnext landed);
+      own = moved_answers landing.uidvalidity (sources_of mailbox.rows mailbox.view numbers) (copies_in landing.uidnext landing.rows);
       silent = [];
-      code = gone_code before view numbers;
+      code = gone_code mailbox.rows mailbox.view numbers;
     }

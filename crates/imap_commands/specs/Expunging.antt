@@ -1,4 +1,4 @@
-use Rattle.std.specs.Prelude.{ℕ, Bool, true, List, [], ◌∷◌, flat_map, Option, Some, None, Result, Ok, Err, if◌then◌else◌}
+use Rattle.std.specs.Prelude.{ℕ, true, List, [], ◌∷◌, flat_map, Option, Some, None, Result, Ok, Err, if◌then◌else◌}
 use Rattle.crdt_ops.specs.declared.kind.Kind.{Kind}
 use Rattle.crdt_ops.specs.declared.kind.Kind.TheVariants.{Expunge}
 use Rattle.imap_answers.specs.declared.words.Refusal.{Refusal}
@@ -7,6 +7,7 @@ use Rattle.imap_types.specs.declared.sequence_set.SequenceRange.{SequenceRange}
 use Rattle.mail_listing.specs.Listed.{Listed}
 use Rattle.session_view.specs.Sets.{resolved}
 use Rattle.session_view.specs.declared.entry.Entry.{Entry}
+use Rattle.imap_commands.specs.Asked.{OpenMailbox}
 use Rattle.imap_commands.specs.Limits.{within_limits}
 use Rattle.imap_commands.specs.Told.{Telling, gone_code, message_at}
 
@@ -24,23 +25,23 @@ expunge_at folder None = []
 expunge_at folder (Some row) = expunge_of folder row
 
 -- What EXPUNGE issues, or the first reason against it: it takes out what is marked as deleted (RFC 9051, section 6.4.3).
-abbrev pub expunge_wants : List ℕ → List Listed → Bool → Result (List Kind) Refusal
-expunge_wants folder before read_only = if read_only then Err ReadOnly else within_limits (expunges_of folder before)
+abbrev pub expunge_wants : OpenMailbox → Result (List Kind) Refusal
+expunge_wants mailbox = if mailbox.read_only then Err ReadOnly else within_limits (expunges_of mailbox.name mailbox.rows)
 
 -- Those of the messages with these numbers.
 abbrev pub expunges_at : List ℕ → List Listed → List Entry → List ℕ → List Kind
 expunges_at folder before view numbers = flat_map (λ n. expunge_at folder (message_at before view n)) numbers
 
 -- What UID EXPUNGE issues, or the first reason against it: of the messages that the set names alone (RFC 9051, section 6.4.9).
-abbrev pub uid_expunge_wants : List ℕ → List Listed → List Entry → Bool → List SequenceRange → Result (List Kind) Refusal
-uid_expunge_wants folder before view read_only set =
-    if read_only then Err ReadOnly
-    else within_limits (expunges_at folder before view (resolved true set view))
+abbrev pub uid_expunge_wants : OpenMailbox → List SequenceRange → Result (List Kind) Refusal
+uid_expunge_wants mailbox uids =
+    if mailbox.read_only then Err ReadOnly
+    else within_limits (expunges_at mailbox.name mailbox.rows mailbox.view (resolved true uids mailbox.view))
 
--- What UID EXPUNGE tells.
-abbrev pub uid_expunge_tells : List Listed → List Entry → List SequenceRange → Telling
-uid_expunge_tells before view set = record { own = []; silent = []; code = gone_code before view (resolved true set view) }
+-- What UID EXPUNGE tells, by the mailbox before it.
+abbrev pub uid_expunge_tells : OpenMailbox → List SequenceRange → Telling
+uid_expunge_tells mailbox uids = record { own = []; silent = []; code = gone_code mailbox.rows mailbox.view (resolved true uids mailbox.view) }
 
 -- What CLOSE issues, or why not: nothing in a mailbox that is only read (RFC 9051, section 6.4.1).
-abbrev pub close_wants : List ℕ → List Listed → Bool → Result (List Kind) Refusal
-close_wants folder before read_only = if read_only then Ok [] else within_limits (expunges_of folder before)
+abbrev pub close_wants : OpenMailbox → Result (List Kind) Refusal
+close_wants mailbox = if mailbox.read_only then Ok [] else within_limits (expunges_of mailbox.name mailbox.rows)

@@ -8,16 +8,16 @@ use Rattle.imap_query.specs.Fetching.{fetch_answers, is_kept, is_marked}
 use Rattle.imap_query.specs.declared.fetching.FetchMode.{FetchMode}
 use Rattle.imap_query.specs.declared.shown.Shown.{Shown}
 use Rattle.imap_types.specs.declared.flags.Flags.{Flags}
-use Rattle.imap_types.specs.declared.sequence_set.SequenceRange.{SequenceRange}
 use Rattle.mail_listing.specs.Listed.{Listed}
 use Rattle.session_view.specs.Sets.{is_in_range, resolved}
 use Rattle.session_view.specs.declared.entry.Entry.{Entry}
+use Rattle.imap_commands.specs.Asked.{FetchAsked, OpenMailbox}
 use Rattle.imap_commands.specs.Limits.{within_limits}
 use Rattle.imap_commands.specs.Told.{Telling, entry_at, gone_code, message_at}
 
--- How FETCH asks.
-abbrev pub mode_of : Bool → Bool → Bool → Option ℕ → FetchMode
-mode_of by_uid condstore read_only changed_since = record { by_uid = by_uid; condstore = condstore; writable = not read_only; changed_since = changed_since }
+-- How FETCH asks, with CONDSTORE on or not.
+abbrev pub mode_of : OpenMailbox → Bool → FetchAsked → FetchMode
+mode_of mailbox condstore asked = record { by_uid = asked.by_uid; condstore = condstore; writable = not mailbox.read_only; changed_since = asked.changed_since }
 
 -- Flags with `\Seen`.
 abbrev pub seen_flags : Flags → Flags
@@ -31,14 +31,14 @@ seen_store folder items mode (Some row) =
     if is_kept mode.changed_since row && is_marked items mode row then Store folder (seen_flags row.flags) row.versions row.origin ∷ [] else []
 
 -- The Stores of `\Seen` of the messages with these numbers.
-abbrev pub seen_stores : List ℕ → List Listed → List Entry → List FetchItem → FetchMode → List ℕ → List Kind
-seen_stores folder before view items mode numbers = flat_map (λ n. seen_store folder items mode (message_at before view n)) numbers
+abbrev pub seen_stores : OpenMailbox → FetchAsked → List ℕ → List Kind
+seen_stores mailbox asked numbers = flat_map (λ n. seen_store mailbox.name asked.items (mode_of mailbox false asked) (message_at mailbox.rows mailbox.view n)) numbers
 
 -- What FETCH issues, or the first reason against it (RFC 9051, section 6.4.5; RFC 7162, section 3.1.4).
-abbrev pub fetch_wants : List ℕ → List Listed → List Entry → Bool → Bool → List SequenceRange → List FetchItem → Option ℕ → Result (List Kind) Refusal
-fetch_wants folder before view read_only by_uid set items changed_since =
-    if not (is_in_range by_uid set view) then Err NoSuchMessage
-    else within_limits (seen_stores folder before view items (mode_of by_uid false read_only changed_since) (resolved by_uid set view))
+abbrev pub fetch_wants : OpenMailbox → FetchAsked → Result (List Kind) Refusal
+fetch_wants mailbox asked =
+    if not (is_in_range asked.by_uid asked.messages mailbox.view) then Err NoSuchMessage
+    else within_limits (seen_stores mailbox asked (resolved asked.by_uid asked.messages mailbox.view))
 
 -- A message of a view as queries see it.
 abbrev pub shown_at : ℕ → Option Entry → List Shown
@@ -49,12 +49,12 @@ shown_at n (Some e) = record { number = n; uid = e.uid } ∷ []
 abbrev pub shown_of : List Entry → List ℕ → List Shown
 shown_of view numbers = flat_map (λ n. shown_at n (entry_at view n)) numbers
 
--- What FETCH tells, by the listings before and after it.
-abbrev pub fetch_tells : List Listed → List Listed → List Entry → Bool → Bool → Bool → List SequenceRange → List FetchItem → Option ℕ → Telling
-fetch_tells before after view read_only condstore by_uid set items changed_since =
-    let numbers = resolved by_uid set view in
+-- What FETCH tells, by the mailbox before it, the listing after it and whether CONDSTORE is on.
+abbrev pub fetch_tells : OpenMailbox → List Listed → Bool → FetchAsked → Telling
+fetch_tells mailbox after condstore asked =
+    let numbers = resolved asked.by_uid asked.messages mailbox.view in
     record {
-      own = fetch_answers items (mode_of by_uid condstore read_only changed_since) before after (shown_of view numbers);
+      own = fetch_answers asked.items (mode_of mailbox condstore asked) mailbox.rows after (shown_of mailbox.view numbers);
       silent = [];
-      code = gone_code before view numbers;
+      code = gone_code mailbox.rows mailbox.view numbers;
     }

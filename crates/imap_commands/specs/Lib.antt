@@ -1,4 +1,5 @@
 pub mod Appending
+pub mod Asked
 pub mod Asking
 pub mod Changing
 pub mod Copying

@@ -1,18 +1,17 @@
-use Rattle.std.specs.Prelude.{◌≡◌, ℕ, Bool, ◌<◌, List, length}
+use Rattle.std.specs.Prelude.{◌≡◌, ◌<◌, List, length}
 use Rattle.imap_answers.specs.Printable.{AreFlags, Each, IsCode, IsFolded, IsModSeq, IsNonzero, IsPrintable, IsSection, IsSmall, IsWide, Where}
 use Rattle.imap_syntax.specs.declared.command.Command.{Command}
 use Rattle.imap_syntax.specs.declared.command.Command.TheVariants as commands
 use Rattle.imap_syntax.specs.declared.fetch.FetchItem.{FetchItem}
 use Rattle.imap_syntax.specs.declared.fetch.FetchItem.TheVariants.{Body, Flags, InternalDate, ModSeq, Size, Uid}
-use Rattle.imap_query.specs.Keys.{IsKey}
 use Rattle.imap_query.specs.declared.mailbox_status.Marks.{Marks}
 use Rattle.imap_types.specs.DateTimes.{IsDateTime}
-use Rattle.imap_types.specs.declared.sequence_set.SequenceRange.{SequenceRange}
 use Rattle.mail_listing.specs.Listed.{Listed}
 use Rattle.mail_listing.specs.Listing.{AreRisingRows}
 use Rattle.session_view.specs.Sets.{resolved}
 use Rattle.session_view.specs.Views.{AreRising}
 use Rattle.session_view.specs.declared.entry.Entry.{Entry}
+use Rattle.imap_commands.specs.Asked.{CopyAsked, Landing, OpenMailbox}
 use Rattle.imap_commands.specs.Copying.{copies_in, sources_of}
 use Rattle.imap_commands.specs.Told.{Telling}
 
@@ -62,14 +61,14 @@ pub record AreTellable (items : List FetchItem) : Type 0 where
   pub each : Each IsTellable items
 
 -- As many messages have come into the destination as the command copies (RFC 9051, section 7.1, COPYUID).
-abbrev pub AreAsMany : List Listed → List Entry → Bool → List SequenceRange → ℕ → List Listed → Type 0
-AreAsMany before view by_uid set uidnext landed = length (sources_of before view (resolved by_uid set view)) ≡ length (copies_in uidnext landed)
+abbrev pub AreAsMany : OpenMailbox → CopyAsked → Landing → Type 0
+AreAsMany mailbox asked landing =
+    length (sources_of mailbox.rows mailbox.view (resolved asked.by_uid asked.messages mailbox.view)) ≡ length (copies_in landing.uidnext landing.rows)
 
--- What a command asks can be told: its names have INBOX in capitals, its items are some and can be told, and its steps are a key's.
+-- What a command asks can be told: its names have INBOX in capitals, and its items are some and can be told.
 abbrev pub IsAnswerable : Command → Type 0
 IsAnswerable (commands.Select name condstore) = IsFolded name
 IsAnswerable (commands.Examine name condstore) = IsFolded name
 IsAnswerable (commands.Status name items) = IsFolded name × (0 < length items)
-IsAnswerable (commands.Search by_uid options steps) = IsKey steps
 IsAnswerable (commands.Fetch by_uid messages items changed_since) = AreTellable items
 IsAnswerable _ = Unit {0}

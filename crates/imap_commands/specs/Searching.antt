@@ -5,7 +5,6 @@ use Rattle.imap_answers.specs.declared.answer.Answer.TheVariants.{Search}
 use Rattle.imap_answers.specs.declared.mailbox.SearchResults.{SearchResults}
 use Rattle.imap_answers.specs.declared.words.Refusal.{Refusal}
 use Rattle.imap_answers.specs.declared.words.Refusal.TheVariants.{NoSuchMessage}
-use Rattle.imap_syntax.specs.declared.search.SearchOption.{SearchOption}
 use Rattle.imap_syntax.specs.declared.search.SearchStep.{SearchStep}
 use Rattle.imap_syntax.specs.declared.search.SearchStep.TheVariants.{Test, Not, Or, And}
 use Rattle.imap_syntax.specs.declared.search.SearchTest.{SearchTest}
@@ -13,9 +12,9 @@ use Rattle.imap_syntax.specs.declared.search.SearchTest.TheVariants as tests
 use Rattle.imap_query.specs.Keys.{Key, steps_of}
 use Rattle.imap_query.specs.Search.{asks_modseq, hits_in, results_of}
 use Rattle.imap_query.specs.declared.shown.Shown.{Shown}
-use Rattle.mail_listing.specs.Listed.{Listed}
 use Rattle.session_view.specs.Sets.{is_in_range}
 use Rattle.session_view.specs.declared.entry.Entry.{Entry}
+use Rattle.imap_commands.specs.Asked.{OpenMailbox, SearchAsked}
 use Rattle.imap_commands.specs.Told.{Telling, only_told}
 
 -- A key can be asked: a set of numbers names only numbers that messages have. UIDs can be any.
@@ -47,8 +46,14 @@ abbrev pub shown_from : ℕ → List Entry → List Shown
 shown_from n [] = []
 shown_from n (e ∷ es) = record { number = n; uid = e.uid } ∷ shown_from (n + 1) es
 
--- What SEARCH tells: one answer, with the results of the key that its steps are (RFC 9051, section 6.4.4; RFC 7162, section 3.1.5).
-pub record SearchTells (rows : List Listed) (view : List Entry) (tag : List ℕ) (by_uid : Bool) (options : List SearchOption) (steps : List SearchStep) (told : Telling) : Type 0 where
+-- What SEARCH finds in a mailbox: the results of the key that its steps are (RFC 9051, section 6.4.4; RFC 7162, section 3.1.5).
+pub record Finds (mailbox : OpenMailbox) (asked : SearchAsked) (results : SearchResults) : Type 0 where
+  pub key : Key
+  pub steps_are : asked.steps ≡ steps_of key
+  pub results_are : results ≡ results_of asked.options (asks_modseq key) (hits_in asked.by_uid key mailbox.rows (shown_from 1 mailbox.view))
+
+-- What SEARCH tells, which is one telling: one answer, with what it finds.
+pub record SearchTells (mailbox : OpenMailbox) (tag : List ℕ) (asked : SearchAsked) (told : Telling) : Type 0 where
   pub results : SearchResults
-  pub only : told ≡ only_told (Search tag by_uid results ∷ [])
-  pub found : (key : Key) → steps ≡ steps_of key → results ≡ results_of options (asks_modseq key) (hits_in by_uid key rows (shown_from 1 view))
+  pub finds : Finds mailbox asked results
+  pub only : told ≡ only_told (Search tag asked.by_uid results ∷ [])

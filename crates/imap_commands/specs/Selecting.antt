@@ -11,7 +11,7 @@ use Rattle.imap_answers.specs.declared.words.Refusal.TheVariants.{NoSuchMailbox}
 use Rattle.imap_query.specs.declared.mailbox_status.Marks.{Marks}
 use Rattle.merge_laws.specs.Orders.{IsIn}
 use Rattle.imap_types.specs.declared.flags.Flags.{Flags}
-use Rattle.imap_types.specs.Keywords.{AreKeywords, lowered, with_text}
+use Rattle.imap_types.specs.Keywords.{AreKeywords, lowered}
 use Rattle.mail_listing.specs.Listed.{Listed}
 use Rattle.imap_commands.specs.Told.{Telling}
 
@@ -31,36 +31,23 @@ pub record AreBorne (rows : List Listed) (keywords : List (List ℕ)) : Type 0 w
   pub set : AreKeywords keywords
   pub exactly : (word : List ℕ) → IsIn word keywords ↔ IsBorne rows word
 
--- A set of keywords with more of them.
-abbrev pub with_keywords : List (List ℕ) → List (List ℕ) → List (List ℕ)
-with_keywords [] keywords = keywords
-with_keywords (word ∷ words) keywords = with_keywords words (with_text (lowered word) keywords)
-
--- A set of keywords with those of messages.
-abbrev pub with_rows : List Listed → List (List ℕ) → List (List ℕ)
-with_rows [] keywords = keywords
-with_rows (row ∷ rows) keywords = with_rows rows (with_keywords row.flags.keywords keywords)
-
--- The keywords of a listing as a function: `listed_keywords_are_borne` says that they are those borne.
-abbrev pub listed_keywords : List Listed → List (List ℕ)
-listed_keywords rows = with_rows rows []
-
 -- ---- what is told
 
--- The flags that are in use in a mailbox: the system flags, and the keywords of its listing (RFC 9051, section 7.3.5).
-abbrev pub flags_in_use : List Listed → Flags
-flags_in_use rows = record { answered = true; flagged = true; deleted = true; seen = true; draft = true; keywords = listed_keywords rows }
+-- The flags that are in use in a mailbox whose messages bear these keywords: the system flags, and them (RFC 9051, section 7.3.5).
+abbrev pub flags_in_use : List (List ℕ) → Flags
+flags_in_use keywords = record { answered = true; flagged = true; deleted = true; seen = true; draft = true; keywords = keywords }
 
 -- Those of them that the session can change for good: none in a mailbox that it only reads (RFC 9051, section 7.1, PERMANENTFLAGS).
 abbrev pub permanent_flags : Bool → Flags → Option Flags
 permanent_flags read_only flags = if read_only then None else Some flags
 
--- What is told of the mailbox that is selected (RFC 9051, section 6.3.2; RFC 7162, section 3.1.2.1).
-abbrev pub mailbox_answers : Bool → List ℕ → Marks → List Listed → List Answer
-mailbox_answers read_only name marks rows =
-    FlagsAnswer (flags_in_use rows) ∷ Exists (length rows) ∷ ListAnswer name There false
+-- What is told of the mailbox that is selected, which has so many messages and uses these flags (RFC 9051, section 6.3.2; RFC 7162,
+-- section 3.1.2.1).
+abbrev pub mailbox_answers : Bool → List ℕ → Marks → ℕ → Flags → List Answer
+mailbox_answers read_only name marks count flags =
+    FlagsAnswer flags ∷ Exists count ∷ ListAnswer name There false
     ∷ Tell (UidValidity marks.uidvalidity) ∷ Tell (UidNext marks.uidnext)
-    ∷ Tell (PermanentFlags (permanent_flags read_only (flags_in_use rows))) ∷ Tell (HighestModSeq marks.highest_modseq) ∷ []
+    ∷ Tell (PermanentFlags (permanent_flags read_only flags)) ∷ Tell (HighestModSeq marks.highest_modseq) ∷ []
 
 -- What is told of a mailbox that is left (RFC 9051, section 7.1, CLOSED).
 abbrev pub closed_answers : Bool → List Answer
@@ -70,10 +57,16 @@ closed_answers was_selected = if was_selected then Tell Closed ∷ [] else []
 abbrev pub access_code : Bool → Code
 access_code read_only = if read_only then ReadOnly else ReadWrite
 
--- What SELECT and EXAMINE tell: EXAMINE selects read-only.
-abbrev pub select_tells : Bool → Bool → List ℕ → Marks → List Listed → Telling
-select_tells was_selected read_only name marks rows = record {
-  own = closed_answers was_selected ++ mailbox_answers read_only name marks rows;
+-- What SELECT and EXAMINE tell, where the messages bear these keywords.
+abbrev pub select_tells : Bool → Bool → List ℕ → Marks → List Listed → List (List ℕ) → Telling
+select_tells was_selected read_only name marks rows keywords = record {
+  own = closed_answers was_selected ++ mailbox_answers read_only name marks (length rows) (flags_in_use keywords);
   silent = [];
   code = Some (access_code read_only);
 }
+
+-- What SELECT and EXAMINE tell, which is one telling, since the keywords of a listing are one set: EXAMINE selects read-only.
+pub record SelectTells (was_selected read_only : Bool) (name : List ℕ) (marks : Marks) (rows : List Listed) (told : Telling) : Type 0 where
+  pub keywords : List (List ℕ)
+  pub borne : AreBorne rows keywords
+  pub only : told ≡ select_tells was_selected read_only name marks rows keywords

@@ -12,12 +12,12 @@ use Rattle.imap_syntax.specs.declared.store.StoreMode.{StoreMode}
 use Rattle.imap_query.specs.Fetching.{where_told}
 use Rattle.imap_types.specs.Keywords.{is_lawful_keyword}
 use Rattle.imap_types.specs.declared.flags.Flags.{Flags}
-use Rattle.imap_types.specs.declared.sequence_set.SequenceRange.{SequenceRange}
 use Rattle.mail_listing.specs.Listed.{Listed}
 use Rattle.session_view.specs.Sets.{is_in_range, resolved}
 use Rattle.session_view.specs.Views.{same_flags}
 use Rattle.session_view.specs.declared.entry.Entry.{Entry}
 use Rattle.session_view.specs.declared.replaying.Silent.{Silent}
+use Rattle.imap_commands.specs.Asked.{OpenMailbox, StoreAsked}
 use Rattle.imap_commands.specs.Changing.{changed_flags}
 use Rattle.imap_commands.specs.Limits.{within_limits}
 use Rattle.imap_commands.specs.Named.{names_of}
@@ -56,29 +56,36 @@ store_of folder mode given (Some row) =
     if same_flags (changed_flags mode row.flags given) row.flags then [] else Store folder (changed_flags mode row.flags given) row.versions row.origin ∷ []
 
 -- The Stores of the messages with these numbers.
-abbrev pub stores_of : List ℕ → List Listed → List Entry → List ℕ → StoreMode → Flags → List Kind
-stores_of folder before view numbers mode given = flat_map (λ n. store_of folder mode given (message_at before view n)) numbers
+abbrev pub stores_of : OpenMailbox → StoreAsked → List ℕ → List Kind
+stores_of mailbox asked numbers = flat_map (λ n. store_of mailbox.name asked.action.mode asked.flags (message_at mailbox.rows mailbox.view n)) numbers
 
 -- What STORE issues, or the first reason against it (RFC 9051, section 6.4.6; RFC 7162, section 3.1.3).
-abbrev pub store_wants : List ℕ → List Listed → List Entry → Bool → Bool → List SequenceRange → Option ℕ → StoreMode → Flags → Result (List Kind) Refusal
-store_wants folder before view read_only by_uid set since mode given =
-    if not (is_in_range by_uid set view) then Err NoSuchMessage
-    else (if read_only then Err ReadOnly
-    else (if has_unlawful_keyword given then Err KeywordTooLong
-    else within_limits (stores_of folder before view (those_taken before view since (resolved by_uid set view)) mode given)))
+abbrev pub store_wants : OpenMailbox → StoreAsked → Result (List Kind) Refusal
+store_wants mailbox asked =
+    if not (is_in_range asked.by_uid asked.messages mailbox.view) then Err NoSuchMessage
+    else (if mailbox.read_only then Err ReadOnly
+    else (if has_unlawful_keyword asked.flags then Err KeywordTooLong
+    else within_limits (stores_of mailbox asked (those_taken mailbox.rows mailbox.view asked.unchanged_since (resolved asked.by_uid asked.messages mailbox.view)))))
 
--- FETCH of a message as it is behind the command.
-abbrev pub stored_answer : Bool → Bool → Bool → ℕ → Option Listed → List Answer
-stored_answer by_uid with_flags with_modseq n None = []
-stored_answer by_uid with_flags with_modseq n (Some row) =
-    Fetch n (record { uid = where_told by_uid row.uid; flags = where_told with_flags row.flags; date = None; size = None; modseq = where_told with_modseq row.modseq; sections = [] }) ∷ []
+-- FETCH of a message as it is behind the command: its flags unless STORE is silent, its mod-sequence where UNCHANGEDSINCE or CONDSTORE asks
+-- for it.
+abbrev pub stored_answer : Bool → StoreAsked → ℕ → Option Listed → List Answer
+stored_answer condstore asked n None = []
+stored_answer condstore asked n (Some row) =
+    Fetch n (record {
+      uid = where_told asked.by_uid row.uid;
+      flags = where_told (not asked.action.silent) row.flags;
+      date = None;
+      size = None;
+      modseq = where_told (is_some asked.unchanged_since || condstore) row.modseq;
+      sections = [];
+    }) ∷ []
 
--- What STORE tells of the messages that it takes: their flags unless it is silent, their mod-sequences where UNCHANGEDSINCE or CONDSTORE
--- asks for them; and nothing where it is silent without UNCHANGEDSINCE.
-abbrev pub stored_answers : List Listed → List Entry → Bool → Bool → Option ℕ → Bool → List ℕ → List Answer
-stored_answers after view condstore by_uid since silent taken =
-    if silent && not (is_some since) then []
-    else flat_map (λ n. stored_answer by_uid (not silent) (is_some since || condstore) n (message_at after view n)) taken
+-- What STORE tells of the messages that it takes; nothing where it is silent without UNCHANGEDSINCE.
+abbrev pub stored_answers : List Listed → List Entry → Bool → StoreAsked → List ℕ → List Answer
+stored_answers after view condstore asked taken =
+    if asked.action.silent && not (is_some asked.unchanged_since) then []
+    else flat_map (λ n. stored_answer condstore asked n (message_at after view n)) taken
 
 -- The view's own flags of a message, changed as asked.
 abbrev pub silent_at : StoreMode → Flags → ℕ → Option Entry → List Silent
@@ -86,21 +93,23 @@ silent_at mode given n None = []
 silent_at mode given n (Some e) = record { number = n; flags = changed_flags mode e.flags given } ∷ []
 
 -- The flags that a session takes where STORE is silent.
-abbrev pub silents_of : List Entry → StoreMode → Bool → Flags → List ℕ → List Silent
-silents_of view mode silent given taken = if silent then flat_map (λ n. silent_at mode given n (entry_at view n)) taken else []
+abbrev pub silents_of : List Entry → StoreAsked → List ℕ → List Silent
+silents_of view asked taken = if asked.action.silent then flat_map (λ n. silent_at asked.action.mode asked.flags n (entry_at view n)) taken else []
 
 -- The code of a STORE: which messages it refused, and else the other code.
 abbrev pub modified_code : List ℕ → Option Code → Option Code
 modified_code [] code = code
 modified_code (n ∷ refused) code = Some (Modified (n ∷ refused))
 
--- What STORE tells, by the listings before and after it (RFC 9051, section 6.4.6; RFC 7162, section 3.1.3).
-abbrev pub store_tells : List Listed → List Listed → List Entry → Bool → Bool → List SequenceRange → Option ℕ → StoreMode → Bool → Flags → Telling
-store_tells before after view condstore by_uid set since mode silent given =
-    let numbers = resolved by_uid set view in
-    let taken = those_taken before view since numbers in
+-- What STORE tells, by the mailbox before it, the listing after it and whether CONDSTORE is on (RFC 9051, section 6.4.6; RFC 7162, section
+-- 3.1.3).
+abbrev pub store_tells : OpenMailbox → List Listed → Bool → StoreAsked → Telling
+store_tells mailbox after condstore asked =
+    let numbers = resolved asked.by_uid asked.messages mailbox.view in
+    let taken = those_taken mailbox.rows mailbox.view asked.unchanged_since numbers in
+    let refused = those_refused mailbox.rows mailbox.view asked.unchanged_since numbers in
     record {
-      own = stored_answers after view condstore by_uid since silent taken;
-      silent = silents_of view mode silent given taken;
-      code = modified_code (names_of by_uid view (those_refused before view since numbers)) (gone_code before view numbers);
+      own = stored_answers after mailbox.view condstore asked taken;
+      silent = silents_of mailbox.view asked taken;
+      code = modified_code (names_of asked.by_uid mailbox.view refused) (gone_code mailbox.rows mailbox.view numbers);
     }

@@ -1,4 +1,4 @@
-use Rattle.std.specs.Prelude.{ℕ, ◌-◌, Bool, true, false, List, [], Option, Some, None, if◌then◌else◌}
+use Rattle.std.specs.Prelude.{ℕ, ◌-◌, ◌==◌, Bool, true, false, List, [], Option, Some, None, if◌then◌else◌}
 use Rattle.std.specs.List.{slice_get, list_any}
 use Rattle.imap_answers.specs.declared.answer.Answer.{Answer}
 use Rattle.imap_answers.specs.declared.codes.Code.{Code}
@@ -21,9 +21,9 @@ nothing_told = record { own = []; silent = []; code = None }
 abbrev pub only_told : List Answer → Telling
 only_told answers = record { own = answers; silent = []; code = None }
 
--- The view's message with this number, from 1 on.
+-- The view's message with this number, from 1 on: none has the number 0.
 abbrev pub entry_at : List Entry → ℕ → Option Entry
-entry_at view n = slice_get view (n - 1)
+entry_at view n = if n == 0 then None else slice_get view (n - 1)
 
 -- What the listing has for it.
 abbrev pub row_for : List Listed → Option Entry → Option Listed

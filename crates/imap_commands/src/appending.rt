@@ -11,7 +11,7 @@ use crate::mailboxes::one_kind;
 use crate::telling::Telling;
 use crdt_ops::Kind;
 use imap_answers::{Code, Refusal};
-use imap_types::{DateTime, Flags, MAX_KEYWORDS, Name, Octets, is_lawful_keyword};
+use imap_types::{DateTime, Flags, MAX_KEYWORDS, Name, Octets, Text, is_lawful_keyword};
 use std::alloc::{AllocError, Global};
 
 /// What APPEND issues, or why it is refused: `NoDestination` where the mailbox isn't there, else `KeywordTooLong` where no message
@@ -24,7 +24,7 @@ pub fn append_wants(
     flags: &Flags,
     date: &Option<DateTime>,
     stamp: &DateTime,
-    text: &Octets,
+    text: &Text,
 ) -> Result<Vec<Kind>, Refusal>
     ensures { Gives (λ kinds. kinds.items) result (append_wants is_there name.now flags.now date.now stamp.now text.now) }
 {
@@ -66,13 +66,13 @@ fn append(
     name: &Name,
     flags: &Flags,
     date: DateTime,
-    text: &Octets,
+    text: &Text,
 ) -> Result<Vec<Kind>, AllocError>
     ensures { IfOk result (λ kinds. kinds.items ≡ AppendKind name.now flags.now date text.now ∷ []) }
 {
     let folder = name.copy(alloc)?;
     let flags = flags.copy(alloc)?;
-    let text = text.copy(alloc)?;
+    let text = text.copy()?;
     one_kind(
         alloc,
         Kind::Append {

@@ -1,12 +1,12 @@
 //! How STORE changes flags (RFC 9051, section 6.4.6).
 
-ghost use Rattle.std.specs.Prelude.{◌≡◌, IfOk, IsTrue, OnOk};
-ghost use Rattle.std.specs.List.{list_all};
-ghost use Rattle.imap_types.specs.Keywords.{is_lowered};
-ghost use Rattle.imap_commands.specs.Changing.{added_flags, changed_flags, remaining, removed_flags, united};
+ghost use Rattle.std.specs.Prelude.{◌≡◌, IfOk};
+ghost use Rattle.imap_commands.specs.Changing.{changed_flags, remaining, removed_flags};
+ghost use Rattle.message_versions.specs.Unions.{with_flags};
 
 use imap_syntax::StoreMode;
 use imap_types::{Flags, Keywords, Octets};
+use message_versions::add_flags;
 use std::alloc::{AllocError, Global};
 
 /// What STORE makes of a message's flags, from those and the ones that are given. `Err` where there is no memory for them. Keywords are
@@ -29,16 +29,11 @@ pub fn changed(
 
 /// Flags with those that are given.
 fn added(alloc: Global, old: &Flags, given: &Flags) -> Result<Flags, AllocError>
-    ensures { IfOk result (λ flags. flags ≡ added_flags old.now given.now) }
+    ensures { IfOk result (λ flags. flags ≡ with_flags old.now given.now) }
 {
-    Ok(Flags {
-        answered: old.answered || given.answered,
-        flagged: old.flagged || given.flagged,
-        deleted: old.deleted || given.deleted,
-        seen: old.seen || given.seen,
-        draft: old.draft || given.draft,
-        keywords: united(alloc, &given.keywords, &old.keywords)?,
-    })
+    let mut flags = old.copy(alloc)?;
+    add_flags(alloc, &mut flags, given)?;
+    Ok(flags)
 }
 
 /// Flags without those that are given.
@@ -53,26 +48,6 @@ fn removed(alloc: Global, old: &Flags, given: &Flags) -> Result<Flags, AllocErro
         draft: old.draft && !given.draft,
         keywords: remaining(alloc, &given.keywords, &old.keywords)?,
     })
-}
-
-/// The second keywords with each of the first put in its place.
-fn united(alloc: Global, given: &Keywords, keywords: &Keywords) -> Result<Keywords, AllocError>
-    ensures { IfOk result (λ all. all ≡ united given.now keywords.now) }
-{
-    let mut all = keywords.copy(alloc)?;
-    put_in(alloc, given.as_slice(), &mut all)?;
-    Ok(all)
-}
-
-/// Puts each of these, which are in lower case, in its place among the keywords.
-fn put_in(alloc: Global, given: &[Octets], keywords: &mut Keywords) -> Result<(), AllocError>
-    requires { IsTrue (list_all is_lowered given.now) }
-    ensures { OnOk result (keywords.new ≡ united given.now keywords.old) }
-{
-    for keyword in given {
-        keywords.insert(alloc, keyword.as_bytes())?;
-    }
-    Ok(())
 }
 
 /// The keywords without those that are given.

@@ -10,15 +10,15 @@ ghost use Rattle.imap_commands.specs.Copying.{append_of, appends_of, copied_code
 ghost use Rattle.imap_commands.specs.Gives.{Gives};
 ghost use Rattle.imap_commands.specs.Told.{gone_code, message_at};
 
+use crate::asked::{CopyAsked, Landing, OpenMailbox};
 use crate::limits::within_limits;
 use crate::named::{named, names_of, resolved, set_of, those_there};
-use crate::telling::{Telling, gone_code, message_at};
+use crate::telling::{Telling, gone_code};
 use crate::versions::old_ids;
 use crdt_ops::Kind;
 use imap_answers::{Answer, Code, Notice, Refusal};
-use imap_types::{Name, NumberSet, Octets, SequenceSet};
+use imap_types::{Name, NumberSet};
 use mail_listing::Rows;
-use session_view::{Entry, View};
 use std::alloc::{AllocError, Global};
 
 /// What a command copied.
@@ -33,66 +33,44 @@ struct Copied {
 }
 
 /// What COPY issues in the destination, or the first reason against it: `NoSuchMessage`, `NoDestination`, `TooManyKeywords` (more than 32
-/// on a message). `NoMemory` may come in place of any answer. The texts are copied.
+/// on a message). `NoMemory` may come in place of any answer. The copies share the texts.
 pub fn copy_wants(
     alloc: Global,
-    destination: &Name,
+    mailbox: &OpenMailbox<'_>,
+    asked: &CopyAsked<'_>,
     is_there: bool,
-    before: &Rows<'_>,
-    view: &View,
-    by_uid: bool,
-    set: &SequenceSet,
 ) -> Result<Vec<Kind>, Refusal>
-    ensures { Gives (λ kinds. kinds.items) result (copy_wants destination.now is_there before.now view.now.entries by_uid set.now) }
+    ensures { Gives (λ kinds. kinds.items) result (copy_wants mailbox.now asked.now is_there) }
 {
-    let numbers = named(alloc, by_uid, set, view)?;
+    let numbers = named(alloc, asked.by_uid, asked.messages, mailbox.view)?;
     if !is_there {
         return Err(Refusal::NoDestination);
     }
     let mut kinds = Vec::new(alloc);
-    push_appends(
-        alloc,
-        destination,
-        before,
-        view.entries(),
-        &numbers,
-        &mut kinds,
-    )?;
+    push_appends(alloc, asked.destination, mailbox, &numbers, &mut kinds)?;
     within_limits(kinds)
 }
 
 /// What MOVE issues, or the first reason against it: `NoSuchMessage`, `ReadOnly`, `NoDestination`, `TooManyKeywords` (more than 32 on a
-/// message), `TooManyVersions` (more than 64 of one). `NoMemory` may come in place of any answer. It issues all copies in the destination first, then what takes the messages out of the folder. The texts are copied.
+/// message), `TooManyVersions` (more than 64 of one). `NoMemory` may come in place of any answer. It issues all copies in the destination first, then what takes the messages out of the folder. The copies share the texts.
 pub fn move_wants(
     alloc: Global,
-    folder: &Name,
-    destination: &Name,
+    mailbox: &OpenMailbox<'_>,
+    asked: &CopyAsked<'_>,
     is_there: bool,
-    before: &Rows<'_>,
-    view: &View,
-    read_only: bool,
-    by_uid: bool,
-    set: &SequenceSet,
 ) -> Result<Vec<Kind>, Refusal>
-    ensures { Gives (λ kinds. kinds.items) result (move_wants folder.now destination.now is_there before.now view.now.entries read_only by_uid set.now) }
+    ensures { Gives (λ kinds. kinds.items) result (move_wants mailbox.now asked.now is_there) }
 {
-    let numbers = named(alloc, by_uid, set, view)?;
-    if read_only {
+    let numbers = named(alloc, asked.by_uid, asked.messages, mailbox.view)?;
+    if mailbox.read_only {
         return Err(Refusal::ReadOnly);
     }
     if !is_there {
         return Err(Refusal::NoDestination);
     }
     let mut kinds = Vec::new(alloc);
-    push_appends(
-        alloc,
-        destination,
-        before,
-        view.entries(),
-        &numbers,
-        &mut kinds,
-    )?;
-    push_removals(alloc, folder, before, view.entries(), &numbers, &mut kinds)?;
+    push_appends(alloc, asked.destination, mailbox, &numbers, &mut kinds)?;
+    push_removals(alloc, mailbox, &numbers, &mut kinds)?;
     within_limits(kinds)
 }
 
@@ -100,15 +78,14 @@ pub fn move_wants(
 fn push_appends(
     alloc: Global,
     destination: &Name,
-    before: &Rows<'_>,
-    view: &[Entry],
+    mailbox: &OpenMailbox<'_>,
     numbers: &[u32],
     kinds: &mut Vec<Kind>,
 ) -> Result<(), AllocError>
-    ensures { OnOk result (kinds.new.items ≡ kinds.old.items ++ appends_of destination.now before.now view.now numbers.now) }
+    ensures { OnOk result (kinds.new.items ≡ kinds.old.items ++ appends_of destination.now mailbox.now.rows mailbox.now.view numbers.now) }
 {
     for number in numbers {
-        push_append(alloc, destination, before, view, *number, kinds)?;
+        push_append(alloc, destination, mailbox, *number, kinds)?;
     }
     Ok(())
 }
@@ -116,19 +93,18 @@ fn push_appends(
 fn push_append(
     alloc: Global,
     destination: &Name,
-    before: &Rows<'_>,
-    view: &[Entry],
+    mailbox: &OpenMailbox<'_>,
     number: u32,
     kinds: &mut Vec<Kind>,
 ) -> Result<(), AllocError>
-    ensures { OnOk result (kinds.new.items ≡ kinds.old.items ++ append_of destination.now (message_at before.now view.now number)) }
+    ensures { OnOk result (kinds.new.items ≡ kinds.old.items ++ append_of destination.now (message_at mailbox.now.rows mailbox.now.view number)) }
 {
-    let Some(row) = message_at(before, view, number) else {
+    let Some(row) = mailbox.message_at(number) else {
         return Ok(());
     };
     let folder = destination.copy(alloc)?;
     let flags = row.versions.flags(alloc)?;
-    let text = Octets::copied_from(alloc, row.text)?;
+    let text = row.copied_text(alloc)?;
     kinds.push(Kind::Append {
         folder,
         flags,
@@ -141,61 +117,52 @@ fn push_append(
 /// Adds the Expunges of the messages with these numbers.
 fn push_removals(
     alloc: Global,
-    folder: &Name,
-    before: &Rows<'_>,
-    view: &[Entry],
+    mailbox: &OpenMailbox<'_>,
     numbers: &[u32],
     kinds: &mut Vec<Kind>,
 ) -> Result<(), AllocError>
-    ensures { OnOk result (kinds.new.items ≡ kinds.old.items ++ removals_of folder.now before.now view.now numbers.now) }
+    ensures { OnOk result (kinds.new.items ≡ kinds.old.items ++ removals_of mailbox.now.name mailbox.now.rows mailbox.now.view numbers.now) }
 {
     for number in numbers {
-        push_removal(alloc, folder, before, view, *number, kinds)?;
+        push_removal(alloc, mailbox, *number, kinds)?;
     }
     Ok(())
 }
 
 fn push_removal(
     alloc: Global,
-    folder: &Name,
-    before: &Rows<'_>,
-    view: &[Entry],
+    mailbox: &OpenMailbox<'_>,
     number: u32,
     kinds: &mut Vec<Kind>,
 ) -> Result<(), AllocError>
-    ensures { OnOk result (kinds.new.items ≡ kinds.old.items ++ removal_of folder.now (message_at before.now view.now number)) }
+    ensures { OnOk result (kinds.new.items ≡ kinds.old.items ++ removal_of mailbox.now.name (message_at mailbox.now.rows mailbox.now.view number)) }
 {
-    let Some(row) = message_at(before, view, number) else {
+    let Some(row) = mailbox.message_at(number) else {
         return Ok(());
     };
     kinds.push(Kind::Expunge {
-        folder: folder.copy(alloc)?,
+        folder: mailbox.name.copy(alloc)?,
         olds: old_ids(alloc, &row.versions)?,
     })?;
     Ok(())
 }
 
-/// What COPY tells, by the listing before it, the destination's UIDVALIDITY, its UIDNEXT before the command and its listing after it: where
-/// the copies are, and else whether some messages are gone. Of a set that can't be resolved nothing is promised. `Err` where there is no
-/// memory.
+/// What COPY tells, by the mailbox before it: where the copies are, and else whether some messages are gone. Of a set that can't be
+/// resolved nothing is promised. `Err` where there is no memory.
 pub fn copy_tells(
     alloc: Global,
-    before: &Rows<'_>,
-    view: &View,
-    by_uid: bool,
-    set: &SequenceSet,
-    uidvalidity: u32,
-    uidnext: u32,
-    landed: &Rows<'_>,
+    mailbox: &OpenMailbox<'_>,
+    asked: &CopyAsked<'_>,
+    landing: &Landing<'_>,
 ) -> Result<Telling, AllocError>
-    ensures { IfOk result (λ told. told ≡ copy_tells before.now view.now.entries by_uid set.now uidvalidity uidnext landed.now) }
+    ensures { IfOk result (λ told. told ≡ copy_tells mailbox.now asked.now landing.now) }
 {
     let Copied {
         source,
         copies,
         gone,
-    } = outcome_of(alloc, before, view, by_uid, set, uidnext, landed)?;
-    let code = copied_code(uidvalidity, source, copies, gone);
+    } = outcome_of(alloc, mailbox, asked, landing)?;
+    let code = copied_code(landing.uidvalidity, source, copies, gone);
     Ok(Telling::new(Vec::new(alloc), Vec::new(alloc), code))
 }
 
@@ -203,46 +170,40 @@ pub fn copy_tells(
 /// nothing is promised. `Err` where there is no memory.
 pub fn move_tells(
     alloc: Global,
-    before: &Rows<'_>,
-    view: &View,
-    by_uid: bool,
-    set: &SequenceSet,
-    uidvalidity: u32,
-    uidnext: u32,
-    landed: &Rows<'_>,
+    mailbox: &OpenMailbox<'_>,
+    asked: &CopyAsked<'_>,
+    landing: &Landing<'_>,
 ) -> Result<Telling, AllocError>
-    ensures { IfOk result (λ told. told ≡ move_tells before.now view.now.entries by_uid set.now uidvalidity uidnext landed.now) }
+    ensures { IfOk result (λ told. told ≡ move_tells mailbox.now asked.now landing.now) }
 {
     let Copied {
         source,
         copies,
         gone,
-    } = outcome_of(alloc, before, view, by_uid, set, uidnext, landed)?;
-    let own = moved_answers(alloc, uidvalidity, source, copies)?;
+    } = outcome_of(alloc, mailbox, asked, landing)?;
+    let own = moved_answers(alloc, landing.uidvalidity, source, copies)?;
     Ok(Telling::new(own, Vec::new(alloc), gone))
 }
 
 /// What was copied, by UIDs, and whether some messages are gone.
 fn outcome_of(
     alloc: Global,
-    before: &Rows<'_>,
-    view: &View,
-    by_uid: bool,
-    set: &SequenceSet,
-    uidnext: u32,
-    landed: &Rows<'_>,
+    mailbox: &OpenMailbox<'_>,
+    asked: &CopyAsked<'_>,
+    landing: &Landing<'_>,
 ) -> Result<Copied, AllocError>
-    ensures source { IfOk result (λ found. found.source ≡ sources_of before.now view.now.entries (resolved by_uid set.now view.now.entries)) }
-    ensures copies { IfOk result (λ found. found.copies ≡ copies_in uidnext landed.now) }
-    ensures gone { IfOk result (λ found. found.gone ≡ gone_code before.now view.now.entries (resolved by_uid set.now view.now.entries)) }
+    ensures source { IfOk result (λ found. found.source ≡ sources_of mailbox.now.rows mailbox.now.view (resolved asked.now.by_uid asked.now.messages mailbox.now.view)) }
+    ensures copies { IfOk result (λ found. found.copies ≡ copies_in landing.now.uidnext landing.now.rows) }
+    ensures gone { IfOk result (λ found. found.gone ≡ gone_code mailbox.now.rows mailbox.now.view (resolved asked.now.by_uid asked.now.messages mailbox.now.view)) }
 {
-    let numbers = resolved(alloc, by_uid, set, view)?;
-    let view = view.entries();
+    let numbers = resolved(alloc, asked.by_uid, asked.messages, mailbox.view)?;
+    let before = &mailbox.rows;
+    let view = mailbox.view.entries();
     let there = those_there(alloc, before, view, &numbers)?;
     let uids = names_of(alloc, true, view, &there)?;
     Ok(Copied {
         source: set_of(alloc, &uids)?,
-        copies: copies_in(alloc, uidnext, landed)?,
+        copies: copies_in(alloc, landing.uidnext, &landing.rows)?,
         gone: gone_code(before, view, &numbers),
     })
 }

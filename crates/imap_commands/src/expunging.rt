@@ -6,47 +6,37 @@ ghost use Rattle.mail_listing.specs.Listing.{listed};
 ghost use Rattle.imap_commands.specs.Expunging.{close_wants, expunge_at, expunge_of, expunge_wants, expunges_at, expunges_of, uid_expunge_tells, uid_expunge_wants};
 ghost use Rattle.imap_commands.specs.Gives.{Gives};
 
+use crate::asked::OpenMailbox;
 use crate::limits::within_limits;
 use crate::named::resolved;
-use crate::telling::{Telling, gone_code, message_at};
+use crate::telling::{Telling, gone_code};
 use crate::versions::old_ids;
 use crdt_ops::Kind;
 use imap_answers::Refusal;
 use imap_types::{Name, SequenceSet};
 use mail_listing::{Row, Rows};
-use session_view::{Entry, View};
 use std::alloc::{AllocError, Global};
 
-/// What EXPUNGE issues in this folder, or the first reason against it: `ReadOnly`, `TooManyVersions` (more than 64 of a message that it
+/// What EXPUNGE issues in the mailbox, or the first reason against it: `ReadOnly`, `TooManyVersions` (more than 64 of a message that it
 /// takes out). `NoMemory` may come in place of any answer. It takes out the messages of the listing that are marked as deleted, those among
 /// them that the session wasn't told of yet. It looks at each message once.
-pub fn expunge_wants(
-    alloc: Global,
-    folder: &Name,
-    before: &Rows<'_>,
-    read_only: bool,
-) -> Result<Vec<Kind>, Refusal>
-    ensures { Gives (λ kinds. kinds.items) result (expunge_wants folder.now before.now read_only) }
+pub fn expunge_wants(alloc: Global, mailbox: &OpenMailbox<'_>) -> Result<Vec<Kind>, Refusal>
+    ensures { Gives (λ kinds. kinds.items) result (expunge_wants mailbox.now) }
 {
-    if read_only {
+    if mailbox.read_only {
         return Err(Refusal::ReadOnly);
     }
-    within_limits(expunges_of(alloc, folder, before)?)
+    within_limits(expunges_of(alloc, mailbox.name, &mailbox.rows)?)
 }
 
 /// What CLOSE issues, or why not (`TooManyVersions`, `NoMemory`): what EXPUNGE does, and nothing in a mailbox that is only read.
-pub fn close_wants(
-    alloc: Global,
-    folder: &Name,
-    before: &Rows<'_>,
-    read_only: bool,
-) -> Result<Vec<Kind>, Refusal>
-    ensures { Gives (λ kinds. kinds.items) result (close_wants folder.now before.now read_only) }
+pub fn close_wants(alloc: Global, mailbox: &OpenMailbox<'_>) -> Result<Vec<Kind>, Refusal>
+    ensures { Gives (λ kinds. kinds.items) result (close_wants mailbox.now) }
 {
-    if read_only {
+    if mailbox.read_only {
         return Ok(Vec::new(alloc));
     }
-    within_limits(expunges_of(alloc, folder, before)?)
+    within_limits(expunges_of(alloc, mailbox.name, &mailbox.rows)?)
 }
 
 /// The Expunges of all messages that are marked as deleted.
@@ -100,51 +90,45 @@ fn push_expunge(
 /// deleted.
 pub fn uid_expunge_wants(
     alloc: Global,
-    folder: &Name,
-    before: &Rows<'_>,
-    view: &View,
-    read_only: bool,
-    set: &SequenceSet,
+    mailbox: &OpenMailbox<'_>,
+    uids: &SequenceSet,
 ) -> Result<Vec<Kind>, Refusal>
-    ensures { Gives (λ kinds. kinds.items) result (uid_expunge_wants folder.now before.now view.now.entries read_only set.now) }
+    ensures { Gives (λ kinds. kinds.items) result (uid_expunge_wants mailbox.now uids.now) }
 {
-    if read_only {
+    if mailbox.read_only {
         return Err(Refusal::ReadOnly);
     }
-    let numbers = resolved(alloc, true, set, view)?;
-    let kinds = expunges_at(alloc, folder, before, view.entries(), &numbers)?;
+    let numbers = resolved(alloc, true, uids, mailbox.view)?;
+    let kinds = expunges_at(alloc, mailbox, &numbers)?;
     within_limits(kinds)
 }
 
 /// The Expunges of those messages that are marked as deleted.
 fn expunges_at(
     alloc: Global,
-    folder: &Name,
-    before: &Rows<'_>,
-    view: &[Entry],
+    mailbox: &OpenMailbox<'_>,
     numbers: &[u32],
 ) -> Result<Vec<Kind>, AllocError>
-    ensures { IfOk result (λ kinds. kinds.items ≡ expunges_at folder.now before.now view.now numbers.now) }
+    ensures { IfOk result (λ kinds. kinds.items ≡ expunges_at mailbox.now.name mailbox.now.rows mailbox.now.view numbers.now) }
 {
     let mut kinds = Vec::new(alloc);
     for number in numbers {
-        if let Some(row) = message_at(before, view, *number) {
-            push_expunge(alloc, folder, &row, &mut kinds)?;
+        if let Some(row) = mailbox.message_at(*number) {
+            push_expunge(alloc, mailbox.name, &row, &mut kinds)?;
         }
     }
     Ok(kinds)
 }
 
-/// What UID EXPUNGE tells, by the listing before it: that it names messages that are gone, if it does. `Err` where there is no memory.
+/// What UID EXPUNGE tells, by the mailbox before it: that it names messages that are gone, if it does. `Err` where there is no memory.
 pub fn uid_expunge_tells(
     alloc: Global,
-    before: &Rows<'_>,
-    view: &View,
-    set: &SequenceSet,
+    mailbox: &OpenMailbox<'_>,
+    uids: &SequenceSet,
 ) -> Result<Telling, AllocError>
-    ensures { IfOk result (λ told. told ≡ uid_expunge_tells before.now view.now.entries set.now) }
+    ensures { IfOk result (λ told. told ≡ uid_expunge_tells mailbox.now uids.now) }
 {
-    let numbers = resolved(alloc, true, set, view)?;
-    let code = gone_code(before, view.entries(), &numbers);
+    let numbers = resolved(alloc, true, uids, mailbox.view)?;
+    let code = gone_code(&mailbox.rows, mailbox.view.entries(), &numbers);
     Ok(Telling::new(Vec::new(alloc), Vec::new(alloc), code))
 }

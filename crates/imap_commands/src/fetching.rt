@@ -1,69 +1,64 @@
 //! FETCH and UID FETCH (RFC 9051, section 6.4.5; RFC 7162, section 3.1.4).
 
-ghost use Rattle.std.specs.Prelude.{◌≡◌, ◌++◌, IfOk, OnOk};
+ghost use Rattle.std.specs.Prelude.{◌≡◌, ◌++◌, false, IfOk, OnOk};
 ghost use Rattle.message_versions.specs.Unions.{united};
-ghost use Rattle.imap_commands.specs.Fetching.{fetch_tells, fetch_wants, seen_flags, seen_store, seen_stores, shown_at, shown_of};
+ghost use Rattle.imap_commands.specs.Fetching.{fetch_tells, fetch_wants, mode_of, seen_flags, seen_store, seen_stores, shown_at, shown_of};
 ghost use Rattle.imap_commands.specs.Gives.{Gives};
 ghost use Rattle.imap_commands.specs.Told.{entry_at, message_at};
 
+use crate::asked::{FetchAsked, OpenMailbox};
 use crate::limits::within_limits;
 use crate::named::{named, resolved};
-use crate::telling::{Telling, entry_at, gone_code, message_at};
+use crate::telling::{Telling, entry_at, gone_code};
 use crate::versions::old_ids;
 use crdt_ops::Kind;
 use imap_answers::Refusal;
 use imap_query::{FetchMode, Shown, fetch, is_kept, is_marked};
-use imap_syntax::FetchItem;
-use imap_types::{Flags, Name, SequenceSet};
+use imap_types::Flags;
 use mail_listing::Rows;
 use message_versions::Versions;
-use session_view::{Entry, View};
+use session_view::Entry;
 use std::alloc::{AllocError, Global};
 
-/// What FETCH issues in this folder, or the first reason against it: `NoSuchMessage`, `TooManyKeywords` (more than 32 on a message that it
+/// What FETCH issues in the mailbox, or the first reason against it: `NoSuchMessage`, `TooManyKeywords` (more than 32 on a message that it
 /// marks), `TooManyVersions` (more than 64 of such a message). `NoMemory` may come in place of any answer. It issues Stores of `\Seen`,
 /// where it reads a section without PEEK.
 pub fn fetch_wants(
     alloc: Global,
-    folder: &Name,
-    before: &Rows<'_>,
-    view: &View,
-    read_only: bool,
-    by_uid: bool,
-    set: &SequenceSet,
-    items: &[FetchItem],
-    changed_since: Option<u64>,
+    mailbox: &OpenMailbox<'_>,
+    asked: &FetchAsked<'_>,
 ) -> Result<Vec<Kind>, Refusal>
-    ensures { Gives (λ kinds. kinds.items) result (fetch_wants folder.now before.now view.now.entries read_only by_uid set.now items.now changed_since) }
+    ensures { Gives (λ kinds. kinds.items) result (fetch_wants mailbox.now asked.now) }
 {
-    let numbers = named(alloc, by_uid, set, view)?;
-    let mode = FetchMode {
-        by_uid,
-        condstore: false,
-        writable: !read_only,
-        changed_since,
-    };
-    let kinds = seen_stores(alloc, folder, before, view.entries(), &numbers, items, mode)?;
+    let numbers = named(alloc, asked.by_uid, asked.messages, mailbox.view)?;
+    let kinds = seen_stores(alloc, mailbox, asked, &numbers)?;
     within_limits(kinds)
+}
+
+/// How FETCH asks, with CONDSTORE on or not.
+fn mode_of(mailbox: &OpenMailbox<'_>, condstore: bool, asked: &FetchAsked<'_>) -> FetchMode
+    ensures { result ≡ mode_of mailbox.now condstore asked.now }
+{
+    FetchMode {
+        by_uid: asked.by_uid,
+        condstore,
+        writable: !mailbox.read_only,
+        changed_since: asked.changed_since,
+    }
 }
 
 /// The Stores of `\Seen` of the messages with these numbers.
 fn seen_stores(
     alloc: Global,
-    folder: &Name,
-    before: &Rows<'_>,
-    view: &[Entry],
+    mailbox: &OpenMailbox<'_>,
+    asked: &FetchAsked<'_>,
     numbers: &[u32],
-    items: &[FetchItem],
-    mode: FetchMode,
 ) -> Result<Vec<Kind>, AllocError>
-    ensures { IfOk result (λ kinds. kinds.items ≡ seen_stores folder.now before.now view.now items.now mode numbers.now) }
+    ensures { IfOk result (λ kinds. kinds.items ≡ seen_stores mailbox.now asked.now numbers.now) }
 {
     let mut kinds = Vec::new(alloc);
     for number in numbers {
-        push_seen(
-            alloc, folder, before, view, *number, items, mode, &mut kinds,
-        )?;
+        push_seen(alloc, mailbox, asked, *number, &mut kinds)?;
     }
     Ok(kinds)
 }
@@ -71,27 +66,24 @@ fn seen_stores(
 /// Adds the Store of `\Seen` of a message, if it is one.
 fn push_seen(
     alloc: Global,
-    folder: &Name,
-    before: &Rows<'_>,
-    view: &[Entry],
+    mailbox: &OpenMailbox<'_>,
+    asked: &FetchAsked<'_>,
     number: u32,
-    items: &[FetchItem],
-    mode: FetchMode,
     kinds: &mut Vec<Kind>,
 ) -> Result<(), AllocError>
-    ensures { OnOk result (kinds.new.items ≡ kinds.old.items ++ seen_store folder.now items.now mode (message_at before.now view.now number)) }
+    ensures { OnOk result (kinds.new.items ≡ kinds.old.items ++ seen_store mailbox.now.name asked.now.items (mode_of mailbox.now false asked.now) (message_at mailbox.now.rows mailbox.now.view number)) }
 {
-    let Some(row) = message_at(before, view, number) else {
+    let Some(row) = mailbox.message_at(number) else {
         return Ok(());
     };
-    if !is_kept(mode.changed_since, &row) {
+    if !is_kept(asked.changed_since, &row) {
         return Ok(());
     }
-    if !is_marked(items, mode, &row) {
+    if !is_marked(asked.items, mode_of(mailbox, false, asked), &row) {
         return Ok(());
     }
     kinds.push(Kind::Store {
-        folder: folder.copy(alloc)?,
+        folder: mailbox.name.copy(alloc)?,
         flags: seen_flags(alloc, &row.versions)?,
         olds: old_ids(alloc, &row.versions)?,
         origin: row.origin,
@@ -108,33 +100,24 @@ fn seen_flags(alloc: Global, versions: &Versions<'_>) -> Result<Flags, AllocErro
     Ok(seen)
 }
 
-/// What FETCH tells, by the listings before and after it: what `imap_query::fetch` says of the messages named, and whether some are gone.
+/// What FETCH tells, by the mailbox before it, the listing after it and whether CONDSTORE is on: what `imap_query::fetch` says of the messages named, and whether some are gone.
 /// Of a set that can't be resolved nothing is promised. `Err` where there is no memory.
 pub fn fetch_tells(
     alloc: Global,
-    before: &Rows<'_>,
+    mailbox: &OpenMailbox<'_>,
     after: &Rows<'_>,
-    view: &View,
-    read_only: bool,
     condstore: bool,
-    by_uid: bool,
-    set: &SequenceSet,
-    items: &[FetchItem],
-    changed_since: Option<u64>,
+    asked: &FetchAsked<'_>,
 ) -> Result<Telling, AllocError>
-    ensures { IfOk result (λ told. told ≡ fetch_tells before.now after.now view.now.entries read_only condstore by_uid set.now items.now changed_since) }
+    ensures { IfOk result (λ told. told ≡ fetch_tells mailbox.now after.now condstore asked.now) }
 {
-    let numbers = resolved(alloc, by_uid, set, view)?;
-    let view = view.entries();
+    let numbers = resolved(alloc, asked.by_uid, asked.messages, mailbox.view)?;
+    let before = &mailbox.rows;
+    let view = mailbox.view.entries();
     let code = gone_code(before, view, &numbers);
     let shown = shown_of(alloc, view, &numbers)?;
-    let mode = FetchMode {
-        by_uid,
-        condstore,
-        writable: !read_only,
-        changed_since,
-    };
-    let own = fetch(alloc, &shown, before, after, items, mode)?;
+    let mode = mode_of(mailbox, condstore, asked);
+    let own = fetch(alloc, &shown, before, after, asked.items, mode)?;
     Ok(Telling::new(own, Vec::new(alloc), code))
 }
 

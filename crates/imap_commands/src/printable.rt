@@ -1,7 +1,8 @@
 //! What commands tell can be printed: laws over `specs/Printing.antt`, one for each family.
 
-ghost use Rattle.std.specs.Prelude.{ℕ, ◌<◌, Bool, List, Option, length};
+ghost use Rattle.std.specs.Prelude.{ℕ, ◌<◌, Bool, List, length};
 ghost use Rattle.imap_answers.specs.Printable.{Each, IsFolded, IsNonzero, IsPrintable, IsTag, IsWide};
+ghost use Rattle.imap_commands.specs.Asked.{CopyAsked, FetchAsked, Landing, OpenMailbox, SearchAsked, StoreAsked};
 ghost use Rattle.imap_commands.specs.Appending.{append_tells};
 ghost use Rattle.imap_commands.specs.Asking.{ListTells, capability_tells, idle_tells, logout_tells, namespace_tells, status_tells};
 ghost use Rattle.imap_commands.specs.Copying.{copy_tells, move_tells};
@@ -12,18 +13,12 @@ ghost use Rattle.imap_query.specs.declared.naming.ListMode.{ListMode};
 ghost use Rattle.imap_commands.specs.Expunging.{uid_expunge_tells};
 ghost use Rattle.imap_commands.specs.Fetching.{fetch_tells};
 ghost use Rattle.imap_commands.specs.Searching.{SearchTells};
-ghost use Rattle.imap_syntax.specs.declared.search.SearchOption.{SearchOption};
-ghost use Rattle.imap_syntax.specs.declared.search.SearchStep.{SearchStep};
-ghost use Rattle.imap_query.specs.Keys.{IsKey};
 ghost use Rattle.imap_commands.specs.Storing.{store_tells};
-ghost use Rattle.imap_syntax.specs.declared.store.StoreMode.{StoreMode};
-ghost use Rattle.imap_types.specs.declared.flags.Flags.{Flags};
 ghost use Rattle.imap_syntax.specs.Commands.{IsSpelled};
 ghost use Rattle.imap_syntax.specs.declared.command.Tagged.{Tagged as Asked};
-ghost use Rattle.imap_syntax.specs.declared.fetch.FetchItem.{FetchItem};
 ghost use Rattle.imap_types.specs.declared.sequence_set.SequenceRange.{SequenceRange};
 ghost use Rattle.imap_commands.specs.Printing.{AreAsMany, AreNonzeroMarks, AreShowable, AreTellable, IsNumbered, IsAnswerable, IsPrintableTelling};
-ghost use Rattle.imap_commands.specs.Selecting.{select_tells};
+ghost use Rattle.imap_commands.specs.Selecting.{SelectTells};
 ghost use Rattle.imap_query.specs.declared.mailbox_status.Marks.{Marks};
 ghost use Rattle.mail_listing.specs.Listed.{Listed};
 ghost use Rattle.session_view.specs.Replay.{replayed};
@@ -35,8 +30,8 @@ ghost use Rattle.imap_answers.specs.declared.answer.Answer.{Answer};
 
 /// What SELECT and EXAMINE tell.
 pub fn select_is_printable()
-    ensures { (was_selected read_only : Bool) (name : List ℕ) (marks : Marks) (rows : List Listed) → IsFolded name → AreNonzeroMarks marks → AreShowable rows
-        → IsPrintableTelling (select_tells was_selected read_only name marks rows) }
+    ensures { (was_selected read_only : Bool) (name : List ℕ) (marks : Marks) (rows : List Listed) (told : Telling) → IsFolded name → AreNonzeroMarks marks → AreShowable rows
+        → SelectTells was_selected read_only name marks rows told → IsPrintableTelling told }
 {}
 
 /// Whatever is replayed, and synced, a view keeps ascending UIDs in 32 bits.
@@ -47,19 +42,18 @@ pub fn views_stay_numbered()
 
 /// What FETCH tells, where the listing after it can be shown.
 pub fn fetch_is_printable()
-    ensures { (before after : List Listed) (view : List Entry) (read_only condstore by_uid : Bool) (set : List SequenceRange) (items : List FetchItem) (changed_since : Option ℕ)
-        → AreShowable after → IsNumbered view → AreTellable items → IsPrintableTelling (fetch_tells before after view read_only condstore by_uid set items changed_since) }
+    ensures { (mailbox : OpenMailbox) (after : List Listed) (condstore : Bool) (asked : FetchAsked)
+        → AreShowable after → IsNumbered mailbox.view → AreTellable asked.items → IsPrintableTelling (fetch_tells mailbox after condstore asked) }
 {}
 
 /// What STORE tells, where the listing after it can be shown.
 pub fn store_is_printable()
-    ensures { (before after : List Listed) (view : List Entry) (condstore by_uid : Bool) (set : List SequenceRange) (since : Option ℕ) (mode : StoreMode) (silent : Bool) (given : Flags)
-        → AreShowable after → IsNumbered view → IsPrintableTelling (store_tells before after view condstore by_uid set since mode silent given) }
+    ensures { (mailbox : OpenMailbox) (after : List Listed) (condstore : Bool) (asked : StoreAsked) → AreShowable after → IsNumbered mailbox.view → IsPrintableTelling (store_tells mailbox after condstore asked) }
 {}
 
 /// What UID EXPUNGE tells.
 pub fn uid_expunge_is_printable()
-    ensures { (before : List Listed) (view : List Entry) (set : List SequenceRange) → IsPrintableTelling (uid_expunge_tells before view set) }
+    ensures { (mailbox : OpenMailbox) (uids : List SequenceRange) → IsPrintableTelling (uid_expunge_tells mailbox uids) }
 {}
 
 /// What a sync sends: the messages that are gone, how many there are then, and the flags that changed.
@@ -88,18 +82,18 @@ pub fn constant_answers_are_printable()
     ensures idle { IsPrintableTelling idle_tells }
 {}
 
-/// What SEARCH tells, where its steps are a key's.
+/// What SEARCH tells.
 pub fn search_is_printable()
-    ensures { (rows : List Listed) (view : List Entry) (tag : List ℕ) (by_uid : Bool) (options : List SearchOption) (steps : List SearchStep) (told : Telling)
-        → IsTag tag → IsKey steps → AreShowable rows → IsNumbered view → SearchTells rows view tag by_uid options steps told → IsPrintableTelling told }
+    ensures { (mailbox : OpenMailbox) (tag : List ℕ) (asked : SearchAsked) (told : Telling)
+        → IsTag tag → AreShowable mailbox.rows → IsNumbered mailbox.view → SearchTells mailbox tag asked told → IsPrintableTelling told }
 {}
 
 /// What COPY and MOVE tell, where as many messages came into the destination as they copy.
 pub fn copies_are_printable()
-    ensures copied { (before : List Listed) (view : List Entry) (by_uid : Bool) (set : List SequenceRange) (uidvalidity uidnext : ℕ) (landed : List Listed)
-        → IsNumbered view → IsNonzero uidvalidity → AreShowable landed → AreAsMany before view by_uid set uidnext landed → IsPrintableTelling (copy_tells before view by_uid set uidvalidity uidnext landed) }
-    ensures moved { (before : List Listed) (view : List Entry) (by_uid : Bool) (set : List SequenceRange) (uidvalidity uidnext : ℕ) (landed : List Listed)
-        → IsNumbered view → IsNonzero uidvalidity → AreShowable landed → AreAsMany before view by_uid set uidnext landed → IsPrintableTelling (move_tells before view by_uid set uidvalidity uidnext landed) }
+    ensures copied { (mailbox : OpenMailbox) (asked : CopyAsked) (landing : Landing)
+        → IsNumbered mailbox.view → IsNonzero landing.uidvalidity → AreShowable landing.rows → AreAsMany mailbox asked landing → IsPrintableTelling (copy_tells mailbox asked landing) }
+    ensures moved { (mailbox : OpenMailbox) (asked : CopyAsked) (landing : Landing)
+        → IsNumbered mailbox.view → IsNonzero landing.uidvalidity → AreShowable landing.rows → AreAsMany mailbox asked landing → IsPrintableTelling (move_tells mailbox asked landing) }
 {}
 
 /// What APPEND tells.

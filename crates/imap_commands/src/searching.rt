@@ -4,15 +4,16 @@ ghost use Rattle.std.specs.Prelude.{◌≡◌, IfOk};
 ghost use Rattle.std.specs.List.{list_all};
 ghost use Rattle.session_view.specs.Views.{AreRising};
 ghost use Rattle.imap_commands.specs.Gives.{Gives};
-ghost use Rattle.imap_commands.specs.Searching.{SearchTells, search_wants, shown_from, step_is_in_range, test_is_in_range};
+ghost use Rattle.imap_commands.specs.Searching.{Finds, SearchTells, search_wants, shown_from, step_is_in_range, test_is_in_range};
 
+use crate::asked::{OpenMailbox, SearchAsked};
+use crate::asking::one_answer;
 use crate::telling::Telling;
 use crdt_ops::Kind;
-use imap_answers::{Answer, Refusal};
+use imap_answers::{Answer, Refusal, SearchResults};
 use imap_query::{Shown, search};
-use imap_syntax::{SearchOption, SearchStep, SearchTest};
+use imap_syntax::{SearchStep, SearchTest};
 use imap_types::Octets;
-use mail_listing::Rows;
 use session_view::{Entry, View, count_of};
 use std::alloc::{AllocError, Global};
 
@@ -55,29 +56,45 @@ fn test_is_in_range(view: &View, test: &SearchTest) -> bool
     }
 }
 
-/// What SEARCH tells: what `imap_query::search` says of the view's messages that are there. Of steps that are no key nothing is promised.
-/// `Err` where there is no memory.
+/// What SEARCH tells: what `imap_query::search` says of the view's messages that are there. `Err` where there is no memory.
 pub fn search_tells(
     alloc: Global,
-    rows: &Rows<'_>,
-    view: &View,
+    mailbox: &OpenMailbox<'_>,
     tag: &Octets,
-    by_uid: bool,
-    options: &[SearchOption],
-    steps: &[SearchStep],
+    asked: &SearchAsked<'_>,
 ) -> Result<Telling, AllocError>
-    ensures { IfOk result (λ told. SearchTells rows.now view.now.entries tag.now by_uid options.now steps.now told) }
+    ensures { IfOk result (λ told. SearchTells mailbox.now tag.now asked.now told) }
 {
-    let shown = all_shown(alloc, view.entries())?;
-    let results = search(alloc, &shown, rows, by_uid, steps, options)?;
     let tag = tag.copy(alloc)?;
-    let mut own = Vec::new(alloc);
-    own.push(Answer::Search {
-        tag,
-        by_uid,
-        results,
-    })?;
-    Ok(Telling::only(alloc, own))
+    let results = found(alloc, mailbox, asked)?;
+    one_answer(
+        alloc,
+        Answer::Search {
+            tag,
+            by_uid: asked.by_uid,
+            results,
+        },
+    )
+}
+
+/// What SEARCH finds.
+fn found(
+    alloc: Global,
+    mailbox: &OpenMailbox<'_>,
+    asked: &SearchAsked<'_>,
+) -> Result<SearchResults, AllocError>
+    ensures { IfOk result (λ results. Finds mailbox.now asked.now results) }
+{
+    let shown = all_shown(alloc, mailbox.view.entries())?;
+    let steps = asked.steps.as_slice();
+    search(
+        alloc,
+        &shown,
+        &mailbox.rows,
+        asked.by_uid,
+        steps,
+        asked.options,
+    )
 }
 
 /// A view's messages as queries see them.

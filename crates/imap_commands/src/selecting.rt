@@ -1,12 +1,14 @@
 //! SELECT and EXAMINE.
 
 ghost use Rattle.std.specs.Prelude.{◌≡◌, ◌++◌, ◌+◌, ◌∷◌, [], false, drop, length, IfOk, OnOk};
+ghost use Rattle.std.specs.List.{fold};
 ghost use Rattle.imap_answers.specs.declared.answer.Answer.TheVariants.{Exists as ExistsAnswer, Flags as FlagsAnswer, List as ListAnswer, Tell as TellAnswer};
 ghost use Rattle.imap_answers.specs.declared.codes.Notice.TheVariants.{HighestModSeq as HighestModSeqNotice, PermanentFlags as PermanentFlagsNotice, UidNext as UidNextNotice, UidValidity as UidValidityNotice};
 ghost use Rattle.imap_answers.specs.declared.mailbox.MailboxState.TheVariants.{There};
+ghost use Rattle.imap_types.specs.Keywords.{lowered, with_text};
 ghost use Rattle.message_versions.specs.Unions.{united};
 ghost use Rattle.imap_commands.specs.Gives.{Gives};
-ghost use Rattle.imap_commands.specs.Selecting.{access_code, flags_in_use, listed_keywords, mailbox_answers, permanent_flags, select_tells, select_wants, with_keywords, with_rows};
+ghost use Rattle.imap_commands.specs.Selecting.{AreBorne, SelectTells, access_code, flags_in_use, mailbox_answers, permanent_flags, select_tells, select_wants};
 
 use crate::telling::Telling;
 use crdt_ops::Kind;
@@ -39,7 +41,23 @@ pub fn select_tells(
     marks: Marks,
     rows: &Rows<'_>,
 ) -> Result<Telling, AllocError>
-    ensures { IfOk result (λ told. told ≡ select_tells was_selected read_only name.now marks rows.now) }
+    ensures { IfOk result (λ told. SelectTells was_selected read_only name.now marks rows.now told) }
+{
+    let keywords = listed_keywords(alloc, rows)?;
+    told_of(alloc, was_selected, read_only, name, marks, rows, keywords)
+}
+
+/// What is told where the messages bear these keywords.
+fn told_of(
+    alloc: Global,
+    was_selected: bool,
+    read_only: bool,
+    name: &Name,
+    marks: Marks,
+    rows: &Rows<'_>,
+    keywords: Keywords,
+) -> Result<Telling, AllocError>
+    ensures { IfOk result (λ told. told ≡ select_tells was_selected read_only name.now marks rows.now keywords) }
 {
     let mut own = Vec::new(alloc);
     if was_selected {
@@ -47,7 +65,15 @@ pub fn select_tells(
             notice: Notice::Closed,
         })?;
     }
-    push_mailbox(alloc, read_only, name, marks, rows, &mut own)?;
+    push_mailbox(
+        alloc,
+        read_only,
+        name,
+        marks,
+        rows.count(),
+        keywords,
+        &mut own,
+    )?;
     Ok(Telling::new(own, Vec::new(alloc), Some(access_code(read_only))))
 }
 
@@ -66,14 +92,21 @@ fn push_mailbox(
     read_only: bool,
     name: &Name,
     marks: Marks,
-    rows: &Rows<'_>,
+    count: u32,
+    keywords: Keywords,
     answers: &mut Vec<Answer>,
 ) -> Result<(), AllocError>
-    ensures { OnOk result (answers.new.items ≡ answers.old.items ++ mailbox_answers read_only name.now marks rows.now) }
+    ensures { OnOk result (answers.new.items ≡ answers.old.items ++ mailbox_answers read_only name.now marks count (flags_in_use keywords)) }
 {
-    let flags = flags_in_use(alloc, rows)?;
-    let permanent = permanent_flags(alloc, read_only, &flags)?;
-    push_contents(alloc, flags, name, rows, answers)?;
+    let flags = flags_in_use(keywords);
+    let permanent = match permanent_flags(alloc, read_only, &flags) {
+        Ok(permanent) => permanent,
+        Err(error) => {
+            drop(flags);
+            return Err(error);
+        }
+    };
+    push_contents(alloc, flags, name, count, answers)?;
     push_uids(marks, answers)?;
     push_changes(permanent, marks, answers)
 }
@@ -83,16 +116,14 @@ fn push_contents(
     alloc: Global,
     flags: Flags,
     name: &Name,
-    rows: &Rows<'_>,
+    count: u32,
     answers: &mut Vec<Answer>,
 ) -> Result<(), AllocError>
-    ensures { OnOk result (answers.new.items ≡ answers.old.items ++ FlagsAnswer flags ∷ ExistsAnswer (length rows.now) ∷ ListAnswer name.now There false ∷ []) }
+    ensures { OnOk result (answers.new.items ≡ answers.old.items ++ FlagsAnswer flags ∷ ExistsAnswer count ∷ ListAnswer name.now There false ∷ []) }
 {
     let name = name.copy(alloc)?;
     answers.push(Answer::Flags { flags })?;
-    answers.push(Answer::Exists {
-        count: rows.count(),
-    })?;
+    answers.push(Answer::Exists { count })?;
     answers.push(Answer::List {
         name,
         state: MailboxState::There,
@@ -149,23 +180,23 @@ fn permanent_flags(
     Ok(Some(flags.copy(alloc)?))
 }
 
-fn flags_in_use(alloc: Global, rows: &Rows<'_>) -> Result<Flags, AllocError>
-    ensures { IfOk result (λ flags. flags ≡ flags_in_use rows.now) }
+/// The system flags, and these keywords.
+fn flags_in_use(keywords: Keywords) -> Flags
+    ensures { result ≡ flags_in_use keywords }
 {
-    let keywords = listed_keywords(alloc, rows)?;
-    Ok(Flags {
+    Flags {
         answered: true,
         flagged: true,
         deleted: true,
         seen: true,
         draft: true,
         keywords,
-    })
+    }
 }
 
 /// The keywords of all messages. Each is looked up among those found so far.
 fn listed_keywords(alloc: Global, rows: &Rows<'_>) -> Result<Keywords, AllocError>
-    ensures { IfOk result (λ keywords. keywords ≡ listed_keywords rows.now) }
+    ensures { IfOk result (λ keywords. AreBorne rows.now keywords) }
 {
     let mut keywords = Keywords::empty(alloc);
     for place in 0..rows.count() {
@@ -181,7 +212,7 @@ fn add_keywords_at(
     place: u32,
     keywords: &mut Keywords,
 ) -> Result<(), AllocError>
-    ensures { OnOk result (with_rows (drop (place + 1) rows.now) keywords.new ≡ with_rows (drop place rows.now) keywords.old) }
+    ensures { OnOk result (fold (λ done row. fold (λ done word. with_text (lowered word) done) done row.flags.keywords) keywords.new (drop (place + 1) rows.now) ≡ fold (λ done row. fold (λ done word. with_text (lowered word) done) done row.flags.keywords) keywords.old (drop place rows.now)) }
 {
     match rows.row_at(place as usize) {
         Some(row) => add_keywords_of(alloc, &row.versions, keywords),
@@ -195,14 +226,14 @@ fn add_keywords_of(
     versions: &Versions<'_>,
     keywords: &mut Keywords,
 ) -> Result<(), AllocError>
-    ensures { OnOk result (keywords.new ≡ with_keywords (united versions.now.list.now).keywords keywords.old) }
+    ensures { OnOk result (keywords.new ≡ fold (λ done word. with_text (lowered word) done) keywords.old (united versions.now.list.now).keywords) }
 {
     let flags = versions.flags(alloc)?;
     add_keywords(alloc, flags.keywords.as_slice(), keywords)
 }
 
 fn add_keywords(alloc: Global, words: &[Octets], keywords: &mut Keywords) -> Result<(), AllocError>
-    ensures { OnOk result (keywords.new ≡ with_keywords words.now keywords.old) }
+    ensures { OnOk result (keywords.new ≡ fold (λ done word. with_text (lowered word) done) keywords.old words.now) }
 {
     for word in words {
         keywords.insert(alloc, word.as_bytes())?;

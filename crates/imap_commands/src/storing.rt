@@ -13,6 +13,7 @@ ghost use Rattle.imap_commands.specs.Named.{names_of};
 ghost use Rattle.imap_commands.specs.Storing.{has_unlawful_keyword, is_refused, is_taken, is_unchanged, modified_code, silent_at, silents_of, store_of, store_tells, store_wants, stored_answer, stored_answers, stores_of, those_refused, those_taken};
 ghost use Rattle.imap_commands.specs.Told.{entry_at, gone_code, message_at};
 
+use crate::asked::{OpenMailbox, StoreAsked};
 use crate::changing::changed;
 use crate::limits::within_limits;
 use crate::named::{named, names_of, resolved, set_of};
@@ -20,39 +21,32 @@ use crate::telling::{Telling, entry_at, gone_code, message_at};
 use crate::versions::old_ids;
 use crdt_ops::Kind;
 use imap_answers::{Answer, Code, FetchItems, Refusal, Sections};
-use imap_syntax::StoreMode;
-use imap_types::{Flags, Name, Octets, SequenceSet, is_lawful_keyword};
+use imap_types::{Flags, Octets, is_lawful_keyword};
 use mail_listing::{Row, Rows};
 use message_versions::Versions;
-use session_view::{Entry, Silent, View};
+use session_view::{Entry, Silent};
 use std::alloc::{AllocError, Global};
 
-/// What STORE issues in this folder, or the first reason against it: `NoSuchMessage`, `ReadOnly`, `KeywordTooLong` (a keyword that no
+/// What STORE issues in the mailbox, or the first reason against it: `NoSuchMessage`, `ReadOnly`, `KeywordTooLong` (a keyword that no
 /// message may bear), `TooManyKeywords` (more than 32 on a message that it changes), `TooManyVersions` (more than 64 of such a message).
 /// `NoMemory` may come in place of any answer. It looks each named message up twice, by binary search.
 pub fn store_wants(
     alloc: Global,
-    folder: &Name,
-    before: &Rows<'_>,
-    view: &View,
-    read_only: bool,
-    by_uid: bool,
-    set: &SequenceSet,
-    unchanged_since: Option<u64>,
-    mode: StoreMode,
-    given: &Flags,
+    mailbox: &OpenMailbox<'_>,
+    asked: &StoreAsked<'_>,
 ) -> Result<Vec<Kind>, Refusal>
-    ensures { Gives (λ kinds. kinds.items) result (store_wants folder.now before.now view.now.entries read_only by_uid set.now unchanged_since mode given.now) }
+    ensures { Gives (λ kinds. kinds.items) result (store_wants mailbox.now asked.now) }
 {
-    let numbers = named(alloc, by_uid, set, view)?;
-    if read_only {
+    let numbers = named(alloc, asked.by_uid, asked.messages, mailbox.view)?;
+    if mailbox.read_only {
         return Err(Refusal::ReadOnly);
     }
-    if has_unlawful_keyword(given) {
+    if has_unlawful_keyword(asked.flags) {
         return Err(Refusal::KeywordTooLong);
     }
-    let taken = those_taken(alloc, before, view.entries(), unchanged_since, &numbers)?;
-    let kinds = stores_of(alloc, folder, before, view.entries(), &taken, mode, given)?;
+    let view = mailbox.view.entries();
+    let taken = those_taken(alloc, &mailbox.rows, view, asked.unchanged_since, &numbers)?;
+    let kinds = stores_of(alloc, mailbox, asked, &taken)?;
     within_limits(kinds)
 }
 
@@ -142,20 +136,15 @@ fn those_refused(
 /// The Stores of those of the messages with these numbers whose flags change.
 fn stores_of(
     alloc: Global,
-    folder: &Name,
-    before: &Rows<'_>,
-    view: &[Entry],
+    mailbox: &OpenMailbox<'_>,
+    asked: &StoreAsked<'_>,
     numbers: &[u32],
-    mode: StoreMode,
-    given: &Flags,
 ) -> Result<Vec<Kind>, AllocError>
-    ensures { IfOk result (λ kinds. kinds.items ≡ stores_of folder.now before.now view.now numbers.now mode given.now) }
+    ensures { IfOk result (λ kinds. kinds.items ≡ stores_of mailbox.now asked.now numbers.now) }
 {
     let mut kinds = Vec::new(alloc);
     for number in numbers {
-        push_store(
-            alloc, folder, before, view, *number, mode, given, &mut kinds,
-        )?;
+        push_store(alloc, mailbox, asked, *number, &mut kinds)?;
     }
     Ok(kinds)
 }
@@ -163,26 +152,23 @@ fn stores_of(
 /// Adds the Store of a message, where its flags change: it takes the place of all its versions.
 fn push_store(
     alloc: Global,
-    folder: &Name,
-    before: &Rows<'_>,
-    view: &[Entry],
+    mailbox: &OpenMailbox<'_>,
+    asked: &StoreAsked<'_>,
     number: u32,
-    mode: StoreMode,
-    given: &Flags,
     kinds: &mut Vec<Kind>,
 ) -> Result<(), AllocError>
-    ensures { OnOk result (kinds.new.items ≡ kinds.old.items ++ store_of folder.now mode given.now (message_at before.now view.now number)) }
+    ensures { OnOk result (kinds.new.items ≡ kinds.old.items ++ store_of mailbox.now.name asked.now.action.mode asked.now.flags (message_at mailbox.now.rows mailbox.now.view number)) }
 {
-    let Some(row) = message_at(before, view, number) else {
+    let Some(row) = mailbox.message_at(number) else {
         return Ok(());
     };
     let old = row.versions.flags(alloc)?;
-    let flags = changed(alloc, mode, &old, given)?;
+    let flags = changed(alloc, asked.action.mode, &old, asked.flags)?;
     if are_same(&flags, &old) {
         return Ok(());
     }
     kinds.push(Kind::Store {
-        folder: folder.copy(alloc)?,
+        folder: mailbox.name.copy(alloc)?,
         flags,
         olds: old_ids(alloc, &row.versions)?,
         origin: row.origin,
@@ -197,40 +183,26 @@ fn are_same(flags: &Flags, others: &Flags) -> bool
     flags.same(others)
 }
 
-/// What STORE tells, by the listings before and after it: FETCH of each message that it takes, the flags that the session takes where it
+/// What STORE tells, by the mailbox before it, the listing after it and whether CONDSTORE is on: FETCH of each message that it takes, the flags that the session takes where it
 /// is silent, and which messages UNCHANGEDSINCE refused or that some are gone. Of a set that can't be resolved nothing is promised. `Err`
 /// where there is no memory. It looks each named message up four times at most, by binary search.
 pub fn store_tells(
     alloc: Global,
-    before: &Rows<'_>,
+    mailbox: &OpenMailbox<'_>,
     after: &Rows<'_>,
-    view: &View,
     condstore: bool,
-    by_uid: bool,
-    set: &SequenceSet,
-    unchanged_since: Option<u64>,
-    mode: StoreMode,
-    silent: bool,
-    given: &Flags,
+    asked: &StoreAsked<'_>,
 ) -> Result<Telling, AllocError>
-    ensures { IfOk result (λ told. told ≡ store_tells before.now after.now view.now.entries condstore by_uid set.now unchanged_since mode silent given.now) }
+    ensures { IfOk result (λ told. told ≡ store_tells mailbox.now after.now condstore asked.now) }
 {
-    let numbers = resolved(alloc, by_uid, set, view)?;
-    let view = view.entries();
-    let refused = those_refused(alloc, before, view, unchanged_since, &numbers)?;
-    let code = store_code(alloc, before, view, by_uid, &refused, &numbers)?;
-    let taken = those_taken(alloc, before, view, unchanged_since, &numbers)?;
-    let own = stored_answers(
-        alloc,
-        after,
-        view,
-        condstore,
-        by_uid,
-        unchanged_since,
-        silent,
-        &taken,
-    )?;
-    let silent = silents_of(alloc, view, mode, silent, given, &taken)?;
+    let numbers = resolved(alloc, asked.by_uid, asked.messages, mailbox.view)?;
+    let before = &mailbox.rows;
+    let view = mailbox.view.entries();
+    let refused = those_refused(alloc, before, view, asked.unchanged_since, &numbers)?;
+    let code = store_code(alloc, before, view, asked.by_uid, &refused, &numbers)?;
+    let taken = those_taken(alloc, before, view, asked.unchanged_since, &numbers)?;
+    let own = stored_answers(alloc, after, view, condstore, asked, &taken)?;
+    let silent = silents_of(alloc, view, asked, &taken)?;
     Ok(Telling::new(own, silent, code))
 }
 
@@ -261,18 +233,15 @@ fn stored_answers(
     after: &Rows<'_>,
     view: &[Entry],
     condstore: bool,
-    by_uid: bool,
-    since: Option<u64>,
-    silent: bool,
+    asked: &StoreAsked<'_>,
     taken: &[u32],
 ) -> Result<Vec<Answer>, AllocError>
-    ensures { IfOk result (λ answers. answers.items ≡ stored_answers after.now view.now condstore by_uid since silent taken.now) }
+    ensures { IfOk result (λ answers. answers.items ≡ stored_answers after.now view.now condstore asked.now taken.now) }
 {
-    if is_untold(silent, since) {
+    if is_untold(asked.action.silent, asked.unchanged_since) {
         return Ok(Vec::new(alloc));
     }
-    let with_modseq = since.is_some() || condstore;
-    answers_of(alloc, after, view, by_uid, !silent, with_modseq, taken)
+    answers_of(alloc, after, view, condstore, asked, taken)
 }
 
 /// Whether nothing is told of the messages.
@@ -287,25 +256,15 @@ fn answers_of(
     alloc: Global,
     after: &Rows<'_>,
     view: &[Entry],
-    by_uid: bool,
-    with_flags: bool,
-    with_modseq: bool,
+    condstore: bool,
+    asked: &StoreAsked<'_>,
     taken: &[u32],
 ) -> Result<Vec<Answer>, AllocError>
-    ensures { IfOk result (λ answers. answers.items ≡ flat_map (λ n. stored_answer by_uid with_flags with_modseq n (message_at after.now view.now n)) taken.now) }
+    ensures { IfOk result (λ answers. answers.items ≡ flat_map (λ n. stored_answer condstore asked.now n (message_at after.now view.now n)) taken.now) }
 {
     let mut answers = Vec::new(alloc);
     for number in taken {
-        push_answer(
-            alloc,
-            after,
-            view,
-            by_uid,
-            with_flags,
-            with_modseq,
-            *number,
-            &mut answers,
-        )?;
+        push_answer(alloc, after, view, condstore, asked, *number, &mut answers)?;
     }
     Ok(answers)
 }
@@ -315,22 +274,22 @@ fn push_answer(
     alloc: Global,
     after: &Rows<'_>,
     view: &[Entry],
-    by_uid: bool,
-    with_flags: bool,
-    with_modseq: bool,
+    condstore: bool,
+    asked: &StoreAsked<'_>,
     number: u32,
     answers: &mut Vec<Answer>,
 ) -> Result<(), AllocError>
-    ensures { OnOk result (answers.new.items ≡ answers.old.items ++ stored_answer by_uid with_flags with_modseq number (message_at after.now view.now number)) }
+    ensures { OnOk result (answers.new.items ≡ answers.old.items ++ stored_answer condstore asked.now number (message_at after.now view.now number)) }
 {
     let Some(row) = message_at(after, view, number) else {
         return Ok(());
     };
-    let flags = flags_where(alloc, with_flags, &row.versions)?;
+    let flags = flags_where(alloc, !asked.action.silent, &row.versions)?;
+    let with_modseq = asked.unchanged_since.is_some() || condstore;
     answers.push(Answer::Fetch {
         number,
         items: FetchItems {
-            uid: by_uid.then_some(row.uid),
+            uid: asked.by_uid.then_some(row.uid),
             flags,
             date: None,
             size: None,
@@ -359,31 +318,28 @@ fn flags_where(
 fn silents_of(
     alloc: Global,
     view: &[Entry],
-    mode: StoreMode,
-    silent: bool,
-    given: &Flags,
+    asked: &StoreAsked<'_>,
     taken: &[u32],
 ) -> Result<Vec<Silent>, AllocError>
-    ensures { IfOk result (λ silents. silents.items ≡ silents_of view.now mode silent given.now taken.now) }
+    ensures { IfOk result (λ silents. silents.items ≡ silents_of view.now asked.now taken.now) }
 {
-    if !silent {
+    if !asked.action.silent {
         return Ok(Vec::new(alloc));
     }
-    silents(alloc, view, mode, given, taken)
+    silents(alloc, view, asked, taken)
 }
 
 fn silents(
     alloc: Global,
     view: &[Entry],
-    mode: StoreMode,
-    given: &Flags,
+    asked: &StoreAsked<'_>,
     taken: &[u32],
 ) -> Result<Vec<Silent>, AllocError>
-    ensures { IfOk result (λ silents. silents.items ≡ flat_map (λ n. silent_at mode given.now n (entry_at view.now n)) taken.now) }
+    ensures { IfOk result (λ silents. silents.items ≡ flat_map (λ n. silent_at asked.now.action.mode asked.now.flags n (entry_at view.now n)) taken.now) }
 {
     let mut silents = Vec::new(alloc);
     for number in taken {
-        push_silent(alloc, view, mode, given, *number, &mut silents)?;
+        push_silent(alloc, view, asked, *number, &mut silents)?;
     }
     Ok(silents)
 }
@@ -392,19 +348,18 @@ fn silents(
 fn push_silent(
     alloc: Global,
     view: &[Entry],
-    mode: StoreMode,
-    given: &Flags,
+    asked: &StoreAsked<'_>,
     number: u32,
     silents: &mut Vec<Silent>,
 ) -> Result<(), AllocError>
-    ensures { OnOk result (silents.new.items ≡ silents.old.items ++ silent_at mode given.now number (entry_at view.now number)) }
+    ensures { OnOk result (silents.new.items ≡ silents.old.items ++ silent_at asked.now.action.mode asked.now.flags number (entry_at view.now number)) }
 {
     let Some(entry) = entry_at(view, number) else {
         return Ok(());
     };
     silents.push(Silent {
         number,
-        flags: changed(alloc, mode, &entry.flags, given)?,
+        flags: changed(alloc, asked.action.mode, &entry.flags, asked.flags)?,
     })?;
     Ok(())
 }

@@ -80,7 +80,10 @@ impl Telling {
 pub fn entry_at(view: &[Entry], number: u32) -> Option<&Entry>
     ensures { option_copied result ≡ entry_at view.now number }
 {
-    view.get((number as usize).saturating_sub(1))
+    if number == 0 {
+        return None;
+    }
+    view.get(number as usize - 1)
 }
 
 /// What the listing has for the view's message with this number; `None` where it is gone. A binary search.

@@ -1,15 +1,17 @@
 -- What APPEND has behind its word.
 use Rattle.std.proofs.Common.{◌≡◌, ℕ, true, false, List, [], ◌∷◌, Option, Some, None, ap, ◌∙◌, refl, eqb, inl, inr}
 use Rattle.std.proofs.lemmas.Bool.{eqb-true}
+use Rattle.std.specs.Option.{unwrap_or}
 use Rattle.imap_types.specs.declared.flags.Flags.{Flags}
 use Rattle.imap_syntax.specs.Dates.{date_time}
 use Rattle.imap_syntax.specs.Languages.{◌⌢◌, exactly, sp, optional}
-use Rattle.imap_syntax.specs.MessageFlags.{append_flags, flag_group, flags_given}
+use Rattle.imap_syntax.specs.MessageFlags.{append_flags, flag_group}
 use Rattle.imap_grammar.specs.Reading.{literal_at, peeks}
-use Rattle.imap_grammar.specs.CommandReading.{append_date_at, append_flags_at, append_parts_at, literal_text_at}
+use Rattle.imap_grammar.specs.CommandReading.{append_date_at, append_flags_at, append_parts_at, flags_given, literal_text_at}
 use Rattle.imap_syntax.specs.Strings.{begins, literal, mailbox}
 use Rattle.imap_grammar.proofs.DateTimeLaws.{date_begins, date_reads}
 use Rattle.imap_grammar.proofs.FlagLaws.{group_reads}
+use Rattle.imap_grammar.proofs.FlagSets.{written_are, written_is}
 use Rattle.imap_grammar.proofs.Fronts.{Closes, Ends, Front, Reads, both_reads, chosen, exactly_is, front_begins, made_reads, optional_ends, parted, peeked_reads, peeks_no, sp_ends, spaced_reads}
 use Rattle.imap_grammar.proofs.Texts.{literal_again, literal_takes, mailbox_reads}
 
@@ -41,7 +43,7 @@ append_date_reads = peeked_reads 34 (date_reads (NoPeek 34)) date_begins (NoPeek
 append_flags_reads : Reads append_flags_at append_flags (NoPeek 40)
 append_flags_reads =
     made_reads (peeked_reads 40 (group_reads (NoPeek 40)) (λ value octets rest f. front_begins 40 _ octets rest f) (NoPeek 40) (λ rest s. s) (λ rest s. s))
-    flags_given append_flags (λ value text h. (value, h, refl)) (λ it text h. (h.0, h.1, h.2))
+    flags_given append_flags (λ value text h. (value, h, written_are (unwrap_or value []))) (λ it text h. (h.0, h.1, written_is (unwrap_or h.0 []) it h.2))
 
 first_differs : (octets : List ℕ) → begins 34 octets ≡ true → begins 40 octets ≡ false
 first_differs [] h = cc

@@ -5,8 +5,8 @@ use Rattle.std.proofs.lemmas.Bool.Decides.{nat_tests}
 use Rattle.std.specs.List.{list_all}
 use Rattle.imap_types.specs.Keywords.{lowered, is_atom_octet}
 use Rattle.imap_syntax.specs.Languages.{exactly, sp, word, listed, maybe_listed}
-use Rattle.imap_syntax.specs.MessageFlags.{flag, flag_group, flags_of, no_flags, stored, stored_texts}
-use Rattle.imap_grammar.specs.Reading.{flag_at, flag_group_at, listed_at, made, maybe_flags_at, named, named_at, run_at, stored_at, stored_texts_at, ◌>>=◌}
+use Rattle.imap_syntax.specs.MessageFlags.{flag, flag_group, stored, stored_texts}
+use Rattle.imap_grammar.specs.Reading.{flag_at, flag_group_at, flags_of, listed_at, made, maybe_flags_at, named, named_at, no_flags, run_at, stored_at, stored_texts_at, ◌>>=◌}
 use Rattle.imap_syntax.specs.Strings.{begins, is_in, run}
 use Rattle.imap_syntax.specs.Words.{system_flags, system_word}
 use Rattle.imap_syntax.specs.declared.class.Class.TheVariants.{Atom, Item}
@@ -14,6 +14,7 @@ use Rattle.imap_syntax.specs.declared.flags.Flag.{Flag}
 use Rattle.imap_syntax.specs.declared.flags.Flag.TheVariants.{System, Keyword}
 use Rattle.imap_syntax.specs.declared.flags.SystemFlag.{SystemFlag}
 use Rattle.imap_syntax.specs.declared.flags.SystemFlag.TheVariants as system
+use Rattle.imap_grammar.proofs.FlagSets.{written_are, written_is}
 use Rattle.imap_grammar.proofs.Fronts.{Closes, Ends, Front, Reads, Shut, bind_some, chosen, closes_ends, closes_no_space, enclosed_reads, exactly_is, front_begins, joined, made_reads, parted, shut_closes, some_is, stopping}
 use Rattle.imap_grammar.proofs.Lists.{listed_reads}
 use Rattle.imap_grammar.proofs.Spans.{run_reads}
@@ -141,4 +142,4 @@ texts_reads : Reads stored_texts_at stored_texts Closes
 texts_reads = record { takes = texts_takes; again = λ octets rest values f s. texts_again values octets rest f s }
 
 pub stored_reads : Reads stored_at stored Closes
-stored_reads = made_reads texts_reads (flags_of no_flags) stored (λ value text h. (value, h, refl)) (λ it text h. (h.0, h.1, h.2))
+stored_reads = made_reads texts_reads (flags_of no_flags) stored (λ value text h. (value, h, written_are value)) (λ it text h. (h.0, h.1, written_is h.0 it h.2))

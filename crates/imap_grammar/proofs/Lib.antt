@@ -4,6 +4,7 @@ pub mod DateLaws
 pub mod DateTimeLaws
 pub mod Digits
 pub mod FlagLaws
+pub mod FlagSets
 pub mod FrameLaws
 pub mod Fronts
 pub mod ItemLaws

@@ -10,6 +10,8 @@ use Rattle.imap_types.specs.Keywords.{lowered}
 use Rattle.imap_syntax.specs.Faults.{begins_in}
 use Rattle.imap_grammar.specs.KeyReading.{below_at, charset_at, charset_name_at, is_charset, keys_at, maybe_options_at, returned_at, returned_group_at, search_parts_at}
 use Rattle.imap_syntax.specs.KeyWords.{key_word, option_word, search_options}
+use Rattle.imap_syntax.proofs.KeyLemmas.{search-key}
+use Rattle.imap_syntax.specs.SearchKeys.{IsKey}
 use Rattle.imap_syntax.specs.Keys.{charset, key_over, key_within, return_options, search_keys, search_option, test}
 use Rattle.imap_syntax.specs.Languages.{◌⌢◌, exactly, sp, word, in_parens, listed, each_behind, maybe_listed}
 use Rattle.imap_grammar.specs.Reading.{after, is_nil, listed_at, named, named_at, parens_at, spaced, span, text_at, ◌>>=◌}
@@ -257,6 +259,10 @@ charset_again octets rest f s = elim f.1 [
       ∙ ap (λ c. cond c (after (32 ∷ []) t.0) None) (known_to name r.2)
       ∙ after_again (32 ∷ []) t.0 rest t.2
 ]
+
+-- what is read are the steps of a key
+pub keys_are : (octets : List ℕ) (x : List SearchStep × List ℕ) → keys_at (below_at 65) octets ≡ Some x → IsKey x.0
+keys_are octets x h = let f = (all_reads (within_reads 64)).takes octets x h in search-key x.0 f.0 f.1
 
 program_reads : Reads (λ octets. charset_at octets >>= keys_at (below_at 65)) (λ steps. charset ⌢ search_keys steps) Closes
 program_reads = record {

@@ -1,10 +1,11 @@
 -- The parser's own steps for commands. Which frame means which command, `IsSpelled` of Commands says; `parse` is held to that.
 use Rattle.std.specs.Prelude.{◌≡◌, ℕ, Bool, true, false, ◌==◌, nat_lt, List, [], ◌∷◌, codes, length, take, drop, Option, Some, None, Result, Err, if◌then◌else◌}
+use Rattle.std.specs.Option.{unwrap_or}
 use Rattle.imap_types.specs.declared.sequence_set.SequenceRange.{SequenceRange}
 use Rattle.imap_types.specs.declared.flags.Flags.{Flags}
 use Rattle.imap_types.specs.DateTimeTests.{is_date_time}
-use Rattle.imap_grammar.specs.Reading.{Gives, after, after_word, before, both, fetched_at, flag_group_at, is_nil, listed_at, literal_at, made, mailbox_at, modifier_at, named, named_at, parens_at, peeked_at, run_at, set_at, spaced, span, stored_at, text_at, zeroed, ◌>>=◌}
-use Rattle.imap_syntax.specs.MessageFlags.{flags_given}
+use Rattle.imap_grammar.specs.Reading.{Gives, after, after_word, before, both, fetched_at, flag_group_at, flags_of, is_nil, listed_at, literal_at, made, mailbox_at, modifier_at, named, named_at, no_flags, parens_at, peeked_at, run_at, set_at, spaced, span, stored_at, text_at, zeroed, ◌>>=◌}
+use Rattle.imap_syntax.specs.declared.flags.Flag.{Flag}
 use Rattle.imap_syntax.specs.declared.fetch.FetchItem.{FetchItem}
 use Rattle.imap_syntax.specs.declared.store.StoreAction.{StoreAction}
 use Rattle.imap_syntax.specs.Strings.{is_in}
@@ -82,6 +83,10 @@ abbrev pub date_time_at : List ℕ → Option (List ℕ × List ℕ)
 date_time_at octets =
     if nat_lt (length octets) 28 then None
     else (if is_date_time (zeroed (take 28 octets)) then Some (zeroed (take 28 octets), drop 28 octets) else None)
+
+-- The flags of a group, or none where there is no group.
+abbrev pub flags_given : Option (List Flag) → Flags
+flags_given given = flags_of no_flags (unwrap_or given [])
 
 abbrev pub append_flags_at : List ℕ → Option (Flags × List ℕ)
 append_flags_at = made flags_given (peeked_at 40 flag_group_at)

@@ -1,7 +1,7 @@
 -- The parser's own steps, production by production. Which text means what, Strings, Sets, Dates, MessageFlags and Items say.
 use Rattle.std.specs.Prelude.{◌≡◌, ℕ, zero, suc, Bool, true, false, ◌||◌, ◌==◌, nat_lt, List, [], ◌∷◌, ◌++◌, codes, length, take, drop, Option, Some, None, Result, Ok, Err, if◌then◌else◌, ◌&&◌, not, pos}
 use Rattle.std.specs.Str.{bytes_eq}
-use Rattle.imap_types.specs.Keywords.{lowered}
+use Rattle.imap_types.specs.Keywords.{lowered, with_text}
 use Rattle.imap_types.specs.Names.{folded_name}
 use Rattle.jiff.specs.Words.{days_in_month}
 use Rattle.imap_types.specs.declared.sequence_set.SequenceBound.{SequenceBound}
@@ -13,7 +13,6 @@ use Rattle.imap_types.specs.declared.section.Section.TheVariants.{Whole, Header,
 use Rattle.imap_types.specs.DateTimes.{month_of}
 use Rattle.imap_types.specs.declared.day.Day.{Day}
 use Rattle.imap_syntax.specs.Items.{fast_items}
-use Rattle.imap_syntax.specs.MessageFlags.{flags_of, no_flags}
 use Rattle.imap_syntax.specs.declared.fetch.FetchItem.{FetchItem}
 use Rattle.imap_syntax.specs.declared.fetch.FetchItem.TheVariants as items
 use Rattle.imap_syntax.specs.declared.fetch.FetchWord.{FetchWord}
@@ -23,6 +22,7 @@ use Rattle.imap_syntax.specs.declared.fetch.SectionWord.{SectionWord}
 use Rattle.imap_syntax.specs.declared.fetch.SectionWord.TheVariants as sections
 use Rattle.imap_syntax.specs.declared.flags.Flag.{Flag}
 use Rattle.imap_syntax.specs.declared.flags.Flag.TheVariants.{System, Keyword}
+use Rattle.imap_syntax.specs.declared.flags.SystemFlag.TheVariants.{Answered, Flagged, Deleted, Seen, Draft}
 use Rattle.imap_syntax.specs.Strings.{begins, is_in, is_quotable, number_of}
 use Rattle.imap_syntax.specs.Words.{fetch_word, fetch_words, section_word, section_words, system_flags, system_word}
 use Rattle.imap_syntax.specs.declared.class.Class.{Class}
@@ -260,6 +260,22 @@ flag_group_at = parens_at maybe_flags_at
 abbrev pub stored_texts_at : List ℕ → Option (List Flag × List ℕ)
 stored_texts_at [] = None
 stored_texts_at (octet ∷ octets) = if octet == 40 then flag_group_at (octet ∷ octets) else listed_at 32 flag_at (octet ∷ octets)
+
+-- No flags, a set of flags with one more, and with all of these.
+abbrev pub no_flags : Flags
+no_flags = record { answered = false; flagged = false; deleted = false; seen = false; draft = false; keywords = [] }
+
+abbrev pub with_flag : Flags → Flag → Flags
+with_flag flags (System Answered) = record flags { answered = true }
+with_flag flags (System Flagged) = record flags { flagged = true }
+with_flag flags (System Deleted) = record flags { deleted = true }
+with_flag flags (System Seen) = record flags { seen = true }
+with_flag flags (System Draft) = record flags { draft = true }
+with_flag flags (Keyword keyword) = record flags { keywords = with_text (lowered keyword) flags.keywords }
+
+abbrev pub flags_of : Flags → List Flag → Flags
+flags_of flags [] = flags
+flags_of flags (one ∷ more) = flags_of (with_flag flags one) more
 
 abbrev pub stored_at : List ℕ → Option (Flags × List ℕ)
 stored_at = made (flags_of no_flags) stored_texts_at

@@ -1,5 +1,5 @@
 ghost use Rattle.std.specs.Prelude.{◌≡◌, length};
-ghost use Rattle.imap_grammar.specs.Reading.{Gives, both, spaced, zeroed};
+ghost use Rattle.imap_grammar.specs.Reading.{Gives, both, literal_at, spaced, zeroed};
 ghost use Rattle.imap_grammar.specs.CommandReading.{append_at, append_date_at, append_flags_at, date_time_at, literal_text_at};
 
 use crate::fault::ParseFault;
@@ -8,7 +8,7 @@ use crate::modifier::{left_out, peeks};
 use crate::scan::space;
 use crate::text::{literal, mailbox};
 use imap_syntax::Command;
-use imap_types::{DateTime, Flags, Octets};
+use imap_types::{DateTime, Flags, Text};
 use std::alloc::Global;
 
 /// The arguments of APPEND (RFC 9051, section 6.3.12).
@@ -37,7 +37,7 @@ pub fn append(alloc: Global, octets: &[u8]) -> Result<(Command, &[u8]), ParseFau
 fn message(
     alloc: Global,
     octets: &[u8],
-) -> Result<((Flags, (Option<DateTime>, Octets)), &[u8]), ParseFault>
+) -> Result<((Flags, (Option<DateTime>, Text)), &[u8]), ParseFault>
     ensures { Gives (λ x. (x.0, x.1.now)) result (both append_flags_at (both append_date_at (spaced literal_text_at)) octets.now) }
 {
     let (flags, rest) = append_flags(alloc, octets)?;
@@ -50,10 +50,7 @@ fn message(
     }
 }
 
-fn dated_text(
-    alloc: Global,
-    octets: &[u8],
-) -> Result<((Option<DateTime>, Octets), &[u8]), ParseFault>
+fn dated_text(alloc: Global, octets: &[u8]) -> Result<((Option<DateTime>, Text), &[u8]), ParseFault>
     ensures { Gives (λ x. (x.0, x.1.now)) result (both append_date_at (spaced literal_text_at) octets.now) }
 {
     let (date, rest) = append_date(octets)?;
@@ -113,15 +110,23 @@ fn zeroed(octets: &[u8]) -> [u8; 28]
 }
 
 /// The message's text. A literal8 and UTF8 (RFC 9051, section 9; RFC 6855) are forms that this server leaves out.
-fn literal_text(alloc: Global, octets: &[u8]) -> Result<(Octets, &[u8]), ParseFault>
+fn literal_text(alloc: Global, octets: &[u8]) -> Result<(Text, &[u8]), ParseFault>
     ensures { Gives (λ x. (x.0, x.1.now)) result (literal_text_at octets.now) }
 {
     match octets {
         [] => Err(ParseFault::BadSyntax),
         [first, rest @ ..] => match *first {
-            b'{' => literal(alloc, rest),
+            b'{' => shared(alloc, rest),
             b'~' => Err(ParseFault::NotInProfile),
             _ => Err(left_out(octets, &[b"UTF8"])),
         },
     }
+}
+
+/// The text of a literal, whose octets its copies share.
+fn shared(alloc: Global, octets: &[u8]) -> Result<(Text, &[u8]), ParseFault>
+    ensures { Gives (λ x. (x.0, x.1.now)) result (literal_at octets.now) }
+{
+    let (octets, rest) = literal(alloc, octets)?;
+    Ok((Text::new(octets.into_vec())?, rest))
 }

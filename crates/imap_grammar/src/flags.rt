@@ -1,6 +1,5 @@
 ghost use Rattle.std.specs.Prelude.{◌≡◌, IfOk, OnOk};
-ghost use Rattle.imap_syntax.specs.MessageFlags.{flags_of, no_flags, with_flag};
-ghost use Rattle.imap_grammar.specs.Reading.{Gives, flag_at, flag_group_at, maybe_flags_at, named_at, stored_at, stored_texts_at};
+ghost use Rattle.imap_grammar.specs.Reading.{Gives, flag_at, flag_group_at, flags_of, maybe_flags_at, named_at, no_flags, stored_at, stored_texts_at, with_flag};
 ghost use Rattle.imap_syntax.specs.Words.{system_flags, system_word};
 
 use crate::fault::ParseFault;

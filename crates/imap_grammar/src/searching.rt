@@ -1,5 +1,5 @@
 ghost use Rattle.std.specs.Prelude.{◌≡◌};
-ghost use Rattle.imap_grammar.specs.KeyReading.{charset_at, charset_name_at, is_charset, maybe_options_at, returned_at, returned_group_at, search_at};
+ghost use Rattle.imap_grammar.specs.KeyReading.{below_at, charset_at, charset_name_at, is_charset, keys_at, maybe_options_at, returned_at, returned_group_at, search_at};
 ghost use Rattle.imap_syntax.specs.KeyWords.{option_word, search_options};
 ghost use Rattle.imap_grammar.specs.Reading.{Gives, named_at};
 
@@ -10,7 +10,7 @@ use crate::modifier::left_out;
 use crate::scan::{skip, space, span};
 use crate::text::text;
 use crate::word::find;
-use imap_syntax::{Class, Command, Many, SearchOption};
+use imap_syntax::{Class, Command, Many, SearchOption, SearchSteps};
 use std::alloc::Global;
 
 /// How deep NOT, OR and parentheses may stand in one another.
@@ -29,15 +29,23 @@ pub fn search(alloc: Global, by_uid: bool, octets: &[u8]) -> Result<(Command, &[
 {
     let (options, rest) = returned(alloc, space(octets)?)?;
     let rest = charset(alloc, rest)?;
-    let (steps, rest) = keys(alloc, MAX_LEVELS + 1, rest)?;
+    let (steps, rest) = key(alloc, rest)?;
     Ok((
         Command::Search {
             by_uid,
             options: Many::new(options),
-            steps: Many::new(steps),
+            steps,
         },
         rest,
     ))
+}
+
+/// The keys, which are one key together.
+fn key(alloc: Global, octets: &[u8]) -> Result<(SearchSteps, &[u8]), ParseFault>
+    ensures { Gives (λ x. (x.0, x.1.now)) result (keys_at (below_at 65) octets.now) }
+{
+    let (steps, rest) = keys(alloc, MAX_LEVELS + 1, octets)?;
+    Ok((SearchSteps::new(steps), rest))
 }
 
 /// RETURN with its options and a space, or nothing.

@@ -11,8 +11,9 @@ use Rattle.crdt_ops.specs.declared.op.Op.{Op}
 use Rattle.imap_answers.specs.declared.answer.Answer.{Answer}
 use Rattle.imap_answers.specs.declared.words.Refusal.{Refusal}
 use Rattle.imap_answers.specs.Printable.{Each}
-use Rattle.imap_commands.specs.Selecting.{closed_answers, mailbox_answers, select_tells}
+use Rattle.imap_commands.specs.Selecting.{SelectTells, closed_answers, flags_in_use, mailbox_answers, select_tells}
 use Rattle.imap_commands.specs.Told.{Telling}
+use Rattle.imap_types.specs.declared.flags.Flags.{Flags}
 use Rattle.imap_commands.specs.declared.session.Session.{Session}
 use Rattle.imap_commands.specs.declared.session.State.{State}
 use Rattle.imap_commands.specs.declared.session.State.TheVariants.{NotAuthenticated, Authenticated, Selected, LoggedOut}
@@ -169,22 +170,23 @@ module _ (start : Start) (ops : List Op) (l : 1 ≤ start.uid) (a : IsApplied op
       ap (λ (x : List Listed). entries_of (take (length x - 0) (beyond 0 rows))) (sym e) ∙ ap (λ (x : List Listed). entries_of (take (length rows - 0) x)) (beyond_first 0 1 rows (omega arith) r)
       ∙ ap entries_of (take_length rows)
 
-  told_rows : (rows : List Listed) (was read_only : Bool) (name : List ℕ) (marks : Marks) (listed : List Listed) → rows ≡ listed → AreRisingRows 1 rows → after_answers rows [] (closed_answers was ++ mailbox_answers read_only name marks listed) ≡ entries_of rows
-  told_rows rows true read_only name marks listed e r = all_rows rows listed e r
-  told_rows rows false read_only name marks listed e r = all_rows rows listed e r
+  told_rows : (rows : List Listed) (was read_only : Bool) (name : List ℕ) (marks : Marks) (listed : List Listed) (flags : Flags) → rows ≡ listed → AreRisingRows 1 rows
+      → after_answers rows [] (closed_answers was ++ mailbox_answers read_only name marks (length listed) flags) ≡ entries_of rows
+  told_rows rows true read_only name marks listed flags e r = all_rows rows listed e r
+  told_rows rows false read_only name marks listed flags e r = all_rows rows listed e r
 
   abbrev selected_view : List ℕ → Seen
   selected_view name = record { name = name; uidvalidity = validity_of start name ops; entries = [] }
 
-  select_back : (was read_only : Bool) (name : List ℕ) → is_there name ops ≡ true
-      → (view : Seen) → ◌≡◌ {A = Option Seen} (Some (record (selected_view name) { entries = after_answers (rows_for start ops (selected_view name)) [] (closed_answers was ++ mailbox_answers read_only name (marks_of start name ops) (listing start name ops)) })) (Some view)
+  select_back : (was read_only : Bool) (name : List ℕ) (flags : Flags) → is_there name ops ≡ true
+      → (view : Seen) → ◌≡◌ {A = Option Seen} (Some (record (selected_view name) { entries = after_answers (rows_for start ops (selected_view name)) [] (closed_answers was ++ mailbox_answers read_only name (marks_of start name ops) (length (listing start name ops)) flags) })) (Some view)
       → GoesBack start ops view × ShowsAll start ops view
-  select_back was read_only name t view e =
+  select_back was read_only name flags t view e =
       let v = validity_is start name ops t in
       let own = rows_are start ops (selected_view name) v in
-      let es = after_answers (rows_for start ops (selected_view name)) [] (closed_answers was ++ mailbox_answers read_only name (marks_of start name ops) (listing start name ops)) in
+      let es = after_answers (rows_for start ops (selected_view name)) [] (closed_answers was ++ mailbox_answers read_only name (marks_of start name ops) (length (listing start name ops)) flags) in
       let is : es ≡ entries_of (rows_for start ops (selected_view name)) =
-      told_rows (rows_for start ops (selected_view name)) was read_only name (marks_of start name ops) (listing start name ops) own (rows_rising start ops (selected_view name) l a) in
+      told_rows (rows_for start ops (selected_view name)) was read_only name (marks_of start name ops) (listing start name ops) flags own (rows_rising start ops (selected_view name) l a) in
       let k : record (selected_view name) { entries = es } ≡ view = cc in
       subst (λ (x : Seen). GoesBack start ops x × ShowsAll start ops x) k (
         record {
@@ -217,10 +219,11 @@ module _ (start : Start) (ops : List Op) (l : 1 ≤ start.uid) (a : IsApplied op
   Shown name view first told =
       ◌≡◌ {A = Option Seen} (Some (record (selected_view name) { entries = replayed (rows_for start ops (selected_view name)) [] told.silent (first ++ told.own) })) (Some view)
 
-  selected_by : (was read_only : Bool) (name : List ℕ) (view : Seen) (first : List Answer) (told : Telling) → is_there name ops ≡ true → first ≡ [] → told ≡ select_tells was read_only name (marks_of start name ops) (listing start name ops)
-      → Shown name view first told → GoesBack start ops view × ShowsAll start ops view
-  selected_by was read_only name view first told t f is e =
-      select_back was read_only name t view (subst (λ (as_first : List Answer). Shown name view as_first (select_tells was read_only name (marks_of start name ops) (listing start name ops))) f (subst (Shown name view first) is e))
+  selected_by : (was read_only : Bool) (name : List ℕ) (view : Seen) (first : List Answer) (told : Telling) → is_there name ops ≡ true → first ≡ []
+      → SelectTells was read_only name (marks_of start name ops) (listing start name ops) told → Shown name view first told → GoesBack start ops view × ShowsAll start ops view
+  selected_by was read_only name view first told t f s e =
+      let told_then = select_tells was read_only name (marks_of start name ops) (listing start name ops) s.keywords in
+      select_back was read_only name (flags_in_use s.keywords) t view (subst (λ (as_first : List Answer). Shown name view as_first told_then) f (subst (Shown name view first) s.only e))
 
   moved_from : (command : Command) (state : State) (view : Seen) → is_selecting command ≡ false → view_of (moves_to start ops state command) ≡ Some view → view_of state ≡ Some view
   moved_from (commands.Login user password) state view s e = not_some view e

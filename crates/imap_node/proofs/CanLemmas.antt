@@ -22,6 +22,7 @@ use Rattle.imap_answers.specs.declared.words.Refusal.{Refusal}
 use Rattle.imap_answers.specs.declared.words.Refusal.TheVariants as refusals
 use Rattle.imap_commands.specs.Appending.{append_wants, given_date}
 use Rattle.imap_commands.specs.Asking.{status_wants}
+use Rattle.imap_commands.specs.Asked.{CopyAsked, FetchAsked, OpenMailbox, StoreAsked}
 use Rattle.imap_commands.specs.Copying.{copy_wants, move_wants}
 use Rattle.imap_commands.specs.Entering.{are_right, login_wants}
 use Rattle.imap_commands.specs.Expunging.{close_wants, expunge_wants, uid_expunge_wants}
@@ -45,16 +46,14 @@ use Rattle.imap_commands.specs.Lawful.{AreLawfulKinds, IsLawfulKind}
 use Rattle.imap_types.specs.Keywords.{is_lawful_keyword}
 use Rattle.imap_types.specs.Names.{IsLawfulName, inbox}
 use Rattle.imap_types.specs.declared.flags.Flags.{Flags}
-use Rattle.imap_types.specs.declared.sequence_set.SequenceRange.{SequenceRange}
 use Rattle.mail_listing.specs.Listed.{Listed}
 use Rattle.merge_laws.specs.Orders.{AreSound, HasId, IsIn}
 use Rattle.tags_clocks.specs.Clock.{IsCause}
 use Rattle.tags_clocks.specs.declared.id.OpId.{OpId}
 use Rattle.session_view.specs.Seen.{Seen, rows_under}
 use Rattle.session_view.specs.Sets.{is_in_range}
-use Rattle.session_view.specs.declared.entry.Entry.{Entry}
 use Rattle.imap_node.specs.Commands.{is_known, wants, when_known, when_new, when_selected}
-use Rattle.imap_node.specs.Mailboxes.{is_subscribed, rows_for}
+use Rattle.imap_node.specs.Mailboxes.{is_subscribed, mailbox_in, rows_for}
 use Rattle.imap_node.specs.Operations.{CanIssue, CanIssueAll}
 use Rattle.imap_node.specs.Respond.{wants_of}
 use Rattle.uid_projection.specs.declared.start.Start.{Start}
@@ -309,15 +308,15 @@ not_true : (b : Bool) → not b ≡ false → b ≡ true
 not_true true h = refl
 not_true false h = cc
 
-copy_there : (there : Bool) (name : List ℕ) (rows : List Listed) (view : List Entry) (by_uid : Bool) (set : List SequenceRange) (given : List Kind) → copy_wants name there rows view by_uid set ≡ Ok given → there ≡ true
-copy_there there name rows view by_uid set given e =
-    let in_range = where_false (not (is_in_range by_uid set view)) _ _ given e in
+copy_there : (mailbox : OpenMailbox) (asked : CopyAsked) (there : Bool) (given : List Kind) → copy_wants mailbox asked there ≡ Ok given → there ≡ true
+copy_there mailbox asked there given e =
+    let in_range = where_false (not (is_in_range asked.by_uid asked.messages mailbox.view)) _ _ given e in
     not_true there (where_false (not there) _ _ given in_range.1).0
 
-move_there : (folder name : List ℕ) (there : Bool) (rows : List Listed) (view : List Entry) (read_only by_uid : Bool) (set : List SequenceRange) (given : List Kind) → move_wants folder name there rows view read_only by_uid set ≡ Ok given → there ≡ true
-move_there folder name there rows view read_only by_uid set given e =
-    let in_range = where_false (not (is_in_range by_uid set view)) _ _ given e in
-    let writable = where_false read_only _ _ given in_range.1 in
+move_there : (mailbox : OpenMailbox) (asked : CopyAsked) (there : Bool) (given : List Kind) → move_wants mailbox asked there ≡ Ok given → there ≡ true
+move_there mailbox asked there given e =
+    let in_range = where_false (not (is_in_range asked.by_uid asked.messages mailbox.view)) _ _ given e in
+    let writable = where_false mailbox.read_only _ _ given in_range.1 in
     not_true there (where_false (not there) _ _ given writable.1).0
 
 -- ---- what each command wants
@@ -382,34 +381,38 @@ module _ (start : Start) (ops : List Op) (a : IsApplied ops) (stamp : List ℕ) 
       can_all ops given (append_lawful there name flags date stamp text given (there_lawful ops name a.sound c.0) w) c.1
   wanted_can commands.Idle given e = nothing_wanted ops given (known_wants state (Ok []) given e)
   wanted_can commands.Close given e =
-      let w = selected_wants state (λ view read_only. close_wants view.name (rows_for start ops view) read_only) given e in
-      issuable_all start ops a w.0 inbox inbox_lawful given (close_wants_issuable w.0.name inbox (rows_for start ops w.0) w.1 given w.2)
+      let w = selected_wants state (λ view read_only. close_wants (mailbox_in start ops view read_only)) given e in
+      issuable_all start ops a w.0 inbox inbox_lawful given (close_wants_issuable (mailbox_in start ops w.0 w.1) inbox given w.2)
   wanted_can commands.Unselect given e = nothing_wanted ops given (selected_wants state (λ view read_only. Ok []) given e).2
   wanted_can commands.Expunge given e =
-      let w = selected_wants state (λ view read_only. expunge_wants view.name (rows_for start ops view) read_only) given e in
-      issuable_all start ops a w.0 inbox inbox_lawful given (expunge_wants_issuable w.0.name inbox (rows_for start ops w.0) w.1 given w.2)
+      let w = selected_wants state (λ view read_only. expunge_wants (mailbox_in start ops view read_only)) given e in
+      issuable_all start ops a w.0 inbox inbox_lawful given (expunge_wants_issuable (mailbox_in start ops w.0 w.1) inbox given w.2)
   wanted_can (commands.UidExpunge uids) given e =
-      let w = selected_wants state (λ view read_only. uid_expunge_wants view.name (rows_for start ops view) view.entries read_only uids) given e in
-      issuable_all start ops a w.0 inbox inbox_lawful given (uid_expunge_wants_issuable w.0.name inbox (rows_for start ops w.0) w.0.entries w.1 uids given w.2)
+      let w = selected_wants state (λ view read_only. uid_expunge_wants (mailbox_in start ops view read_only) uids) given e in
+      issuable_all start ops a w.0 inbox inbox_lawful given (uid_expunge_wants_issuable (mailbox_in start ops w.0 w.1) inbox uids given w.2)
   wanted_can (commands.Search by_uid options steps) given e =
       let w = selected_wants state (λ view read_only. search_wants view.entries steps) given e in
       nothing_where ops (list_all (step_is_in_range w.0.entries) steps) refusals.NoSuchMessage given w.2
   wanted_can (commands.Fetch by_uid set items changed_since) given e =
-      let w = selected_wants state (λ view read_only. fetch_wants view.name (rows_for start ops view) view.entries read_only by_uid set items changed_since) given e in
-      issuable_all start ops a w.0 inbox inbox_lawful given (fetch_wants_issuable w.0.name inbox (rows_for start ops w.0) w.0.entries w.1 by_uid set items changed_since given (view_keywords start ops a w.0) w.2)
+      let asked : FetchAsked = record { by_uid = by_uid; messages = set; items = items; changed_since = changed_since } in
+      let w = selected_wants state (λ view read_only. fetch_wants (mailbox_in start ops view read_only) asked) given e in
+      issuable_all start ops a w.0 inbox inbox_lawful given (fetch_wants_issuable (mailbox_in start ops w.0 w.1) inbox asked given (view_keywords start ops a w.0) w.2)
   wanted_can (commands.Store by_uid set unchanged_since action flags) given e =
-      let w = selected_wants state (λ view read_only. store_wants view.name (rows_for start ops view) view.entries read_only by_uid set unchanged_since action.mode flags) given e in
-      issuable_all start ops a w.0 inbox inbox_lawful given (store_wants_issuable w.0.name inbox (rows_for start ops w.0) w.0.entries w.1 by_uid set unchanged_since action.mode flags given (view_keywords start ops a w.0) w.2)
+      let asked : StoreAsked = record { by_uid = by_uid; messages = set; unchanged_since = unchanged_since; action = action; flags = flags } in
+      let w = selected_wants state (λ view read_only. store_wants (mailbox_in start ops view read_only) asked) given e in
+      issuable_all start ops a w.0 inbox inbox_lawful given (store_wants_issuable (mailbox_in start ops w.0 w.1) inbox asked given (view_keywords start ops a w.0) w.2)
   wanted_can (commands.Copy by_uid set name) given e =
       let there = is_there name ops in
-      let w = selected_wants state (λ view read_only. copy_wants name there (rows_for start ops view) view.entries by_uid set) given e in
-      issuable_all start ops a w.0 name (there_lawful ops name a.sound (copy_there there name (rows_for start ops w.0) w.0.entries by_uid set given w.2)) given
-      (copy_wants_issuable w.0.name name there (rows_for start ops w.0) w.0.entries by_uid set given (view_keywords start ops a w.0) w.2)
+      let asked : CopyAsked = record { by_uid = by_uid; messages = set; destination = name } in
+      let w = selected_wants state (λ view read_only. copy_wants (mailbox_in start ops view read_only) asked there) given e in
+      issuable_all start ops a w.0 name (there_lawful ops name a.sound (copy_there (mailbox_in start ops w.0 w.1) asked there given w.2)) given
+      (copy_wants_issuable (mailbox_in start ops w.0 w.1) asked there given (view_keywords start ops a w.0) w.2)
   wanted_can (commands.Move by_uid set name) given e =
       let there = is_there name ops in
-      let w = selected_wants state (λ view read_only. move_wants view.name name there (rows_for start ops view) view.entries read_only by_uid set) given e in
-      issuable_all start ops a w.0 name (there_lawful ops name a.sound (move_there w.0.name name there (rows_for start ops w.0) w.0.entries w.1 by_uid set given w.2)) given
-      (move_wants_issuable w.0.name name there (rows_for start ops w.0) w.0.entries w.1 by_uid set given (view_keywords start ops a w.0) w.2)
+      let asked : CopyAsked = record { by_uid = by_uid; messages = set; destination = name } in
+      let w = selected_wants state (λ view read_only. move_wants (mailbox_in start ops view read_only) asked there) given e in
+      issuable_all start ops a w.0 name (there_lawful ops name a.sound (move_there (mailbox_in start ops w.0 w.1) asked there given w.2)) given
+      (move_wants_issuable (mailbox_in start ops w.0 w.1) asked there given (view_keywords start ops a w.0) w.2)
 
   pub input_can : (input : Input) (given : List Kind) → wants_of start ops stamp state input ≡ Ok given → CanIssueAll ops given
   input_can (inputs.Command moment tagged) given e = wanted_can tagged.command given e

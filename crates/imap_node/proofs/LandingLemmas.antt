@@ -23,10 +23,10 @@ use Rattle.crdt_ops.specs.TagLaws.{adds_own, same_id_is}
 use Rattle.crdt_ops.specs.Tags.{MessageTag, added_by, adds, is_some_tag, removed_by, removes, same_tag}
 use Rattle.imap_commands.specs.Copying.{append_of, appends_of, removal_of, removals_of}
 use Rattle.imap_commands.specs.Named.{name_at, those_there}
+use Rattle.imap_commands.specs.Asked.{CopyAsked, OpenMailbox}
 use Rattle.imap_commands.specs.Printing.{AreAsMany}
 use Rattle.imap_commands.specs.Told.{entry_at, is_gone, message_at, row_for}
 use Rattle.imap_commands.proofs.PrintSelected.{each_append, each_in}
-use Rattle.imap_types.specs.declared.sequence_set.SequenceRange.{SequenceRange}
 use Rattle.session_view.specs.Sets.{resolved}
 use Rattle.session_view.specs.declared.entry.Entry.{Entry as Seen}
 use Rattle.uid_projection.specs.declared.start.Start.{Start}
@@ -41,6 +41,7 @@ use Rattle.uid_projection.proofs.Presence.{adds_about, applied_front, removed_ab
 use Rattle.uid_projection.proofs.Steps.{uid_kept, uid_new, uidnext_here}
 use Rattle.uid_projection.proofs.Versions.{begun_added, origin_applied, origin_new, version_cases, version_in, version_kept}
 use Rattle.imap_node.proofs.ThereLemmas.{IsNoDelete, added_there, kept_one, mapped_in}
+use Rattle.imap_node.specs.Mailboxes.{landing_in}
 
 -- ---- operations that copy
 
@@ -520,12 +521,14 @@ kinds_landed start folder before issued wanted least a r t e c =
     rows_landed start folder before issued least a r t (mapped_copying before issued wanted e c) ∙ kinds_counted folder issued ∙ ap (λ ks. length (filter (appends_to folder) ks)) e
 
 -- as many come into the destination as have sources
-pub copies_landed : (start : Start) (folder : List ℕ) (before issued : List Op) (wanted : List Kind) (rows : List Listed) (view : List Seen) (by_uid : Bool) (set : List SequenceRange)
+pub copies_landed : (start : Start) (folder : List ℕ) (before issued : List Op) (wanted : List Kind) (mailbox : OpenMailbox) (asked : CopyAsked)
     → 1 ≤ uidnext_of start folder before → IsApplied (before ++ issued) → AreRisingRows 1 (listing start folder (before ++ issued)) → is_there folder before ≡ true → map (λ (o : Op). o.kind) issued ≡ wanted → Each (IsCopying before) wanted
-    → length (filter (appends_to folder) wanted) ≡ length (those_there rows view (resolved by_uid set view))
-    → AreAsMany rows view by_uid set (uidnext_of start folder before) (listing start folder (before ++ issued))
-copies_landed start folder before issued wanted rows view by_uid set least a r t e c n =
-    let numbers = resolved by_uid set view in
+    → length (filter (appends_to folder) wanted) ≡ length (those_there mailbox.rows mailbox.view (resolved asked.by_uid asked.messages mailbox.view))
+    → AreAsMany mailbox asked (landing_in start before (before ++ issued) folder)
+copies_landed start folder before issued wanted mailbox asked least a r t e c n =
+    let rows = mailbox.rows in
+    let view = mailbox.view in
+    let numbers = resolved asked.by_uid asked.messages view in
     let low = uidnext_of start folder before - 1 in
     let landed = kinds_landed start folder before issued wanted least a r t e c in
     let x = mapped_length (name_at true view) (those_there rows view numbers) in

@@ -16,3 +16,4 @@ pub mod MomentLemmas
 pub mod QuietLemmas
 pub mod BackLemmas
 pub mod LastingLemmas
+pub mod ThreadLemmas

@@ -29,7 +29,7 @@ use Rattle.uid_projection.specs.Lines.{highest_modseq_of, uidnext_of}
 use Rattle.uid_projection.specs.Listing.{listing}
 use Rattle.imap_node.specs.Commands.{Tells, highest_of, highest_told, is_idle, is_selected, moves_to, notice, tells_selected, turns_on}
 use Rattle.imap_node.specs.Endings.{Course, Ending, answers_of_course, ending, ending_of}
-use Rattle.imap_node.specs.Mailboxes.{marks_of, rows_for, validity_of}
+use Rattle.imap_node.specs.Mailboxes.{landing_in, mailbox_in, marks_of, rows_for, validity_of}
 use Rattle.imap_node.specs.Printing.{IsPresentable, SeesNumbered}
 use Rattle.imap_node.specs.Respond.{tail_of}
 use Rattle.imap_node.proofs.ShownLemmas.{folders_folded, highest_nonzero, listing_showable, marks_nonzero, next_nonzero, rows_showable, shown_before, subscriptions_folded, validity_nonzero}
@@ -49,9 +49,9 @@ NamesThere after _ _ = Unit {0}
 -- where messages are copied, as many come into the destination
 abbrev pub LandsAll : Start → List Op → List Op → State → Command → Type 0
 LandsAll start before after (Selected view read_only) (commands.Copy by_uid set name) =
-    AreAsMany (rows_for start before view) view.entries by_uid set (uidnext_of start name before) (listing start name after)
+    AreAsMany (mailbox_in start before view read_only) (record { by_uid = by_uid; messages = set; destination = name }) (landing_in start before after name)
 LandsAll start before after (Selected view read_only) (commands.Move by_uid set name) =
-    AreAsMany (rows_for start before view) view.entries by_uid set (uidnext_of start name before) (listing start name after)
+    AreAsMany (mailbox_in start before view read_only) (record { by_uid = by_uid; messages = set; destination = name }) (landing_in start before after name)
 LandsAll start before after _ _ = Unit {0}
 
 nothing_printable : IsPrintableTelling nothing_told
@@ -75,11 +75,9 @@ module _ (start : Start) (before issued : List Op) (p : IsPresentable start (bef
   tells_printable commands.Idle state modseq tag told t a v n l h = subst IsPrintableTelling (sym h) idle_printable
   tells_printable (commands.Enable names) state modseq tag told t a v n l h = subst IsPrintableTelling (sym h) (enable_printable names)
   tells_printable (commands.Select name condstore) state modseq tag told t a v n l h =
-      subst IsPrintableTelling (sym h)
-      (select_printable (is_selected state) false name (marks_of start name (before ++ issued)) (listing start name (before ++ issued)) a (marks_nonzero start name (before ++ issued) p n) (listing_showable start name (before ++ issued) p))
+      select_printable (is_selected state) false name (marks_of start name (before ++ issued)) (listing start name (before ++ issued)) told a (marks_nonzero start name (before ++ issued) p n) (listing_showable start name (before ++ issued) p) h
   tells_printable (commands.Examine name condstore) state modseq tag told t a v n l h =
-      subst IsPrintableTelling (sym h)
-      (select_printable (is_selected state) true name (marks_of start name (before ++ issued)) (listing start name (before ++ issued)) a (marks_nonzero start name (before ++ issued) p n) (listing_showable start name (before ++ issued) p))
+      select_printable (is_selected state) true name (marks_of start name (before ++ issued)) (listing start name (before ++ issued)) told a (marks_nonzero start name (before ++ issued) p n) (listing_showable start name (before ++ issued) p) h
   tells_printable (commands.Status name items) state modseq tag told t a v n l h =
       subst IsPrintableTelling (sym h)
       (status_printable name items (marks_of start name (before ++ issued)) (listing start name (before ++ issued)) a.0 a.1 (marks_nonzero start name (before ++ issued) p n) (listing_showable start name (before ++ issued) p))
@@ -87,23 +85,23 @@ module _ (start : Start) (before issued : List Op) (p : IsPresentable start (bef
       subst IsPrintableTelling (sym h)
       (append_printable (validity_of start name (before ++ issued)) (uidnext_of start name before) (validity_nonzero start name (before ++ issued) p n) (next_nonzero start name before before_shown))
   tells_printable (commands.UidExpunge uids) state modseq tag told t a v n l h =
-      subst IsPrintableTelling (sym h) (selected_printable state _ v (λ view read_only k. uid_expunge_printable (rows_for start before view) view.entries uids))
+      subst IsPrintableTelling (sym h) (selected_printable state _ v (λ view read_only k. uid_expunge_printable (mailbox_in start before view read_only) uids))
   tells_printable (commands.Fetch by_uid set items changed_since) state modseq tag told t a v n l h =
       subst IsPrintableTelling (sym h) (selected_printable state _ v (λ view read_only k.
-      fetch_printable (rows_for start before view) (rows_for start (before ++ issued) view) view.entries read_only modseq by_uid set items changed_since (rows_showable start (before ++ issued) view p) k a))
+      fetch_printable (mailbox_in start before view read_only) (rows_for start (before ++ issued) view) modseq (record { by_uid = by_uid; messages = set; items = items; changed_since = changed_since }) (rows_showable start (before ++ issued) view p) k a))
   tells_printable (commands.Store by_uid set unchanged_since action flags) state modseq tag told t a v n l h =
       subst IsPrintableTelling (sym h) (selected_printable state _ v (λ view read_only k.
-      store_printable (rows_for start before view) (rows_for start (before ++ issued) view) view.entries modseq by_uid set unchanged_since action.mode action.silent flags (rows_showable start (before ++ issued) view p) k))
+      store_printable (mailbox_in start before view read_only) (rows_for start (before ++ issued) view) modseq (record { by_uid = by_uid; messages = set; unchanged_since = unchanged_since; action = action; flags = flags }) (rows_showable start (before ++ issued) view p) k))
   tells_printable (commands.Copy by_uid set name) (Selected view read_only) modseq tag told t a v n l h =
       subst IsPrintableTelling (sym h)
-      (copy_printable (rows_for start before view) view.entries by_uid set (validity_of start name (before ++ issued)) (uidnext_of start name before) (listing start name (before ++ issued)) v
+      (copy_printable (mailbox_in start before view read_only) (record { by_uid = by_uid; messages = set; destination = name }) (landing_in start before (before ++ issued) name) v
       (validity_nonzero start name (before ++ issued) p n) (listing_showable start name (before ++ issued) p) l)
   tells_printable (commands.Copy by_uid set name) (NotAuthenticated credentials) modseq tag told t a v n l h = subst IsPrintableTelling (sym h) nothing_printable
   tells_printable (commands.Copy by_uid set name) Authenticated modseq tag told t a v n l h = subst IsPrintableTelling (sym h) nothing_printable
   tells_printable (commands.Copy by_uid set name) LoggedOut modseq tag told t a v n l h = subst IsPrintableTelling (sym h) nothing_printable
   tells_printable (commands.Move by_uid set name) (Selected view read_only) modseq tag told t a v n l h =
       subst IsPrintableTelling (sym h)
-      (move_printable (rows_for start before view) view.entries by_uid set (validity_of start name (before ++ issued)) (uidnext_of start name before) (listing start name (before ++ issued)) v
+      (move_printable (mailbox_in start before view read_only) (record { by_uid = by_uid; messages = set; destination = name }) (landing_in start before (before ++ issued) name) v
       (validity_nonzero start name (before ++ issued) p n) (listing_showable start name (before ++ issued) p) l)
   tells_printable (commands.Move by_uid set name) (NotAuthenticated credentials) modseq tag told t a v n l h = subst IsPrintableTelling (sym h) nothing_printable
   tells_printable (commands.Move by_uid set name) Authenticated modseq tag told t a v n l h = subst IsPrintableTelling (sym h) nothing_printable
@@ -113,7 +111,7 @@ module _ (start : Start) (before issued : List Op) (p : IsPresentable start (bef
       list_printable (record { subscribed_only = subscribed_only; return_subscribed = return_subscribed }) reference pattern (folders_of before) (subscribed_of before) told (folders_folded before sound)
       (subscriptions_folded before sound) h
   tells_printable (commands.Search by_uid options steps) (Selected view read_only) modseq tag told t a v n l h =
-      search_printable (rows_for start (before ++ issued) view) view.entries tag by_uid options steps told t a (rows_showable start (before ++ issued) view p) v h
+      search_printable (mailbox_in start (before ++ issued) view read_only) tag (record { by_uid = by_uid; options = options; steps = steps }) told t (rows_showable start (before ++ issued) view p) v h
   tells_printable (commands.Search by_uid options steps) (NotAuthenticated credentials) modseq tag told t a v n l h = subst IsPrintableTelling (sym h) nothing_printable
   tells_printable (commands.Search by_uid options steps) Authenticated modseq tag told t a v n l h = subst IsPrintableTelling (sym h) nothing_printable
   tells_printable (commands.Search by_uid options steps) LoggedOut modseq tag told t a v n l h = subst IsPrintableTelling (sym h) nothing_printable

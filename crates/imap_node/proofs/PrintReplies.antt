@@ -41,7 +41,7 @@ use Rattle.imap_node.specs.declared.input.Input.{Input}
 use Rattle.imap_node.specs.declared.input.Input.TheVariants as inputs
 use Rattle.imap_node.specs.Commands.{is_idle, is_known, notice, wants}
 use Rattle.imap_node.specs.Endings.{Course, answers_of_course}
-use Rattle.imap_node.specs.Mailboxes.{rows_for}
+use Rattle.imap_node.specs.Mailboxes.{mailbox_in, rows_for}
 use Rattle.imap_node.specs.Nodes.{NodeState}
 use Rattle.imap_node.specs.Printing.{IsAnswerableIn, IsAnsweredWell, IsPresentable, SeesNumbered}
 use Rattle.imap_node.specs.Respond.{Carries, begun, course_of, ends_idling, idle_tail, is_on, leaves, left, session_after, synced_course}
@@ -94,7 +94,7 @@ module _ (start : Start) (before issued : List Op) (stamp : List ℕ) (wanted : 
   names_there (commands.Copy by_uid set name) (Selected view read_only) w =
       let rows = rows_for start before view in
       let t = copy_there (is_in_range by_uid set view.entries) (is_there name before) (appends_of name rows view.entries (resolved by_uid set view.entries)) wanted w in
-      let i = copy_wants_issuable view.name name (is_there name before) rows view.entries by_uid set wanted (rows_lawful start before view b) w in
+      let i = copy_wants_issuable (mailbox_in start before view read_only) (record { by_uid = by_uid; messages = set; destination = name }) (is_there name before) wanted (rows_lawful start before view b) w in
       stays_there name before issued wanted a m (λ kind k. none_deleted view.name name rows kind (i kind k)) t
   names_there (commands.Copy by_uid set name) (NotAuthenticated credentials) w = tt
   names_there (commands.Copy by_uid set name) Authenticated w = tt
@@ -103,7 +103,7 @@ module _ (start : Start) (before issued : List Op) (stamp : List ℕ) (wanted : 
       let rows = rows_for start before view in
       let numbers = resolved by_uid set view.entries in
       let t = move_there (is_in_range by_uid set view.entries) read_only (is_there name before) (appends_of name rows view.entries numbers ++ removals_of view.name rows view.entries numbers) wanted w in
-      let i = move_wants_issuable view.name name (is_there name before) rows view.entries read_only by_uid set wanted (rows_lawful start before view b) w in
+      let i = move_wants_issuable (mailbox_in start before view read_only) (record { by_uid = by_uid; messages = set; destination = name }) (is_there name before) wanted (rows_lawful start before view b) w in
       stays_there name before issued wanted a m (λ kind k. none_deleted view.name name rows kind (i kind k)) t
   names_there (commands.Move by_uid set name) (NotAuthenticated credentials) w = tt
   names_there (commands.Move by_uid set name) Authenticated w = tt
@@ -140,7 +140,7 @@ module _ (start : Start) (before issued : List Op) (stamp : List ℕ) (wanted : 
       let appends = appends_of name rows view.entries numbers in
       let t = copy_there (is_in_range by_uid set view.entries) (is_there name before) appends wanted w in
       let is = copy_is (is_in_range by_uid set view.entries) (is_there name before) appends wanted w in
-      copies_landed start name before issued wanted rows view.entries by_uid set (at_least name) p.lasting.applied (rising name) t m (subst (Each (IsCopying before)) (sym is) (appends_copying before name rows view.entries numbers))
+      copies_landed start name before issued wanted (mailbox_in start before view read_only) (record { by_uid = by_uid; messages = set; destination = name }) (at_least name) p.lasting.applied (rising name) t m (subst (Each (IsCopying before)) (sym is) (appends_copying before name rows view.entries numbers))
       (ap (λ ks. length (filter (appends_to name) ks)) is ∙ appends_counted name rows view.entries numbers)
   lands_all (Selected view read_only) (commands.Move by_uid set name) w =
       let rows = rows_for start before view in
@@ -154,7 +154,7 @@ module _ (start : Start) (before issued : List Op) (stamp : List ℕ) (wanted : 
       let both = ap (λ ks. length (filter (appends_to name) ks)) is ∙ more_counted (appends_to name) appends removals in
       let one = appends_counted name rows view.entries numbers in
       let none = removals_counted view.name name rows view.entries numbers in
-      copies_landed start name before issued wanted rows view.entries by_uid set (at_least name) p.lasting.applied (rising name) t m (subst (Each (IsCopying before)) (sym is) copying) (omega (arith, both, one, none))
+      copies_landed start name before issued wanted (mailbox_in start before view read_only) (record { by_uid = by_uid; messages = set; destination = name }) (at_least name) p.lasting.applied (rising name) t m (subst (Each (IsCopying before)) (sym is) copying) (omega (arith, both, one, none))
   lands_all (Selected view read_only) _ w = tt
 
 -- ---- replies

@@ -4,6 +4,7 @@ use Rattle.crdt_ops.specs.declared.op.Op.{Op}
 use Rattle.crdt_ops.specs.Sets.{folders_of, subscribed_of}
 use Rattle.imap_answers.specs.declared.answer.Answer.{Answer}
 use Rattle.imap_answers.specs.Printable.{Each}
+use Rattle.imap_commands.specs.Asked.{StoreAsked}
 use Rattle.imap_commands.specs.Copying.{copies_in, moved_answers, sources_of}
 use Rattle.imap_commands.specs.Fetching.{mode_of, shown_of}
 use Rattle.imap_commands.specs.Storing.{stored_answer, stored_answers, those_taken}
@@ -29,7 +30,7 @@ use Rattle.uid_projection.specs.Incarnations.{uidvalidity_of}
 use Rattle.uid_projection.specs.Lines.{highest_modseq_of, uidnext_of}
 use Rattle.uid_projection.specs.Listing.{listing}
 use Rattle.imap_node.specs.Commands.{Tells, highest_of, highest_told, is_selecting, notice, tells_selected, turns_on}
-use Rattle.imap_node.specs.Mailboxes.{rows_for, validity_of}
+use Rattle.imap_node.specs.Mailboxes.{mailbox_in, rows_for, validity_of}
 use Rattle.imap_node.proofs.UidLemmas.{IsQuiet}
 
 -- ---- lists of quiet answers
@@ -49,15 +50,15 @@ fetch_quiet items mode shown None row = tt
 fetch_quiet items mode shown (Some old) None = tt
 fetch_quiet items mode shown (Some old) (Some row) = elim (cases_Bool (is_kept mode.changed_since old)) [ inl t ↦ rw t (tt, tt) | inr f ↦ rw f tt ]
 
-stored_quiet : (by_uid with_flags with_modseq : Bool) (n : ℕ) (row : Option Listed) → Each IsQuiet (stored_answer by_uid with_flags with_modseq n row)
-stored_quiet by_uid with_flags with_modseq n None = tt
-stored_quiet by_uid with_flags with_modseq n (Some row) = (tt, tt)
+stored_quiet : (condstore : Bool) (asked : StoreAsked) (n : ℕ) (row : Option Listed) → Each IsQuiet (stored_answer condstore asked n row)
+stored_quiet condstore asked n None = tt
+stored_quiet condstore asked n (Some row) = (tt, tt)
 
-store_quiet : (after : List Listed) (view : List Entry) (condstore by_uid : Bool) (since : Option ℕ) (silent : Bool) (taken : List ℕ) → Each IsQuiet (stored_answers after view condstore by_uid since silent taken)
-store_quiet after view condstore by_uid since silent taken =
-    elim (cases_Bool (silent && not (is_some since))) [
+store_quiet : (after : List Listed) (view : List Entry) (condstore : Bool) (asked : StoreAsked) (taken : List ℕ) → Each IsQuiet (stored_answers after view condstore asked taken)
+store_quiet after view condstore asked taken =
+    elim (cases_Bool (asked.action.silent && not (is_some asked.unchanged_since))) [
       | inl t ↦ rw t tt
-      | inr f ↦ rw f (quiet_flat (λ n. stored_answer by_uid _ _ n (message_at after view n)) taken (λ n. stored_quiet by_uid _ _ n (message_at after view n)))
+      | inr f ↦ rw f (quiet_flat (λ n. stored_answer condstore asked n (message_at after view n)) taken (λ n. stored_quiet condstore asked n (message_at after view n)))
     ]
 
 move_quiet : (uidvalidity : ℕ) (sources copies : List ℕ) → Each IsQuiet (moved_answers uidvalidity sources copies)
@@ -93,12 +94,13 @@ module _ (start : Start) (before after : List Op) where
   tells_quiet (commands.Fetch by_uid set items changed_since) state modseq tag told s h =
       subst (λ (t : Telling). Each IsQuiet t.own) (sym h)
       (selected_quiet state _ (λ view read_only.
-      quiet_flat (λ (shown : Shown). answer_of items (mode_of by_uid modseq read_only changed_since) shown (row_of shown.uid (rows_for start before view)) (row_of shown.uid (rows_for start after view))) (shown_of view.entries (resolved by_uid set view.entries))
-      (λ shown. fetch_quiet items (mode_of by_uid modseq read_only changed_since) shown (row_of shown.uid (rows_for start before view)) (row_of shown.uid (rows_for start after view)))))
+      let mode = mode_of (mailbox_in start before view read_only) modseq (record { by_uid = by_uid; messages = set; items = items; changed_since = changed_since }) in
+      quiet_flat (λ (shown : Shown). answer_of items mode shown (row_of shown.uid (rows_for start before view)) (row_of shown.uid (rows_for start after view))) (shown_of view.entries (resolved by_uid set view.entries))
+      (λ shown. fetch_quiet items mode shown (row_of shown.uid (rows_for start before view)) (row_of shown.uid (rows_for start after view)))))
   tells_quiet (commands.Store by_uid set unchanged_since action flags) state modseq tag told s h =
       subst (λ (t : Telling). Each IsQuiet t.own) (sym h)
       (selected_quiet state _ (λ view read_only.
-      store_quiet (rows_for start after view) view.entries modseq by_uid unchanged_since action.silent (those_taken (rows_for start before view) view.entries unchanged_since (resolved by_uid set view.entries))))
+      store_quiet (rows_for start after view) view.entries modseq (record { by_uid = by_uid; messages = set; unchanged_since = unchanged_since; action = action; flags = flags }) (those_taken (rows_for start before view) view.entries unchanged_since (resolved by_uid set view.entries))))
   tells_quiet (commands.Copy by_uid set name) state modseq tag told s h = subst (λ (t : Telling). Each IsQuiet t.own) (sym h) (selected_quiet state _ (λ view read_only. tt))
   tells_quiet (commands.Move by_uid set name) state modseq tag told s h =
       subst (λ (t : Telling). Each IsQuiet t.own) (sym h)

@@ -165,7 +165,7 @@ others_as_before old new n input (Refused why closed) (session, at, h) = subst (
 listing_rising : (start : Start) (folder : List ℕ) (ops : List Op) → 1 ≤ start.uid → IsApplied ops → AreRisingRows 1 (listing start folder ops)
 listing_rising start folder ops l a =
     let c = charted start folder ops a in
-    subst (AreRisingRows 1) (rows_listed start folder ops c.3 c.5.are_entries c.5.ascending) (rising_chart start folder ops c.0 c.1 c.2 c.3 c.4 l c.5)
+    subst (AreRisingRows 1) (rows_listed start folder ops c.2 c.3.are_entries c.3.ascending) (rising_chart start folder ops c.0 c.1 c.2 l c.3)
 
 under_rising : (uidvalidity : ℕ) (now : Option ℕ) (rows : List Listed) → AreRisingRows 1 rows → AreRisingRows 1 (rows_under uidvalidity now rows)
 under_rising uidvalidity None rows h = tt

@@ -10,6 +10,7 @@ use Rattle.imap_answers.specs.declared.words.CommandWord.TheVariants as words
 use Rattle.imap_answers.specs.declared.words.Refusal.{Refusal}
 use Rattle.imap_answers.specs.declared.words.Refusal.TheVariants.{NotNow}
 use Rattle.imap_commands.specs.Appending.{append_tells, append_wants}
+use Rattle.imap_commands.specs.Asked.{SearchAsked}
 use Rattle.imap_commands.specs.Asking.{ListTells, capability_tells, idle_tells, logout_tells, namespace_tells, status_tells, status_wants}
 use Rattle.imap_commands.specs.Copying.{copy_tells, copy_wants, move_tells, move_wants}
 use Rattle.imap_commands.specs.Enabling.{asks_condstore, enable_tells, fetch_asks_modseq, search_asks_modseq, status_asks_modseq}
@@ -18,7 +19,7 @@ use Rattle.imap_commands.specs.Expunging.{close_wants, expunge_wants, uid_expung
 use Rattle.imap_commands.specs.Fetching.{fetch_tells, fetch_wants}
 use Rattle.imap_commands.specs.Mailboxes.{create_wants, created_name, delete_wants, subscribe_wants, unsubscribe_wants}
 use Rattle.imap_commands.specs.Searching.{SearchTells, search_wants}
-use Rattle.imap_commands.specs.Selecting.{select_tells, select_wants}
+use Rattle.imap_commands.specs.Selecting.{SelectTells, select_wants}
 use Rattle.imap_commands.specs.Storing.{store_tells, store_wants}
 use Rattle.imap_commands.specs.Told.{Telling, nothing_told}
 use Rattle.imap_commands.specs.declared.session.Credentials.{Credentials}
@@ -26,11 +27,10 @@ use Rattle.imap_commands.specs.declared.session.State.{State}
 use Rattle.imap_commands.specs.declared.session.State.TheVariants.{NotAuthenticated, Authenticated, Selected, LoggedOut}
 use Rattle.imap_syntax.specs.declared.command.Command.{Command}
 use Rattle.imap_syntax.specs.declared.command.Command.TheVariants as commands
-use Rattle.mail_listing.specs.Listed.{Listed}
 use Rattle.session_view.specs.Seen.{Seen}
 use Rattle.session_view.specs.declared.entry.SyncKind.{SyncKind}
 use Rattle.session_view.specs.declared.entry.SyncKind.TheVariants.{Full, Partial}
-use Rattle.imap_node.specs.Mailboxes.{is_subscribed, marks_of, rows_for, validity_of}
+use Rattle.imap_node.specs.Mailboxes.{is_subscribed, landing_in, mailbox_in, marks_of, rows_for, validity_of}
 use Rattle.uid_projection.specs.declared.start.Start.{Start}
 use Rattle.uid_projection.specs.Incarnations.{is_there, uidvalidity_of}
 use Rattle.uid_projection.specs.Lines.{highest_modseq_of, uidnext_of}
@@ -84,62 +84,62 @@ wants start ops stamp state commands.Namespace = when_known state (Ok [])
 wants start ops stamp state (commands.Status name items) = when_known state (status_wants (is_there name ops))
 wants start ops stamp state (commands.Append name flags date text) = when_known state (append_wants (is_there name ops) name flags date stamp text)
 wants start ops stamp state commands.Idle = when_known state (Ok [])
-wants start ops stamp state commands.Close = when_selected state (λ view read_only. close_wants view.name (rows_for start ops view) read_only)
+wants start ops stamp state commands.Close = when_selected state (λ view read_only. close_wants (mailbox_in start ops view read_only))
 wants start ops stamp state commands.Unselect = when_selected state (λ view read_only. Ok [])
-wants start ops stamp state commands.Expunge = when_selected state (λ view read_only. expunge_wants view.name (rows_for start ops view) read_only)
+wants start ops stamp state commands.Expunge = when_selected state (λ view read_only. expunge_wants (mailbox_in start ops view read_only))
 wants start ops stamp state (commands.UidExpunge uids) =
-    when_selected state (λ view read_only. uid_expunge_wants view.name (rows_for start ops view) view.entries read_only uids)
+    when_selected state (λ view read_only. uid_expunge_wants (mailbox_in start ops view read_only) uids)
 wants start ops stamp state (commands.Search by_uid options steps) = when_selected state (λ view read_only. search_wants view.entries steps)
 wants start ops stamp state (commands.Fetch by_uid set items changed_since) =
-    when_selected state (λ view read_only. fetch_wants view.name (rows_for start ops view) view.entries read_only by_uid set items changed_since)
+    when_selected state (λ view read_only. fetch_wants (mailbox_in start ops view read_only) (record { by_uid = by_uid; messages = set; items = items; changed_since = changed_since }))
 wants start ops stamp state (commands.Store by_uid set unchanged_since action flags) =
-    when_selected state (λ view read_only. store_wants view.name (rows_for start ops view) view.entries read_only by_uid set unchanged_since action.mode flags)
+    when_selected state (λ view read_only. store_wants (mailbox_in start ops view read_only) (record { by_uid = by_uid; messages = set; unchanged_since = unchanged_since; action = action; flags = flags }))
 wants start ops stamp state (commands.Copy by_uid set name) =
-    when_selected state (λ view read_only. copy_wants name (is_there name ops) (rows_for start ops view) view.entries by_uid set)
+    when_selected state (λ view read_only. copy_wants (mailbox_in start ops view read_only) (record { by_uid = by_uid; messages = set; destination = name }) (is_there name ops))
 wants start ops stamp state (commands.Move by_uid set name) =
-    when_selected state (λ view read_only. move_wants view.name name (is_there name ops) (rows_for start ops view) view.entries read_only by_uid set)
+    when_selected state (λ view read_only. move_wants (mailbox_in start ops view read_only) (record { by_uid = by_uid; messages = set; destination = name }) (is_there name ops))
 
 -- What a command tells of a mailbox that is selected, and nothing where none is.
 abbrev pub tells_selected : State → (Seen → Bool → Telling) → Telling
 tells_selected (Selected view read_only) tell = tell view read_only
 tells_selected _ tell = nothing_told
 
--- What a command itself tells, by the operations before it and those with its own; LIST and SEARCH aside.
+-- What a command itself tells, by the operations before it and those with its own; SELECT, EXAMINE, LIST and SEARCH aside.
 abbrev pub tells : Start → List Op → List Op → State → Bool → Command → Telling
 tells start before after state modseq commands.Capability = capability_tells
 tells start before after state modseq commands.Namespace = namespace_tells
 tells start before after state modseq commands.Logout = logout_tells
 tells start before after state modseq commands.Idle = idle_tells
 tells start before after state modseq (commands.Enable names) = enable_tells names
-tells start before after state modseq (commands.Select name condstore) =
-    select_tells (is_selected state) false name (marks_of start name after) (listing start name after)
-tells start before after state modseq (commands.Examine name condstore) =
-    select_tells (is_selected state) true name (marks_of start name after) (listing start name after)
 tells start before after state modseq (commands.Status name items) =
     status_tells name items (marks_of start name after) (listing start name after)
 tells start before after state modseq (commands.Append name flags date text) = append_tells (validity_of start name after) (uidnext_of start name before)
 tells start before after state modseq (commands.UidExpunge uids) =
-    tells_selected state (λ view read_only. uid_expunge_tells (rows_for start before view) view.entries uids)
+    tells_selected state (λ view read_only. uid_expunge_tells (mailbox_in start before view read_only) uids)
 tells start before after state modseq (commands.Fetch by_uid set items changed_since) =
-    tells_selected state (λ view read_only. fetch_tells (rows_for start before view) (rows_for start after view) view.entries read_only modseq by_uid set items changed_since)
+    tells_selected state (λ view read_only. fetch_tells (mailbox_in start before view read_only) (rows_for start after view) modseq (record { by_uid = by_uid; messages = set; items = items; changed_since = changed_since }))
 tells start before after state modseq (commands.Store by_uid set unchanged_since action flags) =
-    tells_selected state (λ view read_only. store_tells (rows_for start before view) (rows_for start after view) view.entries modseq by_uid set unchanged_since action.mode action.silent flags)
+    tells_selected state (λ view read_only. store_tells (mailbox_in start before view read_only) (rows_for start after view) modseq (record { by_uid = by_uid; messages = set; unchanged_since = unchanged_since; action = action; flags = flags }))
 tells start before after state modseq (commands.Copy by_uid set name) =
-    tells_selected state (λ view read_only. copy_tells (rows_for start before view) view.entries by_uid set (validity_of start name after) (uidnext_of start name before) (listing start name after))
+    tells_selected state (λ view read_only. copy_tells (mailbox_in start before view read_only) (record { by_uid = by_uid; messages = set; destination = name }) (landing_in start before after name))
 tells start before after state modseq (commands.Move by_uid set name) =
-    tells_selected state (λ view read_only. move_tells (rows_for start before view) view.entries by_uid set (validity_of start name after) (uidnext_of start name before) (listing start name after))
+    tells_selected state (λ view read_only. move_tells (mailbox_in start before view read_only) (record { by_uid = by_uid; messages = set; destination = name }) (landing_in start before after name))
 tells start before after state modseq _ = nothing_told
 
-abbrev pub SearchTellsSelected : Start → List Op → State → (Seen → List Listed → Telling → Type 0) → Telling → Type 0
-SearchTellsSelected start ops (Selected view read_only) tells_it told = tells_it view (rows_for start ops view) told
-SearchTellsSelected start ops _ tells_it told = told ≡ nothing_told
+abbrev pub SearchTellsSelected : Start → List Op → State → List ℕ → SearchAsked → Telling → Type 0
+SearchTellsSelected start ops (Selected view read_only) tag asked told = SearchTells (mailbox_in start ops view read_only) tag asked told
+SearchTellsSelected start ops _ tag asked told = told ≡ nothing_told
 
--- What a command itself tells: LIST and SEARCH what the rules for them allow, which is one telling each.
+-- What a command itself tells: SELECT, EXAMINE, LIST and SEARCH what the rules for them allow, which is one telling each.
 abbrev pub Tells : Start → List Op → List Op → State → Bool → List ℕ → Command → Telling → Type 0
+Tells start before after state modseq tag (commands.Select name condstore) told =
+    SelectTells (is_selected state) false name (marks_of start name after) (listing start name after) told
+Tells start before after state modseq tag (commands.Examine name condstore) told =
+    SelectTells (is_selected state) true name (marks_of start name after) (listing start name after) told
 Tells start before after state modseq tag (commands.ListNames subscribed_only reference pattern return_subscribed) told =
     ListTells (record { subscribed_only = subscribed_only; return_subscribed = return_subscribed }) reference pattern (folders_of before) (subscribed_of before) told
 Tells start before after state modseq tag (commands.Search by_uid options steps) told =
-    SearchTellsSelected start after state (λ view rows telling. SearchTells rows view.entries tag by_uid options steps telling) told
+    SearchTellsSelected start after state tag (record { by_uid = by_uid; options = options; steps = steps }) told
 Tells start before after state modseq tag command told = told ≡ tells start before after state modseq command
 
 -- The state behind a command, before its answers are replayed. It shows no messages of a mailbox that is selected anew.

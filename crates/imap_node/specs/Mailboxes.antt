@@ -2,6 +2,7 @@ use Rattle.std.specs.Prelude.{ℕ, Bool, true, false, List, [], ◌∷◌}
 use Rattle.std.specs.Option.{unwrap_or}
 use Rattle.crdt_ops.specs.declared.op.Op.{Op}
 use Rattle.crdt_ops.specs.Sets.{subscription_tags_of}
+use Rattle.imap_commands.specs.Asked.{Landing, OpenMailbox}
 use Rattle.imap_query.specs.declared.mailbox_status.Marks.{Marks}
 use Rattle.mail_listing.specs.Listed.{Listed}
 use Rattle.session_view.specs.Seen.{Seen, rows_under}
@@ -22,6 +23,14 @@ marks_of start name ops = record { uidnext = uidnext_of start name ops; uidvalid
 -- What a view's mailbox has now, of the view's own incarnation: nothing where that has ended.
 abbrev pub rows_for : Start → List Op → Seen → List Listed
 rows_for start ops view = rows_under view.uidvalidity (uidvalidity_of start view.name ops) (listing start view.name ops)
+
+-- What a session that has this view finds its mailbox to be now.
+abbrev pub mailbox_in : Start → List Op → Seen → Bool → OpenMailbox
+mailbox_in start ops view read_only = record { name = view.name; rows = rows_for start ops view; view = view.entries; read_only = read_only }
+
+-- Where copies come to in a mailbox, by the operations before the command and those with its own.
+abbrev pub landing_in : Start → List Op → List Op → List ℕ → Landing
+landing_in start before after name = record { uidvalidity = validity_of start name after; uidnext = uidnext_of start name before; rows = listing start name after }
 
 -- There is such an id.
 abbrev pub are_some : List OpId → Bool

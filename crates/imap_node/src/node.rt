@@ -43,9 +43,13 @@ pub struct Node {
 }
 
 impl Model for Node {
+    ghost use Rattle.indexmap.specs.Layout.{hash_map_code, hash_set_code};
+    ghost use Rattle.std.specs.Coded.{codes};
     ghost use Rattle.imap_node.specs.Nodes.{NodeKept};
 
     ghost Value = { NodeKept };
+
+    ghost coded = { Prim.hlevel (codes, hash_map_code, hash_set_code) };
 
     ghost view = { λ n. record { state = record { start = n.replica.start; applied = n.replica.applied; held = n.replica.held; sessions = n.sessions }; room = n.replica.room } };
 }
@@ -123,11 +127,12 @@ impl Node {
 
     /// Carries out a command of a session that is open and doesn't idle, whole, or refuses it. `moment` is when it came.
     ///
-    /// What it costs, until the tables come: a name is looked up in all tags of folders and messages. With a mailbox selected each command makes that
-    /// mailbox's listing, which costs the square of its messages, for its sync; so do SELECT, EXAMINE and STATUS of theirs, and COPY and MOVE of the
-    /// destination. STORE, EXPUNGE, CLOSE, UID EXPUNGE, COPY, MOVE and a FETCH that sets \Seen make it a second time behind their operations, and copy these once. LIST costs
-    /// what `list_names` of `imap_query` says; SEARCH and FETCH go once over a text for each key or section that asks for it; APPEND goes once over
-    /// its text. LOGIN, ENABLE, NAMESPACE, CAPABILITY and LOGOUT cost what they name.
+    /// What it costs: a mailbox's name is a look-up, whatever else there is; a subscription is looked for among all. A mailbox's messages are a window on what the
+    /// replica keeps, which is made anew for each question and costs nothing by itself; behind operations of the command's own it costs what these change, and they are copied once.
+    /// STORE, FETCH, COPY, MOVE and UID EXPUNGE look each message that they name up a few times. SELECT, EXAMINE, SEARCH, STATUS of sizes, EXPUNGE and CLOSE go over all messages of their mailbox.
+    /// With a mailbox selected the sync behind each command, or poll, goes once over what the session sees and what the mailbox has. DELETE names all tags of its folder. LIST costs
+    /// what `list_names` of `imap_query` says; SEARCH and FETCH go once over a text for each key or section that asks for it, but for a whole text, which the
+    /// answer shares with the message; APPEND, COPY and MOVE share texts and go over none. LOGIN, ENABLE, NAMESPACE, CAPABILITY and LOGOUT cost what they name.
     pub fn command(
         &mut self,
         alloc: Global,

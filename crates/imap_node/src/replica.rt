@@ -40,9 +40,13 @@ pub struct Replica {
 }
 
 impl Model for Replica {
+    ghost use Rattle.indexmap.specs.Layout.{hash_map_code, hash_set_code};
+    ghost use Rattle.std.specs.Coded.{codes};
     ghost use Rattle.imap_node.specs.Nodes.{ReplicaKept};
 
     ghost Value = { ReplicaKept };
+
+    ghost coded = { Prim.hlevel (codes, hash_map_code, hash_set_code) };
 
     ghost view = { λ r. record { start = r.inbox.seen.start; applied = r.inbox.seen.applied; held = r.inbox.seen.held; room = r.inbox.room } };
 }

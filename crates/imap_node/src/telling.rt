@@ -8,11 +8,10 @@ ghost use Rattle.imap_commands.specs.Appending.{append_tells};
 ghost use Rattle.imap_commands.specs.Copying.{copy_tells, move_tells};
 ghost use Rattle.imap_commands.specs.Expunging.{uid_expunge_tells};
 ghost use Rattle.imap_commands.specs.Fetching.{fetch_tells};
-ghost use Rattle.imap_commands.specs.Searching.{SearchTells};
-ghost use Rattle.imap_commands.specs.Selecting.{select_tells};
+ghost use Rattle.imap_commands.specs.Selecting.{SelectTells};
 ghost use Rattle.imap_commands.specs.Storing.{store_tells};
 ghost use Rattle.imap_node.specs.Commands.{SearchTellsSelected, Tells, is_selected, tells_selected};
-ghost use Rattle.imap_node.specs.Mailboxes.{marks_of, rows_for, validity_of};
+ghost use Rattle.imap_node.specs.Mailboxes.{landing_in, mailbox_in, marks_of, rows_for, validity_of};
 ghost use Rattle.imap_node.specs.Nodes.{IsReady};
 ghost use Rattle.uid_projection.specs.Lines.{uidnext_of};
 ghost use Rattle.uid_projection.specs.Listing.{listing};
@@ -21,13 +20,14 @@ use crate::replica::Replica;
 use crate::tables::is_selected;
 use crdt_ops::SoundOp;
 use imap_commands::{
-    State, Telling, append_tells, capability_tells, copy_tells, enable_tells, fetch_tells,
-    idle_tells, list_tells, logout_tells, move_tells, namespace_tells, search_tells, select_tells,
-    status_tells, store_tells, uid_expunge_tells,
+    CopyAsked, FetchAsked, Landing, OpenMailbox, SearchAsked, State, StoreAsked, Telling,
+    append_tells, capability_tells, copy_tells, enable_tells, fetch_tells, idle_tells, list_tells,
+    logout_tells, move_tells, namespace_tells, search_tells, select_tells, status_tells,
+    store_tells, uid_expunge_tells,
 };
 use imap_query::{ListMode, Marks};
-use imap_syntax::{Command, FetchItem, SearchOption, SearchStep, StatusItem, StoreAction};
-use imap_types::{Flags, Name, Octets, SequenceSet};
+use imap_syntax::{Command, StatusItem};
+use imap_types::{Name, Octets, SequenceSet};
 use mail_listing::Rows;
 use session_view::View;
 use std::alloc::{AllocError, Global};
@@ -86,60 +86,68 @@ pub fn tells(
             by_uid,
             options,
             steps,
-        } => tells_search(
-            alloc,
-            replica,
-            ops,
-            state,
-            tag,
-            *by_uid,
-            options.as_slice(),
-            steps.as_slice(),
-        ),
+        } => {
+            let asked = SearchAsked {
+                by_uid: *by_uid,
+                options: options.as_slice(),
+                steps,
+            };
+            tells_search(alloc, replica, ops, state, tag, &asked)
+        }
         Command::Fetch {
             by_uid,
             messages,
             items,
             changed_since,
-        } => tells_fetch(
-            alloc,
-            replica,
-            ops,
-            state,
-            modseq,
-            *by_uid,
-            messages,
-            items.as_slice(),
-            *changed_since,
-        ),
+        } => {
+            let asked = FetchAsked {
+                by_uid: *by_uid,
+                messages,
+                items: items.as_slice(),
+                changed_since: *changed_since,
+            };
+            tells_fetch(alloc, replica, ops, state, modseq, &asked)
+        }
         Command::Store {
             by_uid,
             messages,
             unchanged_since,
             action,
             flags,
-        } => tells_store(
-            alloc,
-            replica,
-            ops,
-            state,
-            modseq,
-            *by_uid,
-            messages,
-            *unchanged_since,
-            *action,
-            flags,
-        ),
+        } => {
+            let asked = StoreAsked {
+                by_uid: *by_uid,
+                messages,
+                unchanged_since: *unchanged_since,
+                action: *action,
+                flags,
+            };
+            tells_store(alloc, replica, ops, state, modseq, &asked)
+        }
         Command::Copy {
             by_uid,
             messages,
             name,
-        } => tells_copy(alloc, replica, ops, state, *by_uid, messages, name),
+        } => {
+            let asked = CopyAsked {
+                by_uid: *by_uid,
+                messages,
+                destination: name,
+            };
+            tells_copy(alloc, replica, ops, state, &asked)
+        }
         Command::Move {
             by_uid,
             messages,
             name,
-        } => tells_move(alloc, replica, ops, state, *by_uid, messages, name),
+        } => {
+            let asked = CopyAsked {
+                by_uid: *by_uid,
+                messages,
+                destination: name,
+            };
+            tells_move(alloc, replica, ops, state, &asked)
+        }
     }
 }
 
@@ -157,12 +165,64 @@ pub fn rows_behind<'a>(
     Ok(view.rows_under(alloc, replica.uidvalidity_after(view.name(), ops), rows))
 }
 
-/// What a view's mailbox has before these operations.
-pub fn rows_before<'a>(
+/// What a session that has this view finds its mailbox to be before these operations.
+pub fn mailbox_before<'a>(
     alloc: Global,
     replica: &'a Replica,
-    view: &View,
-) -> Result<Rows<'a>, AllocError>
+    view: &'a View,
+    read_only: bool,
+) -> Result<OpenMailbox<'a>, AllocError>
+    ensures { IfOk result (λ mailbox. mailbox ≡ mailbox_in replica.now.start replica.now.applied view.now read_only) }
+{
+    let rows = rows_before(alloc, replica, view)?;
+    Ok(OpenMailbox {
+        name: view.name(),
+        rows,
+        view,
+        read_only,
+    })
+}
+
+/// The same behind these operations.
+fn mailbox_behind<'a>(
+    alloc: Global,
+    replica: &'a Replica,
+    ops: &'a [SoundOp],
+    view: &'a View,
+    read_only: bool,
+) -> Result<OpenMailbox<'a>, AllocError>
+    requires { IsReady replica.now ops.now }
+    ensures { IfOk result (λ mailbox. mailbox ≡ mailbox_in replica.now.start (replica.now.applied ++ ops.now) view.now read_only) }
+{
+    let rows = rows_behind(alloc, replica, ops, view)?;
+    Ok(OpenMailbox {
+        name: view.name(),
+        rows,
+        view,
+        read_only,
+    })
+}
+
+/// Where copies come to in a mailbox, with these operations.
+fn landing_of<'a>(
+    alloc: Global,
+    replica: &'a Replica,
+    ops: &'a [SoundOp],
+    name: &Name,
+) -> Result<Landing<'a>, AllocError>
+    requires { IsReady replica.now ops.now }
+    ensures { IfOk result (λ landing. landing ≡ landing_in replica.now.start replica.now.applied (replica.now.applied ++ ops.now) name.now) }
+{
+    let rows = replica.rows_after(alloc, name, ops)?;
+    Ok(Landing {
+        uidvalidity: validity_after(replica, ops, name),
+        uidnext: replica.uidnext(name),
+        rows,
+    })
+}
+
+/// What a view's mailbox has before these operations.
+fn rows_before<'a>(alloc: Global, replica: &'a Replica, view: &View) -> Result<Rows<'a>, AllocError>
     ensures { IfOk result (λ rows. rows ≡ rows_for replica.now.start replica.now.applied view.now) }
 {
     let rows = replica.rows(alloc, view.name())?;
@@ -198,7 +258,7 @@ fn tells_select(
     name: &Name,
 ) -> Result<Telling, AllocError>
     requires { IsReady replica.now ops.now }
-    ensures { IfOk result (λ told. told ≡ select_tells (is_selected state.now) read_only name.now (marks_of replica.now.start name.now (replica.now.applied ++ ops.now)) (listing replica.now.start name.now (replica.now.applied ++ ops.now))) }
+    ensures { IfOk result (λ told. SelectTells (is_selected state.now) read_only name.now (marks_of replica.now.start name.now (replica.now.applied ++ ops.now)) (listing replica.now.start name.now (replica.now.applied ++ ops.now)) told) }
 {
     let rows = replica.rows_after(alloc, name, ops)?;
     let marks = marks_after(replica, ops, name);
@@ -251,13 +311,13 @@ fn tells_uid_expunge(
     state: &State,
     uids: &SequenceSet,
 ) -> Result<Telling, AllocError>
-    ensures { IfOk result (λ told. told ≡ tells_selected state.now (λ view read_only. uid_expunge_tells (rows_for replica.now.start replica.now.applied view) view.entries uids.now)) }
+    ensures { IfOk result (λ told. told ≡ tells_selected state.now (λ view read_only. uid_expunge_tells (mailbox_in replica.now.start replica.now.applied view read_only) uids.now)) }
 {
-    let State::Selected { view, .. } = state else {
+    let State::Selected { view, read_only } = state else {
         return Ok(Telling::nothing(alloc));
     };
-    let rows = rows_before(alloc, replica, view)?;
-    uid_expunge_tells(alloc, &rows, view, uids)
+    let mailbox = mailbox_before(alloc, replica, view, *read_only)?;
+    uid_expunge_tells(alloc, &mailbox, uids)
 }
 
 fn tells_search(
@@ -266,18 +326,16 @@ fn tells_search(
     ops: &[SoundOp],
     state: &State,
     tag: &Octets,
-    by_uid: bool,
-    options: &[SearchOption],
-    steps: &[SearchStep],
+    asked: &SearchAsked<'_>,
 ) -> Result<Telling, AllocError>
     requires { IsReady replica.now ops.now }
-    ensures { IfOk result (λ told. SearchTellsSelected replica.now.start (replica.now.applied ++ ops.now) state.now (λ view rows telling. SearchTells rows view.entries tag.now by_uid options.now steps.now telling) told) }
+    ensures { IfOk result (λ told. SearchTellsSelected replica.now.start (replica.now.applied ++ ops.now) state.now tag.now asked.now told) }
 {
-    let State::Selected { view, .. } = state else {
+    let State::Selected { view, read_only } = state else {
         return Ok(Telling::nothing(alloc));
     };
-    let rows = rows_behind(alloc, replica, ops, view)?;
-    search_tells(alloc, &rows, view, tag, by_uid, options, steps)
+    let mailbox = mailbox_behind(alloc, replica, ops, view, *read_only)?;
+    search_tells(alloc, &mailbox, tag, asked)
 }
 
 fn tells_fetch(
@@ -286,31 +344,17 @@ fn tells_fetch(
     ops: &[SoundOp],
     state: &State,
     modseq: bool,
-    by_uid: bool,
-    messages: &SequenceSet,
-    items: &[FetchItem],
-    changed_since: Option<u64>,
+    asked: &FetchAsked<'_>,
 ) -> Result<Telling, AllocError>
     requires { IsReady replica.now ops.now }
-    ensures { IfOk result (λ told. told ≡ tells_selected state.now (λ view read_only. fetch_tells (rows_for replica.now.start replica.now.applied view) (rows_for replica.now.start (replica.now.applied ++ ops.now) view) view.entries read_only modseq by_uid messages.now items.now changed_since)) }
+    ensures { IfOk result (λ told. told ≡ tells_selected state.now (λ view read_only. fetch_tells (mailbox_in replica.now.start replica.now.applied view read_only) (rows_for replica.now.start (replica.now.applied ++ ops.now) view) modseq asked.now)) }
 {
     let State::Selected { view, read_only } = state else {
         return Ok(Telling::nothing(alloc));
     };
-    let before = rows_before(alloc, replica, view)?;
+    let mailbox = mailbox_before(alloc, replica, view, *read_only)?;
     let after = rows_behind(alloc, replica, ops, view)?;
-    fetch_tells(
-        alloc,
-        &before,
-        &after,
-        view,
-        *read_only,
-        modseq,
-        by_uid,
-        messages,
-        items,
-        changed_since,
-    )
+    fetch_tells(alloc, &mailbox, &after, modseq, asked)
 }
 
 fn tells_store(
@@ -319,33 +363,17 @@ fn tells_store(
     ops: &[SoundOp],
     state: &State,
     modseq: bool,
-    by_uid: bool,
-    messages: &SequenceSet,
-    unchanged_since: Option<u64>,
-    action: StoreAction,
-    flags: &Flags,
+    asked: &StoreAsked<'_>,
 ) -> Result<Telling, AllocError>
     requires { IsReady replica.now ops.now }
-    ensures { IfOk result (λ told. told ≡ tells_selected state.now (λ view read_only. store_tells (rows_for replica.now.start replica.now.applied view) (rows_for replica.now.start (replica.now.applied ++ ops.now) view) view.entries modseq by_uid messages.now unchanged_since action.mode action.silent flags.now)) }
+    ensures { IfOk result (λ told. told ≡ tells_selected state.now (λ view read_only. store_tells (mailbox_in replica.now.start replica.now.applied view read_only) (rows_for replica.now.start (replica.now.applied ++ ops.now) view) modseq asked.now)) }
 {
-    let State::Selected { view, .. } = state else {
+    let State::Selected { view, read_only } = state else {
         return Ok(Telling::nothing(alloc));
     };
-    let before = rows_before(alloc, replica, view)?;
+    let mailbox = mailbox_before(alloc, replica, view, *read_only)?;
     let after = rows_behind(alloc, replica, ops, view)?;
-    store_tells(
-        alloc,
-        &before,
-        &after,
-        view,
-        modseq,
-        by_uid,
-        messages,
-        unchanged_since,
-        action.mode,
-        action.silent,
-        flags,
-    )
+    store_tells(alloc, &mailbox, &after, modseq, asked)
 }
 
 fn tells_copy(
@@ -353,29 +381,17 @@ fn tells_copy(
     replica: &Replica,
     ops: &[SoundOp],
     state: &State,
-    by_uid: bool,
-    messages: &SequenceSet,
-    name: &Name,
+    asked: &CopyAsked<'_>,
 ) -> Result<Telling, AllocError>
     requires { IsReady replica.now ops.now }
-    ensures { IfOk result (λ told. told ≡ tells_selected state.now (λ view read_only. copy_tells (rows_for replica.now.start replica.now.applied view) view.entries by_uid messages.now (validity_of replica.now.start name.now (replica.now.applied ++ ops.now)) (uidnext_of replica.now.start name.now replica.now.applied) (listing replica.now.start name.now (replica.now.applied ++ ops.now)))) }
+    ensures { IfOk result (λ told. told ≡ tells_selected state.now (λ view read_only. copy_tells (mailbox_in replica.now.start replica.now.applied view read_only) asked.now (landing_in replica.now.start replica.now.applied (replica.now.applied ++ ops.now) asked.now.destination))) }
 {
-    let State::Selected { view, .. } = state else {
+    let State::Selected { view, read_only } = state else {
         return Ok(Telling::nothing(alloc));
     };
-    let before = rows_before(alloc, replica, view)?;
-    let landed = replica.rows_after(alloc, name, ops)?;
-    let uidvalidity = validity_after(replica, ops, name);
-    copy_tells(
-        alloc,
-        &before,
-        view,
-        by_uid,
-        messages,
-        uidvalidity,
-        replica.uidnext(name),
-        &landed,
-    )
+    let mailbox = mailbox_before(alloc, replica, view, *read_only)?;
+    let landing = landing_of(alloc, replica, ops, asked.destination)?;
+    copy_tells(alloc, &mailbox, asked, &landing)
 }
 
 fn tells_move(
@@ -383,27 +399,15 @@ fn tells_move(
     replica: &Replica,
     ops: &[SoundOp],
     state: &State,
-    by_uid: bool,
-    messages: &SequenceSet,
-    name: &Name,
+    asked: &CopyAsked<'_>,
 ) -> Result<Telling, AllocError>
     requires { IsReady replica.now ops.now }
-    ensures { IfOk result (λ told. told ≡ tells_selected state.now (λ view read_only. move_tells (rows_for replica.now.start replica.now.applied view) view.entries by_uid messages.now (validity_of replica.now.start name.now (replica.now.applied ++ ops.now)) (uidnext_of replica.now.start name.now replica.now.applied) (listing replica.now.start name.now (replica.now.applied ++ ops.now)))) }
+    ensures { IfOk result (λ told. told ≡ tells_selected state.now (λ view read_only. move_tells (mailbox_in replica.now.start replica.now.applied view read_only) asked.now (landing_in replica.now.start replica.now.applied (replica.now.applied ++ ops.now) asked.now.destination))) }
 {
-    let State::Selected { view, .. } = state else {
+    let State::Selected { view, read_only } = state else {
         return Ok(Telling::nothing(alloc));
     };
-    let before = rows_before(alloc, replica, view)?;
-    let landed = replica.rows_after(alloc, name, ops)?;
-    let uidvalidity = validity_after(replica, ops, name);
-    move_tells(
-        alloc,
-        &before,
-        view,
-        by_uid,
-        messages,
-        uidvalidity,
-        replica.uidnext(name),
-        &landed,
-    )
+    let mailbox = mailbox_before(alloc, replica, view, *read_only)?;
+    let landing = landing_of(alloc, replica, ops, asked.destination)?;
+    move_tells(alloc, &mailbox, asked, &landing)
 }

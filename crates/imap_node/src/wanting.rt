@@ -15,22 +15,22 @@ ghost use Rattle.imap_commands.specs.Selecting.{select_wants};
 ghost use Rattle.imap_commands.specs.Storing.{store_wants};
 ghost use Rattle.crdt_ops.specs.Sets.{delete_set_of, subscription_tags_of};
 ghost use Rattle.imap_node.specs.Commands.{is_known, wants, when_known, when_new, when_selected};
-ghost use Rattle.imap_node.specs.Mailboxes.{are_some, is_subscribed, rows_for};
+ghost use Rattle.imap_node.specs.Mailboxes.{are_some, is_subscribed, mailbox_in};
 ghost use Rattle.imap_node.specs.Respond.{wants_of};
 ghost use Rattle.uid_projection.specs.Incarnations.{is_there};
 
 use crate::input::Input;
 use crate::replica::Replica;
-use crate::telling::rows_before;
+use crate::telling::mailbox_before;
 use crdt_ops::Kind;
 use imap_answers::Refusal;
 use imap_commands::{
-    State, append_wants, close_wants, copy_wants, create_wants, created_name, delete_wants,
-    expunge_wants, fetch_wants, login_wants, move_wants, search_wants, select_wants, status_wants,
-    store_wants, subscribe_wants, uid_expunge_wants, unsubscribe_wants,
+    CopyAsked, FetchAsked, State, StoreAsked, append_wants, close_wants, copy_wants, create_wants,
+    created_name, delete_wants, expunge_wants, fetch_wants, login_wants, move_wants, search_wants,
+    select_wants, status_wants, store_wants, subscribe_wants, uid_expunge_wants, unsubscribe_wants,
 };
-use imap_syntax::{Command, FetchItem, IdleLine, SearchStep, StoreMode};
-use imap_types::{DateTime, Flags, Name, Octets, SequenceSet};
+use imap_syntax::{Command, IdleLine, SearchStep};
+use imap_types::{DateTime, Flags, Name, Octets, SequenceSet, Text};
 use std::alloc::{AllocError, Global};
 use tags_clocks::OpId;
 
@@ -98,41 +98,55 @@ fn wants(
             messages,
             items,
             changed_since,
-        } => wants_fetch(
-            alloc,
-            replica,
-            state,
-            *by_uid,
-            messages,
-            items.as_slice(),
-            *changed_since,
-        ),
+        } => {
+            let asked = FetchAsked {
+                by_uid: *by_uid,
+                messages,
+                items: items.as_slice(),
+                changed_since: *changed_since,
+            };
+            wants_fetch(alloc, replica, state, &asked)
+        }
         Command::Store {
             by_uid,
             messages,
             unchanged_since,
             action,
             flags,
-        } => wants_store(
-            alloc,
-            replica,
-            state,
-            *by_uid,
-            messages,
-            *unchanged_since,
-            action.mode,
-            flags,
-        ),
+        } => {
+            let asked = StoreAsked {
+                by_uid: *by_uid,
+                messages,
+                unchanged_since: *unchanged_since,
+                action: *action,
+                flags,
+            };
+            wants_store(alloc, replica, state, &asked)
+        }
         Command::Copy {
             by_uid,
             messages,
             name,
-        } => wants_copy(alloc, replica, state, *by_uid, messages, name),
+        } => {
+            let asked = CopyAsked {
+                by_uid: *by_uid,
+                messages,
+                destination: name,
+            };
+            wants_copy(alloc, replica, state, &asked)
+        }
         Command::Move {
             by_uid,
             messages,
             name,
-        } => wants_move(alloc, replica, state, *by_uid, messages, name),
+        } => {
+            let asked = CopyAsked {
+                by_uid: *by_uid,
+                messages,
+                destination: name,
+            };
+            wants_move(alloc, replica, state, &asked)
+        }
     }
 }
 
@@ -287,7 +301,7 @@ fn wants_append(
     name: &Name,
     flags: &Flags,
     date: &Option<DateTime>,
-    text: &Octets,
+    text: &Text,
 ) -> Result<Vec<Kind>, Refusal>
     ensures { Gives (λ kinds. kinds.items) result (when_known state.now (append_wants (is_there name.now replica.now.applied) name.now flags.now date.now stamp.now text.now)) }
 {
@@ -298,23 +312,23 @@ fn wants_append(
 }
 
 fn wants_close(alloc: Global, replica: &Replica, state: &State) -> Result<Vec<Kind>, Refusal>
-    ensures { Gives (λ kinds. kinds.items) result (when_selected state.now (λ view read_only. close_wants view.name (rows_for replica.now.start replica.now.applied view) read_only)) }
+    ensures { Gives (λ kinds. kinds.items) result (when_selected state.now (λ view read_only. close_wants (mailbox_in replica.now.start replica.now.applied view read_only))) }
 {
     let State::Selected { view, read_only } = state else {
         return Err(Refusal::NotNow);
     };
-    let rows = rows_before(alloc, replica, view)?;
-    close_wants(alloc, view.name(), &rows, *read_only)
+    let mailbox = mailbox_before(alloc, replica, view, *read_only)?;
+    close_wants(alloc, &mailbox)
 }
 
 fn wants_expunge(alloc: Global, replica: &Replica, state: &State) -> Result<Vec<Kind>, Refusal>
-    ensures { Gives (λ kinds. kinds.items) result (when_selected state.now (λ view read_only. expunge_wants view.name (rows_for replica.now.start replica.now.applied view) read_only)) }
+    ensures { Gives (λ kinds. kinds.items) result (when_selected state.now (λ view read_only. expunge_wants (mailbox_in replica.now.start replica.now.applied view read_only))) }
 {
     let State::Selected { view, read_only } = state else {
         return Err(Refusal::NotNow);
     };
-    let rows = rows_before(alloc, replica, view)?;
-    expunge_wants(alloc, view.name(), &rows, *read_only)
+    let mailbox = mailbox_before(alloc, replica, view, *read_only)?;
+    expunge_wants(alloc, &mailbox)
 }
 
 fn wants_uid_expunge(
@@ -323,13 +337,13 @@ fn wants_uid_expunge(
     state: &State,
     uids: &SequenceSet,
 ) -> Result<Vec<Kind>, Refusal>
-    ensures { Gives (λ kinds. kinds.items) result (when_selected state.now (λ view read_only. uid_expunge_wants view.name (rows_for replica.now.start replica.now.applied view) view.entries read_only uids.now)) }
+    ensures { Gives (λ kinds. kinds.items) result (when_selected state.now (λ view read_only. uid_expunge_wants (mailbox_in replica.now.start replica.now.applied view read_only) uids.now)) }
 {
     let State::Selected { view, read_only } = state else {
         return Err(Refusal::NotNow);
     };
-    let rows = rows_before(alloc, replica, view)?;
-    uid_expunge_wants(alloc, view.name(), &rows, view, *read_only, uids)
+    let mailbox = mailbox_before(alloc, replica, view, *read_only)?;
+    uid_expunge_wants(alloc, &mailbox, uids)
 }
 
 fn wants_search(alloc: Global, state: &State, steps: &[SearchStep]) -> Result<Vec<Kind>, Refusal>
@@ -345,108 +359,58 @@ fn wants_fetch(
     alloc: Global,
     replica: &Replica,
     state: &State,
-    by_uid: bool,
-    messages: &SequenceSet,
-    items: &[FetchItem],
-    changed_since: Option<u64>,
+    asked: &FetchAsked<'_>,
 ) -> Result<Vec<Kind>, Refusal>
-    ensures { Gives (λ kinds. kinds.items) result (when_selected state.now (λ view read_only. fetch_wants view.name (rows_for replica.now.start replica.now.applied view) view.entries read_only by_uid messages.now items.now changed_since)) }
+    ensures { Gives (λ kinds. kinds.items) result (when_selected state.now (λ view read_only. fetch_wants (mailbox_in replica.now.start replica.now.applied view read_only) asked.now)) }
 {
     let State::Selected { view, read_only } = state else {
         return Err(Refusal::NotNow);
     };
-    let rows = rows_before(alloc, replica, view)?;
-    fetch_wants(
-        alloc,
-        view.name(),
-        &rows,
-        view,
-        *read_only,
-        by_uid,
-        messages,
-        items,
-        changed_since,
-    )
+    let mailbox = mailbox_before(alloc, replica, view, *read_only)?;
+    fetch_wants(alloc, &mailbox, asked)
 }
 
 fn wants_store(
     alloc: Global,
     replica: &Replica,
     state: &State,
-    by_uid: bool,
-    messages: &SequenceSet,
-    unchanged_since: Option<u64>,
-    mode: StoreMode,
-    flags: &Flags,
+    asked: &StoreAsked<'_>,
 ) -> Result<Vec<Kind>, Refusal>
-    ensures { Gives (λ kinds. kinds.items) result (when_selected state.now (λ view read_only. store_wants view.name (rows_for replica.now.start replica.now.applied view) view.entries read_only by_uid messages.now unchanged_since mode flags.now)) }
+    ensures { Gives (λ kinds. kinds.items) result (when_selected state.now (λ view read_only. store_wants (mailbox_in replica.now.start replica.now.applied view read_only) asked.now)) }
 {
     let State::Selected { view, read_only } = state else {
         return Err(Refusal::NotNow);
     };
-    let rows = rows_before(alloc, replica, view)?;
-    store_wants(
-        alloc,
-        view.name(),
-        &rows,
-        view,
-        *read_only,
-        by_uid,
-        messages,
-        unchanged_since,
-        mode,
-        flags,
-    )
+    let mailbox = mailbox_before(alloc, replica, view, *read_only)?;
+    store_wants(alloc, &mailbox, asked)
 }
 
 fn wants_copy(
     alloc: Global,
     replica: &Replica,
     state: &State,
-    by_uid: bool,
-    messages: &SequenceSet,
-    name: &Name,
+    asked: &CopyAsked<'_>,
 ) -> Result<Vec<Kind>, Refusal>
-    ensures { Gives (λ kinds. kinds.items) result (when_selected state.now (λ view read_only. copy_wants name.now (is_there name.now replica.now.applied) (rows_for replica.now.start replica.now.applied view) view.entries by_uid messages.now)) }
+    ensures { Gives (λ kinds. kinds.items) result (when_selected state.now (λ view read_only. copy_wants (mailbox_in replica.now.start replica.now.applied view read_only) asked.now (is_there asked.now.destination replica.now.applied))) }
 {
-    let State::Selected { view, .. } = state else {
+    let State::Selected { view, read_only } = state else {
         return Err(Refusal::NotNow);
     };
-    let rows = rows_before(alloc, replica, view)?;
-    copy_wants(
-        alloc,
-        name,
-        replica.exists(name),
-        &rows,
-        view,
-        by_uid,
-        messages,
-    )
+    let mailbox = mailbox_before(alloc, replica, view, *read_only)?;
+    copy_wants(alloc, &mailbox, asked, replica.exists(asked.destination))
 }
 
 fn wants_move(
     alloc: Global,
     replica: &Replica,
     state: &State,
-    by_uid: bool,
-    messages: &SequenceSet,
-    name: &Name,
+    asked: &CopyAsked<'_>,
 ) -> Result<Vec<Kind>, Refusal>
-    ensures { Gives (λ kinds. kinds.items) result (when_selected state.now (λ view read_only. move_wants view.name name.now (is_there name.now replica.now.applied) (rows_for replica.now.start replica.now.applied view) view.entries read_only by_uid messages.now)) }
+    ensures { Gives (λ kinds. kinds.items) result (when_selected state.now (λ view read_only. move_wants (mailbox_in replica.now.start replica.now.applied view read_only) asked.now (is_there asked.now.destination replica.now.applied))) }
 {
     let State::Selected { view, read_only } = state else {
         return Err(Refusal::NotNow);
     };
-    let rows = rows_before(alloc, replica, view)?;
-    move_wants(
-        alloc,
-        view.name(),
-        name,
-        replica.exists(name),
-        &rows,
-        view,
-        *read_only,
-        by_uid,
-        messages,
-    )
+    let mailbox = mailbox_before(alloc, replica, view, *read_only)?;
+    move_wants(alloc, &mailbox, asked, replica.exists(asked.destination))
 }

@@ -4,7 +4,6 @@ pub mod PlacingLemmas
 pub mod ListingLemmas
 pub mod SimplerLemmas
 pub mod CountLemmas
-pub mod GrammarLemmas
 pub mod HitLemmas
 pub mod KeyLemmas
 pub mod NamingLemmas

@@ -9,7 +9,7 @@ ghost use Rattle.mail_text.specs.Fields.{fields_of};
 use crate::shown::Shown;
 use imap_answers::{Answer, FetchItems, SectionData, Sections};
 use imap_syntax::{FetchItem, Partial};
-use imap_types::{DateTime, Flags, Octets, Section};
+use imap_types::{DateTime, Flags, Octets, Section, Text};
 use mail_listing::{Row, Rows};
 use mail_text::{body, fields, header, other_fields, partial};
 use std::alloc::{AllocError, Global};
@@ -112,14 +112,14 @@ fn items_of(
 ) -> Result<FetchItems, AllocError>
     ensures { IfOk result (λ told. told ≡ items_of items.now mode (listed old.now) (listed row.now)) }
 {
-    let sections = sections(alloc, row.text, items)?;
+    let sections = sections(alloc, row, items)?;
     let tells_flags = tells_flags(items, mode, old);
     let flags = flags_where(alloc, tells_flags, row)?;
     Ok(FetchItems {
         uid: tells_uid(items, mode).then_some(row.uid),
         flags,
         date: date_where(asks(items, Part::Date), &row.shown_date()),
-        size: asks(items, Part::Size).then_some(row.text.len() as u64),
+        size: asks(items, Part::Size).then_some(row.shown_text().len() as u64),
         modseq: tells_modseq(items, mode, tells_flags).then_some(row.modseq),
         sections,
     })
@@ -212,23 +212,23 @@ fn part_of(item: &FetchItem) -> Part
 }
 
 /// The sections that are asked, in order.
-fn sections(alloc: Global, text: &[u8], items: &[FetchItem]) -> Result<Sections, AllocError>
-    ensures { IfOk result (λ sections. sections ≡ are_sections text.now items.now) }
+fn sections(alloc: Global, row: &Row<'_>, items: &[FetchItem]) -> Result<Sections, AllocError>
+    ensures { IfOk result (λ sections. sections ≡ are_sections (listed row.now).text items.now) }
 {
     let mut found = Vec::new(alloc);
     for item in items {
-        push_section(alloc, text, item, &mut found)?;
+        push_section(alloc, row, item, &mut found)?;
     }
     Ok(Sections::new(found))
 }
 
 fn push_section(
     alloc: Global,
-    text: &[u8],
+    row: &Row<'_>,
     item: &FetchItem,
     found: &mut Vec<SectionData>,
 ) -> Result<(), AllocError>
-    ensures { OnOk result (found.new.items ≡ found.old.items ++ section_part text.now item.now) }
+    ensures { OnOk result (found.new.items ≡ found.old.items ++ section_part (listed row.now).text item.now) }
 {
     match item {
         FetchItem::Body {
@@ -236,7 +236,7 @@ fn push_section(
             partial,
             ..
         } => {
-            let octets = section_of(alloc, section, *partial, text)?;
+            let octets = section_of(alloc, section, *partial, row)?;
             let section = section.copy(alloc)?;
             let origin = origin_of(*partial);
             found.push(SectionData {
@@ -255,16 +255,26 @@ fn section_of(
     alloc: Global,
     section: &Section,
     partial: Option<Partial>,
-    text: &[u8],
-) -> Result<Octets, AllocError>
-    ensures { IfOk result (λ octets. octets ≡ cut partial (section_of section.now text.now)) }
+    row: &Row<'_>,
+) -> Result<Text, AllocError>
+    ensures { IfOk result (λ octets. octets ≡ cut partial (section_of section.now (listed row.now).text)) }
 {
     match section {
-        Section::Whole => Octets::copied_from(alloc, cut(text, partial)),
-        Section::Header => Octets::copied_from(alloc, cut(header(text), partial)),
-        Section::Text => Octets::copied_from(alloc, cut(body(text), partial)),
-        Section::Fields { names } => named_fields(alloc, names.names(), partial, text),
-        Section::FieldsNot { names } => unnamed_fields(alloc, names.names(), partial, text),
+        Section::Whole => whole(alloc, row, partial),
+        Section::Header => Text::copied_from(alloc, cut(header(row.shown_text()), partial)),
+        Section::Text => Text::copied_from(alloc, cut(body(row.shown_text()), partial)),
+        Section::Fields { names } => named_fields(alloc, names.names(), partial, row),
+        Section::FieldsNot { names } => unnamed_fields(alloc, names.names(), partial, row),
+    }
+}
+
+/// The octets that are told of the whole text: shared with the message where all are asked.
+fn whole(alloc: Global, row: &Row<'_>, partial: Option<Partial>) -> Result<Text, AllocError>
+    ensures { IfOk result (λ octets. octets ≡ cut partial (listed row.now).text) }
+{
+    match partial {
+        None => row.copied_text(alloc),
+        Some(_) => Text::copied_from(alloc, cut(row.shown_text(), partial)),
     }
 }
 
@@ -272,24 +282,24 @@ fn named_fields(
     alloc: Global,
     names: &[Octets],
     partial: Option<Partial>,
-    text: &[u8],
-) -> Result<Octets, AllocError>
-    ensures { IfOk result (λ octets. octets ≡ cut partial (fields_of true names.now text.now)) }
+    row: &Row<'_>,
+) -> Result<Text, AllocError>
+    ensures { IfOk result (λ octets. octets ≡ cut partial (fields_of true names.now (listed row.now).text)) }
 {
-    let chosen = fields(alloc, text, names)?;
-    Octets::copied_from(alloc, cut(&chosen, partial))
+    let chosen = fields(alloc, row.shown_text(), names)?;
+    Text::copied_from(alloc, cut(&chosen, partial))
 }
 
 fn unnamed_fields(
     alloc: Global,
     names: &[Octets],
     partial: Option<Partial>,
-    text: &[u8],
-) -> Result<Octets, AllocError>
-    ensures { IfOk result (λ octets. octets ≡ cut partial (fields_of false names.now text.now)) }
+    row: &Row<'_>,
+) -> Result<Text, AllocError>
+    ensures { IfOk result (λ octets. octets ≡ cut partial (fields_of false names.now (listed row.now).text)) }
 {
-    let chosen = other_fields(alloc, text, names)?;
-    Octets::copied_from(alloc, cut(&chosen, partial))
+    let chosen = other_fields(alloc, row.shown_text(), names)?;
+    Text::copied_from(alloc, cut(&chosen, partial))
 }
 
 fn cut(octets: &[u8], range: Option<Partial>) -> &[u8]

@@ -90,13 +90,18 @@ fn is_so(
             *is_set,
             row.versions.has_keyword(keyword.as_bytes()),
         )),
-        SearchTest::Holds { place, text } => holds_in(alloc, *place, text.as_bytes(), row.text),
+        SearchTest::Holds { place, text } => holds_in(
+            alloc,
+            *place,
+            text.as_bytes(),
+            row.shown_text(),
+        ),
         SearchTest::Header { name, text } => {
-            field_contains_nocase(alloc, row.text, name.as_bytes(), text.as_bytes())
+            field_contains_nocase(alloc, row.shown_text(), name.as_bytes(), text.as_bytes())
         }
         SearchTest::Dated { order, day } => Ok(is_dated(*order, *day, &row.shown_date())),
-        SearchTest::Larger { octets } => Ok((row.text.len() as u64) > *octets),
-        SearchTest::Smaller { octets } => Ok((row.text.len() as u64) < *octets),
+        SearchTest::Larger { octets } => Ok((row.shown_text().len() as u64) > *octets),
+        SearchTest::Smaller { octets } => Ok((row.shown_text().len() as u64) < *octets),
         SearchTest::ModSeq { value } => Ok(row.modseq >= *value),
         SearchTest::Uids { uids } => Ok(set_names(last.uid, uids.ranges(), row.uid)),
         SearchTest::Numbers { numbers } => Ok(set_names(

@@ -90,6 +90,6 @@ fn octets(rows: &Rows<'_>, place: u32) -> u64
 {
     match rows.row_at(place as usize) {
         None => 0,
-        Some(row) => row.text.len() as u64,
+        Some(row) => row.shown_text().len() as u64,
     }
 }

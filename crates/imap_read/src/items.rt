@@ -8,7 +8,7 @@ ghost use Rattle.imap_read.specs.ReadingAnswers.{bodies_at, body_at, data_at, da
 use crate::fault::ReadFault;
 use crate::scan::{counted, expect, field, followed, lead, literal, number, skip, small, words};
 use imap_answers::{FetchItems, SectionData, Sections, StatusItems};
-use imap_types::{DateTime, FieldNames, Flags, Keywords, Octets, Section};
+use imap_types::{DateTime, FieldNames, Flags, Keywords, Octets, Section, Text};
 use std::alloc::Global;
 
 /// What stands behind a text of a list, where it is there.
@@ -234,14 +234,14 @@ fn body(alloc: Global, bytes: &[u8]) -> Result<(SectionData, &[u8]), ReadFault>
 
 /// What stands behind the section of a part: where it begins, and its octets.
 #[tactic(auto, unfolding(crate::specs::ReadingAnswers::data_at))]
-fn octets_behind(alloc: Global, bytes: &[u8]) -> Result<((Option<u32>, Octets), &[u8]), ReadFault>
+fn octets_behind(alloc: Global, bytes: &[u8]) -> Result<((Option<u32>, Text), &[u8]), ReadFault>
     ensures { Gives (λ x. (x.0, x.1.now)) result (data_at bytes.now) }
 {
     let rest = expect(bytes, b"]")?;
     let (origin, rest) = origin(rest)?;
     let rest = expect(rest, b" ")?;
     let (octets, rest) = literal(alloc, rest)?;
-    Ok(((origin, octets), rest))
+    Ok(((origin, Text::new(octets.into_vec())?), rest))
 }
 
 fn bodies(

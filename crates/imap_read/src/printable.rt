@@ -11,7 +11,7 @@ ghost use Rattle.imap_read.specs.Reading.{is_in};
 
 use crate::scan::Class;
 use imap_answers::{Answer, Code, FetchItems, Notice, SearchResults, SectionData, StatusItems};
-use imap_types::{DateTime, Flags, Name, NumberSet, Octets, Run, Section};
+use imap_types::{DateTime, Flags, Name, NumberSet, Octets, Run, Section, Text};
 
 /// Whether an answer may be sent.
 pub fn is_printable(answer: &Answer) -> bool
@@ -296,7 +296,7 @@ fn is_part(part: &SectionData) -> bool
     ensures { IsTrue result ↔ IsPart part.now }
 {
     small_fits_if_any(part.origin);
-    octets_fit(&part.octets);
+    text_fits(&part.octets);
     is_section(&part.section)
 }
 
@@ -329,6 +329,12 @@ fn octets_fit(octets: &Octets)
     ensures { IsWide (length octets.now) }
 {
     let _count = octets.as_bytes().len();
+}
+
+fn text_fits(text: &Text)
+    ensures { IsWide (length text.now) }
+{
+    let _count = text.as_bytes().len();
 }
 
 /// From 1 on.

@@ -44,11 +44,29 @@ fn printed_so(
     ensures same { IfOk result (λ read. IfSome read (λ x. x.0 ≡ answer)) }
     ensures only { (rest : List ℕ) → text.now ≡ printed answer ++ rest → IfOk result (λ read. read ≡ Some (answer, length (printed answer))) }
 {
+    match length_so(alloc, &answer, text) {
+        Ok(Some(length)) => Ok(Some((answer, length))),
+        Ok(None) => {
+            drop(answer);
+            Ok(None)
+        }
+        Err(AllocError) => {
+            drop(answer);
+            Err(AllocError)
+        }
+    }
+}
+
+/// The length of an answer's text, where that begins these octets.
+fn length_so(alloc: Global, answer: &Answer, text: &[u8]) -> Result<Option<usize>, AllocError>
+    ensures found { IfOk result (λ read. IfSome read (λ size. (text.now ≡ printed answer.now ++ drop size text.now) × (size ≡ length (printed answer.now)))) }
+    ensures only { (rest : List ℕ) → text.now ≡ printed answer.now ++ rest → IfOk result (λ read. read ≡ Some (length (printed answer.now))) }
+{
     let mut out = Vec::new(alloc);
-    print(&answer, &mut out)?;
+    print(answer, &mut out)?;
     match skip(text, &out) {
         None => Ok(None),
-        Some(_) => Ok(Some((answer, out.len()))),
+        Some(_) => Ok(Some(out.len())),
     }
 }
 

@@ -6,6 +6,7 @@ pub mod KeyWords
 pub mod Keys
 pub mod Languages
 pub mod MessageFlags
+pub mod SearchKeys
 pub mod Sets
 pub mod Strings
 pub mod Words

@@ -1,5 +1,8 @@
-use Rattle.std.specs.Prelude.{codes, ◌≡◌, ◌⊎◌, ℕ, true, false, List, [], ◌∷◌, Option, Some, None}
-use Rattle.imap_types.specs.Keywords.{lowered, with_text}
+use Rattle.std.specs.Prelude.{codes, ◌≡◌, ◌⊎◌, ℕ, Bool, true, false, List, [], Option}
+use Rattle.std.specs.List.{list_any}
+use Rattle.std.specs.Option.{unwrap_or}
+use Rattle.std.specs.Str.{bytes_eq}
+use Rattle.imap_types.specs.Keywords.{AreKeywords, lowered}
 use Rattle.imap_types.specs.declared.flags.Flags.{Flags}
 use Rattle.imap_syntax.specs.Languages.{◌⌢◌, exactly, sp, word, in_parens, listed, maybe_listed, optional}
 use Rattle.imap_syntax.specs.Strings.{run}
@@ -7,6 +10,7 @@ use Rattle.imap_syntax.specs.Words.{system_word}
 use Rattle.imap_syntax.specs.declared.class.Class.TheVariants.{Atom}
 use Rattle.imap_syntax.specs.declared.flags.Flag.{Flag}
 use Rattle.imap_syntax.specs.declared.flags.Flag.TheVariants.{System, Keyword}
+use Rattle.imap_syntax.specs.declared.flags.SystemFlag.{SystemFlag}
 use Rattle.imap_syntax.specs.declared.flags.SystemFlag.TheVariants.{Answered, Flagged, Deleted, Seen, Draft}
 
 -- A flag: `\` and the word of a system flag, or a keyword (RFC 9051, section 9, flag).
@@ -14,23 +18,30 @@ abbrev pub flag : Flag → List ℕ → Type 0
 flag (System known) = exactly (codes "\\") ⌢ word (system_word known)
 flag (Keyword keyword) = run Atom keyword
 
--- No flags.
-abbrev pub no_flags : Flags
-no_flags = record { answered = false; flagged = false; deleted = false; seen = false; draft = false; keywords = [] }
+-- A flag that is written is this system flag.
+abbrev pub is_system : SystemFlag → Flag → Bool
+is_system Answered (System Answered) = true
+is_system Flagged (System Flagged) = true
+is_system Deleted (System Deleted) = true
+is_system Seen (System Seen) = true
+is_system Draft (System Draft) = true
+is_system _ _ = false
 
--- A set of flags with one more (RFC 9051, section 2.3.2: keywords have no case).
-abbrev pub with_flag : Flags → Flag → Flags
-with_flag flags (System Answered) = record flags { answered = true }
-with_flag flags (System Flagged) = record flags { flagged = true }
-with_flag flags (System Deleted) = record flags { deleted = true }
-with_flag flags (System Seen) = record flags { seen = true }
-with_flag flags (System Draft) = record flags { draft = true }
-with_flag flags (Keyword keyword) = record flags { keywords = with_text (lowered keyword) flags.keywords }
+-- It is this keyword, in any case of letters.
+abbrev pub is_keyword : List ℕ → Flag → Bool
+is_keyword word (System known) = false
+is_keyword word (Keyword keyword) = bytes_eq word (lowered keyword)
 
--- A set of flags with all of these.
-abbrev pub flags_of : Flags → List Flag → Flags
-flags_of flags [] = flags
-flags_of flags (one ∷ more) = flags_of (with_flag flags one) more
+-- The set of the flags that are written: each system flag that is, and each keyword that is, once, in lower case (RFC 9051, section 2.3.2).
+-- There is one such set.
+pub record AreWritten (written : List Flag) (flags : Flags) : Type 0 where
+  pub answered : flags.answered ≡ list_any (is_system Answered) written
+  pub flagged : flags.flagged ≡ list_any (is_system Flagged) written
+  pub deleted : flags.deleted ≡ list_any (is_system Deleted) written
+  pub seen : flags.seen ≡ list_any (is_system Seen) written
+  pub draft : flags.draft ≡ list_any (is_system Draft) written
+  pub set : AreKeywords flags.keywords
+  pub keywords : (word : List ℕ) → list_any (bytes_eq word) flags.keywords ≡ list_any (is_keyword word) written
 
 -- No flags or more between parentheses (RFC 9051, section 9, flag-list).
 abbrev pub flag_group : List Flag → List ℕ → Type 0
@@ -41,13 +52,8 @@ abbrev pub stored_texts : List Flag → List ℕ → Type 0
 stored_texts written text = flag_group written text ⊎ listed sp flag written text
 
 abbrev pub stored : Flags → List ℕ → Type 0
-stored flags text = (written : List Flag) × stored_texts written text × (flags_of no_flags written ≡ flags)
-
--- The flags of a group, or none where there is no group.
-abbrev pub flags_given : Option (List Flag) → Flags
-flags_given None = no_flags
-flags_given (Some written) = flags_of no_flags written
+stored flags text = (written : List Flag) × stored_texts written text × AreWritten written flags
 
 -- What APPEND takes: a group behind a space, or nothing for no flags (RFC 9051, section 9, append).
 abbrev pub append_flags : Flags → List ℕ → Type 0
-append_flags flags text = (given : Option (List Flag)) × optional flag_group given text × (flags_given given ≡ flags)
+append_flags flags text = (given : Option (List Flag)) × optional flag_group given text × AreWritten (unwrap_or given []) flags

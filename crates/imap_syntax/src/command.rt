@@ -1,9 +1,10 @@
 use crate::fetch::FetchItem;
 use crate::many::Many;
-use crate::search::{SearchOption, SearchStep};
+use crate::search::SearchOption;
 use crate::status::StatusItem;
+use crate::steps::SearchSteps;
 use crate::store::StoreAction;
-use imap_types::{DateTime, Flags, Name, Octets, SequenceSet};
+use imap_types::{DateTime, Flags, Name, Octets, SequenceSet, Text};
 
 /// A command and its tag (RFC 9051, section 2.2.1).
 #[derive(Drop)]
@@ -80,7 +81,7 @@ pub enum Command {
         name: Name,
         flags: Flags,
         date: Option<DateTime>,
-        text: Octets,
+        text: Text,
     },
     /// RFC 2177, section 3.
     Idle,
@@ -94,12 +95,12 @@ pub enum Command {
     UidExpunge {
         uids: SequenceSet,
     },
-    /// RFC 9051, section 6.4.4. The options are as they were written; the steps come in the order in which they are
+    /// RFC 9051, section 6.4.4. The options are as they were written; the steps are a key's, in the order in which they are
     /// worked off, each behind those that it works on. A charset, which is UTF-8 or US-ASCII, isn't kept.
     Search {
         by_uid: bool,
         options: Many<SearchOption>,
-        steps: Many<SearchStep>,
+        steps: SearchSteps,
     },
     /// RFC 9051, section 6.4.5. The items are at least one, as they were written, and those of FAST in its place;
     /// `changed_since` is a mod-sequence up to 2^63 - 1 (RFC 7162, section 3.1.4.1).

@@ -11,6 +11,7 @@ mod idle;
 mod many;
 mod search;
 mod status;
+mod steps;
 mod store;
 mod word;
 
@@ -22,5 +23,6 @@ pub use idle::IdleLine;
 pub use many::Many;
 pub use search::{DayOrder, KeyWord, SearchOption, SearchStep, SearchTest, TextPlace};
 pub use status::StatusItem;
+pub use steps::SearchSteps;
 pub use store::{StoreAction, StoreMode};
 pub use word::CommandWord;

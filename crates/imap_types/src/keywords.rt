@@ -3,6 +3,7 @@ ghost use Rattle.std.specs.List.{insert, list_all};
 ghost use Rattle.imap_types.specs.Keywords.{are_ascending, are_keywords, has_keyword, is_astring_octet, is_atom_octet, is_lawful_keyword, is_lowered, lowered, with_text};
 
 use crate::Octets;
+use smallvec::SmallVec;
 use std::alloc::{AllocError, Global};
 use std::cmp::Ordering;
 use std::marker::Model;
@@ -10,10 +11,13 @@ use std::marker::Model;
 /// The longest keyword that a message may bear, in octets.
 pub const MAX_KEYWORD_OCTETS: usize = 64;
 
+/// So many keywords stand in the set itself; most messages have none or one.
+const INLINE: usize = 1;
+
 /// A set of keywords: each in lower case, ascending by octets, none twice (RFC 9051, section 2.3.2).
 #[derive(Drop)]
 pub struct Keywords {
-    words: Vec<Octets>,
+    words: SmallVec<Octets, INLINE>,
 }
 
 impl Model for Keywords {
@@ -35,7 +39,7 @@ impl Keywords {
         ensures { result ≡ [] }
     {
         Keywords {
-            words: Vec::new(alloc),
+            words: SmallVec::new(alloc),
         }
     }
 
@@ -45,7 +49,9 @@ impl Keywords {
         ensures { result ≡ (if are_keywords words.items then Some words.items else None) }
     {
         if are_keywords(&words) {
-            Some(Keywords { words })
+            Some(Keywords {
+                words: SmallVec::from(words),
+            })
         } else {
             None
         }
@@ -159,10 +165,11 @@ pub fn are_same(words: &[Octets], others: &[Octets]) -> bool
     true
 }
 
-fn copied(alloc: Global, words: &[Octets]) -> Result<Vec<Octets>, AllocError>
+fn copied(alloc: Global, words: &[Octets]) -> Result<SmallVec<Octets, INLINE>, AllocError>
     ensures { IfOk result (λ copied. copied.items ≡ words.now) }
 {
-    let mut copies = Vec::with_capacity(alloc, words.len())?;
+    let mut copies = SmallVec::new(alloc);
+    copies.reserve(words.len())?;
     for word in words {
         copies.push(word.copy(alloc)?)?;
     }

@@ -1,5 +1,5 @@
-//! The values that commands, answers and operations are made of: octet strings, mailbox names, flags, date-times, moments,
-//! sets of numbers, sequence sets and sections; and the escape in which lines of text spell octets.
+//! The values that commands, answers and operations are made of: octet strings, message texts, mailbox names, flags, date-times,
+//! moments, sets of numbers, sequence sets and sections; and the escape in which lines of text spell octets.
 //!
 //! Each type owns its octets and is seen by contracts as the list of them.
 #![tactic(auto)]
@@ -15,6 +15,7 @@ mod number_set;
 mod octets;
 mod section;
 mod sequence_set;
+mod text;
 
 pub use date_time::{DATE_TIME_OCTETS, DateTime};
 pub use day::Day;
@@ -29,3 +30,4 @@ pub use number_set::{NumberSet, Run};
 pub use octets::Octets;
 pub use section::{FieldNames, Section};
 pub use sequence_set::{SequenceBound, SequenceRange, SequenceSet};
+pub use text::Text;

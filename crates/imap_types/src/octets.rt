@@ -3,9 +3,10 @@ ghost use Rattle.std.specs.Prelude.{◌≡◌, ◌↔◌, IfOk, IsTrue};
 
 use std::alloc::{AllocError, Global};
 use std::cmp::Ordering;
+use std::default::MadeWith;
 use std::marker::Model;
 
-/// Any octets: a tag, a pattern, a message's text.
+/// Any octets, with memory of their own: a tag, a pattern, a keyword.
 #[derive(Drop)]
 pub struct Octets {
     octets: Vec<u8>,
@@ -17,6 +18,18 @@ impl Model for Octets {
     ghost Value = { List ℕ };
 
     ghost view = { λ o. o.octets.items };
+}
+
+impl MadeWith<Global> for Octets {
+    ghost use Rattle.std.specs.Prelude.{◌≡◌, []};
+
+    ghost is_made_with = { λ octets. octets ≡ [] };
+
+    fn made_with(alloc: Global) -> Octets {
+        Octets {
+            octets: Vec::new(alloc),
+        }
+    }
 }
 
 impl Octets {

@@ -3,17 +3,18 @@
 ghost use Rattle.std.specs.Prelude.{◌≡◌};
 
 use crate::fixtures::{fresh_book, open_one, say};
-use crate::links::{finished, is_agreed, issued, take};
+use crate::links::{finished, is_agreed, issued, serve};
 use crate::mail::{Lines, Mail, two_lines};
+use crate::station::Station;
 use crate::told::tell_answers;
 use crdt_ops::SoundOp;
-use crossbeam_channel::Receiver;
-use replica_links::{Inbox, Letter, LinkMsg};
+use replica_links::LinkMsg;
 use replica_lock::{Book, Pass, Shared};
 use std::alloc::{AllocError, Global};
 use std::marker::Brand;
 use std::rt::Clock;
 use std::sync::Wait;
+use std::sync::atomic::AtomicU64;
 use std::sync::ledger::{Blank, Ledger};
 use std::test::*;
 use std::thread;
@@ -34,13 +35,15 @@ fn say_one<L: Ledger, R: Wait>(
     issued(alloc, pass)
 }
 
-/// Makes three folders at a replica and sends the first two; the message with the third is lost.
-fn send_two<L: Ledger, R: Wait>(
+/// Makes three folders at the first replica and sends the first two; the message with the third is lost.
+fn send_two<'a, L: Ledger, R: Wait>(
+    rt: &'a R,
     alloc: Global,
+    lines: &'a Lines,
     shared: &Shared<L>,
     pass: &mut Pass<L>,
-    mail: &Mail<R>,
 ) -> Result<bool, AllocError> {
+    let mail = Mail::new(rt, 0, lines);
     if !open_one(mail.rt, alloc, shared, pass) {
         return Ok(false);
     }
@@ -55,31 +58,76 @@ fn send_two<L: Ledger, R: Wait>(
 /// Looks many times whether two replicas agree, and then stops both links; whether they did.
 fn watch<L: Ledger, M: Ledger, R: Wait>(
     alloc: Global,
-    one: &Shared<L>,
-    other: &Shared<M>,
-    mail: &Mail<R>,
+    one: &Station<'_, L, R>,
+    other: &Station<'_, M, R>,
 ) -> bool {
-    let agreed = is_agreed(mail.rt, alloc, one, other);
+    let mail = &one.mail;
+    let agreed = is_agreed(mail.rt, alloc, one.shared, other.shared);
     mail.send(0, LinkMsg::Stop) && mail.send(1, LinkMsg::Stop) && agreed
 }
 
-/// Takes what comes to the replica at this place, which asks the other one after so long a rest.
-fn serve<L: Ledger, R: Wait + Clock>(
+/// Serves the second replica's link, and looks whether they agree, each in a thread; the link's pass, and whether they did.
+fn serve_and_watch<
+    L: Ledger + Send + Sync,
+    M: Ledger + Send + Sync,
+    R: Threads + Wait + Clock + Sync,
+>(
     alloc: Global,
-    shared: &Shared<L>,
+    one: &Station<'_, L, R>,
+    other: &Station<'_, M, R>,
+    pass: Pass<M>,
+) -> (Pass<M>, bool) {
+    thread::join(
+        one.mail.rt,
+        || serve(alloc, other, pass),
+        || watch(alloc, one, other),
+    )
+}
+
+/// Serves both replicas' links, each in a thread, until they agree; the links' passes, and whether they did.
+fn serve_both<L: Ledger + Send + Sync, M: Ledger + Send + Sync, R: Threads + Wait + Clock + Sync>(
+    alloc: Global,
+    one: &Station<'_, L, R>,
+    other: &Station<'_, M, R>,
     pass: Pass<L>,
-    mut mail: Mail<R>,
-    letters: &Receiver<Letter>,
-    rest: Duration,
-) -> Pass<L> {
-    let peers = if mail.own == 0 { [1] } else { [0] };
-    let inbox = Inbox {
-        letters,
-        peers: &peers,
-        asks_first: false,
-        rest,
+    far_pass: Pass<M>,
+) -> (Pass<L>, (Pass<M>, bool)) {
+    thread::join(
+        one.mail.rt,
+        || serve(alloc, one, pass),
+        || serve_and_watch(alloc, one, other, far_pass),
+    )
+}
+
+/// The same of these replicas.
+fn serve_replicas<
+    'a,
+    L: Ledger + Send + Sync,
+    M: Ledger + Send + Sync,
+    R: Threads + Wait + Clock + Sync,
+>(
+    rt: &'a R,
+    alloc: Global,
+    lines: &'a Lines,
+    replicas: (&'a Shared<L>, &'a Shared<M>),
+    done: &'a AtomicU64,
+    pass: Pass<L>,
+    far_pass: Pass<M>,
+) -> (Pass<L>, (Pass<M>, bool)) {
+    let (shared, far_shared) = replicas;
+    let one = Station {
+        shared,
+        mail: Mail::new(rt, 0, lines),
+        rest: Duration::from_secs(3_600),
+        done,
     };
-    take(alloc, shared, pass, &mut mail, &inbox)
+    let other = Station {
+        shared: far_shared,
+        mail: Mail::new(rt, 1, lines),
+        rest: Duration::from_millis(5),
+        done,
+    };
+    serve_both(alloc, &one, &other, pass, far_pass)
 }
 
 /// The last message of the first replica to the second is lost: whether they came to agree, and their books.
@@ -99,30 +147,16 @@ fn healed<L: Ledger + Send + Sync, M: Ledger + Send + Sync, R: Threads + Wait + 
     let (Some(link), Some(far_link)) = (first.cut(), far.cut()) else {
         return None;
     };
-    let mail = Mail::new(rt, 0, &lines.links);
-    let sent = send_two(alloc, &one, &mut first, &mail).unwrap_or(false);
-    let (near, (distant, agreed)) = thread::join(
+    let done = AtomicU64::new(0);
+    let sent = send_two(rt, alloc, lines, &one, &mut first).unwrap_or(false);
+    let (near, (distant, agreed)) = serve_replicas(
         rt,
-        || serve(
-            alloc,
-            &one,
-            link,
-            Mail::new(rt, 0, &lines.links),
-            &lines.inboxes.0,
-            Duration::from_secs(3_600),
-        ),
-        || thread::join(
-            rt,
-            || serve(
-                alloc,
-                &other,
-                far_link,
-                Mail::new(rt, 1, &lines.links),
-                &lines.inboxes.1,
-                Duration::from_millis(5),
-            ),
-            || watch(alloc, &one, &other, &mail),
-        ),
+        alloc,
+        lines,
+        (&one, &other),
+        &done,
+        link,
+        far_link,
     );
     let book = finished(alloc, one, first, near);
     let far_book = finished(alloc, other, far, distant);

@@ -3,6 +3,7 @@
 ghost use Rattle.std.specs.Prelude.{◌≡◌};
 
 use crate::fixtures::{fresh_book, open_one, say};
+use crate::station::Watched;
 use replica_lock::{Book, Pass, Shared};
 use std::alloc::Global;
 use std::marker::Brand;
@@ -26,51 +27,92 @@ fn poll_one<L: Ledger, R: Wait>(rt: &R, alloc: Global, shared: &Shared<L>, pass:
 }
 
 /// Polls an idling session behind each change that may have to be told, until it is over.
-fn feed<L: Ledger, R: Wait>(
-    rt: &R,
-    alloc: Global,
-    shared: &Shared<L>,
-    pass: &mut Pass<L>,
-    over: &AtomicU64,
-) {
+fn feed<L: Ledger, R: Wait>(rt: &R, alloc: Global, watched: &Watched<'_, L>, pass: &mut Pass<L>) {
     let mut seen = pass.seen();
     for _ in rt.forever() {
-        let now = shared.wait_change(rt, seen);
-        if over.load(Ordering::SeqCst) != 0 {
+        let Some(session) = pass.session() else {
+            return;
+        };
+        let Some(now) = watched.shared.wait_news(rt, session, seen) else {
+            return;
+        };
+        if watched.over.load(Ordering::SeqCst) != 0 {
             return;
         }
-        if shared.stirred(rt, seen, now) {
-            poll_one(rt, alloc, shared, pass);
-        }
+        poll_one(rt, alloc, watched.shared, pass);
         seen = now;
     }
 }
 
-/// Waits for the first poll, then looks at the journal's length after many turns, and ends it all by a drain.
-fn watch<L: Ledger, R: Wait>(
-    rt: &R,
-    alloc: Global,
-    shared: &Shared<L>,
-    pass: &mut Pass<L>,
-    over: &AtomicU64,
-) -> u64 {
-    let _ = shared.wait_change(rt, 4);
+/// Lets other threads go on for a while.
+fn give_way() {
     for _ in 0..100_000u32 {
         thread::yield_now();
     }
-    let length = shared.wait_change(rt, u64::MAX);
-    over.store(1, Ordering::SeqCst);
-    let _ = shared.drain(rt, alloc, pass);
-    length
 }
 
-/// Two idling sessions with a feeder each: the journal's length after a while, and whether all calls before were made.
+/// Makes an entry that is no news and then one that is, and looks at the journal's length after many turns behind each, the second time once there were two
+/// more entries; then ends it all by a drain.
+fn watch<L: Ledger, R: Wait>(
+    rt: &R,
+    alloc: Global,
+    watched: &Watched<'_, L>,
+    pass: &mut Pass<L>,
+) -> (u64, u64) {
+    let shared = watched.shared;
+    let _ = open_one(rt, alloc, shared, pass);
+    give_way();
+    let quiet = shared.wait_change(rt, u64::MAX);
+    let _ = shared.drain(rt, alloc, pass);
+    for length in 6..8u64 {
+        let _ = shared.wait_change(rt, length);
+    }
+    give_way();
+    let length = shared.wait_change(rt, u64::MAX);
+    watched.over.store(1, Ordering::SeqCst);
+    let _ = shared.drain(rt, alloc, pass);
+    (quiet, length)
+}
+
+/// A feeder, and who watches, each in a thread.
+fn feed_and_watch<L: Ledger + Send + Sync, R: Threads + Wait + Sync>(
+    rt: &R,
+    alloc: Global,
+    watched: &Watched<'_, L>,
+    idling: &mut Pass<L>,
+    watching: &mut Pass<L>,
+) -> ((), (u64, u64)) {
+    thread::join(
+        rt,
+        || feed(rt, alloc, watched, idling),
+        || watch(rt, alloc, watched, watching),
+    )
+}
+
+/// Two feeders, and who watches, each in a thread.
+fn feed_both<L: Ledger + Send + Sync, R: Threads + Wait + Sync>(
+    rt: &R,
+    alloc: Global,
+    watched: &Watched<'_, L>,
+    idling: (&mut Pass<L>, &mut Pass<L>),
+    watching: &mut Pass<L>,
+) -> ((), ((), (u64, u64))) {
+    let (one, other) = idling;
+    thread::join(
+        rt,
+        || feed(rt, alloc, watched, one),
+        || feed_and_watch(rt, alloc, watched, other, watching),
+    )
+}
+
+/// Two idling sessions with a feeder each: whether all calls before were made, and the journal's length a while behind an entry that is no news, and behind one
+/// that is.
 fn two_idle<L: Ledger + Send + Sync, R: Threads + Wait + Sync>(
     rt: &R,
     alloc: Global,
     blank: Blank,
     book: Book,
-) -> Option<(bool, u64)>
+) -> Option<(bool, (u64, u64))>
     requires { (blank.name ≡ L.name) × (blank.parts ≡ L.parts) × (L.parts ≡ 4294967295) }
 {
     let (shared, mut first) = Shared::<L>::new(blank, book);
@@ -79,27 +121,21 @@ fn two_idle<L: Ledger + Send + Sync, R: Threads + Wait + Sync>(
     let opened = open_one(rt, alloc, &shared, &mut one) && open_one(rt, alloc, &shared, &mut other);
     let begun = idle(rt, alloc, &shared, &mut one) && idle(rt, alloc, &shared, &mut other);
     let over = AtomicU64::new(0);
-    let (_, (_, length)) = thread::join(
-        rt,
-        || feed(rt, alloc, &shared, &mut one, &over),
-        || {
-            thread::join(
-                rt,
-                || feed(rt, alloc, &shared, &mut other, &over),
-                || watch(rt, alloc, &shared, &mut first, &over),
-            )
-        },
-    );
-    Some((opened && begun, length))
+    let watched = Watched {
+        shared: &shared,
+        over: &over,
+    };
+    let (_, (_, lengths)) = feed_both(rt, alloc, &watched, (&mut one, &mut other), &mut first);
+    Some((opened && begun, lengths))
 }
 
 /// The same at a new replica.
-fn two_idle_at_one<R: Threads + Wait + Sync>(rt: &R, alloc: Global) -> Option<(bool, u64)> {
+fn two_idle_at_one<R: Threads + Wait + Sync>(rt: &R, alloc: Global) -> Option<(bool, (u64, u64))> {
     let book = fresh_book(alloc, 1)?;
     two_idle::<Brand, R>(rt, alloc, Blank::new(4_294_967_295), book)
 }
 
 #[test]
 fn idling_sessions_do_not_wake_one_another(rt: HostRuntime) {
-    assert_eq!(rt; two_idle_at_one(&rt, rt.alloc()), Some((true, 5)));
+    assert_eq!(rt; two_idle_at_one(&rt, rt.alloc()), Some((true, (5, 8))));
 }

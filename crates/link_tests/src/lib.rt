@@ -19,11 +19,11 @@ mod link;
 mod links;
 #[cfg(test)]
 mod losing;
-#[cfg(test)]
-mod mail;
+pub mod mail;
 #[cfg(test)]
 mod playing;
 #[cfg(test)]
 mod scripted;
+pub mod station;
 #[cfg(test)]
 mod told;

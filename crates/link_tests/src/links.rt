@@ -4,11 +4,11 @@ ghost use Rattle.std.specs.Prelude.{◌≡◌};
 
 use crate::fixtures::{fresh_book, open_one, say};
 use crate::mail::{Lines, Mail, Open, two_lines};
+use crate::station::{Both, Station};
 use crdt_ops::SoundOp;
-use crossbeam_channel::Receiver;
 use imap_node::Reply;
 use merge_laws::Caused;
-use replica_links::{Inbox, Letter, LinkMsg, ReplicaTaker, link_worker};
+use replica_links::{Inbox, LinkMsg, ReplicaTaker, link_worker};
 use replica_lock::{Book, Outcome, Pass, Shared};
 use std::alloc::{AllocError, Global};
 use std::marker::Brand;
@@ -108,21 +108,20 @@ fn agree<L: Ledger, M: Ledger, R: Wait>(
 /// Works, and once both clients did looks many times whether the replicas agree; then no more is to be taken here.
 fn work_and_stop<L: Ledger, M: Ledger, R: Wait>(
     alloc: Global,
-    one: &Shared<L>,
-    other: &Shared<M>,
+    near: &Station<'_, L, R>,
+    far: &Station<'_, M, R>,
     pass: &mut Pass<L>,
-    mail: &Mail<R>,
-    done: &AtomicU64,
 ) -> Result<u64, AllocError> {
-    let sent = work(alloc, one, pass, mail);
-    done.fetch_add(1, Ordering::SeqCst);
+    let mail = &near.mail;
+    let sent = work(alloc, near.shared, pass, mail);
+    near.done.fetch_add(1, Ordering::SeqCst);
     for _ in mail.rt.forever() {
-        if done.load(Ordering::SeqCst) == 2 {
+        if near.done.load(Ordering::SeqCst) == 2 {
             break;
         }
         thread::yield_now();
     }
-    let _ = is_agreed(mail.rt, alloc, one, other);
+    let _ = is_agreed(mail.rt, alloc, near.shared, far.shared);
     let _ = mail.send(mail.own, LinkMsg::Stop);
     sent
 }
@@ -144,11 +143,11 @@ pub fn is_agreed<L: Ledger, M: Ledger, R: Wait>(
 }
 
 /// Takes what comes to a replica, and answers it.
-pub fn take<L: Ledger, R: Wait + Clock>(
+fn take<L: Ledger, R: Wait + Clock>(
     alloc: Global,
     shared: &Shared<L>,
     pass: Pass<L>,
-    mail: &mut Mail<R>,
+    mail: &mut Mail<'_, R>,
     inbox: &Inbox,
 ) -> Pass<L> {
     if pass.session().is_some() {
@@ -158,6 +157,24 @@ pub fn take<L: Ledger, R: Wait + Clock>(
     let mut taker = ReplicaTaker::new(rt, alloc, shared, pass);
     link_worker(rt, &mut Open, inbox, &mut taker, mail);
     taker.into_pass()
+}
+
+/// Takes what comes to a replica of two, which asks the other one behind each rest, and answers it.
+pub fn serve<L: Ledger, R: Wait + Clock>(
+    alloc: Global,
+    station: &Station<'_, L, R>,
+    pass: Pass<L>,
+) -> Pass<L> {
+    let mail = &station.mail;
+    let peers = [peer_of(mail.own)];
+    let inbox = Inbox {
+        letters: mail.letters,
+        peers: &peers,
+        asks_first: false,
+        rest: station.rest,
+    };
+    let mut answers = mail.again();
+    take(alloc, station.shared, pass, &mut answers, &inbox)
 }
 
 /// Whether an operation stands in a list.
@@ -172,6 +189,13 @@ fn common(one: &Book, other: &Book) -> (usize, usize) {
     (ops.len(), ops.iter().filter(|op| has(others, op)).count())
 }
 
+/// The passes of a replica's client and of its link.
+#[derive(Drop)]
+struct Passes<L: Ledger> {
+    client: Pass<L>,
+    link: Pass<L>,
+}
+
 /// What a link's ends at a replica bring back: the pass of the client, that of the link, and how many operations were sent.
 #[derive(Drop)]
 struct Side<L: Ledger> {
@@ -183,33 +207,93 @@ struct Side<L: Ledger> {
 /// A replica's client and its link, each in a thread.
 fn run_side<L: Ledger + Send + Sync, M: Ledger + Send + Sync, R: Threads + Wait + Clock + Sync>(
     alloc: Global,
-    replicas: (&Shared<L>, &Shared<M>),
-    passes: (Pass<L>, Pass<L>),
-    mail: Mail<R>,
-    letters: &Receiver<Letter>,
-    done: &AtomicU64,
+    near: &Station<'_, L, R>,
+    far: &Station<'_, M, R>,
+    passes: Passes<L>,
 ) -> Side<L> {
-    let (one, other) = replicas;
-    let (mut mine, link) = passes;
-    let rt = mail.rt;
-    let mut answers = Mail::new(rt, mail.own, mail.links);
-    let peers = [peer_of(mail.own)];
-    let inbox = Inbox {
-        letters,
-        peers: &peers,
-        asks_first: false,
-        rest: Duration::from_secs(3_600),
-    };
-    let (sent, link) = thread::join(
-        rt,
-        || work_and_stop(alloc, one, other, &mut mine, &mail, done),
-        || take(alloc, one, link, &mut answers, &inbox),
+    let Passes { client, link } = passes;
+    let mut mine = client;
+    let (link, sent) = thread::join(
+        near.mail.rt,
+        || serve(alloc, near, link),
+        || work_and_stop(alloc, near, far, &mut mine),
     );
     Side {
         client: mine,
         link,
         sent: sent.unwrap_or(0),
     }
+}
+
+/// The first replica's client and its link.
+fn run_first<L: Ledger + Send + Sync, M: Ledger + Send + Sync, R: Threads + Wait + Clock + Sync>(
+    alloc: Global,
+    both: &Both<'_, L, M, R>,
+    client: Pass<L>,
+    link: Pass<L>,
+) -> Side<L> {
+    run_side(alloc, both.one, both.other, Passes { client, link })
+}
+
+/// The second replica's client and its link.
+fn run_second<L: Ledger + Send + Sync, M: Ledger + Send + Sync, R: Threads + Wait + Clock + Sync>(
+    alloc: Global,
+    both: &Both<'_, L, M, R>,
+    passes: Passes<M>,
+) -> Side<M> {
+    run_side(alloc, both.other, both.one, passes)
+}
+
+/// Both replicas' clients and links, each in a thread.
+fn run_both<L: Ledger + Send + Sync, M: Ledger + Send + Sync, R: Threads + Wait + Clock + Sync>(
+    alloc: Global,
+    both: &Both<'_, L, M, R>,
+    passes: Passes<L>,
+    far_passes: Passes<M>,
+) -> (Side<L>, Side<M>) {
+    let Passes { client, link } = passes;
+    let one = both.one;
+    thread::join(
+        one.mail.rt,
+        || run_first(alloc, both, client, link),
+        || run_second(alloc, both, far_passes),
+    )
+}
+
+/// The same of these replicas.
+fn run_replicas<
+    'a,
+    L: Ledger + Send + Sync,
+    M: Ledger + Send + Sync,
+    R: Threads + Wait + Clock + Sync,
+>(
+    rt: &'a R,
+    alloc: Global,
+    lines: &'a Lines,
+    replicas: (&'a Shared<L>, &'a Shared<M>),
+    done: &'a AtomicU64,
+    passes: Passes<L>,
+    far_passes: Passes<M>,
+) -> (Side<L>, Side<M>) {
+    let (shared, far_shared) = replicas;
+    let rest = Duration::from_secs(3_600);
+    let one = Station {
+        shared,
+        mail: Mail::new(rt, 0, lines),
+        rest,
+        done,
+    };
+    let other = Station {
+        shared: far_shared,
+        mail: Mail::new(rt, 1, lines),
+        rest,
+        done,
+    };
+    let both = Both {
+        one: &one,
+        other: &other,
+    };
+    run_both(alloc, &both, passes, far_passes)
 }
 
 /// Hands the book of a replica out, with all its passes.
@@ -270,24 +354,17 @@ fn linked<L: Ledger + Send + Sync, M: Ledger + Send + Sync, R: Threads + Wait + 
         return None;
     };
     let done = AtomicU64::new(0);
-    let (near, distant) = thread::join(
+    let (near, distant) = run_replicas(
         rt,
-        || run_side(
-            alloc,
-            (&one, &other),
-            (client, link),
-            Mail::new(rt, 0, &lines.links),
-            &lines.inboxes.0,
-            &done,
-        ),
-        || run_side(
-            alloc,
-            (&other, &one),
-            (far_client, far_link),
-            Mail::new(rt, 1, &lines.links),
-            &lines.inboxes.1,
-            &done,
-        ),
+        alloc,
+        lines,
+        (&one, &other),
+        &done,
+        Passes { client, link },
+        Passes {
+            client: far_client,
+            link: far_link,
+        },
     );
     let sent = (near.sent, distant.sent);
     let one = finished_side(alloc, one, first, near);

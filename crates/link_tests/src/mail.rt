@@ -46,12 +46,30 @@ pub struct Mail<'a, R: Wait> {
     pub own: usize,
     /// The ways, by place.
     pub links: &'a [Sender<Letter>],
+    /// Where the sender's own letters come.
+    pub letters: &'a Receiver<Letter>,
 }
 
 impl<'a, R: Wait> Mail<'a, R> {
-    /// The way from the replica at this place.
-    pub fn new(rt: &'a R, own: usize, links: &'a [Sender<Letter>]) -> Mail<'a, R> {
-        Mail { rt, own, links }
+    /// The way from the replica at this place of two.
+    pub fn new(rt: &'a R, own: usize, lines: &'a Lines) -> Mail<'a, R> {
+        let (first, second) = &lines.inboxes;
+        Mail {
+            rt,
+            own,
+            links: &lines.links,
+            letters: if own == 0 { first } else { second },
+        }
+    }
+
+    /// The same way once more.
+    pub fn again(&self) -> Mail<'a, R> {
+        Mail {
+            rt: self.rt,
+            own: self.own,
+            links: self.links,
+            letters: self.letters,
+        }
     }
 
     /// Sends a message to the replica at a place; whether there is one that takes it.

@@ -14,7 +14,7 @@ ghost use Rattle.mail_audit.specs.Dumps.{body_text, dated_text, folder_line, fol
 
 use crdt_ops::{Ids, Message, write_flags, write_id, write_ids};
 use folder_state::Folders;
-use imap_types::{Escape, Name, Octets, write_escaped};
+use imap_types::{Escape, Name, Text, write_escaped};
 use std::alloc::{AllocError, Global};
 use subs_state::Subs;
 
@@ -120,7 +120,7 @@ fn push_dated(message: &Message, text: &mut Vec<u8>) -> Result<(), AllocError>
 }
 
 /// The text of a message, behind a space, and the end of its line.
-fn push_letter(letter: &Octets, text: &mut Vec<u8>) -> Result<(), AllocError>
+fn push_letter(letter: &Text, text: &mut Vec<u8>) -> Result<(), AllocError>
     ensures { OnOk result (text.new.items ≡ text.old.items ++ 32 ∷ (letter_text letter.now ++ 10 ∷ [])) }
 {
     text.extend_from_slice(b" =")?;

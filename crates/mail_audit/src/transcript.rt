@@ -101,7 +101,11 @@ impl Transcript {
     {
         match whole_answer(alloc, octets)? {
             None => Ok(false),
-            Some(answer) => self.take(alloc, &answer),
+            Some(answer) => {
+                let taken = self.take(alloc, &answer);
+                drop(answer);
+                taken
+            }
         }
     }
 

@@ -1,11 +1,12 @@
 //! A row of a listing as it is kept.
 
-ghost use Rattle.std.specs.Prelude.{◌≡◌};
+ghost use Rattle.std.specs.Prelude.{◌≡◌, IfOk};
 ghost use Rattle.mail_listing.specs.Listing.{held, listed, versions_held};
 
 use crate::row::Row;
-use imap_types::DateTime;
-use message_versions::{Version, Versions};
+use imap_types::{DateTime, Text};
+use message_versions::{Version, Versions, copied_versions};
+use std::alloc::{AllocError, Global};
 use tags_clocks::OpId;
 
 /// A message of a mailbox's listing as the listing keeps it: its versions lent, or its own where operations to come change
@@ -22,8 +23,8 @@ pub struct HeldRow<'a> {
     pub versions: HeldVersions<'a>,
     /// When it was received (RFC 9051, section 2.3.3); None where nothing tells it.
     pub date: Option<&'a DateTime>,
-    /// Its octets.
-    pub text: &'a [u8],
+    /// Its octets; None where nothing tells them.
+    pub text: Option<&'a Text>,
 }
 
 /// The versions of a message of a listing.
@@ -35,7 +36,7 @@ pub enum HeldVersions<'a> {
     Own(Vec<Version>),
 }
 
-impl HeldRow<'_> {
+impl<'a> HeldRow<'a> {
     /// The row, lent.
     pub fn row(&self) -> Row<'_>
         ensures { listed result ≡ held self.now }
@@ -49,9 +50,24 @@ impl HeldRow<'_> {
             text: self.text,
         }
     }
+
+    /// The same row once more, its own versions copied; `Err` where there is no memory for them.
+    pub(crate) fn copy(&self, alloc: Global) -> Result<HeldRow<'a>, AllocError>
+        ensures { IfOk result (λ copied. held copied ≡ held self.now) }
+    {
+        let versions = self.versions.copy(alloc)?;
+        Ok(HeldRow {
+            uid: self.uid,
+            modseq: self.modseq,
+            origin: self.origin,
+            versions,
+            date: self.date,
+            text: self.text,
+        })
+    }
 }
 
-impl HeldVersions<'_> {
+impl<'a> HeldVersions<'a> {
     /// The versions, lent.
     pub fn as_versions(&self) -> Versions<'_>
         ensures { result.list.now ≡ versions_held self.now }
@@ -59,6 +75,18 @@ impl HeldVersions<'_> {
         match self {
             HeldVersions::Lent(versions) => Versions::new(versions.as_slice()),
             HeldVersions::Own(versions) => Versions::new(versions),
+        }
+    }
+    /// The same once more: lent where they are lent, copies where they are its own; `Err` where there is no memory for these.
+    pub(crate) fn copy(&self, alloc: Global) -> Result<HeldVersions<'a>, AllocError>
+        ensures { IfOk result (λ copied. versions_held copied ≡ versions_held self.now) }
+    {
+        match self {
+            HeldVersions::Lent(versions) => Ok(HeldVersions::Lent(*versions)),
+            HeldVersions::Own(versions) => {
+                let copies = copied_versions(alloc, versions)?;
+                Ok(HeldVersions::Own(copies))
+            }
         }
     }
 }

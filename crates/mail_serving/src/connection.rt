@@ -35,6 +35,19 @@ pub struct Desk<'a, L: Ledger> {
     pub shared: &'a Shared<L>,
 }
 
+/// A connection as its two threads see it.
+#[derive(Drop)]
+pub struct Line<'a, L: Ledger> {
+    /// What all connections of the replica have in common.
+    pub desk: &'a Desk<'a, L>,
+    /// The connection.
+    pub stream: &'a TcpStream,
+    /// The pass of its session.
+    pub pass: &'a Mutex<Pass<L>>,
+    /// What it is about.
+    pub outlet: &'a Outlet,
+}
+
 /// Holds the conversation with the client of a connection, takes leave of it, and gives its pass back. The gate is passed before each command, the
 /// first time with 1.
 pub fn connection_worker<
@@ -52,10 +65,16 @@ pub fn connection_worker<
     let _ = stream.set_nodelay(true);
     let pass = Mutex::new(pass);
     let outlet = Outlet::new();
-    let (ended, ()) = thread::join(
+    let ended = talk_and_feed(
         rt,
-        || talk(rt, alloc, gate, desk, stream, &pass, &outlet),
-        || feed(rt, alloc, desk.shared, &pass, &outlet, stream),
+        alloc,
+        gate,
+        &Line {
+            desk,
+            stream,
+            pass: &pass,
+            outlet: &outlet,
+        },
     );
     tell_end(rt, ended);
     if !is_gone(ended) {
@@ -64,21 +83,51 @@ pub fn connection_worker<
     pass.into_inner()
 }
 
+/// Holds the conversation, and in a second thread tells the session while it idles, until both have ended.
+fn talk_and_feed<L: Ledger + Send + Sync, R: Threads + Wait + Clock + Log + Sync, G: Gate + Send>(
+    rt: &R,
+    alloc: Global,
+    gate: &mut G,
+    line: &Line<'_, L>,
+) -> Ended {
+    let (ended, ()) = thread::join(
+        rt,
+        || talk(rt, alloc, gate, line),
+        || {
+            feed(
+                rt,
+                alloc,
+                line.desk.shared,
+                line.pass,
+                line.outlet,
+                line.stream,
+            )
+        },
+    );
+    ended
+}
+
 fn talk<L: Ledger, R: Wait + Clock, G: Gate>(
     rt: &R,
     alloc: Global,
     gate: &mut G,
-    desk: &Desk<'_, L>,
-    stream: &TcpStream,
-    pass: &Mutex<Pass<L>>,
-    outlet: &Outlet,
+    line: &Line<'_, L>,
 ) -> Ended {
-    let mut port = SessionPort::new(rt, desk.shared, pass, desk.house, desk.own, outlet, gate);
-    let mut source = Reader::new(rt, outlet, stream);
-    let mut sink = Wire::new(stream);
+    let desk = line.desk;
+    let mut port = SessionPort::new(
+        rt,
+        desk.shared,
+        line.pass,
+        desk.house,
+        desk.own,
+        line.outlet,
+        gate,
+    );
+    let mut source = Reader::new(rt, line.outlet, line.stream);
+    let mut sink = Wire::new(line.stream);
     let ended = talk_over(rt, alloc, &mut source, &mut sink, &mut port);
     drop(port);
-    outlet.end(rt);
+    line.outlet.end(rt);
     ended
 }
 

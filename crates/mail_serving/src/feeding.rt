@@ -8,7 +8,7 @@ ghost use Rattle.mail_serving.specs.Calls.{text_told};
 
 use crate::outlet::Outlet;
 use imap_answers::Answer;
-use imap_node::Reply;
+use imap_node::{Reply, SessionNo};
 use imap_print::print;
 use replica_lock::{CallFault, Outcome, Pass, Shared};
 use std::alloc::{AllocError, Global};
@@ -17,8 +17,8 @@ use std::net::{Shutdown, TcpStream};
 use std::sync::ledger::Ledger;
 use std::sync::{Mutex, Wait};
 
-/// Tells the session of a connection, while it idles, what others did, until the connection ends. Each poll is written whole, and only
-/// behind an entry of the journal that may have to be told; where that fails, the connection is shut down.
+/// Tells the session of a connection, while it idles, what others did, until the connection ends. It wakes behind an entry of the journal that may have to be
+/// told, and at the end of a connection, and else costs nobody anything. Each poll is written whole; where that fails, the connection is shut down.
 pub fn feed<L: Ledger, R: Wait>(
     rt: &R,
     alloc: Global,
@@ -32,15 +32,17 @@ pub fn feed<L: Ledger, R: Wait>(
         if !outlet.await_idling(rt) {
             return;
         }
-        let Some(from) = seen_by(rt, pass, seen) else {
+        let Some((session, from)) = seen_by(rt, pass, seen) else {
             return;
         };
         seen = from;
-        let now = shared.wait_change(rt, seen);
+        let Some(now) = shared.wait_news(rt, session, seen) else {
+            return;
+        };
         if !outlet.await_idling(rt) {
             return;
         }
-        match tell_since(rt, alloc, shared, pass, outlet, stream, (seen, now)) {
+        match tell(rt, alloc, shared, pass, outlet, stream) {
             Telling::Done => seen = now,
             Telling::Busy => {}
             Telling::Failed => {
@@ -62,30 +64,16 @@ enum Telling {
     Failed,
 }
 
-/// Tells the session what the entries between these two lengths of the journal changed.
-fn tell_since<L: Ledger, R: Wait>(
+/// The session, and how far it has seen the journal, or how far it was looked at; `None` once it was closed. While it is open its close is still to come,
+/// so that a wait for news ends with the connection.
+fn seen_by<L: Ledger, R: Wait>(
     rt: &R,
-    alloc: Global,
-    shared: &Shared<L>,
     pass: &Mutex<Pass<L>>,
-    outlet: &Outlet,
-    stream: &TcpStream,
-    entries: (u64, u64),
-) -> Telling {
-    if !shared.stirred(rt, entries.0, entries.1) {
-        return Telling::Done;
-    }
-    tell(rt, alloc, shared, pass, outlet, stream)
-}
-
-/// How far the session has seen the journal, or how far it was looked at; `None` once it was closed. While it is open its close is still to come, as an
-/// entry behind these, so that a wait for a change ends with the connection.
-fn seen_by<L: Ledger, R: Wait>(rt: &R, pass: &Mutex<Pass<L>>, looked: u64) -> Option<u64> {
+    looked: u64,
+) -> Option<(SessionNo, u64)> {
     let pass = pass.lock(rt);
-    if pass.session().is_none() {
-        return None;
-    }
-    Some(pass.seen().max(looked))
+    let session = pass.session()?;
+    Some((session, pass.seen().max(looked)))
 }
 
 /// Polls the session, if it still idles and its connection's thread still waits for the client, and writes the answers.

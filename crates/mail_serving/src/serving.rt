@@ -78,6 +78,17 @@ pub struct Ends {
     pub asks: bool,
 }
 
+/// A replica as the threads that serve it see it.
+#[derive(Drop)]
+pub struct Post<'a, L: Ledger> {
+    /// What all its connections have in common.
+    pub desk: &'a Desk<'a, L>,
+    /// What it hears, and whom it asks.
+    pub ends: &'a Ends,
+    /// Takes the passes of connections that ended.
+    pub back: &'a Mutex<Vec<Pass<L>>>,
+}
+
 /// A connection that is to be served.
 #[derive(Drop)]
 pub struct Visit<L: Ledger, G> {
@@ -247,7 +258,16 @@ fn run_replica<
         shared: &shared,
     };
     let back = Mutex::new(Vec::new(alloc));
-    let first = serve_listener(rt, alloc, &desk, first, &ends, &back);
+    let first = serve_listener(
+        rt,
+        alloc,
+        first,
+        &Post {
+            desk: &desk,
+            ends: &ends,
+            back: &back,
+        },
+    );
     let mut passes = back.into_inner();
     if passes.push(first).is_err() {
         return false;
@@ -354,38 +374,31 @@ fn visits<L: Ledger, G: Gate + Drop>(
 fn serve_listener<
     L: Ledger + Send + Sync,
     R: Threads + Wait + Clock + Log + Sync + Net<Listener = TcpListener, Stream = TcpStream>,
->(
-    rt: &R,
-    alloc: Global,
-    desk: &Desk<'_, L>,
-    first: Pass<L>,
-    ends: &Ends,
-    back: &Mutex<Vec<Pass<L>>>,
-) -> Pass<L> {
+>(rt: &R, alloc: Global, first: Pass<L>, post: &Post<'_, L>) -> Pass<L> {
     let mut first = first;
     let link_pass = first.cut();
     let copy_pass = first.cut();
     thread::scope(thread::scope_env(), rt, |scope| {
         if let Some(pass) = link_pass {
             let _ = scope.spawn(move || {
-                let pass = link(rt, alloc, desk, pass, ends);
-                give_back(rt, back, pass)
+                let pass = link(rt, alloc, post.desk, pass, post.ends);
+                give_back(rt, post.back, pass)
             });
         }
         if let Some(pass) = copy_pass {
             let _ = scope.spawn(move || {
-                let pass = lend_copies(rt, alloc, desk.shared, pass, &ends.orders);
-                give_back(rt, back, pass)
+                let pass = lend_copies(rt, alloc, post.desk.shared, pass, &post.ends.orders);
+                give_back(rt, post.back, pass)
             });
         }
-        for stream in ends.listener.incoming() {
-            if desk.house.stop.is_over(rt) {
+        for stream in post.ends.listener.incoming() {
+            if post.desk.house.stop.is_over(rt) {
                 break;
             }
             let Ok(stream) = stream else {
                 continue;
             };
-            let Some(pass) = next_pass(rt, back, &mut first) else {
+            let Some(pass) = next_pass(rt, post.back, &mut first) else {
                 turn_away(&stream);
                 continue;
             };
@@ -395,9 +408,9 @@ fn serve_listener<
                 pass,
             };
             let _ = scope.spawn(move || {
-                let pass = attend(rt, alloc, desk, visit);
-                give_back(rt, back, pass);
-                end_one(rt, desk.house)
+                let pass = attend(rt, alloc, post.desk, visit);
+                give_back(rt, post.back, pass);
+                end_one(rt, post.desk.house)
             });
         }
         first

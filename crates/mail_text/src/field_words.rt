@@ -7,7 +7,7 @@ ghost use Rattle.mail_text.specs.Places.{any_field_holds, behind_colon, holds};
 use crate::header_fields::{before_colon, goes_on, trimmed};
 use crate::lines::{first_line, is_empty_line};
 use crate::places::contains_nocase;
-use memchr::memchr;
+use bstr::ByteSlice;
 use std::alloc::{AllocError, Global};
 
 /// A header field.
@@ -109,7 +109,7 @@ fn is_called(line: &[u8], name: &[u8]) -> bool
 fn behind_colon(octets: &[u8]) -> &[u8]
     ensures { result.now ≡ behind_colon octets.now }
 {
-    match memchr(b':', octets) {
+    match octets.find_byte(b':') {
         Some(place) => octets.split_at(place + 1).1,
         None => octets.split_at(octets.len()).1,
     }

@@ -5,8 +5,8 @@ ghost use Rattle.mail_text.specs.Fields.{asks, before_colon, fields_of, goes_on,
 ghost use Rattle.mail_text.specs.Kept.{taken, takes};
 
 use crate::lines::{first_line, is_empty_line};
+use bstr::ByteSlice;
 use imap_types::Octets;
-use memchr::memchr;
 use std::alloc::{AllocError, Global};
 
 /// The header fields of these names with the lines that continue them, in the order of the text, and then the empty
@@ -109,7 +109,7 @@ fn is_named(line: &[u8], names: &[Octets]) -> bool
 pub fn before_colon(line: &[u8]) -> Option<&[u8]>
     ensures { option_map (λ name. name.now) result ≡ before_colon line.now }
 {
-    match memchr(b':', line) {
+    match line.find_byte(b':') {
         Some(place) => Some(&line[..place]),
         None => None,
     }

@@ -1,7 +1,7 @@
 ghost use Rattle.std.specs.Prelude.{◌≡◌, IfOk};
 ghost use Rattle.mail_text.specs.Places.{holds};
 
-use memchr::memmem;
+use bstr::ByteSlice;
 use std::alloc::{AllocError, Global};
 
 /// Whether a word stands in a text, in any case of ASCII letters; an empty word does anywhere. Time is linear in both
@@ -11,5 +11,5 @@ pub fn contains_nocase(alloc: Global, text: &[u8], word: &[u8]) -> Result<bool, 
 {
     let text = text.to_ascii_lowercase(alloc)?;
     let word = word.to_ascii_lowercase(alloc)?;
-    Ok(memmem::find(&text, &word).is_some())
+    Ok(text.as_slice().find(&word).is_some())
 }

@@ -17,9 +17,9 @@ use uid_projection::Charts;
 
 /// The messages of the folder's listing that changed since this mod-sequence: those with greater ones, by ascending UID, lent by
 /// the folders, which are those that the charts follow; `Err` where there is no memory for them (RFC 7162, section 3.1.4).
-/// Cost: that of `Charts::rows`.
+/// Cost: one pass over the folder's messages.
 pub fn changed_since<'a>(
-    charts: &Charts,
+    charts: &'a Charts,
     alloc: Global,
     value: &'a Folders,
     name: &Name,
@@ -28,10 +28,10 @@ pub fn changed_since<'a>(
     ensures { (list : List Operation) → Follows charts.now list → IsMadeBy (contents_of value.now) list → IfOk result (λ rows. rows ≡ changed_since modseq (listing charts.now.start name.now list)) }
 {
     let rows = charts.rows(alloc, value, name)?;
-    Ok(rows.changed_since(modseq))
+    rows.changed_since(alloc, modseq)
 }
 
-/// The folder's HIGHESTMODSEQ (RFC 7162, section 3.1.2.1). Takes no memory. Cost: one pass over the charts.
+/// The folder's HIGHESTMODSEQ (RFC 7162, section 3.1.2.1). Takes no memory. Cost: a look-up.
 pub fn highest(charts: &Charts, name: &Name) -> u64
     ensures { (list : List Operation) → Follows charts.now list → result ≡ highest_modseq_of name.now list }
 {

@@ -1,10 +1,11 @@
 use Rattle.std.proofs.Common.{◌≡◌, inl, inr, ℕ, ◌-◌, Bool, true, false, not, List, [], ◌∷◌, ◌++◌, Option, Some, None, is_some, refl, sym, ap, ◌∙◌, subst, append_assoc, append-nil, if◌then◌else◌}
-use Rattle.std.specs.Prelude.{flat_map, ◌&&◌, ◌||◌, nat_eq}
+use Rattle.std.specs.Prelude.{flat_map, ◌&&◌, nat_eq}
 use Rattle.std.proofs.lemmas.Bool.{cases_Bool, false≢true}
 use Rattle.crdt_ops.specs.declared.op.Op.{Op}
 use Rattle.imap_answers.specs.declared.answer.Answer.{Answer}
 use Rattle.imap_answers.specs.declared.answer.Answer.TheVariants as answers
 use Rattle.imap_answers.specs.declared.codes.Code.{Code}
+use Rattle.imap_commands.specs.Asked.{FetchAsked, OpenMailbox, StoreAsked}
 use Rattle.imap_commands.specs.Fetching.{fetch_tells, mode_of, shown_of}
 use Rattle.imap_commands.specs.Storing.{store_tells, stored_answer, stored_answers, those_taken}
 use Rattle.imap_commands.specs.Told.{Telling, message_at}
@@ -18,9 +19,7 @@ use Rattle.imap_syntax.specs.declared.fetch.FetchItem.{FetchItem}
 use Rattle.imap_query.specs.Fetching.{answer_of, fetch_answers, is_kept}
 use Rattle.imap_query.specs.declared.fetching.FetchMode.{FetchMode}
 use Rattle.imap_query.specs.declared.shown.Shown.{Shown}
-use Rattle.imap_syntax.specs.declared.store.StoreMode.{StoreMode}
 use Rattle.imap_types.specs.declared.flags.Flags.{Flags}
-use Rattle.imap_types.specs.declared.sequence_set.SequenceRange.{SequenceRange}
 use Rattle.mail_listing.specs.Listed.{Listed}
 use Rattle.mail_listing.specs.Listing.{row_of}
 use Rattle.session_view.specs.Replay.{after_answer, after_answers, after_silent, arrived, fetched, flagged, replayed}
@@ -37,7 +36,7 @@ use Rattle.uid_projection.specs.Incarnations.{uidvalidity_of}
 use Rattle.imap_node.specs.Commands.{Tells, by_kind, highest_of, highest_told, is_idle, is_selecting, notice, sync_of, tells, turns_on}
 use Rattle.imap_node.specs.Endings.{Course, answers_of_course, ending, ending_of}
 use Rattle.imap_node.specs.GoingBack.{uids_of}
-use Rattle.imap_node.specs.Mailboxes.{rows_for}
+use Rattle.imap_node.specs.Mailboxes.{mailbox_in, rows_for}
 use Rattle.imap_node.specs.Nodes.{NodeState}
 use Rattle.imap_node.specs.Replays.{base_of, replayed_on, view_at}
 use Rattle.imap_node.specs.Respond.{Responds, TakesCourse, course_of, is_on, tail_of}
@@ -66,16 +65,15 @@ none_answer items mode shown (Some old) (Some row) = elim (cases_Bool (is_kept m
 none_fetched : (items : List FetchItem) (mode : FetchMode) (before after : List Listed) (named : List Shown) → HasNoExpunge (fetch_answers items mode before after named)
 none_fetched items mode before after named = none_flat (λ shown. answer_of items mode shown (row_of shown.uid before) (row_of shown.uid after)) named (λ shown. none_answer items mode shown (row_of shown.uid before) (row_of shown.uid after))
 
-none_stored_one : (by_uid with_flags with_modseq : Bool) (n : ℕ) (row : Option Listed) → HasNoExpunge (stored_answer by_uid with_flags with_modseq n row)
-none_stored_one by_uid with_flags with_modseq n None = tt
-none_stored_one by_uid with_flags with_modseq n (Some row) = (tt, tt)
+none_stored_one : (condstore : Bool) (asked : StoreAsked) (n : ℕ) (row : Option Listed) → HasNoExpunge (stored_answer condstore asked n row)
+none_stored_one condstore asked n None = tt
+none_stored_one condstore asked n (Some row) = (tt, tt)
 
-none_stored : (after : List Listed) (view : List Entry) (condstore by_uid : Bool) (since : Option ℕ) (silent : Bool) (taken : List ℕ) → HasNoExpunge (stored_answers after view condstore by_uid since silent taken)
-none_stored after view condstore by_uid since silent taken =
-    elim (cases_Bool (silent && not (is_some since))) [
+none_stored : (after : List Listed) (view : List Entry) (condstore : Bool) (asked : StoreAsked) (taken : List ℕ) → HasNoExpunge (stored_answers after view condstore asked taken)
+none_stored after view condstore asked taken =
+    elim (cases_Bool (asked.action.silent && not (is_some asked.unchanged_since))) [
       | inl t ↦ rw t tt
-      | inr f ↦ rw f (none_flat (λ n. stored_answer by_uid (not silent) (is_some since || condstore) n (message_at after view n)) taken
-          (λ n. none_stored_one by_uid (not silent) (is_some since || condstore) n (message_at after view n)))
+      | inr f ↦ rw f (none_flat (λ n. stored_answer condstore asked n (message_at after view n)) taken (λ n. none_stored_one condstore asked n (message_at after view n)))
     ]
 
 none_told_highest : (uidvalidity : ℕ) (now : Option ℕ) (highest : ℕ) → HasNoExpunge (highest_told uidvalidity now highest)
@@ -96,21 +94,19 @@ none_tail tag command code = elim (cases_Bool (is_idle command)) [ inl t ↦ rw 
 
 -- ---- what a command by number tells
 
-fetch_none : (before after : List Listed) (view : List Entry) (read_only condstore by_uid : Bool) (set : List SequenceRange) (items : List FetchItem) (changed_since : Option ℕ)
-    → HasNoExpunge (fetch_tells before after view read_only condstore by_uid set items changed_since).own
-fetch_none before after view read_only condstore by_uid set items changed_since =
-    none_fetched items (mode_of by_uid condstore read_only changed_since) before after (shown_of view (resolved by_uid set view))
+fetch_none : (mailbox : OpenMailbox) (after : List Listed) (condstore : Bool) (asked : FetchAsked) → HasNoExpunge (fetch_tells mailbox after condstore asked).own
+fetch_none mailbox after condstore asked =
+    none_fetched asked.items (mode_of mailbox condstore asked) mailbox.rows after (shown_of mailbox.view (resolved asked.by_uid asked.messages mailbox.view))
 
-store_none : (before after : List Listed) (view : List Entry) (condstore by_uid : Bool) (set : List SequenceRange) (since : Option ℕ) (mode : StoreMode) (silent : Bool) (given : Flags)
-    → HasNoExpunge (store_tells before after view condstore by_uid set since mode silent given).own
-store_none before after view condstore by_uid set since mode silent given =
-    none_stored after view condstore by_uid since silent (those_taken before view since (resolved by_uid set view))
+store_none : (mailbox : OpenMailbox) (after : List Listed) (condstore : Bool) (asked : StoreAsked) → HasNoExpunge (store_tells mailbox after condstore asked).own
+store_none mailbox after condstore asked =
+    none_stored after mailbox.view condstore asked (those_taken mailbox.rows mailbox.view asked.unchanged_since (resolved asked.by_uid asked.messages mailbox.view))
 
 module _ (start : Start) (before after : List Op) (modseq : Bool) (tag : List ℕ) where
   own_none : (state : State) (command : Command) (told : Telling) → is_by_number command ≡ true → Tells start before after state modseq tag command told → HasNoExpunge told.own
   own_none (Selected view read_only) (commands.Search by_uid options steps) told b t = subst (λ (x : Telling). HasNoExpunge x.own) (sym t.only) (tt, tt)
-  own_none (Selected view read_only) (commands.Fetch by_uid set items changed_since) told b t = subst (λ (x : Telling). HasNoExpunge x.own) (sym t) (fetch_none (rows_for start before view) (rows_for start after view) view.entries read_only modseq by_uid set items changed_since)
-  own_none (Selected view read_only) (commands.Store by_uid set unchanged_since action flags) told b t = subst (λ (x : Telling). HasNoExpunge x.own) (sym t) (store_none (rows_for start before view) (rows_for start after view) view.entries modseq by_uid set unchanged_since action.mode action.silent flags)
+  own_none (Selected view read_only) (commands.Fetch by_uid set items changed_since) told b t = subst (λ (x : Telling). HasNoExpunge x.own) (sym t) (fetch_none (mailbox_in start before view read_only) (rows_for start after view) modseq (record { by_uid = by_uid; messages = set; items = items; changed_since = changed_since }))
+  own_none (Selected view read_only) (commands.Store by_uid set unchanged_since action flags) told b t = subst (λ (x : Telling). HasNoExpunge x.own) (sym t) (store_none (mailbox_in start before view read_only) (rows_for start after view) modseq (record { by_uid = by_uid; messages = set; unchanged_since = unchanged_since; action = action; flags = flags }))
   own_none (NotAuthenticated credentials) (commands.Search by_uid options steps) told b t = subst (λ (x : Telling). HasNoExpunge x.own) (sym t) tt
   own_none (NotAuthenticated credentials) (commands.Fetch by_uid set items changed_since) told b t = subst (λ (x : Telling). HasNoExpunge x.own) (sym t) tt
   own_none (NotAuthenticated credentials) (commands.Store by_uid set unchanged_since action flags) told b t = subst (λ (x : Telling). HasNoExpunge x.own) (sym t) tt

@@ -18,7 +18,7 @@ use Rattle.crdt_ops.specs.Tags.{MessageTag, added_by, is_some_tag}
 use Rattle.uid_projection.specs.declared.start.Start.{Start}
 use Rattle.uid_projection.specs.Applied.{IsApplied}
 use Rattle.uid_projection.specs.Incarnations.{is_there}
-use Rattle.uid_projection.specs.Lines.{has_version, origin_added, uid_of, uidnext_of}
+use Rattle.uid_projection.specs.Lines.{has_version, origin_added, uidnext_of}
 use Rattle.uid_projection.specs.Listing.{listed_of, listing}
 use Rattle.uid_projection.proofs.ChartOf.{charted}
 use Rattle.uid_projection.proofs.Listed.{row_from}
@@ -66,7 +66,7 @@ origins_kept start folder ops (g ∷ origins) = ap (λ (ids : List OpId). g ∷ 
 listing_rises : (start : Start) (folder : List ℕ) (ops : List Op) → 1 ≤ start.uid → IsApplied ops → AreRisingRows 1 (listing start folder ops)
 listing_rises start folder ops l a =
     let c = charted start folder ops a in
-    subst (AreRisingRows 1) (rows_listed start folder ops c.3 c.5.are_entries c.5.ascending) (rising_chart start folder ops c.0 c.1 c.2 c.3 c.4 l c.5)
+    subst (AreRisingRows 1) (rows_listed start folder ops c.2 c.3.are_entries c.3.ascending) (rising_chart start folder ops c.0 c.1 c.2 l c.3)
 
 -- the rows with UIDs from the former UIDNEXT on are, one by one, those of the Appends
 pub ids_landed : (start : Start) (folder : List ℕ) (before issued : List Op) → 1 ≤ start.uid → 1 ≤ uidnext_of start folder before → IsApplied (before ++ issued) → is_there folder before ≡ true → ((o : Op) → IsIn o issued → IsCopying before o.kind)

@@ -9,7 +9,7 @@ ghost use Rattle.node_talk.specs.Dumps.{IsDump, body_text, dated_text, folder_li
 
 use crdt_ops::{Ids, Message, SoundOp, write_flags, write_id, write_ids, write_op};
 use imap_node::{Node, Replica};
-use imap_types::{Escape, Name, Octets, write_escaped};
+use imap_types::{Escape, Name, Text, write_escaped};
 use itoa::Buffer;
 use merge_laws::Caused;
 use std::alloc::{AllocError, Global};
@@ -219,7 +219,7 @@ fn push_dated(message: &Message, text: &mut Vec<u8>) -> Result<(), AllocError>
 }
 
 /// The text of a message, behind a space, and the end of its line.
-fn push_letter(letter: &Octets, text: &mut Vec<u8>) -> Result<(), AllocError>
+fn push_letter(letter: &Text, text: &mut Vec<u8>) -> Result<(), AllocError>
     ensures { OnOk result (text.new.items ≡ text.old.items ++ 32 ∷ (letter_text letter.now ++ 10 ∷ [])) }
 {
     text.extend_from_slice(b" =")?;

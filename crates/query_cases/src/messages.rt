@@ -2,7 +2,7 @@
 
 use crate::fields::octets;
 use case_text::{Trouble, cut, long_number, number};
-use imap_types::{DATE_TIME_OCTETS, DateTime, Escape, Flags, Octets};
+use imap_types::{DATE_TIME_OCTETS, DateTime, Escape, Flags, Text};
 use mail_listing::{HeldRow, HeldVersions, Rows};
 use message_versions::{Version, Versions};
 use std::alloc::Global;
@@ -23,7 +23,7 @@ pub struct Message {
     /// How it stands after a command, where that changes it.
     pub after: Option<Standing>,
     date: DateTime,
-    text: Octets,
+    text: Text,
 }
 
 impl Message {
@@ -47,7 +47,7 @@ pub fn message_in(alloc: Global, text: &str) -> Result<Message, Trouble> {
         before,
         after: None,
         date: date_time(date.as_bytes())?,
-        text: octets(alloc, Escape::Text, text)?,
+        text: Text::new(octets(alloc, Escape::Text, text)?.into_vec())?,
     })
 }
 
@@ -141,7 +141,7 @@ fn row_of<'a>(message: &'a Message, is_after: bool) -> Option<HeldRow<'a>> {
         origin: some_id()?,
         versions: HeldVersions::Lent(Versions::new(&standing.versions)),
         date: Some(&message.date),
-        text: message.text.as_bytes(),
+        text: Some(&message.text),
     })
 }
 

@@ -4,7 +4,7 @@ use crate::stage::Mailboxes;
 use case_text::Words;
 use crdt_ops::{Ids, Message};
 use folder_state::Folders;
-use imap_types::Name;
+use imap_types::{Name, Text};
 use std::alloc::AllocError;
 use subs_state::Subs;
 
@@ -56,10 +56,18 @@ fn is_lent(folders: &Folders, name: &Name, message: &Message) -> bool {
     match folders.message(name, &message.origin) {
         Some(lent) => {
             lent.origin == message.origin
-                && lent.text == message.text.as_bytes()
+                && is_text(lent.text, &message.text)
                 && lent.versions.has_flags(&message.flags)
         }
         None => false,
+    }
+}
+
+/// Whether the text that is lent is this one.
+fn is_text(lent: Option<&Text>, text: &Text) -> bool {
+    match lent {
+        Some(lent) => lent.same(text),
+        None => text.as_bytes().is_empty(),
     }
 }
 

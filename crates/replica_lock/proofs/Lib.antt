@@ -1,3 +1,4 @@
 pub mod Counts
 pub mod Journals
 pub mod JoinLemmas
+pub mod ThreadLemmas

@@ -1,6 +1,6 @@
 //! A replica that threads share.
 
-ghost use Rattle.std.specs.Prelude.{◌≡◌, ◌≢◌, OnOk, OnErr, IfOk, IfErr, IsSome, List, None, length, false};
+ghost use Rattle.std.specs.Prelude.{◌≡◌, ◌≢◌, OnOk, OnErr, ◌<◌, IfOk, IfErr, IfSome, IsSome, List, None, length, false};
 ghost use Rattle.causal_inbox.specs.Seen.{IsClockOf, uncovered};
 ghost use Rattle.crdt_ops.specs.declared.op.Op.{Op as Operation};
 ghost use Rattle.merge_laws.specs.Orders.{IsCausal};
@@ -12,7 +12,7 @@ use crate::faults::{CallFault, FinishFault};
 use crate::locked::Locked;
 use crate::pass::Pass;
 use crdt_ops::SoundOp;
-use imap_node::Auth;
+use imap_node::{Auth, SessionNo};
 use imap_syntax::{IdleLine, Tagged};
 use imap_types::Moment;
 use merge_laws::Caused;
@@ -32,6 +32,8 @@ pub trait Gate {
 pub struct Shared<L: Ledger> {
     locked: Mutex<Locked<L>>,
     changed: Condvar,
+    /// Signals that there is news, or that a session was closed.
+    news: Condvar,
 }
 
 impl<L: Ledger> Shared<L> {
@@ -52,6 +54,7 @@ impl<L: Ledger> Shared<L> {
         let shared = Shared {
             locked: Mutex::new(Locked::new(book, calls)),
             changed: Condvar::new(),
+            news: Condvar::new(),
         };
         (shared, pass)
     }
@@ -67,8 +70,16 @@ impl<L: Ledger> Shared<L> {
         ensures unchanged { OnErr result (pass.new ≡ pass.old) }
         ensures refused { IfErr result (IsRefused pass.old.seen) }
     {
-        let result = self.locked.lock(rt).call(alloc, pass, event);
+        let closes = matches!(event, BookEvent::Close { .. });
+        let mut locked = self.locked.lock(rt);
+        let before = locked.news();
+        let result = locked.call(alloc, pass, event);
+        let stirs = closes || locked.news() != before;
+        drop(locked);
         self.changed.notify_all();
+        if stirs {
+            self.news.notify_all();
+        }
         result
     }
 
@@ -192,10 +203,20 @@ impl<L: Ledger> Shared<L> {
         locked.len()
     }
 
-    /// Whether an entry behind the first `from`, among the first `to`, is anything but a poll, so that an idling session may have to be told of
-    /// it. It makes no entry.
-    pub fn stirred<R: Wait>(&self, rt: &R, from: u64, to: u64) -> bool {
-        self.locked.lock(rt).book().stirred(from, to)
+    /// Waits until an entry behind the first `seen` may have to be told to another session than its own, and tells the journal's length then; `None` where
+    /// the session is closed. An entry that is neither wakes nobody who waits so.
+    pub fn wait_news<R: Wait>(&self, rt: &R, session: SessionNo, seen: u64) -> Option<u64>
+        ensures { IfSome result (λ length. seen < length) }
+    {
+        let locked = self.news.wait_while(
+            rt,
+            self.locked.lock(rt),
+            |locked| locked.news() <= seen && locked.book().node().is_open(session),
+        );
+        if locked.news() <= seen {
+            return None;
+        }
+        Some(locked.len())
     }
 
     /// Copies of the operations that the replica applied, in their order; `Err` where there is no memory for them. It makes no entry, and leaves the pass as it is.
@@ -241,7 +262,11 @@ impl<L: Ledger> Shared<L> {
         ensures denied { IfErr result (λ fault. (journal : List Record) × Denies journal passes.items fault) }
         ensures whole { parts_of passes.items ≡ 4294967295 → IfErr result (λ fault. is_missing fault ≡ false) }
     {
-        let Shared { locked, changed: _ } = self;
+        let Shared {
+            locked,
+            changed: _,
+            news: _,
+        } = self;
         locked.into_inner().settle(passes)
     }
 

@@ -2,10 +2,10 @@
 
 use crate::fixtures::Mailboxes;
 use causal_inbox::{
-    delivery_is_received, issue_is_received, nothing_ripe_is_left, release_loses_nothing,
-    what_is_received_is_consistent,
+    delivery_is_received, filed_by_least_missing_cause, issue_is_received, nothing_ripe_is_left,
+    release_loses_nothing, what_is_received_is_consistent,
 };
-use crdt_ops::one_operation;
+use crdt_ops::{SoundOp, one_operation};
 use folder_state::{contents_follow_the_set, folders_for_all_orders};
 use merge_laws::{Unfollowed, same_for_all_orders};
 use subs_state::{subs_for_all_orders, subscriptions_follow_the_set, whole_state_for_all_orders};
@@ -44,4 +44,5 @@ fn inboxes() {
     issue_is_received::<Mailboxes, Unfollowed>();
     what_is_received_is_consistent::<Mailboxes, Unfollowed>();
     nothing_ripe_is_left::<Mailboxes, Unfollowed>();
+    filed_by_least_missing_cause::<SoundOp>();
 }

@@ -106,30 +106,37 @@ fn doors_of<'a>(
     Ok(doors)
 }
 
-/// Holds a lock once so many doors were reached, until so many clients heard all, and tells how many had.
-fn keep<L: Ledger, R: Wait>(
-    rt: &R,
-    shared: &Shared<L>,
-    signs: &Signs,
+/// How long a lock is held.
+#[derive(Drop)]
+struct Hold {
+    /// How many doors are reached before it is taken.
     called: u64,
+    /// Until so many clients heard all; 0 where it isn't taken.
     until: u64,
+    /// Or for so many turns.
     turns: u64,
-) -> u64 {
-    if until == 0 {
+}
+
+/// Holds a lock once so many doors were reached, until so many clients heard all, and tells how many had.
+fn keep<L: Ledger, R: Wait>(rt: &R, shared: &Shared<L>, signs: &Signs, hold: &Hold) -> u64 {
+    if hold.until == 0 {
         return 0;
     }
-    wait_for(rt, &signs.called, called);
+    wait_for(rt, &signs.called, hold.called);
     let mut keeper = Keeper {
         signs,
-        least: until,
-        turns,
+        least: hold.until,
+        turns: hold.turns,
         heard: 0,
     };
     shared.hold(rt, &mut keeper, 1);
     keeper.heard
 }
 
-/// Serves one replica's connections, while its clients call: their passes, and what the clients heard.
+/// The passes of one replica's connections, and what its clients heard.
+type Served<L> = Result<(Vec<Pass<L>>, Vec<Vec<u8>>), AllocError>;
+
+/// Serves one replica's connections, while its clients call.
 fn side_served<L: Ledger + Send + Sync, R: Threads + Wait + Clock + Log + Sync>(
     rt: &R,
     alloc: Global,
@@ -138,7 +145,7 @@ fn side_served<L: Ledger + Send + Sync, R: Threads + Wait + Clock + Log + Sync>(
     first: &mut Pass<L>,
     signs: &Signs,
     side: Side,
-) -> Result<(Vec<Pass<L>>, Vec<Vec<u8>>), AllocError> {
+) -> Served<L> {
     let Side {
         streams,
         ways,
@@ -150,12 +157,118 @@ fn side_served<L: Ledger + Send + Sync, R: Threads + Wait + Clock + Log + Sync>(
         own: 0,
         shared,
     };
-    let (passes, heard) = thread::join(
+    let (heard, passes) = thread::join(
         rt,
-        || serve_over(rt, alloc, &desk, first, streams, doors),
         || thread::map_vec(rt, lines, &|line: Line| hear(rt, alloc, signs, line)),
+        || serve_over(rt, alloc, &desk, first, streams, doors),
     );
     Ok((passes?, heard?))
+}
+
+/// Two replicas as the threads of their connections and clients see them.
+#[derive(Drop)]
+struct Stage<'a, L: Ledger, M: Ledger> {
+    house: &'a House<'a>,
+    one: &'a Shared<L>,
+    two: &'a Shared<M>,
+    signs: &'a Signs,
+    hold: &'a Hold,
+}
+
+/// Holds the first replica's lock.
+fn keep_first<L: Ledger, M: Ledger, R: Wait>(rt: &R, stage: &Stage<'_, L, M>) -> u64 {
+    keep(rt, stage.one, stage.signs, stage.hold)
+}
+
+/// Serves the first replica's connections.
+fn first_served<L: Ledger + Send + Sync, M: Ledger, R: Threads + Wait + Clock + Log + Sync>(
+    rt: &R,
+    alloc: Global,
+    stage: &Stage<'_, L, M>,
+    pass: &mut Pass<L>,
+    side: Side,
+) -> Served<L> {
+    side_served(rt, alloc, stage.house, stage.one, pass, stage.signs, side)
+}
+
+/// Serves the second replica's connections.
+fn second_served<L: Ledger, M: Ledger + Send + Sync, R: Threads + Wait + Clock + Log + Sync>(
+    rt: &R,
+    alloc: Global,
+    stage: &Stage<'_, L, M>,
+    pass: &mut Pass<M>,
+    side: Side,
+) -> Served<M> {
+    side_served(rt, alloc, stage.house, stage.two, pass, stage.signs, side)
+}
+
+/// Serves both replicas' connections, each in a thread.
+fn both_served<
+    L: Ledger + Send + Sync,
+    M: Ledger + Send + Sync,
+    R: Threads + Wait + Clock + Log + Sync,
+>(
+    rt: &R,
+    alloc: Global,
+    stage: &Stage<'_, L, M>,
+    near: &mut Pass<L>,
+    far: &mut Pass<M>,
+    sides: (Side, Side),
+) -> (Served<L>, Served<M>) {
+    let (side, other_side) = sides;
+    thread::join(
+        rt,
+        || first_served(rt, alloc, stage, near, side),
+        || second_served(rt, alloc, stage, far, other_side),
+    )
+}
+
+/// Serves both replicas' connections, while the first one's lock is held.
+fn served_beside<
+    L: Ledger + Send + Sync,
+    M: Ledger + Send + Sync,
+    R: Threads + Wait + Clock + Log + Sync,
+>(
+    rt: &R,
+    alloc: Global,
+    stage: &Stage<'_, L, M>,
+    near: &mut Pass<L>,
+    far: &mut Pass<M>,
+    sides: (Side, Side),
+) -> (u64, (Served<L>, Served<M>)) {
+    thread::join(
+        rt,
+        || keep_first(rt, stage),
+        || both_served(rt, alloc, stage, near, far, sides),
+    )
+}
+
+/// The same of these replicas in this house.
+fn served_on<
+    'a,
+    L: Ledger + Send + Sync,
+    M: Ledger + Send + Sync,
+    R: Threads + Wait + Clock + Log + Sync,
+>(
+    rt: &R,
+    alloc: Global,
+    house: &'a House<'a>,
+    replicas: (&'a Shared<L>, &'a Shared<M>),
+    signs: &'a Signs,
+    hold: &'a Hold,
+    near: &mut Pass<L>,
+    far: &mut Pass<M>,
+    sides: (Side, Side),
+) -> (u64, (Served<L>, Served<M>)) {
+    let (one, two) = replicas;
+    let stage = Stage {
+        house,
+        one,
+        two,
+        signs,
+        hold,
+    };
+    served_beside(rt, alloc, &stage, near, far, sides)
 }
 
 /// How many calls the journal tells of, where all passes are there.
@@ -208,16 +321,20 @@ fn played<
     let listener = TcpListener::bind(rt, "127.0.0.1:0")?;
     let side = connected(rt, alloc, &listener, first)?;
     let other_side = connected(rt, alloc, &listener, second)?;
-    let (heard, (served, other_served)) = thread::join(
+    let (heard, (served, other_served)) = served_on(
         rt,
-        || keep(rt, &one, &signs, called, until, turns),
-        || {
-            thread::join(
-                rt,
-                || side_served(rt, alloc, &house, &one, &mut near, &signs, side),
-                || side_served(rt, alloc, &house, &two, &mut far, &signs, other_side),
-            )
+        alloc,
+        &house,
+        (&one, &two),
+        &signs,
+        &Hold {
+            called,
+            until,
+            turns,
         },
+        &mut near,
+        &mut far,
+        (side, other_side),
     );
     let (passes, first) = served?;
     let (other_passes, second) = other_served?;

@@ -1,7 +1,10 @@
-use Rattle.std.proofs.Common.{◌≡◌, ◌↔◌, ℕ, Bool, true, false, cond, not, ◌&&◌, Option, None, Some, List, [], ◌∷◌, map, refl, sym, ap, ◌∙◌, subst}
-use Rattle.std.specs.List.{filter, filter_map}
+use Rattle.std.proofs.Common.{◌≡◌, ◌==◌, ◌||◌, ℕ, Bool, true, false, cond, Option, None, Some, List, [], ◌∷◌, length, inl, inr, refl, sym, ap, ◌∙◌, subst, if◌then◌else◌}
+use Rattle.std.specs.Global.{Vec}
+use Rattle.std.specs.List.{IsDistinct, AllByRecursion, filter_map, list_any}
+use Rattle.std.specs.Map.{keys_of}
 use Rattle.std.specs.Str.{bytes_eq}
-use Rattle.std.proofs.lemmas.Bool.{and_from, and_parts, false≢true}
+use Rattle.std.proofs.Math.Dec.{eqb-suc-zero}
+use Rattle.std.proofs.lemmas.Bool.{cases_Bool, false≢true}
 use Rattle.std.proofs.lemmas.Slice.Eq.{bytes_eq-Decides}
 use Rattle.imap_types.specs.Ascending.{compared}
 use Rattle.tags_clocks.specs.declared.id.OpId.{OpId}
@@ -12,65 +15,75 @@ use Rattle.crdt_ops.specs.Order.{IsListOf, id_order, in_order, same_id}
 use Rattle.crdt_ops.specs.Sets.{subscribed_at, subscribed_of, subscription_id, subscription_tags_of}
 use Rattle.crdt_ops.specs.Sound.{IsSound}
 use Rattle.crdt_ops.specs.Tags.{SubscriptionTag, present_tags}
-use Rattle.crdt_ops.proofs.Members.{any_filtered, any_in, in_filter_map, in_map}
+use Rattle.crdt_ops.proofs.Members.{any_in, in_filter_map}
 use Rattle.crdt_ops.proofs.OrderLemmas.{id_order_same, id_order_total, listed_in_order, lists_by, names_same, names_total}
 use Rattle.crdt_ops.proofs.Presence.{changed, clock_of, id_of, present_after}
 use Rattle.crdt_ops.proofs.SetLemmas.{subscribed_in, subscription_tags_in}
-use Rattle.subs_state.specs.declared.table.SubscriptionEntry.{SubscriptionEntry}
-use Rattle.subs_state.specs.Entries.{tag_in, tag_of}
-use Rattle.subs_state.specs.Keys.{is_among, is_at}
+use Rattle.subs_state.specs.declared.table.NameTags.{NameTags}
+use Rattle.subs_state.specs.Entries.{held_at, ids_in, name_with_ids, tag_in}
 use Rattle.subs_state.specs.Subscriptions.{IsMadeBy, IsSubscribed, Subscriptions, effect_of, no_subscriptions, subscriptions_by}
 
--- the tests say that name and id are equal
-at_is : (n m : List ℕ) (i j : OpId) → is_at n i m j ≡ true → (n ≡ m) × (i ≡ j)
-at_is n m i j h =
-    let p = and_parts (bytes_eq n m) (same_id i j) h in
-    ((bytes_eq-Decides n m).0 p.0, (ids_decide i j).0 p.1)
+abbrev Named : Type 0
+Named = Vec ℕ × NameTags
 
-at_from : (n m : List ℕ) (i j : OpId) → n ≡ m → i ≡ j → is_at n i m j ≡ true
-at_from n m i j e k = and_from (bytes_eq n m) (same_id i j) ((bytes_eq-Decides n m).1 e) ((ids_decide i j).1 k)
+abbrev same_key : Vec ℕ → Vec ℕ → Bool
+same_key x y = bytes_eq x.items y.items
 
-chosen : {Y : Type 0} (b : Bool) (x y : Y) → cond b (Some x) None ≡ Some y → (b ≡ true) × (x ≡ y)
-chosen true x y h = (refl, cc)
-chosen false x y h = absurd cc
+-- An entry's name leads to it, since no other has it.
+found_by_name : (tags : List Named) → IsDistinct same_key (keys_of tags) → (e : Named) → IsIn e tags → held_at e.0.items tags ≡ Some e.1
+unfolding IsDistinct
+found_by_name [] d e h = absurd h
+found_by_name (x ∷ xs) d e (inl k) =
+    ap (λ t. cond t (Some x.1) (held_at e.0.items xs)) ((bytes_eq-Decides e.0.items x.0.items).1 (sym (ap (λ (y : Named). y.0.items) k))) ∙ ap (λ (y : Named). Some y.1) k
+found_by_name (x ∷ xs) d e (inr k) =
+    ap (λ t. cond t (Some x.1) (held_at e.0.items xs)) (other_name xs d.0 k) ∙ found_by_name xs d.1 e k
+  where
+    other_name : (ys : List Named) → AllByRecursion (λ (y : Vec ℕ). same_key x.0 y ≡ false) (keys_of ys) → IsIn e ys → bytes_eq e.0.items x.0.items ≡ false
+    other_name [] a h = absurd h
+    other_name (y ∷ ys) a (inr h) = other_name ys a.1 h
+    other_name (y ∷ ys) a (inl h) =
+        elim (cases_Bool (bytes_eq e.0.items x.0.items)) [
+          | inl t ↦ absurd (false≢true (sym a.0 ∙ (bytes_eq-Decides x.0.items y.0.items).1 (sym ((bytes_eq-Decides e.0.items x.0.items).0 t) ∙ sym (ap (λ (z : Named). z.0.items) h))))
+          | inr f ↦ f
+        ]
 
-choosing : {Y : Type 0} (b : Bool) (x : Y) → b ≡ true → ◌≡◌ {A = Option Y} (cond b (Some x) None) (Some x)
-choosing true x h = refl
-choosing false x h = absurd (false≢true h)
+-- A tag stands in an entry of its name.
+entry_of : (tags : List Named) (n : List ℕ) (i : OpId) → tag_in tags n i ≡ true → (e : Named) × IsIn e tags × (e.0.items ≡ n) × (list_any (same_id i) e.1.ids.keys ≡ true)
+entry_of [] n i h = absurd (false≢true h)
+entry_of (x ∷ xs) n i h =
+    elim (cases_Bool (bytes_eq n x.0.items)) [
+      | inl t ↦ (x, inl refl, sym ((bytes_eq-Decides n x.0.items).0 t), sym (ap (λ s. list_any (same_id i) (ids_in (cond s (Some x.1) (held_at n xs)))) t) ∙ h)
+      | inr f ↦
+          let w = entry_of xs n i (sym (ap (λ s. list_any (same_id i) (ids_in (cond s (Some x.1) (held_at n xs)))) f) ∙ h) in
+          (w.0, inr w.1, w.2, w.3)
+    ]
 
--- the tags that are left
-pub tags_left : (old new : List SubscriptionEntry) (name : List ℕ) (ids : List OpId) → new ≡ filter (λ entry. not (is_among entry.name entry.id name ids)) old → (n : List ℕ) (i : OpId) → tag_in new n i ≡ (not (is_among n i name ids) && tag_in old n i)
-tags_left old new name ids e n i =
-    ap (λ es. tag_in es n i) e
-    ∙ any_filtered (λ entry. is_at n i entry.name entry.id) (λ entry. not (is_among entry.name entry.id name ids)) (is_among n i name ids)
-    (λ entry h k. not (is_among (sym (at_is n entry.name i entry.id h).0 k) (sym (at_is n entry.name i entry.id h).1 k) name ids)) old
+some_ids : (i : OpId) (ids : List OpId) (name : List ℕ) → list_any (same_id i) ids ≡ true → ◌≡◌ {A = Option (List ℕ)} (if length ids == 0 then None else Some name) (Some name)
+some_ids i [] name h = absurd (false≢true h)
+some_ids i (j ∷ ids) name h = ap (λ t. if t then None else Some name) (eqb-suc-zero (length ids))
 
-tag_at : (tags : List SubscriptionEntry) (n : List ℕ) (i : OpId) → (tag_in tags n i ≡ true) ↔ ((entry : SubscriptionEntry) × IsIn entry tags × (n ≡ entry.name) × (i ≡ entry.id))
-tag_at tags n i =
-    let any = any_in (λ (entry : SubscriptionEntry). is_at n i entry.name entry.id) tags in (
-      λ h. let w = any.0 h in let p = at_is n w.0.name i w.0.id w.2 in (w.0, w.1, p.0, p.1),
-      λ h. any.1 (h.0, h.1, at_from n h.0.name i h.0.id h.2 h.3),
-    )
+id_of_some : (ids : List OpId) (name n : List ℕ) → (if length ids == 0 then None else Some name) ≡ Some n → (name ≡ n) × ((i : OpId) × (list_any (same_id i) ids ≡ true))
+id_of_some [] name n h = absurd cc
+id_of_some (j ∷ ids) name n h = (let e : Some name ≡ Some n = sym (ap (λ t. if t then None else Some name) (eqb-suc-zero (length ids))) ∙ h in cc, (j, ap (λ t. t || list_any (same_id j) ids) ((ids_decide j j).1 (λ k. j))))
 
 -- the names of the tags
-pub names_told : (tags : List SubscriptionEntry) (names : List (List ℕ)) → names ≡ in_order compared (map (λ entry. entry.name) tags) → IsListOf compared (IsSubscribed (tag_in tags)) names
-names_told tags names e =
-    lists_by names_total names_same (IsSubscribed (tag_in tags)) names (map (λ (entry : SubscriptionEntry). entry.name) tags) e (λ n.
-    let at = in_map (λ (entry : SubscriptionEntry). entry.name) tags n in (
-      λ h. let w = (tag_at tags n h.0).0 h.1 in at.1 (w.0, w.1, sym w.2),
-      λ h. let w = at.0 h in (w.0.id, (tag_at tags n w.0.id).1 (w.0, w.1, sym w.2, λ k. w.0.id)),
+pub names_told : (tags : List Named) (names : List (List ℕ)) → IsDistinct same_key (keys_of tags) → names ≡ in_order compared (filter_map name_with_ids tags) → IsListOf compared (IsSubscribed (tag_in tags)) names
+names_told tags names d e =
+    lists_by names_total names_same (IsSubscribed (tag_in tags)) names (filter_map name_with_ids tags) e (λ n.
+    let at = in_filter_map name_with_ids tags n in (
+      λ h. let w = entry_of tags n h.0 h.1 in at.1 (w.0, w.1, some_ids h.0 w.0.1.ids.keys w.0.0.items w.3 ∙ ap (λ z. Some z) w.2),
+      λ h. let w = at.0 h in
+          let s = id_of_some w.0.1.ids.keys w.0.0.items n w.2 in
+          (s.1.0, subst (λ (m : List ℕ). tag_in tags m s.1.0 ≡ true) s.0 (ap (λ o. list_any (same_id s.1.0) (ids_in o)) (found_by_name tags d w.0 w.1) ∙ s.1.1)),
     ))
 
 -- the ids of a name's tags
-pub tags_told : (tags : List SubscriptionEntry) (n : List ℕ) (ids : List OpId) → ids ≡ in_order id_order (filter_map (tag_of n) tags) → IsListOf id_order (λ i. tag_in tags n i ≡ true) ids
+pub tags_told : (tags : List Named) (n : List ℕ) (ids : List OpId) → ids ≡ in_order id_order (ids_in (held_at n tags)) → IsListOf id_order (λ i. tag_in tags n i ≡ true) ids
 tags_told tags n ids e =
-    lists_by id_order_total id_order_same (λ i. tag_in tags n i ≡ true) ids (filter_map (tag_of n) tags) e (λ i.
-    let at = in_filter_map (tag_of n) tags i in (
-      λ h. let w = (tag_at tags n i).0 h in
-          at.1 (w.0, w.1, choosing (bytes_eq w.0.name n) w.0.id ((bytes_eq-Decides w.0.name n).1 (sym w.2)) ∙ ap (λ z. Some z) (sym w.3)),
-      λ h. let w = at.0 h in
-          let p = chosen (bytes_eq w.0.name n) w.0.id i w.2 in
-          (tag_at tags n i).1 (w.0, w.1, sym ((bytes_eq-Decides w.0.name n).0 p.0), sym p.1),
+    lists_by id_order_total id_order_same (λ i. tag_in tags n i ≡ true) ids (ids_in (held_at n tags)) e (λ i.
+    let any = any_in (same_id i) (ids_in (held_at n tags)) in (
+      λ h. let w = any.0 h in subst (λ (j : OpId). IsIn j (ids_in (held_at n tags))) (sym ((ids_decide i w.0).0 w.2)) w.1,
+      λ h. any.1 (i, h, (ids_decide i i).1 (λ k. i)),
     ))
 
 -- ---- what that is of a set of operations

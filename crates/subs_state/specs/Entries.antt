@@ -1,14 +1,52 @@
-use Rattle.std.specs.Prelude.{ℕ, Bool, Option, None, Some, List, if◌then◌else◌}
+use Rattle.std.specs.Prelude.{ℕ, ◌==◌, Bool, false, Option, None, Some, List, [], length, if◌then◌else◌}
+use Rattle.std.specs.Global.{Vec}
 use Rattle.std.specs.List.{list_any}
+use Rattle.std.specs.Map.{lookup}
 use Rattle.std.specs.Str.{bytes_eq}
+use Rattle.indexmap.specs.IndexSet.{spare}
 use Rattle.tags_clocks.specs.declared.id.OpId.{OpId}
-use Rattle.subs_state.specs.declared.table.SubscriptionEntry.{SubscriptionEntry}
-use Rattle.subs_state.specs.Keys.{is_at}
+use Rattle.crdt_ops.specs.declared.kind.Kind.{Kind}
+use Rattle.crdt_ops.specs.declared.kind.Kind.TheVariants.{Create, Delete, Append, Expunge, Store, Subscribe, Unsubscribe}
+use Rattle.crdt_ops.specs.declared.op.Op.{Op}
+use Rattle.crdt_ops.specs.Order.{same_id}
+use Rattle.subs_state.specs.declared.table.NameTags.{NameTags}
+
+-- What is kept of a name, where it is in the table.
+abbrev pub held_at : List ℕ → List (Vec ℕ × NameTags) → Option NameTags
+held_at name tags = lookup (λ (key : Vec ℕ). bytes_eq name key.items) tags
+
+-- The ids that are kept of a name.
+abbrev pub ids_in : Option NameTags → List OpId
+ids_in None = []
+ids_in (Some held) = held.ids.keys
 
 -- Whether there is a tag of this name and id.
-abbrev pub tag_in : List SubscriptionEntry → List ℕ → OpId → Bool
-tag_in tags name id = list_any (λ entry. is_at name id entry.name entry.id) tags
+abbrev pub tag_in : List (Vec ℕ × NameTags) → List ℕ → OpId → Bool
+tag_in tags name id = list_any (same_id id) (ids_in (held_at name tags))
 
--- The id of an entry of this name.
-abbrev pub tag_of : List ℕ → SubscriptionEntry → Option OpId
-tag_of name entry = if bytes_eq entry.name name then Some entry.id else None
+-- The name of an entry with ids.
+abbrev pub name_with_ids : Vec ℕ × NameTags → Option (List ℕ)
+name_with_ids entry = if length entry.1.ids.keys == 0 then None else Some entry.0.items
+
+-- How many ids more fit with no more memory.
+abbrev pub room_in : Option NameTags → ℕ
+room_in None = 0
+room_in (Some held) = spare held.ids
+
+-- How many tags more of a name fit with no more memory.
+abbrev pub room_of : List ℕ → List (Vec ℕ × NameTags) → ℕ
+room_of name tags = room_in (held_at name tags)
+
+-- Whether the kind is a Subscribe to this name.
+abbrev pub is_subscribe : List ℕ → Kind → Bool
+is_subscribe name (Create folder) = false
+is_subscribe name (Delete folder seen) = false
+is_subscribe name (Append folder flags date text) = false
+is_subscribe name (Expunge folder olds) = false
+is_subscribe name (Store folder flags olds origin) = false
+is_subscribe name (Subscribe other) = bytes_eq name other
+is_subscribe name (Unsubscribe other seen) = false
+
+-- Whether the operation subscribes to this name.
+abbrev pub subscribes : List ℕ → Op → Bool
+subscribes name op = is_subscribe name op.kind

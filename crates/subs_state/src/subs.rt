@@ -1,17 +1,17 @@
 //! The replicated subscriptions.
 
-use crate::table::{SubscriptionEntry, forget_removed, keep_added, subscribed_names, tag_ids};
-use crdt_ops::{Ids, SoundOp, copied_ops};
+use crate::table::{NameTags, forget_removed, keep_added, make_room, subscribed_names, tag_ids};
+use crdt_ops::{Ids, SoundOp};
 use imap_types::Name;
+use indexmap::IndexMap;
 use merge_laws::Replicated;
 use std::alloc::{AllocError, Global};
-use std::collections::VecDeque;
 
 /// The names that are subscribed to, changed by operations in any causal order (RFC 9051, section 6.3.7).
 #[derive(Drop)]
 pub struct Subs {
-    tags: Vec<SubscriptionEntry>,
-    spare: VecDeque<SoundOp>,
+    /// By their octets, the names that were subscribed to.
+    tags: IndexMap<Vec<u8>, NameTags>,
 }
 
 impl Subs {
@@ -28,8 +28,7 @@ impl Subs {
         ensures { subscriptions_of result ≡ no_subscriptions }
     {
         Subs {
-            tags: Vec::new(alloc),
-            spare: VecDeque::new(alloc),
+            tags: IndexMap::new(alloc),
         }
     }
 
@@ -75,17 +74,12 @@ impl Replicated for Subs {
     ghost commutes = { effects_commute };
 
     fn prepare(&mut self, alloc: Global, ops: &[SoundOp]) -> Result<(), AllocError> {
-        let copies = copied_ops(alloc, ops)?;
-        self.tags.reserve(ops.len())?;
-        self.spare = copies;
-        Ok(())
+        make_room(alloc, &mut self.tags, ops)
     }
 
     fn apply(&mut self, op: &SoundOp) {
-        forget_removed(&mut self.tags, op.op());
-        match self.spare.pop_front() {
-            Some(copy) => keep_added(&mut self.tags, copy.into_op()),
-            None => unreachable!(),
-        }
+        let op = op.op();
+        forget_removed(&mut self.tags, op);
+        keep_added(&mut self.tags, op);
     }
 }

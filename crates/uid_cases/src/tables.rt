@@ -124,7 +124,7 @@ fn tell_row(row: &Row<'_>, answer: &mut Words) {
     tell_versions(row, answer);
     answer.put_id(" ", row.origin);
     tell_flags(row, answer);
-    answer.put_escaped(" =", row.text);
+    answer.put_escaped(" =", row.shown_text());
 }
 
 fn tell_versions(row: &Row<'_>, answer: &mut Words) {

@@ -31,7 +31,7 @@ use Rattle.uid_projection.specs.Listing.{listing}
 use Rattle.uid_projection.proofs.ChartOf.{charted}
 use Rattle.uid_projection.proofs.Keeping.{apart}
 use Rattle.uid_projection.proofs.Lasting.{begun}
-use Rattle.uid_projection.proofs.LaterCharts.{k_begins}
+use Rattle.uid_projection.proofs.Numbers.{k_begins}
 use Rattle.uid_projection.proofs.LaterNumbers.{uidnext_within}
 use Rattle.uid_projection.proofs.Listed.{row_in}
 use Rattle.uid_projection.proofs.ListingLaws.{flags_carried, keywords_have}
@@ -122,7 +122,7 @@ first_within start folder s = by (bytes_eq folder inbox)
 listing_rising : (start : Start) (folder : List ℕ) (ops : List Op) → 1 ≤ start.uid → IsApplied ops → AreRisingRows 1 (listing start folder ops)
 listing_rising start folder ops l a =
     let c = charted start folder ops a in
-    subst (AreRisingRows 1) (rows_listed start folder ops c.3 c.5.are_entries c.5.ascending) (rising_chart start folder ops c.0 c.1 c.2 c.3 c.4 l c.5)
+    subst (AreRisingRows 1) (rows_listed start folder ops c.2 c.3.are_entries c.3.ascending) (rising_chart start folder ops c.0 c.1 c.2 l c.3)
 
 row_within : (start : Start) (folder : List ℕ) (ops : List Op) (row : Listed) → IsLawfulStart start → IsApplied ops → IsIn row (listing start folder ops) → IsRowWithin (uidnext_of start folder ops) (length ops) row
 row_within start folder ops row s a i =

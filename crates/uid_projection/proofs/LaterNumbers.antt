@@ -1,6 +1,7 @@
-use Rattle.std.proofs.Common.{◌≡◌, inl, inr, ℕ, ◌+◌, ◌≤◌, Bool, true, false, cond, List, [], ◌∷◌, ◌++◌, length, refl, sym, ap, ◌∙◌, subst, append_assoc, append-nil, arith}
+use Rattle.std.specs.Global.{Vec}
+use Rattle.std.proofs.Common.{◌≡◌, Option, None, Some, inl, inr, ℕ, ◌+◌, ◌≤◌, Bool, true, false, cond, List, [], ◌∷◌, ◌++◌, length, refl, sym, ap, ◌∙◌, subst, append_assoc, append-nil, arith}
 use Rattle.std.specs.List.{list_any}
-use Rattle.std.proofs.lemmas.Bool.{cases_Bool, cases_eq, cases_lt, or_parts}
+use Rattle.std.proofs.lemmas.Bool.{cases_Bool, cases_eq, cases_lt, false≢true, or_parts}
 use Rattle.imap_types.specs.Names.{inbox}
 use Rattle.crdt_ops.specs.declared.op.Op.{Op}
 use Rattle.crdt_ops.specs.Tags.{name_of}
@@ -14,11 +15,10 @@ use Rattle.uid_projection.specs.Following.{Follows, IsReadyFor}
 use Rattle.uid_projection.specs.History.{counted_all}
 use Rattle.uid_projection.specs.Incarnations.{begins, is_there, k_of}
 use Rattle.uid_projection.specs.Lines.{begins_line, concerns_by, first_uid, highest_modseq_of, uidnext_of}
-use Rattle.uid_projection.specs.Table.{IsTable}
+use Rattle.uid_projection.specs.Table.{HasRooms, HasRoomsIn, IsRoomy, IsTable, chart_at}
 use Rattle.uid_projection.proofs.Coming.{behind}
-use Rattle.uid_projection.proofs.HistoryLemmas.{once}
+use Rattle.uid_projection.proofs.HistoryLemmas.{once, all-append}
 use Rattle.uid_projection.proofs.Lasting.{about_name, begun}
-use Rattle.uid_projection.proofs.LaterCharts.{shown}
 use Rattle.uid_projection.proofs.Presence.{applied_front}
 use Rattle.uid_projection.proofs.Steps.{highest_gone, highest_here, k_here, k_none, uidnext_gone, uidnext_here}
 use Rattle.uid_projection.proofs.Touching.{line_about}
@@ -105,14 +105,15 @@ module _ (start : Start) (folder : List ℕ) (other : folder ≡ inbox → ⊥) 
       let r = k_within_after ops (list ++ o ∷ []) b step (others_last start list ops o lasts) (ap (is_there folder) (append_assoc list (o ∷ []) ops) ∙ t) in
       omega (arith, r, e)
 
-  pub k_within_table : (list : List Op) (k : ℕ) (charts : List Chart) → IsTable start list k charts → is_there folder list ≡ true → k_of start folder list ≤ 65535
-  k_within_table list k charts t there =
-      let w = t.covers folder there in
-      let up = t.shows w.0 w.1 in
-      let q : w.0.there ≡ true = up.there ∙ ap (λ n. is_there n list) w.2 ∙ there in
-      let small = up.small q (λ e. other (sym w.2 ∙ e)) in
-      let is : w.0.k ≡ k_of start w.0.folder list = (up.live q).is_k in
-      subst (λ n. n ≤ 65535) (is ∙ ap (λ n. k_of start n list) w.2) small
+  pub k_within_table : (list : List Op) (k : ℕ) (charts : List (Vec ℕ × Chart)) → IsTable start list k charts → is_there folder list ≡ true → k_of start folder list ≤ 65535
+  k_within_table list k charts t there = by (chart_at folder charts) refl
+    where
+      by : (x : Option Chart) → chart_at folder charts ≡ x → k_of start folder list ≤ 65535
+      by None e = absurd (false≢true (sym (t.covers folder e) ∙ there))
+      by (Some c) e =
+          let up = t.shows folder c e in
+          let q : c.there ≡ true = up.there ∙ there in
+          subst (λ n. n ≤ 65535) (up.is_k q) (up.small q other)
 
 -- ---- HIGHESTMODSEQ
 
@@ -157,6 +158,14 @@ highest_still folder (o ∷ ops) list n a none u l =
     let r = highest_still folder ops (list ++ o ∷ []) n b p.1 step l in
     omega (arith, r, e)
 
+-- where there is room, there is a chart
+charted_roomy : (n : ℕ) (folder : List ℕ) (charts : List (Vec ℕ × Chart)) → HasRooms n folder charts → (c : Chart) × (chart_at folder charts ≡ Some c) × IsRoomy n c
+charted_roomy n folder charts r = by (chart_at folder charts) refl r
+  where
+    by : (x : Option Chart) → chart_at folder charts ≡ x → HasRoomsIn n x → (c : Chart) × (chart_at folder charts ≡ Some c) × IsRoomy n c
+    by None e h = absurd h
+    by (Some c) e h = (c, e, h)
+
 -- charts that are ready for the operations have its numbers
 pub highest_within : (x : Charts) (list ops : List Op) (folder : List ℕ) → Follows x list → IsReadyFor x list ops → highest_modseq_of folder list ≤ 18446744073709551615 → highest_modseq_of folder (list ++ ops) ≤ 18446744073709551615
 highest_within x list ops folder f r u =
@@ -164,14 +173,26 @@ highest_within x list ops folder f r u =
       | inl t ↦
           let w = (any_in (λ (o : Op). concerns_by folder o.kind) ops).0 t in
           let own : folder ≡ name_of w.0.kind = about_name folder w.0.kind w.2 in
-          let rooms = r.rooms w.0 w.1 (subst (λ (n : List ℕ). concerns_by n w.0.kind ≡ true) own w.2) in
-          let c = rooms.found.0 in
-          let roomy = rooms.rooms c rooms.found.1 rooms.found.2 in
-          let s = shown x.start list c (f.table.shows c rooms.found.1) in
-          let is : c.highest ≡ highest_modseq_of folder list = s.is_highest ∙ ap (λ n. highest_modseq_of n list) (rooms.found.2 ∙ sym own) in
+          let roomy = charted_roomy (length ops) (name_of w.0.kind) x.charts.entries (r.rooms w.0 w.1 (subst (λ (n : List ℕ). concerns_by n w.0.kind ≡ true) own w.2)) in
+          let is : roomy.0.highest ≡ highest_modseq_of folder list = (f.table.shows (name_of w.0.kind) roomy.0 roomy.1).shows.is_highest ∙ ap (λ n. highest_modseq_of n list) (sym own) in
           let least : 1 ≤ highest_modseq_of folder list = omega arith in
           let b = highest_bound folder ops list (highest_modseq_of folder list) (omega arith) least in
-          let h = roomy.highest in
+          let h = roomy.2.highest in
           omega (arith, b, h, is)
       | inr none ↦ highest_still folder ops list 18446744073709551615 r.applied none u (omega arith)
     ]
+
+-- ---- the k of the incarnation that begins next
+
+once_as : (b : Bool) (k : ℕ) → cond b (k + 1) k ≡ k + once b
+once_as true k = refl
+once_as false k = omega arith
+
+-- the k of the incarnation that begins next
+pub next_k_behind : (start : Start) (list front through : List Op) (o : Op) (b : Bool) (k r : ℕ) → through ≡ front ++ o ∷ [] → b ≡ begins (list ++ front) o → k ≡ start.k + counted_all begins (list ++ front) → r ≡ cond b (k + 1) k → r ≡ start.k + counted_all begins (list ++ through)
+next_k_behind start list front through o b k r e x y z =
+    let m = all-append begins (list ++ front) o in
+    let w : counted_all begins (list ++ through) ≡ counted_all begins ((list ++ front) ++ o ∷ []) = ap (counted_all begins) (behind list front through o e) in
+    let v : once b ≡ once (begins (list ++ front) o) = ap once x in
+    let u = once_as b k in
+    omega (arith, m, w, v, u, y, z)

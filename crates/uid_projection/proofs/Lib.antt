@@ -8,13 +8,16 @@ pub mod ChartSteps
 pub mod ChartOf
 pub mod Lasting
 pub mod Keeping
+pub mod Moving
+pub mod Advancing
 pub mod Tables
+pub mod Stepping
+pub mod Overlaid
 pub mod Numbers
 pub mod RowLemmas
 pub mod Asked
 pub mod Coming
 pub mod Noted
-pub mod LaterCharts
 pub mod LaterNumbers
 pub mod ListingLaws
 pub mod BoundLemmas

@@ -1,5 +1,6 @@
+use Rattle.std.specs.Map.{KeepsOthers}
 use Rattle.std.specs.Str.{bytes_eq}
-use Rattle.std.proofs.Common.{◌≡◌, inl, inr, ℕ, ◌+◌, ◌*◌, ◌<◌, ◌≤◌, Bool, true, false, cond, List, [], ◌∷◌, ◌++◌, Option, Some, None, length, get_or, refl, sym, ap, ◌∙◌, subst, append_assoc, append-nil, arith}
+use Rattle.std.proofs.Common.{◌≡◌, inl, inr, ℕ, ◌+◌, ◌*◌, ◌≤◌, true, false, cond, List, [], ◌∷◌, ◌++◌, Option, Some, None, length, refl, sym, ap, ◌∙◌, subst, append_assoc, append-nil, arith}
 use Rattle.std.proofs.lemmas.Bool.{cases_Bool, false≢true, false_from_ne_true}
 use Rattle.std.proofs.lemmas.Slice.Eq.{bytes_eq-Decides}
 use Rattle.imap_types.specs.Names.{inbox}
@@ -13,20 +14,18 @@ use Rattle.uid_projection.specs.declared.chart.Chart.{Chart}
 use Rattle.uid_projection.specs.declared.charts.Charts.{Charts}
 use Rattle.uid_projection.specs.declared.start.Start.{Start}
 use Rattle.uid_projection.specs.Applied.{IsApplied}
-use Rattle.uid_projection.specs.Chart.{IsChart}
+use Rattle.uid_projection.specs.Chart.{AreVersions}
 use Rattle.uid_projection.specs.Exhaustion.{IsExhausted}
 use Rattle.uid_projection.specs.Following.{Follows, IsReadyFor}
 use Rattle.uid_projection.specs.Incarnations.{is_there, k_of, uidvalidity_of}
 use Rattle.uid_projection.specs.Lines.{concerns_by}
 use Rattle.uid_projection.specs.Readiness.{less_room}
-use Rattle.uid_projection.specs.Shown.{Shows}
-use Rattle.uid_projection.specs.Table.{HasRooms, IsNextOn, IsTable, IsUpTo}
-use Rattle.uid_projection.proofs.Asked.{up_at}
+use Rattle.uid_projection.specs.Table.{HasRooms, IsNextOn, IsTable, IsUpTo, chart_at, origin_at}
 use Rattle.uid_projection.proofs.ChartOf.{chart_first}
-use Rattle.uid_projection.proofs.ChartSteps.{chart_as}
 use Rattle.uid_projection.proofs.Lasting.{about_name}
 use Rattle.uid_projection.proofs.Presence.{inbox_there, there_tags}
-use Rattle.uid_projection.proofs.Tables.{table_unmoved}
+use Rattle.uid_projection.proofs.Tables.{Named, chart_as, has_name, no_chart, others_at, own_chart, own_there, same_key, table_unmoved}
+use Rattle.uid_projection.proofs.Touching.{no_origin}
 
 pub both_applied : (list ops : List Op) → IsApplied list → AreSound IsSound ops → IsCausal (λ (o : Op). o.id) (λ o. o.clock) (list ++ ops) → IsApplied (list ++ ops)
 both_applied list ops a s d = record {
@@ -38,25 +37,29 @@ pub made_by : (c : Contents) (list : List Op) → IsApplied list → c ≡ fold_
 made_by c list a m = record { sound = a.sound; causal = a.causal; made = m }
 
 -- an operation that was made ready for comes next
-pub next_on : (x : Charts) (list : List Op) (o p : Op) (there : Bool) → p ≡ o → Follows x list → IsReadyFor x list (o ∷ []) → there ≡ is_there (name_of p.kind) (list ++ p ∷ []) → IsNextOn x.start x.next_k x.charts.items list p there
-next_on x list o p there e f r t =
+pub next_on : (x : Charts) (value : Contents) (list : List Op) (o p : Op) → p ≡ o → Follows x list → IsReadyFor x list (o ∷ []) → IsMadeBy value (list ++ o ∷ []) → IsNextOn x.start x.next_k x.charts.entries value list p
+next_on x value list o p e f r m =
     let r2 : IsReadyFor x list (p ∷ []) = subst (λ (q : Op). IsReadyFor x list (q ∷ [])) (sym e) r in
     record {
-      applied = r2.applied;
+      next = record {
+        first = f.first;
+        applied = r2.applied;
+        made = subst (λ (q : Op). IsMadeBy value (list ++ q ∷ [])) (sym e) m;
+        is_k = f.table.is_k;
+        lasts = λ h. r2.lasts ([], p, [], refl, subst (λ (xs : List Op). IsExhausted x.start xs p) (sym (append-nil list)) h);
+      };
       table = f.table;
-      is_there_now = t;
-      lasts = λ h. r2.lasts ([], p, [], refl, subst (λ (xs : List Op). IsExhausted x.start xs p) (sym (append-nil list)) h);
     }
 
 -- what stays ready for the others
-pub others_ready : (x y : Charts) (list : List Op) (o : Op) (rest : List Op) → y.start ≡ x.start → ((n : ℕ) (folder : List ℕ) → HasRooms (n + 1) folder x.charts.items → HasRooms n folder y.charts.items) → IsReadyFor x list (o ∷ rest) → IsReadyFor y (list ++ o ∷ []) rest
+pub others_ready : (x y : Charts) (list : List Op) (o : Op) (rest : List Op) → y.start ≡ x.start → ((n : ℕ) (folder : List ℕ) → HasRooms (n + 1) folder x.charts.entries → HasRooms n folder y.charts.entries) → IsReadyFor x list (o ∷ rest) → IsReadyFor y (list ++ o ∷ []) rest
 others_ready x y list o rest same rooms r = record {
   applied = subst IsApplied (sym (append_assoc list (o ∷ []) rest)) r.applied;
   lasts = λ e.
       let (front, p, back, k, h) = e in
       let h2 : IsExhausted x.start (list ++ o ∷ front) p = subst (λ (xs : List Op). IsExhausted x.start xs p) (append_assoc list (o ∷ []) front) (subst (λ (s : Start). IsExhausted s ((list ++ o ∷ []) ++ front) p) same h) in
       r.lasts (o ∷ front, p, back, ap (λ xs. o ∷ xs) k, h2);
-  rooms = λ p i about. rooms (length rest) (name_of p.kind) (less_room (length rest + 1) (length (o ∷ rest)) (name_of p.kind) x.charts.items (omega arith) (r.rooms p (inr i) about));
+  rooms = λ p i about. rooms (length rest) (name_of p.kind) (less_room (length rest + 1) (length (o ∷ rest)) (name_of p.kind) x.charts.entries (omega arith) (r.rooms p (inr i) about));
 }
 
 -- an operation that is about no folder
@@ -67,41 +70,49 @@ pub unmoved : (x : Charts) (list : List Op) (o : Op) → concerns_by (name_of o.
 unmoved x list o f w r = record {
   first = w.first;
   applied = r.applied;
-  table = table_unmoved x.start list o r.applied x.charts.items x.next_k (nobody o f) w.table;
+  table = table_unmoved x.start list o r.applied x.charts.entries x.next_k (nobody o f) w.table;
+  nothing = w.nothing;
 }
 
 -- nothing applied
-pub first_table : (start : Start) (c : Chart) (charts : List Chart) → charts ≡ c ∷ [] → c.folder ≡ inbox → c.there ≡ true → c.k ≡ start.k → c.uidnext ≡ start.uid → c.highest ≡ 1 → c.entries.items ≡ [] → c.versions.items ≡ [] → IsTable start [] start.k charts
-first_table start c charts items own t k u h es vs =
-    let s : Shows start [] c = chart_as start [] inbox c.folder start.k c.k start.uid c.uidnext 1 c.highest [] c.entries.items [] c.versions.items own k u h es vs (chart_first start inbox) in
-    subst (IsTable start [] start.k) (sym items) (record {
+first_up : (start : Start) (c : Chart) → c.there ≡ true → c.k ≡ start.k → c.uidnext ≡ start.uid → c.highest ≡ 1 → c.entries.entries ≡ [] → c.versions.entries ≡ [] → IsUpTo start inbox [] c
+first_up start c t k u h es vs =
+    let first : start.k ≡ k_of start inbox [] = omega arith in
+    record {
+      there = t ∙ sym (inbox_there []);
+      shows = chart_as start inbox [] _ _ _ _ _ _ u h es (chart_first start inbox);
+      versions = subst (λ v. AreVersions inbox [] (origin_at v)) (sym vs) (λ i g. (λ e. absurd (no_origin g e), λ v. absurd (false≢true v.0)));
+      is_k = λ q. k ∙ first;
+      small = λ q n. absurd (n refl);
+    }
+
+pub first_table : (start : Start) (name : List ℕ) (old charts : List Named) (c : Chart) → old ≡ [] → KeepsOthers same_key (has_name name) old charts → chart_at name charts ≡ Some c → name ≡ inbox → c.there ≡ true → c.k ≡ start.k → c.uidnext ≡ start.uid → c.highest ≡ 1 → c.entries.entries ≡ [] → c.versions.entries ≡ [] → IsTable start [] start.k charts
+first_table start name old charts c none keeps is own t k u h es vs =
+    let first : IsUpTo start name [] c = subst (λ n. IsUpTo start n [] c) (sym own) (first_up start c t k u h es vs) in
+    record {
       is_k = omega arith;
-      shows = λ x i. elim i [
-        | inl j ↦ subst (IsUpTo start []) j (record {
-          there = t ∙ sym (inbox_there []) ∙ ap (λ n. is_there n []) (sym own);
-          live = λ q. s;
-          away = λ q. absurd (false≢true (sym q ∙ t));
-          small = λ q n. absurd (n own);
-        })
-        | inr n ↦ absurd n
+      shows = λ folder d e. elim (cases_Bool (bytes_eq folder name)) [
+        | inl y ↦ subst (IsUpTo start folder []) (own_chart name old charts c keeps is folder d y e) (subst (λ n. IsUpTo start n [] c) (sym ((bytes_eq-Decides folder name).0 y)) first)
+        | inr f ↦ absurd (no_chart d (sym e ∙ others_at name old charts keeps folder f ∙ ap (chart_at folder) none))
       ];
-      covers = λ folder h. elim ((there_tags folder []).0 h) [
-        | inl e ↦ (c, inl refl, own ∙ sym e)
-        | inr w ↦ elim w.1 [ inl x ↦ absurd (false≢true x) | inr x ↦ absurd (false≢true x) ]
+      covers = λ folder e. elim (cases_Bool (bytes_eq folder name)) [
+        | inl y ↦ absurd (own_there name old charts c keeps is folder y e)
+        | inr f ↦ false_from_ne_true (is_there folder []) (λ h. elim ((there_tags folder []).0 h) [
+          | inl q ↦ false≢true (sym f ∙ (bytes_eq-Decides folder name).1 (q ∙ sym own))
+          | inr w ↦ elim w.1 [ inl x ↦ false≢true x | inr x ↦ false≢true x ]
+        ])
       ];
-      apart = (λ x i e. absurd i, tt);
-    })
+    }
 
 -- the UIDVALIDITY by the chart
-pub validity_at : (start : Start) (list : List Op) (k : ℕ) (charts : List Chart) (name : List ℕ) (t : IsTable start list k charts) (at : ℕ) (c : Chart) (r : Option ℕ) → at < length charts → c ≡ get_or charts at c → c.folder ≡ name → bytes_eq name inbox ≡ false → (c.there ≡ false → r ≡ None) → (c.there ≡ true → c.k ≤ 65535 → r ≡ Some (65536 * c.k + start.replica)) → r ≡ uidvalidity_of start name list
-validity_at start list k charts name t at c r l is own other away there =
-    let up = up_at start list k charts name t at c l is in
-    let was : c.there ≡ is_there name list = up.there ∙ ap (λ n. is_there n list) own in
+pub validity_at : (start : Start) (list : List Op) (k : ℕ) (charts : List Named) (name : List ℕ) (t : IsTable start list k charts) (c : Chart) (r : Option ℕ) → chart_at name charts ≡ Some c → bytes_eq name inbox ≡ false → (c.there ≡ false → r ≡ None) → (c.there ≡ true → c.k ≤ 65535 → r ≡ Some (65536 * c.k + start.replica)) → r ≡ uidvalidity_of start name list
+validity_at start list k charts name t c r is other away there =
+    let up = t.shows name c is in
+    let was : c.there ≡ is_there name list = up.there in
     elim (cases_Bool c.there) [
       | inl q ↦
-          let s : IsChart start name list c.k c.uidnext c.highest c.entries.items c.versions.items = subst (λ n. IsChart start n list c.k c.uidnext c.highest c.entries.items c.versions.items) own (up.live q) in
-          let small = up.small q (λ e. false≢true (sym other ∙ (bytes_eq-Decides name inbox).1 (sym own ∙ e))) in
-          there q small ∙ (λ i. Some (65536 * s.is_k i + start.replica))
+          let small = up.small q (λ e. false≢true (sym other ∙ (bytes_eq-Decides name inbox).1 e)) in
+          there q small ∙ (λ i. Some (65536 * up.is_k q i + start.replica))
           ∙ (λ i. cond (sym other i) (Some start.replica) (cond ((sym q ∙ was) i) (Some (65536 * k_of start name list + start.replica)) None))
       | inr f ↦ away f ∙ (λ i. cond (sym other i) (Some start.replica) (cond ((sym f ∙ was) i) (Some (65536 * k_of start name list + start.replica)) None))
     ]

@@ -1,11 +1,10 @@
 use Rattle.std.specs.List.{list_any}
 use Rattle.std.specs.Option.{option_map}
-use Rattle.std.proofs.Common.{◌≡◌, inl, inr, ℕ, Bool, true, false, cond, not, ◌&&◌, ◌||◌, List, [], ◌∷◌, ◌++◌, Option, Some, None, refl, sym, ap, ◌∙◌, subst}
-use Rattle.std.proofs.lemmas.Bool.{and_from, and_parts, cases_Bool, false≢true, false_from_ne_true, not-true, or_cases, or_parts}
+use Rattle.std.proofs.Common.{◌≡◌, inl, inr, ℕ, true, false, cond, not, ◌&&◌, ◌||◌, List, [], ◌∷◌, ◌++◌, Option, Some, None, refl, sym, ap, ◌∙◌, subst}
+use Rattle.std.proofs.lemmas.Bool.{and_parts, cases_Bool, false≢true, false_from_ne_true, or_cases, or_parts}
 use Rattle.tags_clocks.specs.declared.id.OpId.{OpId}
 use Rattle.tags_clocks.proofs.Decide.{ids_decide}
 use Rattle.merge_laws.specs.Orders.{IsIn}
-use Rattle.merge_laws.proofs.Lists.{in_back, in_front, in_parts}
 use Rattle.crdt_ops.specs.declared.kind.Kind.{Kind}
 use Rattle.crdt_ops.specs.declared.kind.Kind.TheVariants.{Create, Delete, Append, Expunge, Store, Subscribe, Unsubscribe}
 use Rattle.crdt_ops.specs.declared.op.Op.{Op}
@@ -14,16 +13,15 @@ use Rattle.crdt_ops.specs.Order.{is_some_id, same_id}
 use Rattle.crdt_ops.specs.Sets.{Body, body_by, versions_of}
 use Rattle.crdt_ops.specs.Tags.{MessageTag, added_by, adds, is_present, is_some_tag, removed_by, removed_ids, removes, same_tag}
 use Rattle.crdt_ops.specs.TagLaws.{adds_own, delete_removes_message_tags, olds_remove_message_tags, same_id_is}
-use Rattle.crdt_ops.proofs.Members.{any_in, in_filter}
+use Rattle.crdt_ops.proofs.Members.{any_in}
 use Rattle.crdt_ops.proofs.OrderLemmas.{id_order_same, id_order_total, one_ascending}
 use Rattle.crdt_ops.proofs.VersionLemmas.{some_id, versions_listed}
-use Rattle.uid_projection.specs.declared.entry.ChartVersion.{ChartVersion}
-use Rattle.uid_projection.specs.declared.entry.Entry.{Entry}
+use Rattle.entry_table.specs.declared.entry.Entry.{Entry}
 use Rattle.uid_projection.specs.declared.start.Start.{Start}
 use Rattle.uid_projection.specs.Applied.{IsApplied}
 use Rattle.uid_projection.specs.Chart.{AreEntries, AreVersions}
 use Rattle.uid_projection.specs.Lines.{begins_line, begins_line_of, changes_versions, concerns_by, has_version, holds_of, modseq_of, origin_added, same_ids, uid_of}
-use Rattle.uid_projection.specs.Moves.{added_origin, has_any, is_changed, is_held, left_versions, loses}
+use Rattle.uid_projection.specs.Moves.{added_origin, is_held, loses, with_id, without}
 use Rattle.uid_projection.proofs.Presence.{added_once, adds_about, presence_step, same_bool}
 use Rattle.uid_projection.proofs.Versions.{origin_new, same_itself, unchanged, version_cases, version_in, version_kept}
 
@@ -144,93 +142,83 @@ module _ (folder : List ℕ) (ops : List Op) (o : Op) (a : IsApplied (ops ++ o �
 
   -- ---- the versions that are kept
 
-  module _ (removed : List OpId) (takes : (i : OpId) → removes (MessageTag folder i) o ≡ list_any (same_id i) removed) (added : Option OpId) (own : added ≡ origin_added folder o) (vs : List ChartVersion) (l : AreVersions folder ops vs) where
-    abbrev is_left : ChartVersion → Bool
-    is_left v = not (list_any (same_id v.id) removed)
+  module _ (removed : List OpId) (takes : (i : OpId) → removes (MessageTag folder i) o ≡ list_any (same_id i) removed) (added : Option OpId) (own : added ≡ origin_added folder o) (f : OpId → Option OpId) (l : AreVersions folder ops f) where
+    lost_none : (g : OpId) → loses f removed g ≡ false → (i : OpId) → IsVersion ops folder g i → removes (MessageTag folder i) o ≡ false
+    lost_none g none i v =
+        takes i ∙ false_from_ne_true (list_any (same_id i) removed) (λ r.
+        let w = (any_in (same_id i) removed).0 r in
+        let t : is_some_id g (f w.0) ≡ true = subst (λ (j : OpId). is_some_id g (f j) ≡ true) (same_id_is i w.0 w.2) ((some_id g (f i)).1 ((l i g).1 v)) in
+        false≢true (sym none ∙ (any_in (λ (j : OpId). is_some_id g (f j)) removed).1 (w.0, w.1, t)))
 
-    abbrev is_lost : OpId → ChartVersion → Bool
-    is_lost g v = same_id v.origin g && list_any (same_id v.id) removed
-
-    lost_none : (g : OpId) → loses vs removed g ≡ false → (i : OpId) → IsVersion ops folder g i → removes (MessageTag folder i) o ≡ false
-    lost_none g f i v =
-        let x : ChartVersion = record { id = i; origin = g } in
-        takes i ∙ false_from_ne_true (list_any (same_id i) removed) (λ r. false≢true (sym f ∙ (any_in (is_lost g) vs).1 (x, (l x).1 v, and_from (same_id g g) (list_any (same_id i) removed) (own_id g) r)))
-
-    lost_one : (g : OpId) → loses vs removed g ≡ true → changes_versions folder g ops o ≡ true
+    lost_one : (g : OpId) → loses f removed g ≡ true → changes_versions folder g ops o ≡ true
     lost_one g t =
-        let w = (any_in (is_lost g) vs).0 t in
-        let p = and_parts (same_id w.0.origin g) (list_any (same_id w.0.id) removed) w.2 in
-        let v : IsVersion ops folder g w.0.id = subst (λ (h : OpId). IsVersion ops folder h w.0.id) (same_id_is w.0.origin g p.0) ((l w.0).0 w.1) in
-        changed_removed g w.0.id v (takes w.0.id ∙ p.1)
+        let w = (any_in (λ (j : OpId). is_some_id g (f j)) removed).0 t in
+        let v : IsVersion ops folder g w.0 = (l w.0 g).0 ((some_id g (f w.0)).0 w.2) in
+        changed_removed g w.0 v (takes w.0 ∙ (any_in (same_id w.0) removed).1 (w.0, w.1, own_id w.0))
 
-    -- the test of change says that the versions change
-    pub changed_is : (g : OpId) → is_changed vs removed added g ≡ changes_versions folder g ops o
+    -- an origin that loses a version or gets one is one whose versions change
+    pub changed_is : (g : OpId) → (loses f removed g || is_some_id g added) ≡ changes_versions folder g ops o
     changed_is g =
-        elim (cases_Bool (is_changed vs removed added g)) [
-          | inl t ↦ t ∙ sym (elim (or_cases (loses vs removed g) (is_some_id g added) t) [
+        elim (cases_Bool (loses f removed g || is_some_id g added)) [
+          | inl t ↦ t ∙ sym (elim (or_cases (loses f removed g) (is_some_id g added) t) [
             | inl x ↦ lost_one g x
             | inr x ↦ changed_added g (sym own ∙ (some_id g added).0 x)
           ])
-          | inr f ↦
-              let p = or_parts (loses vs removed g) (is_some_id g added) f in
-              f ∙ sym (unchanged_by g (lost_none g p.0) (λ e. false≢true (sym p.1 ∙ (some_id g added).1 (own ∙ e))))
+          | inr n ↦
+              let p = or_parts (loses f removed g) (is_some_id g added) n in
+              n ∙ sym (unchanged_by g (lost_none g p.0) (λ e. false≢true (sym p.1 ∙ (some_id g added).1 (own ∙ e))))
         ]
 
-    old_left : (v : ChartVersion) → IsIn v (left_versions removed vs) → IsVersion (ops ++ o ∷ []) folder v.origin v.id
-    old_left v i =
-        let w = (in_filter is_left vs v).0 i in
-        version_kept folder ops o a v.origin v.id ((l v).0 w.0) (takes v.id ∙ not-true (list_any (same_id v.id) removed) w.1)
+    old_left : (i g : OpId) → without f removed i ≡ Some g → IsVersion (ops ++ o ∷ []) folder g i
+    old_left i g h =
+        elim (cases_Bool (list_any (same_id i) removed)) [
+          | inl t ↦ absurd (no_origin g (sym (ap (λ b. cond b None (f i)) t) ∙ h))
+          | inr n ↦ version_kept folder ops o a g i ((l i g).0 (sym (ap (λ b. cond b None (f i)) n) ∙ h)) (takes i ∙ n)
+        ]
 
-    left_old : (v : ChartVersion) → IsVersion ops folder v.origin v.id → removes (MessageTag folder v.id) o ≡ false → IsIn v (left_versions removed vs)
-    left_old v x r = (in_filter is_left vs v).1 ((l v).1 x, ap not (sym (takes v.id) ∙ r))
+    left_old : (i g : OpId) → IsVersion ops folder g i → removes (MessageTag folder i) o ≡ false → without f removed i ≡ Some g
+    left_old i g x r = ap (λ b. cond b None (f i)) (sym (takes i) ∙ r) ∙ (l i g).1 x
 
     -- after an operation that adds none
-    pub versions_left : origin_added folder o ≡ None → AreVersions folder (ops ++ o ∷ []) (left_versions removed vs)
-    versions_left none v = (
-      old_left v,
-      λ x. elim (version_cases folder ops o a v.origin v.id x) [
-        | inl w ↦ left_old v w.0 w.1
-        | inr w ↦ absurd (no_origin v.origin (sym none ∙ w.1))
+    pub versions_left : origin_added folder o ≡ None → AreVersions folder (ops ++ o ∷ []) (without f removed)
+    versions_left none i g = (
+      old_left i g,
+      λ x. elim (version_cases folder ops o a g i x) [
+        | inl w ↦ left_old i g w.0 w.1
+        | inr w ↦ absurd (no_origin g (sym none ∙ w.1))
       ],
     )
 
     -- after one that adds a version
-    pub versions_more : (g : OpId) → origin_added folder o ≡ Some g → AreVersions folder (ops ++ o ∷ []) (left_versions removed vs ++ record { id = o.id; origin = g } ∷ [])
-    versions_more g e v =
-        let left = left_versions removed vs in
-        let fresh : ChartVersion = record { id = o.id; origin = g } in (
-          λ i. elim (in_parts v left (fresh ∷ []) i) [
-            | inl t ↦ old_left v t
-            | inr t ↦ elim t [ inl k ↦ subst (λ (x : ChartVersion). IsVersion (ops ++ o ∷ []) folder x.origin x.id) k (version_added g e) | inr n ↦ absurd n ]
-          ],
-          λ x. elim (version_cases folder ops o a v.origin v.id x) [
-            | inl w ↦ in_front v left (fresh ∷ []) (left_old v w.0 w.1)
-            | inr w ↦
-                let is : o.id ≡ v.id = sym (adds_own (MessageTag folder v.id) o w.0) in
-                let at : g ≡ v.origin = same_origin g v.origin (sym e ∙ w.1) in
-                in_back v left (fresh ∷ []) (inl (λ k. record { id = is k; origin = at k }))
-          ],
-        )
+    pub versions_more : (g : OpId) → origin_added folder o ≡ Some g → AreVersions folder (ops ++ o ∷ []) (with_id (without f removed) o.id g)
+    versions_more g e i h =
+        elim (cases_Bool (same_id o.id i)) [
+          | inl t ↦
+              let is : o.id ≡ i = same_id_is o.id i t in
+              let here : with_id (without f removed) o.id g i ≡ Some g = ap (λ b. cond b (Some g) (without f removed i)) t in (
+                λ x. let same : g ≡ h = same_origin g h (sym here ∙ x) in subst (λ (j : OpId). IsVersion (ops ++ o ∷ []) folder h j) is (subst (λ (k : OpId). IsVersion (ops ++ o ∷ []) folder k o.id) same (version_added g e)),
+                λ x. here ∙ elim (version_cases folder ops o a h i x) [
+                  | inl w ↦ absurd (version_new g h e (subst (λ (j : OpId). IsVersion ops folder h j) (sym is) w.0))
+                  | inr w ↦ sym e ∙ w.1
+                ],
+              )
+          | inr n ↦
+              let past : with_id (without f removed) o.id g i ≡ without f removed i = ap (λ b. cond b (Some g) (without f removed i)) n in (
+                λ x. old_left i h (sym past ∙ x),
+                λ x. past ∙ elim (version_cases folder ops o a h i x) [
+                  | inl w ↦ left_old i h w.0 w.1
+                  | inr w ↦ absurd (false≢true (sym n ∙ subst (λ (j : OpId). same_id o.id j ≡ true) (sym (adds_own (MessageTag folder i) o w.0)) (own_id o.id)))
+                ],
+              )
+        ]
 
--- an origin has a version where one is kept
-pub has_any_is : (folder : List ℕ) (ops : List Op) (vs : List ChartVersion) → AreVersions folder ops vs → (g : OpId) → has_any vs g ≡ has_version folder g ops
-has_any_is folder ops vs l g =
-    same_bool (has_any vs g) (has_version folder g ops)
-    (λ h.
-    let w = (any_in (λ (v : ChartVersion). same_id v.origin g) vs).0 h in
-    (version_in folder ops g).1 (w.0.id, subst (λ (x : OpId). IsVersion ops folder x w.0.id) (same_id_is w.0.origin g w.2) ((l w.0).0 w.1)))
-    (λ h.
-    let v = (version_in folder ops g).0 h in
-    let x : ChartVersion = record { id = v.0; origin = g } in
-    (any_in (λ (v : ChartVersion). same_id v.origin g) vs).1 (x, (l x).1 v.1, own_id g))
-
--- and where it has an entry
+-- where an origin has an entry, it has a version
 pub held_is : (start : Start) (folder : List ℕ) (ops : List Op) (es : List Entry) → AreEntries start folder ops es → (g : OpId) → is_held es g ≡ has_version folder g ops
 held_is start folder ops es l g =
     same_bool (is_held es g) (has_version folder g ops)
     (λ h.
-    let w = (any_in (λ (e : Entry). same_id e.origin g) es).0 h in
-    subst (λ (x : OpId). has_version folder x ops ≡ true) (same_id_is w.0.origin g w.2) ((l w.0).0 w.1).there)
+    let w = (any_in (λ (e : Entry). same_id g e.origin) es).0 h in
+    subst (λ (x : OpId). has_version folder x ops ≡ true) (sym (same_id_is g w.0.origin w.2)) ((l w.0).0 w.1).there)
     (λ h.
     let x : Entry = record { origin = g; uid = uid_of start folder ops g; modseq = modseq_of folder ops g } in
-    (any_in (λ (e : Entry). same_id e.origin g) es).1 (x, (l x).1 (record { there = h; uid = refl; modseq = refl }), own_id g))
+    (any_in (λ (e : Entry). same_id g e.origin) es).1 (x, (l x).1 (record { there = h; uid = refl; modseq = refl }), own_id g))

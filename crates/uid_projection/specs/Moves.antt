@@ -1,52 +1,62 @@
-use Rattle.std.specs.Prelude.{ℕ, ◌==◌, Bool, false, not, ◌&&◌, ◌||◌, Option, None, Some, List, [], ◌∷◌, ◌++◌, if◌then◌else◌}
-use Rattle.std.specs.List.{filter, list_any}
+use Rattle.std.specs.Prelude.{ℕ, ◌<◌, ◌≤◌, ◌^◌, Bool, true, false, not, Option, None, Some, List, [], ◌∷◌, ◌++◌, length, if◌then◌else◌}
+use Rattle.std.specs.List.{filter_map, list_any}
 use Rattle.std.specs.Option.{option_map}
 use Rattle.tags_clocks.specs.declared.id.OpId.{OpId}
+use Rattle.entry_table.specs.declared.entry.Entry.{Entry}
+use Rattle.entry_table.specs.Entries.{AreBelow, Lacks}
 use Rattle.crdt_ops.specs.declared.op.Op.{Op}
 use Rattle.crdt_ops.specs.Order.{is_some_id, same_id}
 use Rattle.crdt_ops.specs.Sets.{body_by}
-use Rattle.uid_projection.specs.declared.entry.ChartVersion.{ChartVersion}
-use Rattle.uid_projection.specs.declared.entry.Entry.{Entry}
 
 -- The origin of the message tag that an operation adds.
 abbrev pub added_origin : Op → Option OpId
 added_origin op = option_map (λ body. body.origin) (body_by op.id op.kind)
 
--- Whether the origin has one of these versions.
-abbrev pub has_any : List ChartVersion → OpId → Bool
-has_any versions origin = list_any (λ v. same_id v.origin origin) versions
+-- Whether the origin loses a version, where these ids are removed; of each id the origin of its version is told.
+abbrev pub loses : (OpId → Option OpId) → List OpId → OpId → Bool
+loses origin_of removed origin = list_any (λ id. is_some_id origin (origin_of id)) removed
 
--- Whether the origin loses one of these versions, where these ids are removed.
-abbrev pub loses : List ChartVersion → List OpId → OpId → Bool
-loses versions removed origin = list_any (λ v. same_id v.origin origin && list_any (same_id v.id) removed) versions
+-- What tells the origins of all but these ids.
+abbrev pub without : (OpId → Option OpId) → List OpId → OpId → Option OpId
+without origin_of removed id = if list_any (same_id id) removed then None else origin_of id
 
--- Whether the versions of the origin change: one is removed, or one is added.
-abbrev pub is_changed : List ChartVersion → List OpId → Option OpId → OpId → Bool
-is_changed versions removed added origin = loses versions removed origin || is_some_id origin added
+-- What tells this origin of this id, and of others what was told.
+abbrev pub with_id : (OpId → Option OpId) → OpId → OpId → OpId → Option OpId
+with_id origin_of id origin other = if same_id id other then Some origin else origin_of other
 
--- The entry with this mod-sequence where its message changes, and as it was where not.
-abbrev pub touched : (OpId → Bool) → ℕ → Entry → Entry
-touched changed modseq e = if changed e.origin then record { origin = e.origin; uid = e.uid; modseq = modseq } else e
+-- The entry with this mod-sequence.
+abbrev pub renewed : ℕ → Entry → Entry
+renewed modseq e = record { origin = e.origin; uid = e.uid; modseq = modseq }
 
--- The versions that stay.
-abbrev pub left_versions : List OpId → List ChartVersion → List ChartVersion
-left_versions removed versions = filter (λ v. not (list_any (same_id v.id) removed)) versions
+-- What becomes of an entry: where its message changes, it gets this mod-sequence if the message stays, and goes if not.
+abbrev pub move_of : (OpId → Bool) → (OpId → Bool) → ℕ → Entry → Option Entry
+move_of changes stays modseq e = if changes e.origin then (if stays e.origin then Some (renewed modseq e) else None) else Some e
 
--- Whether the line of an entry goes on: it wasn't changed last, or its message has a version.
-abbrev pub goes_on : List ChartVersion → ℕ → Entry → Bool
-goes_on versions highest e = not (e.modseq == highest) || has_any versions e.origin
+-- What becomes of the entries.
+abbrev pub moved : (OpId → Bool) → (OpId → Bool) → ℕ → List Entry → List Entry
+moved changes stays modseq entries = filter_map (move_of changes stays modseq) entries
 
 -- Whether there is an entry of this origin.
 abbrev pub is_held : List Entry → OpId → Bool
-is_held entries origin = list_any (λ e. same_id e.origin origin) entries
+is_held entries origin = list_any (λ e. same_id origin e.origin) entries
 
 -- Whether a message tag of this origin, where one is added, takes a UID, by the folder's entries: where none is of this origin.
 abbrev pub takes_uid : Option OpId → List Entry → Bool
 takes_uid None entries = false
 takes_uid (Some origin) entries = not (is_held entries origin)
 
--- The entries of the lines that go on, and one with this UID behind them where none is of this origin.
-abbrev pub with_line : List ChartVersion → OpId → ℕ → ℕ → List Entry → List Entry
-with_line versions origin uid highest entries =
-    let kept = filter (goes_on versions highest) entries in
-    if is_held entries origin then kept else kept ++ record { origin = origin; uid = uid; modseq = highest } ∷ []
+-- The entries with one of this origin: the one that is there with this mod-sequence, or a new one behind the others.
+abbrev pub with_line : OpId → ℕ → ℕ → List Entry → List Entry
+with_line origin uid modseq entries =
+    if is_held entries origin then moved (λ other. same_id other origin) (λ other. true) modseq entries else entries ++ record { origin = origin; uid = uid; modseq = modseq } ∷ []
+
+-- No two entries have one origin.
+abbrev pub AreApart : List Entry → Type 0
+AreApart [] = Unit {0}
+AreApart (e ∷ entries) = Lacks e.origin entries × AreApart entries
+
+-- An entry with this UID can be put behind these.
+pub record IsNext (uid : ℕ) (entries : List Entry) : Type 0 where
+  pub first : 1 ≤ uid
+  pub beyond : AreBelow uid entries
+  pub few : length entries < 2 ^ 32

@@ -1,4 +1,5 @@
-use Rattle.std.specs.Prelude.{ℕ, ◌≤◌, List, [], ◌∷◌, ◌++◌, length}
+use Rattle.std.specs.Global.{Vec}
+use Rattle.std.specs.Prelude.{ℕ, ◌≤◌, Option, None, Some, List, [], ◌∷◌, ◌++◌, length}
 use Rattle.std.proofs.Common.{arith, ap, sym, subst, append_assoc, ◌∙◌}
 use Rattle.merge_laws.proofs.Causal.{causal_front}
 use Rattle.merge_laws.proofs.Lists.{in_front}
@@ -8,14 +9,15 @@ use Rattle.uid_projection.specs.declared.charts.Charts.{Charts}
 use Rattle.uid_projection.specs.declared.chart.Chart.{Chart}
 use Rattle.uid_projection.specs.Applied.{IsApplied}
 use Rattle.uid_projection.specs.Following.{IsReadyFor}
-use Rattle.uid_projection.specs.Table.{HasRooms}
+use Rattle.uid_projection.specs.Table.{HasRooms, HasRoomsIn, chart_at}
 
 -- Room for more operations is room for fewer.
-pub less_room : (m n : ℕ) (folder : List ℕ) (charts : List Chart) → m ≤ n → HasRooms n folder charts → HasRooms m folder charts
-less_room m n folder charts l r = record {
-  found = r.found;
-  rooms = λ c i e. let w = r.rooms c i e in let p = w.places in let v = w.version_places in let h = w.highest in record { places = omega (arith, p, l); version_places = omega (arith, v, l); highest = omega (arith, h, l); uidnext = w.uidnext };
-}
+pub less_room : (m n : ℕ) (folder : List ℕ) (charts : List (Vec ℕ × Chart)) → m ≤ n → HasRooms n folder charts → HasRooms m folder charts
+less_room m n folder charts l r = fewer (chart_at folder charts) r
+  where
+    fewer : (c : Option Chart) → HasRoomsIn n c → HasRoomsIn m c
+    fewer None h = h
+    fewer (Some c) h = let p = h.places in let v = h.version_places in let q = h.highest in record { places = omega (arith, p, l); version_places = omega (arith, v, l); highest = omega (arith, q, l); uidnext = h.uidnext }
 
 -- What is ready for some operations is ready for the first of them.
 pub ready_first : (x : Charts) (list : List Op) (o : Op) (os : List Op) → IsReadyFor x list (o ∷ os) → IsReadyFor x list (o ∷ [])
@@ -27,5 +29,5 @@ ready_first x list o os r = record {
         causal = causal_front (λ (p : Op). p.id) (λ p. p.clock) (list ++ o ∷ []) os whole.causal;
       };
   lasts = λ e. let (front, p, back, k, h) = e in r.lasts (front, p, back ++ os, ap (λ xs. xs ++ os) k ∙ append_assoc front (p ∷ back) os, h);
-  rooms = λ p i about. less_room 1 (length (o ∷ os)) (name_of p.kind) x.charts.items (omega arith) (r.rooms p (in_front p (o ∷ []) os i) about);
+  rooms = λ p i about. less_room 1 (length (o ∷ os)) (name_of p.kind) x.charts.entries (omega arith) (r.rooms p (in_front p (o ∷ []) os i) about);
 }

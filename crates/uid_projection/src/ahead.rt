@@ -19,19 +19,20 @@ use crate::table::uidnext_in;
 use crdt_ops::{Kind, Op, SoundOp};
 use folder_state::Folders;
 use imap_types::Name;
+use indexmap::IndexMap;
 use tags_clocks::OpId;
 
 /// Whether one of these operations would need a number that a counter doesn't have, applied behind those in front of it. The
-/// folders are those of the list for which the charts stand. Its cost grows as the operations times the charts; near the end of
+/// folders are those of the list for which the charts stand. Its cost grows as the operations; near the end of
 /// a counter, as the operations' square times what is in the folders.
 pub fn exhausts(
     start: &Start,
     next_k: u32,
-    charts: &[Chart],
+    charts: &IndexMap<Vec<u8>, Chart>,
     value: &Folders,
     ops: &[SoundOp],
 ) -> bool
-    ensures { (list : List Operation) → IsApplied (list ++ ops.now) → IsTable start.now list next_k charts.now → IsMadeBy (contents_of value.now) list → IsTrue result ↔ Exhausts start.now list ops.now }
+    ensures { (list : List Operation) → IsApplied (list ++ ops.now) → IsTable start.now list next_k charts.now.entries → IsMadeBy (contents_of value.now) list → IsTrue result ↔ Exhausts start.now list ops.now }
 {
     for at in 0..ops.len() {
         let op = ops[at].op();
@@ -46,20 +47,26 @@ pub fn exhausts(
 fn lacks(
     start: &Start,
     next_k: u32,
-    charts: &[Chart],
+    charts: &IndexMap<Vec<u8>, Chart>,
     value: &Folders,
     front: &[SoundOp],
     through: &[SoundOp],
     op: &Op,
 ) -> bool
-    ensures { (list : List Operation) → through.now ≡ front.now ++ op.now ∷ [] → IsApplied (list ++ through.now) → IsTable start.now list next_k charts.now → IsMadeBy (contents_of value.now) list → IsTrue result ↔ IsExhausted start.now (list ++ front.now) op.now }
+    ensures { (list : List Operation) → through.now ≡ front.now ++ op.now ∷ [] → IsApplied (list ++ through.now) → IsTable start.now list next_k charts.now.entries → IsMadeBy (contents_of value.now) list → IsTrue result ↔ IsExhausted start.now (list ++ front.now) op.now }
 {
     lacks_uid(start, charts, value, front, op) || lacks_k(next_k, value, front, through, op)
 }
 
 /// Whether it would need a UID, and none is left.
-fn lacks_uid(start: &Start, charts: &[Chart], value: &Folders, front: &[SoundOp], op: &Op) -> bool
-    ensures { (list : List Operation) (k : ℕ) → IsApplied ((list ++ front.now) ++ op.now ∷ []) → IsTable start.now list k charts.now → IsMadeBy (contents_of value.now) list → IsTrue result ↔ LacksUid start.now (list ++ front.now) op.now }
+fn lacks_uid(
+    start: &Start,
+    charts: &IndexMap<Vec<u8>, Chart>,
+    value: &Folders,
+    front: &[SoundOp],
+    op: &Op,
+) -> bool
+    ensures { (list : List Operation) (k : ℕ) → IsApplied ((list ++ front.now) ++ op.now ∷ []) → IsTable start.now list k charts.now.entries → IsMadeBy (contents_of value.now) list → IsTrue result ↔ LacksUid start.now (list ++ front.now) op.now }
 {
     let folder = op.kind.name();
     let first = first_of(start, folder);

@@ -14,10 +14,11 @@ ghost use Rattle.uid_projection.specs.Table.{IsTable};
 use crate::ahead::begins;
 use crate::chart::Chart;
 use crate::later::is_about;
-use crate::table::place_of;
+use crate::table::chart_of;
 use crdt_ops::SoundOp;
 use folder_state::Folders;
 use imap_types::Name;
+use indexmap::IndexMap;
 use tags_clocks::ReplicaId;
 
 /// A UID that is known to be small.
@@ -65,11 +66,11 @@ fn highest_behind(there: bool, about: bool, highest: u128) -> u128
 }
 
 /// The k of the folder's incarnation, or of the next one that begins where it isn't there.
-pub fn k_in(charts: &[Chart], next_k: u32, folder: &Name) -> u32
-    ensures { (start : First) (list : List Operation) → IsTable start list next_k charts.now → result ≡ k_of start folder.now list }
+pub fn k_in(charts: &IndexMap<Vec<u8>, Chart>, next_k: u32, folder: &Name) -> u32
+    ensures { (start : First) (list : List Operation) → IsTable start list next_k charts.now.entries → result ≡ k_of start folder.now list }
 {
-    match place_of(charts, folder) {
-        Some(at) => k_now(&charts[at], next_k),
+    match chart_of(charts, folder) {
+        Some(chart) => k_now(chart, next_k),
         None => next_k,
     }
 }

@@ -1,161 +1,270 @@
-//! A folder's chart as operations to come would leave it.
+//! A folder's entries as operations to come leave them, laid over those that are kept.
 
-ghost use Rattle.std.specs.Prelude.{◌≡◌, ◌≤◌, ◌+◌, ◌==◌, nat_lt, ℕ, List, [], ◌∷◌, ◌++◌, true, false, not, ◌&&◌, ◌||◌, if◌then◌else◌, IfOk};
+ghost use Rattle.std.specs.Prelude.{◌≡◌, ◌⊎◌, ◌<◌, ◌+◌, ◌-◌, ℕ, List, [], ◌∷◌, ◌++◌, true, false, ◌||◌, if◌then◌else◌, IfOk, OnOk, length, get_or};
+ghost use Rattle.std.specs.List.{list_any};
+ghost use Rattle.tags_clocks.specs.declared.id.OpId.{OpId as Id};
+ghost use Rattle.entry_table.specs.declared.entry.Entry.{Entry as Kept};
 ghost use Rattle.crdt_ops.specs.declared.op.Op.{Op as Operation};
-ghost use Rattle.folder_state.specs.Contents.{IsMadeBy};
-ghost use Rattle.folder_state.specs.Tables.{contents_of};
+ghost use Rattle.crdt_ops.specs.Order.{is_some_id, same_id};
+ghost use Rattle.folder_state.specs.Contents.{Contents, IsMadeBy, effect_of, origin_in};
+ghost use Rattle.folder_state.specs.Later.{after};
+ghost use Rattle.folder_ahead.specs.Ahead.{IsAhead, folder_of};
+ghost use Rattle.uid_projection.specs.Ahead.{AdvancesAhead, IsNextAhead};
 ghost use Rattle.uid_projection.specs.Applied.{IsApplied};
-ghost use Rattle.uid_projection.specs.Exhaustion.{Exhausts, IsExhausted};
-ghost use Rattle.uid_projection.specs.History.{counted_all};
-ghost use Rattle.uid_projection.specs.Incarnations.{begins, is_there};
-ghost use Rattle.uid_projection.specs.Lines.{concerns_by};
-ghost use Rattle.uid_projection.specs.Moves.{added_origin, takes_uid};
-ghost use Rattle.uid_projection.specs.Table.{IsAlike, IsAway, IsRoomy, IsTable, IsUpTo};
+ghost use Rattle.uid_projection.specs.Chart.{IsChart};
+ghost use Rattle.uid_projection.specs.declared.start.Start.{Start as First};
+ghost use Rattle.uid_projection.specs.Incarnations.{is_there};
+ghost use Rattle.uid_projection.specs.Lines.{concerns_by, first_uid, has_version};
+ghost use Rattle.uid_projection.specs.Moves.{AreApart, IsNext, is_held, loses, moved, with_line};
+ghost use Rattle.uid_projection.specs.Table.{IsTable};
 
-use crate::ahead::{begins, same};
-use crate::chart::{Chart, step};
-use crate::moves::{added_origin, takes_uid};
-use crate::room::{away, make_room_in};
-use crate::start::Start;
-use crate::table::place_of;
+use crate::ahead::same;
+use crate::chart::Chart;
+use crate::moves::{added_origin, begin_line, holds, settle};
+use crate::start::{Start, first_of};
+use crate::table::chart_of;
 use crdt_ops::{Kind, Op, SoundOp};
-use folder_state::Folders;
+use entry_table::{EntryList, EntryOverlay, EntryTable};
+use folder_ahead::FolderAhead;
 use imap_types::Name;
+use indexmap::IndexMap;
 use std::alloc::{AllocError, Global};
+use tags_clocks::OpId;
 
-/// The folder's chart after these operations, applied in this order; `Err` where there is no memory for it. (No memory holds
-/// as many operations as a mod-sequence has numbers.)
-pub fn chart_after(
-    alloc: Global,
-    start: &Start,
-    next_k: u32,
-    charts: &[Chart],
-    value: &Folders,
-    folder: &Name,
-    ops: &[SoundOp],
-) -> Result<Chart, AllocError>
-    ensures folder { IfOk result (λ c. c.folder ≡ folder.now) }
-    ensures up { (list : List Operation) → IsApplied (list ++ ops.now) → IsTable start.now list next_k charts.now → IsMadeBy (contents_of value.now) list → (Exhausts start.now list ops.now → ⊥) → IfOk result (λ c. IsUpTo start.now (list ++ ops.now) c) }
-{
-    let mut chart = copied_chart(alloc, start, charts, folder, ops.len())?;
-    let mut k = next_k;
-    for at in 0..ops.len() {
-        let op = ops[at].op();
-        bring_behind(
-            &mut chart,
-            start,
-            &mut k,
-            value,
-            &ops[..at],
-            &ops[..at + 1],
-            op,
-        );
-    }
-    Ok(chart)
+/// A folder's entries as operations to come leave them, with the numbers that the next ones take.
+#[derive(Drop)]
+pub struct ChartAhead<'a> {
+    /// The UID that the next line gets.
+    pub uidnext: u32,
+    /// The highest mod-sequence.
+    pub highest: u64,
+    /// The messages by ascending UID.
+    pub entries: EntryOverlay<'a>,
 }
 
-/// A copy of the folder's chart, with room for so many operations.
-fn copied_chart(
+/// The folder's chart as it is kept, where nothing comes yet; `nothing` is lent where it has none. `Err` where there is no memory.
+pub fn kept_ahead<'a>(
     alloc: Global,
     start: &Start,
-    charts: &[Chart],
+    charts: &'a IndexMap<Vec<u8>, Chart>,
+    nothing: &'a EntryTable,
     folder: &Name,
-    more: usize,
-) -> Result<Chart, AllocError>
-    ensures roomy { IfOk result (λ c. (c.folder ≡ folder.now) × IsRoomy more c) }
-    ensures up { (list : List Operation) (k : ℕ) → IsTable start.now list k charts.now → IfOk result (λ c. IsUpTo start.now list c) }
+) -> Result<ChartAhead<'a>, AllocError>
+    ensures { (list : List Operation) (k : ℕ) → IsTable start.now list k charts.now.entries → nothing.now.entries ≡ [] → IfOk result (λ c. IsChart start.now folder.now list c.uidnext c.highest c.entries.entries) }
 {
-    match place_of(charts, folder) {
-        Some(at) => copy_of(alloc, &charts[at], more),
-        None => away_with_room(alloc, start, folder, more),
+    match chart_of(charts, folder) {
+        Some(chart) => Ok(ChartAhead {
+            uidnext: chart.uidnext,
+            highest: chart.highest,
+            entries: chart.entries.overlay(alloc)?,
+        }),
+        None => away_ahead(alloc, first_of(start, folder), nothing),
     }
 }
 
-/// A copy of the chart, with room for so many operations.
-fn copy_of(alloc: Global, chart: &Chart, more: usize) -> Result<Chart, AllocError>
-    ensures { IfOk result (λ c. IsAlike chart.now c × IsRoomy more c) }
-{
-    let mut copied = Chart {
-        folder: chart.folder.copy(alloc)?,
-        there: chart.there,
-        k: chart.k,
-        uidnext: chart.uidnext,
-        highest: chart.highest,
-        entries: chart.entries.as_slice().to_vec(alloc)?,
-        versions: chart.versions.as_slice().to_vec(alloc)?,
-    };
-    make_room_in(&mut copied, more)?;
-    Ok(copied)
-}
-
-/// The chart of a folder that isn't there, with room for so many operations.
-fn away_with_room(
+/// The chart of a folder that isn't there, with this first UID; `Err` where there is no memory for it.
+fn away_ahead<'a>(
     alloc: Global,
-    start: &Start,
-    folder: &Name,
-    more: usize,
-) -> Result<Chart, AllocError>
-    ensures { IfOk result (λ c. (c.folder ≡ folder.now) × (c.there ≡ false) × IsAway start.now c × IsRoomy more c) }
+    first: u32,
+    nothing: &'a EntryTable,
+) -> Result<ChartAhead<'a>, AllocError>
+    ensures { IfOk result (λ c. (c.uidnext ≡ first) × (c.highest ≡ 1) × (c.entries.entries ≡ nothing.now.entries)) }
 {
-    let mut chart = away(alloc, start, folder)?;
-    make_room_in(&mut chart, more)?;
-    Ok(chart)
+    Ok(ChartAhead {
+        uidnext: first,
+        highest: 1,
+        entries: nothing.overlay(alloc)?,
+    })
 }
 
-/// Brings the chart, and the k of the next incarnation that begins, up to the operation, which comes behind those in front. One
-/// for which a number is lacking leaves the chart as it was.
-fn bring_behind(
-    chart: &mut Chart,
+/// Brings the chart and the folder up to these operations, in this order; `Err`, for want of memory, leaves both of no use but to be
+/// let go. Cost: what the operations name.
+pub fn bring_through<'a>(
+    alloc: Global,
+    chart: &mut ChartAhead<'a>,
+    ahead: &mut FolderAhead<'a>,
     start: &Start,
-    next_k: &mut u32,
-    value: &Folders,
-    front: &[SoundOp],
-    through: &[SoundOp],
+    nothing: &'a EntryTable,
+    folder: &Name,
+    ops: &'a [SoundOp],
+) -> Result<(), AllocError>
+    ensures folder { folder_of ahead.new ≡ folder_of ahead.old }
+    ensures ahead { OnOk result ((c : Contents) → IsAhead c ahead.old → IsAhead (after c ops.now) ahead.new) }
+    ensures shows { OnOk result ((list : List Operation) (c : Contents) → IsNextAhead start.now folder.now nothing.now.entries c list ops.now ahead.old → IsChart start.now folder.now list chart.old.uidnext chart.old.highest chart.old.entries.entries → IsChart start.now folder.now (list ++ ops.now) chart.new.uidnext chart.new.highest chart.new.entries.entries) }
+{
+    for op in ops {
+        bring_behind(alloc, chart, ahead, start, nothing, folder, op)?;
+    }
+    Ok(())
+}
+
+/// The same of one operation.
+fn bring_behind<'a>(
+    alloc: Global,
+    chart: &mut ChartAhead<'a>,
+    ahead: &mut FolderAhead<'a>,
+    start: &Start,
+    nothing: &'a EntryTable,
+    folder: &Name,
+    op: &'a SoundOp,
+) -> Result<(), AllocError>
+    ensures folder { folder_of ahead.new ≡ folder_of ahead.old }
+    ensures ahead { OnOk result ((c : Contents) → IsAhead c ahead.old → IsAhead (effect_of c op.now) ahead.new) }
+    ensures shows { OnOk result ((list : List Operation) (c : Contents) → IsNextAhead start.now folder.now nothing.now.entries c list (op.now ∷ []) ahead.old → IsChart start.now folder.now list chart.old.uidnext chart.old.highest chart.old.entries.entries → IsChart start.now folder.now (list ++ op.now ∷ []) chart.new.uidnext chart.new.highest chart.new.entries.entries) }
+{
+    if !is_about(&op.op().kind, folder) {
+        return ahead.step(alloc, op);
+    }
+    let lost = origins_lost(alloc, ahead, op.op().kind.removed())?;
+    ahead.step(alloc, op)?;
+    bring_up(
+        alloc,
+        chart,
+        ahead,
+        first_of(start, folder),
+        nothing,
+        lost.as_slice(),
+        op.op(),
+    )
+}
+
+/// The origins of the message tags with these ids that are present.
+fn origins_lost(
+    alloc: Global,
+    ahead: &FolderAhead<'_>,
+    removed: &[OpId],
+) -> Result<Vec<OpId>, AllocError>
+    ensures { IfOk result (λ lost. (c : Contents) → IsAhead c ahead.now → (g : Id) → list_any (same_id g) lost.items ≡ loses (origin_in c (folder_of ahead.now)) removed.now g) }
+{
+    let mut lost = Vec::new(alloc);
+    for id in removed {
+        note_lost(&mut lost, ahead.origin_of(id))?;
+    }
+    Ok(lost)
+}
+
+/// Puts an origin, where there is one, behind the others.
+fn note_lost(lost: &mut Vec<OpId>, origin: Option<OpId>) -> Result<(), AllocError>
+    ensures { OnOk result ((g : Id) → list_any (same_id g) lost.new.items ≡ (list_any (same_id g) lost.old.items || is_some_id g origin)) }
+{
+    match origin {
+        Some(origin) => {
+            if lost.push(origin).is_err() {
+                return Err(AllocError);
+            }
+            Ok(())
+        }
+        None => Ok(()),
+    }
+}
+
+/// Brings the chart up to an operation about its folder, from which these origins lose versions; the folder is as the operation
+/// leaves it, and `first` is its first UID.
+fn bring_up<'a>(
+    alloc: Global,
+    chart: &mut ChartAhead<'a>,
+    ahead: &FolderAhead<'a>,
+    first: u32,
+    nothing: &'a EntryTable,
+    lost: &[OpId],
     op: &Op,
-)
-    requires { IsRoomy 1 chart.old }
-    ensures folder { chart.new.folder ≡ chart.old.folder }
-    ensures roomy { (n : ℕ) → IsRoomy (n + 1) chart.old → IsRoomy n chart.new }
-    ensures up { (list : List Operation) → through.now ≡ front.now ++ op.now ∷ [] → IsApplied (list ++ through.now) → IsMadeBy (contents_of value.now) list → (IsExhausted start.now (list ++ front.now) op.now → ⊥) → next_k.old ≡ start.now.k + counted_all begins (list ++ front.now) → IsUpTo start.now (list ++ front.now) chart.old → (next_k.new ≡ start.now.k + counted_all begins (list ++ through.now)) × IsUpTo start.now (list ++ through.now) chart.new }
+) -> Result<(), AllocError>
+    ensures { OnOk result ((start : First) (list : List Operation) (c : Contents) → first ≡ first_uid start (folder_of ahead.now) → nothing.now.entries ≡ [] → AdvancesAhead c list op.now (λ g. list_any (same_id g) lost.now) ahead.now → IsChart start (folder_of ahead.now) list chart.old.uidnext chart.old.highest chart.old.entries.entries → IsChart start (folder_of ahead.now) (list ++ op.now ∷ []) chart.new.uidnext chart.new.highest chart.new.entries.entries) }
 {
-    let begun = begins(value, front, through, op);
-    let there = value.exists_after(&chart.folder, through);
-    bring_up(chart, start, *next_k, there, op);
-    *next_k = k_behind(*next_k, begun);
+    if !ahead.exists() {
+        *chart = away_ahead(alloc, first, nothing)?;
+        return Ok(());
+    }
+    advance(alloc, chart, ahead, lost, op)
 }
 
-/// The k of the next incarnation, where one may have begun.
-fn k_behind(next_k: u32, begun: bool) -> u32
-    ensures { (begun ≡ true → next_k ≤ 65535) → result ≡ (if begun then next_k + 1 else next_k) }
+/// The same where the folder is there: messages whose versions change get the new mod-sequence; those without a version go, and one
+/// that comes takes the next UID. (No memory holds as many operations as a mod-sequence has numbers.)
+fn advance<'a>(
+    alloc: Global,
+    chart: &mut ChartAhead<'a>,
+    ahead: &FolderAhead<'a>,
+    lost: &[OpId],
+    op: &Op,
+) -> Result<(), AllocError>
+    ensures { OnOk result ((start : First) (list : List Operation) (c : Contents) → is_there (folder_of ahead.now) (list ++ op.now ∷ []) ≡ true → AdvancesAhead c list op.now (λ g. list_any (same_id g) lost.now) ahead.now → IsChart start (folder_of ahead.now) list chart.old.uidnext chart.old.highest chart.old.entries.entries → IsChart start (folder_of ahead.now) (list ++ op.now ∷ []) chart.new.uidnext chart.new.highest chart.new.entries.entries) }
 {
-    if !begun {
-        return next_k;
+    if chart.highest == u64::MAX {
+        return Err(AllocError);
     }
-    match next_k.checked_add(1) {
-        Some(k) => k,
-        None => next_k,
+    chart.highest += 1;
+    lose(&mut chart.entries, ahead, lost, chart.highest)?;
+    match added_origin(op) {
+        Some(origin) => add(chart, &origin),
+        None => Ok(()),
     }
 }
 
-/// Brings the chart up to an operation, about its folder or another one; one for which a number is lacking leaves it as it was.
-/// `there` tells whether the folder is there behind it.
-fn bring_up(chart: &mut Chart, start: &Start, next_k: u32, there: bool, op: &Op)
-    requires { IsRoomy 1 chart.old }
-    ensures folder { chart.new.folder ≡ chart.old.folder }
-    ensures roomy { (n : ℕ) → IsRoomy (n + 1) chart.old → IsRoomy n chart.new }
-    ensures up { (ops : List Operation) → IsApplied (ops ++ op.now ∷ []) → there ≡ is_there chart.old.folder (ops ++ op.now ∷ []) → next_k ≡ start.now.k + counted_all begins ops → (IsExhausted start.now ops op.now → ⊥) → IsUpTo start.now ops chart.old → IsUpTo start.now (ops ++ op.now ∷ []) chart.new }
+/// The messages of these origins get the mod-sequence, or go, where the folder has none of their versions any more.
+fn lose(
+    entries: &mut EntryOverlay<'_>,
+    ahead: &FolderAhead<'_>,
+    lost: &[OpId],
+    modseq: u64,
+) -> Result<(), AllocError>
+    ensures { OnOk result ((list : List Operation) (c : Contents) → IsAhead c ahead.now → IsMadeBy c list → AreApart entries.old.entries → entries.new.entries ≡ moved (λ g. list_any (same_id g) lost.now) (λ g. has_version (folder_of ahead.now) g list) modseq entries.old.entries) }
 {
-    if !is_about(&op.kind, &chart.folder) {
-        return;
+    for origin in lost {
+        entries.reserve(1)?;
+        settle(entries, origin, has_version(ahead, origin), modseq);
     }
-    if lacks_k(chart, next_k, there) {
-        return;
+    Ok(())
+}
+
+/// Whether the origin has a version in the folder.
+fn has_version(ahead: &FolderAhead<'_>, origin: &OpId) -> bool
+    ensures { (list : List Operation) (c : Contents) → IsAhead c ahead.now → IsMadeBy c list → result ≡ has_version (folder_of ahead.now) origin.now list }
+{
+    ahead.has_version(origin)
+}
+
+/// The message of this origin gets the highest mod-sequence; one that has no entry gets one with the next UID, behind the others.
+fn add(chart: &mut ChartAhead<'_>, origin: &OpId) -> Result<(), AllocError>
+    ensures uidnext { OnOk result (chart.new.uidnext ≡ (if is_held chart.old.entries.entries origin.now then chart.old.uidnext else chart.old.uidnext + 1)) }
+    ensures highest { chart.new.highest ≡ chart.old.highest }
+    ensures entries { OnOk result (AreApart chart.old.entries.entries → chart.new.entries.entries ≡ with_line origin.now chart.old.uidnext chart.old.highest chart.old.entries.entries) }
+{
+    chart.entries.reserve(1)?;
+    if holds(&chart.entries, origin) {
+        settle(&mut chart.entries, origin, true, chart.highest);
+        return Ok(());
     }
-    if lacks_uid(chart, op) {
-        return;
+    if !can_follow(&chart.entries, chart.uidnext) {
+        return Err(AllocError);
     }
-    let mut k = next_k;
-    step(chart, start, &mut k, there, op);
+    begin_line(&mut chart.entries, origin, chart.uidnext, chart.highest);
+    chart.uidnext += 1;
+    Ok(())
+}
+
+/// Whether an entry with this UID can be put behind the others, as it can wherever a number is left.
+fn can_follow(entries: &EntryOverlay<'_>, uid: u32) -> bool
+    ensures { result ≡ true → IsNext uid entries.now.entries × (uid < 4294967295) }
+{
+    entries.known();
+    if uid == 0 || uid == u32::MAX {
+        return false;
+    }
+    is_last_below(entries, uid)
+}
+
+/// Whether the last UID is below this one.
+fn is_last_below(entries: &EntryOverlay<'_>, uid: u32) -> bool
+    ensures { result ≡ true → (length entries.now.entries ≡ 0) ⊎ ((e : Kept) → (get_or entries.now.entries (length entries.now.entries - 1) e).uid < uid) }
+{
+    let count = entries.len();
+    if count == 0 {
+        return true;
+    }
+    match entries.get(count - 1) {
+        Some(last) => last.uid < uid,
+        None => false,
+    }
 }
 
 /// Whether an operation is about this folder.
@@ -171,18 +280,4 @@ pub fn is_about(kind: &Kind, folder: &Name) -> bool
         Kind::Subscribe { .. } => false,
         Kind::Unsubscribe { .. } => false,
     }
-}
-
-/// Whether an incarnation would begin, and no k is left.
-fn lacks_k(chart: &Chart, next_k: u32, there: bool) -> bool
-    ensures { result ≡ ((there && not chart.now.there) && nat_lt 65535 next_k) }
-{
-    (there && !chart.there) && next_k > 65_535
-}
-
-/// Whether the operation takes a UID, and none is left.
-fn lacks_uid(chart: &Chart, op: &Op) -> bool
-    ensures { result ≡ (takes_uid (added_origin op.now) chart.now.entries.items && chart.now.uidnext == 4294967295) }
-{
-    takes_uid(&added_origin(op), &chart.entries) && chart.uidnext == u32::MAX
 }

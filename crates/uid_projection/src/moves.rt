@@ -1,14 +1,12 @@
-//! What an operation makes of a chart's entries and versions.
+//! What an operation makes of a folder's entries, as they are kept or as an overlay has them.
 
-ghost use Rattle.std.specs.Prelude.{◌≡◌, ◌<◌, ◌≤◌, length, map, set, slice_index_or};
-ghost use Rattle.std.specs.List.{filter, list_any};
-ghost use Rattle.std.specs.Vec.{vec_len, vec_capacity};
-ghost use Rattle.crdt_ops.specs.Order.{is_some_id, same_id};
-ghost use Rattle.uid_projection.specs.declared.entry.Entry.{Entry as Kept};
-ghost use Rattle.uid_projection.specs.Moves.{added_origin, goes_on, has_any, is_changed, is_held, left_versions, loses, takes_uid, touched};
+ghost use Rattle.std.specs.Prelude.{◌≡◌, ◌<◌, ◌+◌, ℕ, [], ◌∷◌, ◌++◌, true, false, length, get_or, set, remove};
+ghost use Rattle.entry_table.specs.declared.entry.Entry.{Entry as Kept};
+ghost use Rattle.uid_projection.specs.Moves.{AreApart, IsNext, added_origin, is_held, moved, renewed};
+ghost use Rattle.crdt_ops.specs.Order.{same_id};
 
-use crate::entry::{ChartVersion, Entry};
 use crdt_ops::{Kind, Op};
+use entry_table::{Entry, EntryList};
 use tags_clocks::OpId;
 
 /// The origin of the message tag that an operation adds, where it adds one.
@@ -26,148 +24,55 @@ pub fn added_origin(op: &Op) -> Option<OpId>
     }
 }
 
-/// Lets the entries of the messages that change have this mod-sequence: of those that lose one of these versions, where these
-/// ids are removed, and of the origin that is added.
-pub fn touch(
-    entries: &mut Vec<Entry>,
-    versions: &[ChartVersion],
-    removed: &[OpId],
-    added: &Option<OpId>,
-    modseq: u64,
-)
-    ensures items { entries.new.items ≡ map (touched (is_changed versions.now removed.now added.now) modseq) entries.old.items }
-    ensures len { vec_len entries.new ≡ vec_len entries.old }
-    ensures capacity { vec_capacity entries.new ≡ vec_capacity entries.old }
+/// Gives the message of this origin, if it has an entry, the mod-sequence where it stays, and takes it out where it doesn't.
+pub fn settle<L: EntryList>(entries: &mut L, origin: &OpId, stays: bool, modseq: u64)
+    requires { L.has_edits entries.old 1 }
+    ensures entries { AreApart (L.entries entries.old) → L.entries entries.new ≡ moved (λ g. same_id g origin.now) (λ g. stays) modseq (L.entries entries.old) }
+    ensures room { (n : ℕ) → L.has_room entries.old n → L.has_room entries.new n }
 {
-    for at in 0..entries.len() {
-        touch_at(entries, at, versions, removed, added, modseq);
+    match entries.place_of(origin) {
+        Some(place) => settle_at(entries, place, stays, modseq),
+        None => {}
     }
 }
 
 /// The same of the entry at this place.
-fn touch_at(
-    entries: &mut Vec<Entry>,
-    at: usize,
-    versions: &[ChartVersion],
-    removed: &[OpId],
-    added: &Option<OpId>,
-    modseq: u64,
-)
-    requires { at < length entries.old.items }
-    ensures items { (e : Kept) → entries.new.items ≡ set entries.old.items at (touched (is_changed versions.now removed.now added.now) modseq (slice_index_or entries.old.items at e)) }
-    ensures len { vec_len entries.new ≡ vec_len entries.old }
-    ensures capacity { vec_capacity entries.new ≡ vec_capacity entries.old }
+fn settle_at<L: EntryList>(entries: &mut L, place: usize, stays: bool, modseq: u64)
+    requires within { place < length (L.entries entries.old) }
+    requires edits { L.has_edits entries.old 1 }
+    ensures stays { stays ≡ true → (e : Kept) → L.entries entries.new ≡ set (L.entries entries.old) place (renewed modseq (get_or (L.entries entries.old) place e)) }
+    ensures goes { stays ≡ false → L.entries entries.new ≡ remove (L.entries entries.old) place }
+    ensures room { (n : ℕ) → L.has_room entries.old n → L.has_room entries.new n }
 {
-    let entry = touched(&entries[at], versions, removed, added, modseq);
-    entries[at] = entry;
-}
-
-/// The entry with this mod-sequence where its message changes.
-fn touched(
-    entry: &Entry,
-    versions: &[ChartVersion],
-    removed: &[OpId],
-    added: &Option<OpId>,
-    modseq: u64,
-) -> Entry
-    ensures { result ≡ touched (is_changed versions.now removed.now added.now) modseq entry.now }
-{
-    if is_changed(versions, removed, added, &entry.origin) {
-        Entry {
-            origin: entry.origin,
-            uid: entry.uid,
-            modseq,
-        }
+    if stays {
+        entries.renew(place, modseq);
     } else {
-        Entry {
-            origin: entry.origin,
-            uid: entry.uid,
-            modseq: entry.modseq,
-        }
+        entries.take_out(place);
     }
-}
-
-/// Whether the versions of this origin change.
-fn is_changed(
-    versions: &[ChartVersion],
-    removed: &[OpId],
-    added: &Option<OpId>,
-    origin: &OpId,
-) -> bool
-    ensures { result ≡ is_changed versions.now removed.now added.now origin.now }
-{
-    loses(versions, removed, origin) || is_added(added, origin)
-}
-
-/// Whether the origin loses one of these versions, where these ids are removed.
-fn loses(versions: &[ChartVersion], removed: &[OpId], origin: &OpId) -> bool
-    ensures { result ≡ loses versions.now removed.now origin.now }
-{
-    versions.iter().any(|version| version.origin == *origin && lists(removed, &version.id))
-}
-
-/// Whether it is the origin that is added.
-fn is_added(added: &Option<OpId>, origin: &OpId) -> bool
-    ensures { result ≡ is_some_id origin.now added.now }
-{
-    match added {
-        Some(other) => *origin == *other,
-        None => false,
-    }
-}
-
-/// Takes out the versions with these ids.
-pub fn forget(versions: &mut Vec<ChartVersion>, removed: &[OpId])
-    ensures items { versions.new.items ≡ left_versions removed.now versions.old.items }
-    ensures len { vec_len versions.new ≤ vec_len versions.old }
-    ensures capacity { vec_capacity versions.new ≡ vec_capacity versions.old }
-{
-    versions.retain(|version| !lists(removed, &version.id));
-}
-
-fn lists(ids: &[OpId], id: &OpId) -> bool
-    ensures { result ≡ list_any (same_id id.now) ids.now }
-{
-    ids.iter().any(|other| *id == *other)
-}
-
-/// Takes out the entries that have this mod-sequence, the highest, and whose messages have none of these versions: their lines
-/// end.
-pub fn end_lines(entries: &mut Vec<Entry>, versions: &[ChartVersion], highest: u64)
-    ensures items { entries.new.items ≡ filter (goes_on versions.now highest) entries.old.items }
-    ensures len { vec_len entries.new ≤ vec_len entries.old }
-    ensures capacity { vec_capacity entries.new ≡ vec_capacity entries.old }
-{
-    entries.retain(|entry| goes_on(entry, versions, highest));
-}
-
-/// Whether the line of an entry goes on.
-fn goes_on(entry: &Entry, versions: &[ChartVersion], highest: u64) -> bool
-    ensures { result ≡ goes_on versions.now highest entry.now }
-{
-    entry.modseq != highest || has_any(versions, &entry.origin)
-}
-
-/// Whether the origin has one of these versions.
-fn has_any(versions: &[ChartVersion], origin: &OpId) -> bool
-    ensures { result ≡ has_any versions.now origin.now }
-{
-    versions.iter().any(|version| version.origin == *origin)
 }
 
 /// Whether there is an entry of this origin.
-pub fn holds(entries: &[Entry], origin: &OpId) -> bool
-    ensures { result ≡ is_held entries.now origin.now }
+pub fn holds<L: EntryList>(entries: &L, origin: &OpId) -> bool
+    ensures { result ≡ is_held (L.entries entries.now) origin.now }
 {
-    entries.iter().any(|entry| entry.origin == *origin)
-}
-
-/// Whether a message tag of this origin, where one is added, takes a UID.
-pub fn takes_uid(added: &Option<OpId>, entries: &[Entry]) -> bool
-    ensures { result ≡ takes_uid added.now entries.now }
-{
-    match added {
-        Some(origin) => !holds(entries, origin),
+    match entries.place_of(origin) {
+        Some(_) => true,
         None => false,
     }
+}
+
+/// Puts an entry of an origin that has none behind the others.
+pub fn begin_line<L: EntryList>(entries: &mut L, origin: &OpId, uid: u32, modseq: u64)
+    requires edits { L.has_edits entries.old 1 }
+    requires room { L.has_room entries.old 1 }
+    requires fresh { is_held (L.entries entries.old) origin.now ≡ false }
+    requires next { IsNext uid (L.entries entries.old) }
+    ensures entries { L.entries entries.new ≡ L.entries entries.old ++ record { origin = origin.now; uid = uid; modseq = modseq } ∷ [] }
+    ensures room { (n : ℕ) → L.has_room entries.old (n + 1) → L.has_room entries.new n }
+{
+    entries.put(Entry {
+        origin: *origin,
+        uid,
+        modseq,
+    });
 }

@@ -1,18 +1,18 @@
 //! Room in the charts for operations that come.
 
-ghost use Rattle.std.specs.Prelude.{◌≡◌, ◌<◌, ◌≤◌, ℕ, List, true, false, length, slice_index_or, IfOk, OnOk};
+ghost use Rattle.std.specs.Prelude.{◌≡◌, ◌≤◌, ℕ, List, [], None, true, false, length, OnOk};
 ghost use Rattle.merge_laws.specs.Orders.{IsIn};
 ghost use Rattle.crdt_ops.specs.declared.op.Op.{Op as Operation};
 ghost use Rattle.crdt_ops.specs.Tags.{name_of};
-ghost use Rattle.uid_projection.specs.declared.chart.Chart.{Chart as Shown};
 ghost use Rattle.uid_projection.specs.Lines.{concerns_by};
-ghost use Rattle.uid_projection.specs.Table.{HasRooms, IsAway, IsRoomy, IsSame, IsTable};
+ghost use Rattle.uid_projection.specs.Table.{HasRooms, IsRoomy, IsSame, IsTable, chart_at};
 
 use crate::chart::Chart;
 use crate::start::{Start, first_of};
-use crate::table::place_of;
 use crdt_ops::{Kind, Op, SoundOp};
+use entry_table::EntryTable;
 use imap_types::Name;
+use indexmap::IndexMap;
 use std::alloc::{AllocError, Global};
 
 /// Makes room for these operations in the charts of their folders; where a folder has no chart, it gets one. An error leaves
@@ -20,11 +20,11 @@ use std::alloc::{AllocError, Global};
 pub fn make_rooms(
     alloc: Global,
     start: &Start,
-    charts: &mut Vec<Chart>,
+    charts: &mut IndexMap<Vec<u8>, Chart>,
     ops: &[SoundOp],
 ) -> Result<(), AllocError>
-    ensures table { (list : List Operation) (k : ℕ) → IsTable start.now list k charts.old.items → IsTable start.now list k charts.new.items }
-    ensures ok { OnOk result ((list : List Operation) (k : ℕ) → IsTable start.now list k charts.old.items → (o : Operation) → IsIn o ops.now → concerns_by (name_of o.kind) o.kind ≡ true → HasRooms (length ops.now) (name_of o.kind) charts.new.items) }
+    ensures table { (list : List Operation) (k : ℕ) → IsTable start.now list k charts.old.entries → IsTable start.now list k charts.new.entries }
+    ensures ok { OnOk result ((o : Operation) → IsIn o ops.now → concerns_by (name_of o.kind) o.kind ≡ true → HasRooms (length ops.now) (name_of o.kind) charts.new.entries) }
 {
     for op in ops {
         room_for(alloc, start, charts, op.op(), ops.len())?;
@@ -36,13 +36,13 @@ pub fn make_rooms(
 fn room_for(
     alloc: Global,
     start: &Start,
-    charts: &mut Vec<Chart>,
+    charts: &mut IndexMap<Vec<u8>, Chart>,
     op: &Op,
     more: usize,
 ) -> Result<(), AllocError>
-    ensures table { (list : List Operation) (k : ℕ) → IsTable start.now list k charts.old.items → IsTable start.now list k charts.new.items }
-    ensures rooms { (n : ℕ) (f : List ℕ) → HasRooms n f charts.old.items → HasRooms n f charts.new.items }
-    ensures ok { OnOk result ((list : List Operation) (k : ℕ) → IsTable start.now list k charts.old.items → concerns_by (name_of op.now.kind) op.now.kind ≡ true → HasRooms more (name_of op.now.kind) charts.new.items) }
+    ensures table { (list : List Operation) (k : ℕ) → IsTable start.now list k charts.old.entries → IsTable start.now list k charts.new.entries }
+    ensures rooms { (n : ℕ) (f : List ℕ) → HasRooms n f charts.old.entries → HasRooms n f charts.new.entries }
+    ensures ok { OnOk result (concerns_by (name_of op.now.kind) op.now.kind ≡ true → HasRooms more (name_of op.now.kind) charts.new.entries) }
 {
     if names_folder(&op.kind) {
         make_room(alloc, start, charts, op.kind.name(), more)
@@ -70,56 +70,62 @@ pub fn names_folder(kind: &Kind) -> bool
 fn make_room(
     alloc: Global,
     start: &Start,
-    charts: &mut Vec<Chart>,
+    charts: &mut IndexMap<Vec<u8>, Chart>,
     folder: &Name,
     more: usize,
 ) -> Result<(), AllocError>
-    ensures table { (list : List Operation) (k : ℕ) → IsTable start.now list k charts.old.items → IsTable start.now list k charts.new.items }
-    ensures rooms { (n : ℕ) (f : List ℕ) → HasRooms n f charts.old.items → HasRooms n f charts.new.items }
-    ensures ok { OnOk result ((list : List Operation) (k : ℕ) → IsTable start.now list k charts.old.items → HasRooms more folder.now charts.new.items) }
+    ensures table { (list : List Operation) (k : ℕ) → IsTable start.now list k charts.old.entries → IsTable start.now list k charts.new.entries }
+    ensures rooms { (n : ℕ) (f : List ℕ) → HasRooms n f charts.old.entries → HasRooms n f charts.new.entries }
+    ensures ok { OnOk result (HasRooms more folder.now charts.new.entries) }
 {
-    let at = place_for(alloc, start, charts, folder)?;
-    make_room_in(&mut charts[at], more)
-}
-
-/// The place of the folder's chart, which is put in where there was none.
-fn place_for(
-    alloc: Global,
-    start: &Start,
-    charts: &mut Vec<Chart>,
-    folder: &Name,
-) -> Result<usize, AllocError>
-    ensures at { IfOk result (λ at. (at < length charts.new.items) × ((c : Shown) → c ≡ slice_index_or charts.new.items at c → c.folder ≡ folder.now)) }
-    ensures table { (list : List Operation) (k : ℕ) → IsTable start.now list k charts.old.items → IsTable start.now list k charts.new.items }
-    ensures rooms { (n : ℕ) (f : List ℕ) → HasRooms n f charts.old.items → HasRooms n f charts.new.items }
-{
-    match place_of(charts, folder) {
-        Some(at) => Ok(at),
-        None => {
-            let at = charts.len();
-            charts.push(away(alloc, start, folder)?)?;
-            Ok(at)
-        }
+    match charts.get_mut(folder.as_bytes()) {
+        Some(chart) => make_room_in(alloc, chart, more),
+        None => put_chart(alloc, start, charts, folder, more),
     }
 }
 
-/// The chart of a folder that isn't there.
-pub fn away(alloc: Global, start: &Start, folder: &Name) -> Result<Chart, AllocError>
-    ensures { IfOk result (λ c. (c.folder ≡ folder.now) × (c.there ≡ false) × IsAway start.now c) }
+/// Puts the chart of a folder that has none in, with room for so many operations.
+fn put_chart(
+    alloc: Global,
+    start: &Start,
+    charts: &mut IndexMap<Vec<u8>, Chart>,
+    folder: &Name,
+    more: usize,
+) -> Result<(), AllocError>
+    requires { chart_at folder.now charts.old.entries ≡ None }
+    ensures table { (list : List Operation) (k : ℕ) → IsTable start.now list k charts.old.entries → IsTable start.now list k charts.new.entries }
+    ensures rooms { (n : ℕ) (f : List ℕ) → HasRooms n f charts.old.entries → HasRooms n f charts.new.entries }
+    ensures ok { OnOk result (HasRooms more folder.now charts.new.entries) }
 {
-    Ok(Chart {
-        folder: folder.copy(alloc)?,
+    let mut chart = away(alloc, first_of(start, folder));
+    make_room_in(alloc, &mut chart, more)?;
+    let key = folder.as_bytes().to_vec(alloc)?;
+    if charts.insert(key, chart).is_err() {
+        return Err(AllocError);
+    }
+    Ok(())
+}
+
+/// The chart of a folder that isn't there, with this first UID.
+fn away(alloc: Global, first: u32) -> Chart
+    ensures there { result.there ≡ false }
+    ensures uidnext { result.uidnext ≡ first }
+    ensures highest { result.highest ≡ 1 }
+    ensures entries { result.entries.entries ≡ [] }
+    ensures versions { result.versions.entries ≡ [] }
+{
+    Chart {
         there: false,
         k: 0,
-        uidnext: first_of(start, folder),
+        uidnext: first,
         highest: 1,
-        entries: Vec::new(alloc),
-        versions: Vec::new(alloc),
-    })
+        entries: EntryTable::new(alloc),
+        versions: IndexMap::new(alloc),
+    }
 }
 
 /// Makes room for so many operations in the chart. (No memory holds as many operations as a mod-sequence has numbers.)
-pub fn make_room_in(chart: &mut Chart, more: usize) -> Result<(), AllocError>
+fn make_room_in(alloc: Global, chart: &mut Chart, more: usize) -> Result<(), AllocError>
     ensures same { IsSame chart.old chart.new }
     ensures ok { OnOk result (IsRoomy more chart.new) }
 {
@@ -127,6 +133,6 @@ pub fn make_room_in(chart: &mut Chart, more: usize) -> Result<(), AllocError>
     if u64::MAX - chart.highest < more as u64 {
         return Err(AllocError);
     }
-    chart.entries.reserve(more)?;
-    chart.versions.reserve(more)
+    chart.versions.reserve(more)?;
+    chart.entries.reserve(alloc, more)
 }

@@ -155,7 +155,7 @@ fn row_of<'a>(message: &'a Message, date: &'a DateTime) -> Option<HeldRow<'a>> {
         origin: some_id()?,
         versions: HeldVersions::Lent(Versions::new(&message.versions)),
         date: Some(date),
-        text: b"",
+        text: None,
     })
 }
 

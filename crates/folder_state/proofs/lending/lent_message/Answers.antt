@@ -1,21 +1,17 @@
-use Rattle.std.proofs.Common.{sym, ap, ◌∙◌}
-use Rattle.std.specs.Option.{option_map}
+use Rattle.std.proofs.Common.{◌∙◌, ap, sym}
+use Rattle.std.specs.Option.{option_copied, option_map}
+use Rattle.crdt_ops.specs.Sets.{Body}
 use Rattle.message_versions.specs.Unions.{united, version_ids}
-use Rattle.folder_state.specs.Lending.{lent, written}
-use Rattle.folder_state.proofs.LentLemmas.{none_lent, some_lent}
+use Rattle.folder_state.specs.Kept.{folder_contents}
+use Rattle.folder_state.specs.Telling.{lent, letter_told}
+use Rattle.folder_state.proofs.VersionLemmas.{some_lent}
 use Rattle.folder_state.proofs.lending.lent_message.Goals as goal
 
-pub returns-in-None : goal.returns-in-None
-returns-in-None c = λ v b l. none_lent v c.args.messages.now c.args.folder.now c.args.origin.now b c.in-None.ensures
-
 pub returns-in-Some : goal.returns-in-Some
-returns-in-Some c = λ v b l.
-    let versions = c.new.ensures ∙ c.versions.ensures.list in
-    some_lent v c.args.messages.now c.args.folder.now c.args.origin.now b c.in-Some.entry.now (option_map written c.kept_letter.result) (lent c.with_letter.result)
-    c.requires c.in-Some.ensures.0 c.in-Some.ensures.1 c.in-Some.ensures.2
-    (c.kept_letter.ensures ∙ (λ k. sym l k c.args.origin.now))
-    c.with_letter.ensures.origin
-    (c.with_letter.ensures.versions ∙ ap version_ids versions)
-    (c.with_letter.ensures.flags ∙ ap united versions)
-    c.with_letter.ensures.date
-    c.with_letter.ensures.text
+returns-in-Some c = λ v n same l.
+    let told = c.with_letter.ensures in
+    some_lent v n (folder_contents c.args.folder.now) c.args.origin.now c.in-Some.versions.now (option_map letter_told (option_copied c.get.result)) (lent c.with_letter.result) same (c.in-Some.ensures {u = tt})
+    (ap (option_map letter_told) c.get.ensures.value ∙ sym l) told.origin (told.versions ∙ ap version_ids c.new.ensures) (told.flags ∙ ap united c.new.ensures) told.date told.text
+
+pub returns-in-None : goal.returns-in-None
+returns-in-None c = λ v n same l h. c.in-None.ensures {u = tt} h.0 (ap (option_map (λ (b : Body). b.origin)) (sym (same h.0)) ∙ h.1)

@@ -1,11 +1,8 @@
-use Rattle.std.proofs.Common.{◌++◌, List, length}
+use Rattle.std.proofs.Common.{◌++◌, List, drop}
 use Rattle.std.specs.Global.{Vec}
 use Rattle.message_versions.specs.declared.version.Version.{Version}
 use Rattle.folder_state.specs.Rooms.{HaveLists}
 use Rattle.folder_state.proofs.rooms.empty_lists.Given as goal
 
-abbrev pub invariant-loop-left : goal.invariant-loop-left
-invariant-loop-left l = (more : List (Vec Version)) → HaveLists l.left more → HaveLists l.ops (l.lists.items ++ more)
-
-abbrev pub decreases-loop-left : goal.decreases-loop-left
-decreases-loop-left l = length l.left
+abbrev pub invariant-loop-op : goal.invariant-loop-op
+invariant-loop-op l = (more : List (Vec Version)) → HaveLists (drop l.op-index l.ops) more → HaveLists l.ops (l.lists.items ++ more)

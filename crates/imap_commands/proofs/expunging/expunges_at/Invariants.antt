@@ -4,4 +4,4 @@ use Rattle.imap_commands.proofs.expunging.expunges_at.Given as goal
 
 abbrev pub invariant-loop-number : goal.invariant-loop-number
 invariant-loop-number l =
-    l.kinds.items ++ expunges_at l.folder l.before l.view (drop l.number-index l.numbers) ≡ expunges_at l.folder l.before l.view l.numbers
+    l.kinds.items ++ expunges_at l.mailbox.name l.mailbox.rows l.mailbox.view (drop l.number-index l.numbers) ≡ expunges_at l.mailbox.name l.mailbox.rows l.mailbox.view l.numbers

@@ -4,4 +4,4 @@ use Rattle.imap_commands.proofs.fetching.seen_stores.Given as goal
 
 abbrev pub invariant-loop-number : goal.invariant-loop-number
 invariant-loop-number l =
-    l.kinds.items ++ seen_stores l.folder l.before l.view l.items l.mode (drop l.number-index l.numbers) ≡ seen_stores l.folder l.before l.view l.items l.mode l.numbers
+    l.kinds.items ++ seen_stores l.mailbox l.asked (drop l.number-index l.numbers) ≡ seen_stores l.mailbox l.asked l.numbers

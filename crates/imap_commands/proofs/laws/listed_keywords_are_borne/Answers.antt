@@ -1,5 +1,6 @@
-use Rattle.imap_commands.proofs.BorneLemmas.{borne}
+use Rattle.std.proofs.Common.{[]}
+use Rattle.imap_commands.proofs.BorneLemmas.{borne, with_rows}
 use Rattle.imap_commands.proofs.laws.listed_keywords_are_borne.Goals as goal
 
 pub returns : goal.returns
-returns c = borne
+returns c = λ rows. (with_rows rows [], borne rows)

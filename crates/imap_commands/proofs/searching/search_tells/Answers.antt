@@ -1,12 +1,17 @@
-use Rattle.std.proofs.Common.{List, ap, map, subst, sym, ◌∙◌}
-use Rattle.imap_types.specs.Numbers.{AreRisingFrom}
-use Rattle.imap_query.specs.Search.{name_of}
-use Rattle.imap_query.specs.declared.shown.Shown.{Shown}
-use Rattle.imap_commands.specs.Searching.{shown_from}
-use Rattle.imap_commands.proofs.NamedLemmas.{all_shown_rising}
+use Rattle.std.proofs.Common.{[], ◌∷◌, ap, ◌∙◌}
+use Rattle.std.proofs.lemmas.Result.{IfOk-weaker}
+use Rattle.imap_answers.specs.declared.answer.Answer.TheVariants.{Search}
+use Rattle.imap_commands.specs.Asked.{SearchAsked}
+use Rattle.imap_commands.specs.Told.{only_told}
 use Rattle.imap_commands.proofs.searching.search_tells.Goals as goal
 
-pub search-requires : goal.search-requires
-search-requires c =
-    subst (λ (shown : List Shown). AreRisingFrom 1 (map (name_of c.args.by_uid) shown)) (sym (c.deref.ensures.value ∙ c.in_ok-shown.ensures {u = tt} ∙ ap (shown_from 1) c.entries.ensures.entries))
-    (all_shown_rising c.args.by_uid c.args.view.now.entries c.entries.ensures.rising)
+pub returns : goal.returns
+returns c =
+    let by_uid = ap (λ (asked : SearchAsked). asked.by_uid) c.asked.view_is in
+    IfOk-weaker c.one_answer.result _ _
+    (λ told h. record {
+      results = c.in_ok-results.results;
+      finds = c.in_ok-results.ensures {u = tt};
+      only = h ∙ (λ i. only_told (Search (c.in_ok-tag.ensures {u = tt} i) (by_uid i) c.in_ok-results.results ∷ []));
+    })
+    c.one_answer.ensures

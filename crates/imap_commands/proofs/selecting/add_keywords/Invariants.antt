@@ -1,5 +1,5 @@
 use Rattle.std.proofs.Common.{◌≡◌, drop}
-use Rattle.imap_commands.specs.Selecting.{with_keywords}
+use Rattle.imap_commands.proofs.BorneLemmas.{with_keywords}
 use Rattle.imap_commands.proofs.selecting.add_keywords.Given as goal
 
 abbrev pub invariant-loop-word : goal.invariant-loop-word

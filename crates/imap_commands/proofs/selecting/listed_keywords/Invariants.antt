@@ -1,5 +1,5 @@
 use Rattle.std.proofs.Common.{◌≡◌, [], drop}
-use Rattle.imap_commands.specs.Selecting.{with_rows}
+use Rattle.imap_commands.proofs.BorneLemmas.{with_rows}
 use Rattle.imap_commands.proofs.selecting.listed_keywords.Given as goal
 
 abbrev pub invariant-loop-place : goal.invariant-loop-place

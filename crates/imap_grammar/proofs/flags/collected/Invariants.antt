@@ -1,5 +1,5 @@
 use Rattle.std.proofs.Common.{◌≡◌, drop}
-use Rattle.imap_syntax.specs.MessageFlags.{flags_of, no_flags}
+use Rattle.imap_grammar.specs.Reading.{flags_of, no_flags}
 use Rattle.imap_grammar.proofs.flags.collected.Given as goal
 
 abbrev pub invariant-loop-flag : goal.invariant-loop-flag

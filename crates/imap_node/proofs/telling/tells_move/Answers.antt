@@ -1,12 +1,11 @@
 use Rattle.std.proofs.Common.{Bool, ◌++◌, ap, sym, ◌∙◌}
+use Rattle.imap_commands.specs.Asked.{CopyAsked}
 use Rattle.imap_commands.specs.Copying.{move_tells}
 use Rattle.imap_commands.specs.declared.session.State.{State}
 use Rattle.imap_node.specs.Commands.{tells_selected}
-use Rattle.imap_node.specs.Mailboxes.{rows_for, validity_of}
+use Rattle.imap_node.specs.Mailboxes.{landing_in, mailbox_in}
 use Rattle.imap_node.proofs.TellLemmas.{if_ok_is}
 use Rattle.session_view.specs.Seen.{Seen}
-use Rattle.uid_projection.specs.Lines.{uidnext_of}
-use Rattle.uid_projection.specs.Listing.{listing}
 use Rattle.imap_node.proofs.telling.tells_move.Goals as goal
 
 pub returns : goal.returns
@@ -14,8 +13,9 @@ returns c =
     let start = c.args.replica.now.start in
     let ops = c.args.replica.now.applied in
     let all = c.args.replica.now.applied ++ c.args.ops.now in
-    let a = c.args in
+    let asked = c.args.asked.now in
+    let landed = c.in_ok-landing.ensures {u = tt} ∙ ap (λ (x : CopyAsked). landing_in start ops all x.destination) c.asked.view_is in
     if_ok_is c.move_tells.result _ _
-    ((λ i. move_tells (c.in_ok-before.ensures {u = tt} i) c.in-Selected.view.entries a.by_uid a.messages.now (c.validity_after-uidvalidity.ensures i) (c.uidnext.ensures i) (c.in_ok-landed.ensures {u = tt} i))
-    ∙ ap (λ (s : State). tells_selected s (λ (view : Seen) (read_only : Bool). move_tells (rows_for start ops view) view.entries a.by_uid a.messages.now (validity_of start a.name.now all) (uidnext_of start a.name.now ops) (listing start a.name.now all))) (sym c.in-Selected.is))
+    ((λ i. move_tells (c.in_ok-mailbox.ensures {u = tt} i) asked (landed i))
+    ∙ ap (λ (s : State). tells_selected s (λ (view : Seen) (read_only : Bool). move_tells (mailbox_in start ops view read_only) asked (landing_in start ops all asked.destination))) (sym c.in-Selected.is))
     c.move_tells.ensures

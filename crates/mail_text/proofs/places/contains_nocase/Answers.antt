@@ -5,4 +5,4 @@ use Rattle.mail_text.proofs.places.contains_nocase.Goals as goal
 pub returns : goal.returns
 returns c =
     c.is_some.ensures ∙ was_found c.args.text.now c.args.word.now _ _ c.find.result
-    (c.deref.ensures.value ∙ c.in_ok-text.ensures.ok) (c.deref-2.ensures.value ∙ c.in_ok-word.ensures.ok) c.find.ensures
+    (c.as_slice.ensures.value ∙ c.in_ok-text.ensures.ok) (c.deref.ensures.value ∙ c.in_ok-word.ensures.ok) c.find.ensures

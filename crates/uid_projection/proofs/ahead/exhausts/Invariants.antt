@@ -8,4 +8,4 @@ use Rattle.uid_projection.specs.Table.{IsTable}
 use Rattle.uid_projection.proofs.ahead.exhausts.Given as goal
 
 abbrev pub invariant-loop-at : goal.invariant-loop-at
-invariant-loop-at l = (list : List Op) → IsApplied (list ++ l.ops) → IsTable l.start list l.next_k l.charts → IsMadeBy (contents_of l.value) list → Exhausts l.start list (take l.at l.ops) → ⊥
+invariant-loop-at l = (list : List Op) → IsApplied (list ++ l.ops) → IsTable l.start list l.next_k l.charts.entries → IsMadeBy (contents_of l.value) list → Exhausts l.start list (take l.at l.ops) → ⊥

@@ -1,24 +1,75 @@
-use Rattle.std.proofs.Common.{◌≡◌, ◌++◌, ◌∷◌, [], true, sym, ◌∙◌, subst}
+use Rattle.std.proofs.Common.{◌+◌, ◌≤◌, ◌++◌, ◌∷◌, [], sym, ap, ◌∙◌, subst}
+use Rattle.crdt_ops.specs.Tags.{name_of}
+use Rattle.folder_state.specs.Tables.{contents_of}
+use Rattle.indexmap.specs.IndexMap.{spare}
+use Rattle.uid_projection.specs.Chart.{AreVersions, IsChart}
 use Rattle.uid_projection.specs.Incarnations.{is_there}
-use Rattle.uid_projection.proofs.Tables.{IsOpen, moved_up, now_open, still_open}
-use Rattle.uid_projection.proofs.chart.step.Goals.{then-not-chart, else-not-chart}
+use Rattle.uid_projection.specs.Lines.{first_uid}
+use Rattle.uid_projection.specs.Table.{origin_at}
+use Rattle.uid_projection.proofs.Coming.{there_as}
+use Rattle.uid_projection.proofs.Stepping.{advances, k_away, k_small, k_there, up_now}
+use Rattle.uid_projection.proofs.Tables.{gone_up}
 use Rattle.uid_projection.proofs.chart.step.Goals as goal
 
-pub returns-clause-up : goal.returns-clause-up
-returns-clause-up c = λ ops a now is up.
-    let start = c.args.start.now in
+pub returns-then-not-exists-clause-next : goal.returns-then-not-exists-clause-next
+returns-then-not-exists-clause-next c = λ list r.
     let o = c.args.op.now in
-    let old = c.args.chart.now in
-    let x = c.if-not-chart.chart in
-    let t : c.args.there ≡ true = c.if-not-there.false in
-    let there : is_there old.folder (ops ++ o ∷ []) ≡ true = sym now ∙ t in
-    let opened : IsOpen start ops old.folder x = elim c.if-not-chart.branch [
-      | then-not-chart w ↦
-          let p = w.open.ensures in
-          let e = w.chart-is in
-          subst (IsOpen start ops old.folder) (sym e) (now_open start ops c.args.next_k.now old w.open.new.chart w.if-not-chart.true (c.requires.k t w.if-not-chart.true) p.folder p.there p.k p.uidnext p.highest p.entries p.versions is up)
-      | else-not-chart w ↦ still_open start ops old x w.chart-is w.if-not-chart.false up
-    ] in
-    let p = c.advance.ensures in
-    moved_up start ops (ops ++ o ∷ []) old.folder x c.advance.new.chart opened p.folder p.there p.k there
-    (λ s. p.shows start ops a (subst (λ n. is_there n (ops ++ o ∷ []) ≡ true) (sym opened.folder_is) there) s)
+    let n = c.name-folder.result.now in
+    let there = there_as n (list ++ o ∷ []) c.exists.result (c.exists.ensures.set (list ++ o ∷ []) r.next.made) ∙ ap (λ m. is_there m (list ++ o ∷ [])) c.name-folder.ensures in
+    k_away c.args.start.now c.args.next_k.now (contents_of c.args.value.now) list o c.args.chart.now r (sym there ∙ c.if-not-exists.true)
+
+pub returns-then-not-exists-clause-up : goal.returns-then-not-exists-clause-up
+returns-then-not-exists-clause-up c = λ list r.
+    let o = c.args.op.now in
+    let n = c.name-folder.result.now in
+    let there = there_as n (list ++ o ∷ []) c.exists.result (c.exists.ensures.set (list ++ o ∷ []) r.next.made) ∙ ap (λ m. is_there m (list ++ o ∷ [])) c.name-folder.ensures in
+    let e = c.close.ensures in
+    gone_up c.args.start.now (name_of o.kind) (list ++ o ∷ []) c.close.new.chart (sym there ∙ c.if-not-exists.true) e.there (e.uidnext ∙ c.first_of.ensures ∙ ap (first_uid c.args.start.now) c.name-folder.ensures) e.highest e.entries e.versions
+
+pub open-requires : goal.open-requires
+open-requires c =
+    let (list, r) = c.requires in
+    let o = c.args.op.now in
+    let n = c.name-folder.result.now in
+    let there = there_as n (list ++ o ∷ []) c.exists.result (c.exists.ensures.set (list ++ o ∷ []) r.next.made) ∙ ap (λ m. is_there m (list ++ o ∷ [])) c.name-folder.ensures in
+    k_small c.args.start.now c.args.next_k.now (contents_of c.args.value.now) list o c.args.chart.now r (sym there ∙ c.if-not-exists.false)
+
+pub advance-requires : goal.advance-requires
+advance-requires c =
+    let (list, r) = c.requires in
+    let o = c.args.op.now in
+    let n = c.name-folder.result.now in
+    let there = there_as n (list ++ o ∷ []) c.exists.result (c.exists.ensures.set (list ++ o ∷ []) r.next.made) ∙ ap (λ m. is_there m (list ++ o ∷ [])) c.name-folder.ensures in
+    let e = c.open.ensures in
+    (c.args.start.now, list, advances c.args.start.now c.args.next_k.now (contents_of c.args.value.now) list o c.args.chart.now r (sym there ∙ c.if-not-exists.false) n c.open.new.chart c.name-folder.ensures e.uidnext e.highest e.entries e.versions)
+
+pub returns-clause-next : goal.returns-clause-next
+returns-clause-next c = λ list r.
+    let o = c.args.op.now in
+    let n = c.name-folder.result.now in
+    let there = there_as n (list ++ o ∷ []) c.exists.result (c.exists.ensures.set (list ++ o ∷ []) r.next.made) ∙ ap (λ m. is_there m (list ++ o ∷ [])) c.name-folder.ensures in
+    k_there c.args.start.now c.args.next_k.now (contents_of c.args.value.now) list o c.args.chart.now r (sym there ∙ c.if-not-exists.false) c.open.new.next_k c.open.ensures.next
+
+pub returns-clause-up : goal.returns-clause-up
+returns-clause-up c = λ list r.
+    let o = c.args.op.now in
+    let n = c.name-folder.result.now in
+    let there = there_as n (list ++ o ∷ []) c.exists.result (c.exists.ensures.set (list ++ o ∷ []) r.next.made) ∙ ap (λ m. is_there m (list ++ o ∷ [])) c.name-folder.ensures in
+    let t = sym there ∙ c.if-not-exists.false in
+    let e = c.open.ensures in
+    let own = c.name-folder.ensures in
+    let x = c.advance.ensures in
+    let w = advances c.args.start.now c.args.next_k.now (contents_of c.args.value.now) list o c.args.chart.now r t n c.open.new.chart own e.uidnext e.highest e.entries e.versions in
+    up_now c.args.start.now c.args.next_k.now (contents_of c.args.value.now) list o c.args.chart.now r t c.open.new.chart.k c.advance.new.chart e.k (x.there ∙ e.there) x.k
+    (subst (λ m. IsChart c.args.start.now m (list ++ o ∷ []) c.advance.new.chart.uidnext c.advance.new.chart.highest c.advance.new.chart.entries.entries) own (x.shows c.args.start.now list w))
+    (subst (λ m. AreVersions m (list ++ o ∷ []) (origin_at c.advance.new.chart.versions.entries)) own (x.versions c.args.start.now list w))
+
+pub returns-clause-roomy : goal.returns-clause-roomy
+returns-clause-roomy c = λ n w.
+    let e = c.open.ensures in
+    c.advance.ensures.roomy n (record {
+      places = subst (λ x. n + 1 ≤ x.room) (sym e.entries) w.places;
+      version_places = subst (λ x. n + 1 ≤ spare x) (sym e.versions) w.version_places;
+      highest = subst (λ x. x + (n + 1) ≤ 18446744073709551615) (sym e.highest) w.highest;
+      uidnext = subst (λ x. x ≤ 4294967295) (sym e.uidnext) w.uidnext;
+    })

@@ -8,7 +8,7 @@ use Rattle.uid_projection.specs.Applied.{IsApplied}
 use Rattle.uid_projection.specs.History.{counted_all}
 use Rattle.uid_projection.specs.Incarnations.{begins, k_of}
 use Rattle.uid_projection.proofs.Coming.{applied_take, take_op, there_as}
-use Rattle.uid_projection.proofs.LaterCharts.{next_k_behind}
+use Rattle.uid_projection.proofs.LaterNumbers.{next_k_behind}
 use Rattle.uid_projection.proofs.LaterNumbers.{k_told_behind}
 use Rattle.uid_projection.proofs.counters.k_of_after.Goals as goal
 

@@ -1,23 +1,45 @@
-use Rattle.std.proofs.Common.{◌≡◌, ◌++◌, sym, ap, ◌∙◌, subst}
-use Rattle.uid_projection.specs.Incarnations.{is_there}
-use Rattle.uid_projection.specs.Applied.{IsApplied}
-use Rattle.uid_projection.specs.Table.{IsUpTo}
-use Rattle.uid_projection.proofs.Coming.{behind, there_as}
-use Rattle.uid_projection.proofs.LaterCharts.{k_begins, next_k_behind}
+use Rattle.std.specs.List.{list_any}
+use Rattle.std.proofs.Common.{◌≡◌, ◌∙◌, ◌++◌, ◌∷◌, [], true, false, ap, sym, subst}
+use Rattle.crdt_ops.specs.declared.op.Op.{Op}
+use Rattle.crdt_ops.specs.Order.{same_id}
+use Rattle.crdt_ops.specs.Tags.{removed_ids}
+use Rattle.folder_state.specs.Contents.{effect_of, origin_in}
+use Rattle.folder_ahead.specs.Ahead.{IsAhead, folder_of}
+use Rattle.uid_projection.specs.Ahead.{AdvancesAhead, IsNextAhead}
+use Rattle.uid_projection.specs.Chart.{IsChart}
+use Rattle.uid_projection.specs.Lines.{concerns_by, first_uid}
+use Rattle.uid_projection.specs.Moves.{loses}
+use Rattle.uid_projection.proofs.Overlaid.{on_ok}
+use Rattle.uid_projection.proofs.Tables.{chart_beside}
 use Rattle.uid_projection.proofs.later.bring_behind.Goals as goal
 
-pub returns-clause-up : goal.returns-clause-up
-returns-clause-up c = λ list e a m lasts is up.
+pub returns-then-not-is_about-clause-shows : goal.returns-then-not-is_about-clause-shows
+returns-then-not-is_about-clause-shows c = on_ok c.step.result (λ q list k r s.
+    let x = c.args.chart.now in
+    chart_beside c.args.start.now c.args.folder.now list c.args.op.now r.applied (subst (λ (p : Op). concerns_by c.args.folder.now p.kind ≡ false) c.op.ensures.op (sym c.is_about.ensures ∙ c.if-not-is_about.true)) x.uidnext x.highest x.entries.entries s) c.step.ensures.ahead
+
+pub returns-clause-shows : goal.returns-clause-shows
+returns-clause-shows c = on_ok c.bring_up.result (λ h list k r s.
     let start = c.args.start.now in
-    let front = c.args.front.now in
-    let through = c.args.through.now in
+    let n = c.args.folder.now in
     let o = c.args.op.now in
-    let n = c.args.chart.now.folder in
-    let w = behind list front through o e in
-    let begun = c.begins-begun.ensures list e a m in
-    let there = there_as n (list ++ through) c.exists_after-there.result (c.exists_after-there.ensures.set list m a.sound a.causal) in
-    let small = λ (h : c.begins-begun.result ≡ _). k_begins start (list ++ front) o c.args.next_k.now lasts is (sym begun ∙ h) in (
-      next_k_behind start list front through o c.begins-begun.result c.args.next_k.now _ e begun is (c.k_behind.ensures small),
-      subst (λ (xs : _). IsUpTo start xs c.bring_up.new.chart) (sym w)
-          (c.bring_up.ensures.up (list ++ front) (subst IsApplied w a) (there ∙ ap (is_there n) w) is lasts up),
-    )
+    let p = c.op-3.result.now in
+    let e : p ≡ o = c.op-3.ensures.op in
+    let mid = c.step-2.new.self in
+    let was = c.step-2.ensures.folder in
+    let own : (folder_of mid) ≡ n = was ∙ r.own in
+    let x = c.args.chart.now in
+    let y = c.bring_up.new.chart in
+    let about : concerns_by n o.kind ≡ true = subst (λ (q : Op). concerns_by n q.kind ≡ true) c.op.ensures.op (sym c.is_about.ensures ∙ c.if-not-is_about.false) in
+    let w : AdvancesAhead k list p (λ g. list_any (same_id g) c.as_slice.result.now) mid = record {
+      applied = (subst (λ (q : Op). IsNextAhead start n c.args.nothing.now.entries k list (q ∷ []) c.args.ahead.now) (sym e) r).applied;
+      about = (λ i. concerns_by (own i) (e i).kind) ∙ about;
+      made = r.made;
+      is_lost = λ g.
+          ap (λ ids. list_any (same_id g) ids) c.as_slice.ensures.value ∙ c.in_ok-lost.ensures k r.is_ahead g
+          ∙ (λ i. loses (origin_in k (sym was i)) ((c.removed.ensures ∙ ap (λ (q : Op). removed_ids q.kind) (c.op-2.ensures.op ∙ sym e)) i) g);
+      is_ahead = subst (λ (q : Op). IsAhead (effect_of k q) mid) (sym e) (c.in_ok-step.ensures.ahead k r.is_ahead);
+    } in
+    let before : IsChart start (folder_of mid) list x.uidnext x.highest x.entries.entries = subst (λ m. IsChart start m list x.uidnext x.highest x.entries.entries) (sym own) s in
+    let behind = h start list k (c.first_of.ensures ∙ ap (first_uid start) (sym own)) r.none w before in
+    subst (λ (q : Op). IsChart start n (list ++ q ∷ []) y.uidnext y.highest y.entries.entries) e (subst (λ m. IsChart start m (list ++ p ∷ []) y.uidnext y.highest y.entries.entries) own behind)) c.bring_up.ensures

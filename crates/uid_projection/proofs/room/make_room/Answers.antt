@@ -1,19 +1,38 @@
-use Rattle.merge_laws.proofs.Pairs.{on_ok}
-use Rattle.uid_projection.proofs.Tables.{rooms_made, rooms_roomier, table_roomier}
+use Rattle.std.proofs.Common.{◌≡◌, Some, ap, sym, subst, rules, arith}
+use Rattle.uid_projection.specs.Table.{HasRooms, IsTable, chart_at}
+use Rattle.uid_projection.proofs.Overlaid.{on_ok}
+use Rattle.uid_projection.proofs.Tables.{rooms_here, rooms_step, same_roomy, same_up, table_kept}
 use Rattle.uid_projection.proofs.room.make_room.Goals as goal
 
-pub returns-clause-table : goal.returns-clause-table
-returns-clause-table c = λ list k t.
-    let p = c.in_ok-at.ensures in
-    table_roomier c.place_for.new.charts.items c.in_ok-at.at c.index_mut.result.now c.make_room_in.new.chart p.at.0 c.index_mut.ensures.value c.make_room_in.ensures.same c.args.start.now list k (p.table list k t)
+pub returns-in-Some-clause-table : goal.returns-in-Some-clause-table
+returns-in-Some-clause-table c = λ list k t.
+    let start = c.args.start.now in
+    let n = c.as_bytes.result.now in
+    let now = c.make_room_in.new.chart in
+    let says = (c.get_mut.follows.holds now).3 (search rules) in
+    let was : chart_at n c.args.charts.now.entries ≡ Some c.in-Some.chart.now = search rules in
+    table_kept n c.args.charts.now.entries (c.get_mut.follows.lender now).entries now says.3 says.1 start list k t (same_up start n list c.in-Some.chart.now now c.make_room_in.ensures.same (t.shows n c.in-Some.chart.now was))
 
-pub returns-clause-rooms : goal.returns-clause-rooms
-returns-clause-rooms c = λ n f r.
-    let p = c.in_ok-at.ensures in
-    rooms_roomier c.place_for.new.charts.items c.in_ok-at.at c.index_mut.result.now c.make_room_in.new.chart p.at.0 c.index_mut.ensures.value c.make_room_in.ensures.same n f (p.rooms n f r)
+pub returns-in-Some-clause-rooms : goal.returns-in-Some-clause-rooms
+returns-in-Some-clause-rooms c = λ m f r.
+    let n = c.as_bytes.result.now in
+    let now = c.make_room_in.new.chart in
+    let says = (c.get_mut.follows.holds now).3 (search rules) in
+    rooms_step n c.args.charts.now.entries (c.get_mut.follows.lender now).entries now says.3 says.1 c.in-Some.chart.now (search rules) m m (omega arith) (same_roomy m c.in-Some.chart.now now c.make_room_in.ensures.same) f r
 
-pub returns-clause-ok : goal.returns-clause-ok
-returns-clause-ok c = on_ok c.make_room_in.result (λ r list k t.
-    let p = c.in_ok-at.ensures in
-    let x = c.index_mut.result.now in
-    rooms_made c.place_for.new.charts.items c.in_ok-at.at x c.make_room_in.new.chart p.at.0 c.index_mut.ensures.value c.make_room_in.ensures.same c.args.start.now list k c.args.more c.args.folder.now (p.table list k t) (p.at.1 x c.index_mut.ensures.value) r) c.make_room_in.ensures.ok
+pub returns-in-Some-clause-ok : goal.returns-in-Some-clause-ok
+returns-in-Some-clause-ok c = on_ok c.make_room_in.result (λ h.
+    let n = c.as_bytes.result.now in
+    let now = c.make_room_in.new.chart in
+    let says = (c.get_mut.follows.holds now).3 (search rules) in
+    let e : n ≡ c.args.folder.now = search rules in
+    subst (λ m. HasRooms c.args.more m (c.get_mut.follows.lender now).entries) e
+    (rooms_here n c.args.charts.now.entries (c.get_mut.follows.lender now).entries now says.3 says.1 c.args.more h)) c.make_room_in.ensures.ok
+
+pub returns-in-None-clause-table : goal.returns-in-None-clause-table
+returns-in-None-clause-table c = λ list k t.
+    c.put_chart.ensures.table list k (subst (IsTable c.args.start.now list k) (sym (ap (λ m. m.entries) c.get_mut.follows.holds-at-none)) t)
+
+pub returns-in-None-clause-rooms : goal.returns-in-None-clause-rooms
+returns-in-None-clause-rooms c = λ m f r.
+    c.put_chart.ensures.rooms m f (subst (HasRooms m f) (sym (ap (λ x. x.entries) c.get_mut.follows.holds-at-none)) r)

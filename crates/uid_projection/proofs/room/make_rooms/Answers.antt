@@ -13,16 +13,16 @@ pub loop-op-preserved : goal.loop-op-preserved
 loop-op-preserved c =
     let h = c.loop-op.invariant in
     let n = length c.args.ops.now in
-    let new = c.room_for.new.charts.items in
+    let new = c.room_for.new.charts.entries in
     let P = λ (o : Op). concerns_by (name_of o.kind) o.kind ≡ true → HasRooms n (name_of o.kind) new in
     record {
       table = λ list k t. c.room_for.ensures.table list k (h.table list k t);
-      done = λ list k t. all_more P c.args.ops.now c.loop-op.op-index c.op-item.result c.loop-op-test.true c.op-item.is
-          (λ o i about. c.room_for.ensures.rooms n (name_of o.kind) (h.done list k t o i about))
-          (subst P c.op.ensures.op (λ about. c.in_ok-room_for.ensures.ok list k (h.table list k t) about));
+      done = all_more P c.args.ops.now c.loop-op.op-index c.op-item.result c.loop-op-test.true c.op-item.is
+          (λ o i about. c.room_for.ensures.rooms n (name_of o.kind) (h.done o i about))
+          (subst P c.op.ensures.op c.in_ok-room_for.ensures.ok);
     }
 
 pub returns-clause-ok : goal.returns-clause-ok
-returns-clause-ok c = λ list k t.
+returns-clause-ok c =
     let stop = c.loop-op-test.false in
-    all_of (λ (o : Op). concerns_by (name_of o.kind) o.kind ≡ true → HasRooms (length c.args.ops.now) (name_of o.kind) c.loop-op.charts.items) c.args.ops.now c.loop-op.op-index (omega (arith, stop)) (c.loop-op.invariant.done list k t)
+    all_of (λ (o : Op). concerns_by (name_of o.kind) o.kind ≡ true → HasRooms (length c.args.ops.now) (name_of o.kind) c.loop-op.charts.entries) c.args.ops.now c.loop-op.op-index (omega (arith, stop)) c.loop-op.invariant.done

@@ -8,6 +8,6 @@ use Rattle.uid_projection.proofs.room.make_rooms.Given as goal
 
 abbrev pub invariant-loop-op : goal.invariant-loop-op
 invariant-loop-op l = record {
-  table : (list : List Op) (k : ℕ) → IsTable l.start list k l.fn.charts.items → IsTable l.start list k l.charts.items;
-  done : (list : List Op) (k : ℕ) → IsTable l.start list k l.fn.charts.items → (o : Op) → IsIn o (take l.op-index l.ops) → concerns_by (name_of o.kind) o.kind ≡ true → HasRooms (length l.ops) (name_of o.kind) l.charts.items;
+  table : (list : List Op) (k : ℕ) → IsTable l.start list k l.fn.charts.entries → IsTable l.start list k l.charts.entries;
+  done : (o : Op) → IsIn o (take l.op-index l.ops) → concerns_by (name_of o.kind) o.kind ≡ true → HasRooms (length l.ops) (name_of o.kind) l.charts.entries;
 }

@@ -1,22 +1,23 @@
-use Rattle.std.proofs.Common.{Some, None, Option, cond, ap, ◌∙◌, sym}
-use Rattle.std.proofs.lemmas.Bool.{eq-eqb, ne_eqb}
-use Rattle.uid_projection.specs.declared.entry.Entry.{Entry}
-use Rattle.uid_projection.proofs.RowLemmas.{entry_found, found_with}
+use Rattle.std.proofs.Common.{ap, ◌∙◌, sym}
+use Rattle.uid_projection.proofs.RowLemmas.{edge_point, entry_found, found_other, found_own, found_with}
 use Rattle.uid_projection.proofs.rows.entry_with.Goals as goal
 
 pub returns-then-entry-uid : goal.returns-then-entry-uid
 returns-then-entry-uid c = λ s.
-    sym (ap (λ b. cond {A = Option Entry} b (Some c.in-Some.entry) None) (eq-eqb c.in-Some.entry.uid c.args.uid c.if-entry-uid.true))
-    ∙ ap (found_with c.args.uid) (sym c.in-Some.is ∙ c.entry_in.ensures)
-    ∙ entry_found c.args.uid c.args.entries.now c.first_from.result s (c.first_from.ensures s)
+    let es = c.args.entries.now.entries in
+    let p = edge_point c.args.uid es c.first_from.result s c.first_from.ensures.within c.first_from.ensures.edge in
+    found_own c.args.uid c.in-Some.entry c.if-entry-uid.true
+    ∙ ap (found_with c.args.uid) (sym c.in-Some.is ∙ c.get.ensures) ∙ entry_found c.args.uid es c.first_from.result s p
 
 pub returns-else-entry-uid : goal.returns-else-entry-uid
 returns-else-entry-uid c = λ s.
-    sym (ap (λ b. cond {A = Option Entry} b (Some c.in-Some.entry) None) (ne_eqb c.in-Some.entry.uid c.args.uid c.if-entry-uid.false))
-    ∙ ap (found_with c.args.uid) (sym c.in-Some.is ∙ c.entry_in.ensures)
-    ∙ entry_found c.args.uid c.args.entries.now c.first_from.result s (c.first_from.ensures s)
+    let es = c.args.entries.now.entries in
+    let p = edge_point c.args.uid es c.first_from.result s c.first_from.ensures.within c.first_from.ensures.edge in
+    found_other c.args.uid c.in-Some.entry c.if-entry-uid.false
+    ∙ ap (found_with c.args.uid) (sym c.in-Some.is ∙ c.get.ensures) ∙ entry_found c.args.uid es c.first_from.result s p
 
 pub returns-in-None : goal.returns-in-None
 returns-in-None c = λ s.
-    ap (found_with c.args.uid) (sym c.in-None.is ∙ c.entry_in.ensures)
-    ∙ entry_found c.args.uid c.args.entries.now c.first_from.result s (c.first_from.ensures s)
+    let es = c.args.entries.now.entries in
+    let p = edge_point c.args.uid es c.first_from.result s c.first_from.ensures.within c.first_from.ensures.edge in
+    ap (found_with c.args.uid) (sym c.in-None.is ∙ c.get.ensures) ∙ entry_found c.args.uid es c.first_from.result s p

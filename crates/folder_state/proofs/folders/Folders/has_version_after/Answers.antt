@@ -1,21 +1,17 @@
-use Rattle.std.proofs.Common.{◌++◌, ◌∙◌, ◌||◌, ap, refl}
-use Rattle.std.specs.List.{list_any}
-use Rattle.folder_state.specs.Kept.{message_tags}
-use Rattle.folder_state.specs.Later.{after, is_brought, keeps_version}
+use Rattle.std.proofs.Common.{◌++◌}
+use Rattle.std.specs.Option.{option_copied}
+use Rattle.folder_state.specs.Kept.{versions_in}
+use Rattle.folder_state.specs.Later.{after}
 use Rattle.folder_state.specs.Tables.{contents_of}
-use Rattle.folder_state.proofs.LaterLemmas.{made_after}
-use Rattle.folder_state.proofs.TagLemmas.{any_kept}
-use Rattle.folder_state.proofs.VersionLemmas.{has_version_by_set, version_told}
+use Rattle.folder_state.proofs.LaterLemmas.{made_after, version_left}
+use Rattle.folder_state.proofs.VersionLemmas.{has_version_by_set}
 use Rattle.folder_state.proofs.folders.Folders.has_version_after.Goals as goal
 
 pub returns-clause-contents : goal.returns-clause-contents
 returns-clause-contents c =
-    let f = c.args.folder.now in
-    let o = c.args.origin.now in
-    let ops = c.args.ops.now in
-    version_told (message_tags c.args.self.now.messages.entries) ops f o (contents_of c.args.self.now) c.has_version_after.result refl
-    (c.has_version_after.ensures ∙ (λ k. list_any (keeps_version (message_tags (c.entries.ensures.list k)) ops f o) (c.entries.ensures.list k) || list_any (is_brought (message_tags (c.entries.ensures.list k)) ops f o) ops)
-    ∙ ap (λ b. b || list_any (is_brought (message_tags c.args.self.now.messages.entries) ops f o) ops) (any_kept (message_tags c.args.self.now.messages.entries) ops f o c.args.self.now.messages.entries))
+    let held = option_copied c.folder.result in
+    let left = c.has_version_left.ensures in
+    version_left (contents_of c.args.self.now) c.args.folder.now held c.folder.ensures.tags c.folder.ensures.bodies c.args.ops.now c.args.origin.now (versions_in held c.args.origin.now) left.versions c.has_version_left.result left.left
 
 pub returns-clause-set : goal.returns-clause-set
 returns-clause-set c = λ list m s d.

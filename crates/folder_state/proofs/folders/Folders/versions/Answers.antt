@@ -1,16 +1,19 @@
-use Rattle.std.proofs.Common.{◌∙◌, [], refl, sym, subst}
-use Rattle.folder_state.specs.Contents.{AreVersions}
-use Rattle.folder_state.specs.Kept.{message_tags}
-use Rattle.folder_state.specs.Later.{version_list}
+use Rattle.std.proofs.Common.{◌≡◌, ◌∙◌, Some, ap, sym}
+use Rattle.std.specs.Option.{option_copied, option_map}
+use Rattle.tags_clocks.specs.declared.id.OpId.{OpId}
+use Rattle.crdt_ops.specs.Sets.{Body}
+use Rattle.folder_state.specs.Contents.{IsVersion}
+use Rattle.folder_state.specs.Kept.{body_in_folder}
 use Rattle.folder_state.specs.Tables.{contents_of}
-use Rattle.folder_state.proofs.VersionLemmas.{versions_told, versions_by_set}
+use Rattle.folder_state.proofs.Listing.{listed_so}
+use Rattle.folder_state.proofs.VersionLemmas.{versions_by_set}
 use Rattle.folder_state.proofs.folders.Folders.versions.Goals as goal
 
 pub returns-clause-contents : goal.returns-clause-contents
 returns-clause-contents c =
-    let same = c.in_ok-ids.ensures ∙ (λ k. version_list (message_tags (c.entries.ensures.list k)) [] c.args.folder.now c.args.origin.now) in
-    subst (AreVersions (contents_of c.args.self.now) c.args.folder.now c.args.origin.now) (sym same)
-    (versions_told (message_tags c.args.self.now.messages.entries) [] c.args.folder.now c.args.origin.now (contents_of c.args.self.now) refl)
+    let now = contents_of c.args.self.now in
+    listed_so (λ (i : OpId). option_map (λ (b : Body). b.origin) (body_in_folder (option_copied c.folder.result) i) ≡ Some c.args.origin.now) (IsVersion now c.args.folder.now c.args.origin.now) c.in_ok-ids.ids (c.in_ok-ids.ensures {u = tt})
+    (λ i. (λ t. ap (option_map (λ (b : Body). b.origin)) (c.folder.ensures.bodies i) ∙ t, λ t. ap (option_map (λ (b : Body). b.origin)) (sym (c.folder.ensures.bodies i)) ∙ t))
 
 pub returns-clause-set : goal.returns-clause-set
 returns-clause-set c = λ ops m. versions_by_set (contents_of c.args.self.now) ops c.args.folder.now c.args.origin.now c.in_ok-ids.ids m (returns-clause-contents c)

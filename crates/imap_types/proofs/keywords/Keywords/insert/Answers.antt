@@ -10,7 +10,7 @@ invariant_of-self c =
     let word : c.as_bytes.result.now ≡ lowered c.args.keyword.now = c.as_bytes.ensures ∙ c.in_ok-word.ensures in
     let slice : c.as_slice.result.now ≡ old = c.as_slice.ensures.value ∙ sym c.self.view_is in
     let new : c.insert.new.self.items ≡ with_text (lowered c.args.keyword.now) old =
-    c.in_ok-insert.ensures.items
+    c.in_ok-insert.ensures.ok
     ∙ ap (insert old c.in-Err.place) (c.in_ok-word.ensures ∙ sym word)
     ∙ ap (λ xs. insert xs c.in-Err.place c.as_bytes.result.now) (sym slice)
     ∙ sym c.in-Err.ensures.absent.1

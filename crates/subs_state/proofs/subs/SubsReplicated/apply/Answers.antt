@@ -1,16 +1,20 @@
-use Rattle.std.proofs.Common.{◌≡◌, not, ◌&&◌, ◌||◌, ap, ◌∙◌}
+use Rattle.std.proofs.Common.{not, ◌&&◌, ◌||◌, ap, ◌∙◌}
 use Rattle.crdt_ops.specs.declared.op.Op.{Op}
 use Rattle.crdt_ops.specs.Tags.{SubscriptionTag, adds, removes}
-use Rattle.subs_state.specs.Entries.{tag_in}
+use Rattle.subs_state.specs.Entries.{room_of, tag_in}
+use Rattle.subs_state.proofs.TableLemmas.{room_after}
 use Rattle.subs_state.proofs.subs.SubsReplicated.apply.Goals as goal
 
 pub returns-clause-meaning : goal.returns-clause-meaning
-returns-clause-meaning c =
-    let op : Op = c.args.op.now in
-    let copied : c.in-Some.copy ≡ op = cc (c.in-Some.ensures.items, c.requires.copies.1) in
-    let kept : c.into_op.result ≡ op = c.into_op.ensures.op ∙ copied in
-    λ k n i. (
+returns-clause-meaning c = λ k n i. (
     c.keep_added.ensures.found n i
-    ∙ (λ j. adds (SubscriptionTag n i) (kept j) || c.forget_removed.ensures.found n i j)
-    ∙ ap (λ (o : Op). adds (SubscriptionTag n i) op || (not (removes (SubscriptionTag n i) o) && tag_in c.args.self.now.tags.items n i)) c.op.ensures.op
+    ∙ ap (λ b. adds (SubscriptionTag n i) c.op-op.result.now || b) (c.forget_removed.ensures.found n i)
+    ∙ ap (λ (o : Op). adds (SubscriptionTag n i) o || (not (removes (SubscriptionTag n i) o) && tag_in c.args.self.now.tags.entries n i)) c.op-op.ensures.op
     ) k
+
+pub returns-clause-others : goal.returns-clause-others
+returns-clause-others c = λ rest p. record {
+  room = λ n.
+      room_after n c.args.op.now c.op-op.result.now rest (room_of n c.args.self.now.tags.entries) (room_of n c.forget_removed.new.tags.entries) (room_of n c.keep_added.new.tags.entries)
+      c.op-op.ensures.op (p.room n) (c.forget_removed.ensures.room n) (c.keep_added.ensures.room n);
+}

@@ -1,8 +1,7 @@
-use Rattle.std.proofs.Common.{◌≡◌, ◌++◌, Some, sym, subst, ap, ◌∙◌, arith}
+use Rattle.std.proofs.Common.{◌≡◌, ◌++◌, Some, sym, ap, ◌∙◌, arith}
 use Rattle.std.proofs.lemmas.Bool.{false≢true}
 use Rattle.std.proofs.lemmas.Slice.Eq.{bytes_eq-Decides}
 use Rattle.imap_types.specs.Names.{inbox}
-use Rattle.uid_projection.specs.Table.{IsTable}
 use Rattle.uid_projection.proofs.Coming.{there_as}
 use Rattle.uid_projection.proofs.LaterNumbers.{k_within_after, k_within_table}
 use Rattle.uid_projection.proofs.Noted.{validity_gone, validity_inbox, validity_there}
@@ -26,7 +25,6 @@ returns c = λ list f m a lasts.
     let other = sym c.is_inbox.ensures ∙ c.if-is_inbox.false in
     let there = sym (there_as n now c.exists_after.result (c.exists_after.ensures.set list m a.sound a.causal)) ∙ c.if-not-exists_after.false in
     let apart : n ≡ inbox → ⊥ = λ e. false≢true (sym other ∙ (bytes_eq-Decides n inbox).1 e) in
-    let t = subst (IsTable s.start list s.next_k) (sym c.deref.ensures.value) f.table in
-    let k = c.k_of_after.ensures s.start list a m f.table.is_k (c.k_in-now.ensures s.start list t) in
-    let small = k_within_after s.start n apart ops list a (k_within_table s.start n apart list s.next_k s.charts.items f.table) lasts there in
+    let k = c.k_of_after.ensures s.start list a m f.table.is_k (c.k_in-now.ensures s.start list f.table) in
+    let small = k_within_after s.start n apart ops list a (k_within_table s.start n apart list s.next_k s.charts.entries f.table) lasts there in
     c.number_with.ensures (omega (arith, k, small)) ∙ validity_there s.start now n other there c.k_of_after.result k

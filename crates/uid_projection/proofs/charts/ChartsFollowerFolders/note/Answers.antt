@@ -1,12 +1,10 @@
-use Rattle.std.proofs.Common.{◌≡◌, ◌∷◌, [], ◌++◌, refl, sym, ◌∙◌, subst, false, ◌+◌, arith}
+use Rattle.std.proofs.Common.{◌≡◌, ◌++◌, ◌∷◌, [], ◌+◌, false, refl, sym, subst, ◌∙◌, arith}
 use Rattle.crdt_ops.specs.declared.op.Op.{Op}
 use Rattle.crdt_ops.specs.Tags.{name_of}
 use Rattle.folder_state.specs.Tables.{contents_of}
-use Rattle.uid_projection.specs.Incarnations.{is_there}
 use Rattle.uid_projection.specs.Lines.{concerns_by}
 use Rattle.uid_projection.specs.Readiness.{less_room}
 use Rattle.uid_projection.specs.Table.{IsTable}
-use Rattle.uid_projection.proofs.Coming.{there_as}
 use Rattle.uid_projection.proofs.Noted.{made_by, next_on, others_ready, unmoved}
 use Rattle.uid_projection.proofs.charts.ChartsFollowerFolders.note.Goals as goal
 
@@ -14,29 +12,25 @@ pub note_on-requires-clause-next : goal.note_on-requires-clause-next
 note_on-requires-clause-next c =
     let (list, f, r, d, m) = c.requires in
     let o = c.args.op.now in
-    let p = c.op-op.result.now in
-    let e : p ≡ o = c.op-op.ensures.op in
-    let n = c.name.result.now in
-    let there = there_as n (list ++ o ∷ []) c.exists-there.result (c.exists-there.ensures.set (list ++ o ∷ []) (made_by (contents_of c.args.value.now) (list ++ o ∷ []) r.applied m)) in
-    (list, next_on c.args.self.now list o p c.exists-there.result e f r (there ∙ (λ i. is_there (c.name.ensures i) (list ++ sym e i ∷ []))))
+    let value = contents_of c.args.value.now in
+    (list, next_on c.args.self.now value list o c.op-op.result.now c.op-op.ensures.op f r (made_by value (list ++ o ∷ []) r.applied m))
 
 pub returns-then-names_folder-clause-follows : goal.returns-then-names_folder-clause-follows
 returns-then-names_folder-clause-follows c = λ list f r d m.
     let o = c.args.op.now in
-    let p = c.op-op.result.now in
-    let e : p ≡ o = c.op-op.ensures.op in
-    let n = c.name.result.now in
-    let there = there_as n (list ++ o ∷ []) c.exists-there.result (c.exists-there.ensures.set (list ++ o ∷ []) (made_by (contents_of c.args.value.now) (list ++ o ∷ []) r.applied m)) in
-    let next = next_on c.args.self.now list o p c.exists-there.result e f r (there ∙ (λ i. is_there (c.name.ensures i) (list ++ sym e i ∷ []))) in
+    let value = contents_of c.args.value.now in
+    let e = c.op-op.ensures.op in
+    let next = next_on c.args.self.now value list o c.op-op.result.now e f r (made_by value (list ++ o ∷ []) r.applied m) in
     record {
       first = f.first;
       applied = r.applied;
-      table = subst (λ (q : Op). IsTable c.args.self.now.start (list ++ q ∷ []) c.note_on.new.next_k c.note_on.new.charts.items) e (c.note_on.ensures.next list next);
+      table = subst (λ (q : Op). IsTable c.args.self.now.start (list ++ q ∷ []) c.note_on.new.next_k c.note_on.new.charts.entries) e (c.note_on.ensures.next list next);
+      nothing = f.nothing;
     }
 
 pub returns-then-names_folder-clause-others : goal.returns-then-names_folder-clause-others
 returns-then-names_folder-clause-others c = λ list rest f r d m.
-    others_ready c.args.self.now (record { start = c.args.self.now.start; next_k = c.note_on.new.next_k; charts = c.note_on.new.charts }) list c.args.op.now rest refl c.note_on.ensures.rooms r
+    others_ready c.args.self.now (record { start = c.args.self.now.start; next_k = c.note_on.new.next_k; charts = c.note_on.new.charts; nothing = c.args.self.now.nothing }) list c.args.op.now rest refl c.note_on.ensures.rooms r
 
 pub returns-else-names_folder-clause-follows : goal.returns-else-names_folder-clause-follows
 returns-else-names_folder-clause-follows c = λ list f r d m.
@@ -44,4 +38,4 @@ returns-else-names_folder-clause-follows c = λ list f r d m.
 
 pub returns-else-names_folder-clause-others : goal.returns-else-names_folder-clause-others
 returns-else-names_folder-clause-others c = λ list rest f r d m.
-    others_ready c.args.self.now c.args.self.now list c.args.op.now rest refl (λ n folder. less_room n (n + 1) folder c.args.self.now.charts.items (omega arith)) r
+    others_ready c.args.self.now c.args.self.now list c.args.op.now rest refl (λ n folder. less_room n (n + 1) folder c.args.self.now.charts.entries (omega arith)) r

@@ -1,5 +1,4 @@
-use Rattle.std.proofs.Common.{sym, subst, ◌∙◌}
-use Rattle.uid_projection.specs.Table.{IsTable}
+use Rattle.std.proofs.Common.{sym, ◌∙◌}
 use Rattle.std.proofs.lemmas.Bool.{false≢true}
 use Rattle.folder_state.specs.Tables.{contents_of}
 use Rattle.uid_projection.proofs.Noted.{both_applied, made_by}
@@ -7,31 +6,31 @@ use Rattle.uid_projection.proofs.charts.ChartsFollowerFolders.ready.Goals as goa
 
 pub returns-then-exhausts-clause-exhausted : goal.returns-then-exhausts-clause-exhausted
 returns-then-exhausts-clause-exhausted c = λ list f d m.
-    let h = c.exhausts.ensures list (both_applied list c.args.ops.now f.applied c.all_known.ensures d) (subst (IsTable c.args.self.now.start list c.args.self.now.next_k) (sym c.deref.ensures.value) f.table) (made_by (contents_of c.args.value.now) list f.applied m) in
+    let h = c.exhausts.ensures list (both_applied list c.args.ops.now f.applied c.all_known.ensures d) f.table (made_by (contents_of c.args.value.now) list f.applied m) in
     (λ k. h.0 c.if-exhausts.true, λ x. cc)
 
 pub returns-in-Ok-clause-follows : goal.returns-in-Ok-clause-follows
-returns-in-Ok-clause-follows c = λ list f. record { first = f.first; applied = f.applied; table = c.make_rooms.ensures.table list c.args.self.now.next_k f.table }
+returns-in-Ok-clause-follows c = λ list f. record { first = f.first; applied = f.applied; table = c.make_rooms.ensures.table list c.args.self.now.next_k f.table; nothing = f.nothing }
 
 pub returns-in-Ok-clause-ready : goal.returns-in-Ok-clause-ready
 returns-in-Ok-clause-ready c = λ list f d m.
     let a = both_applied list c.args.ops.now f.applied c.all_known.ensures d in
-    let h = c.exhausts.ensures list a (subst (IsTable c.args.self.now.start list c.args.self.now.next_k) (sym c.deref.ensures.value) f.table) (made_by (contents_of c.args.value.now) list f.applied m) in
+    let h = c.exhausts.ensures list a f.table (made_by (contents_of c.args.value.now) list f.applied m) in
     record {
       applied = a;
       lasts = λ x. false≢true (sym c.if-exhausts.false ∙ h.1 x);
-      rooms = λ o i about. c.in-Ok.ensures.ok list c.args.self.now.next_k f.table o i about;
+      rooms = λ o i about. c.in-Ok.ensures.ok o i about;
     }
 
 pub returns-in-Ok-clause-exhausted : goal.returns-in-Ok-clause-exhausted
 returns-in-Ok-clause-exhausted c = λ list f d m.
-    let h = c.exhausts.ensures list (both_applied list c.args.ops.now f.applied c.all_known.ensures d) (subst (IsTable c.args.self.now.start list c.args.self.now.next_k) (sym c.deref.ensures.value) f.table) (made_by (contents_of c.args.value.now) list f.applied m) in
+    let h = c.exhausts.ensures list (both_applied list c.args.ops.now f.applied c.all_known.ensures d) f.table (made_by (contents_of c.args.value.now) list f.applied m) in
     (λ k. absurd cc, λ x. absurd (false≢true (sym c.if-exhausts.false ∙ h.1 x)))
 
 pub returns-in-Err-clause-follows : goal.returns-in-Err-clause-follows
-returns-in-Err-clause-follows c = λ list f. record { first = f.first; applied = f.applied; table = c.make_rooms.ensures.table list c.args.self.now.next_k f.table }
+returns-in-Err-clause-follows c = λ list f. record { first = f.first; applied = f.applied; table = c.make_rooms.ensures.table list c.args.self.now.next_k f.table; nothing = f.nothing }
 
 pub returns-in-Err-clause-exhausted : goal.returns-in-Err-clause-exhausted
 returns-in-Err-clause-exhausted c = λ list f d m.
-    let h = c.exhausts.ensures list (both_applied list c.args.ops.now f.applied c.all_known.ensures d) (subst (IsTable c.args.self.now.start list c.args.self.now.next_k) (sym c.deref.ensures.value) f.table) (made_by (contents_of c.args.value.now) list f.applied m) in
+    let h = c.exhausts.ensures list (both_applied list c.args.ops.now f.applied c.all_known.ensures d) f.table (made_by (contents_of c.args.value.now) list f.applied m) in
     (λ k. absurd cc, λ x. absurd (false≢true (sym c.if-exhausts.false ∙ h.1 x)))

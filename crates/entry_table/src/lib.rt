@@ -1,0 +1,14 @@
+//! A mailbox's entries by ascending UID, found by their origins too: as they are kept, and as operations to come would leave them.
+#![tactic(auto)]
+
+mod entry;
+mod index;
+mod list;
+mod overlay;
+mod search;
+mod table;
+
+pub use entry::Entry;
+pub use list::EntryList;
+pub use overlay::EntryOverlay;
+pub use table::EntryTable;

@@ -1,0 +1,121 @@
+-- What one change of a map leaves, and loops over ids.
+use Rattle.std.specs.Result.{is_err}
+use Rattle.std.proofs.Common.{Result, Ok, Err, OnErr, OnOk, ◌≡◌, inl, inr, ℕ, ◌+◌, ◌<◌, add-one, Bool, true, false, cond, not, ◌&&◌, ◌||◌, Option, None, Some, List, [], ◌∷◌, get_or, length, take, refl, sym, ap, ◌∙◌, subst}
+use Rattle.std.specs.Global.{Vec}
+use Rattle.std.specs.List.{list_any}
+use Rattle.std.specs.Map.{KeepsOthers, lookup}
+use Rattle.std.specs.Str.{bytes_eq}
+use Rattle.std.proofs.Math.Seq.{take-suc}
+use Rattle.std.proofs.lemmas.Bool.{cases_Bool}
+use Rattle.std.proofs.lemmas.List.Folds.{list_any-append}
+use Rattle.std.proofs.lemmas.Slice.Eq.{bytes_eq-Decides}
+use Rattle.tags_clocks.specs.declared.id.OpId.{OpId}
+use Rattle.crdt_ops.specs.Order.{same_id}
+use Rattle.folder_state.specs.Kept.{Kept, folder_at}
+use Rattle.folder_state.proofs.Versions.{id_is, id_not, not_id, own_id}
+
+pub some_is : {X : Type 0} (x y : X) → ◌≡◌ {A = Option X} (Some x) (Some y) → x ≡ y
+some_is x y h = cc
+
+pub same_turned : (a b : OpId) → same_id a b ≡ same_id b a
+same_turned a b =
+    elim (cases_Bool (same_id a b)) [
+      | inl t ↦ t ∙ sym (subst (λ z. same_id z a ≡ true) (id_is a b t) (own_id a))
+      | inr f ↦ f ∙ sym (id_not b a (λ e. not_id a b f (sym e)))
+    ]
+
+-- ---- loops over ids
+
+pub any_more : {X : Type 0} (P : X → Bool) (xs : List X) (n : ℕ) (x : X) → n < length xs → x ≡ get_or xs n x → list_any P (take (n + 1) xs) ≡ (list_any P (take n xs) || P x)
+any_more P xs n x l e =
+    ap (λ m. list_any P (take m xs)) (add-one n)
+    ∙ ap (list_any P) (take-suc xs n x l)
+    ∙ list_any-append P (take n xs) (get_or xs n x ∷ [])
+    ∙ (λ k. list_any P (take n xs) || (P (sym e k) || false))
+    ∙ ap (λ b. list_any P (take n xs) || b) (or-false (P x))
+  where
+    or-false : (b : Bool) → (b || false) ≡ b
+    or-false true = refl
+    or-false false = refl
+
+pub key_gone : (a b s t : Bool) → t ≡ s → cond t false (not a && b) ≡ (not (a || s) && b)
+key_gone true b true t e = ap (λ (x : Bool). cond x false (false && b)) e
+key_gone true b false t e = ap (λ (x : Bool). cond x false (false && b)) e
+key_gone false b true t e = ap (λ (x : Bool). cond x false b) e
+key_gone false b false t e = ap (λ (x : Bool). cond x false b) e
+
+pub body_gone : {X : Type 0} (a s : Bool) (x : Option X) → cond s None (cond a None x) ≡ cond (a || s) None x
+body_gone true true x = refl
+body_gone true false x = refl
+body_gone false true x = refl
+body_gone false false x = refl
+
+-- ---- a folder changed
+
+pub same_name : (xs ys : List ℕ) → bytes_eq xs ys ≡ true → xs ≡ ys
+same_name xs ys e = (bytes_eq-Decides xs ys).0 e
+
+pub own_name : (xs : List ℕ) → bytes_eq xs xs ≡ true
+own_name xs = (bytes_eq-Decides xs xs).1 refl
+
+-- What stands under a name.
+abbrev pub named : {X : Type 0} → List ℕ → List (Vec ℕ × X) → Option X
+named name entries = lookup (λ (key : Vec ℕ). bytes_eq name key.items) entries
+
+module _ {X : Type 0} (name : List ℕ) (old new : List (Vec ℕ × X)) (keeps : KeepsOthers (λ (x y : Vec ℕ). bytes_eq x.items y.items) (λ (key : Vec ℕ). bytes_eq name key.items) old new) where
+  -- another name stays
+  pub name_beside : (other : List ℕ) → bytes_eq other name ≡ false → named other new ≡ named other old
+  unfolding KeepsOthers
+  name_beside other d =
+      keeps (λ (key : Vec ℕ). bytes_eq other key.items)
+      (λ x y t. ap (λ (n : List ℕ). bytes_eq n y.items) (same_name other x.items t))
+      (λ k t. ap (bytes_eq other) (sym (same_name name k.items t)) ∙ d)
+
+  pub name_now : (a : Option X) → named name new ≡ a → (f : List ℕ) → named f new ≡ cond (bytes_eq f name) a (named f old)
+  name_now a is f =
+      elim (cases_Bool (bytes_eq f name)) [
+        | inl t ↦ ap (λ g. named g new) (same_name f name t) ∙ is ∙ (λ k. cond (sym t k) a (named f old))
+        | inr d ↦ name_beside f d ∙ (λ k. cond (sym d k) a (named f old))
+      ]
+
+-- the same where the name was looked up by its octets
+pub folder_changed : {X : Type 0} (name octets : List ℕ) → octets ≡ name → (old new : List (Vec ℕ × X)) → KeepsOthers (λ (x y : Vec ℕ). bytes_eq x.items y.items) (λ (key : Vec ℕ). bytes_eq octets key.items) old new → (a : Option X) → named octets new ≡ a → (f : List ℕ) → named f new ≡ cond (bytes_eq f name) a (named f old)
+folder_changed name octets e old new keeps a is f = subst (λ n. named f new ≡ cond (bytes_eq f n) a (named f old)) e (name_now octets old new keeps a is f)
+
+module _ (name : List ℕ) (old new : List (Vec ℕ × Kept)) (a b : Kept) (was : folder_at name old ≡ Some a) (at : (f : List ℕ) → folder_at f new ≡ cond (bytes_eq f name) (Some b) (folder_at f old)) where
+  -- what is told of each folder, where it changes in this one
+  pub told_now : {X : Type 0} (P : Option Kept → OpId → X) (F : Bool → OpId → X → X) → ((i : OpId) (x : X) → F false i x ≡ x) → ((i : OpId) → P (Some b) i ≡ F true i (P (Some a) i)) → (f : List ℕ) (i : OpId) → P (folder_at f new) i ≡ F (bytes_eq f name) i (P (folder_at f old) i)
+  told_now P F none here f i =
+      ap (λ o. P o i) (at f)
+      ∙ elim (cases_Bool (bytes_eq f name)) [
+        | inl t ↦
+            let there : folder_at f old ≡ Some a = ap (λ g. folder_at g old) (same_name f name t) ∙ was in
+            (λ k. P (cond (t k) (Some b) (folder_at f old)) i) ∙ here i ∙ (λ k. F (sym t k) i (P (sym there k) i))
+        | inr d ↦ (λ k. P (cond (d k) (Some b) (folder_at f old)) i) ∙ sym (none i (P (folder_at f old) i)) ∙ (λ k. F (sym d k) i (P (folder_at f old) i))
+      ]
+
+-- nothing changes where the folder isn't there
+pub told_same : (name : List ℕ) (old : List (Vec ℕ × Kept)) → folder_at name old ≡ None → {X : Type 0} (P : Option Kept → OpId → X) (F : Bool → OpId → X → X) → ((i : OpId) (x : X) → F false i x ≡ x) → ((i : OpId) → P None i ≡ F true i (P None i)) → (f : List ℕ) (i : OpId) → P (folder_at f old) i ≡ F (bytes_eq f name) i (P (folder_at f old) i)
+told_same name old was P F none here f i =
+    elim (cases_Bool (bytes_eq f name)) [
+      | inl t ↦
+          let there : folder_at f old ≡ None = ap (λ g. folder_at g old) (same_name f name t) ∙ was in
+          (λ k. P (there k) i) ∙ here i ∙ (λ k. F (sym t k) i (P (sym there k) i))
+      | inr d ↦ sym (none i (P (folder_at f old) i)) ∙ (λ k. F (sym d k) i (P (folder_at f old) i))
+    ]
+
+pub and_nothing : (b : Bool) → false ≡ (not b && false)
+and_nothing true = refl
+and_nothing false = refl
+
+pub cond_nothing : {X : Type 0} (b : Bool) → ◌≡◌ {A = Option X} None (cond b None None)
+cond_nothing true = refl
+cond_nothing false = refl
+
+pub on_ok : {A B : Type 0} {P : Type 0} (r : Result A B) → is_err r ≡ false → OnOk r P → P
+on_ok (Ok v) e h = h
+on_ok (Err v) e h = absurd (cc e)
+
+pub on_err : {A B : Type 0} {P : Type 0} (r : Result A B) → is_err r ≡ true → OnErr r P → P
+on_err (Ok v) e h = absurd (cc e)
+on_err (Err v) e h = h

@@ -1,0 +1,34 @@
+use Rattle.std.proofs.Common.{◌≡◌, ◌+◌, arith, None, Some, cond, sym, subst, ◌∙◌}
+use Rattle.std.specs.Map.{lookup}
+use Rattle.crdt_ops.specs.Order.{same_id}
+use Rattle.folder_state.specs.Kept.{Kept, body_at}
+use Rattle.folder_state.specs.Rooms.{HasPlaces, HasVersionRoom}
+use Rattle.folder_state.proofs.Filed.{bodies_put, carrying, filed_put}
+use Rattle.folder_state.proofs.folder.Folder.put_version.Goals as goal
+
+pub invariant_of-self : goal.invariant_of-self
+invariant_of-self c =
+    filed_put c.args.origin.now c.args.version c.self.inside.messages.entries c.put_in.new.messages.entries c.put_in.ensures.put c.self.inside.origins.entries c.tell_origin.new.origins.entries c.self.invariant
+    (subst (λ (k : Kept). lookup (same_id c.args.version.id) k.origins ≡ None) (sym c.self.view_is) c.requires.apart)
+    c.tell_origin.ensures.told
+
+pub returns-clause-bodies : goal.returns-clause-bodies
+returns-clause-bodies c = λ i.
+    bodies_put c.args.origin.now c.args.version c.self.inside.messages.entries c.put_in.new.messages.entries c.put_in.ensures.put c.self.inside.origins.entries c.tell_origin.new.origins.entries c.self.invariant
+    (subst (λ (k : Kept). lookup (same_id c.args.version.id) k.origins ≡ None) (sym c.self.view_is) c.requires.apart)
+    c.tell_origin.ensures.told i
+    ∙ (λ j. cond (same_id i c.args.version.id) (Some (carrying c.args.origin.now c.args.version.flags)) (body_at (c.self.view_is j).messages i (lookup (same_id i) (c.self.view_is j).origins)))
+
+pub returns-clause-room : goal.returns-clause-room
+returns-clause-room c = λ n h.
+    let before = subst (λ (k : Kept). HasPlaces k (n + 1)) (sym c.self.view_is) h in
+    let told = c.tell_origin.ensures.room in
+    let put = c.put_in.ensures.room in
+    record {
+      tags = let a = before.tags in omega (arith, a);
+      messages = let a = before.messages in omega (arith, a, put);
+      origins = let a = before.origins in omega (arith, a, told);
+    }
+
+pub returns-clause-versions : goal.returns-clause-versions
+returns-clause-versions c = λ o n h k. c.put_in.ensures.versions o n (subst (λ (f : Kept). HasVersionRoom f.messages o (cond (same_id o c.args.origin.now) 1 0 + n)) (sym c.self.view_is) h) k

@@ -1,0 +1,44 @@
+//! The steps of a search.
+
+ghost use Rattle.std.specs.Prelude.{◌≡◌};
+
+use crate::search::SearchStep;
+use std::marker::Model;
+
+/// The steps of one key, in the order in which they are worked off, each behind those that it works on.
+#[derive(Drop)]
+pub struct SearchSteps {
+    steps: Vec<SearchStep>,
+}
+
+impl Model for SearchSteps {
+    ghost use Rattle.std.specs.Prelude.{List};
+    ghost use Rattle.imap_syntax.specs.SearchKeys.{IsKey};
+    ghost use Rattle.imap_syntax.specs.declared.search.SearchStep.{SearchStep};
+
+    ghost Value = { List SearchStep };
+
+    ghost view = { λ s. s.steps.items };
+
+    ghost invariant = { λ s. IsKey s.steps.items };
+}
+
+impl SearchSteps {
+    ghost use Rattle.imap_syntax.specs.SearchKeys.{IsKey};
+
+    /// These steps, which are a key's, and whose memory it takes over.
+    pub fn new(steps: Vec<SearchStep>) -> SearchSteps
+        requires { IsKey steps.items }
+        ensures { result ≡ steps.items }
+    {
+        SearchSteps { steps }
+    }
+
+    /// Them, in their order: those of a key.
+    pub fn as_slice(&self) -> &[SearchStep]
+        ensures steps { result.now ≡ self.now }
+        ensures key { IsKey self.now }
+    {
+        &self.steps
+    }
+}

@@ -1,0 +1,61 @@
+ghost use Rattle.std.specs.Prelude.{◌≡◌, ◌↔◌, IfOk, IsTrue};
+
+use std::alloc::{AllocError, Global};
+use std::marker::Model;
+use std::sync::ArcSlice;
+
+/// A message's text. Its copies share one memory, which is given back with the last of them.
+#[derive(Drop)]
+pub struct Text {
+    octets: ArcSlice<u8>,
+}
+
+impl Model for Text {
+    ghost use Rattle.std.specs.Prelude.{ℕ, List};
+    ghost use Rattle.std.specs.Arc.{arc_slice_items};
+
+    ghost Value = { List ℕ };
+
+    ghost view = { λ t. arc_slice_items t.octets };
+}
+
+impl Text {
+    /// The text of these octets, whose memory it takes over; `Err` where there is no memory to share them.
+    pub fn new(octets: Vec<u8>) -> Result<Text, AllocError>
+        ensures { IfOk result (λ text. text ≡ octets.items) }
+    {
+        Ok(Text {
+            octets: ArcSlice::from_vec(octets)?,
+        })
+    }
+
+    /// The text of a copy of these octets; `Err` where there is no memory for it.
+    pub fn copied_from(alloc: Global, octets: &[u8]) -> Result<Text, AllocError>
+        ensures { IfOk result (λ text. text ≡ octets.now) }
+    {
+        Text::new(octets.to_vec(alloc)?)
+    }
+
+    /// The octets.
+    pub fn as_bytes(&self) -> &[u8]
+        ensures { result.now ≡ self.now }
+    {
+        self.octets.as_slice()
+    }
+
+    /// Whether both have the same octets.
+    pub fn same(&self, other: &Text) -> bool
+        ensures { IsTrue result ↔ (self.now ≡ other.now) }
+    {
+        self.as_bytes() == other.as_bytes()
+    }
+
+    /// The same text, in the same memory. `Err` where so many copies share it that they can't be counted.
+    pub fn copy(&self) -> Result<Text, AllocError>
+        ensures { IfOk result (λ copied. copied ≡ self.now) }
+    {
+        Ok(Text {
+            octets: self.octets.clone()?,
+        })
+    }
+}

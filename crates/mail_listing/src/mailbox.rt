@@ -1,0 +1,144 @@
+//! A folder's messages, lent by what keeps them.
+
+ghost use Rattle.std.specs.Prelude.{◌≡◌, option_map};
+ghost use Rattle.mail_listing.specs.Listing.{listed};
+ghost use Rattle.mail_listing.specs.Telling.{kept_at, nothing_told, numbered, told, told_by, told_in, versions_in};
+
+use crate::row::Row;
+use entry_table::Entry;
+use imap_types::{DateTime, Text};
+use indexmap::IndexMap;
+use message_versions::{Version, Versions};
+use tags_clocks::OpId;
+
+/// The date and text of an Append.
+#[derive(Drop)]
+pub struct Letter {
+    /// When it was received (RFC 9051, section 2.3.3).
+    pub date: DateTime,
+    /// Its octets.
+    pub text: Text,
+}
+
+/// A folder's messages as they are kept, lent. Versions stand apart from dates and texts, since an origin's Append may come after a
+/// Store that names it, and may be of another folder.
+#[derive(Clone, Copy)]
+pub struct Mailbox<'a> {
+    /// The versions of each message by its origin, ascending by id; None where the folder has no messages.
+    pub messages: Option<&'a IndexMap<OpId, Vec<Version>>>,
+    /// The dates and texts of all Appends, by their ids.
+    pub letters: &'a IndexMap<OpId, Letter>,
+}
+
+/// A message as operations to come leave it, with versions of its own.
+#[derive(Drop)]
+pub struct HeldMessage<'a> {
+    /// Its versions, ascending by id.
+    pub versions: Vec<Version>,
+    /// When it was received; None where nothing tells it.
+    pub date: Option<&'a DateTime>,
+    /// Its octets; None where nothing tells them.
+    pub text: Option<&'a Text>,
+}
+
+impl<'a> Mailbox<'a> {
+    /// The row of an entry, where its message is kept. Cost: two look-ups.
+    pub fn row(&self, entry: &Entry) -> Option<Row<'a>>
+        ensures { option_map listed result ≡ option_map (numbered entry.now) (told_in self.now entry.now.origin) }
+    {
+        match versions_in(self.messages, &entry.origin) {
+            Some(versions) => Some(with_letter(
+                entry,
+                versions,
+                letter_at(self.letters, &entry.origin),
+            )),
+            None => None,
+        }
+    }
+}
+
+impl HeldMessage<'_> {
+    /// The row of an entry with this message, lent.
+    pub fn row(&self, entry: &Entry) -> Row<'_>
+        ensures { listed result ≡ numbered entry.now (told_by self.now) }
+    {
+        Row {
+            uid: entry.uid,
+            modseq: entry.modseq,
+            origin: entry.origin,
+            versions: Versions::new(&self.versions),
+            date: self.date,
+            text: self.text,
+        }
+    }
+}
+
+/// The row of an entry of which nothing is told.
+pub(crate) fn bare_row(entry: &Entry) -> Row<'static>
+    ensures { listed result ≡ numbered entry.now nothing_told }
+{
+    Row {
+        uid: entry.uid,
+        modseq: entry.modseq,
+        origin: entry.origin,
+        versions: Versions::new(&[]),
+        date: None,
+        text: None,
+    }
+}
+
+/// The versions of this origin, where it has any.
+fn versions_in<'a>(
+    messages: Option<&'a IndexMap<OpId, Vec<Version>>>,
+    origin: &OpId,
+) -> Option<Versions<'a>>
+    ensures { option_map (λ versions. versions.list.now) result ≡ versions_in (option_map (λ messages. messages.now.entries) messages.entry) origin.now }
+{
+    match messages {
+        Some(messages) => versions_at(messages, origin),
+        None => None,
+    }
+}
+
+fn versions_at<'a>(
+    messages: &'a IndexMap<OpId, Vec<Version>>,
+    origin: &OpId,
+) -> Option<Versions<'a>>
+    ensures { option_map (λ versions. versions.list.now) result ≡ option_map (λ versions. versions.items) (kept_at origin.now messages.now.entries) }
+{
+    match messages.get(origin) {
+        Some(versions) => Some(Versions::new(versions)),
+        None => None,
+    }
+}
+
+/// The date and text of this Append, where it was applied.
+fn letter_at<'a>(letters: &'a IndexMap<OpId, Letter>, id: &OpId) -> Option<&'a Letter>
+    ensures { option_map (λ letter. letter.now) result ≡ kept_at id.now letters.now.entries }
+{
+    letters.get(id)
+}
+
+/// The row of an entry with these versions, and the date and text of this Append.
+fn with_letter<'a>(entry: &Entry, versions: Versions<'a>, letter: Option<&'a Letter>) -> Row<'a>
+    ensures { listed result ≡ numbered entry.now (told versions.entry.list.now (option_map (λ letter. letter.now) letter.entry)) }
+{
+    match letter {
+        Some(letter) => Row {
+            uid: entry.uid,
+            modseq: entry.modseq,
+            origin: entry.origin,
+            versions,
+            date: Some(&letter.date),
+            text: Some(&letter.text),
+        },
+        None => Row {
+            uid: entry.uid,
+            modseq: entry.modseq,
+            origin: entry.origin,
+            versions,
+            date: None,
+            text: None,
+        },
+    }
+}

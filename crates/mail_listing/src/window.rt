@@ -1,0 +1,169 @@
+//! A window on what a mailbox keeps.
+
+ghost use Rattle.std.specs.Prelude.{◌≡◌, Some, length, option_map, IfOk};
+ghost use Rattle.std.specs.List.{slice_get};
+ghost use Rattle.mail_listing.specs.Listing.{AreRisingRows, held, listed};
+ghost use Rattle.std.specs.Option.{unwrap_or};
+ghost use Rattle.mail_listing.specs.Telling.{nothing_told, numbered, row_by, rows_by, told_by, told_in};
+
+use crate::held::{HeldRow, HeldVersions};
+use crate::mailbox::{HeldMessage, Mailbox, bare_row};
+use crate::row::Row;
+use entry_table::{Entry, EntryList, EntryOverlay};
+use indexmap::IndexMap;
+use message_versions::copied_versions;
+use std::alloc::{AllocError, Global};
+use std::marker::Model;
+use tags_clocks::OpId;
+
+/// A mailbox's entries as operations to come leave them, with its messages as they are kept and those that these operations make or
+/// change. (An entry without a message shows an empty one; those who make windows know that there is none.)
+#[derive(Drop)]
+pub struct Window<'a> {
+    entries: EntryOverlay<'a>,
+    mailbox: Mailbox<'a>,
+    fresh: IndexMap<OpId, HeldMessage<'a>>,
+}
+
+impl<'a> Model for Window<'a> {
+    ghost use Rattle.std.specs.Prelude.{List};
+    ghost use Rattle.mail_listing.specs.Listed.{Listed};
+    ghost use Rattle.mail_listing.specs.Telling.{rows_by};
+
+    ghost Value = { List Listed };
+
+    ghost view = { λ w. rows_by w.fresh.entries w.mailbox w.entries.entries };
+}
+
+impl<'a> Window<'a> {
+    /// These entries, with the messages that operations to come leave, and else those of the mailbox.
+    pub fn new(
+        entries: EntryOverlay<'a>,
+        mailbox: Mailbox<'a>,
+        fresh: IndexMap<OpId, HeldMessage<'a>>,
+    ) -> Window<'a>
+        ensures { result ≡ rows_by fresh.entry.entries mailbox.entry entries.entry.entries }
+    {
+        Window {
+            entries,
+            mailbox,
+            fresh,
+        }
+    }
+
+    /// The UIDs ascend strictly, from 1 on.
+    pub fn known(&self)
+        ensures { AreRisingRows 1 self.now }
+    {
+        self.entries.known();
+    }
+
+    /// How many messages it shows.
+    pub fn len(&self) -> usize
+        ensures { result ≡ length self.now }
+    {
+        self.entries.len()
+    }
+
+    /// The UID of the message at this place. Cost: a look-up among the pieces and one among the chunks.
+    pub fn uid_at(&self, place: usize) -> Option<u32>
+        ensures { result ≡ option_map (λ row. row.uid) (slice_get self.now place) }
+    {
+        match self.entries.get(place) {
+            Some(entry) => Some(entry.uid),
+            None => None,
+        }
+    }
+
+    /// The message at this place. Cost: as `uid_at`, and three look-ups among the messages at most.
+    pub fn row_at(&self, place: usize) -> Option<Row<'_>>
+        ensures { option_map listed result ≡ slice_get self.now place }
+    {
+        match self.entries.get(place) {
+            Some(entry) => Some(row_for(&self.fresh, &self.mailbox, &entry)),
+            None => None,
+        }
+    }
+
+    /// The same to be held, with copies of the versions that are the window's own; `Err` where there is no memory for them.
+    pub fn held_at(&self, alloc: Global, place: usize) -> Result<Option<HeldRow<'a>>, AllocError>
+        ensures { IfOk result (λ row. option_map held row ≡ slice_get self.now place) }
+    {
+        match self.entries.get(place) {
+            Some(entry) => held_for(alloc, &self.fresh, &self.mailbox, &entry),
+            None => Ok(None),
+        }
+    }
+}
+
+/// The row of an entry.
+fn row_for<'r>(
+    fresh: &'r IndexMap<OpId, HeldMessage<'_>>,
+    mailbox: &Mailbox<'r>,
+    entry: &Entry,
+) -> Row<'r>
+    ensures { listed result ≡ row_by fresh.now.entries mailbox.now entry.now }
+{
+    match fresh.get(&entry.origin) {
+        Some(message) => message.row(entry),
+        None => row_kept(mailbox, entry),
+    }
+}
+
+/// The row of an entry, as the mailbox tells it.
+fn row_kept<'r>(mailbox: &Mailbox<'r>, entry: &Entry) -> Row<'r>
+    ensures { listed result ≡ numbered entry.now (unwrap_or (told_in mailbox.now entry.now.origin) nothing_told) }
+{
+    match mailbox.row(entry) {
+        Some(row) => row,
+        None => bare_row(entry),
+    }
+}
+
+/// The row of an entry to be held; `Err` where there is no memory for its versions.
+fn held_for<'a>(
+    alloc: Global,
+    fresh: &IndexMap<OpId, HeldMessage<'a>>,
+    mailbox: &Mailbox<'a>,
+    entry: &Entry,
+) -> Result<Option<HeldRow<'a>>, AllocError>
+    ensures { IfOk result (λ row. option_map held row ≡ Some (row_by fresh.now.entries mailbox.now entry.now)) }
+{
+    match fresh.get(&entry.origin) {
+        Some(message) => held_over(alloc, entry, message),
+        None => Ok(Some(held_kept(row_kept(mailbox, entry)))),
+    }
+}
+
+/// The row to be held.
+fn held_kept<'a>(row: Row<'a>) -> HeldRow<'a>
+    ensures { held result ≡ listed row.entry }
+{
+    HeldRow {
+        uid: row.uid,
+        modseq: row.modseq,
+        origin: row.origin,
+        versions: HeldVersions::Lent(row.versions),
+        date: row.date,
+        text: row.text,
+    }
+}
+
+/// The row of an entry to be held, with its message as operations to come leave it.
+fn held_over<'a>(
+    alloc: Global,
+    entry: &Entry,
+    message: &HeldMessage<'a>,
+) -> Result<Option<HeldRow<'a>>, AllocError>
+    ensures { IfOk result (λ row. option_map held row ≡ Some (numbered entry.now (told_by message.now))) }
+{
+    let versions = copied_versions(alloc, &message.versions)?;
+    Ok(Some(HeldRow {
+        uid: entry.uid,
+        modseq: entry.modseq,
+        origin: entry.origin,
+        versions: HeldVersions::Own(versions),
+        date: message.date,
+        text: message.text,
+    }))
+}

@@ -1,0 +1,150 @@
+//! The inbox answers as one in plain lists does.
+
+use crate::fixtures::Trouble;
+use crate::generated::{LISTS, generated};
+use crate::plain_inbox::PlainInbox;
+use crate::reluctant::Hesitant;
+use causal_inbox::Inbox;
+use crdt_ops::SoundOp;
+use merge_laws::{Caused, Replicated};
+use std::alloc::{AllocError, Global};
+use std::test::Fail;
+
+/// A value that no operation changes.
+#[derive(Drop)]
+struct Unchanged;
+
+impl Replicated for Unchanged {
+    type Op = SoundOp;
+
+    ghost Meaning = { Unit {0} };
+
+    ghost meaning = { λ _. tt };
+
+    ghost effect = { λ _ _. tt };
+
+    ghost initial = { tt };
+
+    ghost is_prepared = { λ _ _. Unit {0} };
+
+    ghost first = { λ _ _ _ _. tt };
+
+    ghost commutes = { λ _ _ _ _ _ _. λ i. tt };
+
+    fn prepare(&mut self, _alloc: Global, _ops: &[SoundOp]) -> Result<(), AllocError> {
+        Ok(())
+    }
+
+    fn apply(&mut self, _op: &SoundOp) {}
+}
+
+type Filing = Inbox<Unchanged, Hesitant>;
+
+/// Whether both have the same operations in the same order.
+fn are_alike(filing: &Filing, plain: &PlainInbox) -> bool {
+    is_applied_alike(filing.op_list(), &plain.applied) && is_held_alike(filing, &plain.held)
+}
+
+fn is_applied_alike(ops: &[SoundOp], others: &[SoundOp]) -> bool {
+    for (at, op) in ops.iter().enumerate() {
+        match others.get(at) {
+            None => return false,
+            Some(other) => {
+                if !op.same(other) {
+                    return false;
+                }
+            }
+        }
+    }
+    ops.len() == others.len()
+}
+
+fn is_held_alike(filing: &Filing, others: &[SoundOp]) -> bool {
+    let held = filing.held();
+    for (at, op) in held.iter().enumerate() {
+        match others.get(at) {
+            None => return false,
+            Some(other) => {
+                if !op.same(other) {
+                    return false;
+                }
+            }
+        }
+    }
+    held.len() == others.len()
+}
+
+/// Whether both answer the delivery alike, and a drain where one stalls.
+fn is_answered_alike(
+    alloc: Global,
+    filing: &mut Filing,
+    plain: &mut PlainInbox,
+    op: SoundOp,
+) -> Result<bool, Trouble> {
+    let again = op.copy(alloc);
+    let answer = filing.deliver(alloc, op);
+    let plain_answer = plain.deliver(again?)?;
+    if answer != plain_answer {
+        return Ok(false);
+    }
+    match answer {
+        Ok(delivered) => is_drained_alike(alloc, filing, plain, delivered.stalled),
+        Err(_) => Ok(true),
+    }
+}
+
+/// Whether both have the same, and drain alike where one stalls.
+fn is_drained_alike(
+    alloc: Global,
+    filing: &mut Filing,
+    plain: &mut PlainInbox,
+    stalled: bool,
+) -> Result<bool, Trouble> {
+    if stalled && filing.drain(alloc) != plain.drain()? {
+        return Ok(false);
+    }
+    Ok(filing.held().len() == plain.held.len() && filing.op_list().len() == plain.applied.len())
+}
+
+/// Whether both answer each delivery alike, and end alike.
+fn are_answered_alike(
+    alloc: Global,
+    filing: &mut Filing,
+    plain: &mut PlainInbox,
+    ops: Vec<SoundOp>,
+) -> Result<bool, Trouble> {
+    for op in ops {
+        if !is_answered_alike(alloc, filing, plain, op)? {
+            return Ok(false);
+        }
+    }
+    Ok(are_alike(filing, plain))
+}
+
+/// Whether both answer this list alike, an application of which is refused where it has as many as its number says.
+fn is_list_alike(alloc: Global, number: u32) -> Result<bool, Trouble> {
+    let ops = generated(alloc, number)?;
+    let before = Some(number);
+    let mut filing = Inbox::new(alloc, Unchanged, Hesitant { before })?;
+    let mut plain = PlainInbox::new(alloc, before);
+    let alike = are_answered_alike(alloc, &mut filing, &mut plain, ops);
+    drop(filing);
+    drop(plain);
+    alike
+}
+
+/// The first of the lists that both answer differently.
+fn first_unlike(alloc: Global) -> Result<Option<u32>, Trouble> {
+    for number in 0..LISTS {
+        if !is_list_alike(alloc, number)? {
+            return Ok(Some(number));
+        }
+    }
+    Ok(None)
+}
+
+#[test]
+fn the_inbox_answers_as_plain_lists_do(rt: HostRuntime) -> Result<(), Fail> {
+    assert!(rt; first_unlike(rt.alloc())?.is_none());
+    Ok(())
+}

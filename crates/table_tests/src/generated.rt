@@ -1,0 +1,138 @@
+//! Lists of operations as replicas might have issued them, shuffled, repeated and forged.
+
+use crate::dice::Dice;
+use crate::drafts::draft;
+use crate::fixtures::{Trouble, sound};
+use crdt_ops::{Kind, Op, SoundOp};
+use imap_types::Name;
+use merge_laws::Caused;
+use std::alloc::Global;
+use tags_clocks::{Clock, OpId, ReplicaId};
+
+/// How many lists there are.
+pub const LISTS: u32 = 200;
+
+/// A replica that issues operations, with the clock of those that it has seen.
+#[derive(Drop)]
+struct Peer {
+    replica: ReplicaId,
+    clock: Clock,
+}
+
+/// One to six replicas that have seen nothing.
+fn peers(alloc: Global, dice: &mut Dice) -> Result<Vec<Peer>, Trouble> {
+    let mut peers = Vec::new(alloc);
+    for number in 1..7u32 {
+        if let Some(replica) = ReplicaId::new(number) {
+            let clock = Clock::new(alloc);
+            peers.push(Peer { replica, clock })?;
+        }
+    }
+    peers.truncate(dice.below(6).saturating_add(1));
+    Ok(peers)
+}
+
+/// One replica hears of all that another has seen.
+fn hear(alloc: Global, peers: &mut [Peer], at: usize, of: usize) -> Result<(), Trouble> {
+    let Some(other) = peers.get(of) else {
+        return Ok(());
+    };
+    let clock = other.clock.copy(alloc)?;
+    if let Some(peer) = peers.get_mut(at) {
+        peer.clock.join(alloc, &clock)?;
+    }
+    Ok(())
+}
+
+/// An operation with this id behind this clock.
+fn operation(alloc: Global, id: &OpId, clock: &Clock, kind: Kind) -> Result<SoundOp, Trouble> {
+    let clock = clock.copy(alloc)?;
+    sound(Op {
+        id: *id,
+        clock,
+        kind,
+    })
+}
+
+/// Issues a replica's next operation, and forges one with its id where that is asked for.
+fn issue(
+    alloc: Global,
+    dice: &mut Dice,
+    peer: &mut Peer,
+    ops: &mut Vec<SoundOp>,
+) -> Result<(), Trouble> {
+    let number = peer.clock.get(peer.replica).saturating_add(1);
+    let Some(id) = OpId::new(peer.replica, number) else {
+        return Err(Trouble::NotTheForm);
+    };
+    let kind = draft(alloc, dice, &peer.clock, ops)?;
+    ops.push(operation(alloc, &id, &peer.clock, kind)?)?;
+    if dice.below(16) == 0 {
+        forge(alloc, &id, &peer.clock, ops)?;
+    }
+    peer.clock.raise(id.replica, number)?;
+    Ok(())
+}
+
+/// Another operation with this id.
+fn forge(alloc: Global, id: &OpId, clock: &Clock, ops: &mut Vec<SoundOp>) -> Result<(), Trouble> {
+    let folder = Name::copied_from(alloc, b"forged")?;
+    ops.push(operation(alloc, id, clock, Kind::Create { folder })?)?;
+    Ok(())
+}
+
+/// Lets one of the replicas issue, which has heard of another's before as often as not.
+fn step(
+    alloc: Global,
+    dice: &mut Dice,
+    peers: &mut [Peer],
+    ops: &mut Vec<SoundOp>,
+) -> Result<(), Trouble> {
+    let at = dice.below(peers.len());
+    if dice.below(2) == 0 {
+        let of = dice.below(peers.len());
+        hear(alloc, peers, at, of)?;
+    }
+    match peers.get_mut(at) {
+        None => Ok(()),
+        Some(peer) => issue(alloc, dice, peer, ops),
+    }
+}
+
+/// Repeats one operation in sixteen.
+fn repeat(alloc: Global, dice: &mut Dice, ops: &mut Vec<SoundOp>) -> Result<(), Trouble> {
+    for _ in 0..ops.len() / 16 {
+        let at = dice.below(ops.len());
+        if let Some(op) = ops.get(at) {
+            let again = op.copy(alloc)?;
+            ops.push(again)?;
+        }
+    }
+    Ok(())
+}
+
+/// Exchanges each operation with one behind it, none further than a reach that differs from list to list.
+fn shuffle(dice: &mut Dice, ops: &mut [SoundOp]) {
+    let reach = dice.below(ops.len()).saturating_add(1);
+    for at in 0..ops.len() {
+        let other = at.saturating_add(dice.below(reach));
+        if at < ops.len() && other < ops.len() {
+            ops.swap(at, other);
+        }
+    }
+}
+
+/// The list of this number, of at most 300 operations, as they are delivered. Few lists are long.
+pub fn generated(alloc: Global, number: u32) -> Result<Vec<SoundOp>, Trouble> {
+    let mut dice = Dice::new(number);
+    let mut peers = peers(alloc, &mut dice)?;
+    let mut ops = Vec::new(alloc);
+    let most = if number % 8 == 0 { 260 } else { 60 };
+    for _ in 0..dice.below(most).saturating_add(1) {
+        step(alloc, &mut dice, &mut peers, &mut ops)?;
+    }
+    repeat(alloc, &mut dice, &mut ops)?;
+    shuffle(&mut dice, &mut ops);
+    ops.truncate(300);
+    Ok(ops)
+}

@@ -1,0 +1,26 @@
+//! Tests of tables against plain lists: 200 generated lists of operations are delivered to an inbox in plain lists too, and told by
+//! folders, subscriptions, UIDs and mod-sequences in plain lists.
+#![tactic(auto)]
+
+#[cfg(test)]
+mod dice;
+#[cfg(test)]
+mod drafts;
+#[cfg(test)]
+mod filed_inbox;
+#[cfg(test)]
+mod fixtures;
+#[cfg(test)]
+mod generated;
+#[cfg(test)]
+mod plain_charts;
+#[cfg(test)]
+mod plain_inbox;
+#[cfg(test)]
+mod plain_mailboxes;
+#[cfg(test)]
+mod reluctant;
+#[cfg(test)]
+mod shown;
+#[cfg(test)]
+mod tables;

@@ -1,0 +1,200 @@
+//! UIDs, UIDVALIDITY and mod-sequences in plain lists: each operation goes over all messages of its folder.
+
+use crate::drafts::added_origin;
+use crate::fixtures::Trouble;
+use crate::plain_mailboxes::PlainMailboxes;
+use crdt_ops::{Kind, Op};
+use imap_types::Name;
+use std::alloc::{AllocError, Global};
+use tags_clocks::OpId;
+
+/// A message with its numbers.
+#[derive(Drop)]
+pub struct PlainLine {
+    /// Its origin.
+    pub origin: OpId,
+    /// Its UID.
+    pub uid: u32,
+    /// Its mod-sequence.
+    pub modseq: u64,
+}
+
+/// The numbers of a folder.
+#[derive(Drop)]
+struct PlainChart {
+    folder: Name,
+    there: bool,
+    k: u32,
+    uidnext: u32,
+    highest: u64,
+    lines: Vec<PlainLine>,
+}
+
+/// What a replica whose counters begin at 1 keeps, in plain lists.
+#[derive(Drop)]
+pub struct PlainReplica {
+    /// Its number.
+    number: u32,
+    next_k: u32,
+    /// Its folders and subscriptions.
+    pub mailboxes: PlainMailboxes,
+    charts: Vec<PlainChart>,
+}
+
+impl PlainReplica {
+    /// The replica of this number, that has applied nothing.
+    pub fn new(alloc: Global, number: u32) -> Result<PlainReplica, AllocError> {
+        let mut charts = Vec::new(alloc);
+        charts.push(chart_of(alloc, &Name::inbox(alloc)?, true)?)?;
+        Ok(PlainReplica {
+            number,
+            next_k: 1,
+            mailboxes: PlainMailboxes::new(alloc),
+            charts,
+        })
+    }
+
+    /// Applies an operation.
+    pub fn apply(&mut self, alloc: Global, op: &Op) -> Result<(), Trouble> {
+        let lost = self.mailboxes.losing(alloc, op)?;
+        self.mailboxes.apply(alloc, op)?;
+        match &op.kind {
+            Kind::Subscribe { .. } => Ok(()),
+            Kind::Unsubscribe { .. } => Ok(()),
+            _ => self.note(alloc, op, lost.as_slice()),
+        }
+    }
+
+    /// Brings the folder's chart up to an operation that was applied, by which these origins lost a version.
+    fn note(&mut self, alloc: Global, op: &Op, lost: &[OpId]) -> Result<(), Trouble> {
+        let folder = op.kind.name();
+        let there = self.mailboxes.exists(folder);
+        let at = match place_of(&self.charts, folder) {
+            Some(at) => at,
+            None => {
+                self.charts.push(chart_of(alloc, folder, false)?)?;
+                self.charts.len().saturating_sub(1)
+            }
+        };
+        match self.charts.get_mut(at) {
+            None => Ok(()),
+            Some(chart) => {
+                if there && !chart.there {
+                    chart.k = self.next_k;
+                    self.next_k = self.next_k.saturating_add(1);
+                }
+                step(chart, &self.mailboxes, there, op, lost)
+            }
+        }
+    }
+
+    /// The UIDVALIDITY of a folder that is there.
+    pub fn uidvalidity(&self, folder: &Name) -> Option<u32> {
+        if folder.as_bytes() == b"INBOX".as_slice() {
+            return Some(self.number);
+        }
+        match self.chart(folder) {
+            Some(chart) if chart.there => {
+                Some(chart.k.saturating_mul(65536).saturating_add(self.number))
+            }
+            _ => None,
+        }
+    }
+
+    /// UIDNEXT and HIGHESTMODSEQ of the folder.
+    pub fn counters(&self, folder: &Name) -> (u32, u64) {
+        match self.chart(folder) {
+            Some(chart) => (chart.uidnext, chart.highest),
+            None => (1, 1),
+        }
+    }
+
+    /// The folder's messages with their numbers, by ascending UIDs.
+    pub fn lines(&self, folder: &Name) -> &[PlainLine] {
+        match self.chart(folder) {
+            Some(chart) => &chart.lines,
+            None => &[],
+        }
+    }
+
+    /// The folder's chart, once an operation was about the folder.
+    fn chart(&self, folder: &Name) -> Option<&PlainChart> {
+        for chart in &self.charts {
+            if chart.folder.same(folder) {
+                return Some(chart);
+            }
+        }
+        None
+    }
+}
+
+fn chart_of(alloc: Global, folder: &Name, there: bool) -> Result<PlainChart, AllocError> {
+    Ok(PlainChart {
+        folder: folder.copy(alloc)?,
+        there,
+        k: 1,
+        uidnext: 1,
+        highest: 1,
+        lines: Vec::new(alloc),
+    })
+}
+
+fn place_of(charts: &[PlainChart], folder: &Name) -> Option<usize> {
+    for (at, chart) in charts.iter().enumerate() {
+        if chart.folder.same(folder) {
+            return Some(at);
+        }
+    }
+    None
+}
+
+/// An operation about the chart's folder, which is there behind it or not.
+fn step(
+    chart: &mut PlainChart,
+    mailboxes: &PlainMailboxes,
+    there: bool,
+    op: &Op,
+    lost: &[OpId],
+) -> Result<(), Trouble> {
+    chart.there = there;
+    if !there {
+        chart.uidnext = 1;
+        chart.highest = 1;
+        chart.lines.clear();
+        return Ok(());
+    }
+    chart.highest = chart.highest.saturating_add(1);
+    let added = added_origin(op);
+    renew(&mut chart.lines, lost, &added, chart.highest);
+    let folder = &chart.folder;
+    chart
+        .lines
+        .retain(|line| mailboxes.has_version(folder, &line.origin));
+    match added {
+        Some(origin) => begin(chart, &origin),
+        None => Ok(()),
+    }
+}
+
+/// The messages that lose a version and the one that gets one have this mod-sequence.
+fn renew(lines: &mut [PlainLine], lost: &[OpId], added: &Option<OpId>, modseq: u64) {
+    for line in lines.iter_mut() {
+        if *added == Some(line.origin) || lost.iter().any(|origin| *origin == line.origin) {
+            line.modseq = modseq;
+        }
+    }
+}
+
+/// A message that isn't there yet gets the next UID.
+fn begin(chart: &mut PlainChart, origin: &OpId) -> Result<(), Trouble> {
+    if chart.lines.iter().any(|line| line.origin == *origin) {
+        return Ok(());
+    }
+    chart.lines.push(PlainLine {
+        origin: *origin,
+        uid: chart.uidnext,
+        modseq: chart.highest,
+    })?;
+    chart.uidnext = chart.uidnext.saturating_add(1);
+    Ok(())
+}

@@ -1,0 +1,165 @@
+//! An inbox in plain lists: it looks through all that it holds for what is ripe, and through all that it received for an id.
+
+ghost use Rattle.std.specs.Prelude.{◌<◌, ◌≤◌, length, IfSome};
+
+use crate::fixtures::Trouble;
+use crate::reluctant::is_refused;
+use causal_inbox::{Arrival, DeliverFault, Delivered, Drained, find_in};
+use crdt_ops::SoundOp;
+use merge_laws::Caused;
+use std::alloc::Global;
+use tags_clocks::{Clock, OpId};
+
+/// What an inbox answers to a delivery.
+pub type Answer = Result<Delivered, DeliverFault>;
+
+/// Operations in plain lists.
+#[derive(Drop)]
+pub struct PlainInbox {
+    /// The applied operations, in their order.
+    pub applied: Vec<SoundOp>,
+    /// The held ones, by ascending ids.
+    pub held: Vec<SoundOp>,
+    /// The clock of those applied.
+    clock: Clock,
+    /// The applications before the one for which there is no memory; there is, where it is `None`.
+    before: Option<u32>,
+}
+
+impl PlainInbox {
+    /// Nothing received; one application behind so many is refused.
+    pub fn new(alloc: Global, before: Option<u32>) -> PlainInbox {
+        PlainInbox {
+            applied: Vec::new(alloc),
+            held: Vec::new(alloc),
+            clock: Clock::new(alloc),
+            before,
+        }
+    }
+
+    /// Receives an operation.
+    pub fn deliver(&mut self, op: SoundOp) -> Result<Answer, Trouble> {
+        let known = self.is_known(&op);
+        let id = op.id();
+        match known {
+            None => self.receive(op),
+            Some(true) => {
+                drop(op);
+                Ok(Ok(Delivered {
+                    arrival: Arrival::Repeat,
+                    stalled: self.is_stalled(),
+                }))
+            }
+            Some(false) => {
+                drop(op);
+                Ok(Err(DeliverFault::Conflict { id }))
+            }
+        }
+    }
+
+    /// Whether the operation that was received with this one's id is the same, if one was.
+    fn is_known(&self, op: &SoundOp) -> Option<bool> {
+        match find_in(&self.applied, op.id()) {
+            Some(known) => Some(known.same(op)),
+            None => {
+                let known = find_in(&self.held, op.id())?;
+                Some(known.same(op))
+            }
+        }
+    }
+
+    fn receive(&mut self, op: SoundOp) -> Result<Answer, Trouble> {
+        if is_ripe(&self.clock, &op) {
+            self.receive_ripe(op)
+        } else {
+            self.hold(op)
+        }
+    }
+
+    fn receive_ripe(&mut self, op: SoundOp) -> Result<Answer, Trouble> {
+        if is_refused(&mut self.before) {
+            drop(op);
+            return Ok(Err(DeliverFault::NoMemory));
+        }
+        self.apply(op)?;
+        let drained = self.drain()?;
+        Ok(Ok(Delivered {
+            arrival: Arrival::Applied(drained.applied.saturating_add(1)),
+            stalled: drained.stalled,
+        }))
+    }
+
+    fn hold(&mut self, op: SoundOp) -> Result<Answer, Trouble> {
+        let at = place_for(&self.held, op.id());
+        self.held.insert(at, op)?;
+        Ok(Ok(Delivered {
+            arrival: Arrival::Held,
+            stalled: self.is_stalled(),
+        }))
+    }
+
+    fn is_stalled(&self) -> bool {
+        first_ripe(&self.clock, &self.held).is_some()
+    }
+
+    fn apply(&mut self, op: SoundOp) -> Result<(), Trouble> {
+        let id = op.id();
+        self.applied.push(op)?;
+        self.clock.raise(id.replica, id.number.get())?;
+        Ok(())
+    }
+
+    /// Applies held operations that are ripe, the least id first, until none is ripe or one is refused.
+    pub fn drain(&mut self) -> Result<Drained, Trouble> {
+        let count = self.held.len();
+        for applied in 0..count {
+            let Some(at) = first_ripe(&self.clock, &self.held) else {
+                return Ok(Drained {
+                    applied,
+                    stalled: false,
+                });
+            };
+            if is_refused(&mut self.before) {
+                return Ok(Drained {
+                    applied,
+                    stalled: true,
+                });
+            }
+            let op = self.held.remove(at);
+            self.apply(op)?;
+        }
+        Ok(Drained {
+            applied: count,
+            stalled: false,
+        })
+    }
+}
+
+/// Whether the operation may come next, behind those that the clock covers.
+fn is_ripe(clock: &Clock, op: &SoundOp) -> bool {
+    op.clock().is_within(clock) && !clock.covers(op.id())
+}
+
+/// The place of the first operation that may come next.
+fn first_ripe(clock: &Clock, ops: &[SoundOp]) -> Option<usize>
+    ensures { IfSome result (λ at. at < length ops.now) }
+{
+    for (at, op) in ops.iter().enumerate() {
+        if is_ripe(clock, op) {
+            return Some(at);
+        }
+    }
+    None
+}
+
+/// The number of operations in front whose ids are less.
+fn place_for(ops: &[SoundOp], id: OpId) -> usize
+    ensures { result ≤ length ops.now }
+{
+    for (at, op) in ops.iter().enumerate() {
+        if op.id() >= id {
+            return at;
+        }
+    }
+    ops.len()
+}

@@ -1,0 +1,279 @@
+//! Folders and subscriptions in plain lists: each answer looks through all tags.
+
+use crate::fixtures::Trouble;
+use crdt_ops::{Ids, Kind, Message, Op, place_name};
+use imap_types::{DateTime, Flags, Name, Text};
+use message_versions::add_flags;
+use std::alloc::{AllocError, Global};
+use tags_clocks::OpId;
+
+/// A present folder tag, or subscription tag.
+#[derive(Drop)]
+struct PlainTag {
+    name: Name,
+    id: OpId,
+}
+
+/// A present message tag.
+#[derive(Drop)]
+struct PlainVersion {
+    folder: Name,
+    id: OpId,
+    origin: OpId,
+    flags: Flags,
+}
+
+/// The date and text of an Append.
+#[derive(Drop)]
+struct PlainLetter {
+    id: OpId,
+    date: DateTime,
+    text: Text,
+}
+
+/// Folders and subscriptions in plain lists.
+#[derive(Drop)]
+pub struct PlainMailboxes {
+    folder_tags: Vec<PlainTag>,
+    versions: Vec<PlainVersion>,
+    letters: Vec<PlainLetter>,
+    subscriptions: Vec<PlainTag>,
+}
+
+impl PlainMailboxes {
+    /// No folders but INBOX, no messages and no subscriptions.
+    pub fn new(alloc: Global) -> PlainMailboxes {
+        PlainMailboxes {
+            folder_tags: Vec::new(alloc),
+            versions: Vec::new(alloc),
+            letters: Vec::new(alloc),
+            subscriptions: Vec::new(alloc),
+        }
+    }
+
+    /// Applies an operation: the tags that it removes go, and then the one that it adds comes.
+    pub fn apply(&mut self, alloc: Global, op: &Op) -> Result<(), Trouble> {
+        self.forget(op);
+        self.add(alloc, op)
+    }
+
+    fn forget(&mut self, op: &Op) {
+        let name = op.kind.name();
+        let removed = op.kind.removed();
+        match &op.kind {
+            Kind::Unsubscribe { .. } => forget_tags(&mut self.subscriptions, name, removed),
+            Kind::Delete { .. } => {
+                forget_tags(&mut self.folder_tags, name, removed);
+                forget_versions(&mut self.versions, name, removed);
+            }
+            _ => forget_versions(&mut self.versions, name, removed),
+        }
+    }
+
+    fn add(&mut self, alloc: Global, op: &Op) -> Result<(), Trouble> {
+        let name = op.kind.name();
+        match &op.kind {
+            Kind::Create { .. } => add_tag(alloc, &mut self.folder_tags, name, op.id),
+            Kind::Expunge { .. } => add_tag(alloc, &mut self.folder_tags, name, op.id),
+            Kind::Subscribe { .. } => add_tag(alloc, &mut self.subscriptions, name, op.id),
+            Kind::Append {
+                flags,
+                date,
+                text,
+                ..
+            } => {
+                add_version(alloc, &mut self.versions, name, op.id, op.id, flags)?;
+                add_letter(&mut self.letters, op.id, date, text)
+            }
+            Kind::Store { flags, origin, .. } => {
+                add_version(alloc, &mut self.versions, name, op.id, *origin, flags)
+            }
+            _ => Ok(()),
+        }
+    }
+
+    /// Whether the folder is there: INBOX, or one with a tag.
+    pub fn exists(&self, folder: &Name) -> bool {
+        folder.as_bytes() == b"INBOX".as_slice()
+            || self.folder_tags.iter().any(|tag| tag.name.same(folder))
+            || self
+                .versions
+                .iter()
+                .any(|version| version.folder.same(folder))
+    }
+
+    /// Whether the origin has a version in the folder.
+    pub fn has_version(&self, folder: &Name, origin: &OpId) -> bool {
+        self.versions.iter().any(|version| version.origin == *origin && version.folder.same(folder))
+    }
+
+    /// The names of the folders, ascending.
+    pub fn names(&self, alloc: Global) -> Result<Vec<Name>, AllocError> {
+        let mut names = Vec::new(alloc);
+        place_name(alloc, &mut names, &Name::inbox(alloc)?)?;
+        place_names(alloc, &mut names, &self.folder_tags)?;
+        for version in &self.versions {
+            place_name(alloc, &mut names, &version.folder)?;
+        }
+        Ok(names)
+    }
+
+    /// The names that are subscribed to, ascending.
+    pub fn subscribed_names(&self, alloc: Global) -> Result<Vec<Name>, AllocError> {
+        let mut names = Vec::new(alloc);
+        place_names(alloc, &mut names, &self.subscriptions)?;
+        Ok(names)
+    }
+
+    /// The ids of the folder's folder tags, ascending.
+    pub fn folder_tags(&self, alloc: Global, folder: &Name) -> Result<Ids, AllocError> {
+        ids_of(alloc, &self.folder_tags, folder)
+    }
+
+    /// The ids of the name's subscription tags, ascending.
+    pub fn subscription_tags(&self, alloc: Global, name: &Name) -> Result<Ids, AllocError> {
+        ids_of(alloc, &self.subscriptions, name)
+    }
+
+    /// The ids that a Delete of the folder lists.
+    pub fn delete_set(&self, alloc: Global, folder: &Name) -> Result<Ids, AllocError> {
+        let mut ids = ids_of(alloc, &self.folder_tags, folder)?;
+        for version in &self.versions {
+            if version.folder.same(folder) {
+                ids.insert(version.id)?;
+            }
+        }
+        Ok(ids)
+    }
+
+    /// The origins that lose a version by an operation, ascending.
+    pub fn losing(&self, alloc: Global, op: &Op) -> Result<Ids, AllocError> {
+        let mut origins = Ids::none(alloc);
+        for version in &self.versions {
+            if version.folder.same(op.kind.name()) && lists(op.kind.removed(), version.id) {
+                origins.insert(version.origin)?;
+            }
+        }
+        Ok(origins)
+    }
+
+    /// The folder's messages, ascending by their origins.
+    pub fn messages(&self, alloc: Global, folder: &Name) -> Result<Vec<Message>, AllocError> {
+        let mut messages = Vec::new(alloc);
+        for origin in self.origins(alloc, folder)?.as_slice() {
+            let message = self.message(alloc, folder, origin)?;
+            messages.push(message)?;
+        }
+        Ok(messages)
+    }
+
+    fn origins(&self, alloc: Global, folder: &Name) -> Result<Ids, AllocError> {
+        let mut origins = Ids::none(alloc);
+        for version in &self.versions {
+            if version.folder.same(folder) {
+                origins.insert(version.origin)?;
+            }
+        }
+        Ok(origins)
+    }
+
+    /// The folder's message of this origin, with the union of its versions' flags.
+    pub fn message(
+        &self,
+        alloc: Global,
+        folder: &Name,
+        origin: &OpId,
+    ) -> Result<Message, AllocError> {
+        let mut versions = Ids::none(alloc);
+        let mut flags = Flags::none(alloc);
+        for version in &self.versions {
+            if version.origin == *origin && version.folder.same(folder) {
+                versions.insert(version.id)?;
+                add_flags(alloc, &mut flags, &version.flags)?;
+            }
+        }
+        let (date, text) = self.letter(alloc, origin)?;
+        Ok(Message {
+            origin: *origin,
+            versions,
+            flags,
+            date,
+            text,
+        })
+    }
+
+    fn letter(&self, alloc: Global, origin: &OpId) -> Result<(DateTime, Text), AllocError> {
+        for letter in &self.letters {
+            if letter.id == *origin {
+                return Ok((letter.date.copy(), letter.text.copy()?));
+            }
+        }
+        Ok((DateTime::epoch(), Text::new(Vec::new(alloc))?))
+    }
+}
+
+fn lists(ids: &[OpId], id: OpId) -> bool {
+    ids.iter().any(|other| *other == id)
+}
+
+fn forget_tags(tags: &mut Vec<PlainTag>, name: &Name, ids: &[OpId]) {
+    tags.retain(|tag| !(tag.name.same(name) && lists(ids, tag.id)));
+}
+
+fn forget_versions(versions: &mut Vec<PlainVersion>, folder: &Name, ids: &[OpId]) {
+    versions.retain(|version| !(version.folder.same(folder) && lists(ids, version.id)));
+}
+
+fn add_tag(alloc: Global, tags: &mut Vec<PlainTag>, name: &Name, id: OpId) -> Result<(), Trouble> {
+    let name = name.copy(alloc)?;
+    tags.push(PlainTag { name, id })?;
+    Ok(())
+}
+
+fn add_version(
+    alloc: Global,
+    versions: &mut Vec<PlainVersion>,
+    folder: &Name,
+    id: OpId,
+    origin: OpId,
+    flags: &Flags,
+) -> Result<(), Trouble> {
+    let folder = folder.copy(alloc)?;
+    let flags = flags.copy(alloc)?;
+    versions.push(PlainVersion {
+        folder,
+        id,
+        origin,
+        flags,
+    })?;
+    Ok(())
+}
+
+fn add_letter(
+    letters: &mut Vec<PlainLetter>,
+    id: OpId,
+    date: &DateTime,
+    text: &Text,
+) -> Result<(), Trouble> {
+    let date = date.copy();
+    let text = text.copy()?;
+    letters.push(PlainLetter { id, date, text })?;
+    Ok(())
+}
+
+fn place_names(alloc: Global, names: &mut Vec<Name>, tags: &[PlainTag]) -> Result<(), AllocError> {
+    for tag in tags {
+        place_name(alloc, names, &tag.name)?;
+    }
+    Ok(())
+}
+
+fn ids_of(alloc: Global, tags: &[PlainTag], name: &Name) -> Result<Ids, AllocError> {
+    let mut ids = Ids::none(alloc);
+    for tag in tags {
+        if tag.name.same(name) {
+            ids.insert(tag.id)?;
+        }
+    }
+    Ok(ids)
+}

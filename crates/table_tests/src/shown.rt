@@ -1,0 +1,98 @@
+//! Whether two lists of what is told are alike.
+
+use crate::fixtures::Trouble;
+use crate::plain_charts::{PlainLine, PlainReplica};
+use crdt_ops::{Ids, Message};
+use imap_types::Name;
+use mail_listing::{Row, Rows};
+use std::alloc::Global;
+
+/// Whether both are the same names in the same order.
+pub fn are_names_alike(names: &[Name], others: &[Name]) -> bool {
+    for (at, name) in names.iter().enumerate() {
+        match others.get(at) {
+            None => return false,
+            Some(other) => {
+                if !name.same(other) {
+                    return false;
+                }
+            }
+        }
+    }
+    names.len() == others.len()
+}
+
+/// Whether both are the same ids.
+pub fn are_ids_alike(ids: &Ids, others: &Ids) -> bool {
+    ids.same(others)
+}
+
+/// Whether both are the same messages in the same order.
+pub fn are_messages_alike(messages: &[Message], others: &[Message]) -> bool {
+    for (at, message) in messages.iter().enumerate() {
+        match others.get(at) {
+            None => return false,
+            Some(other) => {
+                if !message.same(other) {
+                    return false;
+                }
+            }
+        }
+    }
+    messages.len() == others.len()
+}
+
+/// Whether the rows are those of the folder's messages with greater mod-sequences than this.
+pub fn are_rows_alike(
+    alloc: Global,
+    rows: &Rows<'_>,
+    plain: &PlainReplica,
+    name: &Name,
+    since: u64,
+) -> Result<bool, Trouble> {
+    let mut place = 0usize;
+    for line in plain.lines(name) {
+        if line.modseq > since {
+            let message = plain.mailboxes.message(alloc, name, &line.origin)?;
+            if !is_row_alike(alloc, rows, place, line, &message)? {
+                return Ok(false);
+            }
+            place = place.saturating_add(1);
+        }
+    }
+    Ok(rows.count() as usize == place)
+}
+
+/// Whether the row at this place is that of the message.
+fn is_row_alike(
+    alloc: Global,
+    rows: &Rows<'_>,
+    place: usize,
+    line: &PlainLine,
+    message: &Message,
+) -> Result<bool, Trouble> {
+    match rows.row_at(place) {
+        None => Ok(false),
+        Some(row) => {
+            let flags = row.versions.flags(alloc)?;
+            Ok(flags.same(&message.flags) && has_numbers(&row, line) && has_text(&row, message))
+        }
+    }
+}
+
+fn has_numbers(row: &Row<'_>, line: &PlainLine) -> bool {
+    row.origin == line.origin && row.uid == line.uid && row.modseq == line.modseq
+}
+
+/// Whether the row has the message's versions, date and text.
+fn has_text(row: &Row<'_>, message: &Message) -> bool {
+    let versions = row.versions.as_slice();
+    for (at, version) in versions.iter().enumerate() {
+        if message.versions.as_slice().get(at).copied() != Some(version.id) {
+            return false;
+        }
+    }
+    versions.len() == message.versions.as_slice().len()
+        && row.shown_date().same(&message.date)
+        && row.shown_text() == message.text.as_bytes()
+}

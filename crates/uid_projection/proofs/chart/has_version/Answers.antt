@@ -1,0 +1,5 @@
+use Rattle.uid_projection.proofs.Coming.{has_as}
+use Rattle.uid_projection.proofs.chart.has_version.Goals as goal
+
+pub returns : goal.returns
+returns c = λ list m. has_as c.args.folder.now list c.args.origin.now c.has_version.result (c.has_version.ensures.set list m)

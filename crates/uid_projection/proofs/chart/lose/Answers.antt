@@ -1,0 +1,37 @@
+use Rattle.std.proofs.Common.{◌∙◌, Bool, Option, refl, ap, sym, subst, arith}
+use Rattle.std.proofs.lemmas.List.{take_all}
+use Rattle.tags_clocks.specs.declared.id.OpId.{OpId}
+use Rattle.uid_projection.specs.Lines.{has_version}
+use Rattle.uid_projection.specs.Moves.{AreApart, loses, moved}
+use Rattle.uid_projection.specs.Table.{origin_at}
+use Rattle.uid_projection.proofs.Advancing.{apart_moved, lost_more, moved_still}
+use Rattle.uid_projection.proofs.chart.lose.Goals as goal
+
+pub loop-id-init : goal.loop-id-init
+loop-id-init c = record {
+  entries = λ list m a. moved_still _ (λ g. has_version c.args.folder.now g list) c.args.modseq c.args.entries.now.entries (λ g. refl);
+  room = omega arith;
+}
+
+pub loop-id-preserved : goal.loop-id-preserved
+loop-id-preserved c =
+    let h = c.loop-id.invariant in
+    let p = h.room in
+    let q = c.lose_one.ensures.room in
+    record {
+      entries = λ list m a.
+          let s : OpId → Bool = λ g. has_version c.args.folder.now g list in
+          let f : OpId → Option OpId = origin_at c.args.versions.now.entries in
+          let old = h.entries list m a in
+          let apart = subst AreApart (sym old) (apart_moved _ s c.args.modseq c.args.entries.now.entries a) in
+          c.lose_one.ensures.entries list m apart
+          ∙ ap (moved _ s c.args.modseq) old
+          ∙ lost_more f s c.args.modseq c.args.entries.now.entries c.args.removed.now c.loop-id.id-index c.id-item.result c.loop-id-test.true c.id-item.is;
+      room = omega (arith, p, q);
+    }
+
+pub returns-clause-entries : goal.returns-clause-entries
+returns-clause-entries c = λ list m a.
+    let stop = c.loop-id-test.false in
+    c.loop-id.invariant.entries list m a
+    ∙ ap (λ ids. moved (loses (origin_at c.args.versions.now.entries) ids) (λ g. has_version c.args.folder.now g list) c.args.modseq c.args.entries.now.entries) (take_all c.loop-id.id-index c.args.removed.now (omega (arith, stop)))

@@ -1,0 +1,20 @@
+use Rattle.std.proofs.Common.{◌∙◌, Bool, ap, sym}
+use Rattle.tags_clocks.specs.declared.id.OpId.{OpId}
+use Rattle.crdt_ops.specs.Order.{is_some_id}
+use Rattle.uid_projection.specs.Lines.{has_version}
+use Rattle.uid_projection.specs.Moves.{moved}
+use Rattle.uid_projection.proofs.Advancing.{moved_by_one, moved_still}
+use Rattle.uid_projection.proofs.chart.lose_one.Goals as goal
+
+pub returns-in-Some-clause-entries : goal.returns-in-Some-clause-entries
+returns-in-Some-clause-entries c = λ list m a.
+    let g = c.in-Some.origin in
+    let es = c.args.entries.now.entries in
+    let s : OpId → Bool = λ x. has_version c.args.folder.now x list in
+    c.settle.ensures.entries a
+    ∙ moved_by_one g c.has_version.result s c.args.modseq es (c.has_version.ensures list m)
+    ∙ (λ k. moved (λ x. is_some_id x ((sym c.in-Some.is ∙ c.origin_at.ensures) k)) s c.args.modseq es)
+
+pub returns-in-None-clause-entries : goal.returns-in-None-clause-entries
+returns-in-None-clause-entries c = λ list m a.
+    moved_still _ (λ x. has_version c.args.folder.now x list) c.args.modseq c.args.entries.now.entries (λ g. ap (is_some_id g) (sym c.origin_at.ensures ∙ c.in-None.is))

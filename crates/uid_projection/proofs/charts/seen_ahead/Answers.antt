@@ -1,0 +1,14 @@
+use Rattle.std.proofs.Common.{◌∙◌, Option}
+use Rattle.tags_clocks.specs.declared.id.OpId.{OpId}
+use Rattle.mail_listing.specs.Telling.{Told, told_at}
+use Rattle.folder_ahead.specs.Ahead.{folder_of}
+use Rattle.uid_projection.proofs.RowLemmas.{rows_seen}
+use Rattle.uid_projection.proofs.charts.seen_ahead.Goals as goal
+
+pub returns : goal.returns
+returns c = λ start list k m h s.
+    let x = c.args.chart in
+    let messages = c.in_ok-messages.messages in
+    let told : OpId → Option Told = told_at messages.fresh.entries messages.mailbox in
+    c.through.ensures ∙ c.new-window.ensures
+    ∙ rows_seen start (folder_of c.args.ahead.now) list k m told (λ g there. c.in_ok-messages.ensures k h g there) x.uidnext x.highest x.entries.entries s
