@@ -19,12 +19,23 @@ use std::collections::VecDeque;
 use tags_clocks::OpId;
 
 /// Folders with their messages, changed by operations in any causal order.
-#[derive(Drop)]
 pub struct Folders {
     by_name: IndexMap<Vec<u8>, Folder>,
     letters: IndexMap<OpId, Letter>,
     spare: VecDeque<SoundOp>,
     lists: VecDeque<Vec<Version>>,
+}
+
+// By hand, so that crates above let it go as a whole.
+impl Drop for Folders {
+    fn drop(self) {
+        let Self {
+            by_name: _,
+            letters: _,
+            spare: _,
+            lists: _,
+        } = self;
+    }
 }
 
 impl Folders {

@@ -36,10 +36,19 @@ use tags_clocks::{Clock, ReplicaId};
 use uid_projection::Start;
 
 /// A replica with its sessions. It answers from its own state alone.
-#[derive(Drop)]
 pub struct Node {
     replica: Replica,
     sessions: Sessions,
+}
+
+// By hand, so that crates above let it go as a whole.
+impl Drop for Node {
+    fn drop(self) {
+        let Self {
+            replica: _,
+            sessions: _,
+        } = self;
+    }
 }
 
 impl Model for Node {

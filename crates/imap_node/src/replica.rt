@@ -34,9 +34,15 @@ use tags_clocks::{Clock, ReplicaId};
 use uid_projection::{Charts, Start};
 
 /// A replica without its sessions.
-#[derive(Drop)]
 pub struct Replica {
     inbox: Inbox<Pair<Folders, Subs>, OnFirst<Charts>>,
+}
+
+// By hand, so that crates above let it go as a whole.
+impl Drop for Replica {
+    fn drop(self) {
+        let Self { inbox: _ } = self;
+    }
 }
 
 impl Model for Replica {

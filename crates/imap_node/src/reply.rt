@@ -11,9 +11,15 @@ use std::alloc::{AllocError, Global};
 use std::marker::Model;
 
 /// Answers in the order in which they are sent.
-#[derive(Drop)]
 pub struct Answers {
     answers: Vec<Answer>,
+}
+
+// By hand, so that crates above let it go as a whole.
+impl Drop for Answers {
+    fn drop(self) {
+        let Self { answers: _ } = self;
+    }
 }
 
 impl Model for Answers {
@@ -51,9 +57,15 @@ impl Answers {
 }
 
 /// Flags that a session set in silence, in their order (RFC 9051, section 6.4.6).
-#[derive(Drop)]
 pub struct Silents {
     silents: Vec<Silent>,
+}
+
+// By hand, so that crates above let it go as a whole.
+impl Drop for Silents {
+    fn drop(self) {
+        let Self { silents: _ } = self;
+    }
 }
 
 impl Model for Silents {
@@ -91,9 +103,15 @@ impl Silents {
 }
 
 /// Operations that a command issued, in the order of their numbers.
-#[derive(Drop)]
 pub struct Issued {
     ops: Vec<SoundOp>,
+}
+
+// By hand, so that crates above let it go as a whole.
+impl Drop for Issued {
+    fn drop(self) {
+        let Self { ops: _ } = self;
+    }
 }
 
 impl Model for Issued {

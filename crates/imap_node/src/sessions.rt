@@ -77,9 +77,15 @@ pub enum OpenFault {
 }
 
 /// The sessions of a replica by their numbers.
-#[derive(Drop)]
 pub struct Sessions {
     places: Vec<Option<Session>>,
+}
+
+// By hand, so that crates above let it go as a whole.
+impl Drop for Sessions {
+    fn drop(self) {
+        let Self { places: _ } = self;
+    }
 }
 
 impl Model for Sessions {

@@ -6,9 +6,15 @@ use crate::search::SearchStep;
 use std::marker::Model;
 
 /// The steps of one key, in the order in which they are worked off, each behind those that it works on.
-#[derive(Drop)]
 pub struct SearchSteps {
     steps: Vec<SearchStep>,
+}
+
+// By hand, so that crates above let it go as a whole.
+impl Drop for SearchSteps {
+    fn drop(self) {
+        let Self { steps: _ } = self;
+    }
 }
 
 impl Model for SearchSteps {

@@ -15,9 +15,15 @@ pub const MAX_KEYWORD_OCTETS: usize = 64;
 const INLINE: usize = 1;
 
 /// A set of keywords: each in lower case, ascending by octets, none twice (RFC 9051, section 2.3.2).
-#[derive(Drop)]
 pub struct Keywords {
     words: SmallVec<Octets, INLINE>,
+}
+
+// By hand, so that crates above let it go as a whole.
+impl Drop for Keywords {
+    fn drop(self) {
+        let Self { words: _ } = self;
+    }
 }
 
 impl Model for Keywords {

@@ -8,10 +8,16 @@ use merge_laws::Replicated;
 use std::alloc::{AllocError, Global};
 
 /// The names that are subscribed to, changed by operations in any causal order (RFC 9051, section 6.3.7).
-#[derive(Drop)]
 pub struct Subs {
     /// By their octets, the names that were subscribed to.
     tags: IndexMap<Vec<u8>, NameTags>,
+}
+
+// By hand, so that crates above let it go as a whole.
+impl Drop for Subs {
+    fn drop(self) {
+        let Self { tags: _ } = self;
+    }
 }
 
 impl Subs {

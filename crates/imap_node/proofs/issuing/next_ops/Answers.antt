@@ -30,14 +30,14 @@ loop-kind-preserved c =
     let made = c.in_ok-op.ensures {u = tt} in
     let rest = c.next.new.self.rest.items in
     let op = c.in_ok-op.op in
-    let number : c.get.result ≡ op.id.number = c.get.ensures.number ∙ ap (λ (o : Operation). o.id.number) c.op-in-loop-kind.ensures.op in
+    let number : c.get.result ≡ op.id.number = c.get.ensures.number ∙ ap (λ (o : Operation). o.id.number) c.op.ensures.op in
     let raised : IsRaised c.loop-kind.clock r op.id.number c.raise.new.self =
     subst (λ (n : ℕ). IsRaised c.loop-kind.clock r n c.raise.new.self) number
     (subst (λ (x : ℕ). IsRaised c.loop-kind.clock x c.get.result c.raise.new.self) c.id-in-loop-kind.ensures (c.in_ok-raise.ensures {u = tt}).raised) in
     subst (λ (os : List Operation). IsMade r c.args.replica.now.applied c.args.kinds.items rest os c.raise.new.self) (sym (c.in_ok-push.ensures {u = tt}).items)
     (made_more r c.args.replica.now.applied c.args.kinds.items c.in-Some.kind rest c.loop-kind.ops.items c.loop-kind.clock op c.raise.new.self
     (subst (λ (ks : List Action). IsMade r c.args.replica.now.applied c.args.kinds.items ks c.loop-kind.ops.items c.loop-kind.clock) (c.in-Some.ensures {u = tt}).steps.0 c.loop-kind.invariant)
-    made.kind made.clock (made.replica ∙ c.id.ensures) (made.number ∙ ap (λ (x : ℕ). count_of c.loop-kind.clock x + 1) c.id.ensures) c.op-in-loop-kind.ensures.sound raised)
+    made.kind made.clock (made.replica ∙ c.id.ensures) (made.number ∙ ap (λ (x : ℕ). count_of c.loop-kind.clock x + 1) c.id.ensures) c.op.ensures.sound raised)
 
 pub returns-clause-next : goal.returns-clause-next
 returns-clause-next c =
