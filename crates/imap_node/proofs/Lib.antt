@@ -16,4 +16,8 @@ pub mod MomentLemmas
 pub mod QuietLemmas
 pub mod BackLemmas
 pub mod LastingLemmas
+pub mod BesideLemmas
+pub mod FeedLemmas
+pub mod OwnLemmas
+pub mod GoingLemmas
 pub mod ThreadLemmas

@@ -1,5 +1,5 @@
-use Rattle.std.proofs.Common.{◌≡◌, ◌⊎◌, inl, inr, ℕ, Bool, true, false, List, [], ◌∷◌, ◌++◌, Option, Some, None, Vec, Global, refl, sym, ap, ◌∙◌, subst, IfOk, IfErr}
-use Rattle.std.specs.Prelude.{Result, Ok, Err, MatchResult, ◌&&◌, if◌then◌else◌}
+use Rattle.std.proofs.Common.{◌≡◌, ◌⊎◌, inl, inr, ℕ, Bool, true, false, List, [], ◌∷◌, ◌++◌, Option, Some, None, Vec, Global, refl, sym, ap, ◌∙◌, append-nil, subst, IfOk, IfErr}
+use Rattle.std.specs.Prelude.{Result, Ok, Err, MatchResult, OnErr, ◌&&◌, if◌then◌else◌}
 use Rattle.std.specs.Prelude.{length, ◌==◌}
 use Rattle.std.proofs.lemmas.Bool.{false≢true}
 use Rattle.causal_inbox.specs.Seen.{AreIssued, AreKept}
@@ -13,7 +13,7 @@ use Rattle.imap_commands.specs.declared.session.State.{State}
 use Rattle.imap_commands.specs.declared.session.State.TheVariants.{Authenticated}
 use Rattle.imap_node.specs.declared.input.Input.{Input}
 use Rattle.imap_node.specs.declared.input.Input.TheVariants as inputs
-use Rattle.imap_node.specs.declared.planning.Next.TheVariants.{Becomes, Leaves, Stays, Wakes}
+use Rattle.imap_node.specs.declared.planning.Next.TheVariants.{Goes, Leaves, Stays, Wakes}
 use Rattle.imap_node.specs.declared.planning.Prepared.{Prepared}
 use Rattle.imap_node.specs.Endings.{Course, answers_of_course}
 use Rattle.imap_node.specs.declared.planning.Answered.{Answered}
@@ -22,10 +22,20 @@ use Rattle.imap_node.specs.Rooms.{HasRoomFor}
 use Rattle.imap_node.proofs.NextLemmas.{no_cut}
 use Rattle.imap_node.specs.Commands.{is_selected, is_selecting}
 use Rattle.imap_node.specs.Operations.{CanIssueAll, IsNotReady}
-use Rattle.imap_node.specs.Plans.{IsAnswered, IsPlanned, Planned, Prepares, done_plan, next_left, place_next, plan_by, session_next}
-use Rattle.imap_node.specs.Respond.{Carries, Holds, IsRefused, IsStamp, KeepsHeld, TakesCourse, ends_idling, left, session_after, wants_of}
-use Rattle.imap_node.specs.Sessions.{IsOpen, session_at, with_session}
+use Rattle.imap_node.specs.Feeds.{IsNews}
+use Rattle.imap_node.specs.Going.{CanGo, gone_on}
+use Rattle.imap_node.specs.Plans.{CanStep, IsAnswered, IsPlanned, Planned, Prepares, done_plan, next_left, place_next, plan_by, session_next}
+use Rattle.imap_node.specs.Respond.{Carries, Holds, IsRefused, IsStamp, KeepsHeld, TakesCourse, ends_idling, leaves, left, session_after, wants_of}
+use Rattle.imap_node.specs.Sessions.{IsOpen, Places, session_at, with_session}
+use Rattle.causal_inbox.specs.Delivery.{Arrives, Refuses}
+use Rattle.causal_inbox.specs.Received.{HasGrown}
+use Rattle.causal_inbox.specs.Seen.{Seen}
+use Rattle.causal_inbox.specs.declared.answers.Arrival.{Arrival}
+use Rattle.causal_inbox.specs.declared.answers.DeliverFault.{DeliverFault}
+use Rattle.causal_inbox.proofs.Union.{arrival_grows, arrival_start}
+use Rattle.uid_projection.specs.Exhaustion.{Exhausts}
 use Rattle.imap_node.proofs.CanLemmas.{input_can}
+use Rattle.imap_node.proofs.FeedLemmas.{no_news}
 use Rattle.uid_projection.specs.declared.start.Start.{Start}
 use Rattle.uid_projection.specs.Applied.{IsApplied}
 
@@ -64,8 +74,8 @@ module _ (old : NodeState) (n : ℕ) (session : Session) (input : Input) (at : s
   done_responds : (p : Prepared) → Prepares old.start old.applied session input p → Planned old n input (done_plan n p)
   done_responds p h = λ new k.
       let after : Session = session_after old.start (old.applied ++ p.ops) session input h.answered.course in
-      let place : place_next (session_at old.sessions n) (Becomes p.answered.session) ≡ Some after =
-      ap (λ (s : Option Session). place_next s (Becomes p.answered.session)) at ∙ ap (λ (s : Session). Some s) h.answered.becomes in (
+      let place : place_next (session_at old.sessions n) (Goes p.answered.going) ≡ Some after =
+      ap (λ (s : Option Session). place_next s (Goes p.answered.going)) at ∙ ap (λ (s : Session). Some s) h.answered.becomes in (
         session,
         at,
         subst (λ (os : List Op). Carries old n session input p.answered.answers p.answered.silent os new) (sym h.copies)
@@ -109,16 +119,53 @@ refused_by_end start ops stamp state input given why s w h = elim h [ inl e ↦ 
 
 -- what an input that follows this course is answered
 pub answered_by : {E : Type 0} (start : Start) (before after : List Op) (session : Session) (input : Input) (course : Course) → TakesCourse start before after session input course → (r : Result Answered E)
-    → IfOk r (λ a. a.answers ≡ answers_of_course start after course) → IfOk r (λ a. a.silent ≡ course.silent) → IfOk r (λ a. a.session ≡ session_after start after session input course)
+    → IfOk r (λ a. a.answers ≡ answers_of_course start after course) → IfOk r (λ a. a.silent ≡ course.silent) → IfOk r (λ a. gone_on session a.going ≡ session_after start after session input course)
     → IfOk r (λ a. IsAnswered start before after session input a)
 answered_by start before after session input course taken (Ok a) p q s = record { course = course; taken = taken; answers = p; silent = q; becomes = s }
 answered_by start before after session input course taken (Err e) p q s = tt
 
+-- the next step of a session whose input was refused
+left_steps : (start : Start) (ops : List Op) (session : Session) (a b : Bool) → CanStep start ops session (if a then Leaves else (if b then Wakes else Stays))
+left_steps start ops session true b = tt
+left_steps start ops session false true = tt
+left_steps start ops session false false = tt
+
 -- a plan can be committed
 pub plan_planned : (node : NodeKept) (n : ℕ) (state : State) (input : Input) (outcome : Result Prepared Refusal) → IsOpen node.state.sessions n
-    → IfOk outcome (λ p. AreIssued (λ (o : Op). o.id) (λ o. o.clock) node.state.applied p.ops) → IfOk outcome (λ p. HasRoomFor node.state.applied node.room p.ops) → IsPlanned node (plan_by n state input outcome)
-plan_planned node n state input (Ok p) opened i r = record { is_open = opened; issued = i; room = λ f. r }
-plan_planned node n state input (Err why) opened i r = record { is_open = opened; issued = λ front o back e. absurd (no_cut front o back e); room = λ f. absurd (f refl) }
+    → IfOk outcome (λ p. AreIssued (λ (o : Op). o.id) (λ o. o.clock) node.state.applied p.ops) → IfOk outcome (λ p. HasRoomFor node.state.applied node.room p.ops)
+    → IfOk outcome (λ p. IsNews node.state.start node.state.applied (node.state.applied ++ p.ops) p.news)
+    → ((s : Session) → session_at node.state.sessions n ≡ Some s → IfOk outcome (λ p. CanGo node.state.start (node.state.applied ++ p.ops) s.state p.answered.going.onward)) → IsPlanned node (plan_by n state input outcome)
+plan_planned node n state input (Ok p) opened i r w c = record { is_open = opened; issued = i; room = λ f. r; news = w; can = c }
+plan_planned node n state input (Err why) opened i r w c = record {
+  is_open = opened;
+  issued = λ front o back e. absurd (no_cut front o back e);
+  room = λ f. absurd (f refl);
+  news = subst (λ (list : List Op). IsNews node.state.start node.state.applied list []) (sym (append-nil node.state.applied)) (no_news node.state.start node.state.applied);
+  can = λ s e. left_steps node.state.start (node.state.applied ++ []) s (leaves state input) (ends_idling input why);
+}
+
+-- the same where the room was made behind
+pub plan_planned_behind : (start : Start) (applied : List Op) (places : Places) (node : NodeKept) (n : ℕ) (state : State) (input : Input) (outcome : Result Prepared Refusal) → node.state.start ≡ start → node.state.applied ≡ applied → node.state.sessions ≡ places
+    → IsOpen places n → IfOk outcome (λ p. AreIssued (λ (o : Op). o.id) (λ o. o.clock) applied p.ops) → IfOk outcome (λ p. HasRoomFor node.state.applied node.room p.ops) → IfOk outcome (λ p. IsNews start applied (applied ++ p.ops) p.news)
+    → ((s : Session) → session_at places n ≡ Some s → IfOk outcome (λ p. CanGo start (applied ++ p.ops) s.state p.answered.going.onward)) → IsPlanned node (plan_by n state input outcome)
+plan_planned_behind start applied places node n state input outcome e f g opened i r w c =
+    plan_planned node n state input outcome
+    (subst (λ (ps : Places). IsOpen ps n) (sym g) opened)
+    (subst (λ (os : List Op). IfOk outcome (λ p. AreIssued (λ (o : Op). o.id) (λ o. o.clock) os p.ops)) (sym f) i)
+    r
+    (subst (λ (x : Start). IfOk outcome (λ p. IsNews x node.state.applied (node.state.applied ++ p.ops) p.news)) (sym e) (subst (λ (os : List Op). IfOk outcome (λ p. IsNews start os (os ++ p.ops) p.news)) (sym f) w))
+    (λ s at.
+    subst (λ (x : Start). IfOk outcome (λ p. CanGo x (node.state.applied ++ p.ops) s.state p.answered.going.onward)) (sym e)
+    (subst (λ (os : List Op). IfOk outcome (λ p. CanGo start (os ++ p.ops) s.state p.answered.going.onward)) (sym f) (c s (ap (λ (ps : Places). session_at ps n) (sym g) ∙ at))))
+
+-- what a delivery applies
+pub deliver_grown : {T : Type 0} (arrival : T → Arrival) (old new : Seen Start Op) (op : Op) (r : Result T DeliverFault)
+    → MatchResult r (λ d. Arrives (λ (o : Op). o.id) (λ o. o.clock) Exhausts old op (arrival d) new) (λ e. Refuses (λ (o : Op). o.id) (λ o. o.clock) Exhausts old op e) → OnErr r (new ≡ old) → HasGrown old.applied new.applied × (new.start ≡ old.start)
+deliver_grown arrival old new op (Ok d) h e = (
+  arrival_grows (λ (o : Op). o.id) (λ (o : Op). o.clock) Exhausts old new op (arrival d) h,
+  arrival_start (λ (o : Op). o.id) (λ (o : Op). o.clock) Exhausts old new op (arrival d) h,
+)
+deliver_grown arrival old new op (Err x) h e = (([], ap (λ (s : Seen Start Op). s.applied) e ∙ sym (append-nil old.applied)), ap (λ (s : Seen Start Op). s.start) e)
 
 -- nothing is there where it was found that something is
 pub not_empty : (ops os : List Op) (b : Bool) → b ≡ false → b ≡ (length os == 0) → os ≡ ops → ops ≡ [] → ⊥

@@ -20,6 +20,7 @@ use Rattle.causal_inbox.proofs.history.History.TheSendSync as history
 use Rattle.causal_inbox.specs.contracts.held.Held as held
 use Rattle.causal_inbox.specs.contracts.inbox.Inbox as inbox
 use Rattle.causal_inbox.specs.contracts.inbox.Inbox.TheInside as received
+use Rattle.imap_node.proofs.feeds.Feeds.TheSendSync as feeds
 use Rattle.imap_node.proofs.sessions.Sessions.TheSendSync as sessions
 use Rattle.imap_node.specs.contracts.replica.Replica as replica
 use Rattle.imap_node.specs.contracts.replica.Replica.TheInside as parts
@@ -56,9 +57,9 @@ replica_sync = view_sync parts.the_row _ _ _ _
 pub node_send : IsSend node.the_row
 node_send = view_send whole.the_row _ _ _ _
     (recorded_send (whole.the_field).row _ _ (whole.the_type).to_one
-    (struct_send (shape whole.the_type) (replica_send, (sessions.the_send, tt))))
+    (struct_send (shape whole.the_type) (replica_send, (sessions.the_send, (feeds.the_send, tt)))))
 
 pub node_sync : IsSync node.the_row
 node_sync = view_sync whole.the_row _ _ _ _
     (recorded_sync (whole.the_field).row _ _ (whole.the_type).to_one
-    (struct_sync (shape whole.the_type) (replica_sync, (sessions.the_sync, tt))))
+    (struct_sync (shape whole.the_type) (replica_sync, (sessions.the_sync, (feeds.the_sync, tt)))))

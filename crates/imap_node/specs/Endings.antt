@@ -1,4 +1,5 @@
 use Rattle.std.specs.Prelude.{Bool, List, [], ◌++◌, Option, Some, None}
+use Rattle.std.specs.Option.{unwrap_or}
 use Rattle.crdt_ops.specs.declared.op.Op.{Op}
 use Rattle.imap_answers.specs.declared.answer.Answer.{Answer}
 use Rattle.imap_commands.specs.declared.session.State.{State}
@@ -31,6 +32,22 @@ pub record Course : Type 0 where
   pub state : State
   pub tail : List Answer
 
+-- A course whose state, where none stands in it, is the one before.
+pub record Draft : Type 0 where
+  pub silent : List Silent
+  pub own : List Answer
+  pub sync : Option SyncKind
+  pub modseq : Bool
+  pub moved : Option State
+  pub tail : List Answer
+
+abbrev pub moved_from : State → Option State → State
+moved_from state moved = unwrap_or moved state
+
+abbrev pub course_from : State → Draft → Course
+course_from state draft =
+    record { silent = draft.silent; own = draft.own; sync = draft.sync; modseq = draft.modseq; state = moved_from state draft.moved; tail = draft.tail }
+
 -- What is sent behind a command's own answers, and where the session stands then.
 pub record Ending : Type 0 where
   pub answers : List Answer
@@ -49,3 +66,13 @@ ending_of start ops course = ending start ops course.sync course.modseq course.s
 -- All answers: the input's own, the sync's, and the last ones.
 abbrev pub answers_of_course : Start → List Op → Course → List Answer
 answers_of_course start ops course = course.own ++ ((ending_of start ops course).answers ++ course.tail)
+
+-- What stands in front of a sync, and which one it is: flags that are set in silence, and a command's own answers.
+pub record FrontOf : Type 0 where
+  pub silent : List Silent
+  pub own : List Answer
+  pub sync : Option SyncKind
+  pub modseq : Bool
+
+abbrev pub ending_behind : Start → List Op → State → FrontOf → Ending
+ending_behind start ops state front = ending start ops front.sync front.modseq state front.silent front.own

@@ -10,6 +10,8 @@ pub mod Printing
 pub mod Plans
 pub mod Deliveries
 pub mod Replays
+pub mod Feeds
+pub mod Going
 pub mod Issues
 pub mod GoingBack
 pub mod Replies

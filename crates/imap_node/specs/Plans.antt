@@ -8,11 +8,13 @@ use Rattle.imap_commands.specs.declared.session.State.{State}
 use Rattle.imap_node.specs.declared.input.Input.{Input}
 use Rattle.imap_node.specs.declared.planning.Answered.{Answered}
 use Rattle.imap_node.specs.declared.planning.Next.{Next}
-use Rattle.imap_node.specs.declared.planning.Next.TheVariants.{Becomes, Leaves, Stays, Wakes}
+use Rattle.imap_node.specs.declared.planning.Next.TheVariants.{Goes, Leaves, Stays, Wakes}
 use Rattle.imap_node.specs.declared.planning.Plan.{Plan}
 use Rattle.imap_node.specs.declared.planning.Prepared.{Prepared}
 use Rattle.imap_node.specs.declared.reply.Reply.TheVariants.{Done, Refused}
 use Rattle.imap_node.specs.Endings.{Course, answers_of_course}
+use Rattle.imap_node.specs.Feeds.{IsNews}
+use Rattle.imap_node.specs.Going.{CanGo, gone_on}
 use Rattle.imap_node.specs.Nodes.{NodeKept, NodeState}
 use Rattle.imap_node.specs.Operations.{AreNext}
 use Rattle.imap_node.specs.Respond.{Holds, IsStamp, Responds, TakesCourse, closes, ends_idling, leaves, session_after, wants_of}
@@ -21,13 +23,13 @@ use Rattle.imap_node.specs.Sessions.{IsOpen, awake, session_at, unselected, with
 use Rattle.uid_projection.specs.declared.start.Start.{Start}
 use Rattle.uid_projection.specs.Exhaustion.{Exhausts}
 
--- The answers, the flags set in silence and the session are those of an input's course.
+-- The answers, the flags set in silence and what becomes of the session are those of an input's course.
 pub record IsAnswered (start : Start) (before after : List Op) (session : Session) (input : Input) (answered : Answered) : Type 0 where
   pub course : Course
   pub taken : TakesCourse start before after session input course
   pub answers : answered.answers ≡ answers_of_course start after course
   pub silent : answered.silent ≡ course.silent
-  pub becomes : answered.session ≡ session_after start after session input course
+  pub becomes : gone_on session answered.going ≡ session_after start after session input course
 
 -- An input can be carried out so.
 pub record Prepares (start : Start) (applied : List Op) (session : Session) (input : Input) (prepared : Prepared) : Type 0 where
@@ -45,17 +47,25 @@ abbrev pub session_next : Session → Next → Session
 session_next session Stays = session
 session_next session Leaves = unselected session
 session_next session Wakes = awake session
-session_next session (Becomes next) = next
+session_next session (Goes going) = gone_on session going
 
 abbrev pub place_next : Option Session → Next → Option Session
 place_next None next = None
 place_next (Some session) next = Some (session_next session next)
 
--- The plan can be committed: its session is open, its operations come next, and the room for them, if there are any, is there.
+-- A session can take its next step behind these operations.
+abbrev pub CanStep : Start → List Op → Session → Next → Type 0
+CanStep start ops session (Goes going) = CanGo start ops session.state going.onward
+CanStep start ops session next = Unit {0}
+
+-- The plan can be committed: its session is open, its operations come next, the room for them, if there are any, is there, its news name what they change, and its session can take
+-- its next step behind them.
 pub record IsPlanned (node : NodeKept) (plan : Plan) : Type 0 where
   pub is_open : IsOpen node.state.sessions plan.number
   pub issued : AreIssued (λ (o : Op). o.id) (λ o. o.clock) node.state.applied plan.ops
   pub room : (plan.ops ≡ [] → ⊥) → HasRoomFor node.state.applied node.room plan.ops
+  pub news : IsNews node.state.start node.state.applied (node.state.applied ++ plan.ops) plan.news
+  pub can : (session : Session) → session_at node.state.sessions plan.number ≡ Some session → CanStep node.state.start (node.state.applied ++ plan.ops) session plan.next
 
 -- The session that a plan leaves behind.
 abbrev pub planned_session : NodeState → Plan → Option Session
@@ -75,9 +85,9 @@ next_left state input why = if leaves state input then Leaves else (if ends_idli
 
 -- The plan of an input that can be carried out.
 abbrev pub done_plan : ℕ → Prepared → Plan
-done_plan n p = record { number = n; reply = Done p.answered.answers p.answered.silent p.copies; ops = p.ops; next = Becomes p.answered.session }
+done_plan n p = record { number = n; reply = Done p.answered.answers p.answered.silent p.copies; ops = p.ops; news = p.news; next = Goes p.answered.going }
 
 -- The plan for what was worked out.
 abbrev pub plan_by : ℕ → State → Input → Result Prepared Refusal → Plan
 plan_by n state input (Ok p) = done_plan n p
-plan_by n state input (Err why) = record { number = n; reply = Refused why (closes state input why); ops = []; next = next_left state input why }
+plan_by n state input (Err why) = record { number = n; reply = Refused why (closes state input why); ops = []; news = []; next = next_left state input why }

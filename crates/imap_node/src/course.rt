@@ -3,6 +3,8 @@
 ghost use Rattle.std.specs.Prelude.{◌≡◌, ◌++◌, ◌∷◌, [], IfOk, OnOk, Some};
 ghost use Rattle.imap_answers.specs.declared.answer.Answer.TheVariants.{Completed};
 ghost use Rattle.imap_node.specs.Commands.{highest_of, highest_told, notice, turns_on};
+ghost use Rattle.imap_commands.specs.declared.session.State.{State as Stands};
+ghost use Rattle.imap_node.specs.Endings.{course_from, moved_from};
 ghost use Rattle.imap_node.specs.Nodes.{IsReady};
 ghost use Rattle.imap_node.specs.Respond.{CommandTakes, TakesCourse, begun, condstore_after, idle_tail, idling_after, synced_course, tail_of, told_course};
 
@@ -31,18 +33,18 @@ pub struct Course {
     pub sync: Option<SyncKind>,
     /// Whether the sync tells mod-sequences.
     pub modseq: bool,
-    /// The state before all these are replayed.
-    pub state: State,
+    /// The state before all these are replayed, where it isn't the one before.
+    pub moved: Option<State>,
     /// What is sent last.
     pub tail: Vec<Answer>,
 }
 
 impl Model for Course {
-    ghost use Rattle.imap_node.specs.Endings.{Course};
+    ghost use Rattle.imap_node.specs.Endings.{Draft};
 
-    ghost Value = { Course };
+    ghost Value = { Draft };
 
-    ghost view = { λ c. record { silent = c.silent.items; own = c.own.items; sync = c.sync; modseq = c.modseq; state = c.state; tail = c.tail.items } };
+    ghost view = { λ c. record { silent = c.silent.items; own = c.own.items; sync = c.sync; modseq = c.modseq; moved = c.moved; tail = c.tail.items } };
 }
 
 /// What an input comes to behind its operations.
@@ -54,7 +56,7 @@ pub fn course_of(
     input: &Input,
 ) -> Result<Course, AllocError>
     requires { IsReady replica.now ops.now }
-    ensures { IfOk result (λ course. TakesCourse replica.now.start replica.now.applied (replica.now.applied ++ ops.now) session.now input.now course) }
+    ensures { IfOk result (λ course. TakesCourse replica.now.start replica.now.applied (replica.now.applied ++ ops.now) session.now input.now (course_from session.now.state course)) }
 {
     match input {
         Input::Command { tagged, .. } => command_course(alloc, replica, ops, session, tagged),
@@ -65,14 +67,14 @@ pub fn course_of(
 
 /// A full sync alone, with this behind it.
 fn synced_course(alloc: Global, session: &Session, tail: Vec<Answer>) -> Result<Course, AllocError>
-    ensures { IfOk result (λ course. course ≡ synced_course session.now tail.items) }
+    ensures { IfOk result (λ course. course_from session.now.state course ≡ synced_course session.now tail.items) }
 {
     Ok(Course {
         silent: Vec::new(alloc),
         own: Vec::new(alloc),
         sync: Some(SyncKind::Full),
         modseq: session.condstore,
-        state: session.state.copy(alloc)?,
+        moved: None,
         tail,
     })
 }
@@ -111,14 +113,14 @@ fn command_course(
     tagged: &Tagged,
 ) -> Result<Course, AllocError>
     requires { IsReady replica.now ops.now }
-    ensures { IfOk result (λ course. CommandTakes replica.now.start replica.now.applied (replica.now.applied ++ ops.now) session.now tagged.now course) }
+    ensures { IfOk result (λ course. CommandTakes replica.now.start replica.now.applied (replica.now.applied ++ ops.now) session.now tagged.now (course_from session.now.state course)) }
 {
     let Tagged { tag, command } = tagged;
     let modseq = is_on(session, command);
     let told = tells(alloc, replica, ops, &session.state, modseq, tag, command)?;
-    let state = moves_to(alloc, replica, ops, &session.state, command)?;
+    let moved = moves_to(alloc, replica, ops, command)?;
     let first = notice(alloc, replica, ops, session, command)?;
-    told_course(alloc, first, told, state, modseq, tag, command)
+    told_course(alloc, first, told, moved, modseq, tag, command)
 }
 
 /// The course of a command that tells this.
@@ -126,12 +128,12 @@ fn told_course(
     alloc: Global,
     first: Vec<Answer>,
     told: Telling,
-    state: State,
+    moved: Option<State>,
     modseq: bool,
     tag: &Octets,
     command: &Command,
 ) -> Result<Course, AllocError>
-    ensures { IfOk result (λ course. course ≡ told_course first.items told state modseq tag.now command.now) }
+    ensures { IfOk result (λ course. (state : Stands) → course_from state course ≡ told_course first.items told (moved_from state moved) modseq tag.now command.now) }
 {
     let (own, silent, code) = told.into_parts();
     let tail = tail_of(alloc, tag, code, command)?;
@@ -140,7 +142,7 @@ fn told_course(
         own: joined(first, own)?,
         sync: sync_of(command),
         modseq,
-        state,
+        moved,
         tail,
     })
 }

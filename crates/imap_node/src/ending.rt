@@ -1,44 +1,58 @@
 //! What stands behind an input's own answers: the sync, and what the session sees then.
 
-ghost use Rattle.std.specs.Prelude.{◌≡◌, ◌++◌, [], IfOk};
+ghost use Rattle.std.specs.Prelude.{◌≡◌, ◌++◌, [], IfOk, Some};
+ghost use Rattle.imap_commands.specs.declared.session.State.{State as Stands};
 ghost use Rattle.imap_commands.specs.declared.session.State.TheVariants.{Selected};
 ghost use Rattle.imap_node.specs.Commands.{moves_to};
-ghost use Rattle.imap_node.specs.Endings.{answers_by, ending, synced_by};
+ghost use Rattle.imap_node.specs.Endings.{answers_by, ending_behind, moved_from, synced_by};
+ghost use Rattle.imap_node.specs.Feeds.{IsNews, IsNotedFor};
+ghost use Rattle.imap_node.specs.Going.{CanGo, state_onward};
 ghost use Rattle.imap_node.specs.Mailboxes.{rows_for, validity_of};
 ghost use Rattle.imap_node.specs.Nodes.{IsReady};
+ghost use Rattle.imap_node.specs.Replays.{view_of};
+ghost use Rattle.session_view.specs.Changes.{all_flags_told, shifts};
 ghost use Rattle.session_view.specs.Replay.{replayed};
+ghost use Rattle.session_view.specs.Seen.{Seen};
 ghost use Rattle.session_view.specs.Views.{AreRising};
+ghost use Rattle.std.specs.List.{list_any};
 
+use crate::going::Onward;
+use crate::news::News;
 use crate::replica::Replica;
+use crate::reply::copied_silents;
 use crate::telling::{rows_behind, validity_after};
 use crdt_ops::SoundOp;
+use idle_feed::Feed;
 use imap_answers::Answer;
 use imap_commands::State;
 use imap_syntax::Command;
 use imap_types::Name;
 use mail_listing::Rows;
-use session_view::{Entry, Silent, SyncKind, SyncOutcome, View, replayed, synced};
+use session_view::{
+    Entry, Silent, SyncKind, SyncOutcome, View, do_shift, push_flags_told, replayed, synced,
+};
 use std::alloc::{AllocError, Global};
+use std::marker::Model;
+use view_sync::{Planned, plan};
 
-/// The state behind a command, before its answers are replayed. It shows no messages of a mailbox that is selected anew.
+/// The state behind a command, before its answers are replayed, where it isn't the one before. It shows no messages of a mailbox that is selected anew.
 pub fn moves_to(
     alloc: Global,
     replica: &Replica,
     ops: &[SoundOp],
-    state: &State,
     command: &Command,
-) -> Result<State, AllocError>
+) -> Result<Option<State>, AllocError>
     requires { IsReady replica.now ops.now }
-    ensures { IfOk result (λ moved. moved ≡ moves_to replica.now.start (replica.now.applied ++ ops.now) state.now command.now) }
+    ensures { IfOk result (λ moved. (state : Stands) → moved_from state moved ≡ moves_to replica.now.start (replica.now.applied ++ ops.now) state command.now) }
 {
     match command {
-        Command::Login { .. } => Ok(State::Authenticated),
+        Command::Login { .. } => Ok(Some(State::Authenticated)),
         Command::Select { name, .. } => selected(alloc, replica, ops, name, false),
         Command::Examine { name, .. } => selected(alloc, replica, ops, name, true),
-        Command::Logout => Ok(State::LoggedOut),
-        Command::Unselect => Ok(State::Authenticated),
-        Command::Close => Ok(State::Authenticated),
-        _ => state.copy(alloc),
+        Command::Logout => Ok(Some(State::LoggedOut)),
+        Command::Unselect => Ok(Some(State::Authenticated)),
+        Command::Close => Ok(Some(State::Authenticated)),
+        _ => Ok(None),
     }
 }
 
@@ -48,40 +62,152 @@ fn selected(
     ops: &[SoundOp],
     name: &Name,
     read_only: bool,
-) -> Result<State, AllocError>
+) -> Result<Option<State>, AllocError>
     requires { IsReady replica.now ops.now }
-    ensures { IfOk result (λ state. state ≡ Selected (record { name = name.now; uidvalidity = validity_of replica.now.start name.now (replica.now.applied ++ ops.now); entries = [] }) read_only) }
+    ensures { IfOk result (λ state. state ≡ Some (Selected (record { name = name.now; uidvalidity = validity_of replica.now.start name.now (replica.now.applied ++ ops.now); entries = [] }) read_only)) }
 {
     let uidvalidity = validity_after(replica, ops, name);
-    Ok(State::Selected {
+    Ok(Some(State::Selected {
         view: View::new(name.copy(alloc)?, uidvalidity, Vec::new(alloc)),
         read_only,
-    })
+    }))
 }
 
-/// The sync behind an input's own answers, and the state then.
+/// What stands in front of a sync, and which one it is.
+#[derive(Drop)]
+pub struct Front<'a> {
+    /// Flags that are set in silence.
+    pub silent: &'a [Silent],
+    /// A command's own answers.
+    pub own: &'a [Answer],
+    /// The sync, if there is one.
+    pub sync: Option<SyncKind>,
+    /// Whether it tells mod-sequences.
+    pub modseq: bool,
+}
+
+impl<'a> Model for Front<'a> {
+    ghost use Rattle.imap_node.specs.Endings.{FrontOf};
+
+    ghost Value = { FrontOf };
+
+    ghost view = { λ f. record { silent = f.silent.now; own = f.own.now; sync = f.sync; modseq = f.modseq } };
+}
+
+/// What a session is still to be told, and what an input's own operations changed.
+#[derive(Drop)]
+pub struct Untold<'a> {
+    /// What the session is still to be told.
+    pub feed: &'a Feed,
+    /// What the operations changed.
+    pub news: &'a News,
+}
+
+impl<'a> Model for Untold<'a> {
+    ghost use Rattle.imap_node.specs.Feeds.{UntoldOf};
+
+    ghost Value = { UntoldOf };
+
+    ghost view = { λ u. record { pending = u.feed.now.pending; news = u.news.now } };
+}
+
+/// The sync behind what stands in front of it, and the state then, which is made anew.
 pub fn ending(
     alloc: Global,
     replica: &Replica,
     ops: &[SoundOp],
-    sync: Option<SyncKind>,
-    modseq: bool,
     state: State,
-    silent: &[Silent],
-    own: &[Answer],
+    front: &Front<'_>,
 ) -> Result<(Vec<Answer>, State), AllocError>
     requires { IsReady replica.now ops.now }
-    ensures answers { IfOk result (λ e. e.0.items ≡ (ending replica.now.start (replica.now.applied ++ ops.now) sync modseq state silent.now own.now).answers) }
-    ensures state { IfOk result (λ e. e.1 ≡ (ending replica.now.start (replica.now.applied ++ ops.now) sync modseq state silent.now own.now).state) }
+    ensures answers { IfOk result (λ e. e.0.items ≡ (ending_behind replica.now.start (replica.now.applied ++ ops.now) state front.now).answers) }
+    ensures state { IfOk result (λ e. e.1 ≡ (ending_behind replica.now.start (replica.now.applied ++ ops.now) state front.now).state) }
 {
     match state {
         State::Selected { view, read_only } => {
             let rows = rows_behind(alloc, replica, ops, &view)?;
-            let (answers, view) = seen(alloc, sync, modseq, &rows, view, silent, own)?;
+            let (answers, view) = seen(
+                alloc,
+                front.sync,
+                front.modseq,
+                &rows,
+                view,
+                front.silent,
+                front.own,
+            )?;
             Ok((answers, State::Selected { view, read_only }))
         }
         other => Ok((Vec::new(alloc), other)),
     }
+}
+
+/// The sync behind what stands in front of it, and what becomes of the state, which stays as it was until then. Cost: what the session is still to be told and what the operations
+/// changed; where the feed missed some, one pass over the view and the listing.
+pub fn ending_in_place(
+    alloc: Global,
+    replica: &Replica,
+    ops: &[SoundOp],
+    state: &mut State,
+    untold: &Untold<'_>,
+    front: &Front<'_>,
+) -> Result<(Vec<Answer>, Onward), AllocError>
+    requires ready { IsReady replica.now ops.now }
+    requires noted { (view : Seen) → view_of state.old ≡ Some view → IsNotedFor replica.now.start replica.now.applied untold.now.pending view }
+    requires news { IsNews replica.now.start replica.now.applied (replica.now.applied ++ ops.now) untold.now.news }
+    ensures same { state.new ≡ state.old }
+    ensures answers { IfOk result (λ e. e.0.items ≡ (ending_behind replica.now.start (replica.now.applied ++ ops.now) state.old front.now).answers) }
+    ensures state { IfOk result (λ e. state_onward state.old e.1 ≡ (ending_behind replica.now.start (replica.now.applied ++ ops.now) state.old front.now).state) }
+    ensures can { IfOk result (λ e. CanGo replica.now.start (replica.now.applied ++ ops.now) state.old e.1) }
+{
+    let Some(kind) = front.sync else {
+        return anew(alloc, replica, ops, state, front);
+    };
+    if do_shift(front.own) {
+        return anew(alloc, replica, ops, state, front);
+    }
+    match state {
+        State::Selected { view, .. } => {
+            let rows = rows_behind(alloc, replica, ops, view)?;
+            let notes = untold.news.notes_of(view.name());
+            let first = flags_first(alloc, front)?;
+            let planned = plan(alloc, view, untold.feed, &rows, notes, first, kind, front.modseq)?;
+            let Planned { answers, change } = planned;
+            Ok((
+                answers,
+                Onward::Stays {
+                    change: Some(change),
+                },
+            ))
+        }
+        _ => Ok((Vec::new(alloc), Onward::Stays { change: None })),
+    }
+}
+
+/// The sync, and the state then, on a copy of the state.
+fn anew(
+    alloc: Global,
+    replica: &Replica,
+    ops: &[SoundOp],
+    state: &State,
+    front: &Front<'_>,
+) -> Result<(Vec<Answer>, Onward), AllocError>
+    requires { IsReady replica.now ops.now }
+    ensures answers { IfOk result (λ e. e.0.items ≡ (ending_behind replica.now.start (replica.now.applied ++ ops.now) state.now front.now).answers) }
+    ensures state { IfOk result (λ e. state_onward state.now e.1 ≡ (ending_behind replica.now.start (replica.now.applied ++ ops.now) state.now front.now).state) }
+    ensures can { IfOk result (λ e. CanGo replica.now.start (replica.now.applied ++ ops.now) state.now e.1) }
+{
+    let state = state.copy(alloc)?;
+    let (answers, state) = ending(alloc, replica, ops, state, front)?;
+    Ok((answers, Onward::Moves { state }))
+}
+
+/// The flags that are set in front of a sync: in silence, and by the answers that tell them.
+fn flags_first(alloc: Global, front: &Front<'_>) -> Result<Vec<Silent>, AllocError>
+    ensures { IfOk result (λ first. first.items ≡ front.now.silent ++ all_flags_told front.now.own) }
+{
+    let mut first = copied_silents(alloc, front.silent)?;
+    push_flags_told(alloc, front.own, &mut first)?;
+    Ok(first)
 }
 
 fn seen(

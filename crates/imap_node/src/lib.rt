@@ -8,9 +8,12 @@
 
 mod course;
 mod ending;
+mod feeds;
+mod going;
 mod input;
 mod issuing;
 mod laws;
+mod news;
 mod node;
 mod planning;
 mod printable;

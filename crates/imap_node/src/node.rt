@@ -1,22 +1,27 @@
 //! A replica with its sessions.
 
-ghost use Rattle.std.specs.Prelude.{◌≡◌, ◌≢◌, ◌↔◌, ℕ, ◌<◌, ◌≤◌, ◌++◌, List, [], Err, IfOk, IsNone, IsSome, IsTrue, MatchResult, None, OnErr, Some};
+ghost use Rattle.std.specs.Prelude.{◌≡◌, ◌≢◌, ◌↔◌, ℕ, ◌<◌, ◌≤◌, ◌++◌, List, [], Err, IfOk, IsNone, IsSome, IsTrue, MatchResult, None, OnErr, Some, length, take};
 ghost use Rattle.std.specs.Option.{option_copied};
 ghost use Rattle.causal_inbox.specs.Seen.{AreIssued, IsClockOf, held_limit, uncovered};
 ghost use Rattle.crdt_ops.specs.Sets.{delete_set_of, folder_tags_of, folders_of, messages_of, subscribed_of, subscription_tags_of};
 ghost use Rattle.crdt_ops.specs.declared.op.Op.{Op as Operation};
 ghost use Rattle.folder_state.specs.Contents.{IsMadeBy};
 ghost use Rattle.folder_state.specs.Tables.{contents_of};
-ghost use Rattle.imap_node.specs.Plans.{done_plan, next_left, place_next, plan_by};
+ghost use Rattle.imap_commands.specs.declared.session.Session.{Session as One};
+ghost use Rattle.imap_node.specs.Feeds.{AreAllNoted, pending_at};
+ghost use Rattle.imap_node.specs.Plans.{CanStep, done_plan, next_left, place_next, plan_by};
 ghost use Rattle.imap_node.specs.Respond.{KeepsHeld};
 ghost use Rattle.imap_node.specs.Sessions.{IsOpen, session_at, with_session};
 ghost use Rattle.imap_node.specs.Rooms.{HasRoomFor};
 ghost use Rattle.imap_node.specs.declared.input.Input.TheVariants as inputs;
 ghost use Rattle.subs_state.specs.Subscriptions.{IsMadeBy as AreMadeBy};
 ghost use Rattle.subs_state.specs.Table.{subscriptions_of};
+ghost use Rattle.uid_projection.specs.declared.start.Start.{Start as First};
 
+use crate::feeds::Feeds;
 use crate::input::Input;
-use crate::planning::{Answered, Next, Plan, Prepared, prepare};
+use crate::news::{News, coarse_news};
+use crate::planning::{Answered, Next, Plan, Prepared, prepare_for};
 use crate::replica::Replica;
 use crate::reply::{Issued, Reply};
 use crate::sessions::{Auth, OpenFault, SessionNo, Sessions};
@@ -39,6 +44,8 @@ use uid_projection::Start;
 pub struct Node {
     replica: Replica,
     sessions: Sessions,
+    /// What each session is still to be told.
+    feeds: Feeds,
 }
 
 // By hand, so that crates above let it go as a whole.
@@ -47,6 +54,7 @@ impl Drop for Node {
         let Self {
             replica: _,
             sessions: _,
+            feeds: _,
         } = self;
     }
 }
@@ -54,6 +62,7 @@ impl Drop for Node {
 impl Model for Node {
     ghost use Rattle.indexmap.specs.Layout.{hash_map_code, hash_set_code};
     ghost use Rattle.std.specs.Coded.{codes};
+    ghost use Rattle.imap_node.specs.Feeds.{AreAllNoted};
     ghost use Rattle.imap_node.specs.Nodes.{NodeKept};
 
     ghost Value = { NodeKept };
@@ -61,6 +70,8 @@ impl Model for Node {
     ghost coded = { Prim.hlevel (codes, hash_map_code, hash_set_code) };
 
     ghost view = { λ n. record { state = record { start = n.replica.start; applied = n.replica.applied; held = n.replica.held; sessions = n.sessions }; room = n.replica.room } };
+
+    ghost invariant = { λ n. AreAllNoted n.replica.start n.replica.applied n.sessions n.feeds };
 }
 
 impl Node {
@@ -83,6 +94,7 @@ impl Node {
         Ok(Node {
             replica: Replica::new(alloc, start)?,
             sessions: Sessions::new(alloc),
+            feeds: Feeds::new(alloc),
         })
     }
 
@@ -121,7 +133,9 @@ impl Node {
         ensures rest { self.new ≡ record self.old { state = record self.old.state { sessions = self.new.state.sessions } } }
         ensures err { OnErr result (self.new ≡ self.old) }
     {
-        self.sessions.open(auth)
+        let session = self.sessions.open(auth)?;
+        self.feeds.open(session);
+        Ok(session)
     }
 
     /// Closes the session.
@@ -194,10 +208,18 @@ impl Node {
         ensures planned { IsPlanned self.new result }
         ensures responds { Planned self.old.state session input.now result }
     {
+        let outcome = prepare_for(
+            alloc,
+            &mut self.replica,
+            &mut self.sessions,
+            &self.feeds,
+            session,
+            input,
+        );
+        make_room(&mut self.feeds, &self.sessions, &outcome);
         let Some(found) = self.sessions.get(session) else {
             unreachable!()
         };
-        let outcome = prepare(alloc, &mut self.replica, found, input);
         plan_by(alloc, session, &found.state, input, outcome)
     }
 
@@ -211,10 +233,12 @@ impl Node {
             number,
             reply,
             ops,
+            news,
             next,
         } = plan;
         issue(&mut self.replica, ops);
-        set_next(&mut self.sessions, number, next);
+        self.feeds.note(&self.sessions, &news);
+        set_next(&mut self.sessions, &mut self.feeds, number, next);
         reply
     }
 
@@ -231,7 +255,10 @@ impl Node {
         ensures stalled { IfOk result (λ d. IsTrue d.stalled ↔ HoldsRipe self.new.state) }
         ensures err { OnErr result (self.new.state ≡ self.old.state) }
     {
-        self.replica.deliver(alloc, op)
+        let count = self.replica.applied().len();
+        let delivered = self.replica.deliver(alloc, op);
+        note_since(alloc, &self.replica, count, &self.sessions, &mut self.feeds);
+        delivered
     }
 
     /// Applies held operations whose causes were all applied, the least id first, until there is none or one is refused. No
@@ -241,7 +268,10 @@ impl Node {
         ensures stalled { IsTrue result.stalled ↔ HoldsRipe self.new.state }
         ensures at_most { result.applied ≤ held_limit }
     {
-        self.replica.drain(alloc)
+        let count = self.replica.applied().len();
+        let drained = self.replica.drain(alloc);
+        note_since(alloc, &self.replica, count, &self.sessions, &mut self.feeds);
+        drained
     }
 
     /// Why a ripe operation is held, if one is: `Exhausted` where a drain could not go on for a counter's end, `Drainable` where it could but for
@@ -331,16 +361,52 @@ fn issue(replica: &mut Replica, ops: Issued)
     replica.issue(ops.into_vec());
 }
 
+/// Makes room for the news of an input that can be carried out; what sessions are to be told stays.
+fn make_room(feeds: &mut Feeds, sessions: &Sessions, outcome: &Result<Prepared, Refusal>)
+    ensures { (n : ℕ) → pending_at feeds.new n ≡ pending_at feeds.old n }
+{
+    match outcome {
+        Ok(prepared) => feeds.ready(sessions, &prepared.news),
+        Err(_) => {}
+    }
+}
+
 /// Makes of an open session what was planned.
-fn set_next(sessions: &mut Sessions, number: SessionNo, next: Next)
-    requires { IsOpen sessions.old number }
-    ensures { sessions.new ≡ with_session sessions.old number (place_next (session_at sessions.old number) next) }
+fn set_next(sessions: &mut Sessions, feeds: &mut Feeds, number: SessionNo, next: Next)
+    requires opened { IsOpen sessions.old number }
+    requires can { (start : First) × (ops : List Operation) × ((s : One) → session_at sessions.old number ≡ Some s → CanStep start ops s next) }
+    ensures sessions { sessions.new ≡ with_session sessions.old number (place_next (session_at sessions.old number) next) }
+    ensures noted { (start : First) (ops : List Operation) → ((s : One) → session_at sessions.old number ≡ Some s → CanStep start ops s next) → AreAllNoted start ops sessions.old feeds.old → AreAllNoted start ops sessions.new feeds.new }
 {
     match next {
         Next::Stays => {}
         Next::Leaves => sessions.leave(number),
         Next::Wakes => sessions.wake(number),
-        Next::Becomes { session } => sessions.set(number, Some(session)),
+        Next::Goes { going } => feeds.go(sessions, number, going),
+    }
+}
+
+/// Notes what the operations changed that were applied since there were so many.
+fn note_since(
+    alloc: Global,
+    replica: &Replica,
+    count: usize,
+    sessions: &Sessions,
+    feeds: &mut Feeds,
+)
+    requires { count ≤ length replica.now.applied }
+    ensures { (start : First) → AreAllNoted start (take count replica.now.applied) sessions.now feeds.old → AreAllNoted start replica.now.applied sessions.now feeds.new }
+{
+    let ops = replica.applied();
+    if count == ops.len() {
+        return;
+    }
+    match coarse_news(alloc, &ops[count..]) {
+        Ok(news) => {
+            feeds.ready(sessions, &news);
+            feeds.note(sessions, &news);
+        }
+        Err(_) => feeds.miss_all(),
     }
 }
 
@@ -363,6 +429,7 @@ fn plan_by(
                 closed: closes(state, input, why),
             },
             ops: Issued::new(Vec::new(alloc)),
+            news: News::none(alloc),
             next: next_left(state, input, why),
         },
     }
@@ -376,11 +443,12 @@ fn done_plan(number: SessionNo, prepared: Prepared) -> Plan
         answered,
         ops,
         copies,
+        news,
     } = prepared;
     let Answered {
         answers,
         silent,
-        session,
+        going,
     } = answered;
     Plan {
         number,
@@ -390,7 +458,8 @@ fn done_plan(number: SessionNo, prepared: Prepared) -> Plan
             issued: copies,
         },
         ops,
-        next: Next::Becomes { session },
+        news,
+        next: Next::Goes { going },
     }
 }
 

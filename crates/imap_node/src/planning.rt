@@ -1,29 +1,40 @@
 //! The plan of an input: all that takes memory.
 
-ghost use Rattle.std.specs.Prelude.{◌≡◌, ◌++◌, IfOk, IfErr};
+ghost use Rattle.std.specs.Prelude.{◌≡◌, ◌++◌, IfOk, IfErr, IsSome, Some};
 ghost use Rattle.causal_inbox.specs.Seen.{AreIssued};
 ghost use Rattle.crdt_ops.specs.declared.op.Op.{Op as Operation};
 ghost use Rattle.imap_commands.specs.Gives.{Gives};
-ghost use Rattle.imap_node.specs.Endings.{answers_of_course};
+ghost use Rattle.imap_commands.specs.declared.session.Session.{Session as One};
+ghost use Rattle.imap_node.specs.Endings.{answers_of_course, course_from, ending_behind, ending_of, moved_from};
+ghost use Rattle.imap_node.specs.Feeds.{AreAllNoted, IsNews, IsNotedFor};
+ghost use Rattle.imap_node.specs.Going.{CanGo, state_onward};
 ghost use Rattle.imap_node.specs.Nodes.{IsReady};
 ghost use Rattle.imap_node.specs.Operations.{CanIssueAll};
 ghost use Rattle.imap_node.specs.Plans.{IsAnswered, Prepares};
-ghost use Rattle.imap_node.specs.Respond.{IsRefused, IsStamp, session_after, wants_of};
+ghost use Rattle.imap_node.specs.Replays.{view_in, view_of};
+ghost use Rattle.imap_node.specs.Respond.{IsRefused, IsStamp, wants_of};
 ghost use Rattle.imap_node.specs.Rooms.{HasRoomFor};
+ghost use Rattle.imap_node.specs.Sessions.{IsOpen, session_at};
+ghost use Rattle.session_view.specs.Seen.{Seen};
 
 use crate::course::{Course, condstore_after, course_of, idling_after, joined};
-use crate::ending::ending;
+use crate::ending::{Front, Untold, ending, ending_in_place};
+use crate::feeds::Feeds;
+use crate::going::{Going, Onward};
 use crate::input::Input;
 use crate::issuing::readied;
+use crate::news::{News, coarse_news};
 use crate::replica::Replica;
 use crate::reply::{Answers, Issued, Reply, Silents, copied_ops};
-use crate::sessions::SessionNo;
+use crate::sessions::{SessionNo, Sessions};
 use crate::wanting::wants_of;
 use crdt_ops::{Kind, SoundOp};
-use imap_answers::Refusal;
-use imap_commands::Session;
+use idle_feed::Feed;
+use imap_answers::{Answer, Refusal};
+use imap_commands::{Session, State};
 use imap_types::DateTime;
 use mail_text::civil;
+use session_view::Silent;
 use std::alloc::{AllocError, Global};
 
 /// What becomes of a session.
@@ -35,8 +46,8 @@ pub enum Next {
     Leaves,
     /// It no longer idles.
     Wakes,
-    /// It is this.
-    Becomes { session: Session },
+    /// Its input is carried out, and it goes on so.
+    Goes { going: Going },
 }
 
 /// What a node will do with an input, with all memory that it takes.
@@ -45,6 +56,7 @@ pub struct Plan {
     pub(crate) number: SessionNo,
     pub(crate) reply: Reply,
     pub(crate) ops: Issued,
+    pub(crate) news: News,
     pub(crate) next: Next,
 }
 
@@ -57,12 +69,12 @@ impl Plan {
     }
 }
 
-/// What an input is answered, and what the session is then.
+/// What an input is answered, and what becomes of the session.
 #[derive(Drop)]
 pub struct Answered {
     pub answers: Answers,
     pub silent: Silents,
-    pub session: Session,
+    pub going: Going,
 }
 
 /// An input that can be carried out.
@@ -71,28 +83,91 @@ pub struct Prepared {
     pub answered: Answered,
     pub ops: Issued,
     pub copies: Issued,
+    pub news: News,
 }
 
-/// Makes the room for an input that can be carried out, and works out what it is answered. An error leaves the operations
-/// received as they were.
-pub fn prepare(
+/// Makes the room for an input of an open session that can be carried out, and works out what it is answered. An error leaves the operations received as
+/// they were; the sessions stay in any case.
+pub fn prepare_for(
     alloc: Global,
     replica: &mut Replica,
-    session: &Session,
+    sessions: &mut Sessions,
+    feeds: &Feeds,
+    number: SessionNo,
     input: &Input,
 ) -> Result<Prepared, Refusal>
+    requires opened { IsOpen sessions.old number }
+    requires noted { AreAllNoted replica.old.start replica.old.applied sessions.old feeds.now }
+    ensures sessions { sessions.new ≡ sessions.old }
     ensures start { replica.new.start ≡ replica.old.start }
     ensures applied { replica.new.applied ≡ replica.old.applied }
     ensures held { replica.new.held ≡ replica.old.held }
     ensures room { IfOk result (λ p. HasRoomFor replica.new.applied replica.new.room p.ops) }
     ensures issued { IfOk result (λ p. AreIssued (λ (o : Operation). o.id) (λ (o : Operation). o.clock) replica.old.applied p.ops) }
-    ensures ok { IfOk result (λ p. Prepares replica.old.start replica.old.applied session.now input.now p) }
-    ensures err { IfErr result (λ why. IsRefused replica.old.start replica.old.applied session.now.state input.now why) }
+    ensures news { IfOk result (λ p. IsNews replica.old.start replica.old.applied (replica.old.applied ++ p.ops) p.news) }
+    ensures can { (s : One) → session_at sessions.old number ≡ Some s → IfOk result (λ p. CanGo replica.old.start (replica.old.applied ++ p.ops) s.state p.answered.going.onward) }
+    ensures ok { (s : One) → session_at sessions.old number ≡ Some s → IfOk result (λ p. Prepares replica.old.start replica.old.applied s input.now p) }
+    ensures err { (s : One) → session_at sessions.old number ≡ Some s → IfErr result (λ why. IsRefused replica.old.start replica.old.applied s.state input.now why) }
+{
+    let place = number.get() - 1;
+    let places = &mut sessions.places;
+    if place >= places.len() {
+        unreachable!()
+    }
+    prepare_at(alloc, replica, &mut places[place], feeds.of(number), input)
+}
+
+/// The same of the session at this place.
+fn prepare_at(
+    alloc: Global,
+    replica: &mut Replica,
+    place: &mut Option<Session>,
+    feed: &Feed,
+    input: &Input,
+) -> Result<Prepared, Refusal>
+    requires opened { IsSome place.old }
+    requires noted { (view : Seen) → view_in place.old ≡ Some view → IsNotedFor replica.old.start replica.old.applied feed.now.pending view }
+    ensures place { place.new ≡ place.old }
+    ensures start { replica.new.start ≡ replica.old.start }
+    ensures applied { replica.new.applied ≡ replica.old.applied }
+    ensures held { replica.new.held ≡ replica.old.held }
+    ensures room { IfOk result (λ p. HasRoomFor replica.new.applied replica.new.room p.ops) }
+    ensures issued { IfOk result (λ p. AreIssued (λ (o : Operation). o.id) (λ (o : Operation). o.clock) replica.old.applied p.ops) }
+    ensures news { IfOk result (λ p. IsNews replica.old.start replica.old.applied (replica.old.applied ++ p.ops) p.news) }
+    ensures can { (s : One) → place.old ≡ Some s → IfOk result (λ p. CanGo replica.old.start (replica.old.applied ++ p.ops) s.state p.answered.going.onward) }
+    ensures ok { (s : One) → place.old ≡ Some s → IfOk result (λ p. Prepares replica.old.start replica.old.applied s input.now p) }
+    ensures err { (s : One) → place.old ≡ Some s → IfErr result (λ why. IsRefused replica.old.start replica.old.applied s.state input.now why) }
+{
+    match place {
+        Some(session) => prepare(alloc, replica, session, feed, input),
+        None => unreachable!(),
+    }
+}
+
+/// The same of this session.
+fn prepare(
+    alloc: Global,
+    replica: &mut Replica,
+    session: &mut Session,
+    feed: &Feed,
+    input: &Input,
+) -> Result<Prepared, Refusal>
+    requires noted { (view : Seen) → view_of session.old.state ≡ Some view → IsNotedFor replica.old.start replica.old.applied feed.now.pending view }
+    ensures session { session.new ≡ session.old }
+    ensures start { replica.new.start ≡ replica.old.start }
+    ensures applied { replica.new.applied ≡ replica.old.applied }
+    ensures held { replica.new.held ≡ replica.old.held }
+    ensures room { IfOk result (λ p. HasRoomFor replica.new.applied replica.new.room p.ops) }
+    ensures issued { IfOk result (λ p. AreIssued (λ (o : Operation). o.id) (λ (o : Operation). o.clock) replica.old.applied p.ops) }
+    ensures news { IfOk result (λ p. IsNews replica.old.start replica.old.applied (replica.old.applied ++ p.ops) p.news) }
+    ensures can { IfOk result (λ p. CanGo replica.old.start (replica.old.applied ++ p.ops) session.old.state p.answered.going.onward) }
+    ensures ok { IfOk result (λ p. Prepares replica.old.start replica.old.applied session.old input.now p) }
+    ensures err { IfErr result (λ why. IsRefused replica.old.start replica.old.applied session.old.state input.now why) }
 {
     let stamp = stamp_of(input);
     let kinds = wanted(alloc, replica, &stamp, session, input)?;
     let ops = readied(alloc, replica, kinds)?;
-    Ok(finished(alloc, replica, session, input, ops)?)
+    Ok(finished(alloc, replica, session, feed, input, ops)?)
 }
 
 /// The date-time of an input's moment.
@@ -120,74 +195,141 @@ fn wanted(
     wants_of(alloc, replica, stamp, &session.state, input)
 }
 
-/// What an input is answered behind its operations, with a copy of these for the other replicas.
+/// What an input is answered behind its operations, with a copy of these for the other replicas, and what they change.
 fn finished(
     alloc: Global,
     replica: &Replica,
-    session: &Session,
+    session: &mut Session,
+    feed: &Feed,
     input: &Input,
     ops: Vec<SoundOp>,
 ) -> Result<Prepared, AllocError>
-    requires { IsReady replica.now ops.items }
-    ensures answered { IfOk result (λ p. IsAnswered replica.now.start replica.now.applied (replica.now.applied ++ ops.items) session.now input.now p.answered) }
+    requires ready { IsReady replica.now ops.items }
+    requires noted { (view : Seen) → view_of session.old.state ≡ Some view → IsNotedFor replica.now.start replica.now.applied feed.now.pending view }
+    ensures session { session.new ≡ session.old }
+    ensures answered { IfOk result (λ p. IsAnswered replica.now.start replica.now.applied (replica.now.applied ++ ops.items) session.old input.now p.answered) }
+    ensures can { IfOk result (λ p. CanGo replica.now.start (replica.now.applied ++ ops.items) session.old.state p.answered.going.onward) }
     ensures ops { IfOk result (λ p. p.ops ≡ ops.items) }
     ensures copies { IfOk result (λ p. p.copies ≡ ops.items) }
+    ensures news { IfOk result (λ p. IsNews replica.now.start replica.now.applied (replica.now.applied ++ ops.items) p.news) }
 {
-    let answered = answers_to(alloc, replica, session, input, &ops)?;
+    let news = coarse_news(alloc, &ops)?;
+    let untold = Untold { feed, news: &news };
+    let answered = answers_to(alloc, replica, session, &untold, input, &ops)?;
     let copies = copied_ops(alloc, &ops)?;
     Ok(Prepared {
         answered,
         ops: Issued::new(ops),
         copies: Issued::new(copies),
+        news,
     })
 }
 
-/// What an input is answered behind its operations, and what the session is then.
+/// What an input is answered behind its operations, and what becomes of the session.
 fn answers_to(
     alloc: Global,
     replica: &Replica,
-    session: &Session,
+    session: &mut Session,
+    untold: &Untold<'_>,
     input: &Input,
     ops: &[SoundOp],
 ) -> Result<Answered, AllocError>
-    requires { IsReady replica.now ops.now }
-    ensures { IfOk result (λ a. IsAnswered replica.now.start replica.now.applied (replica.now.applied ++ ops.now) session.now input.now a) }
+    requires ready { IsReady replica.now ops.now }
+    requires noted { (view : Seen) → view_of session.old.state ≡ Some view → IsNotedFor replica.now.start replica.now.applied untold.now.pending view }
+    requires news { IsNews replica.now.start replica.now.applied (replica.now.applied ++ ops.now) untold.now.news }
+    ensures session { session.new ≡ session.old }
+    ensures answered { IfOk result (λ a. IsAnswered replica.now.start replica.now.applied (replica.now.applied ++ ops.now) session.old input.now a) }
+    ensures can { IfOk result (λ a. CanGo replica.now.start (replica.now.applied ++ ops.now) session.old.state a.going.onward) }
 {
     let course = course_of(alloc, replica, ops, session, input)?;
-    followed(alloc, replica, ops, session, input, course)
+    let condstore = condstore_after(session, input);
+    let idling = idling_after(alloc, session, input)?;
+    let Told {
+        answers,
+        silent,
+        onward,
+    } = followed(alloc, replica, ops, &mut session.state, untold, course)?;
+    Ok(Answered {
+        answers: Answers::new(answers),
+        silent: Silents::new(silent),
+        going: Going {
+            onward,
+            condstore,
+            idling,
+        },
+    })
 }
 
-/// What an input is answered that comes to this, and what the session is then.
+/// What an input is answered, the flags that it sets in silence, and what becomes of the state.
+struct Told {
+    answers: Vec<Answer>,
+    silent: Vec<Silent>,
+    onward: Onward,
+}
+
+/// What an input is answered that comes to this, and what becomes of the state.
 fn followed(
     alloc: Global,
     replica: &Replica,
     ops: &[SoundOp],
-    session: &Session,
-    input: &Input,
+    state: &mut State,
+    untold: &Untold<'_>,
     course: Course,
-) -> Result<Answered, AllocError>
-    requires { IsReady replica.now ops.now }
-    ensures answers { IfOk result (λ a. a.answers ≡ answers_of_course replica.now.start (replica.now.applied ++ ops.now) course) }
-    ensures silent { IfOk result (λ a. a.silent ≡ course.silent) }
-    ensures session { IfOk result (λ a. a.session ≡ session_after replica.now.start (replica.now.applied ++ ops.now) session.now input.now course) }
+) -> Result<Told, AllocError>
+    requires ready { IsReady replica.now ops.now }
+    requires noted { (view : Seen) → view_of state.old ≡ Some view → IsNotedFor replica.now.start replica.now.applied untold.now.pending view }
+    requires news { IsNews replica.now.start replica.now.applied (replica.now.applied ++ ops.now) untold.now.news }
+    ensures same { state.new ≡ state.old }
+    ensures answers { IfOk result (λ t. t.answers.items ≡ answers_of_course replica.now.start (replica.now.applied ++ ops.now) (course_from state.old course)) }
+    ensures silent { IfOk result (λ t. t.silent.items ≡ course.silent) }
+    ensures onward { IfOk result (λ t. state_onward state.old t.onward ≡ (ending_of replica.now.start (replica.now.applied ++ ops.now) (course_from state.old course)).state) }
+    ensures can { IfOk result (λ t. CanGo replica.now.start (replica.now.applied ++ ops.now) state.old t.onward) }
 {
     let Course {
         silent,
         own,
         sync,
         modseq,
-        state,
+        moved,
         tail,
     } = course;
-    let (answers, state) = ending(alloc, replica, ops, sync, modseq, state, &silent, &own)?;
-    let session = Session {
-        state,
-        condstore: condstore_after(session, input),
-        idling: idling_after(alloc, session, input)?,
+    let front = Front {
+        silent: &silent,
+        own: &own,
+        sync,
+        modseq,
     };
-    Ok(Answered {
-        answers: Answers::new(joined(own, joined(answers, tail)?)?),
-        silent: Silents::new(silent),
-        session,
+    let (answers, onward) = ended(alloc, replica, ops, state, untold, moved, &front)?;
+    Ok(Told {
+        answers: joined(own, joined(answers, tail)?)?,
+        silent,
+        onward,
     })
+}
+
+/// The sync, and what becomes of the state, behind what moved it, if something did.
+fn ended(
+    alloc: Global,
+    replica: &Replica,
+    ops: &[SoundOp],
+    state: &mut State,
+    untold: &Untold<'_>,
+    moved: Option<State>,
+    front: &Front<'_>,
+) -> Result<(Vec<Answer>, Onward), AllocError>
+    requires ready { IsReady replica.now ops.now }
+    requires noted { (view : Seen) → view_of state.old ≡ Some view → IsNotedFor replica.now.start replica.now.applied untold.now.pending view }
+    requires news { IsNews replica.now.start replica.now.applied (replica.now.applied ++ ops.now) untold.now.news }
+    ensures same { state.new ≡ state.old }
+    ensures answers { IfOk result (λ e. e.0.items ≡ (ending_behind replica.now.start (replica.now.applied ++ ops.now) (moved_from state.old moved) front.now).answers) }
+    ensures state { IfOk result (λ e. state_onward state.old e.1 ≡ (ending_behind replica.now.start (replica.now.applied ++ ops.now) (moved_from state.old moved) front.now).state) }
+    ensures can { IfOk result (λ e. CanGo replica.now.start (replica.now.applied ++ ops.now) state.old e.1) }
+{
+    match moved {
+        Some(next) => {
+            let (answers, state) = ending(alloc, replica, ops, next, front)?;
+            Ok((answers, Onward::Moves { state }))
+        }
+        None => ending_in_place(alloc, replica, ops, state, untold, front),
+    }
 }

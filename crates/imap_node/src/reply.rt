@@ -212,7 +212,7 @@ fn copied_answers(alloc: Global, answers: &[Answer]) -> Result<Vec<Answer>, Allo
     Ok(copies)
 }
 
-fn copied_silents(alloc: Global, silents: &[Silent]) -> Result<Vec<Silent>, AllocError>
+pub fn copied_silents(alloc: Global, silents: &[Silent]) -> Result<Vec<Silent>, AllocError>
     ensures { IfOk result (λ copies. copies.items ≡ silents.now) }
 {
     let mut copies = Vec::with_capacity(alloc, silents.len())?;

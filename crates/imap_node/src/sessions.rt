@@ -78,7 +78,7 @@ pub enum OpenFault {
 
 /// The sessions of a replica by their numbers.
 pub struct Sessions {
-    places: Vec<Option<Session>>,
+    pub(crate) places: Vec<Option<Session>>,
 }
 
 // By hand, so that crates above let it go as a whole.

@@ -112,7 +112,7 @@ fn push_loss(
 }
 
 /// EXISTS, if there are more messages now than before.
-fn push_exists(before: u32, now: u32, answers: &mut Vec<Answer>) -> Result<(), AllocError>
+pub fn push_exists(before: u32, now: u32, answers: &mut Vec<Answer>) -> Result<(), AllocError>
     ensures { OnOk result (answers.new.items ≡ answers.old.items ++ announced before now) }
 {
     if before < now {
@@ -168,7 +168,12 @@ fn push_change(
 }
 
 /// FETCH of a message's UID and flags, and of its mod-sequence where that is asked.
-fn change_of(alloc: Global, modseq: bool, number: u32, row: &Row<'_>) -> Result<Answer, AllocError>
+pub fn change_of(
+    alloc: Global,
+    modseq: bool,
+    number: u32,
+    row: &Row<'_>,
+) -> Result<Answer, AllocError>
     ensures { IfOk result (λ answer. answer ≡ change_of modseq number (listed row.now)) }
 {
     Ok(Answer::Fetch {
@@ -185,7 +190,7 @@ fn change_of(alloc: Global, modseq: bool, number: u32, row: &Row<'_>) -> Result<
 }
 
 /// Whether the flags are those of the message now.
-fn are_same(flags: &Flags, row: &Row<'_>) -> bool
+pub fn are_same(flags: &Flags, row: &Row<'_>) -> bool
     ensures { result ≡ same_flags flags.now (listed row.now).flags }
 {
     row.versions.has_flags(flags)
@@ -234,7 +239,7 @@ fn push_kept(
 }
 
 /// Puts the listing's messages with UIDs above this one behind those that are there.
-fn push_new(
+pub fn push_new(
     alloc: Global,
     uid: u32,
     rows: &Rows<'_>,

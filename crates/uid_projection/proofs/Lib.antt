@@ -21,3 +21,6 @@ pub mod Noted
 pub mod LaterNumbers
 pub mod ListingLaws
 pub mod BoundLemmas
+pub mod NamedLemmas
+pub mod Staying
+pub mod Elsewhere

@@ -123,7 +123,7 @@ module _ (folder : List ℕ) (ops : List Op) (o : Op) (a : IsApplied (ops ++ o �
       ]
 
   -- versions stay where none is removed and none added
-  unchanged_by : (g : OpId) → ((i : OpId) → IsVersion ops folder g i → removes (MessageTag folder i) o ≡ false) → (origin_added folder o ≡ Some g → ⊥) → changes_versions folder g ops o ≡ false
+  pub unchanged_by : (g : OpId) → ((i : OpId) → IsVersion ops folder g i → removes (MessageTag folder i) o ≡ false) → (origin_added folder o ≡ Some g → ⊥) → changes_versions folder g ops o ≡ false
   unchanged_by g kept none =
       let l = versions_listed (ops ++ o ∷ []) folder g in
       let m = versions_listed ops folder g in

@@ -15,6 +15,7 @@ returns c =
     (λ course h. (
       told,
       subst (λ (modseq : Bool). Tells start ops all c.args.session.now.state modseq tagged.tag tagged.command told) c.is_on-modseq.ensures (c.in_ok-told.ensures {u = tt}),
-      h ∙ (λ i. told_course (c.in_ok-first.ensures {u = tt} i) told (c.in_ok-state.ensures {u = tt} i) (c.is_on-modseq.ensures i) tagged.tag tagged.command),
+      h c.args.session.now.state
+          ∙ (λ i. told_course (c.in_ok-first.ensures {u = tt} i) told (c.in_ok-moved.ensures {u = tt} c.args.session.now.state i) (c.is_on-modseq.ensures i) tagged.tag tagged.command),
     ))
     c.told_course.ensures

@@ -1,0 +1,172 @@
+//! Feeds.
+
+ghost use Rattle.std.specs.Prelude.{◌≡◌, ◌⊎◌, ◌≤◌, ◌+◌, ◌-◌, ◌&&◌, [], true, false, nat_lt, length, min, OnOk};
+ghost use Rattle.std.specs.Option.{option_copied};
+ghost use Rattle.idle_feed.specs.Feeds.{after, came_back, notes_told, nothing, one, some_missed, told};
+
+use session_view::{Changes, Note};
+use std::alloc::{AllocError, Global};
+use std::marker::Model;
+use std::mem;
+
+/// The most notes that a feed keeps.
+pub const MAX_NOTES: usize = 4_096;
+
+/// What was taken out of a feed.
+#[derive(Drop)]
+pub enum Taken {
+    /// All notes since the last time.
+    Changes { changes: Changes },
+    /// Some were missed: all of the view is to be compared.
+    Resync,
+}
+
+/// Notes of what a session is still to be told.
+pub struct Feed {
+    notes: Vec<Note>,
+    /// Whether some were missed. No notes are kept then.
+    missed: bool,
+}
+
+// By hand, so that crates above let it go as a whole.
+impl Drop for Feed {
+    fn drop(self) {
+        let Self {
+            notes: _,
+            missed: _,
+        } = self;
+    }
+}
+
+impl Model for Feed {
+    ghost use Rattle.std.specs.Prelude.{◌≡◌, ◌-◌, ◌≤◌, [], true, length, vec_len, vec_capacity};
+    ghost use Rattle.idle_feed.specs.Feeds.{Kept};
+
+    ghost Value = { Kept };
+
+    ghost view = { λ f. record { pending = record { notes = f.notes.items; missed = f.missed }; room = vec_capacity f.notes - vec_len f.notes } };
+
+    ghost invariant = { λ f. record { few : length f.notes.items ≤ 4096; none : f.missed ≡ true → f.notes.items ≡ [] } };
+}
+
+impl Feed {
+    /// A feed with nothing to tell; it has no room.
+    pub fn new(alloc: Global) -> Feed
+        ensures { result.pending ≡ nothing }
+    {
+        Feed {
+            notes: Vec::new(alloc),
+            missed: false,
+        }
+    }
+
+    /// Makes room for so many more notes, or for as many as a feed keeps. `Err` where there is no memory; what is to be told stays anyhow.
+    pub fn ready(&mut self, additional: usize) -> Result<(), AllocError>
+        ensures same { self.new.pending ≡ self.old.pending }
+        ensures ok { OnOk result (min additional (4096 - length self.old.pending.notes) ≤ self.new.room) }
+        ensures room { self.old.room ≤ self.new.room }
+    {
+        let left = MAX_NOTES - self.notes.len();
+        self.notes.reserve(additional.min(left))
+    }
+
+    /// Notes something; takes no memory. The 4,097th note, and one for which there is no room, are missed.
+    pub fn note(&mut self, note: Note)
+        ensures pending { self.new.pending ≡ after self.old.pending (one note (nat_lt 0 self.old.room)) }
+        ensures room { self.old.room ≤ self.new.room + 1 }
+    {
+        if self.missed {
+            return;
+        }
+        if self.has_place() {
+            self.notes.push_reserved(note);
+        } else {
+            self.miss();
+        }
+    }
+
+    /// Takes all notes that came or were put back since the last time, or tells that some were missed; takes no memory. Nothing is to be
+    /// told then.
+    pub fn take(&mut self) -> Taken
+        ensures taken { result ≡ told self.old.pending }
+        ensures rest { self.new.pending ≡ nothing }
+    {
+        if self.missed {
+            self.missed = false;
+            return Taken::Resync;
+        }
+        let empty = Vec::new(*self.notes.allocator());
+        let notes = mem::replace(&mut self.notes, empty);
+        Taken::Changes {
+            changes: Changes::new(notes),
+        }
+    }
+
+    /// Puts back what was taken. It takes no memory where nothing came since.
+    pub fn restore(&mut self, taken: Taken)
+        ensures back { self.old.pending.notes ≡ [] → self.new.pending ≡ after self.old.pending (came_back taken true) }
+        ensures anyhow { (self.new.pending ≡ after self.old.pending (came_back taken true)) ⊎ (self.new.pending ≡ after self.old.pending (came_back taken false)) }
+    {
+        if self.missed {
+            return;
+        }
+        match taken {
+            Taken::Resync => self.miss(),
+            Taken::Changes { changes } => self.put_back(changes.into_notes()),
+        }
+    }
+
+    fn put_back(&mut self, notes: Vec<Note>)
+        ensures back { self.old.pending.notes ≡ [] → self.new.pending ≡ after self.old.pending (record { notes = notes.items; found = true }) }
+        ensures anyhow { (self.new.pending ≡ after self.old.pending (record { notes = notes.items; found = true })) ⊎ (self.new.pending ≡ after self.old.pending (record { notes = notes.items; found = false })) }
+    {
+        if self.missed {
+            return;
+        }
+        if self.notes.len().saturating_add(notes.len()) > MAX_NOTES {
+            self.miss();
+            return;
+        }
+        if self.notes.is_empty() {
+            self.notes = notes;
+            return;
+        }
+        let mut notes = notes;
+        match self.notes.append(&mut notes) {
+            Ok(()) => {}
+            Err(_) => self.miss(),
+        }
+    }
+
+    /// What is to be told, in its order; `None` where some was missed.
+    pub fn notes(&self) -> Option<&[Note]>
+        ensures { option_copied result ≡ notes_told self.now.pending }
+    {
+        if self.missed { None } else { Some(&self.notes) }
+    }
+
+    /// Lets all notes go, and keeps their room; takes no memory.
+    pub fn clear(&mut self)
+        ensures pending { self.new.pending ≡ nothing }
+        ensures room { self.new.room ≡ self.old.room + length self.old.pending.notes }
+    {
+        self.notes.clear();
+        self.missed = false;
+    }
+
+    /// Whether a note is kept that comes now.
+    fn has_place(&self) -> bool
+        ensures { result ≡ (nat_lt 0 self.now.room && nat_lt (length self.now.pending.notes) 4096) }
+    {
+        self.notes.len() < self.notes.capacity() && self.notes.len() < MAX_NOTES
+    }
+
+    /// Some were missed.
+    fn miss(&mut self)
+        ensures pending { self.new.pending ≡ some_missed }
+        ensures room { self.new.room ≡ self.old.room + length self.old.pending.notes }
+    {
+        self.notes.clear();
+        self.missed = true;
+    }
+}

@@ -1,0 +1,114 @@
+-- What sessions are still to be told, behind what operations changed.
+use Rattle.std.specs.List.{list_any}
+use Rattle.std.proofs.Common.{◌≡◌, ◌⊎◌, inl, inr, ℕ, zero, suc, ◌<◌, ◌≤◌, ◌-◌, Bool, true, false, ◌||◌, List, [], ◌∷◌, ◌++◌, length, drop, Option, Some, None, refl, sym, ap, ◌∙◌, subst, append_assoc, arith}
+use Rattle.std.specs.Prelude.{bytes_eq, nat_eq, slice_index_or}
+use Rattle.std.proofs.lemmas.Bool.{cases_Bool, false≢true}
+use Rattle.std.proofs.lemmas.List.{drop_all}
+use Rattle.std.proofs.lemmas.Slice.Eq.{bytes_eq-Decides}
+use Rattle.merge_laws.specs.Orders.{IsIn}
+use Rattle.crdt_ops.specs.declared.op.Op.{Op}
+use Rattle.crdt_ops.specs.Tags.{name_of}
+use Rattle.mail_listing.specs.Listed.{Listed}
+use Rattle.imap_node.specs.Feeds.{AreAllNoted, FolderNoted, IsNews, IsNotedFor, NamesIn, is_named, notes_in, pending_at, with_ended}
+use Rattle.imap_node.specs.Mailboxes.{rows_for}
+use Rattle.session_view.specs.Changes.{NamesAll, flags_at, names}
+use Rattle.session_view.specs.Views.{entries_of}
+use Rattle.session_view.specs.declared.changes.Note.{Note}
+use Rattle.session_view.specs.declared.changes.Note.TheVariants.{Ended}
+use Rattle.session_view.specs.declared.entry.Entry.{Entry}
+use Rattle.uid_projection.specs.declared.start.Start.{Start}
+use Rattle.uid_projection.specs.Applied.{IsApplied}
+use Rattle.uid_projection.specs.Lines.{concerns_by}
+use Rattle.uid_projection.proofs.Lasting.{about_name}
+use Rattle.imap_node.proofs.BesideLemmas.{all_beside}
+
+-- of each mailbox that is named all may differ
+abbrev pub AreEnded : List FolderNoted → Type 0
+AreEnded [] = Unit {0}
+AreEnded (folder ∷ folders) = (folder.notes ≡ Ended ∷ []) × AreEnded folders
+
+pub ended_more : (folders : List FolderNoted) (name : List ℕ) → AreEnded folders → AreEnded (folders ++ record { name = name; notes = Ended ∷ [] } ∷ [])
+ended_more [] name h = (refl, tt)
+ended_more (folder ∷ folders) name h = (h.0, ended_more folders name h.1)
+
+-- the mailboxes named behind these operations
+abbrev pub all_ended : List FolderNoted → List Op → List FolderNoted
+all_ended folders [] = folders
+all_ended folders (o ∷ ops) = all_ended (with_ended folders (name_of o.kind)) ops
+
+named_append : (folders more : List FolderNoted) (name : List ℕ) → is_named folders name ≡ true → is_named (folders ++ more) name ≡ true
+named_append [] more name h = absurd (false≢true h)
+named_append (folder ∷ folders) more name h =
+    elim (cases_Bool (bytes_eq folder.name name)) [
+      | inl t ↦ rw t refl
+      | inr f ↦ rw f (named_append folders more name (rw f at h))
+    ]
+
+named_last : (folders : List FolderNoted) (name : List ℕ) (notes : List Note) → is_named (folders ++ record { name = name; notes = notes } ∷ []) name ≡ true
+named_last [] name notes = rw (same_name name) refl
+  where
+    same_name : (n : List ℕ) → bytes_eq n n ≡ true
+    same_name n = (bytes_eq-Decides n n).1 refl
+named_last (folder ∷ folders) name notes =
+    elim (cases_Bool (bytes_eq folder.name name)) [ inl t ↦ rw t refl | inr f ↦ rw f (named_last folders name notes) ]
+
+with_named : (folders : List FolderNoted) (name n : List ℕ) → is_named folders n ≡ true → is_named (with_ended folders name) n ≡ true
+with_named folders name n h = elim (cases_Bool (is_named folders name)) [ inl t ↦ rw t h | inr f ↦ rw f (named_append folders _ n h) ]
+
+with_own : (folders : List FolderNoted) (name : List ℕ) → is_named (with_ended folders name) name ≡ true
+with_own folders name = elim (cases_Bool (is_named folders name)) [ inl t ↦ rw t t | inr f ↦ rw f (named_last folders name (Ended ∷ [])) ]
+
+with_all : (folders : List FolderNoted) (name : List ℕ) → AreEnded folders → AreEnded (with_ended folders name)
+with_all folders name h = elim (cases_Bool (is_named folders name)) [ inl t ↦ rw t h | inr f ↦ rw f (ended_more folders name h) ]
+
+all_are : (folders : List FolderNoted) (ops : List Op) → AreEnded folders → AreEnded (all_ended folders ops)
+all_are folders [] h = h
+all_are folders (o ∷ ops) h = all_are (with_ended folders (name_of o.kind)) ops (with_all folders (name_of o.kind) h)
+
+all_named : (folders : List FolderNoted) (ops : List Op) (n : List ℕ) → is_named folders n ≡ true → is_named (all_ended folders ops) n ≡ true
+all_named folders [] n h = h
+all_named folders (o ∷ ops) n h = all_named (with_ended folders (name_of o.kind)) ops n (with_named folders (name_of o.kind) n h)
+
+each_named : (folders : List FolderNoted) (ops : List Op) (o : Op) → IsIn o ops → is_named (all_ended folders ops) (name_of o.kind) ≡ true
+each_named folders [] o i = absurd i
+each_named folders (p ∷ ops) o i =
+    elim i [
+      | inl e ↦ all_named (with_ended folders (name_of p.kind)) ops (name_of o.kind) (subst (λ (q : Op). is_named (with_ended folders (name_of p.kind)) (name_of q.kind) ≡ true) e (with_own folders (name_of p.kind)))
+      | inr k ↦ each_named (with_ended folders (name_of p.kind)) ops o k
+    ]
+
+notes_named : (folders : List FolderNoted) (name : List ℕ) → AreEnded folders → is_named folders name ≡ true → notes_in folders name ≡ Ended ∷ []
+notes_named [] name h k = absurd (false≢true k)
+notes_named (folder ∷ folders) name h k =
+    elim (cases_Bool (bytes_eq folder.name name)) [
+      | inl t ↦ rw t h.0
+      | inr f ↦ rw f (notes_named folders name h.1 (rw f at k))
+    ]
+
+notes_unnamed : (folders : List FolderNoted) (name : List ℕ) → is_named folders name ≡ false → notes_in folders name ≡ []
+notes_unnamed [] name k = refl
+notes_unnamed (folder ∷ folders) name k =
+    elim (cases_Bool (bytes_eq folder.name name)) [
+      | inl t ↦ absurd (false≢true (sym (rw t at k)))
+      | inr f ↦ rw f (notes_unnamed folders name (rw f at k))
+    ]
+
+-- such news name what the operations change
+pub ended_news : (start : Start) (list ops : List Op) → IsApplied (list ++ ops) → IsNews start list (list ++ ops) (all_ended [] ops)
+ended_news start list ops a = λ name uidvalidity uid.
+    let folders : List FolderNoted = all_ended [] ops in
+    elim (cases_Bool (is_named folders name)) [
+      | inl t ↦ inr (ap (λ (notes : List Note). list_any (λ (note : Note). names uid note) notes) (notes_named folders name (all_are [] ops tt) t))
+      | inr f ↦ inl (ap (flags_at uid) (sym (all_beside start name ops list a (λ o i. elim (cases_Bool (concerns_by name o.kind)) [
+        | inl c ↦ absurd (false≢true (sym f ∙ ap (is_named folders) (about_name name o.kind c) ∙ each_named [] ops o i))
+        | inr n ↦ n
+      ]) uidvalidity)))
+    ]
+
+-- an input without operations changes nothing
+pub no_news : (start : Start) (list : List Op) → IsNews start list list []
+no_news start list = λ name uidvalidity uid. inl refl
+
+-- the loop over the operations has ended
+pub ended_through : (folders : List FolderNoted) (ops : List Op) (k : ℕ) → length ops ≤ k → all_ended folders (drop k ops) ≡ all_ended [] ops → all_ended [] ops ≡ folders
+ended_through folders ops k l e = sym (sym (ap (all_ended folders) (drop_all k ops l)) ∙ e)

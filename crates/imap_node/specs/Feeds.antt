@@ -1,0 +1,72 @@
+use Rattle.std.specs.List.{list_any}
+use Rattle.std.specs.Prelude.{◌≡◌, ℕ, ◌-◌, Bool, List, [], ◌∷◌, ◌++◌, slice_index_or, bytes_eq, Option, Some, None, if◌then◌else◌}
+use Rattle.crdt_ops.specs.declared.op.Op.{Op}
+use Rattle.idle_feed.specs.Feeds.{Kept, Pending, some_missed}
+use Rattle.imap_node.specs.Mailboxes.{rows_for}
+use Rattle.imap_commands.specs.declared.session.Session.{Session}
+use Rattle.imap_node.specs.Replays.{view_at, view_in}
+use Rattle.imap_node.specs.Sessions.{Places}
+use Rattle.session_view.specs.Changes.{NamesAll}
+use Rattle.session_view.specs.Seen.{Seen, rows_under}
+use Rattle.session_view.specs.Views.{entries_of}
+use Rattle.session_view.specs.declared.changes.Note.{Note}
+use Rattle.session_view.specs.declared.changes.Note.TheVariants.{Ended}
+use Rattle.uid_projection.specs.declared.start.Start.{Start}
+use Rattle.uid_projection.specs.Incarnations.{uidvalidity_of}
+use Rattle.uid_projection.specs.Listing.{listing}
+use Rattle.view_sync.specs.Noted.{IsNoted}
+
+-- A feed that isn't there has missed all.
+abbrev pub lacking : Kept
+lacking = record { pending = some_missed; room = 0 }
+
+-- What the session with this number is still to be told.
+abbrev pub pending_at : List Kept → ℕ → Pending
+pending_at feeds n = (slice_index_or feeds (n - 1) lacking).pending
+
+-- It names every row that differs between the view and its mailbox's listing, or says that some was missed.
+abbrev pub IsNotedFor : Start → List Op → Pending → Seen → Type 0
+IsNotedFor start ops pending view = IsNoted pending (rows_for start ops view) view.entries
+
+-- That of each session does.
+abbrev pub AreAllNoted : Start → List Op → Places → List Kept → Type 0
+AreAllNoted start ops places feeds = (n : ℕ) (view : Seen) → view_at places n ≡ Some view → IsNotedFor start ops (pending_at feeds n) view
+
+-- ---- news: what operations changed
+
+-- What they changed in one mailbox.
+pub record FolderNoted : Type 0 where
+  pub name : List ℕ
+  pub notes : List Note
+
+-- What they changed in the mailbox of this name: nothing where it isn't among these.
+abbrev pub notes_in : List FolderNoted → List ℕ → List Note
+notes_in [] name = []
+notes_in (folder ∷ folders) name = if bytes_eq folder.name name then folder.notes else notes_in folders name
+
+-- The notes name what differs between two moments in the mailbox of this name, in each of its incarnations.
+abbrev pub NamesIn : Start → List Op → List Op → List ℕ → List Note → Type 0
+NamesIn start before after name notes =
+    (uidvalidity : ℕ)
+    → NamesAll notes (rows_under uidvalidity (uidvalidity_of start name after) (listing start name after)) (entries_of (rows_under uidvalidity (uidvalidity_of start name before) (listing start name before)))
+
+-- The news name what differs between two moments in any mailbox.
+abbrev pub IsNews : Start → List Op → List Op → List FolderNoted → Type 0
+IsNews start before after news = (name : List ℕ) → NamesIn start before after name (notes_in news name)
+
+-- A session's feed behind news: it names what differs behind them, if it named what differed before.
+pub record IsBehindNews (news : List FolderNoted) (place : Option Session) (old new : Pending) : Type 0 where
+  pub noted : (start : Start) (before after : List Op) (view : Seen) → IsNews start before after news → view_in place ≡ Some view → IsNotedFor start before old view → IsNotedFor start after new view
+
+-- What a session is still to be told, and what operations changed.
+pub record UntoldOf : Type 0 where
+  pub pending : Pending
+  pub news : List FolderNoted
+
+-- Whether the mailbox of this name is among these.
+abbrev pub is_named : List FolderNoted → List ℕ → Bool
+is_named folders name = list_any (λ folder. bytes_eq folder.name name) folders
+
+-- These, with the mailbox of this name among them: of one that wasn't there, all may differ.
+abbrev pub with_ended : List FolderNoted → List ℕ → List FolderNoted
+with_ended folders name = if is_named folders name then folders else folders ++ record { name = name; notes = Ended ∷ [] } ∷ []

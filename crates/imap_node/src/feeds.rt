@@ -1,0 +1,253 @@
+//! What each session is still to be told of its mailbox.
+
+ghost use Rattle.std.specs.Prelude.{◌≡◌, ℕ, List, [], Option, Some, None, slice_index_or};
+ghost use Rattle.std.specs.Option.{option_map};
+ghost use Rattle.crdt_ops.specs.declared.op.Op.{Op as Operation};
+ghost use Rattle.idle_feed.specs.Feeds.{some_missed};
+ghost use Rattle.imap_commands.specs.declared.session.Session.{Session as One};
+ghost use Rattle.imap_node.specs.Feeds.{AreAllNoted, IsBehindNews, IsNews, IsNotedFor, pending_at};
+ghost use Rattle.imap_node.specs.Going.{CanChange, CanMake, ChangeLeaves, LeavesNoted, gone_on, state_onward, state_with};
+ghost use Rattle.imap_node.specs.Replays.{view_of};
+ghost use Rattle.imap_node.specs.Sessions.{IsOpen, session_at, with_changed};
+ghost use Rattle.session_view.specs.Seen.{Seen};
+ghost use Rattle.uid_projection.specs.declared.start.Start.{Start as First};
+
+use crate::going::{Going, Onward};
+use crate::news::News;
+use crate::sessions::{SessionNo, Sessions};
+use idle_feed::{Feed, Taken};
+use imap_commands::{Session, State};
+use std::alloc::Global;
+use std::marker::Model;
+use view_sync::{Change, commit, note_all};
+
+/// What each session is still to be told, by its number. One without a feed is told by a comparison of all that it sees.
+pub struct Feeds {
+    feeds: Vec<Feed>,
+    /// What is lent where there is no feed.
+    lacking: Feed,
+}
+
+// By hand, so that crates above let it go as a whole.
+impl Drop for Feeds {
+    fn drop(self) {
+        let Self {
+            feeds: _,
+            lacking: _,
+        } = self;
+    }
+}
+
+impl Model for Feeds {
+    ghost use Rattle.std.specs.Prelude.{◌≡◌, List};
+    ghost use Rattle.idle_feed.specs.Feeds.{Kept, some_missed};
+
+    ghost Value = { List Kept };
+
+    ghost view = { λ f. f.feeds.items };
+
+    ghost invariant = { λ f. f.lacking.pending ≡ some_missed };
+}
+
+impl Feeds {
+    /// No feed.
+    pub fn new(alloc: Global) -> Feeds
+        ensures { result ≡ [] }
+    {
+        Feeds {
+            feeds: Vec::new(alloc),
+            lacking: missed(alloc),
+        }
+    }
+
+    /// What the session is still to be told.
+    pub fn of(&self, session: SessionNo) -> &Feed
+        ensures { result.now.pending ≡ pending_at self.now session }
+    {
+        match self.feeds.get(session.get() - 1) {
+            Some(feed) => feed,
+            None => &self.lacking,
+        }
+    }
+
+    /// Makes a place for a session's feed, as far as there is memory; what sessions are to be told stays.
+    pub fn open(&mut self, session: SessionNo)
+        ensures { (n : ℕ) → pending_at self.new n ≡ pending_at self.old n }
+    {
+        open_in(&mut self.feeds, session);
+    }
+
+    /// Makes room for news, as far as there is memory; what sessions are to be told stays.
+    pub fn ready(&mut self, sessions: &Sessions, news: &News)
+        ensures { (n : ℕ) → pending_at self.new n ≡ pending_at self.old n }
+    {
+        if !news.is_empty() {
+            ready_in(&sessions.places, news, &mut self.feeds);
+        }
+    }
+
+    /// Notes news for the sessions whose mailboxes they name; takes no memory.
+    pub fn note(&mut self, sessions: &Sessions, news: &News)
+        ensures { (start : First) (before after : List Operation) → IsNews start before after news.now → AreAllNoted start before sessions.now self.old → AreAllNoted start after sessions.now self.new }
+    {
+        note_in(&sessions.places, news, &mut self.feeds);
+    }
+
+    /// All that sessions see is to be compared.
+    pub fn miss_all(&mut self)
+        ensures { (start : First) (ops : List Operation) (sessions : List (Option One)) → AreAllNoted start ops sessions self.new }
+    {
+        self.feeds.clear();
+    }
+
+    /// An open session goes on, and what its change leaves stays to be told; takes no memory.
+    pub fn go(&mut self, sessions: &mut Sessions, session: SessionNo, going: Going)
+        requires opened { IsOpen sessions.old session }
+        requires can { (s : One) → session_at sessions.old session ≡ Some s → CanMake s.state going.onward }
+        ensures sessions { sessions.new ≡ with_changed sessions.old session (λ s. gone_on s going) }
+        ensures noted { (start : First) (ops : List Operation) → ((s : One) → session_at sessions.old session ≡ Some s → LeavesNoted start ops s.state going.onward) → AreAllNoted start ops sessions.old self.old → AreAllNoted start ops sessions.new self.new }
+    {
+        go_in(&mut sessions.places, &mut self.feeds, session, going);
+    }
+}
+
+/// A feed that missed all.
+fn missed(alloc: Global) -> Feed
+    ensures { result.pending ≡ some_missed }
+{
+    let mut feed = Feed::new(alloc);
+    feed.restore(Taken::Resync);
+    feed
+}
+
+fn open_in(feeds: &mut Vec<Feed>, session: SessionNo)
+    ensures { (n : ℕ) → pending_at feeds.new.items n ≡ pending_at feeds.old.items n }
+{
+    if feeds.len() < session.get() {
+        let feed = missed(*feeds.allocator());
+        match feeds.push(feed) {
+            Ok(()) => {}
+            Err(_) => {}
+        }
+    }
+}
+
+fn ready_in(places: &[Option<Session>], news: &News, feeds: &mut Vec<Feed>)
+    ensures { (n : ℕ) → pending_at feeds.new.items n ≡ pending_at feeds.old.items n }
+{
+    for place in 0..feeds.len() {
+        if place < places.len() {
+            ready_at(&places[place], news, &mut feeds[place]);
+        }
+    }
+}
+
+/// Makes room for what this session is to be told of these news.
+fn ready_at(place: &Option<Session>, news: &News, feed: &mut Feed)
+    ensures { feed.new.pending ≡ feed.old.pending }
+{
+    if let Some(session) = place {
+        if let State::Selected { view, .. } = &session.state {
+            let notes = news.notes_of(view.name());
+            match feed.ready(notes.len()) {
+                Ok(()) => {}
+                Err(_) => {}
+            }
+        }
+    }
+}
+
+fn note_in(places: &[Option<Session>], news: &News, feeds: &mut Vec<Feed>)
+    ensures { (start : First) (before after : List Operation) → IsNews start before after news.now → AreAllNoted start before places.now feeds.old.items → AreAllNoted start after places.now feeds.new.items }
+{
+    for place in 0..feeds.len() {
+        note_at(places, place, news, &mut feeds[place]);
+    }
+}
+
+/// Notes for the session at this place, if there is one, what the news tell of its mailbox.
+fn note_at(places: &[Option<Session>], place: usize, news: &News, feed: &mut Feed)
+    ensures { IsBehindNews news.now (slice_index_or places.now place None) feed.old.pending feed.new.pending }
+{
+    if let Some(place) = places.get(place) {
+        note_one(place, news, feed);
+    }
+}
+
+/// The same of this session.
+fn note_one(place: &Option<Session>, news: &News, feed: &mut Feed)
+    ensures { IsBehindNews news.now place.now feed.old.pending feed.new.pending }
+{
+    if let Some(session) = place {
+        if let State::Selected { view, .. } = &session.state {
+            note_all(feed, news.notes_of(view.name()));
+        }
+    }
+}
+
+fn go_in(places: &mut Vec<Option<Session>>, feeds: &mut Vec<Feed>, session: SessionNo, going: Going)
+    requires opened { IsOpen places.old.items session }
+    requires can { (s : One) → session_at places.old.items session ≡ Some s → CanMake s.state going.onward }
+    ensures sessions { places.new.items ≡ with_changed places.old.items session (λ s. gone_on s going) }
+    ensures noted { (start : First) (ops : List Operation) → ((s : One) → session_at places.old.items session ≡ Some s → LeavesNoted start ops s.state going.onward) → AreAllNoted start ops places.old.items feeds.old.items → AreAllNoted start ops places.new.items feeds.new.items }
+{
+    let place = session.get() - 1;
+    if place >= places.len() {
+        unreachable!()
+    }
+    if place < feeds.len() {
+        go(&mut places[place], &mut feeds[place], going);
+    } else {
+        let mut none = missed(*feeds.allocator());
+        go(&mut places[place], &mut none, going);
+    }
+}
+
+/// The same of this session, with its feed.
+fn go(place: &mut Option<Session>, feed: &mut Feed, going: Going)
+    requires { (s : One) → place.old ≡ Some s → CanMake s.state going.onward }
+    ensures place { place.new ≡ option_map (λ s. gone_on s going) place.old }
+    ensures noted { (start : First) (ops : List Operation) (s : One) → place.old ≡ Some s → LeavesNoted start ops s.state going.onward → ((view : Seen) → view_of s.state ≡ Some view → IsNotedFor start ops feed.old.pending view) → (view : Seen) → view_of (state_onward s.state going.onward) ≡ Some view → IsNotedFor start ops feed.new.pending view }
+{
+    if let Some(session) = place {
+        let Going {
+            onward,
+            condstore,
+            idling,
+        } = going;
+        go_on(&mut session.state, feed, onward);
+        session.condstore = condstore;
+        session.idling = idling;
+    }
+}
+
+/// What becomes of a state, with what is still to be told then.
+fn go_on(state: &mut State, feed: &mut Feed, onward: Onward)
+    requires { CanMake state.old onward }
+    ensures state { state.new ≡ state_onward state.old onward }
+    ensures noted { (start : First) (ops : List Operation) → LeavesNoted start ops state.old onward → ((view : Seen) → view_of state.old ≡ Some view → IsNotedFor start ops feed.old.pending view) → (view : Seen) → view_of state.new ≡ Some view → IsNotedFor start ops feed.new.pending view }
+{
+    match onward {
+        Onward::Moves { state: next } => {
+            *state = next;
+            feed.clear();
+            feed.restore(Taken::Resync);
+        }
+        Onward::Stays { change } => change_in(state, feed, change),
+    }
+}
+
+/// The view of the mailbox that is selected, if one is, is changed so.
+fn change_in(state: &mut State, feed: &mut Feed, change: Option<Change>)
+    requires { CanChange state.old change }
+    ensures state { state.new ≡ state_with state.old change }
+    ensures noted { (start : First) (ops : List Operation) → ChangeLeaves start ops state.old change → ((view : Seen) → view_of state.old ≡ Some view → IsNotedFor start ops feed.old.pending view) → (view : Seen) → view_of state.new ≡ Some view → IsNotedFor start ops feed.new.pending view }
+{
+    let Some(change) = change else {
+        return;
+    };
+    match state {
+        State::Selected { view, .. } => commit(view, feed, change),
+        _ => drop(change),
+    }
+}

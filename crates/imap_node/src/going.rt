@@ -1,0 +1,25 @@
+//! What becomes of a session whose input is carried out.
+
+use imap_commands::State;
+use imap_types::Octets;
+use view_sync::Change;
+
+/// What becomes of a session's state.
+#[derive(Drop)]
+pub enum Onward {
+    /// It is this then.
+    Moves { state: State },
+    /// It stays, and where a mailbox is selected, its view is changed so.
+    Stays { change: Option<Change> },
+}
+
+/// What becomes of a session whose input is carried out.
+#[derive(Drop)]
+pub struct Going {
+    /// What becomes of its state.
+    pub onward: Onward,
+    /// Whether mod-sequences are told then.
+    pub condstore: bool,
+    /// The tag of the IDLE that has not ended then, if one has not.
+    pub idling: Option<Octets>,
+}

@@ -1,0 +1,438 @@
+//! Syncs that look at named messages alone.
+
+ghost use Rattle.std.specs.Prelude.{◌≡◌, ◌⊎◌, true, ◌≤◌, ◌+◌, ◌-◌, ◌<◌, ◌^◌, ◌++◌, List, [], ℕ, ◌∷◌, drop, length, vec_len, vec_capacity, IfOk, OnOk, Some};
+ghost use Rattle.std.specs.List.{slice_get};
+ghost use Rattle.std.specs.Option.{option_copied};
+ghost use Rattle.mail_listing.specs.Listing.{listed};
+ghost use Rattle.session_view.specs.Changes.{AreAscending, HasPlace, NamesAll, all_flags_told, expunged, left_noted, patched, without_from};
+ghost use Rattle.session_view.specs.Notes.{Covers};
+ghost use Rattle.session_view.specs.Sync.{announced, change, staying, sync_answers, synced};
+ghost use Rattle.session_view.specs.Views.{AreRising, last_from, last_uid};
+ghost use Rattle.session_view.specs.Walks.{Stands, gone_by, left_by};
+ghost use Rattle.session_view.specs.declared.entry.SyncKind.TheVariants.{Full};
+
+use crate::changes::Note;
+use crate::entry::{Entry, SyncKind, count_of, last_uid};
+use crate::places::count_below;
+use crate::replaying::{Silent, set_flags, take_number};
+use crate::syncing::{are_same, change_of, push_exists, push_new};
+use imap_answers::Answer;
+use mail_listing::{Row, Rows};
+use std::alloc::{AllocError, Global};
+use std::mem;
+
+/// What a sync does to a view: the numbers of the messages that are gone, ascending, what came behind, and the flags that changed, by
+/// the numbers behind these.
+#[derive(Drop)]
+pub struct Patch {
+    pub(crate) gone: Vec<u32>,
+    pub(crate) came: Vec<Entry>,
+    pub(crate) flags: Vec<Silent>,
+    /// Empty, with room for the whole view where something came: what holds a view doesn't tell whether it has room itself.
+    pub(crate) place: Vec<Entry>,
+}
+
+/// What a sync comes to, with all memory that it takes.
+#[derive(Drop)]
+pub struct Told {
+    /// What it sends.
+    pub answers: Vec<Answer>,
+    /// What it does to the view.
+    pub patch: Patch,
+    /// What stays to be told: of a partial sync the messages that are gone.
+    pub left: Vec<Note>,
+    /// Whether that is all that differs behind it, as it is where what the view lacked came after its messages.
+    pub whole: bool,
+}
+
+/// What a sync comes to behind flags that are set first.
+#[derive(Drop)]
+pub struct ToldBehind {
+    /// These flags.
+    pub first: Vec<Silent>,
+    /// The sync.
+    pub told: Told,
+}
+
+/// How far a view has been looked through.
+#[derive(Drop)]
+pub struct Walk {
+    /// How many messages are done.
+    done: usize,
+    /// The numbers of those that are gone and are told so.
+    gone: Vec<u32>,
+    /// The flags that changed.
+    flags: Vec<Silent>,
+    /// What is told of them.
+    fetches: Vec<Answer>,
+    /// What stays to be told.
+    left: Vec<Note>,
+}
+
+/// What a sync of this view with this listing comes to, where these ascending UIDs are those of all messages of the view that differ, or
+/// more. It looks these up in the view and in the listing, and reads what the listing has behind the view. `Err` where there is no memory.
+pub fn told_by(
+    alloc: Global,
+    kind: SyncKind,
+    modseq: bool,
+    rows: &Rows<'_>,
+    view: &[Entry],
+    uids: &[u32],
+) -> Result<Told, AllocError>
+    requires rising { AreRising 1 view.now }
+    requires ascending { AreAscending 0 uids.now }
+    requires covers { Covers uids.now rows.now view.now }
+    ensures answers { IfOk result (λ told. told.answers.items ≡ sync_answers kind modseq rows.now view.now) }
+    ensures patch { IfOk result (λ told. patched view.now told.patch.gone.items told.patch.came.items told.patch.flags.items ≡ synced kind rows.now view.now) }
+    ensures left { IfOk result (λ told. told.left.items ≡ left_noted kind rows.now view.now) }
+    ensures whole { IfOk result (λ told. told.whole ≡ true → NamesAll told.left.items rows.now (synced kind rows.now view.now)) }
+    ensures place { IfOk result (λ told. HasPlace view.now told.patch) }
+{
+    let count = count_of(view);
+    let listed = rows.count();
+    let Walk {
+        gone,
+        flags,
+        fetches,
+        left,
+        ..
+    } = walked(alloc, kind, modseq, rows, view, uids)?;
+    let mut came = Vec::new(alloc);
+    let last = last_staying(kind, rows, view);
+    push_new(alloc, last, rows, &mut came)?;
+    let _last = last_from(last, &came);
+    ended(alloc, count, listed, gone, came, flags, fetches, left)
+}
+
+/// What a sync comes to that takes these out of so many messages, puts these behind, and sets these flags, with a listing of so many.
+fn ended(
+    alloc: Global,
+    count: u32,
+    listed: u32,
+    gone: Vec<u32>,
+    came: Vec<Entry>,
+    flags: Vec<Silent>,
+    fetches: Vec<Answer>,
+    left: Vec<Note>,
+) -> Result<Told, AllocError>
+    requires few { length gone.items ≤ count }
+    requires fits { count - length gone.items + length came.items < 2 ^ 32 }
+    ensures answers { IfOk result (λ told. told.answers.items ≡ expunged gone.items ++ (announced (count - length gone.items) (count - length gone.items + length came.items) ++ fetches.items)) }
+    ensures gone { IfOk result (λ told. told.patch.gone.items ≡ gone.items) }
+    ensures came { IfOk result (λ told. told.patch.came.items ≡ came.items) }
+    ensures flags { IfOk result (λ told. told.patch.flags.items ≡ flags.items) }
+    ensures left { IfOk result (λ told. told.left.items ≡ left.items) }
+    ensures whole { IfOk result (λ told. told.whole ≡ true → count - length gone.items + length came.items ≡ listed + length left.items) }
+    ensures empty { IfOk result (λ told. told.patch.place.items ≡ []) }
+    ensures place { IfOk result (λ told. (came.items ≡ []) ⊎ (count + length came.items ≤ vec_capacity told.patch.place)) }
+{
+    let answers = answered(alloc, count, &gone, &came, fetches)?;
+    let whole = is_whole(
+        count as usize - gone.len() + came.len(),
+        listed as usize,
+        left.len(),
+    );
+    let place = place_for(alloc, count as usize, &came)?;
+    Ok(Told {
+        answers,
+        patch: Patch {
+            gone,
+            came,
+            flags,
+            place,
+        },
+        left,
+        whole,
+    })
+}
+
+/// Whether so many messages are those listed and those that stay to be told.
+fn is_whole(count: usize, listed: usize, left: usize) -> bool
+    ensures { result ≡ true → count ≡ listed + left }
+{
+    count >= listed && count - listed == left
+}
+
+/// Room for so many messages and these, where there are some.
+fn place_for(alloc: Global, count: usize, came: &[Entry]) -> Result<Vec<Entry>, AllocError>
+    requires { count + length came.now < 2 ^ 33 }
+    ensures empty { IfOk result (λ place. place.items ≡ []) }
+    ensures room { IfOk result (λ place. (came.now ≡ []) ⊎ (count + length came.now ≤ vec_capacity place)) }
+{
+    if came.is_empty() {
+        return Ok(Vec::new(alloc));
+    }
+    Vec::with_capacity(alloc, count + came.len())
+}
+
+/// The last UID, this one where there is no message.
+fn last_from(low: u32, entries: &[Entry]) -> u32
+    ensures { result ≡ last_from low entries.now }
+{
+    match entries.last() {
+        Some(entry) => entry.uid,
+        None => low,
+    }
+}
+
+/// What is sent: EXPUNGE of these numbers, the last one first, EXISTS if messages came, and these FETCHes.
+fn answered(
+    alloc: Global,
+    count: u32,
+    gone: &[u32],
+    came: &[Entry],
+    fetches: Vec<Answer>,
+) -> Result<Vec<Answer>, AllocError>
+    requires few { length gone.now ≤ count }
+    requires fits { count - length gone.now + length came.now < 2 ^ 32 }
+    ensures { IfOk result (λ answers. answers.items ≡ expunged gone.now ++ (announced (count - length gone.now) (count - length gone.now + length came.now) ++ fetches.items)) }
+{
+    let mut answers = Vec::new(alloc);
+    push_expunged(gone, &mut answers)?;
+    let staying = count as usize - gone.len();
+    push_exists(staying as u32, (staying + came.len()) as u32, &mut answers)?;
+    let mut fetches = fetches;
+    answers.append(&mut fetches)?;
+    Ok(answers)
+}
+
+/// EXPUNGE of these numbers, the last one first.
+fn push_expunged(gone: &[u32], answers: &mut Vec<Answer>) -> Result<(), AllocError>
+    ensures { OnOk result (answers.new.items ≡ answers.old.items ++ expunged gone.now) }
+{
+    for i in (0..gone.len()).rev() {
+        answers.push(Answer::Expunge { number: gone[i] })?;
+    }
+    Ok(())
+}
+
+/// The UID of the last message that stays, 0 where none does. It looks up those behind it, which are gone.
+fn last_staying(kind: SyncKind, rows: &Rows<'_>, view: &[Entry]) -> u32
+    ensures { result ≡ last_uid (staying kind rows.now view.now) }
+{
+    match kind {
+        SyncKind::Full => last_there(rows, view),
+        SyncKind::Partial => last_uid(view),
+    }
+}
+
+fn last_there(rows: &Rows<'_>, view: &[Entry]) -> u32
+    ensures { result ≡ last_uid (staying Full rows.now view.now) }
+{
+    for i in (0..view.len()).rev() {
+        let uid = view[i].uid;
+        if let Some(_) = rows.row_of(uid) {
+            return uid;
+        }
+    }
+    0
+}
+
+/// A view that was looked through by these UIDs.
+fn walked(
+    alloc: Global,
+    kind: SyncKind,
+    modseq: bool,
+    rows: &Rows<'_>,
+    view: &[Entry],
+    uids: &[u32],
+) -> Result<Walk, AllocError>
+    requires rising { AreRising 1 view.now }
+    requires count { length view.now < 2 ^ 32 }
+    requires ascending { AreAscending 0 uids.now }
+    requires covers { Covers uids.now rows.now view.now }
+    ensures { IfOk result (λ walk. Stands kind modseq rows.now view.now [] walk) }
+{
+    let mut walk = Walk {
+        done: 0,
+        gone: Vec::new(alloc),
+        flags: Vec::new(alloc),
+        fetches: Vec::new(alloc),
+        left: Vec::new(alloc),
+    };
+    for uid in uids {
+        walk_one(alloc, kind, modseq, rows, view, *uid, &mut walk)?;
+    }
+    Ok(walk)
+}
+
+/// Looks at the message with this UID, if the view has it among those that aren't done.
+fn walk_one(
+    alloc: Global,
+    kind: SyncKind,
+    modseq: bool,
+    rows: &Rows<'_>,
+    view: &[Entry],
+    uid: u32,
+    walk: &mut Walk,
+) -> Result<(), AllocError>
+    requires rising { AreRising 1 view.now }
+    requires count { length view.now < 2 ^ 32 }
+    requires few { length walk.now.gone.items ≤ walk.now.done }
+    ensures few { OnOk result (length walk.new.gone.items ≤ walk.new.done) }
+    ensures stands { OnOk result ((rest : List ℕ) → Stands kind modseq rows.now view.now (uid ∷ rest) walk.old → Stands kind modseq rows.now view.now rest walk.new) }
+{
+    let place = count_below(view, u64::from(uid));
+    if place < walk.done {
+        return Ok(());
+    }
+    let Some(entry) = entry_at(view, place) else {
+        return Ok(());
+    };
+    if entry.uid != uid {
+        return Ok(());
+    }
+    walk.done = place;
+    take_named(alloc, kind, modseq, rows, entry, walk)
+}
+
+/// The message at this place, from 0.
+fn entry_at(view: &[Entry], place: usize) -> Option<&Entry>
+    ensures { option_copied result ≡ slice_get view.now place }
+{
+    view.get(place)
+}
+
+/// Takes in the next message.
+fn take_named(
+    alloc: Global,
+    kind: SyncKind,
+    modseq: bool,
+    rows: &Rows<'_>,
+    entry: &Entry,
+    walk: &mut Walk,
+) -> Result<(), AllocError>
+    requires few { length walk.now.gone.items ≤ walk.now.done }
+    requires fits { walk.now.done + 1 < 2 ^ 32 }
+    ensures few { OnOk result (length walk.new.gone.items ≤ walk.new.done) }
+    ensures stands { OnOk result ((view : List Entry) → (rest : List ℕ) → (back : List Entry) → drop walk.old.done view ≡ entry.now ∷ back → Covers rest rows.now back → Stands kind modseq rows.now view (entry.now.uid ∷ rest) walk.old → Stands kind modseq rows.now view rest walk.new) }
+{
+    let number = (walk.done - walk.gone.len()) as u32 + 1;
+    walk.done += 1;
+    match rows.row_of(entry.uid) {
+        Some(row) => {
+            push_told(
+                alloc,
+                modseq,
+                number,
+                entry,
+                &row,
+                &mut walk.flags,
+                &mut walk.fetches,
+            )
+        }
+        None => push_gone(
+            kind,
+            walk.done as u32,
+            entry.uid,
+            &mut walk.gone,
+            &mut walk.left,
+        ),
+    }
+}
+
+/// Puts FETCH of a message's flags behind those that are there, and the flags behind theirs, where they differ.
+fn push_told(
+    alloc: Global,
+    modseq: bool,
+    number: u32,
+    entry: &Entry,
+    row: &Row<'_>,
+    flags: &mut Vec<Silent>,
+    fetches: &mut Vec<Answer>,
+) -> Result<(), AllocError>
+    ensures fetches { OnOk result (fetches.new.items ≡ fetches.old.items ++ change modseq number entry.now (Some (listed row.now))) }
+    ensures flags { OnOk result (flags.new.items ≡ flags.old.items ++ all_flags_told (change modseq number entry.now (Some (listed row.now)))) }
+{
+    if are_same(&entry.flags, row) {
+        return Ok(());
+    }
+    fetches.push(change_of(alloc, modseq, number, row)?)?;
+    let copy = row.versions.flags(alloc)?;
+    flags.push(Silent {
+        number,
+        flags: copy,
+    })?;
+    Ok(())
+}
+
+/// Keeps what is to be done of a message that is gone: its number, or a note of it where that isn't told.
+fn push_gone(
+    kind: SyncKind,
+    number: u32,
+    uid: u32,
+    gone: &mut Vec<u32>,
+    left: &mut Vec<Note>,
+) -> Result<(), AllocError>
+    ensures gone { OnOk result (gone.new.items ≡ gone.old.items ++ gone_by kind number) }
+    ensures left { OnOk result (left.new.items ≡ left.old.items ++ left_by kind uid) }
+{
+    match kind {
+        SyncKind::Full => gone.push(number)?,
+        SyncKind::Partial => left.push(Note::Gone { uid })?,
+    }
+    Ok(())
+}
+
+/// Does to a view what a sync comes to, where there is room for what came; takes no memory.
+pub fn patch_in(entries: &mut Vec<Entry>, patch: Patch)
+    requires { HasPlace entries.now.items patch }
+    ensures { entries.new.items ≡ patched entries.old.items patch.gone.items patch.came.items patch.flags.items }
+{
+    let Patch {
+        gone,
+        came,
+        flags,
+        place,
+    } = patch;
+    take_all_out(&gone, entries);
+    put_behind(came, place, entries);
+    for silent in flags {
+        let Silent { number, flags } = silent;
+        set_flags(number, flags, entries.as_mut_slice());
+    }
+}
+
+/// Takes the messages with these numbers out, the last one first.
+fn take_all_out(gone: &[u32], entries: &mut Vec<Entry>)
+    ensures items { entries.new.items ≡ without_from gone.now entries.old.items }
+    ensures len { vec_len entries.new ≤ vec_len entries.old }
+    ensures capacity { vec_capacity entries.new ≡ vec_capacity entries.old }
+{
+    for i in (0..gone.len()).rev() {
+        take_number(gone[i], entries);
+    }
+}
+
+/// Puts messages behind those that are there: in their room, or, where that is too small, with them in this place.
+fn put_behind(came: Vec<Entry>, place: Vec<Entry>, entries: &mut Vec<Entry>)
+    requires empty { place.items ≡ [] }
+    requires room { (came.items ≡ []) ⊎ (length entries.now.items + length came.items ≤ vec_capacity place) }
+    ensures { entries.new.items ≡ entries.old.items ++ came.items }
+{
+    if came.is_empty() {
+        return;
+    }
+    if came.len() <= entries.capacity() - entries.len() {
+        move_behind(came, entries);
+        return;
+    }
+    let mut all = place;
+    let empty = Vec::new(*entries.allocator());
+    move_behind(mem::replace(entries, empty), &mut all);
+    move_behind(came, &mut all);
+    *entries = all;
+}
+
+/// Puts messages behind those that are there, where there is room for them.
+fn move_behind(came: Vec<Entry>, entries: &mut Vec<Entry>)
+    requires { length entries.now.items + length came.items ≤ vec_capacity entries.now }
+    ensures items { entries.new.items ≡ entries.old.items ++ came.items }
+    ensures capacity { vec_capacity entries.old ≤ vec_capacity entries.new }
+{
+    let mut came = came;
+    match entries.append(&mut came) {
+        Ok(()) => {}
+        Err(_) => unreachable!(),
+    }
+}

@@ -1,0 +1,205 @@
+use Rattle.std.specs.List.{slice_get}
+use Rattle.std.specs.Option.{option_to_list}
+use Rattle.std.proofs.Common.{◌≡◌, ◌⊎◌, inl, inr, ℕ, zero, suc, ◌+◌, ◌-◌, ◌<◌, ◌≤◌, nat_eq, nat_lt, Bool, true, false, cond, ◌&&◌, ◌||◌, Option, Some, None, List, [], ◌∷◌, ◌++◌, length, map, drop, get_or, refl, sym, ap, ◌∙◌, subst, arith, append_assoc}
+use Rattle.std.proofs.lemmas.Bool.{cases_Bool, eq-eqb, eqb-true, false≢true, or_cases}
+use Rattle.std.proofs.lemmas.Bool.Decides.{nat_tests}
+use Rattle.tags_clocks.specs.declared.id.OpId.{OpId}
+use Rattle.merge_laws.specs.Orders.{IsIn}
+use Rattle.merge_laws.proofs.Lists.{in_back, in_front}
+use Rattle.entry_table.specs.declared.entry.Entry.{Entry}
+use Rattle.entry_table.specs.Entries.{IsAt, Lacks}
+use Rattle.crdt_ops.specs.declared.op.Op.{Op}
+use Rattle.crdt_ops.specs.Order.{is_some_id, same_id}
+use Rattle.crdt_ops.specs.Tags.{removed_ids}
+use Rattle.crdt_ops.proofs.Members.{in_filter, in_map}
+use Rattle.mail_listing.specs.Listed.{Listed}
+use Rattle.mail_listing.specs.Listing.{AreRisingRows, beyond, row_of}
+use Rattle.uid_projection.specs.Lines.{concerns_by}
+use Rattle.uid_projection.specs.Moves.{AreApart, added_origin, loses}
+use Rattle.uid_projection.specs.Touched.{AddsUids, AreUidsFrom, names}
+use Rattle.uid_projection.proofs.Moving.{same_own, same_true}
+
+-- ---- the row with a UID
+
+same_row : (a b : Listed) → ◌≡◌ {A = Option Listed} (Some a) (Some b) → a ≡ b
+same_row a b h = cc
+
+pub row_cases : (o : Option Listed) → (o ≡ None) ⊎ ((r : Listed) × (o ≡ Some r))
+row_cases None = inl refl
+row_cases (Some r) = inr (r, refl)
+
+-- it is a row, with this UID
+pub row_found : (uid : ℕ) (rows : List Listed) (r : Listed) → row_of uid rows ≡ Some r → IsIn r rows × (r.uid ≡ uid)
+row_found uid [] r h = absurd cc
+row_found uid (x ∷ rows) r h =
+    elim (cases_Bool (nat_eq x.uid uid)) [
+      | inl t ↦
+          let e : x ≡ r = same_row x r (sym (ap (λ b. cond {A = Option Listed} b (Some x) (row_of uid rows)) t) ∙ h) in
+          (inl e, subst (λ (y : Listed). y.uid ≡ uid) e (eqb-true x.uid uid t))
+      | inr f ↦
+          let w = row_found uid rows r (sym (ap (λ b. cond {A = Option Listed} b (Some x) (row_of uid rows)) f) ∙ h) in
+          (inr w.0, w.1)
+    ]
+
+-- the only row with the UID is found
+pub row_here : (uid : ℕ) (rows : List Listed) (r : Listed) → IsIn r rows → r.uid ≡ uid → ((x : Listed) → IsIn x rows → x.uid ≡ uid → x ≡ r) → row_of uid rows ≡ Some r
+row_here uid [] r i e one = absurd i
+row_here uid (x ∷ rows) r i e one =
+    elim (cases_Bool (nat_eq x.uid uid)) [
+      | inl t ↦ rw t (λ k. Some (one x (inl refl) (eqb-true x.uid uid t) k))
+      | inr f ↦ elim i [
+        | inl s ↦ absurd (false≢true (sym f ∙ eq-eqb x.uid uid (ap (λ (y : Listed). y.uid) s ∙ e)))
+        | inr j ↦ rw f (row_here uid rows r j e (λ y k. one y (inr k)))
+      ]
+    ]
+
+-- where no row has it, none is found
+pub row_none : (uid : ℕ) (rows : List Listed) → ((x : Listed) → IsIn x rows → x.uid ≡ uid → ⊥) → row_of uid rows ≡ None
+row_none uid [] h = refl
+row_none uid (x ∷ rows) h =
+    elim (cases_Bool (nat_eq x.uid uid)) [
+      | inl t ↦ absurd (h x (inl refl) (eqb-true x.uid uid t))
+      | inr f ↦ rw f (row_none uid rows (λ y i. h y (inr i)))
+    ]
+
+-- ---- UIDs from a first one on
+
+rising_least : (low : ℕ) (rows : List Listed) → AreRisingRows low rows → (r : Listed) → IsIn r rows → low ≤ r.uid
+rising_least low [] h r i = absurd i
+rising_least low (x ∷ rows) h r i =
+    let first : low ≤ x.uid = h.0 in
+    elim i [
+      | inl e ↦ subst (λ (y : Listed). low ≤ y.uid) e first
+      | inr j ↦ let l = rising_least (x.uid + 1) rows h.1 r j in omega (arith, first, l)
+    ]
+
+rising_one : (low : ℕ) (rows : List Listed) → AreRisingRows low rows → (a b : Listed) → IsIn a rows → IsIn b rows → a.uid ≡ b.uid → a ≡ b
+rising_one low [] h a b i j e = absurd i
+rising_one low (x ∷ rows) h a b i j e =
+    elim i [
+      | inl p ↦ elim j [
+        | inl q ↦ sym p ∙ q
+        | inr q ↦ let l = rising_least (x.uid + 1) rows h.1 b q in let u = ap (λ (y : Listed). y.uid) p in absurd (omega (arith, l, u, e))
+      ]
+      | inr p ↦ elim j [
+        | inl q ↦ let l = rising_least (x.uid + 1) rows h.1 a p in let u = ap (λ (y : Listed). y.uid) q in absurd (omega (arith, l, u, e))
+        | inr q ↦ rising_one (x.uid + 1) rows h.1 a b p q e
+      ]
+    ]
+
+lt_true : (a b : ℕ) → a < b → nat_lt a b ≡ true
+lt_true a b l = grind (arith, nat_tests)
+
+true_lt : (a b : ℕ) → nat_lt a b ≡ true → a < b
+true_lt a b t = grind (arith, nat_tests)
+
+-- the UIDs of the rows beyond the number below the first
+pub uids_told : (first : ℕ) (rows : List Listed) → AreRisingRows 1 rows → (uids : List ℕ) → uids ≡ map (λ (row : Listed). row.uid) (beyond (first - 1) rows) → AreUidsFrom first rows uids
+uids_told first rows h uids is = record {
+  all = λ uid row l e.
+      let w = row_found uid rows row e in
+      let least = rising_least 1 rows h row w.0 in
+      let u = w.1 in
+      let b : first - 1 < row.uid = omega (arith, least, u, l) in
+      let i : IsIn row (beyond (first - 1) rows) = (in_filter (λ (x : Listed). nat_lt (first - 1) x.uid) rows row).1 (w.0, lt_true (first - 1) row.uid b) in
+      subst (IsIn uid) (sym is) ((in_map (λ (x : Listed). x.uid) (beyond (first - 1) rows) uid).1 (row, i, u));
+  only = λ uid i.
+      let m = (in_map (λ (x : Listed). x.uid) (beyond (first - 1) rows) uid).0 (subst (IsIn uid) is i) in
+      let w = (in_filter (λ (x : Listed). nat_lt (first - 1) x.uid) rows m.0).0 m.1 in
+      let b = true_lt (first - 1) m.0.uid w.1 in
+      let u = m.2 in (
+        omega (arith, b, u),
+        (m.0, row_here uid rows m.0 w.0 u (λ x j e. rising_one 1 rows h x m.0 j w.0 (e ∙ sym u))),
+      );
+}
+
+-- ---- UIDs of a slice of rows, one by one
+
+abbrev uids_of : List Listed → List ℕ
+uids_of rows = map (λ (row : Listed). row.uid) rows
+
+uids_from : (rows : List Listed) (k : ℕ) → uids_of (drop k rows) ≡ uids_of (option_to_list (slice_get rows k)) ++ uids_of (drop (k + 1) rows)
+uids_from [] zero = refl
+uids_from [] (suc k) = let e : suc k + 1 ≡ suc (k + 1) = omega arith in rw e refl
+uids_from (row ∷ rows) zero = refl
+uids_from (row ∷ rows) (suc k) = let e : suc k + 1 ≡ suc (k + 1) = omega arith in rw e (uids_from rows k)
+
+pub uids_more : (rows : List Listed) (k : ℕ) (old new total : List ℕ) → new ≡ old ++ uids_of (option_to_list (slice_get rows k)) → old ++ uids_of (drop k rows) ≡ total → new ++ uids_of (drop (k + 1) rows) ≡ total
+uids_more rows k old new total n t =
+    ap (λ us. us ++ uids_of (drop (k + 1) rows)) n
+    ∙ append_assoc old (uids_of (option_to_list (slice_get rows k))) (uids_of (drop (k + 1) rows))
+    ∙ ap (λ us. old ++ us) (sym (uids_from rows k))
+    ∙ t
+
+-- ---- UIDs of entries that are named
+
+pub adds_none : (p : OpId → Bool) (es : List Entry) (us : List ℕ) → ((g : OpId) → p g ≡ false) → AddsUids p es us us
+adds_none p es us none = record { kept = λ u i. i; named = λ a e i t. absurd (false≢true (sym (none e.origin) ∙ t)) }
+
+pub adds_alike : (p q : OpId → Bool) (es : List Entry) (old new : List ℕ) → ((g : OpId) → p g ≡ q g) → AddsUids p es old new → AddsUids q es old new
+adds_alike p q es old new h r = record { kept = r.kept; named = λ a e i t. r.named a e i (h e.origin ∙ t) }
+
+pub adds_both : (p q : OpId → Bool) (es : List Entry) (a b c : List ℕ) → AddsUids p es a b → AddsUids q es b c → AddsUids (λ g. p g || q g) es a c
+adds_both p q es a b c r s = record {
+  kept = λ u i. s.kept u (r.kept u i);
+  named = λ apart e i t. elim (or_cases (p e.origin) (q e.origin) t) [
+    | inl x ↦ s.kept e.uid (r.named apart e i x)
+    | inr x ↦ s.named apart e i x
+  ];
+}
+
+lacks_in : (g : OpId) (es : List Entry) (x : Entry) → Lacks g es → IsIn x es → same_id g x.origin ≡ false
+lacks_in g [] x l i = absurd i
+lacks_in g (e ∷ es) x l i = elim i [ inl s ↦ subst (λ (y : Entry). same_id g y.origin ≡ false) s l.0 | inr j ↦ lacks_in g es x l.1 j ]
+
+same_entry : (g h : OpId) → g ≡ h → same_id g h ≡ true
+same_entry g h e = subst (λ (j : OpId). same_id g j ≡ true) e (same_own g)
+
+apart_one : (es : List Entry) → AreApart es → (a b : Entry) → IsIn a es → IsIn b es → a.origin ≡ b.origin → a ≡ b
+apart_one [] h a b i j e = absurd i
+apart_one (x ∷ es) h a b i j e =
+    elim i [
+      | inl p ↦ elim j [
+        | inl q ↦ sym p ∙ q
+        | inr q ↦ absurd (false≢true (sym (lacks_in x.origin es b h.0 q) ∙ same_entry x.origin b.origin (ap (λ (y : Entry). y.origin) p ∙ e)))
+      ]
+      | inr p ↦ elim j [
+        | inl q ↦ absurd (false≢true (sym (lacks_in x.origin es a h.0 p) ∙ same_entry x.origin a.origin (ap (λ (y : Entry). y.origin) q ∙ sym e)))
+        | inr q ↦ apart_one es h.1 a b p q e
+      ]
+    ]
+
+entry_at : (es : List Entry) (at : ℕ) → at < length es → (x : Entry) × (slice_get es at ≡ Some x) × IsIn x es × ((d : Entry) → get_or es at d ≡ x)
+entry_at [] at l = absurd (omega (arith, l))
+entry_at (e ∷ es) zero l = (e, refl, inl refl, λ d. refl)
+entry_at (e ∷ es) (suc n) l = let w = entry_at es n (omega (arith, l)) in (w.0, w.1, inr w.2, w.3)
+
+-- the entry of an origin
+pub adds_entry : (g : OpId) (es : List Entry) (at : ℕ) (old new : List ℕ) → IsAt g es at → new ≡ old ++ map (λ (e : Entry). e.uid) (option_to_list (slice_get es at)) → AddsUids (λ h. is_some_id h (Some g)) es old new
+adds_entry g es at old new is add =
+    let w = entry_at es at is.within in
+    let whole : new ≡ old ++ w.0.uid ∷ [] = add ∙ ap (λ o. old ++ map (λ (e : Entry). e.uid) (option_to_list o)) w.1 in
+    record {
+      kept = λ u i. subst (IsIn u) (sym whole) (in_front u old (w.0.uid ∷ []) i);
+      named = λ apart e i t.
+          let own : w.0.origin ≡ g = sym (ap (λ (y : Entry). y.origin) (w.3 e)) ∙ is.has_origin e in
+          let one : w.0 ≡ e = apart_one es apart w.0 e w.2 i (own ∙ sym (same_true e.origin g t)) in
+          subst (IsIn e.uid) (sym whole) (in_back e.uid old (w.0.uid ∷ []) (inl (ap (λ (y : Entry). y.uid) one)));
+    }
+
+-- an origin without an entry
+pub adds_lacking : (g : OpId) (es : List Entry) (us : List ℕ) → Lacks g es → AddsUids (λ h. is_some_id h (Some g)) es us us
+adds_lacking g es us l = record {
+  kept = λ u i. i;
+  named = λ apart e i t. absurd (false≢true (sym (lacks_in g es e l i) ∙ same_entry g e.origin (sym (same_true e.origin g t))));
+}
+
+-- ---- what an operation names
+
+pub names_none : (f : OpId → Option OpId) (folder : List ℕ) (op : Op) → concerns_by folder op.kind ≡ false → (g : OpId) → names f folder g op ≡ false
+names_none f folder op other g = ap (λ b. b && (loses f (removed_ids op.kind) g || is_some_id g (added_origin op))) other
+
+pub names_both : (f : OpId → Option OpId) (folder : List ℕ) (op : Op) (ids : List OpId) (added : Option OpId) → concerns_by folder op.kind ≡ true → ids ≡ removed_ids op.kind → added ≡ added_origin op → (g : OpId) → (loses f ids g || is_some_id g added) ≡ names f folder g op
+names_both f folder op ids added about is own g =
+    (λ k. loses f (is k) g || is_some_id g (own k))
+    ∙ sym (ap (λ b. b && (loses f (removed_ids op.kind) g || is_some_id g (added_origin op))) about)

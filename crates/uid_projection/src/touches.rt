@@ -1,0 +1,149 @@
+//! Which messages of a folder operations to come touch, by their UIDs, and which UIDs are new.
+
+ghost use Rattle.std.specs.Prelude.{◌≡◌, ◌++◌, List, [], Some, IfOk, OnOk, map, drop};
+ghost use Rattle.std.specs.List.{list_any, slice_get};
+ghost use Rattle.std.specs.Option.{option_to_list};
+ghost use Rattle.crdt_ops.specs.declared.op.Op.{Op as Operation};
+ghost use Rattle.crdt_ops.specs.Order.{is_some_id};
+ghost use Rattle.uid_projection.specs.Applied.{IsApplied};
+ghost use Rattle.uid_projection.specs.Following.{Follows};
+ghost use Rattle.uid_projection.specs.Incarnations.{uidvalidity_of};
+ghost use Rattle.uid_projection.specs.Lines.{uidnext_of};
+ghost use Rattle.uid_projection.specs.Listing.{listing};
+ghost use Rattle.uid_projection.specs.Moves.{loses};
+ghost use Rattle.uid_projection.specs.Table.{origin_at};
+ghost use Rattle.uid_projection.specs.Touched.{AddsUids, AreUidsFrom, StayBut, names};
+
+use crate::chart::Chart;
+use crate::charts::Charts;
+use crate::later::is_about;
+use crate::moves::added_origin;
+use crate::origins::origin_at;
+use crate::table::chart_of;
+use crdt_ops::{Op, SoundOp};
+use entry_table::{EntryList, EntryTable};
+use imap_types::Name;
+use mail_listing::Rows;
+use std::alloc::{AllocError, Global};
+use tags_clocks::OpId;
+
+impl Charts {
+    /// The UIDs of the folder's messages that these operations change or expunge, applied next in this order; in no order, and some
+    /// perhaps more than once or although nothing changes. Below the folder's UIDNEXT every other row stays as it is, as long as the
+    /// UIDVALIDITY does. `Err` where there is no memory for them. Cost: what the operations name, a look-up each.
+    pub fn touched(
+        &self,
+        alloc: Global,
+        name: &Name,
+        ops: &[SoundOp],
+    ) -> Result<Vec<u32>, AllocError>
+        ensures { (list : List Operation) → Follows self.now list → IsApplied (list ++ ops.now) → uidvalidity_of self.now.start name.now (list ++ ops.now) ≡ uidvalidity_of self.now.start name.now list → IfOk result (λ uids. StayBut uids.items (uidnext_of self.now.start name.now list) (listing self.now.start name.now list) (listing self.now.start name.now (list ++ ops.now))) }
+    {
+        match chart_of(&self.charts, name) {
+            Some(chart) => uids_named(alloc, chart, name, ops),
+            None => Ok(Vec::new(alloc)),
+        }
+    }
+}
+
+/// The UIDs of the listing from the first on, ascending; `Err` where there is no memory for them. Cost: a binary search, and the UIDs
+/// that it gives.
+pub fn uids_from(alloc: Global, rows: &Rows<'_>, first: u32) -> Result<Vec<u32>, AllocError>
+    ensures { IfOk result (λ uids. AreUidsFrom first rows.now uids.items) }
+{
+    let _count = rows.count();
+    let uids = uids_behind(alloc, rows.place_beyond(first.saturating_sub(1)), rows)?;
+    Ok(uids)
+}
+
+/// The UIDs of the messages that operations about the folder name.
+fn uids_named(
+    alloc: Global,
+    chart: &Chart,
+    folder: &Name,
+    ops: &[SoundOp],
+) -> Result<Vec<u32>, AllocError>
+    ensures { IfOk result (λ uids. AddsUids (λ g. list_any (names (origin_at chart.now.versions.entries) folder.now g) ops.now) chart.now.entries.entries [] uids.items) }
+{
+    let mut uids = Vec::new(alloc);
+    for op in ops {
+        push_named(&mut uids, chart, folder, op.op())?;
+    }
+    Ok(uids)
+}
+
+/// Puts the UIDs of the messages that the operation names behind the others, where it is about the folder.
+fn push_named(uids: &mut Vec<u32>, chart: &Chart, folder: &Name, op: &Op) -> Result<(), AllocError>
+    ensures { OnOk result (AddsUids (λ g. names (origin_at chart.now.versions.entries) folder.now g op.now) chart.now.entries.entries uids.old.items uids.new.items) }
+{
+    if !is_about(&op.kind, folder) {
+        return Ok(());
+    }
+    push_lost(uids, chart, op.kind.removed())?;
+    push_origin(uids, &chart.entries, added_origin(op))
+}
+
+/// Puts the UIDs of the messages of which these are versions behind the others.
+fn push_lost(uids: &mut Vec<u32>, chart: &Chart, removed: &[OpId]) -> Result<(), AllocError>
+    ensures { OnOk result (AddsUids (loses (origin_at chart.now.versions.entries) removed.now) chart.now.entries.entries uids.old.items uids.new.items) }
+{
+    for id in removed {
+        push_origin(uids, &chart.entries, origin_at(&chart.versions, id))?;
+    }
+    Ok(())
+}
+
+/// Puts the UID of the message of this origin, where there is one and it has an entry, behind the others.
+fn push_origin(
+    uids: &mut Vec<u32>,
+    entries: &EntryTable,
+    origin: Option<OpId>,
+) -> Result<(), AllocError>
+    ensures { OnOk result (AddsUids (λ g. is_some_id g origin) entries.now.entries uids.old.items uids.new.items) }
+{
+    match origin {
+        Some(origin) => push_entry(uids, entries, &origin),
+        None => Ok(()),
+    }
+}
+
+/// The same of an origin that is there.
+fn push_entry(uids: &mut Vec<u32>, entries: &EntryTable, origin: &OpId) -> Result<(), AllocError>
+    ensures { OnOk result (AddsUids (λ g. is_some_id g (Some origin.now)) entries.now.entries uids.old.items uids.new.items) }
+{
+    match entries.place_of(origin) {
+        Some(place) => push_at(uids, entries, place),
+        None => Ok(()),
+    }
+}
+
+/// Puts the UID of the entry at this place behind the others.
+fn push_at(uids: &mut Vec<u32>, entries: &EntryTable, place: usize) -> Result<(), AllocError>
+    ensures { OnOk result (uids.new.items ≡ uids.old.items ++ map (λ e. e.uid) (option_to_list (slice_get entries.now.entries place))) }
+{
+    if let Some(entry) = entries.get(place) {
+        uids.push(entry.uid)?;
+    }
+    Ok(())
+}
+
+/// The UIDs of the messages from this place on.
+fn uids_behind(alloc: Global, start: usize, rows: &Rows<'_>) -> Result<Vec<u32>, AllocError>
+    ensures { IfOk result (λ uids. uids.items ≡ map (λ row. row.uid) (drop start rows.now)) }
+{
+    let mut uids = Vec::new(alloc);
+    for place in start..rows.count() as usize {
+        push_uid(rows, place, &mut uids)?;
+    }
+    Ok(uids)
+}
+
+/// Puts the UID of the message at this place behind the others.
+fn push_uid(rows: &Rows<'_>, place: usize, uids: &mut Vec<u32>) -> Result<(), AllocError>
+    ensures { OnOk result (uids.new.items ≡ uids.old.items ++ map (λ row. row.uid) (option_to_list (slice_get rows.now place))) }
+{
+    if let Some(row) = rows.row_at(place) {
+        uids.push(row.uid)?;
+    }
+    Ok(())
+}

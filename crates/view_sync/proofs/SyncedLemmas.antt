@@ -1,0 +1,36 @@
+use Rattle.std.proofs.Common.{◌≡◌, ◌⊎◌, inl, inr, ℕ, ◌≤◌, nat_le, Bool, true, false, List, [], ◌∷◌, ◌++◌, length, refl, sym, ap, ◌∙◌, subst, append_assoc, arith}
+use Rattle.std.proofs.lemmas.Bool.{cases_Bool, false≢true}
+use Rattle.mail_listing.specs.Listed.{Listed}
+use Rattle.view_sync.specs.Noted.{IsLeft, IsNoted}
+use Rattle.idle_feed.specs.Feeds.{Pending, after, came_back, nothing, one, some_missed}
+use Rattle.idle_feed.specs.declared.feed.Taken.{Taken}
+use Rattle.idle_feed.specs.declared.feed.Taken.TheVariants.{Changes, Resync}
+use Rattle.session_view.specs.Changes.{NamesAll}
+use Rattle.session_view.specs.declared.changes.Note.{Note}
+use Rattle.session_view.specs.declared.entry.Entry.{Entry}
+
+-- one note more
+pub missed_stays : (p : Pending) (n : Note) (found : Bool) → p.missed ≡ true → (after p (one n found)).missed ≡ true
+missed_stays p n found m = rw m refl
+
+pub note_step : (p : Pending) (n : Note) (found : Bool) (rest all : List Note) → (p.missed ≡ true) ⊎ (p.notes ++ n ∷ rest ≡ all) → ((after p (one n found)).missed ≡ true) ⊎ ((after p (one n found)).notes ++ rest ≡ all)
+note_step p n found rest all h =
+    elim (cases_Bool p.missed) [
+      | inl m ↦ inl (missed_stays p n found m)
+      | inr k ↦ elim h [
+        | inl m ↦ absurd (false≢true (sym k ∙ m))
+        | inr same ↦ elim (cases_Bool found) [
+          | inr lacks ↦ inl (rw (k, lacks) refl)
+          | inl is ↦ elim (cases_Bool (nat_le (length (p.notes ++ n ∷ [])) 4096)) [
+            | inl fits ↦ inr (rw (k, is, fits) (append_assoc p.notes (n ∷ []) rest ∙ same))
+            | inr over ↦ inl (rw (k, is, over) refl)
+          ]
+        ]
+      ]
+    ]
+
+-- what is put back in an empty feed
+pub left_is_noted : (taken : Taken) (rows : List Listed) (goal : List Entry) → IsLeft taken rows goal → IsNoted (after nothing (came_back taken true)) rows goal
+left_is_noted (Changes notes) rows goal h =
+    elim (cases_Bool (nat_le (length notes) 4096)) [ inl fits ↦ inr (rw fits h) | inr over ↦ inl (rw over refl) ]
+left_is_noted Resync rows goal h = inl refl
