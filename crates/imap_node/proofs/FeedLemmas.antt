@@ -36,7 +36,7 @@ abbrev pub all_ended : List FolderNoted → List Op → List FolderNoted
 all_ended folders [] = folders
 all_ended folders (o ∷ ops) = all_ended (with_ended folders (name_of o.kind)) ops
 
-named_append : (folders more : List FolderNoted) (name : List ℕ) → is_named folders name ≡ true → is_named (folders ++ more) name ≡ true
+pub named_append : (folders more : List FolderNoted) (name : List ℕ) → is_named folders name ≡ true → is_named (folders ++ more) name ≡ true
 named_append [] more name h = absurd (false≢true h)
 named_append (folder ∷ folders) more name h =
     elim (cases_Bool (bytes_eq folder.name name)) [
@@ -44,7 +44,7 @@ named_append (folder ∷ folders) more name h =
       | inr f ↦ rw f (named_append folders more name (rw f at h))
     ]
 
-named_last : (folders : List FolderNoted) (name : List ℕ) (notes : List Note) → is_named (folders ++ record { name = name; notes = notes } ∷ []) name ≡ true
+pub named_last : (folders : List FolderNoted) (name : List ℕ) (notes : List Note) → is_named (folders ++ record { name = name; notes = notes } ∷ []) name ≡ true
 named_last [] name notes = rw (same_name name) refl
   where
     same_name : (n : List ℕ) → bytes_eq n n ≡ true
@@ -85,7 +85,7 @@ notes_named (folder ∷ folders) name h k =
       | inr f ↦ rw f (notes_named folders name h.1 (rw f at k))
     ]
 
-notes_unnamed : (folders : List FolderNoted) (name : List ℕ) → is_named folders name ≡ false → notes_in folders name ≡ []
+pub notes_unnamed : (folders : List FolderNoted) (name : List ℕ) → is_named folders name ≡ false → notes_in folders name ≡ []
 notes_unnamed [] name k = refl
 notes_unnamed (folder ∷ folders) name k =
     elim (cases_Bool (bytes_eq folder.name name)) [

@@ -44,7 +44,7 @@ use Rattle.imap_node.proofs.OwnLemmas.{own_replayed}
 -- ---- a sync in place
 
 module _ (start : Start) (after : List Op) (state : State) (view : Seen) (read_only : Bool) (front : FrontOf) (kind : SyncKind) (rows : List Listed) (first : List Silent)
-  (is : state ≡ Selected view read_only) (k : front.sync ≡ Some kind) (stays : list_any shifts front.own ≡ false) (r : rows ≡ rows_for start after view) (f : first ≡ front.silent ++ all_flags_told front.own) where
+    (is : state ≡ Selected view read_only) (k : front.sync ≡ Some kind) (stays : list_any shifts front.own ≡ false) (r : rows ≡ rows_for start after view) (f : first ≡ front.silent ++ all_flags_told front.own) where
   seen_first : after_silent view.entries first ≡ replayed (rows_for start after view) view.entries front.silent front.own
   seen_first = ap (after_silent view.entries) f ∙ sym (own_replayed (rows_for start after view) view.entries front.silent front.own stays)
 
@@ -59,7 +59,7 @@ module _ (start : Start) (after : List Op) (state : State) (view : Seen) (read_o
   shown_in_place change e =
       ap (λ (s : State). state_with s (Some change)) is
       ∙ ap (λ (es : List Entry). Selected (record view { entries = es }) read_only)
-          (e ∙ (λ i. synced kind (r i) (seen_first i)) ∙ ap (λ (s : Option SyncKind). synced_by s (rows_for start after view) (replayed (rows_for start after view) view.entries front.silent front.own)) (sym k))
+      (e ∙ (λ i. synced kind (r i) (seen_first i)) ∙ ap (λ (s : Option SyncKind). synced_by s (rows_for start after view) (replayed (rows_for start after view) view.entries front.silent front.own)) (sym k))
       ∙ ap (λ (s : State). (ending_behind start after s front).state) (sym is)
 
   pub can_in_place : (change : Change) → CanCommit view.entries change → IsChangeTo rows view.entries change → CanGo start after state (Stays (Some change))
@@ -73,7 +73,7 @@ asked_in_place start before after view pending news rows notes name noted is r n
   rows_for start before view,
   noted,
   subst (λ (rs : List Listed). NamesAll notes rs (entries_of (rows_for start before view))) (sym r)
-  (subst (λ (ns : List Note). NamesAll ns (rows_for start after view) (entries_of (rows_for start before view))) (sym (e ∙ ap (notes_in news) n)) (is view.name view.uidvalidity)),
+      (subst (λ (ns : List Note). NamesAll ns (rows_for start after view) (entries_of (rows_for start before view))) (sym (e ∙ ap (notes_in news) n)) (is view.name view.uidvalidity)),
 )
 
 -- ---- one session that goes on

@@ -20,4 +20,5 @@ pub mod BesideLemmas
 pub mod FeedLemmas
 pub mod OwnLemmas
 pub mod GoingLemmas
+pub mod NewsLemmas
 pub mod ThreadLemmas

@@ -1,7 +1,8 @@
-use Rattle.std.proofs.Common.{◌≡◌, ◌⊎◌, inl, inr, ℕ, Bool, true, false, List, [], ◌∷◌, ◌++◌, Option, Some, None, Vec, Global, refl, sym, ap, ◌∙◌, append-nil, subst, IfOk, IfErr}
+use Rattle.std.proofs.Common.{◌≡◌, ◌⊎◌, inl, inr, ℕ, Bool, true, false, List, [], ◌∷◌, ◌++◌, Option, Some, None, Vec, Global, refl, sym, ap, ◌∙◌, append-nil, subst, arith, ◌+◌, IfOk, IfErr}
 use Rattle.std.specs.Prelude.{Result, Ok, Err, MatchResult, OnErr, ◌&&◌, if◌then◌else◌}
 use Rattle.std.specs.Prelude.{length, ◌==◌}
 use Rattle.std.proofs.lemmas.Bool.{false≢true}
+use Rattle.std.proofs.lemmas.List.{length-append}
 use Rattle.causal_inbox.specs.Seen.{AreIssued, AreKept}
 use Rattle.crdt_ops.specs.declared.kind.Kind.{Kind}
 use Rattle.crdt_ops.specs.declared.op.Op.{Op}
@@ -31,8 +32,9 @@ use Rattle.causal_inbox.specs.Delivery.{Arrives, Refuses}
 use Rattle.causal_inbox.specs.Received.{HasGrown}
 use Rattle.causal_inbox.specs.Seen.{Seen}
 use Rattle.causal_inbox.specs.declared.answers.Arrival.{Arrival}
+use Rattle.causal_inbox.specs.declared.answers.Arrival.TheVariants.{Applied, Held, Repeat}
 use Rattle.causal_inbox.specs.declared.answers.DeliverFault.{DeliverFault}
-use Rattle.causal_inbox.proofs.Union.{arrival_grows, arrival_start}
+use Rattle.causal_inbox.proofs.Union.{arrival_grows, arrival_start, releases_grow}
 use Rattle.uid_projection.specs.Exhaustion.{Exhausts}
 use Rattle.imap_node.proofs.CanLemmas.{input_can}
 use Rattle.imap_node.proofs.FeedLemmas.{no_news}
@@ -166,6 +168,27 @@ deliver_grown arrival old new op (Ok d) h e = (
   arrival_start (λ (o : Op). o.id) (λ (o : Op). o.clock) Exhausts old new op (arrival d) h,
 )
 deliver_grown arrival old new op (Err x) h e = (([], ap (λ (s : Seen Start Op). s.applied) e ∙ sym (append-nil old.applied)), ap (λ (s : Seen Start Op). s.start) e)
+
+-- what a delivery applies that applies one operation
+none_more : {X : Type 0} (xs : List X) → length xs ≡ 0 → xs ≡ []
+none_more [] l = refl
+none_more (x ∷ xs) l = absurd (omega (arith, l))
+
+arrive_one : (old new : Seen Start Op) (op : Op) (came : Arrival) → Arrives (λ (o : Op). o.id) (λ o. o.clock) Exhausts old op came new → length new.applied ≡ length old.applied + 1 → new.applied ≡ old.applied ++ op ∷ []
+arrive_one old new op Repeat h l = let e = ap (λ (s : Seen Start Op). length s.applied) h.1 in absurd (omega (arith, e, l))
+arrive_one old new op Held h l = let e = ap (λ (ops : List Op). length ops) h.3 in absurd (omega (arith, e, l))
+arrive_one old new op (Applied n) h l =
+    let g = releases_grow (λ (o : Op). o.id) (λ (o : Op). o.clock) Exhausts h.2.0 (record old { applied = old.applied ++ op ∷ [] }) new h.2.2 in
+    let a = ap (λ (ops : List Op). length ops) g.1 in
+    let b = length-append (old.applied ++ op ∷ []) g.0 in
+    let d = length-append old.applied (op ∷ []) in
+    g.1 ∙ ap (λ (more : List Op). (old.applied ++ op ∷ []) ++ more) (none_more g.0 (omega (arith, a, b, d, l))) ∙ append-nil (old.applied ++ op ∷ [])
+
+pub deliver_one : {T : Type 0} (arrival : T → Arrival) (old new : Seen Start Op) (op : Op) (r : Result T DeliverFault)
+    → MatchResult r (λ d. Arrives (λ (o : Op). o.id) (λ o. o.clock) Exhausts old op (arrival d) new) (λ e. Refuses (λ (o : Op). o.id) (λ o. o.clock) Exhausts old op e) → OnErr r (new ≡ old)
+    → length new.applied ≡ length old.applied + 1 → new.applied ≡ old.applied ++ op ∷ []
+deliver_one arrival old new op (Ok d) h e l = arrive_one old new op (arrival d) h l
+deliver_one arrival old new op (Err x) h e l = let k = ap (λ (s : Seen Start Op). length s.applied) e in absurd (omega (arith, k, l))
 
 -- nothing is there where it was found that something is
 pub not_empty : (ops os : List Op) (b : Bool) → b ≡ false → b ≡ (length os == 0) → os ≡ ops → ops ≡ [] → ⊥

@@ -11,6 +11,7 @@ pub mod Plans
 pub mod Deliveries
 pub mod Replays
 pub mod Feeds
+pub mod News
 pub mod Going
 pub mod Issues
 pub mod GoingBack

@@ -170,7 +170,16 @@ pub fn ending_in_place(
             let rows = rows_behind(alloc, replica, ops, view)?;
             let notes = untold.news.notes_of(view.name());
             let first = flags_first(alloc, front)?;
-            let planned = plan(alloc, view, untold.feed, &rows, notes, first, kind, front.modseq)?;
+            let planned = plan(
+                alloc,
+                view,
+                untold.feed,
+                &rows,
+                notes,
+                first,
+                kind,
+                front.modseq,
+            )?;
             let Planned { answers, change } = planned;
             Ok((
                 answers,

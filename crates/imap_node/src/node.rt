@@ -1,6 +1,6 @@
 //! A replica with its sessions.
 
-ghost use Rattle.std.specs.Prelude.{◌≡◌, ◌≢◌, ◌↔◌, ℕ, ◌<◌, ◌≤◌, ◌++◌, List, [], Err, IfOk, IsNone, IsSome, IsTrue, MatchResult, None, OnErr, Some, length, take};
+ghost use Rattle.std.specs.Prelude.{◌≡◌, ◌≢◌, ◌↔◌, ℕ, ◌<◌, ◌≤◌, ◌++◌, List, [], Err, IfOk, IsNone, IsSome, IsTrue, MatchResult, None, OnErr, Some, length, take, ◌∷◌, ◌+◌};
 ghost use Rattle.std.specs.Option.{option_copied};
 ghost use Rattle.causal_inbox.specs.Seen.{AreIssued, IsClockOf, held_limit, uncovered};
 ghost use Rattle.crdt_ops.specs.Sets.{delete_set_of, folder_tags_of, folders_of, messages_of, subscribed_of, subscription_tags_of};
@@ -8,7 +8,9 @@ ghost use Rattle.crdt_ops.specs.declared.op.Op.{Op as Operation};
 ghost use Rattle.folder_state.specs.Contents.{IsMadeBy};
 ghost use Rattle.folder_state.specs.Tables.{contents_of};
 ghost use Rattle.imap_commands.specs.declared.session.Session.{Session as One};
+ghost use Rattle.crdt_ops.specs.Tags.{name_of};
 ghost use Rattle.imap_node.specs.Feeds.{AreAllNoted, pending_at};
+ghost use Rattle.imap_node.specs.News.{IsAheadOf};
 ghost use Rattle.imap_node.specs.Plans.{CanStep, done_plan, next_left, place_next, plan_by};
 ghost use Rattle.imap_node.specs.Respond.{KeepsHeld};
 ghost use Rattle.imap_node.specs.Sessions.{IsOpen, session_at, with_session};
@@ -20,7 +22,7 @@ ghost use Rattle.uid_projection.specs.declared.start.Start.{Start as First};
 
 use crate::feeds::Feeds;
 use crate::input::Input;
-use crate::news::{News, coarse_news};
+use crate::news::{Ahead, News, ahead_of, coarse_news, delivered_news};
 use crate::planning::{Answered, Next, Plan, Prepared, prepare_for};
 use crate::replica::Replica;
 use crate::reply::{Issued, Reply};
@@ -36,6 +38,7 @@ use imap_types::{Moment, Name};
 use mail_listing::Rows;
 use std::alloc::{AllocError, Global};
 use std::marker::Model;
+use std::slice;
 use subs_state::Subs;
 use tags_clocks::{Clock, ReplicaId};
 use uid_projection::Start;
@@ -256,8 +259,16 @@ impl Node {
         ensures err { OnErr result (self.new.state ≡ self.old.state) }
     {
         let count = self.replica.applied().len();
+        let ahead = ahead_of(alloc, &self.replica, slice::from_ref(&op));
         let delivered = self.replica.deliver(alloc, op);
-        note_since(alloc, &self.replica, count, &self.sessions, &mut self.feeds);
+        note_delivered(
+            alloc,
+            &self.replica,
+            count,
+            ahead,
+            &self.sessions,
+            &mut self.feeds,
+        );
         delivered
     }
 
@@ -384,6 +395,34 @@ fn set_next(sessions: &mut Sessions, feeds: &mut Feeds, number: SessionNo, next:
         Next::Wakes => sessions.wake(number),
         Next::Goes { going } => feeds.go(sessions, number, going),
     }
+}
+
+/// Notes what a delivered operation changed, of which this was known before it; those that waited for it are noted as `note_since` says.
+fn note_delivered(
+    alloc: Global,
+    replica: &Replica,
+    count: usize,
+    ahead: Result<Ahead, AllocError>,
+    sessions: &Sessions,
+    feeds: &mut Feeds,
+)
+    requires count { count ≤ length replica.now.applied }
+    requires ahead { IfOk ahead (λ a. (op : Operation) × IsAheadOf replica.now.start (take count replica.now.applied) (op ∷ []) (name_of op.kind) a × (length replica.now.applied ≡ count + 1 → replica.now.applied ≡ take count replica.now.applied ++ op ∷ [])) }
+    ensures { AreAllNoted replica.now.start (take count replica.now.applied) sessions.now feeds.old → AreAllNoted replica.now.start replica.now.applied sessions.now feeds.new }
+{
+    if replica.applied().len() - count == 1 {
+        if let Ok(ahead) = ahead {
+            match delivered_news(alloc, replica, ahead) {
+                Ok(news) => {
+                    feeds.ready(sessions, &news);
+                    feeds.note(sessions, &news);
+                }
+                Err(_) => feeds.miss_all(),
+            }
+            return;
+        }
+    }
+    note_since(alloc, replica, count, sessions, feeds);
 }
 
 /// Notes what the operations changed that were applied since there were so many.

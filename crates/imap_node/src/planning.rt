@@ -23,7 +23,7 @@ use crate::feeds::Feeds;
 use crate::going::{Going, Onward};
 use crate::input::Input;
 use crate::issuing::readied;
-use crate::news::{News, coarse_news};
+use crate::news::{News, news_of};
 use crate::replica::Replica;
 use crate::reply::{Answers, Issued, Reply, Silents, copied_ops};
 use crate::sessions::{SessionNo, Sessions};
@@ -213,7 +213,7 @@ fn finished(
     ensures copies { IfOk result (λ p. p.copies ≡ ops.items) }
     ensures news { IfOk result (λ p. IsNews replica.now.start replica.now.applied (replica.now.applied ++ ops.items) p.news) }
 {
-    let news = coarse_news(alloc, &ops)?;
+    let news = news_of(alloc, replica, &ops)?;
     let untold = Untold { feed, news: &news };
     let answered = answers_to(alloc, replica, session, &untold, input, &ops)?;
     let copies = copied_ops(alloc, &ops)?;

@@ -15,7 +15,9 @@ ghost use Rattle.imap_node.specs.Rooms.{HasRoomFor};
 ghost use Rattle.merge_laws.specs.Orders.{AreSound, IsCausal};
 ghost use Rattle.subs_state.specs.Subscriptions.{IsMadeBy as AreMadeBy};
 ghost use Rattle.subs_state.specs.Table.{subscriptions_of};
+ghost use Rattle.uid_projection.specs.Applied.{IsApplied};
 ghost use Rattle.uid_projection.specs.Exhaustion.{Exhausts};
+ghost use Rattle.uid_projection.specs.Touched.{StayBut};
 ghost use Rattle.uid_projection.specs.Following.{Follows};
 ghost use Rattle.uid_projection.specs.Incarnations.{is_there, uidvalidity_of};
 ghost use Rattle.uid_projection.specs.Lines.{highest_modseq_of, uidnext_of};
@@ -231,6 +233,19 @@ impl Replica {
         ensures { result ≡ uidnext_of self.now.start name.now self.now.applied }
     {
         self.charts_now().uidnext(name)
+    }
+
+    /// The UIDs of the mailbox's messages that these operations change or expunge, applied next; `Err` where there is no memory for them.
+    pub fn touched(
+        &self,
+        alloc: Global,
+        name: &Name,
+        ops: &[SoundOp],
+    ) -> Result<Vec<u32>, AllocError>
+        ensures { IsApplied (self.now.applied ++ ops.now) → uidvalidity_of self.now.start name.now (self.now.applied ++ ops.now) ≡ uidvalidity_of self.now.start name.now self.now.applied
+            → IfOk result (λ uids. StayBut uids.items (uidnext_of self.now.start name.now self.now.applied) (listing self.now.start name.now self.now.applied) (listing self.now.start name.now (self.now.applied ++ ops.now))) }
+    {
+        self.charts_now().touched(alloc, name, ops)
     }
 
     /// The mailbox's listing; `Err` where there is no memory for it.

@@ -2,6 +2,8 @@
 #![tactic(auto)]
 
 #[cfg(test)]
+mod feeds;
+#[cfg(test)]
 mod kept;
 #[cfg(test)]
 mod laws;

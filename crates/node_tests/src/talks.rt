@@ -20,8 +20,13 @@ pub struct Talk {
 
 /// A new node with a session whose user is to log in with these.
 pub fn begin(alloc: Global, user: &str, password: &str) -> Option<Talk> {
+    begin_at(alloc, 1, user, password)
+}
+
+/// The same, of the replica with this name.
+pub fn begin_at(alloc: Global, replica: u16, user: &str, password: &str) -> Option<Talk> {
     let start = Start {
-        replica: ReplicaId::new(1)?,
+        replica: ReplicaId::new(replica)?,
         uid: 1,
         k: 1,
     };
@@ -68,6 +73,13 @@ fn turns_of(
         return None;
     }
     talk(alloc, node, framer, session, Moment::epoch(), octets).ok()
+}
+
+/// Delivers to one node what another has applied last.
+pub fn deliver_last(alloc: Global, from: &Talk, to: &mut Talk) -> Option<()> {
+    let op = from.node.op_list().last()?.copy(alloc).ok()?;
+    to.node.deliver(alloc, op).ok()?;
+    Some(())
 }
 
 /// Whether the session is open, and goes on.

@@ -53,7 +53,7 @@ EndsAtUidnext start = (folder : List ℕ) (list : List Op) (uid : ℕ) → IsApp
 abbrev pub names : (OpId → Option OpId) → List ℕ → OpId → Op → Bool
 names origin_of folder origin op = concerns_by folder op.kind && (loses origin_of (removed_ids op.kind) origin || is_some_id origin (added_origin op))
 
--- The new UIDs are the old ones and those of the entries that are named.
+-- The new UIDs have among them the old ones and those of the entries that are named.
 pub record AddsUids (is_named : OpId → Bool) (entries : List Entry) (old new : List ℕ) : Type 0 where
   pub kept : (uid : ℕ) → IsIn uid old → IsIn uid new
   pub named : AreApart entries → (e : Entry) → IsIn e entries → is_named e.origin ≡ true → IsIn e.uid new

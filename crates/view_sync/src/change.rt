@@ -20,7 +20,10 @@ pub enum Change {
         whole: bool,
     },
     /// The view shows these messages, if they are all that is listed.
-    Anew { entries: Vec<Entry>, whole: bool },
+    Anew {
+        entries: Vec<Entry>,
+        whole: bool,
+    },
 }
 
 /// Does what was planned for a view and its feed; takes no memory.

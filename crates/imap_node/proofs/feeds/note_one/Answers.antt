@@ -10,9 +10,11 @@ use Rattle.imap_node.proofs.GoingLemmas.{same_seen}
 use Rattle.imap_node.proofs.feeds.note_one.Goals as goal
 
 pub returns-in-Selected : goal.returns-in-Selected
-returns-in-Selected c = record { noted = λ start before after view news at noted.
-    let own = c.in-Selected.view in
-    let same : view ≡ own = same_seen view own (sym at ∙ ap view_in c.in-Some.is ∙ ap view_of c.in-Selected.is) in
-    let own_noted = subst (λ (v : Seen). IsNotedFor start before c.args.feed.now.pending v) same noted in
-    let named = subst (λ (notes : List Note). NamesAll notes (rows_for start after own) (entries_of (rows_for start before own))) (sym (c.notes_of.ensures ∙ ap (notes_in c.args.news.now) c.name.ensures)) (news own.name own.uidvalidity) in
-    subst (λ (v : Seen). IsNotedFor start after c.note_all.new.feed.pending v) (sym same) (c.note_all.ensures.noted (rows_for start before own) (rows_for start after own) own.entries own_noted named) }
+returns-in-Selected c = record {
+  noted = λ start before after view news at noted.
+      let own = c.in-Selected.view in
+      let same : view ≡ own = same_seen view own (sym at ∙ ap view_in c.in-Some.is ∙ ap view_of c.in-Selected.is) in
+      let own_noted = subst (λ (v : Seen). IsNotedFor start before c.args.feed.now.pending v) same noted in
+      let named = subst (λ (notes : List Note). NamesAll notes (rows_for start after own) (entries_of (rows_for start before own))) (sym (c.notes_of.ensures ∙ ap (notes_in c.args.news.now) c.name.ensures)) (news own.name own.uidvalidity) in
+      subst (λ (v : Seen). IsNotedFor start after c.note_all.new.feed.pending v) (sym same) (c.note_all.ensures.noted (rows_for start before own) (rows_for start after own) own.entries own_noted named);
+}

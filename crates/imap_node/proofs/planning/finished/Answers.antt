@@ -1,7 +1,6 @@
 use Rattle.std.proofs.Common.{List, ◌++◌, sym, subst, ◌∙◌}
 use Rattle.crdt_ops.specs.declared.op.Op.{Op}
 use Rattle.imap_node.specs.Feeds.{IsNews}
-use Rattle.uid_projection.specs.Applied.{IsApplied}
 use Rattle.imap_node.proofs.planning.finished.Goals as goal
 
 pub answers_to-requires-clause-news : goal.answers_to-requires-clause-news
@@ -10,7 +9,7 @@ answers_to-requires-clause-news c =
     let before = c.args.replica.now.applied in
     let lent = c.deref.ensures.value in
     subst (λ (ops : List Op). IsNews start before (before ++ ops) c.in_ok-news.news) (lent ∙ sym c.deref-2.ensures.value)
-    (c.in_ok-news.ensures {u = tt} start before (subst (λ (ops : List Op). IsApplied (before ++ ops)) (sym lent) c.requires.ready.follow.causal))
+    (c.in_ok-news.ensures {u = tt})
 
 pub returns-clause-news : goal.returns-clause-news
 returns-clause-news c =
@@ -18,4 +17,4 @@ returns-clause-news c =
     let before = c.args.replica.now.applied in
     let lent = c.deref.ensures.value in
     subst (λ (ops : List Op). IsNews start before (before ++ ops) c.in_ok-news.news) lent
-    (c.in_ok-news.ensures {u = tt} start before (subst (λ (ops : List Op). IsApplied (before ++ ops)) (sym lent) c.requires.ready.follow.causal))
+    (c.in_ok-news.ensures {u = tt})

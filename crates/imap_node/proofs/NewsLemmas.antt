@@ -1,0 +1,152 @@
+-- What operations change in mailboxes, told by the UIDs that they touch and those that are new.
+use Rattle.std.specs.List.{list_any}
+use Rattle.std.specs.Option.{option_map}
+use Rattle.std.proofs.Common.{◌≡◌, ◌⊎◌, inl, inr, ℕ, ◌<◌, ◌≤◌, ◌+◌, Bool, true, false, List, [], ◌∷◌, ◌++◌, length, drop, get_or, Option, Some, None, refl, sym, ap, ◌∙◌, subst, arith}
+use Rattle.std.specs.Prelude.{bytes_eq, nat_eq, if◌then◌else◌}
+use Rattle.std.proofs.lemmas.Bool.{cases_Bool, false≢true}
+use Rattle.std.proofs.lemmas.Bool.Decides.{nat_tests}
+use Rattle.std.proofs.lemmas.List.{drop_all, drop_more}
+use Rattle.std.proofs.lemmas.Slice.Eq.{bytes_eq-Decides}
+use Rattle.merge_laws.specs.Orders.{IsIn}
+use Rattle.crdt_ops.specs.declared.op.Op.{Op}
+use Rattle.crdt_ops.specs.Tags.{name_of}
+use Rattle.imap_types.specs.declared.flags.Flags.{Flags}
+use Rattle.mail_listing.specs.Listed.{Listed}
+use Rattle.mail_listing.specs.Listing.{row_of}
+use Rattle.imap_node.specs.Feeds.{FolderNoted, IsNews, NamesIn, is_named, notes_in}
+use Rattle.imap_node.specs.News.{AheadOf, AreNamed, AreNewsSoFar, IsAheadOf, TellsOf}
+use Rattle.session_view.specs.Changes.{flags_at, is_told, names}
+use Rattle.session_view.specs.Seen.{rows_under}
+use Rattle.session_view.specs.Views.{entries_of}
+use Rattle.session_view.specs.declared.changes.Note.{Note}
+use Rattle.session_view.specs.declared.changes.Note.TheVariants.{New}
+use Rattle.uid_projection.specs.declared.start.Start.{Start}
+use Rattle.uid_projection.specs.Applied.{IsApplied}
+use Rattle.uid_projection.specs.Incarnations.{uidvalidity_of}
+use Rattle.uid_projection.specs.Lines.{concerns_by, uidnext_of}
+use Rattle.uid_projection.specs.Listing.{listing}
+use Rattle.uid_projection.specs.Touched.{StayBut}
+use Rattle.uid_projection.proofs.Lasting.{about_name}
+use Rattle.uid_projection.proofs.Presence.{applied_front}
+use Rattle.uid_projection.proofs.Staying.{ends_at_uidnext}
+use Rattle.imap_node.proofs.BesideLemmas.{all_beside}
+use Rattle.imap_node.proofs.FeedLemmas.{named_append}
+
+-- ---- notes of UIDs
+
+any_append : {X : Type 0} (p : X → Bool) (xs ys : List X) → list_any p xs ≡ true → list_any p (xs ++ ys) ≡ true
+any_append p [] ys h = absurd (false≢true h)
+any_append p (x ∷ xs) ys h = elim (cases_Bool (p x)) [ inl t ↦ rw t refl | inr f ↦ rw f (any_append p xs ys (rw f at h)) ]
+
+any_last : {X : Type 0} (p : X → Bool) (xs : List X) (y : X) → p y ≡ true → list_any p (xs ++ y ∷ []) ≡ true
+any_last p [] y h = rw h refl
+any_last p (x ∷ xs) y h = elim (cases_Bool (p x)) [ inl t ↦ rw t refl | inr f ↦ rw f (any_last p xs y h) ]
+
+pub names_new : (uid : ℕ) → names uid (New uid) ≡ true
+names_new uid = grind (arith, nat_tests)
+
+pub more_told : (notes : List Note) (note : Note) (uids : List ℕ) (i d : ℕ) → i < length uids → names (get_or uids i d) note ≡ true → (uid : ℕ) → (is_told notes uid ≡ true) ⊎ IsIn uid (drop i uids)
+    → (is_told (notes ++ note ∷ []) uid ≡ true) ⊎ IsIn uid (drop (i + 1) uids)
+more_told notes note uids i d l named uid h =
+    elim h [
+      | inl t ↦ inl (any_append (names uid) notes (note ∷ []) t)
+      | inr j ↦ elim (subst (IsIn uid) (drop_more uids i d l) j) [
+        | inl e ↦ inl (any_last (names uid) notes note (subst (λ (u : ℕ). names u note ≡ true) e named))
+        | inr k ↦ inr k
+      ]
+    ]
+
+pub told_all : (notes : List Note) (uids : List ℕ) (i uid : ℕ) → length uids ≤ i → (is_told notes uid ≡ true) ⊎ IsIn uid (drop i uids) → is_told notes uid ≡ true
+told_all notes uids i uid l h = elim h [ inl t ↦ t | inr j ↦ absurd (subst (IsIn uid) (drop_all i uids l) j) ]
+
+-- ---- one mailbox
+
+flags_of : (uid : ℕ) (rows : List Listed) → flags_at uid (entries_of rows) ≡ option_map (λ (r : Listed). r.flags) (row_of uid rows)
+flags_of uid [] = refl
+flags_of uid (row ∷ rows) = elim (cases_Bool (nat_eq row.uid uid)) [ inl t ↦ rw t refl | inr f ↦ rw f (flags_of uid rows) ]
+
+under_same : (v : ℕ) (n m : Option ℕ) (before after : List Listed) (uid : ℕ) → n ≡ m → row_of uid after ≡ row_of uid before → flags_at uid (entries_of (rows_under v n before)) ≡ flags_at uid (entries_of (rows_under v m after))
+under_same v n None before after uid e h = ap (λ (k : Option ℕ). flags_at uid (entries_of (rows_under v k before))) e
+under_same v n (Some m) before after uid e h = ap (λ (k : Option ℕ). flags_at uid (entries_of (rows_under v k before))) e ∙ either (nat_eq m v)
+  where
+    either : (b : Bool) → flags_at uid (entries_of (if b then before else [])) ≡ flags_at uid (entries_of (if b then after else []))
+    either true = flags_of uid before ∙ ap (option_map (λ (r : Listed). r.flags)) (sym h) ∙ sym (flags_of uid after)
+    either false = refl
+
+row_is : (o : Option Listed) → (o ≡ None) ⊎ ((row : Listed) × (o ≡ Some row))
+row_is None = inl refl
+row_is (Some row) = inr (row, refl)
+
+pub names_in : (start : Start) (before ops : List Op) (name : List ℕ) (ahead : AheadOf) (now : Option ℕ) (rows : List Listed) (notes : List Note) → IsApplied (before ++ ops) → IsAheadOf start before ops name ahead
+    → now ≡ uidvalidity_of start name (before ++ ops) → rows ≡ listing start name (before ++ ops) → TellsOf ahead.uidvalidity now ahead.uidnext ahead.touched rows notes → NamesIn start before (before ++ ops) name notes
+names_in start before ops name ahead now rows notes a is u r tells v uid =
+    elim tells [
+      | inr all ↦ inr (all uid)
+      | inl some ↦
+          let same : uidvalidity_of start name before ≡ uidvalidity_of start name (before ++ ops) = sym is.uidvalidity ∙ some.0 ∙ u in
+          let stays : row_of uid (listing start name (before ++ ops)) ≡ row_of uid (listing start name before) → _ = λ e. under_same v _ _ (listing start name before) (listing start name (before ++ ops)) uid same e in
+          elim (is.stay a (sym same) uid) [
+            | inl i ↦ inr (some.1 uid i)
+            | inr t ↦ elim t [
+              | inr e ↦ inl (stays e)
+              | inl l ↦ elim (row_is (row_of uid (listing start name (before ++ ops)))) [
+                | inr row ↦ inr (some.2 uid row.0 l (ap (row_of uid) r ∙ row.1))
+                | inl none ↦
+                    let m : uidnext_of start name before ≤ uid = subst (λ (n : ℕ). n ≤ uid) is.uidnext l in
+                    inl (stays (none ∙ sym (ends_at_uidnext start name before uid (applied_front before ops a) m)))
+              ]
+            ]
+          ]
+    ]
+
+-- ---- all mailboxes
+
+in_append : {X : Type 0} (xs : List X) (y x : X) → IsIn x (xs ++ y ∷ []) → IsIn x xs ⊎ (y ≡ x)
+in_append [] y x i = elim i [ inl e ↦ inr e | inr n ↦ absurd n ]
+in_append (z ∷ xs) y x i = elim i [ inl e ↦ inl (inl e) | inr j ↦ elim (in_append xs y x j) [ inl k ↦ inl (inr k) | inr e ↦ inr e ] ]
+
+pub news_more : (start : Start) (before ops : List Op) (name : List ℕ) (old : List FolderNoted) (folder : FolderNoted) → folder.name ≡ name → NamesIn start before (before ++ ops) name folder.notes → AreNewsSoFar start before ops name old (old ++ folder ∷ [])
+news_more start before ops name old folder e h = record {
+  own = any_last (λ (f : FolderNoted). bytes_eq f.name name) old folder (ap (λ (n : List ℕ). bytes_eq n name) e ∙ (bytes_eq-Decides name name).1 refl);
+  kept = λ other k. named_append old (folder ∷ []) other k;
+  named = λ all f i. elim (in_append old folder f i) [
+    | inl j ↦ all f j
+    | inr q ↦ subst (λ (g : FolderNoted). NamesIn start before (before ++ ops) g.name g.notes) q (subst (λ (n : List ℕ). NamesIn start before (before ++ ops) n folder.notes) (sym e) h)
+  ];
+}
+
+pub news_kept : (start : Start) (before ops : List Op) (name : List ℕ) (old : List FolderNoted) → is_named old name ≡ true → AreNewsSoFar start before ops name old old
+news_kept start before ops name old h = record { own = h; kept = λ other k. k; named = λ all. all }
+
+found_notes : (start : Start) (before ops : List Op) (folders : List FolderNoted) (name : List ℕ) → AreNamed start before ops folders → is_named folders name ≡ true → NamesIn start before (before ++ ops) name (notes_in folders name)
+found_notes start before ops [] name all h = absurd (false≢true h)
+found_notes start before ops (folder ∷ folders) name all h =
+    elim (cases_Bool (bytes_eq folder.name name)) [
+      | inl t ↦ rw t (subst (λ (n : List ℕ). NamesIn start before (before ++ ops) n folder.notes) ((bytes_eq-Decides folder.name name).0 t) (all folder (inl refl)))
+      | inr f ↦ rw f (found_notes start before ops folders name (λ g i. all g (inr i)) (rw f at h))
+    ]
+
+pub all_news : (start : Start) (before ops : List Op) (folders : List FolderNoted) → IsApplied (before ++ ops) → AreNamed start before ops folders → ((o : Op) → IsIn o ops → is_named folders (name_of o.kind) ≡ true) → IsNews start before (before ++ ops) folders
+all_news start before ops folders a all each name v uid =
+    elim (cases_Bool (is_named folders name)) [
+      | inl t ↦ found_notes start before ops folders name all t v uid
+      | inr f ↦ inl (ap (flags_at uid) (sym (all_beside start name ops before a (λ o i. elim (cases_Bool (concerns_by name o.kind)) [
+        | inl c ↦ absurd (false≢true (sym f ∙ ap (is_named folders) (about_name name o.kind c) ∙ each o i))
+        | inr n ↦ n
+      ]) v)))
+    ]
+
+-- one operation more of which the mailbox is named
+pub rest_named : (old new : List FolderNoted) (ops : List Op) (i : ℕ) (o : Op) → i < length ops → o ≡ get_or ops i o → ((n : List ℕ) → is_named old n ≡ true → is_named new n ≡ true) → is_named new (name_of o.kind) ≡ true
+    → ((p : Op) → IsIn p ops → (is_named old (name_of p.kind) ≡ true) ⊎ IsIn p (drop i ops)) → (p : Op) → IsIn p ops → (is_named new (name_of p.kind) ≡ true) ⊎ IsIn p (drop (i + 1) ops)
+rest_named old new ops i o l e kept own rest p q =
+    elim (rest p q) [
+      | inl t ↦ inl (kept (name_of p.kind) t)
+      | inr j ↦ elim (subst (IsIn p) (drop_more ops i o l) j) [
+        | inl k ↦ inl (subst (λ (x : Op). is_named new (name_of x.kind) ≡ true) (e ∙ k) own)
+        | inr k ↦ inr k
+      ]
+    ]
+
+pub each_named_through : (folders : List FolderNoted) (ops : List Op) (i : ℕ) → length ops ≤ i → ((p : Op) → IsIn p ops → (is_named folders (name_of p.kind) ≡ true) ⊎ IsIn p (drop i ops)) → (p : Op) → IsIn p ops → is_named folders (name_of p.kind) ≡ true
+each_named_through folders ops i l rest p q = elim (rest p q) [ inl t ↦ t | inr j ↦ absurd (subst (IsIn p) (drop_all i ops l) j) ]

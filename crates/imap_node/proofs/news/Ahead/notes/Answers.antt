@@ -1,0 +1,11 @@
+use Rattle.std.proofs.Common.{List, ℕ, subst}
+use Rattle.imap_node.specs.News.{AheadOf, TellsOf}
+use Rattle.imap_node.proofs.NewsLemmas.{names_in}
+use Rattle.imap_node.proofs.news.Ahead.notes.Goals as goal
+
+pub returns-clause-notes : goal.returns-clause-notes
+returns-clause-notes c = λ start before ops a is u r.
+    let inside = c.self.inside in
+    let notes = c.in_ok-notes.notes.items in
+    let tells = subst (λ (touched : List ℕ). TellsOf inside.uidvalidity c.args.uidvalidity inside.uidnext touched c.args.rows.now notes) c.deref.ensures.value (c.in_ok-notes.ensures {u = tt}) in
+    names_in start before ops c.args.self.name c.args.self c.args.uidvalidity c.args.rows.now notes a is u r (subst (λ (ahead : AheadOf). TellsOf ahead.uidvalidity c.args.uidvalidity ahead.uidnext ahead.touched c.args.rows.now notes) c.self.view_is tells)

@@ -1,0 +1,16 @@
+use Rattle.std.proofs.Common.{ℕ, ◌++◌, sym, subst}
+use Rattle.uid_projection.specs.Listing.{listing}
+use Rattle.uid_projection.specs.Touched.{StayBut}
+use Rattle.imap_node.proofs.news.Ahead.of.Goals as goal
+
+pub returns : goal.returns
+returns c =
+    let start = c.args.replica.now.start in
+    let name = c.args.name.now in
+    let before = c.args.replica.now.applied in
+    record {
+      name_is = c.in_ok-copy.ensures {u = tt};
+      uidvalidity = c.uidvalidity.ensures;
+      uidnext = c.uidnext.ensures;
+      stay = λ a e. subst (λ (n : ℕ). StayBut c.in_ok-touched.field-0.items n (listing start name before) (listing start name (before ++ c.args.ops.now))) (sym c.uidnext.ensures) (c.in_ok-touched.ensures {u = tt} a e);
+    }

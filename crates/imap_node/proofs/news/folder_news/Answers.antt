@@ -1,0 +1,17 @@
+use Rattle.std.proofs.Common.{◌≡◌, ℕ, List, ◌++◌, IfOk, sym, subst, ap, ◌∙◌}
+use Rattle.imap_node.specs.Feeds.{NamesIn}
+use Rattle.imap_node.specs.News.{IsAheadOf}
+use Rattle.uid_projection.specs.Incarnations.{uidvalidity_of}
+use Rattle.uid_projection.specs.Listing.{listing}
+use Rattle.imap_node.proofs.news.folder_news.Goals as goal
+
+pub returns-clause-notes : goal.returns-clause-notes
+returns-clause-notes c =
+    let start = c.args.replica.now.start in
+    let before = c.args.replica.now.applied in
+    let ops = c.args.ops.now in
+    let ahead = c.in_ok-ahead.ahead in
+    let is = c.in_ok-ahead.ensures {u = tt} in
+    subst (λ (name : List ℕ). IfOk c.notes.result (λ folder. NamesIn start before (before ++ ops) name folder.notes)) is.name_is
+    (c.notes.ensures.notes start before ops c.requires.follow.causal (subst (λ (name : List ℕ). IsAheadOf start before ops name ahead) (sym is.name_is) is)
+    (c.uidvalidity_after.ensures ∙ ap (λ (name : List ℕ). uidvalidity_of start name (before ++ ops)) (sym is.name_is)) (c.in_ok-rows.ensures {u = tt} ∙ ap (λ (name : List ℕ). listing start name (before ++ ops)) (sym is.name_is)))

@@ -1,0 +1,44 @@
+use Rattle.std.specs.Prelude.{◌≡◌, ◌⊎◌, ℕ, ◌≤◌, true, List, ◌++◌, Option, Some}
+use Rattle.crdt_ops.specs.declared.op.Op.{Op}
+use Rattle.mail_listing.specs.Listed.{Listed}
+use Rattle.mail_listing.specs.Listing.{row_of}
+use Rattle.merge_laws.specs.Orders.{IsIn}
+use Rattle.imap_node.specs.Feeds.{FolderNoted, NamesIn, is_named}
+use Rattle.session_view.specs.Changes.{is_told}
+use Rattle.session_view.specs.declared.changes.Note.{Note}
+use Rattle.uid_projection.specs.declared.start.Start.{Start}
+use Rattle.uid_projection.specs.Applied.{IsApplied}
+use Rattle.uid_projection.specs.Incarnations.{uidvalidity_of}
+use Rattle.uid_projection.specs.Lines.{uidnext_of}
+use Rattle.uid_projection.specs.Listing.{listing}
+use Rattle.uid_projection.specs.Touched.{StayBut}
+
+-- What is known of a mailbox before operations.
+pub record AheadOf : Type 0 where
+  pub name : List ℕ
+  pub uidvalidity : Option ℕ
+  pub uidnext : ℕ
+  pub touched : List ℕ
+
+-- It is known so of the mailbox of this name: its UIDVALIDITY, its UIDNEXT, and the UIDs below that whose rows may not stay, as long as the UIDVALIDITY does.
+pub record IsAheadOf (start : Start) (before ops : List Op) (name : List ℕ) (ahead : AheadOf) : Type 0 where
+  pub name_is : ahead.name ≡ name
+  pub uidvalidity : ahead.uidvalidity ≡ uidvalidity_of start name before
+  pub uidnext : ahead.uidnext ≡ uidnext_of start name before
+  pub stay : IsApplied (before ++ ops) → uidvalidity_of start name (before ++ ops) ≡ uidvalidity_of start name before → StayBut ahead.touched ahead.uidnext (listing start name before) (listing start name (before ++ ops))
+
+-- The notes tell of each of these UIDs, and of each message from this UID on, where both UIDVALIDITIES are one; else of all.
+abbrev pub TellsOf : Option ℕ → Option ℕ → ℕ → List ℕ → List Listed → List Note → Type 0
+TellsOf before now uidnext touched rows notes =
+    (((before ≡ now) × ((uid : ℕ) → IsIn uid touched → is_told notes uid ≡ true) × ((uid : ℕ) (row : Listed) → uidnext ≤ uid → row_of uid rows ≡ Some row → is_told notes uid ≡ true))
+    ⊎ ((uid : ℕ) → is_told notes uid ≡ true))
+
+-- Each mailbox among these has notes that name what the operations change in it.
+abbrev pub AreNamed : Start → List Op → List Op → List FolderNoted → Type 0
+AreNamed start before ops folders = (folder : FolderNoted) → IsIn folder folders → NamesIn start before (before ++ ops) folder.name folder.notes
+
+-- The mailbox of this name is among the new ones, and what was said of the old ones is said of the new ones.
+pub record AreNewsSoFar (start : Start) (before ops : List Op) (name : List ℕ) (old new : List FolderNoted) : Type 0 where
+  pub own : is_named new name ≡ true
+  pub kept : (other : List ℕ) → is_named old other ≡ true → is_named new other ≡ true
+  pub named : AreNamed start before ops old → AreNamed start before ops new

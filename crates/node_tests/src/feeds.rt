@@ -1,0 +1,76 @@
+//! What a feed keeps, and that a session is told of more changes than its feed keeps.
+
+use crate::talks::{answers, begin, begin_at, deliver_last};
+use idle_feed::{Feed, Taken};
+use session_view::Note;
+use std::alloc::Global;
+
+#[test]
+fn a_feed_gives_the_notes_that_came(rt: HostRuntime) {
+    assert!(rt; takes(rt.alloc(), 3) == Some((Some(3), Some(0))));
+    assert!(rt; takes(rt.alloc(), 4_096) == Some((Some(4_096), Some(0))));
+}
+
+#[test]
+fn a_feed_that_missed_a_note_says_so_once(rt: HostRuntime) {
+    assert!(rt; takes(rt.alloc(), 4_097) == Some((None, Some(0))));
+}
+
+#[test]
+fn more_changes_than_a_feed_keeps_are_told(rt: HostRuntime) {
+    assert!(rt; is_told_behind(rt.alloc(), 4_097) == Some(true));
+}
+
+#[test]
+fn as_many_changes_as_a_feed_keeps_are_told(rt: HostRuntime) {
+    assert!(rt; is_told_behind(rt.alloc(), 3) == Some(true));
+}
+
+/// How many notes are taken behind so many, and how many then; `None` for a resync.
+fn takes(alloc: Global, count: u32) -> Option<(Option<usize>, Option<usize>)> {
+    let mut feed = Feed::new(alloc);
+    for uid in 0..count {
+        feed.ready(1).ok()?;
+        feed.note(Note::Changed { uid });
+    }
+    Some((taken(&mut feed), taken(&mut feed)))
+}
+
+fn taken(feed: &mut Feed) -> Option<usize> {
+    match feed.take() {
+        Taken::Changes { changes } => Some(changes.notes().len()),
+        Taken::Resync => None,
+    }
+}
+
+/// Whether a session at one replica is told once of so many changes, an odd number, that another replica makes to the flags of its one message.
+fn is_told_behind(alloc: Global, changes: u32) -> Option<bool> {
+    let mut writer = begin(alloc, "joe", "secret")?;
+    let mut reader = begin_at(alloc, 2, "joe", "secret")?;
+    answers(
+        alloc,
+        &mut writer,
+        "a LOGIN joe secret\r\nb APPEND INBOX {1+}\r\nx\r\nc SELECT INBOX\r\n",
+    )?;
+    deliver_last(alloc, &writer, &mut reader)?;
+    answers(
+        alloc,
+        &mut reader,
+        "a LOGIN joe secret\r\nb SELECT INBOX\r\nc NOOP\r\n",
+    )?;
+    for change in 0..changes {
+        let command = if change % 2 == 0 {
+            "d STORE 1 +FLAGS (\\Seen)\r\n"
+        } else {
+            "d STORE 1 -FLAGS (\\Seen)\r\n"
+        };
+        answers(alloc, &mut writer, command)?;
+        deliver_last(alloc, &writer, &mut reader)?;
+    }
+    let told = answers(alloc, &mut reader, "d NOOP\r\ne NOOP\r\n")?;
+    Some(
+        told.as_slice()
+            == b"* 1 FETCH (UID 1 FLAGS (\\Seen))|d OK NOOP completed|e OK NOOP completed|"
+                .as_slice(),
+    )
+}
