@@ -1,11 +1,10 @@
-use Rattle.std.proofs.Common.{◌≡◌, ◌⊎◌, inl, inr, ℕ, ◌≤◌, nat_le, Bool, true, false, List, [], ◌∷◌, ◌++◌, length, refl, sym, ap, ◌∙◌, subst, append_assoc, arith}
+use Rattle.std.proofs.Common.{◌≡◌, ◌⊎◌, inl, inr, nat_le, Bool, true, List, [], ◌∷◌, ◌++◌, length, refl, sym, ◌∙◌, append_assoc}
 use Rattle.std.proofs.lemmas.Bool.{cases_Bool, false≢true}
 use Rattle.mail_listing.specs.Listed.{Listed}
 use Rattle.view_sync.specs.Noted.{IsLeft, IsNoted}
-use Rattle.idle_feed.specs.Feeds.{Pending, after, came_back, nothing, one, some_missed}
+use Rattle.idle_feed.specs.Feeds.{Pending, after, came_back, nothing, one}
 use Rattle.idle_feed.specs.declared.feed.Taken.{Taken}
 use Rattle.idle_feed.specs.declared.feed.Taken.TheVariants.{Changes, Resync}
-use Rattle.session_view.specs.Changes.{NamesAll}
 use Rattle.session_view.specs.declared.changes.Note.{Note}
 use Rattle.session_view.specs.declared.entry.Entry.{Entry}
 

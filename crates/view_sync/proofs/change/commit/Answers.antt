@@ -1,4 +1,4 @@
-use Rattle.std.proofs.Common.{◌≡◌, List, true, ap, sym, subst, ◌∙◌}
+use Rattle.std.proofs.Common.{List, true, ap, sym, subst, ◌∙◌}
 use Rattle.idle_feed.specs.Feeds.{Pending, after, came_back}
 use Rattle.session_view.specs.Seen.{Seen}
 use Rattle.session_view.specs.declared.entry.Entry.{Entry}
