@@ -127,6 +127,9 @@ impl Feed {
             self.miss();
             return;
         }
+        if notes.is_empty() && self.notes.is_empty() {
+            return;
+        }
         if self.notes.is_empty() {
             self.notes = notes;
             return;

@@ -254,3 +254,23 @@ module _ (old new : List Op) (g : HasGrown old new) where
 
   pub grown_take : take (length old) new ≡ old
   grown_take = ap (take (length old)) g.1 ∙ take_at old g.0 (length old) refl
+
+-- ---- an input without a sync that tells no flags
+
+pub shown_as_before : (start : Start) (after : List Op) (state : State) (front : FrontOf) (first : List Silent) → front.sync ≡ None → list_any shifts front.own ≡ false → first ≡ front.silent ++ all_flags_told front.own → first ≡ []
+    → ([] ≡ (ending_behind start after state front).answers) × (state_with state None ≡ (ending_behind start after state front).state)
+shown_as_before start after (Selected view read_only) front first n stays f e =
+    let rows = rows_for start after view in
+    let same : view.entries ≡ replayed rows view.entries front.silent front.own = ap (after_silent view.entries) (sym e ∙ f) ∙ sym (own_replayed rows view.entries front.silent front.own stays) in (
+      ap (λ (s : Option SyncKind). answers_by s front.modseq rows (replayed rows view.entries front.silent front.own)) (sym n),
+      ap (λ (es : List Entry). Selected (record view { entries = es }) read_only) (same ∙ ap (λ (s : Option SyncKind). synced_by s rows (replayed rows view.entries front.silent front.own)) (sym n)),
+    )
+shown_as_before start after _ front first n stays f e = (refl, refl)
+
+pub can_stay : (start : Start) (after : List Op) (state : State) → CanGo start after state (Stays None)
+can_stay start after (Selected view read_only) = record { make = tt; leaves = tt }
+can_stay start after _ = record { make = tt; leaves = tt }
+
+pub none_there : (first : List Silent) → length first ≡ 0 → first ≡ []
+none_there [] l = refl
+none_there (s ∷ first) l = absurd (omega (arith, l))

@@ -159,17 +159,20 @@ pub fn ending_in_place(
     ensures state { IfOk result (λ e. state_onward state.old e.1 ≡ (ending_behind replica.now.start (replica.now.applied ++ ops.now) state.old front.now).state) }
     ensures can { IfOk result (λ e. CanGo replica.now.start (replica.now.applied ++ ops.now) state.old e.1) }
 {
-    let Some(kind) = front.sync else {
-        return anew(alloc, replica, ops, state, front);
-    };
     if do_shift(front.own) {
         return anew(alloc, replica, ops, state, front);
     }
+    let first = flags_first(alloc, front)?;
+    let Some(kind) = front.sync else {
+        if first.is_empty() {
+            return Ok((Vec::new(alloc), Onward::Stays { change: None }));
+        }
+        return anew(alloc, replica, ops, state, front);
+    };
     match state {
         State::Selected { view, .. } => {
             let rows = rows_behind(alloc, replica, ops, view)?;
             let notes = untold.news.notes_of(view.name());
-            let first = flags_first(alloc, front)?;
             let planned = plan(
                 alloc,
                 view,

@@ -70,7 +70,7 @@ impl Feeds {
         }
     }
 
-    /// Makes a place for a session's feed, as far as there is memory; what sessions are to be told stays.
+    /// Makes places for the feeds of sessions up to this one, as far as there is memory; what sessions are to be told stays.
     pub fn open(&mut self, session: SessionNo)
         ensures { (n : ℕ) → pending_at self.new n ≡ pending_at self.old n }
     {
@@ -123,12 +123,19 @@ fn missed(alloc: Global) -> Feed
 fn open_in(feeds: &mut Vec<Feed>, session: SessionNo)
     ensures { (n : ℕ) → pending_at feeds.new.items n ≡ pending_at feeds.old.items n }
 {
-    if feeds.len() < session.get() {
-        let feed = missed(*feeds.allocator());
-        match feeds.push(feed) {
-            Ok(()) => {}
-            Err(_) => {}
-        }
+    for _place in feeds.len()..session.get() {
+        add_missed(feeds);
+    }
+}
+
+/// Puts a feed that missed all behind the others, if there is memory.
+fn add_missed(feeds: &mut Vec<Feed>)
+    ensures { (n : ℕ) → pending_at feeds.new.items n ≡ pending_at feeds.old.items n }
+{
+    let feed = missed(*feeds.allocator());
+    match feeds.push(feed) {
+        Ok(()) => {}
+        Err(_) => {}
     }
 }
 

@@ -156,7 +156,7 @@ impl Node {
     /// What it costs: a mailbox's name is a look-up, whatever else there is; a subscription is looked for among all. A mailbox's messages are a window on what the
     /// replica keeps, which is made anew for each question and costs nothing by itself; behind operations of the command's own it costs what these change, and they are copied once.
     /// STORE, FETCH, COPY, MOVE and UID EXPUNGE look each message that they name up a few times. SELECT, EXAMINE, SEARCH, STATUS of sizes, EXPUNGE and CLOSE go over all messages of their mailbox.
-    /// With a mailbox selected the sync behind each command, or poll, goes once over what the session sees and what the mailbox has. DELETE names all tags of its folder. LIST costs
+    /// With a mailbox selected the sync behind each command, or poll, looks at what changed since the last one; behind SELECT, and where the session's feed missed some, it goes once over what the session sees and what the mailbox has. DELETE names all tags of its folder. LIST costs
     /// what `list_names` of `imap_query` says; SEARCH and FETCH go once over a text for each key or section that asks for it, but for a whole text, which the
     /// answer shares with the message; APPEND, COPY and MOVE share texts and go over none. LOGIN, ENABLE, NAMESPACE, CAPABILITY and LOGOUT cost what they name.
     pub fn command(
@@ -219,7 +219,7 @@ impl Node {
             session,
             input,
         );
-        make_room(&mut self.feeds, &self.sessions, &outcome);
+        make_room(&mut self.feeds, &self.sessions, session, &outcome);
         let Some(found) = self.sessions.get(session) else {
             unreachable!()
         };
@@ -372,10 +372,16 @@ fn issue(replica: &mut Replica, ops: Issued)
     replica.issue(ops.into_vec());
 }
 
-/// Makes room for the news of an input that can be carried out; what sessions are to be told stays.
-fn make_room(feeds: &mut Feeds, sessions: &Sessions, outcome: &Result<Prepared, Refusal>)
+/// Makes a place for a session's feed, if it has none, and room for the news of its input, if it can be carried out; what sessions are to be told stays.
+fn make_room(
+    feeds: &mut Feeds,
+    sessions: &Sessions,
+    session: SessionNo,
+    outcome: &Result<Prepared, Refusal>,
+)
     ensures { (n : ℕ) → pending_at feeds.new n ≡ pending_at feeds.old n }
 {
+    feeds.open(session);
     match outcome {
         Ok(prepared) => feeds.ready(sessions, &prepared.news),
         Err(_) => {}

@@ -70,7 +70,6 @@ fn is_told_behind(alloc: Global, changes: u32) -> Option<bool> {
     let told = answers(alloc, &mut reader, "d NOOP\r\ne NOOP\r\n")?;
     Some(
         told.as_slice()
-            == b"* 1 FETCH (UID 1 FLAGS (\\Seen))|d OK NOOP completed|e OK NOOP completed|"
-                .as_slice(),
+            == b"* 1 FETCH (UID 1 FLAGS (\\Seen))|d OK NOOP completed|e OK NOOP completed|".as_slice(),
     )
 }

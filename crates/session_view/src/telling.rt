@@ -153,7 +153,7 @@ fn is_whole(count: usize, listed: usize, left: usize) -> bool
     count >= listed && count - listed == left
 }
 
-/// Room for so many messages and these, where there are some.
+/// Room for so many messages and these, where there are some, and for a quarter more to come.
 fn place_for(alloc: Global, count: usize, came: &[Entry]) -> Result<Vec<Entry>, AllocError>
     requires { count + length came.now < 2 ^ 33 }
     ensures empty { IfOk result (λ place. place.items ≡ []) }
@@ -162,7 +162,7 @@ fn place_for(alloc: Global, count: usize, came: &[Entry]) -> Result<Vec<Entry>, 
     if came.is_empty() {
         return Ok(Vec::new(alloc));
     }
-    Vec::with_capacity(alloc, count + came.len())
+    Vec::with_capacity(alloc, count + came.len() + count / 4)
 }
 
 /// The last UID, this one where there is no message.

@@ -46,7 +46,7 @@ impl Charts {
     }
 }
 
-/// The UIDs of the listing from the first on, ascending; `Err` where there is no memory for them. Cost: a binary search, and the UIDs
+/// The UIDs of the listing from the first on; `Err` where there is no memory for them. Cost: a binary search, and the UIDs
 /// that it gives.
 pub fn uids_from(alloc: Global, rows: &Rows<'_>, first: u32) -> Result<Vec<u32>, AllocError>
     ensures { IfOk result (λ uids. AreUidsFrom first rows.now uids.items) }

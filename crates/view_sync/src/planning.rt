@@ -1,12 +1,13 @@
 //! The plan of a sync.
 
 ghost use Rattle.std.specs.List.{list_any};
-ghost use Rattle.std.specs.Prelude.{◌≡◌, ◌++◌, true, List, IfOk, OnOk};
+ghost use Rattle.std.specs.Prelude.{◌≡◌, ◌++◌, ◌+◌, ◌/◌, ◌∷◌, [], nat_lt, true, List, IfOk, OnOk};
 ghost use Rattle.mail_listing.specs.Listed.{Listed};
 ghost use Rattle.session_view.specs.Changes.{NamesAll, is_end};
 ghost use Rattle.session_view.specs.Replay.{after_silent};
 ghost use Rattle.session_view.specs.Sync.{sync_answers, synced};
 ghost use Rattle.session_view.specs.Views.{entries_of};
+ghost use Rattle.session_view.specs.declared.changes.Note.TheVariants.{Ended};
 ghost use Rattle.session_view.specs.declared.entry.SyncKind.TheVariants.{Full};
 ghost use Rattle.view_sync.specs.Noted.{CanCommit, IsChangeTo, IsNoted, changed};
 
@@ -15,7 +16,8 @@ use idle_feed::Feed;
 use imap_answers::Answer;
 use mail_listing::Rows;
 use session_view::{
-    Note, Silent, SyncKind, SyncOutcome, Told, ToldBehind, View, counts_tell, replayed, synced,
+    Note, Silent, SyncKind, SyncOutcome, Told, ToldBehind, View, counts_tell, notes_keep_up,
+    replayed, synced,
 };
 use std::alloc::{AllocError, Global};
 
@@ -30,7 +32,7 @@ pub struct Planned {
 
 /// What a sync tells behind these flags, which the session sets itself or was told, over a listing that differs from an earlier one in what these notes name;
 /// the feed names how the view differs from that one. View and feed stay as they were, so that a refused input has nothing to put back. `Err` where there is no
-/// memory. Cost: what the notes and the feed name; where the feed missed some, or all of a mailbox may differ, one pass over the view and the listing.
+/// memory. Cost: what the notes and the feed name; where the feed missed some, all of a mailbox may differ, or there are many notes, one pass over the view and the listing.
 pub fn plan(
     alloc: Global,
     view: &mut View,
@@ -49,13 +51,54 @@ pub fn plan(
     ensures can { IfOk result (λ plan. CanCommit view.old.entries plan.change) }
 {
     let Some(noted) = feed.notes() else {
-        return anew(alloc, view, rows, first, kind, modseq);
+        return compared(alloc, view, rows, first, kind, modseq);
     };
-    if have_end(noted) || have_end(notes) {
-        return anew(alloc, view, rows, first, kind, modseq);
+    let count = noted.len().saturating_add(notes.len());
+    if have_end(noted) || have_end(notes) || are_many(count, view.entries().len()) {
+        return compared(alloc, view, rows, first, kind, modseq);
     }
     let all = joined(alloc, noted, notes)?;
     in_place(alloc, view, rows, all, first, kind, modseq)
+}
+
+/// Whether so many notes of so many messages are too many to look each up.
+fn are_many(notes: usize, messages: usize) -> bool
+    ensures { result ≡ nat_lt (64 + messages / 16) notes }
+{
+    notes > 64 + messages / 16
+}
+
+/// The plan of a sync that looks at all of the view.
+fn compared(
+    alloc: Global,
+    view: &mut View,
+    rows: &Rows<'_>,
+    first: Vec<Silent>,
+    kind: SyncKind,
+    modseq: bool,
+) -> Result<Planned, AllocError>
+    ensures same { view.new ≡ view.old }
+    ensures answers { IfOk result (λ plan. plan.answers.items ≡ sync_answers kind modseq rows.now (after_silent view.old.entries first.items)) }
+    ensures changed { IfOk result (λ plan. changed view.old.entries plan.change ≡ synced kind rows.now (after_silent view.old.entries first.items)) }
+    ensures change { IfOk result (λ plan. IsChangeTo rows.now view.old.entries plan.change) }
+    ensures can { IfOk result (λ plan. CanCommit view.old.entries plan.change) }
+{
+    match kind {
+        SyncKind::Full => anew(alloc, view, rows, first, kind, modseq),
+        SyncKind::Partial => {
+            notes_keep_up();
+            in_place(alloc, view, rows, ended(alloc)?, first, kind, modseq)
+        }
+    }
+}
+
+/// The note that all may differ.
+fn ended(alloc: Global) -> Result<Vec<Note>, AllocError>
+    ensures { IfOk result (λ notes. notes.items ≡ Ended ∷ []) }
+{
+    let mut notes = Vec::with_capacity(alloc, 1)?;
+    notes.push_reserved(Note::Ended);
+    Ok(notes)
 }
 
 /// Whether one of these tells that an incarnation ended, so that all of its messages may differ.

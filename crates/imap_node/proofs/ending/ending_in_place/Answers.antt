@@ -1,4 +1,5 @@
-use Rattle.std.proofs.Common.{◌≡◌, ◌++◌, false, Option, Some, sym, ap, subst, ◌∙◌}
+use Rattle.std.proofs.Common.{◌≡◌, ◌++◌, false, Option, None, Some, sym, ap, subst, ◌∙◌, length, arith}
+use Rattle.std.proofs.lemmas.Bool.Decides.{nat_tests}
 use Rattle.std.specs.List.{list_any}
 use Rattle.imap_commands.specs.declared.session.State.{State}
 use Rattle.imap_node.specs.Endings.{FrontOf, ending_behind}
@@ -6,7 +7,7 @@ use Rattle.imap_node.specs.Feeds.{IsNews, IsNotedFor, UntoldOf}
 use Rattle.imap_node.specs.Going.{state_with}
 use Rattle.imap_node.specs.Replays.{view_of}
 use Rattle.session_view.specs.Changes.{all_flags_told, shifts}
-use Rattle.imap_node.proofs.GoingLemmas.{asked_in_place, can_in_place, shown_in_place, told_in_place}
+use Rattle.imap_node.proofs.GoingLemmas.{asked_in_place, can_in_place, none_there, shown_as_before, shown_in_place, told_in_place}
 use Rattle.imap_node.proofs.ending.ending_in_place.Goals as goal
 
 pub plan-requires : goal.plan-requires
@@ -25,9 +26,9 @@ returns-in_ok-planned-in-Selected-clause-answers c =
     let inside = c.front.inside in
     let front : FrontOf = record { silent = inside.silent.now; own = inside.own.now; sync = inside.sync; modseq = inside.modseq } in
     subst (λ (f : FrontOf). c.in_ok-planned-in-Selected.planned.answers.items ≡ (ending_behind start after c.args.state.now f).answers) c.front.view_is
-    (told_in_place start after c.args.state.now c.in-Selected.view c.in-Selected.read_only front c.in-Some.kind c.in_ok-rows-in-Selected.rows c.in_ok-first-in-Selected.first.items
+    (told_in_place start after c.args.state.now c.in-Selected.view c.in-Selected.read_only front c.in-Some.kind c.in_ok-rows-in-Selected.rows c.in_ok-first.first.items
     c.in-Selected.is c.in-Some.is (sym c.do_shift.ensures ∙ c.if-do_shift.false) (c.in_ok-rows-in-Selected.ensures {u = tt})
-    (c.in_ok-first-in-Selected.ensures {u = tt} ∙ ap (λ (f : FrontOf). f.silent ++ all_flags_told f.own) (sym c.front.view_is))
+    (c.in_ok-first.ensures {u = tt} ∙ ap (λ (f : FrontOf). f.silent ++ all_flags_told f.own) (sym c.front.view_is))
     c.in_ok-planned-in-Selected.planned.answers.items (c.in_ok-planned-in-Selected.ensures {u = tt}).answers)
 
 pub returns-in_ok-planned-in-Selected-clause-state : goal.returns-in_ok-planned-in-Selected-clause-state
@@ -37,16 +38,28 @@ returns-in_ok-planned-in-Selected-clause-state c =
     let inside = c.front.inside in
     let front : FrontOf = record { silent = inside.silent.now; own = inside.own.now; sync = inside.sync; modseq = inside.modseq } in
     subst (λ (f : FrontOf). state_with c.args.state.now (Some c.in_ok-planned-in-Selected.planned.change) ≡ (ending_behind start after c.args.state.now f).state) c.front.view_is
-    (shown_in_place start after c.args.state.now c.in-Selected.view c.in-Selected.read_only front c.in-Some.kind c.in_ok-rows-in-Selected.rows c.in_ok-first-in-Selected.first.items
+    (shown_in_place start after c.args.state.now c.in-Selected.view c.in-Selected.read_only front c.in-Some.kind c.in_ok-rows-in-Selected.rows c.in_ok-first.first.items
     c.in-Selected.is c.in-Some.is (sym c.do_shift.ensures ∙ c.if-do_shift.false) (c.in_ok-rows-in-Selected.ensures {u = tt})
-    (c.in_ok-first-in-Selected.ensures {u = tt} ∙ ap (λ (f : FrontOf). f.silent ++ all_flags_told f.own) (sym c.front.view_is))
+    (c.in_ok-first.ensures {u = tt} ∙ ap (λ (f : FrontOf). f.silent ++ all_flags_told f.own) (sym c.front.view_is))
     c.in_ok-planned-in-Selected.planned.change (c.in_ok-planned-in-Selected.ensures {u = tt}).changed)
 
 pub returns-in_ok-planned-in-Selected-clause-can : goal.returns-in_ok-planned-in-Selected-clause-can
 returns-in_ok-planned-in-Selected-clause-can c =
     let inside = c.front.inside in
     let front : FrontOf = record { silent = inside.silent.now; own = inside.own.now; sync = inside.sync; modseq = inside.modseq } in
-    can_in_place c.args.replica.now.start (c.args.replica.now.applied ++ c.args.ops.now) c.args.state.now c.in-Selected.view c.in-Selected.read_only front c.in-Some.kind c.in_ok-rows-in-Selected.rows c.in_ok-first-in-Selected.first.items
+    can_in_place c.args.replica.now.start (c.args.replica.now.applied ++ c.args.ops.now) c.args.state.now c.in-Selected.view c.in-Selected.read_only front c.in-Some.kind c.in_ok-rows-in-Selected.rows c.in_ok-first.first.items
     c.in-Selected.is c.in-Some.is (sym c.do_shift.ensures ∙ c.if-do_shift.false) (c.in_ok-rows-in-Selected.ensures {u = tt})
-    (c.in_ok-first-in-Selected.ensures {u = tt} ∙ ap (λ (f : FrontOf). f.silent ++ all_flags_told f.own) (sym c.front.view_is))
+    (c.in_ok-first.ensures {u = tt} ∙ ap (λ (f : FrontOf). f.silent ++ all_flags_told f.own) (sym c.front.view_is))
     c.in_ok-planned-in-Selected.planned.change (c.in_ok-planned-in-Selected.ensures {u = tt}).can (c.in_ok-planned-in-Selected.ensures {u = tt}).change
+
+pub returns-then-is_empty-clause-state : goal.returns-then-is_empty-clause-state
+returns-then-is_empty-clause-state c =
+    let start = c.args.replica.now.start in
+    let after = c.args.replica.now.applied ++ c.args.ops.now in
+    let inside = c.front.inside in
+    let front : FrontOf = record { silent = inside.silent.now; own = inside.own.now; sync = inside.sync; modseq = inside.modseq } in
+    let first = c.in_ok-first.first in
+    let empty : length first.items ≡ 0 = let a = c.if-is_empty.true in let b = c.is_empty.ensures in let k = first.ok.0 in grind (arith, nat_tests) in
+    subst (λ (f : FrontOf). state_with c.args.state.now None ≡ (ending_behind start after c.args.state.now f).state) c.front.view_is
+    (shown_as_before start after c.args.state.now front first.items c.in_default.is (sym c.do_shift.ensures ∙ c.if-do_shift.false)
+    (c.in_ok-first.ensures {u = tt} ∙ ap (λ (f : FrontOf). f.silent ++ all_flags_told f.own) (sym c.front.view_is)) (none_there first.items empty)).1
