@@ -5,6 +5,7 @@ ghost use Rattle.imap_node.specs.Nodes.{IsGoing};
 
 use imap_lex::{Framer, Limits};
 use imap_types::{Moment, Name, Octets};
+use merge_laws::Caused;
 use node_talk::{Auth, Credentials, Node, SessionNo, State, Turn, talk};
 use std::alloc::Global;
 use tags_clocks::ReplicaId;
@@ -24,7 +25,7 @@ pub fn begin(alloc: Global, user: &str, password: &str) -> Option<Talk> {
 }
 
 /// The same, of the replica with this name.
-pub fn begin_at(alloc: Global, replica: u16, user: &str, password: &str) -> Option<Talk> {
+pub fn begin_at(alloc: Global, replica: u32, user: &str, password: &str) -> Option<Talk> {
     let start = Start {
         replica: ReplicaId::new(replica)?,
         uid: 1,
