@@ -1,4 +1,4 @@
-use Rattle.std.proofs.Common.{◌≡◌, arith}
+use Rattle.std.proofs.Common.{arith}
 use Rattle.chunk_list.proofs.Free.{free_few}
 use Rattle.chunk_list.proofs.list.ChunkList.release.Goals as goal
 
