@@ -2,7 +2,7 @@
 
 use imap_answers::{Answer, FetchItems, Notice};
 use imap_types::Flags;
-use session_view::{Entry, Silent};
+use session_view::{Entries, Silent};
 use std::alloc::{AllocError, Global};
 
 /// A message as the client knows it.
@@ -141,11 +141,11 @@ impl Client {
     }
 
     /// Whether all that the client knows of messages is as a session sees it.
-    pub fn is_right_for(&self, entries: &[Entry]) -> bool {
+    pub fn is_right_for(&self, entries: &Entries) -> bool {
         if self.is_lost || self.slots.len() != entries.len() {
             return false;
         }
-        for (slot, entry) in self.slots.iter().zip(entries) {
+        for (slot, entry) in self.slots.iter().zip(entries.iter_from(0)) {
             if !slot.is_right(Some(entry.uid), Some(&entry.flags)) {
                 return false;
             }

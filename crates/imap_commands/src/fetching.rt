@@ -17,7 +17,7 @@ use imap_query::{FetchMode, Shown, fetch, is_kept, is_marked};
 use imap_types::Flags;
 use mail_listing::Rows;
 use message_versions::Versions;
-use session_view::Entry;
+use session_view::Entries;
 use std::alloc::{AllocError, Global};
 
 /// What FETCH issues in the mailbox, or the first reason against it: `NoSuchMessage`, `TooManyKeywords` (more than 32 on a message that it
@@ -122,8 +122,8 @@ pub fn fetch_tells(
 }
 
 /// The messages with these numbers, as queries see them.
-fn shown_of(alloc: Global, view: &[Entry], numbers: &[u32]) -> Result<Vec<Shown>, AllocError>
-    ensures { IfOk result (λ shown. shown.items ≡ shown_of view.now numbers.now) }
+fn shown_of(alloc: Global, view: &Entries, numbers: &[u32]) -> Result<Vec<Shown>, AllocError>
+    ensures { IfOk result (λ shown. shown.items ≡ shown_of view.now.items numbers.now) }
 {
     let mut shown = Vec::with_capacity(alloc, numbers.len())?;
     for number in numbers {
@@ -132,8 +132,8 @@ fn shown_of(alloc: Global, view: &[Entry], numbers: &[u32]) -> Result<Vec<Shown>
     Ok(shown)
 }
 
-fn push_shown(view: &[Entry], number: u32, shown: &mut Vec<Shown>) -> Result<(), AllocError>
-    ensures { OnOk result (shown.new.items ≡ shown.old.items ++ shown_at number (entry_at view.now number)) }
+fn push_shown(view: &Entries, number: u32, shown: &mut Vec<Shown>) -> Result<(), AllocError>
+    ensures { OnOk result (shown.new.items ≡ shown.old.items ++ shown_at number (entry_at view.now.items number)) }
 {
     if let Some(entry) = entry_at(view, number) {
         shown.push(Shown {

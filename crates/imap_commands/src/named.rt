@@ -10,7 +10,7 @@ use crate::telling::{entry_at, message_at};
 use imap_answers::Refusal;
 use imap_types::{NumberSet, SequenceSet};
 use mail_listing::Rows;
-use session_view::{BadSet, Entry, View};
+use session_view::{BadSet, Entries, View};
 use std::alloc::{AllocError, Global};
 
 /// The numbers of the messages that a set names; `NoSuchMessage` exactly where it names one that there isn't, or `NoMemory`.
@@ -50,10 +50,10 @@ pub fn resolved(
 pub fn those_there(
     alloc: Global,
     rows: &Rows<'_>,
-    view: &[Entry],
+    view: &Entries,
     numbers: &[u32],
 ) -> Result<Vec<u32>, AllocError>
-    ensures { IfOk result (λ there. there.items ≡ those_there rows.now view.now numbers.now) }
+    ensures { IfOk result (λ there. there.items ≡ those_there rows.now view.now.items numbers.now) }
 {
     let mut there = Vec::new(alloc);
     for number in numbers {
@@ -68,10 +68,10 @@ pub fn those_there(
 pub fn names_of(
     alloc: Global,
     by_uid: bool,
-    view: &[Entry],
+    view: &Entries,
     numbers: &[u32],
 ) -> Result<Vec<u32>, AllocError>
-    ensures { IfOk result (λ names. names.items ≡ names_of by_uid view.now numbers.now) }
+    ensures { IfOk result (λ names. names.items ≡ names_of by_uid view.now.items numbers.now) }
 {
     let mut names = Vec::with_capacity(alloc, numbers.len())?;
     for number in numbers {
@@ -81,8 +81,8 @@ pub fn names_of(
 }
 
 /// What the message with this number is named by: its UID, or its number.
-fn name_at(by_uid: bool, view: &[Entry], number: u32) -> u32
-    ensures { result ≡ name_at by_uid view.now number }
+fn name_at(by_uid: bool, view: &Entries, number: u32) -> u32
+    ensures { result ≡ name_at by_uid view.now.items number }
 {
     if !by_uid {
         return number;

@@ -14,7 +14,7 @@ use imap_answers::{Answer, Refusal, SearchResults};
 use imap_query::{Shown, search};
 use imap_syntax::{SearchStep, SearchTest};
 use imap_types::Octets;
-use session_view::{Entry, View, count_of};
+use session_view::{Entries, View, count_of};
 use std::alloc::{AllocError, Global};
 
 /// Nothing, which is what SEARCH issues, or `NoSuchMessage`: a set of numbers in its keys, wherever it stands, names one that no message has.
@@ -98,14 +98,14 @@ fn found(
 }
 
 /// A view's messages as queries see them.
-fn all_shown(alloc: Global, view: &[Entry]) -> Result<Vec<Shown>, AllocError>
-    requires { AreRising 1 view.now }
-    ensures { IfOk result (λ shown. shown.items ≡ shown_from 1 view.now) }
+fn all_shown(alloc: Global, view: &Entries) -> Result<Vec<Shown>, AllocError>
+    requires { AreRising 1 view.now.items }
+    ensures { IfOk result (λ shown. shown.items ≡ shown_from 1 view.now.items) }
 {
     let _count = count_of(view);
     let mut shown = Vec::with_capacity(alloc, view.len())?;
     let mut number = 0;
-    for entry in view {
+    for entry in view.iter_from(0) {
         number += 1;
         shown.push(Shown {
             number,

@@ -24,7 +24,7 @@ use imap_answers::{Answer, Code, FetchItems, Refusal, Sections};
 use imap_types::{Flags, Octets, is_lawful_keyword};
 use mail_listing::{Row, Rows};
 use message_versions::Versions;
-use session_view::{Entry, Silent};
+use session_view::{Entries, Silent};
 use std::alloc::{AllocError, Global};
 
 /// What STORE issues in the mailbox, or the first reason against it: `NoSuchMessage`, `ReadOnly`, `KeywordTooLong` (a keyword that no
@@ -77,8 +77,8 @@ fn is_unchanged(since: Option<u64>, row: &Row<'_>) -> bool
     }
 }
 
-fn is_taken(since: Option<u64>, rows: &Rows<'_>, view: &[Entry], number: u32) -> bool
-    ensures { result ≡ is_taken since (message_at rows.now view.now number) }
+fn is_taken(since: Option<u64>, rows: &Rows<'_>, view: &Entries, number: u32) -> bool
+    ensures { result ≡ is_taken since (message_at rows.now view.now.items number) }
 {
     match message_at(rows, view, number) {
         None => false,
@@ -86,8 +86,8 @@ fn is_taken(since: Option<u64>, rows: &Rows<'_>, view: &[Entry], number: u32) ->
     }
 }
 
-fn is_refused(since: Option<u64>, rows: &Rows<'_>, view: &[Entry], number: u32) -> bool
-    ensures { result ≡ is_refused since (message_at rows.now view.now number) }
+fn is_refused(since: Option<u64>, rows: &Rows<'_>, view: &Entries, number: u32) -> bool
+    ensures { result ≡ is_refused since (message_at rows.now view.now.items number) }
 {
     match message_at(rows, view, number) {
         None => false,
@@ -99,11 +99,11 @@ fn is_refused(since: Option<u64>, rows: &Rows<'_>, view: &[Entry], number: u32) 
 fn those_taken(
     alloc: Global,
     before: &Rows<'_>,
-    view: &[Entry],
+    view: &Entries,
     since: Option<u64>,
     numbers: &[u32],
 ) -> Result<Vec<u32>, AllocError>
-    ensures { IfOk result (λ taken. taken.items ≡ those_taken before.now view.now since numbers.now) }
+    ensures { IfOk result (λ taken. taken.items ≡ those_taken before.now view.now.items since numbers.now) }
 {
     let mut taken = Vec::new(alloc);
     for number in numbers {
@@ -118,11 +118,11 @@ fn those_taken(
 fn those_refused(
     alloc: Global,
     before: &Rows<'_>,
-    view: &[Entry],
+    view: &Entries,
     since: Option<u64>,
     numbers: &[u32],
 ) -> Result<Vec<u32>, AllocError>
-    ensures { IfOk result (λ refused. refused.items ≡ those_refused before.now view.now since numbers.now) }
+    ensures { IfOk result (λ refused. refused.items ≡ those_refused before.now view.now.items since numbers.now) }
 {
     let mut refused = Vec::new(alloc);
     for number in numbers {
@@ -210,13 +210,13 @@ pub fn store_tells(
 fn store_code(
     alloc: Global,
     before: &Rows<'_>,
-    view: &[Entry],
+    view: &Entries,
     by_uid: bool,
     refused: &[u32],
     numbers: &[u32],
 ) -> Result<Option<Code>, AllocError>
-    requires { AreRisingFrom 1 (names_of by_uid view.now refused.now) }
-    ensures { IfOk result (λ code. code ≡ modified_code (names_of by_uid view.now refused.now) (gone_code before.now view.now numbers.now)) }
+    requires { AreRisingFrom 1 (names_of by_uid view.now.items refused.now) }
+    ensures { IfOk result (λ code. code ≡ modified_code (names_of by_uid view.now.items refused.now) (gone_code before.now view.now.items numbers.now)) }
 {
     let names = names_of(alloc, by_uid, view, refused)?;
     if names.is_empty() {
@@ -231,12 +231,12 @@ fn store_code(
 fn stored_answers(
     alloc: Global,
     after: &Rows<'_>,
-    view: &[Entry],
+    view: &Entries,
     condstore: bool,
     asked: &StoreAsked<'_>,
     taken: &[u32],
 ) -> Result<Vec<Answer>, AllocError>
-    ensures { IfOk result (λ answers. answers.items ≡ stored_answers after.now view.now condstore asked.now taken.now) }
+    ensures { IfOk result (λ answers. answers.items ≡ stored_answers after.now view.now.items condstore asked.now taken.now) }
 {
     if is_untold(asked.action.silent, asked.unchanged_since) {
         return Ok(Vec::new(alloc));
@@ -255,12 +255,12 @@ fn is_untold(silent: bool, since: Option<u64>) -> bool
 fn answers_of(
     alloc: Global,
     after: &Rows<'_>,
-    view: &[Entry],
+    view: &Entries,
     condstore: bool,
     asked: &StoreAsked<'_>,
     taken: &[u32],
 ) -> Result<Vec<Answer>, AllocError>
-    ensures { IfOk result (λ answers. answers.items ≡ flat_map (λ n. stored_answer condstore asked.now n (message_at after.now view.now n)) taken.now) }
+    ensures { IfOk result (λ answers. answers.items ≡ flat_map (λ n. stored_answer condstore asked.now n (message_at after.now view.now.items n)) taken.now) }
 {
     let mut answers = Vec::new(alloc);
     for number in taken {
@@ -273,13 +273,13 @@ fn answers_of(
 fn push_answer(
     alloc: Global,
     after: &Rows<'_>,
-    view: &[Entry],
+    view: &Entries,
     condstore: bool,
     asked: &StoreAsked<'_>,
     number: u32,
     answers: &mut Vec<Answer>,
 ) -> Result<(), AllocError>
-    ensures { OnOk result (answers.new.items ≡ answers.old.items ++ stored_answer condstore asked.now number (message_at after.now view.now number)) }
+    ensures { OnOk result (answers.new.items ≡ answers.old.items ++ stored_answer condstore asked.now number (message_at after.now view.now.items number)) }
 {
     let Some(row) = message_at(after, view, number) else {
         return Ok(());
@@ -317,11 +317,11 @@ fn flags_where(
 /// The flags that a session takes where STORE is silent.
 fn silents_of(
     alloc: Global,
-    view: &[Entry],
+    view: &Entries,
     asked: &StoreAsked<'_>,
     taken: &[u32],
 ) -> Result<Vec<Silent>, AllocError>
-    ensures { IfOk result (λ silents. silents.items ≡ silents_of view.now asked.now taken.now) }
+    ensures { IfOk result (λ silents. silents.items ≡ silents_of view.now.items asked.now taken.now) }
 {
     if !asked.action.silent {
         return Ok(Vec::new(alloc));
@@ -331,11 +331,11 @@ fn silents_of(
 
 fn silents(
     alloc: Global,
-    view: &[Entry],
+    view: &Entries,
     asked: &StoreAsked<'_>,
     taken: &[u32],
 ) -> Result<Vec<Silent>, AllocError>
-    ensures { IfOk result (λ silents. silents.items ≡ flat_map (λ n. silent_at asked.now.action.mode asked.now.flags n (entry_at view.now n)) taken.now) }
+    ensures { IfOk result (λ silents. silents.items ≡ flat_map (λ n. silent_at asked.now.action.mode asked.now.flags n (entry_at view.now.items n)) taken.now) }
 {
     let mut silents = Vec::new(alloc);
     for number in taken {
@@ -347,12 +347,12 @@ fn silents(
 /// Adds the view's own flags of a message, changed as asked.
 fn push_silent(
     alloc: Global,
-    view: &[Entry],
+    view: &Entries,
     asked: &StoreAsked<'_>,
     number: u32,
     silents: &mut Vec<Silent>,
 ) -> Result<(), AllocError>
-    ensures { OnOk result (silents.new.items ≡ silents.old.items ++ silent_at asked.now.action.mode asked.now.flags number (entry_at view.now number)) }
+    ensures { OnOk result (silents.new.items ≡ silents.old.items ++ silent_at asked.now.action.mode asked.now.flags number (entry_at view.now.items number)) }
 {
     let Some(entry) = entry_at(view, number) else {
         return Ok(());

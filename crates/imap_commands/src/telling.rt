@@ -8,7 +8,7 @@ ghost use Rattle.mail_listing.specs.Listing.{listed};
 
 use imap_answers::{Answer, Code};
 use mail_listing::{Row, Rows};
-use session_view::{Entry, Silent};
+use session_view::{Entries, Entry, Silent};
 use std::alloc::Global;
 use std::marker::Model;
 
@@ -77,8 +77,8 @@ impl Telling {
 }
 
 /// The view's message with this number, from 1 on.
-pub fn entry_at(view: &[Entry], number: u32) -> Option<&Entry>
-    ensures { option_copied result ≡ entry_at view.now number }
+pub fn entry_at(view: &Entries, number: u32) -> Option<&Entry>
+    ensures { option_copied result ≡ entry_at view.now.items number }
 {
     if number == 0 {
         return None;
@@ -87,8 +87,8 @@ pub fn entry_at(view: &[Entry], number: u32) -> Option<&Entry>
 }
 
 /// What the listing has for the view's message with this number; `None` where it is gone. A binary search.
-pub fn message_at<'a>(rows: &'a Rows<'_>, view: &[Entry], number: u32) -> Option<Row<'a>>
-    ensures { option_map listed result ≡ message_at rows.now view.now number }
+pub fn message_at<'a>(rows: &'a Rows<'_>, view: &Entries, number: u32) -> Option<Row<'a>>
+    ensures { option_map listed result ≡ message_at rows.now view.now.items number }
 {
     match entry_at(view, number) {
         Some(entry) => rows.row_of(entry.uid),
@@ -97,8 +97,8 @@ pub fn message_at<'a>(rows: &'a Rows<'_>, view: &[Entry], number: u32) -> Option
 }
 
 /// The code which tells that some of the messages with these numbers are gone (RFC 9051, section 7.1, EXPUNGEISSUED).
-pub fn gone_code(rows: &Rows<'_>, view: &[Entry], numbers: &[u32]) -> Option<Code>
-    ensures { result ≡ gone_code rows.now view.now numbers.now }
+pub fn gone_code(rows: &Rows<'_>, view: &Entries, numbers: &[u32]) -> Option<Code>
+    ensures { result ≡ gone_code rows.now view.now.items numbers.now }
 {
     if are_some_gone(rows, view, numbers) {
         Some(Code::ExpungeIssued)
@@ -107,8 +107,8 @@ pub fn gone_code(rows: &Rows<'_>, view: &[Entry], numbers: &[u32]) -> Option<Cod
     }
 }
 
-fn are_some_gone(rows: &Rows<'_>, view: &[Entry], numbers: &[u32]) -> bool
-    ensures { result ≡ are_some_gone rows.now view.now numbers.now }
+fn are_some_gone(rows: &Rows<'_>, view: &Entries, numbers: &[u32]) -> bool
+    ensures { result ≡ are_some_gone rows.now view.now.items numbers.now }
 {
     for number in numbers {
         if message_at(rows, view, *number).is_none() {

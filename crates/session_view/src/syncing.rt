@@ -1,11 +1,14 @@
 //! What a sync sends, and the view behind it.
 
-ghost use Rattle.std.specs.Prelude.{◌≡◌, ◌≤◌, ◌+◌, ◌<◌, ◌^◌, ◌++◌, ◌∷◌, [], ℕ, length, take, drop, IfOk, OnOk, None, Some};
+ghost use Rattle.std.specs.Prelude.{◌≡◌, ◌≤◌, ◌+◌, ◌<◌, ◌^◌, ◌++◌, ◌∷◌, [], ℕ, length, get_or, take, drop, IfOk, OnOk, None, Some};
 ghost use Rattle.mail_listing.specs.Listing.{AreRisingRows, beyond, listed};
 ghost use Rattle.session_view.specs.Views.{AreRising, entries_of, same_flags};
+ghost use Rattle.session_view.specs.declared.entry.Entry.{Entry as Message};
 ghost use Rattle.session_view.specs.Sync.{announced, arrivals, change, change_of, changes, expunges, kept_in, kept_of, loss, losses, staying, sync_answers, synced};
 
-use crate::entry::{Entry, SyncKind, count_of, last_uid};
+use crate::entry::{Entries, Entry, SyncKind, count_of, last_uid, uid_at};
+use crate::lists::MessageList;
+use chunk_list::ChunkList;
 use imap_answers::{Answer, FetchItems, Sections};
 use imap_types::Flags;
 use mail_listing::{Row, Rows};
@@ -15,7 +18,7 @@ use std::alloc::{AllocError, Global};
 #[derive(Drop)]
 pub struct SyncOutcome {
     /// The messages behind it.
-    pub entries: Vec<Entry>,
+    pub entries: Entries,
     /// What it sends.
     pub answers: Vec<Answer>,
 }
@@ -28,12 +31,12 @@ pub fn synced(
     kind: SyncKind,
     modseq: bool,
     rows: &Rows<'_>,
-    view: &[Entry],
+    view: &Entries,
 ) -> Result<SyncOutcome, AllocError>
-    requires { AreRising 1 view.now }
-    ensures entries { IfOk result (λ s. s.entries.items ≡ synced kind rows.now view.now) }
+    requires { AreRising 1 view.now.items }
+    ensures entries { IfOk result (λ s. s.entries.items ≡ synced kind rows.now view.now.items) }
     ensures rising { IfOk result (λ s. AreRising 1 s.entries.items) }
-    ensures answers { IfOk result (λ s. s.answers.items ≡ sync_answers kind modseq rows.now view.now) }
+    ensures answers { IfOk result (λ s. s.answers.items ≡ sync_answers kind modseq rows.now view.now.items) }
 {
     let _count = count_of(view);
     let mut answers = Vec::new(alloc);
@@ -48,20 +51,20 @@ fn brought_up(
     alloc: Global,
     kind: SyncKind,
     rows: &Rows<'_>,
-    view: &[Entry],
+    view: &Entries,
     answers: &mut Vec<Answer>,
-) -> Result<Vec<Entry>, AllocError>
-    requires { AreRising 1 view.now }
-    ensures entries { IfOk result (λ entries. entries.items ≡ synced kind rows.now view.now) }
+) -> Result<Entries, AllocError>
+    requires { AreRising 1 view.now.items }
+    ensures entries { IfOk result (λ entries. entries.items ≡ synced kind rows.now view.now.items) }
     ensures rising { IfOk result (λ entries. AreRising 1 entries.items) }
-    ensures answers { OnOk result (answers.new.items ≡ answers.old.items ++ arrivals rows.now (staying kind rows.now view.now)) }
+    ensures answers { OnOk result (answers.new.items ≡ answers.old.items ++ arrivals rows.now (staying kind rows.now view.now.items)) }
 {
     let _count = rows.count();
     let mut entries = kept(alloc, kind, rows, view)?;
-    let before = count_of(entries.as_slice());
-    let last = last_uid(entries.as_slice());
+    let before = count_of(&entries);
+    let last = last_uid(&entries);
     push_new(alloc, last, rows, &mut entries)?;
-    push_exists(before, count_of(entries.as_slice()), answers)?;
+    push_exists(before, count_of(&entries), answers)?;
     Ok(entries)
 }
 
@@ -69,11 +72,11 @@ fn brought_up(
 fn push_losses(
     kind: SyncKind,
     rows: &Rows<'_>,
-    view: &[Entry],
+    view: &Entries,
     answers: &mut Vec<Answer>,
 ) -> Result<(), AllocError>
-    requires { length view.now < 2 ^ 32 }
-    ensures { OnOk result (answers.new.items ≡ answers.old.items ++ losses kind rows.now view.now) }
+    requires { length view.now.items < 2 ^ 32 }
+    ensures { OnOk result (answers.new.items ≡ answers.old.items ++ losses kind rows.now view.now.items) }
 {
     match kind {
         SyncKind::Full => push_expunges(rows, view, answers),
@@ -84,28 +87,31 @@ fn push_losses(
 /// EXPUNGE for each message that is gone, from the greatest number down.
 fn push_expunges(
     rows: &Rows<'_>,
-    view: &[Entry],
+    view: &Entries,
     answers: &mut Vec<Answer>,
 ) -> Result<(), AllocError>
-    requires { length view.now < 2 ^ 32 }
-    ensures { OnOk result (answers.new.items ≡ answers.old.items ++ expunges rows.now 1 view.now) }
+    requires { length view.now.items < 2 ^ 32 }
+    ensures { OnOk result (answers.new.items ≡ answers.old.items ++ expunges rows.now 1 view.now.items) }
 {
     for i in (0..view.len()).rev() {
-        push_loss(rows, i as u32 + 1, &view[i], answers)?;
+        push_loss(rows, i, view, answers)?;
     }
     Ok(())
 }
 
-/// EXPUNGE of the message with this number, if it is gone.
+/// EXPUNGE of the message at this place, from 0, if it is gone.
 fn push_loss(
     rows: &Rows<'_>,
-    number: u32,
-    entry: &Entry,
+    place: usize,
+    view: &Entries,
     answers: &mut Vec<Answer>,
 ) -> Result<(), AllocError>
-    ensures { OnOk result (answers.new.items ≡ answers.old.items ++ loss rows.now number entry.now) }
+    requires within { place < length view.now.items }
+    requires count { length view.now.items < 2 ^ 32 }
+    ensures { OnOk result ((d : Message) → answers.new.items ≡ answers.old.items ++ loss rows.now (place + 1) (get_or view.now.items place d)) }
 {
-    if let None = rows.row_of(entry.uid) {
+    let number = place as u32 + 1;
+    if let None = rows.row_of(uid_at(view, place)) {
         answers.push(Answer::Expunge { number })?;
     }
     Ok(())
@@ -127,14 +133,14 @@ fn push_changes(
     kind: SyncKind,
     modseq: bool,
     rows: &Rows<'_>,
-    view: &[Entry],
+    view: &Entries,
     answers: &mut Vec<Answer>,
 ) -> Result<(), AllocError>
-    requires { length view.now < 2 ^ 32 }
-    ensures { OnOk result (answers.new.items ≡ answers.old.items ++ changes modseq rows.now 1 (staying kind rows.now view.now)) }
+    requires { length view.now.items < 2 ^ 32 }
+    ensures { OnOk result (answers.new.items ≡ answers.old.items ++ changes modseq rows.now 1 (staying kind rows.now view.now.items)) }
 {
     let mut number = 0;
-    for entry in view {
+    for entry in view.iter_from(0) {
         match rows.row_of(entry.uid) {
             Some(row) => {
                 number += 1;
@@ -201,12 +207,12 @@ fn kept(
     alloc: Global,
     kind: SyncKind,
     rows: &Rows<'_>,
-    view: &[Entry],
-) -> Result<Vec<Entry>, AllocError>
-    ensures { IfOk result (λ kept. kept.items ≡ kept_in kind rows.now view.now) }
+    view: &Entries,
+) -> Result<Entries, AllocError>
+    ensures { IfOk result (λ kept. kept.items ≡ kept_in kind rows.now view.now.items) }
 {
-    let mut kept = Vec::new(alloc);
-    for entry in view {
+    let mut kept = ChunkList::new(alloc);
+    for entry in view.iter_from(0) {
         push_kept(alloc, kind, rows, entry, &mut kept)?;
     }
     Ok(kept)
@@ -218,20 +224,19 @@ fn push_kept(
     kind: SyncKind,
     rows: &Rows<'_>,
     entry: &Entry,
-    kept: &mut Vec<Entry>,
+    kept: &mut Entries,
 ) -> Result<(), AllocError>
     ensures { OnOk result (kept.new.items ≡ kept.old.items ++ kept_of kind rows.now entry.now) }
 {
     match rows.row_of(entry.uid) {
         Some(row) => {
-            kept.push(Entry {
-                uid: entry.uid,
-                flags: row.versions.flags(alloc)?,
-            })?;
+            let flags = row.versions.flags(alloc)?;
+            let uid = entry.uid;
+            kept.push(alloc, Entry { uid, flags })?;
         }
         None => {
             if kind == SyncKind::Partial {
-                kept.push(entry.copy(alloc)?)?;
+                kept.push(alloc, entry.copy(alloc)?)?;
             }
         }
     }
@@ -239,13 +244,13 @@ fn push_kept(
 }
 
 /// Puts the listing's messages with UIDs above this one behind those that are there.
-pub fn push_new(
+pub fn push_new<L: MessageList>(
     alloc: Global,
     uid: u32,
     rows: &Rows<'_>,
-    entries: &mut Vec<Entry>,
+    entries: &mut L,
 ) -> Result<(), AllocError>
-    ensures { OnOk result (entries.new.items ≡ entries.old.items ++ entries_of (beyond uid rows.now)) }
+    ensures { OnOk result (L.entries entries.new ≡ L.entries entries.old ++ entries_of (beyond uid rows.now)) }
 {
     let count = rows.count();
     push_rows(alloc, rows, rows.place_beyond(uid), count, entries)?;
@@ -253,15 +258,15 @@ pub fn push_new(
 }
 
 /// Puts so many of the listing's messages from this place on, or as many as there are, behind those that are there.
-pub fn push_rows(
+pub fn push_rows<L: MessageList>(
     alloc: Global,
     rows: &Rows<'_>,
     start: usize,
     count: u32,
-    entries: &mut Vec<Entry>,
+    entries: &mut L,
 ) -> Result<(), AllocError>
     requires { start < 2 ^ 32 }
-    ensures { OnOk result (entries.new.items ≡ entries.old.items ++ entries_of (take count (drop start rows.now))) }
+    ensures { OnOk result (L.entries entries.new ≡ L.entries entries.old ++ entries_of (take count (drop start rows.now))) }
 {
     for step in 0..count as usize {
         match rows.row_at(start + step) {
@@ -273,12 +278,11 @@ pub fn push_rows(
 }
 
 /// Puts a message behind those that are there.
-fn push_row(alloc: Global, row: &Row<'_>, entries: &mut Vec<Entry>) -> Result<(), AllocError>
-    ensures { OnOk result (entries.new.items ≡ entries.old.items ++ entries_of (listed row.now ∷ [])) }
+fn push_row<L: MessageList>(alloc: Global, row: &Row<'_>, entries: &mut L) -> Result<(), AllocError>
+    ensures { OnOk result (L.entries entries.new ≡ L.entries entries.old ++ entries_of (listed row.now ∷ [])) }
 {
-    entries.push(Entry {
-        uid: row.uid,
-        flags: row.versions.flags(alloc)?,
-    })?;
+    let flags = row.versions.flags(alloc)?;
+    let uid = row.uid;
+    entries.put(alloc, Entry { uid, flags })?;
     Ok(())
 }

@@ -1,6 +1,6 @@
 //! Syncs that look at named messages alone.
 
-ghost use Rattle.std.specs.Prelude.{◌≡◌, ◌⊎◌, true, ◌≤◌, ◌+◌, ◌-◌, ◌<◌, ◌^◌, ◌++◌, List, [], ℕ, ◌∷◌, drop, length, vec_len, vec_capacity, IfOk, OnOk, Some};
+ghost use Rattle.std.specs.Prelude.{◌≡◌, ◌⊎◌, true, ◌≤◌, ◌+◌, ◌-◌, ◌<◌, ◌^◌, ◌++◌, List, [], ℕ, ◌∷◌, drop, length, IfOk, OnOk, Some};
 ghost use Rattle.std.specs.List.{slice_get};
 ghost use Rattle.std.specs.Option.{option_copied};
 ghost use Rattle.mail_listing.specs.Listing.{listed};
@@ -12,14 +12,14 @@ ghost use Rattle.session_view.specs.Walks.{Stands, gone_by, left_by};
 ghost use Rattle.session_view.specs.declared.entry.SyncKind.TheVariants.{Full};
 
 use crate::changes::Note;
-use crate::entry::{Entry, SyncKind, count_of, last_uid};
+use crate::entry::{Entries, Entry, SyncKind, count_of, last_uid, uid_at};
 use crate::places::count_below;
 use crate::replaying::{Silent, set_flags, take_number};
 use crate::syncing::{are_same, change_of, push_exists, push_new};
+use chunk_list::Growth;
 use imap_answers::Answer;
 use mail_listing::{Row, Rows};
 use std::alloc::{AllocError, Global};
-use std::mem;
 
 /// What a sync does to a view: the numbers of the messages that are gone, ascending, what came behind, and the flags that changed, by
 /// the numbers behind these.
@@ -28,8 +28,8 @@ pub struct Patch {
     pub(crate) gone: Vec<u32>,
     pub(crate) came: Vec<Entry>,
     pub(crate) flags: Vec<Silent>,
-    /// Empty, with room for the whole view where something came: what holds a view doesn't tell whether it has room itself.
-    pub(crate) place: Vec<Entry>,
+    /// Room for what came, where something came: what holds a view doesn't tell whether it has room itself.
+    pub(crate) place: Growth<Entry>,
 }
 
 /// What a sync comes to, with all memory that it takes.
@@ -76,17 +76,17 @@ pub fn told_by(
     kind: SyncKind,
     modseq: bool,
     rows: &Rows<'_>,
-    view: &[Entry],
+    view: &Entries,
     uids: &[u32],
 ) -> Result<Told, AllocError>
-    requires rising { AreRising 1 view.now }
+    requires rising { AreRising 1 view.now.items }
     requires ascending { AreAscending 0 uids.now }
-    requires covers { Covers uids.now rows.now view.now }
-    ensures answers { IfOk result (λ told. told.answers.items ≡ sync_answers kind modseq rows.now view.now) }
-    ensures patch { IfOk result (λ told. patched view.now told.patch.gone.items told.patch.came.items told.patch.flags.items ≡ synced kind rows.now view.now) }
-    ensures left { IfOk result (λ told. told.left.items ≡ left_noted kind rows.now view.now) }
-    ensures whole { IfOk result (λ told. told.whole ≡ true → NamesAll told.left.items rows.now (synced kind rows.now view.now)) }
-    ensures place { IfOk result (λ told. HasPlace view.now told.patch) }
+    requires covers { Covers uids.now rows.now view.now.items }
+    ensures answers { IfOk result (λ told. told.answers.items ≡ sync_answers kind modseq rows.now view.now.items) }
+    ensures patch { IfOk result (λ told. patched view.now.items told.patch.gone.items told.patch.came.items told.patch.flags.items ≡ synced kind rows.now view.now.items) }
+    ensures left { IfOk result (λ told. told.left.items ≡ left_noted kind rows.now view.now.items) }
+    ensures whole { IfOk result (λ told. told.whole ≡ true → NamesAll told.left.items rows.now (synced kind rows.now view.now.items)) }
+    ensures place { IfOk result (λ told. HasPlace view.now.items told.patch) }
 {
     let count = count_of(view);
     let listed = rows.count();
@@ -123,8 +123,7 @@ fn ended(
     ensures flags { IfOk result (λ told. told.patch.flags.items ≡ flags.items) }
     ensures left { IfOk result (λ told. told.left.items ≡ left.items) }
     ensures whole { IfOk result (λ told. told.whole ≡ true → count - length gone.items + length came.items ≡ listed + length left.items) }
-    ensures empty { IfOk result (λ told. told.patch.place.items ≡ []) }
-    ensures place { IfOk result (λ told. (came.items ≡ []) ⊎ (count + length came.items ≤ vec_capacity told.patch.place)) }
+    ensures place { IfOk result (λ told. (came.items ≡ []) ⊎ ((count ≤ told.patch.place.most) × (length came.items ≤ told.patch.place.room))) }
 {
     let answers = answered(alloc, count, &gone, &came, fetches)?;
     let whole = is_whole(
@@ -153,16 +152,14 @@ fn is_whole(count: usize, listed: usize, left: usize) -> bool
     count >= listed && count - listed == left
 }
 
-/// Room for so many messages and these, where there are some, and for a quarter more to come.
-fn place_for(alloc: Global, count: usize, came: &[Entry]) -> Result<Vec<Entry>, AllocError>
-    requires { count + length came.now < 2 ^ 33 }
-    ensures empty { IfOk result (λ place. place.items ≡ []) }
-    ensures room { IfOk result (λ place. (came.now ≡ []) ⊎ (count + length came.now ≤ vec_capacity place)) }
+/// Room for these messages, where there are some, behind so many.
+fn place_for(alloc: Global, count: usize, came: &[Entry]) -> Result<Growth<Entry>, AllocError>
+    ensures { IfOk result (λ place. (came.now ≡ []) ⊎ ((count ≤ place.most) × (length came.now ≤ place.room))) }
 {
     if came.is_empty() {
-        return Ok(Vec::new(alloc));
+        return Ok(Growth::none(alloc));
     }
-    Vec::with_capacity(alloc, count + came.len() + count / 4)
+    Growth::new(alloc, count, came.len())
 }
 
 /// The last UID, this one where there is no message.
@@ -207,8 +204,8 @@ fn push_expunged(gone: &[u32], answers: &mut Vec<Answer>) -> Result<(), AllocErr
 }
 
 /// The UID of the last message that stays, 0 where none does. It looks up those behind it, which are gone.
-fn last_staying(kind: SyncKind, rows: &Rows<'_>, view: &[Entry]) -> u32
-    ensures { result ≡ last_uid (staying kind rows.now view.now) }
+fn last_staying(kind: SyncKind, rows: &Rows<'_>, view: &Entries) -> u32
+    ensures { result ≡ last_uid (staying kind rows.now view.now.items) }
 {
     match kind {
         SyncKind::Full => last_there(rows, view),
@@ -216,11 +213,11 @@ fn last_staying(kind: SyncKind, rows: &Rows<'_>, view: &[Entry]) -> u32
     }
 }
 
-fn last_there(rows: &Rows<'_>, view: &[Entry]) -> u32
-    ensures { result ≡ last_uid (staying Full rows.now view.now) }
+fn last_there(rows: &Rows<'_>, view: &Entries) -> u32
+    ensures { result ≡ last_uid (staying Full rows.now view.now.items) }
 {
     for i in (0..view.len()).rev() {
-        let uid = view[i].uid;
+        let uid = uid_at(view, i);
         if let Some(_) = rows.row_of(uid) {
             return uid;
         }
@@ -234,14 +231,14 @@ fn walked(
     kind: SyncKind,
     modseq: bool,
     rows: &Rows<'_>,
-    view: &[Entry],
+    view: &Entries,
     uids: &[u32],
 ) -> Result<Walk, AllocError>
-    requires rising { AreRising 1 view.now }
-    requires count { length view.now < 2 ^ 32 }
+    requires rising { AreRising 1 view.now.items }
+    requires count { length view.now.items < 2 ^ 32 }
     requires ascending { AreAscending 0 uids.now }
-    requires covers { Covers uids.now rows.now view.now }
-    ensures { IfOk result (λ walk. Stands kind modseq rows.now view.now [] walk) }
+    requires covers { Covers uids.now rows.now view.now.items }
+    ensures { IfOk result (λ walk. Stands kind modseq rows.now view.now.items [] walk) }
 {
     let mut walk = Walk {
         done: 0,
@@ -262,15 +259,15 @@ fn walk_one(
     kind: SyncKind,
     modseq: bool,
     rows: &Rows<'_>,
-    view: &[Entry],
+    view: &Entries,
     uid: u32,
     walk: &mut Walk,
 ) -> Result<(), AllocError>
-    requires rising { AreRising 1 view.now }
-    requires count { length view.now < 2 ^ 32 }
+    requires rising { AreRising 1 view.now.items }
+    requires count { length view.now.items < 2 ^ 32 }
     requires few { length walk.now.gone.items ≤ walk.now.done }
     ensures few { OnOk result (length walk.new.gone.items ≤ walk.new.done) }
-    ensures stands { OnOk result ((rest : List ℕ) → Stands kind modseq rows.now view.now (uid ∷ rest) walk.old → Stands kind modseq rows.now view.now rest walk.new) }
+    ensures stands { OnOk result ((rest : List ℕ) → Stands kind modseq rows.now view.now.items (uid ∷ rest) walk.old → Stands kind modseq rows.now view.now.items rest walk.new) }
 {
     let place = count_below(view, u64::from(uid));
     if place < walk.done {
@@ -287,8 +284,8 @@ fn walk_one(
 }
 
 /// The message at this place, from 0.
-fn entry_at(view: &[Entry], place: usize) -> Option<&Entry>
-    ensures { option_copied result ≡ slice_get view.now place }
+fn entry_at(view: &Entries, place: usize) -> Option<&Entry>
+    ensures { option_copied result ≡ slice_get view.now.items place }
 {
     view.get(place)
 }
@@ -375,7 +372,7 @@ fn push_gone(
 }
 
 /// Does to a view what a sync comes to, where there is room for what came; takes no memory.
-pub fn patch_in(entries: &mut Vec<Entry>, patch: Patch)
+pub fn patch_in(entries: &mut Entries, patch: Patch)
     requires { HasPlace entries.now.items patch }
     ensures { entries.new.items ≡ patched entries.old.items patch.gone.items patch.came.items patch.flags.items }
 {
@@ -389,50 +386,37 @@ pub fn patch_in(entries: &mut Vec<Entry>, patch: Patch)
     put_behind(came, place, entries);
     for silent in flags {
         let Silent { number, flags } = silent;
-        set_flags(number, flags, entries.as_mut_slice());
+        set_flags(number, flags, entries);
     }
 }
 
 /// Takes the messages with these numbers out, the last one first.
-fn take_all_out(gone: &[u32], entries: &mut Vec<Entry>)
-    ensures items { entries.new.items ≡ without_from gone.now entries.old.items }
-    ensures len { vec_len entries.new ≤ vec_len entries.old }
-    ensures capacity { vec_capacity entries.new ≡ vec_capacity entries.old }
+fn take_all_out(gone: &[u32], entries: &mut Entries)
+    ensures { entries.new.items ≡ without_from gone.now entries.old.items }
 {
     for i in (0..gone.len()).rev() {
         take_number(gone[i], entries);
     }
 }
 
-/// Puts messages behind those that are there: in their room, or, where that is too small, with them in this place.
-fn put_behind(came: Vec<Entry>, place: Vec<Entry>, entries: &mut Vec<Entry>)
-    requires empty { place.items ≡ [] }
-    requires room { (came.items ≡ []) ⊎ (length entries.now.items + length came.items ≤ vec_capacity place) }
+/// Puts messages behind those that are there, in this room; takes no memory.
+fn put_behind(came: Vec<Entry>, place: Growth<Entry>, entries: &mut Entries)
+    requires { (came.items ≡ []) ⊎ ((length entries.now.items ≤ place.most) × (length came.items ≤ place.room)) }
     ensures { entries.new.items ≡ entries.old.items ++ came.items }
 {
     if came.is_empty() {
         return;
     }
-    if came.len() <= entries.capacity() - entries.len() {
-        move_behind(came, entries);
-        return;
-    }
-    let mut all = place;
-    let empty = Vec::new(*entries.allocator());
-    move_behind(mem::replace(entries, empty), &mut all);
-    move_behind(came, &mut all);
-    *entries = all;
+    entries.grow(place);
+    move_behind(came, entries);
 }
 
 /// Puts messages behind those that are there, where there is room for them.
-fn move_behind(came: Vec<Entry>, entries: &mut Vec<Entry>)
-    requires { length entries.now.items + length came.items ≤ vec_capacity entries.now }
-    ensures items { entries.new.items ≡ entries.old.items ++ came.items }
-    ensures capacity { vec_capacity entries.old ≤ vec_capacity entries.new }
+fn move_behind(came: Vec<Entry>, entries: &mut Entries)
+    requires { length came.items ≤ entries.now.room }
+    ensures { entries.new.items ≡ entries.old.items ++ came.items }
 {
-    let mut came = came;
-    match entries.append(&mut came) {
-        Ok(()) => {}
-        Err(_) => unreachable!(),
+    for entry in came {
+        entries.push_reserved(entry);
     }
 }

@@ -1,9 +1,10 @@
 //! Views, listings and sets, from text.
 
+use chunk_list::ChunkList;
 use imap_types::{DateTime, Flags, Name, SequenceBound, SequenceRange, SequenceSet};
 use mail_listing::{HeldRow, HeldVersions, Rows};
 use message_versions::{Version, Versions};
-use session_view::{Entry, View, are_rising};
+use session_view::{Entries, Entry, View, are_rising};
 use std::alloc::{AllocError, Global};
 use tags_clocks::{OpId, ReplicaId};
 
@@ -23,7 +24,7 @@ pub fn view_in(alloc: Global, text: &str) -> Result<Option<View>, AllocError> {
     }
 }
 
-fn view_of(alloc: Global, entries: Vec<Entry>) -> Result<Option<View>, AllocError> {
+fn view_of(alloc: Global, entries: Entries) -> Result<Option<View>, AllocError> {
     if !are_rising(&entries) {
         return Ok(None);
     }
@@ -31,14 +32,14 @@ fn view_of(alloc: Global, entries: Vec<Entry>) -> Result<Option<View>, AllocErro
     Ok(Some(View::new(name, 1, entries)))
 }
 
-fn entries_in(alloc: Global, text: &str) -> Result<Option<Vec<Entry>>, AllocError> {
-    let mut entries = Vec::new(alloc);
+fn entries_in(alloc: Global, text: &str) -> Result<Option<Entries>, AllocError> {
+    let mut entries = ChunkList::new(alloc);
     if text == "-" {
         return Ok(Some(entries));
     }
     for part in text.split(',') {
         match entry_in(alloc, part)? {
-            Some(entry) => entries.push(entry)?,
+            Some(entry) => entries.push(alloc, entry)?,
             None => return Ok(None),
         }
     }

@@ -3,7 +3,7 @@
 use case_text::Words;
 use imap_answers::{Answer, FetchItems};
 use imap_types::Flags;
-use session_view::Entry;
+use session_view::Entries;
 
 /// Numbers with commas between them, `none` where there are none.
 pub fn put_numbers(words: &mut Words, numbers: &[u32]) {
@@ -16,9 +16,9 @@ pub fn put_numbers(words: &mut Words, numbers: &[u32]) {
 }
 
 /// The messages of a view, `-` where there are none.
-pub fn put_entries(words: &mut Words, entries: &[Entry]) {
+pub fn put_entries(words: &mut Words, entries: &Entries) {
     let mut comma = "";
-    for entry in entries {
+    for entry in entries.iter_from(0) {
         words.put_number(comma, u64::from(entry.uid));
         put_flags(words, &entry.flags);
         comma = ",";

@@ -27,15 +27,15 @@ IsLeftBy left whole rows entries = whole ≡ true → NamesAll left rows entries
 -- The messages seen behind a change.
 abbrev pub changed : List Entry → Change → List Entry
 changed view (InPlace first patch left whole) = patched (after_silent view first.items) patch.gone.items patch.came.items patch.flags.items
-changed view (Anew entries whole) = entries.items
+changed view (Anew entries left whole) = entries.items
 
 -- What the change leaves, if it is all, names every row that differs between what is seen then and the listing.
 abbrev pub IsChangeTo : List Listed → List Entry → Change → Type 0
 IsChangeTo rows view (InPlace first patch left whole) = IsLeftBy left.items whole rows (patched (after_silent view first.items) patch.gone.items patch.came.items patch.flags.items)
-IsChangeTo rows view (Anew entries whole) = IsLeftBy [] whole rows entries.items
+IsChangeTo rows view (Anew entries left whole) = IsLeftBy left.items whole rows entries.items
 
 -- The change can be made with no more memory, and the UIDs ascend behind it.
 abbrev pub CanCommit : List Entry → Change → Type 0
 CanCommit view (InPlace first patch left whole) =
     HasPlace (after_silent view first.items) patch × AreRising 1 (patched (after_silent view first.items) patch.gone.items patch.came.items patch.flags.items)
-CanCommit view (Anew entries whole) = AreRising 1 entries.items
+CanCommit view (Anew entries left whole) = AreRising 1 entries.items

@@ -7,7 +7,7 @@ ghost use Rattle.session_view.specs.declared.entry.Entry.{Entry as OneEntry};
 ghost use Rattle.view_sync.specs.Noted.{CanCommit, IsChangeTo, IsLeft, IsLeftBy, IsNoted, changed};
 
 use idle_feed::{Feed, Taken};
-use session_view::{Changes, Entry, Note, Patch, Silent, View};
+use session_view::{Changes, Entries, Note, Patch, Silent, View};
 
 /// What a sync does to a view, with all memory that it takes.
 #[derive(Drop)]
@@ -19,9 +19,10 @@ pub enum Change {
         left: Vec<Note>,
         whole: bool,
     },
-    /// The view shows these messages, if they are all that is listed.
+    /// The view shows these messages. These notes stay to be told, if they name all that does.
     Anew {
-        entries: Vec<Entry>,
+        entries: Entries,
+        left: Vec<Note>,
         whole: bool,
     },
 }
@@ -55,10 +56,13 @@ fn change_view(view: &mut View, change: Change) -> Taken
             view.patch(patch);
             left_by(left, whole)
         }
-        Change::Anew { entries, whole } => {
-            let none = Vec::new(*entries.allocator());
+        Change::Anew {
+            entries,
+            left,
+            whole,
+        } => {
             view.show(entries);
-            left_by(none, whole)
+            left_by(left, whole)
         }
     }
 }

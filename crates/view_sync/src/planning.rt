@@ -197,7 +197,11 @@ fn anew(
     let whole = is_all(kind, entries.len(), listed);
     Ok(Planned {
         answers,
-        change: Change::Anew { entries, whole },
+        change: Change::Anew {
+            entries,
+            left: Vec::new(alloc),
+            whole,
+        },
     })
 }
 

@@ -9,5 +9,5 @@ pub set_of-requires : goal.set_of-requires
 set_of-requires c =
     let asked = c.asked.inside in
     subst (λ (uids : List ℕ). AreRisingFrom 1 uids) (sym (c.deref-3.ensures.value ∙ c.in_ok-uids.ensures {u = tt}))
-    (chosen_rising true asked.by_uid asked.messages.now (λ n. not (is_gone (message_at c.mailbox.inside.rows c.entries-view.result.now n))) c.mailbox.inside.view.now.entries c.entries-view.result.now c.deref.result.now c.deref-2.result.now
+    (chosen_rising true asked.by_uid asked.messages.now (λ n. not (is_gone (message_at c.mailbox.inside.rows c.entries-view.result.now.items n))) c.mailbox.inside.view.now.entries c.entries-view.result.now.items c.deref.result.now c.deref-2.result.now
     c.entries-view.ensures.entries c.entries-view.ensures.rising (c.deref-2.ensures.value ∙ c.in_ok-there.ensures {u = tt}) (c.deref.ensures.value ∙ c.in_ok-numbers.ensures {u = tt}))

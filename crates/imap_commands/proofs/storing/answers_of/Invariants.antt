@@ -6,4 +6,4 @@ use Rattle.imap_commands.proofs.storing.answers_of.Given as goal
 
 abbrev pub invariant-loop-number : goal.invariant-loop-number
 invariant-loop-number l =
-    l.answers.items ++ flat_map (λ n. stored_answer l.condstore l.asked n (message_at l.after l.view n)) (drop l.number-index l.taken) ≡ flat_map (λ n. stored_answer l.condstore l.asked n (message_at l.after l.view n)) l.taken
+    l.answers.items ++ flat_map (λ n. stored_answer l.condstore l.asked n (message_at l.after l.view.items n)) (drop l.number-index l.taken) ≡ flat_map (λ n. stored_answer l.condstore l.asked n (message_at l.after l.view.items n)) l.taken

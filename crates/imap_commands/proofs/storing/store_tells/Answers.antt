@@ -7,6 +7,6 @@ use Rattle.imap_commands.proofs.storing.store_tells.Goals as goal
 pub store_code-requires : goal.store_code-requires
 store_code-requires c =
     let asked = c.asked.inside in
-    chosen_rising asked.by_uid asked.by_uid asked.messages.now (λ n. is_refused asked.unchanged_since (message_at c.mailbox.inside.rows c.entries-view.result.now n)) c.mailbox.inside.view.now.entries c.entries-view.result.now
+    chosen_rising asked.by_uid asked.by_uid asked.messages.now (λ n. is_refused asked.unchanged_since (message_at c.mailbox.inside.rows c.entries-view.result.now.items n)) c.mailbox.inside.view.now.entries c.entries-view.result.now.items
     c.deref.result.now c.deref-2.result.now c.entries-view.ensures.entries c.entries-view.ensures.rising (c.deref-2.ensures.value ∙ c.in_ok-refused.ensures {u = tt})
     (c.deref.ensures.value ∙ c.in_ok-numbers.ensures {u = tt})
