@@ -24,3 +24,4 @@ pub mod BoundLemmas
 pub mod NamedLemmas
 pub mod Staying
 pub mod Elsewhere
+pub mod Remaining

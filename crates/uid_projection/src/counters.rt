@@ -1,21 +1,22 @@
 //! A folder's numbers after operations that come next. Nothing here takes memory.
 
-ghost use Rattle.std.specs.Prelude.{◌≡◌, ◌≤◌, ◌<◌, ◌+◌, ◌*◌, ℕ, List, ◌++◌, Some, min, if◌then◌else◌};
+ghost use Rattle.std.specs.Prelude.{◌≡◌, ◌≤◌, ◌<◌, ◌+◌, ◌*◌, ℕ, true, List, ◌++◌, Some, min, if◌then◌else◌};
 ghost use Rattle.crdt_ops.specs.declared.op.Op.{Op as Operation};
 ghost use Rattle.folder_state.specs.Contents.{IsMadeBy};
 ghost use Rattle.folder_state.specs.Tables.{contents_of};
 ghost use Rattle.uid_projection.specs.declared.start.Start.{Start as First};
 ghost use Rattle.uid_projection.specs.Applied.{IsApplied};
 ghost use Rattle.uid_projection.specs.History.{counted_all};
-ghost use Rattle.uid_projection.specs.Incarnations.{begins, k_of};
+ghost use Rattle.std.specs.List.{list_any};
+ghost use Rattle.uid_projection.specs.Incarnations.{begins, deletes, k_of, uidvalidity_of};
 ghost use Rattle.uid_projection.specs.Lines.{highest_modseq_of};
 ghost use Rattle.uid_projection.specs.Table.{IsTable};
 
-use crate::ahead::begins;
+use crate::ahead::{begins, same};
 use crate::chart::Chart;
 use crate::later::is_about;
 use crate::table::chart_of;
-use crdt_ops::SoundOp;
+use crdt_ops::{Kind, SoundOp};
 use folder_state::Folders;
 use imap_types::Name;
 use indexmap::IndexMap;
@@ -95,6 +96,34 @@ pub fn k_of_after(value: &Folders, folder: &Name, now: u32, next_k: u32, ops: &[
         k = k_behind(there, k, next);
     }
     k
+}
+
+/// Whether the folder is there before and behind each of these operations, since none of them deletes it. Cost: the operations, and whether it is there.
+pub fn remains(value: &Folders, folder: &Name, ops: &[SoundOp]) -> bool
+    ensures { result ≡ true → (start : First) (list : List Operation) → IsApplied (list ++ ops.now) → IsMadeBy (contents_of value.now) list → uidvalidity_of start folder.now (list ++ ops.now) ≡ uidvalidity_of start folder.now list }
+{
+    value.exists(folder) && !is_deleted(folder, ops)
+}
+
+/// Whether one of these operations deletes the folder.
+fn is_deleted(folder: &Name, ops: &[SoundOp]) -> bool
+    ensures { result ≡ list_any (λ (o : Operation). deletes folder.now o.kind) ops.now }
+{
+    for op in ops {
+        if deletes(&op.op().kind, folder) {
+            return true;
+        }
+    }
+    false
+}
+
+fn deletes(kind: &Kind, folder: &Name) -> bool
+    ensures { result ≡ deletes folder.now kind.now }
+{
+    match kind {
+        Kind::Delete { folder: own, .. } => same(folder, own),
+        _ => false,
+    }
 }
 
 fn next_behind(begun: bool, next: u64) -> u64

@@ -10,6 +10,10 @@ use Rattle.uid_projection.proofs.charts.Charts.uidvalidity_after.Goals as goal
 pub returns-then-is_inbox : goal.returns-then-is_inbox
 returns-then-is_inbox c = λ list f m a lasts. ap Some c.get.ensures.number ∙ validity_inbox c.args.self.now.start (list ++ c.args.ops.now) c.args.name.now (sym c.is_inbox.ensures ∙ c.if-is_inbox.true)
 
+pub returns-then-remains : goal.returns-then-remains
+returns-then-remains c = λ list f m a lasts.
+    c.uidvalidity.ensures list f ∙ sym (c.remains.ensures c.if-remains.true c.args.self.now.start list a m)
+
 pub returns-then-not-exists_after : goal.returns-then-not-exists_after
 returns-then-not-exists_after c = λ list f m a lasts.
     let now = list ++ c.args.ops.now in
