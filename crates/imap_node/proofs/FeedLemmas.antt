@@ -9,9 +9,13 @@ use Rattle.merge_laws.specs.Orders.{IsIn}
 use Rattle.crdt_ops.specs.declared.op.Op.{Op}
 use Rattle.crdt_ops.specs.Tags.{name_of}
 use Rattle.mail_listing.specs.Listed.{Listed}
-use Rattle.imap_node.specs.Feeds.{AreAllNoted, FolderNoted, IsNews, IsNotedFor, NamesIn, is_named, notes_in, pending_at, with_ended}
+use Rattle.idle_feed.specs.Feeds.{Kept, Pending}
+use Rattle.imap_node.specs.Feeds.{AreAllNoted, FolderNoted, IsCurrent, IsNews, IsNotedFor, NamesIn, is_named, notes_in, pending_at, with_ended}
 use Rattle.imap_node.specs.Mailboxes.{rows_for}
-use Rattle.session_view.specs.Changes.{NamesAll, flags_at, names}
+use Rattle.imap_node.specs.Replays.{view_at}
+use Rattle.imap_node.specs.Sessions.{Places}
+use Rattle.session_view.specs.Changes.{NamesAll, flags_at, is_told, names}
+use Rattle.session_view.specs.Seen.{Seen}
 use Rattle.session_view.specs.Views.{entries_of}
 use Rattle.session_view.specs.declared.changes.Note.{Note}
 use Rattle.session_view.specs.declared.changes.Note.TheVariants.{Ended}
@@ -112,3 +116,15 @@ no_news start list = λ name uidvalidity uid. inl refl
 -- the loop over the operations has ended
 pub ended_through : (folders : List FolderNoted) (ops : List Op) (k : ℕ) → length ops ≤ k → all_ended folders (drop k ops) ≡ all_ended [] ops → all_ended [] ops ≡ folders
 ended_through folders ops k l e = sym (sym (ap (all_ended folders) (drop_all k ops l)) ∙ e)
+
+-- ---- a session behind which nothing is noted
+
+pub current_by : (start : Start) (ops : List Op) (places : Places) (feeds : List Kept) (n : ℕ) (p : Pending) (view : Seen) → AreAllNoted start ops places feeds → p ≡ pending_at feeds n → p.missed ≡ false → p.notes ≡ [] → view_at places n ≡ Some view → IsCurrent start ops view
+current_by start ops places feeds n p view noted e m o v uid =
+    elim (noted n view v) [
+      | inl t ↦ absurd (false≢true (sym m ∙ ap (λ (q : Pending). q.missed) e ∙ t))
+      | inr names ↦ elim (names uid) [
+        | inl same ↦ same
+        | inr told ↦ absurd (false≢true (subst (λ (notes : List Note). is_told notes uid ≡ true) (sym (ap (λ (q : Pending). q.notes) e) ∙ o) told))
+      ]
+    ]

@@ -6,7 +6,7 @@ use Rattle.imap_node.specs.Mailboxes.{rows_for}
 use Rattle.imap_commands.specs.declared.session.Session.{Session}
 use Rattle.imap_node.specs.Replays.{view_at, view_in}
 use Rattle.imap_node.specs.Sessions.{Places}
-use Rattle.session_view.specs.Changes.{NamesAll}
+use Rattle.session_view.specs.Changes.{NamesAll, flags_at}
 use Rattle.session_view.specs.Seen.{Seen, rows_under}
 use Rattle.session_view.specs.Views.{entries_of}
 use Rattle.session_view.specs.declared.changes.Note.{Note}
@@ -31,6 +31,10 @@ IsNotedFor start ops pending view = IsNoted pending (rows_for start ops view) vi
 -- That of each session does.
 abbrev pub AreAllNoted : Start → List Op → Places → List Kept → Type 0
 AreAllNoted start ops places feeds = (n : ℕ) (view : Seen) → view_at places n ≡ Some view → IsNotedFor start ops (pending_at feeds n) view
+
+-- What the view shows of any message is what its mailbox's listing has of it.
+abbrev pub IsCurrent : Start → List Op → Seen → Type 0
+IsCurrent start ops view = (uid : ℕ) → flags_at uid view.entries ≡ flags_at uid (entries_of (rows_for start ops view))
 
 -- ---- news: what operations changed
 

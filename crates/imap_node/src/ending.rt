@@ -29,7 +29,7 @@ use imap_syntax::Command;
 use imap_types::Name;
 use mail_listing::Rows;
 use session_view::{
-    Entry, Silent, SyncKind, SyncOutcome, View, do_shift, push_flags_told, replayed, synced,
+    Entries, Silent, SyncKind, SyncOutcome, View, do_shift, push_flags_told, replayed, synced,
 };
 use std::alloc::{AllocError, Global};
 use std::marker::Model;
@@ -68,7 +68,7 @@ fn selected(
 {
     let uidvalidity = validity_after(replica, ops, name);
     Ok(Some(State::Selected {
-        view: View::new(name.copy(alloc)?, uidvalidity, Vec::new(alloc)),
+        view: View::new(name.copy(alloc)?, uidvalidity, Entries::new(alloc)),
         read_only,
     }))
 }
@@ -244,8 +244,8 @@ fn brought(
     sync: Option<SyncKind>,
     modseq: bool,
     rows: &Rows<'_>,
-    entries: Vec<Entry>,
-) -> Result<(Vec<Entry>, Vec<Answer>), AllocError>
+    entries: Entries,
+) -> Result<(Entries, Vec<Answer>), AllocError>
     requires { AreRising 1 entries.items }
     ensures entries { IfOk result (λ s. s.0.items ≡ synced_by sync rows.now entries.items) }
     ensures rising { IfOk result (λ s. AreRising 1 s.0.items) }

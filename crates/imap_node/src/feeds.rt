@@ -1,6 +1,6 @@
 //! What each session is still to be told of its mailbox.
 
-ghost use Rattle.std.specs.Prelude.{◌≡◌, ℕ, List, [], Option, Some, None, slice_index_or};
+ghost use Rattle.std.specs.Prelude.{◌≡◌, ℕ, false, List, [], Option, Some, None, slice_index_or};
 ghost use Rattle.std.specs.Option.{option_map};
 ghost use Rattle.crdt_ops.specs.declared.op.Op.{Op as Operation};
 ghost use Rattle.idle_feed.specs.Feeds.{some_missed};
@@ -108,6 +108,20 @@ impl Feeds {
         ensures noted { (start : First) (ops : List Operation) → ((s : One) → session_at sessions.old session ≡ Some s → LeavesNoted start ops s.state going.onward) → AreAllNoted start ops sessions.old self.old → AreAllNoted start ops sessions.new self.new }
     {
         go_in(&mut sessions.places, &mut self.feeds, session, going);
+    }
+}
+
+/// Whether a session in this state may have something to be told that this feed keeps, or missed.
+pub fn may_be_told(state: &State, feed: &Feed) -> bool
+    ensures missed { result ≡ false → (view : Seen) → view_of state.now ≡ Some view → feed.now.pending.missed ≡ false }
+    ensures none { result ≡ false → (view : Seen) → view_of state.now ≡ Some view → feed.now.pending.notes ≡ [] }
+{
+    match state {
+        State::Selected { .. } => match feed.notes() {
+            Some(notes) => !notes.is_empty(),
+            None => true,
+        },
+        _ => false,
     }
 }
 

@@ -1,6 +1,6 @@
 //! A replica with its sessions.
 
-ghost use Rattle.std.specs.Prelude.{◌≡◌, ◌≢◌, ◌↔◌, ℕ, ◌<◌, ◌≤◌, ◌++◌, List, [], Err, IfOk, IsNone, IsSome, IsTrue, MatchResult, None, OnErr, Some, length, take, ◌∷◌, ◌+◌};
+ghost use Rattle.std.specs.Prelude.{◌≡◌, ◌≢◌, ◌↔◌, ℕ, ◌<◌, ◌≤◌, ◌++◌, false, List, [], Err, IfOk, IsNone, IsSome, IsTrue, MatchResult, None, OnErr, Some, length, take, ◌∷◌, ◌+◌};
 ghost use Rattle.std.specs.Option.{option_copied};
 ghost use Rattle.causal_inbox.specs.Seen.{AreIssued, IsClockOf, held_limit, uncovered};
 ghost use Rattle.crdt_ops.specs.Sets.{delete_set_of, folder_tags_of, folders_of, messages_of, subscribed_of, subscription_tags_of};
@@ -9,18 +9,20 @@ ghost use Rattle.folder_state.specs.Contents.{IsMadeBy};
 ghost use Rattle.folder_state.specs.Tables.{contents_of};
 ghost use Rattle.imap_commands.specs.declared.session.Session.{Session as One};
 ghost use Rattle.crdt_ops.specs.Tags.{name_of};
-ghost use Rattle.imap_node.specs.Feeds.{AreAllNoted, pending_at};
+ghost use Rattle.imap_node.specs.Feeds.{AreAllNoted, IsCurrent, pending_at};
 ghost use Rattle.imap_node.specs.News.{IsAheadOf};
 ghost use Rattle.imap_node.specs.Plans.{CanStep, done_plan, next_left, place_next, plan_by};
+ghost use Rattle.imap_node.specs.Replays.{view_at};
 ghost use Rattle.imap_node.specs.Respond.{KeepsHeld};
 ghost use Rattle.imap_node.specs.Sessions.{IsOpen, session_at, with_session};
 ghost use Rattle.imap_node.specs.Rooms.{HasRoomFor};
 ghost use Rattle.imap_node.specs.declared.input.Input.TheVariants as inputs;
+ghost use Rattle.session_view.specs.Seen.{Seen};
 ghost use Rattle.subs_state.specs.Subscriptions.{IsMadeBy as AreMadeBy};
 ghost use Rattle.subs_state.specs.Table.{subscriptions_of};
 ghost use Rattle.uid_projection.specs.declared.start.Start.{Start as First};
 
-use crate::feeds::Feeds;
+use crate::feeds::{Feeds, may_be_told};
 use crate::input::Input;
 use crate::news::{Ahead, News, ahead_of, coarse_news, delivered_news};
 use crate::planning::{Answered, Next, Plan, Prepared, prepare_for};
@@ -125,6 +127,25 @@ impl Node {
             Some(found) => found.idling.is_some(),
             None => false,
         }
+    }
+
+    /// Whether the session may have something to be told of its mailbox: `false` only where what it sees of any message is what the mailbox's listing has of it,
+    /// and where it isn't open or has none selected. A look at its feed.
+    pub fn may_be_behind(&self, session: SessionNo) -> bool
+        ensures { result ≡ false → (view : Seen) → view_at self.now.state.sessions session ≡ Some view → IsCurrent self.now.state.start self.now.state.applied view }
+    {
+        match self.session(session) {
+            Some(found) => may_be_told(&found.state, self.feeds.of(session)),
+            None => false,
+        }
+    }
+
+    /// No session above this number is open.
+    pub fn last_session(&self) -> usize
+        ensures bound { result ≤ 1024 }
+        ensures none { (n : ℕ) → result < n → session_at self.now.state.sessions n ≡ None }
+    {
+        self.sessions.last()
     }
 
     /// Opens a session, with the least number that isn't open: `TooManySessions` exactly where all numbers from 1 to 1,024 are, unless memory

@@ -1,4 +1,4 @@
-ghost use Rattle.std.specs.Prelude.{◌≡◌, ◌≢◌, ◌+◌, ◌-◌, ◌<◌, ◌≤◌, ◌↔◌, [], ℕ, IsTrue, IsNone, IsSome, None, Some, Err, IfOk, IfErr, OnOk, OnErr, SomeIff, length, max, ◌==◌, if◌then◌else◌, slice_index_or, slice_set};
+ghost use Rattle.std.specs.Prelude.{◌≡◌, ◌≢◌, ◌+◌, ◌-◌, ◌<◌, ◌≤◌, ◌↔◌, ◌++◌, ◌∷◌, [], ℕ, IsTrue, IsNone, IsSome, None, Some, Err, IfOk, IfErr, OnOk, OnErr, SomeIff, length, max, ◌==◌, if◌then◌else◌, slice_index_or, slice_set};
 ghost use Rattle.std.specs.Option.{option_copied, option_map};
 ghost use Rattle.imap_node.specs.Sessions.{IsOpen, awake, opened, session_at, unselected, with_changed};
 ghost use Rattle.imap_node.specs.declared.sessions.OpenFault.TheVariants.{NoMemory, TooManySessions};
@@ -116,6 +116,14 @@ impl Sessions {
         ensures { option_copied result ≡ session_at self.now session }
     {
         session_in(&self.places, session)
+    }
+
+    /// No session above this number is open.
+    pub fn last(&self) -> usize
+        ensures bound { result ≤ 1024 }
+        ensures none { (n : ℕ) → result < n → session_at self.now n ≡ None }
+    {
+        self.places.len()
     }
 
     /// Opens the session with the least number that isn't open. An error leaves the sessions as they were.
@@ -253,8 +261,17 @@ fn open_in(
         places[vacant] = Some(begun);
         return Ok(session);
     }
-    match places.push(Some(begun)) {
-        Ok(()) => Ok(session),
+    push_place(places, Some(begun))?;
+    Ok(session)
+}
+
+/// Puts a place behind all others.
+fn push_place(places: &mut Vec<Option<Session>>, place: Option<Session>) -> Result<(), OpenFault>
+    ensures ok { OnOk result (places.new.items ≡ places.old.items ++ place ∷ []) }
+    ensures err { IfErr result (λ fault. (fault ≡ NoMemory) × (places.new.items ≡ places.old.items)) }
+{
+    match places.push(place) {
+        Ok(()) => Ok(()),
         Err(_) => Err(OpenFault::NoMemory),
     }
 }

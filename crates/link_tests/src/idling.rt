@@ -14,9 +14,19 @@ use std::test::*;
 use std::thread;
 use std::thread::Threads;
 
-/// Opens a session and lets it idle.
-fn idle<L: Ledger, R: Wait>(rt: &R, alloc: Global, shared: &Shared<L>, pass: &mut Pass<L>) -> bool {
-    say(rt, alloc, shared, pass, b"i IDLE\r\n")
+/// Opens a session, selects this mailbox, which is made first where it isn't INBOX, and idles.
+fn idle_in<L: Ledger, R: Wait>(
+    rt: &R,
+    alloc: Global,
+    shared: &Shared<L>,
+    pass: &mut Pass<L>,
+    lines: &[&[u8]],
+) -> bool {
+    let mut said = open_one(rt, alloc, shared, pass);
+    for line in lines {
+        said = said && say(rt, alloc, shared, pass, line);
+    }
+    said && say(rt, alloc, shared, pass, b"i IDLE\r\n")
 }
 
 /// Polls the pass's session.
@@ -51,8 +61,8 @@ fn give_way() {
     }
 }
 
-/// Makes an entry that is no news and then one that is, and looks at the journal's length after many turns behind each, the second time once there were two
-/// more entries; then ends it all by a drain.
+/// Opens a session and does what is no news to those that idle, then what is news to one of them; tells the journal's length many turns behind each. Then
+/// ends it all by what is news to both.
 fn watch<L: Ledger, R: Wait>(
     rt: &R,
     alloc: Global,
@@ -61,16 +71,18 @@ fn watch<L: Ledger, R: Wait>(
 ) -> (u64, u64) {
     let shared = watched.shared;
     let _ = open_one(rt, alloc, shared, pass);
+    let _ = say(rt, alloc, shared, pass, b"a NOOP\r\n");
+    let _ = say(rt, alloc, shared, pass, b"b CREATE another\r\n");
+    let _ = shared.drain(rt, alloc, pass);
     give_way();
     let quiet = shared.wait_change(rt, u64::MAX);
-    let _ = shared.drain(rt, alloc, pass);
-    for length in 6..8u64 {
-        let _ = shared.wait_change(rt, length);
-    }
+    let _ = say(rt, alloc, shared, pass, b"c APPEND INBOX {1+}\r\nx\r\n");
+    let _ = shared.wait_change(rt, quiet + 1);
     give_way();
     let length = shared.wait_change(rt, u64::MAX);
     watched.over.store(1, Ordering::SeqCst);
-    let _ = shared.drain(rt, alloc, pass);
+    let _ = say(rt, alloc, shared, pass, b"d APPEND INBOX {1+}\r\nx\r\n");
+    let _ = say(rt, alloc, shared, pass, b"e APPEND other {1+}\r\nx\r\n");
     (quiet, length)
 }
 
@@ -105,8 +117,8 @@ fn feed_both<L: Ledger + Send + Sync, R: Threads + Wait + Sync>(
     )
 }
 
-/// Two idling sessions with a feeder each: whether all calls before were made, and the journal's length a while behind an entry that is no news, and behind one
-/// that is.
+/// Two sessions that idle in mailboxes of their own, which they were told of since they selected them, with a feeder each: whether all calls before were made, and the journal's length a while behind entries that
+/// are no news to either, and behind one that is news to one of them.
 fn two_idle<L: Ledger + Send + Sync, R: Threads + Wait + Sync>(
     rt: &R,
     alloc: Global,
@@ -118,15 +130,17 @@ fn two_idle<L: Ledger + Send + Sync, R: Threads + Wait + Sync>(
     let (shared, mut first) = Shared::<L>::new(blank, book);
     let mut one = first.cut()?;
     let mut other = first.cut()?;
-    let opened = open_one(rt, alloc, &shared, &mut one) && open_one(rt, alloc, &shared, &mut other);
-    let begun = idle(rt, alloc, &shared, &mut one) && idle(rt, alloc, &shared, &mut other);
+    let inbox: [&[u8]; 2] = [b"a SELECT INBOX\r\n", b"b NOOP\r\n"];
+    let made: [&[u8]; 3] = [b"a CREATE other\r\n", b"b SELECT other\r\n", b"c NOOP\r\n"];
+    let begun = idle_in(rt, alloc, &shared, &mut one, &inbox)
+        && idle_in(rt, alloc, &shared, &mut other, &made);
     let over = AtomicU64::new(0);
     let watched = Watched {
         shared: &shared,
         over: &over,
     };
     let (_, (_, lengths)) = feed_both(rt, alloc, &watched, (&mut one, &mut other), &mut first);
-    Some((opened && begun, lengths))
+    Some((begun, lengths))
 }
 
 /// The same at a new replica.
@@ -136,6 +150,6 @@ fn two_idle_at_one<R: Threads + Wait + Sync>(rt: &R, alloc: Global) -> Option<(b
 }
 
 #[test]
-fn idling_sessions_do_not_wake_one_another(rt: HostRuntime) {
-    assert_eq!(rt; two_idle_at_one(&rt, rt.alloc()), Some((true, (5, 8))));
+fn only_an_idling_session_with_something_to_be_told_wakes(rt: HostRuntime) {
+    assert_eq!(rt; two_idle_at_one(&rt, rt.alloc()), Some((true, (13, 15))));
 }

@@ -8,7 +8,7 @@ ghost use Rattle.mail_serving.specs.Calls.{text_told};
 
 use crate::outlet::Outlet;
 use imap_answers::Answer;
-use imap_node::{Reply, SessionNo};
+use imap_node::Reply;
 use imap_print::print;
 use replica_lock::{CallFault, Outcome, Pass, Shared};
 use std::alloc::{AllocError, Global};
@@ -17,8 +17,8 @@ use std::net::{Shutdown, TcpStream};
 use std::sync::ledger::Ledger;
 use std::sync::{Mutex, Wait};
 
-/// Tells the session of a connection, while it idles, what others did, until the connection ends. It wakes behind an entry of the journal that may have to be
-/// told, and at the end of a connection, and else costs nobody anything. Each poll is written whole; where that fails, the connection is shut down.
+/// Tells the session of a connection, while it idles, what others did, until the connection ends. It wakes where the session's own feed has something to tell,
+/// and at the end of its connection, and else costs nobody anything. Each poll is written whole; where that fails, the connection is shut down.
 pub fn feed<L: Ledger, R: Wait>(
     rt: &R,
     alloc: Global,
@@ -27,23 +27,22 @@ pub fn feed<L: Ledger, R: Wait>(
     outlet: &Outlet,
     stream: &TcpStream,
 ) {
-    let mut seen = 0;
+    let mut looked = 0;
     for _ in rt.forever() {
         if !outlet.await_idling(rt) {
             return;
         }
-        let Some((session, from)) = seen_by(rt, pass, seen) else {
+        let Some(session) = pass.lock(rt).session() else {
             return;
         };
-        seen = from;
-        let Some(now) = shared.wait_news(rt, session, seen) else {
+        let Some(now) = shared.wait_news(rt, session, looked) else {
             return;
         };
         if !outlet.await_idling(rt) {
             return;
         }
         match tell(rt, alloc, shared, pass, outlet, stream) {
-            Telling::Done => seen = now,
+            Telling::Done => looked = now,
             Telling::Busy => {}
             Telling::Failed => {
                 let _ = stream.shutdown(Shutdown::Both);
@@ -62,18 +61,6 @@ enum Telling {
     Busy,
     /// It can't be told.
     Failed,
-}
-
-/// The session, and how far it has seen the journal, or how far it was looked at; `None` once it was closed. While it is open its close is still to come,
-/// so that a wait for news ends with the connection.
-fn seen_by<L: Ledger, R: Wait>(
-    rt: &R,
-    pass: &Mutex<Pass<L>>,
-    looked: u64,
-) -> Option<(SessionNo, u64)> {
-    let pass = pass.lock(rt);
-    let session = pass.session()?;
-    Some((session, pass.seen().max(looked)))
 }
 
 /// Polls the session, if it still idles and its connection's thread still waits for the client, and writes the answers.

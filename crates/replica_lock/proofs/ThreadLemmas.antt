@@ -8,6 +8,7 @@ use Rattle.std.proofs.sync.Mutex.TheSendSync as mutex
 use Rattle.std.proofs.sync.ledger.Book.TheSendSync as calls
 use Rattle.std.specs.declared.sync.ledger.Ledger as ledger
 use Rattle.imap_node.proofs.ThreadLemmas.{node_send}
+use Rattle.replica_lock.proofs.bells.Bells.TheSendSync as bells
 use Rattle.replica_lock.proofs.book.Entry.TheSendSync as entry
 use Rattle.replica_lock.specs.contracts.book.Book as book
 use Rattle.replica_lock.specs.contracts.book.Book.TheInside as told
@@ -28,8 +29,8 @@ module _ (L : RattleType) (g : ledger.Ghosts L.Denot) where
 
   pub shared_send : IsSend L → IsSync L → IsSend (shared.the_row L g)
   shared_send ledger shares = recorded_send (shared.the_field L g).row _ _ (shared.the_type L g).to_one
-      (struct_send (shape (shared.the_type L g)) (search (mutex.the_send, locked_send), (condvar.the_field_send, (condvar.the_field_send, tt))))
+      (struct_send (shape (shared.the_type L g)) (search (mutex.the_send, locked_send), (condvar.the_field_send, (bells.the_field_send, tt))))
 
   pub shared_sync : IsSend L → IsSync L → IsSync (shared.the_row L g)
   shared_sync ledger shares = recorded_sync (shared.the_field L g).row _ _ (shared.the_type L g).to_one
-      (struct_sync (shape (shared.the_type L g)) (search (mutex.the_sync, locked_send), (condvar.the_field_sync, (condvar.the_field_sync, tt))))
+      (struct_sync (shape (shared.the_type L g)) (search (mutex.the_sync, locked_send), (condvar.the_field_sync, (bells.the_field_sync, tt))))

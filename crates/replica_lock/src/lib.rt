@@ -5,6 +5,7 @@
 //! passes of a replica together count its journal's entries.
 #![tactic(auto)]
 
+mod bells;
 mod book;
 mod comparing;
 mod event;

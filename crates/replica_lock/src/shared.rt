@@ -6,6 +6,7 @@ ghost use Rattle.crdt_ops.specs.declared.op.Op.{Op as Operation};
 ghost use Rattle.merge_laws.specs.Orders.{IsCausal};
 ghost use Rattle.replica_lock.specs.Joins.{clock_of, id_of};
 
+use crate::bells::Bells;
 use crate::book::Book;
 use crate::event::BookEvent;
 use crate::faults::{CallFault, FinishFault};
@@ -32,8 +33,8 @@ pub trait Gate {
 pub struct Shared<L: Ledger> {
     locked: Mutex<Locked<L>>,
     changed: Condvar,
-    /// Signals that there is news, or that a session was closed.
-    news: Condvar,
+    /// Signals, of each session, that it idles and may have something to be told, or that it was closed.
+    bells: Bells,
 }
 
 impl<L: Ledger> Shared<L> {
@@ -50,11 +51,12 @@ impl<L: Ledger> Shared<L> {
         let (calls, share) = blank.open::<L>();
         let mut calls = calls;
         let entries = book.len();
+        let bells = Bells::new(book.alloc());
         let pass = Pass::whole(&mut calls, share, entries);
         let shared = Shared {
             locked: Mutex::new(Locked::new(book, calls)),
             changed: Condvar::new(),
-            news: Condvar::new(),
+            bells,
         };
         (shared, pass)
     }
@@ -70,15 +72,17 @@ impl<L: Ledger> Shared<L> {
         ensures unchanged { OnErr result (pass.new ≡ pass.old) }
         ensures refused { IfErr result (IsRefused pass.old.seen) }
     {
-        let closes = matches!(event, BookEvent::Close { .. });
+        let closed = closed_by(&event);
         let mut locked = self.locked.lock(rt);
         let before = locked.news();
         let result = locked.call(alloc, pass, event);
-        let stirs = closes || locked.news() != before;
+        if locked.news() != before {
+            self.bells.ring(locked.book().node());
+        }
         drop(locked);
         self.changed.notify_all();
-        if stirs {
-            self.news.notify_all();
+        if let Some(session) = closed {
+            self.bells.of(session).notify_all();
         }
         result
     }
@@ -203,17 +207,17 @@ impl<L: Ledger> Shared<L> {
         locked.len()
     }
 
-    /// Waits until an entry behind the first `seen` may have to be told to another session than its own, and tells the journal's length then; `None` where
-    /// the session is closed. An entry that is neither wakes nobody who waits so.
+    /// Waits until an entry behind the first `seen` may have to be told to this session, and tells the journal's length then; `None` where the session is closed.
+    /// While it idles, it is woken where its own feed has notes, or missed some, and at its close, by no other entry.
     pub fn wait_news<R: Wait>(&self, rt: &R, session: SessionNo, seen: u64) -> Option<u64>
         ensures { IfSome result (λ length. seen < length) }
     {
-        let locked = self.news.wait_while(
+        let locked = self.bells.of(session).wait_while(
             rt,
             self.locked.lock(rt),
-            |locked| locked.news() <= seen && locked.book().node().is_open(session),
+            |locked| !locked.has_news(session, seen) && locked.book().node().is_open(session),
         );
-        if locked.news() <= seen {
+        if !locked.has_news(session, seen) {
             return None;
         }
         Some(locked.len())
@@ -265,7 +269,7 @@ impl<L: Ledger> Shared<L> {
         let Shared {
             locked,
             changed: _,
-            news: _,
+            bells: _,
         } = self;
         locked.into_inner().settle(passes)
     }
@@ -275,6 +279,14 @@ impl<L: Ledger> Shared<L> {
         let locked = self.locked.lock(rt);
         gate.pass(n);
         drop(locked);
+    }
+}
+
+/// The session that an event closes.
+fn closed_by(event: &BookEvent) -> Option<SessionNo> {
+    match event {
+        BookEvent::Close { session } => Some(*session),
+        _ => None,
     }
 }
 
