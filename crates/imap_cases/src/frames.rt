@@ -5,11 +5,28 @@ use case_text::Words;
 use imap_grammar::{IdleLine, ParseFault, idle_line, parse, tag_of};
 use std::alloc::{AllocError, Global};
 
-/// The tag and the command that a line with its CRLF spells, or the fault.
+/// Frames of so many octets are damaged at each of them.
+const SHORT: usize = 400;
+
+/// The tag and the command that a line with its CRLF spells, or the fault. Where that frame is short, and isn't answered where it is cut
+/// or damaged, the place follows.
 pub fn put_command(alloc: Global, words: &mut Words, line: &[u8]) {
     match with_crlf(alloc, line) {
-        Ok(frame) => put_parsed(alloc, words, &frame),
+        Ok(frame) => {
+            put_parsed(alloc, words, &frame);
+            put_unanswered(alloc, words, &frame);
+        }
         Err(AllocError) => words.give_up(),
+    }
+}
+
+fn put_unanswered(alloc: Global, words: &mut Words, frame: &[u8]) {
+    if frame.len() <= SHORT {
+        match first_unanswered(alloc, frame) {
+            Ok(None) => {}
+            Ok(Some(place)) => words.put_number(", not answered where damaged at ", place as u64),
+            Err(AllocError) => words.give_up(),
+        }
     }
 }
 
@@ -42,8 +59,8 @@ pub fn put_idle(words: &mut Words, frame: &[u8]) {
     words.put_lowered("", &idle_line(frame));
 }
 
-/// Octets that damage a frame.
-const DAMAGES: [u8; 5] = [0, 10, 32, 126, 255];
+/// Octets that damage a text.
+pub const DAMAGES: [u8; 5] = [0, 10, 32, 126, 255];
 
 /// Whether each front of a frame, and the frame with each octet damaged in each way, is answered.
 pub fn put_damaged(alloc: Global, words: &mut Words, frame: &[u8]) {
@@ -75,9 +92,14 @@ fn are_answered(alloc: Global, frame: &[u8], place: usize) -> Result<bool, Alloc
     Ok(true)
 }
 
-/// The frame with one octet replaced.
-fn with_octet(alloc: Global, frame: &[u8], place: usize, octet: u8) -> Result<Vec<u8>, AllocError> {
-    let mut copy = frame.to_vec(alloc)?;
+/// The text with one octet replaced.
+pub fn with_octet(
+    alloc: Global,
+    text: &[u8],
+    place: usize,
+    octet: u8,
+) -> Result<Vec<u8>, AllocError> {
+    let mut copy = text.to_vec(alloc)?;
     if let Some(old) = copy.get_mut(place) {
         *old = octet;
     }

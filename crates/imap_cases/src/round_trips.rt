@@ -1,6 +1,7 @@
 //! Answers read and printed.
 
 use crate::answers::put_answer;
+use crate::frames::{DAMAGES, with_octet};
 use case_text::Words;
 use imap_print::{Answer, MailboxState, print};
 use imap_read::read;
@@ -17,6 +18,48 @@ pub fn put_read(alloc: Global, words: &mut Words, text: &[u8]) {
         }
         Ok(None) => words.put("none"),
         Err(AllocError) => words.give_up(),
+    }
+    put_damaged(alloc, words, text);
+}
+
+/// Where a short text can be damaged so that it is read as an answer that is printed otherwise.
+fn put_damaged(alloc: Global, words: &mut Words, text: &[u8]) {
+    if text.len() <= FRONTS {
+        match first_misread(alloc, text) {
+            Ok(None) => {}
+            Ok(Some(place)) => words.put_number(", misread where damaged at ", place as u64),
+            Err(AllocError) => words.give_up(),
+        }
+    }
+}
+
+fn first_misread(alloc: Global, text: &[u8]) -> Result<Option<usize>, AllocError> {
+    for place in 0..text.len() {
+        if !is_read_damaged(alloc, text, place)? {
+            return Ok(Some(place));
+        }
+    }
+    Ok(None)
+}
+
+/// Whether of a text with each damage at this place nothing is read, or an answer whose text is its front.
+fn is_read_damaged(alloc: Global, text: &[u8], place: usize) -> Result<bool, AllocError> {
+    for octet in DAMAGES {
+        if !is_front_printed(alloc, &with_octet(alloc, text, place, octet)?)? {
+            return Ok(false);
+        }
+    }
+    Ok(true)
+}
+
+fn is_front_printed(alloc: Global, text: &[u8]) -> Result<bool, AllocError> {
+    match read(alloc, text)? {
+        Some((answer, length)) => {
+            let printed = printed(alloc, &answer);
+            drop(answer);
+            Ok(text.get(..length) == Some(printed?.as_slice()))
+        }
+        None => Ok(true),
     }
 }
 

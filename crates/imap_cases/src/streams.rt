@@ -1,5 +1,6 @@
 //! How the framer cuts streams into commands.
 
+use crate::frames::{DAMAGES, with_octet};
 use case_text::Words;
 use imap_lex::{FrameFault, Framer, Item, Limits};
 use std::alloc::{AllocError, Global};
@@ -23,6 +24,7 @@ pub fn put_stream(alloc: Global, words: &mut Words, limits: Limits, stream: &[u8
         Ok(given) => {
             words.put_octets(&given);
             put_other_cuts(alloc, words, limits, stream, &given);
+            put_damaged(alloc, words, limits, stream);
         }
         Err(AllocError) => words.give_up(),
     }
@@ -39,6 +41,45 @@ fn put_other_cuts(alloc: Global, words: &mut Words, limits: Limits, stream: &[u8
         Ok(Some(first)) => words.put_number(", otherwise when cut behind ", first as u64),
         Err(AllocError) => words.give_up(),
     }
+}
+
+/// Where a short stream can be damaged so that it gives something else in one piece than octet by octet.
+fn put_damaged(alloc: Global, words: &mut Words, limits: Limits, stream: &[u8]) {
+    if stream.len() <= SHORT {
+        match first_torn(alloc, limits, stream) {
+            Ok(None) => {}
+            Ok(Some(place)) => {
+                words.put_number(", otherwise octet by octet where damaged at ", place as u64)
+            }
+            Err(AllocError) => words.give_up(),
+        }
+    }
+}
+
+fn first_torn(alloc: Global, limits: Limits, stream: &[u8]) -> Result<Option<usize>, AllocError> {
+    for place in 0..stream.len() {
+        if !is_same_damaged(alloc, limits, stream, place)? {
+            return Ok(Some(place));
+        }
+    }
+    Ok(None)
+}
+
+/// Whether a stream with each damage at this place gives the same in one piece and octet by octet.
+fn is_same_damaged(
+    alloc: Global,
+    limits: Limits,
+    stream: &[u8],
+    place: usize,
+) -> Result<bool, AllocError> {
+    for octet in DAMAGES {
+        let damaged = with_octet(alloc, stream, place, octet)?;
+        let whole = in_pieces(alloc, limits, b"", &damaged, SHORT)?;
+        if in_pieces(alloc, limits, b"", &damaged, 1)?.as_slice() != whole.as_slice() {
+            return Ok(false);
+        }
+    }
+    Ok(true)
 }
 
 /// The first size of pieces in which the stream gives something else.

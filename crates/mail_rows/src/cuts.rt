@@ -1,76 +1,11 @@
-//! Scripts that end early or have octets replaced, and octets that come to a session in pieces.
+//! Octets that come to a session in pieces.
 
-ghost use Rattle.std.specs.Prelude.{◌<◌, length};
+ghost use Rattle.std.specs.Prelude.{◌<◌};
 
 use crate::directives::octets_of;
 use crate::replays::{Replayed, play_script};
 use case_text::Words;
-use mail_replay::ReplayEnd;
 use std::alloc::Global;
-
-/// The octets that take the place of others.
-const STRANGE: [u8; 5] = [0, 10, 32, 126, 255];
-
-/// Replays a script, tells what it prints, and whether each beginning of it, and the whole with each octet replaced by 0,
-/// 10, 32, 126 and 255, prints what the lines before that place print, and then whole lines of printed ASCII, and ends with
-/// Done or BadScript.
-pub fn tell_damage(alloc: Global, script: &[u8], page: &mut Words) {
-    play_script(alloc, script).tell(page);
-    match first_wrong(alloc, script) {
-        None => {
-            page.put_number("-- damaged at each of ", script.len() as u64);
-            page.put(" octets: as it was before them\n");
-        }
-        Some(place) => {
-            page.put_number("-- damaged behind octet ", place as u64);
-            page.put(": otherwise before it\n");
-        }
-    }
-}
-
-fn first_wrong(alloc: Global, script: &[u8]) -> Option<usize> {
-    let mut line = 0;
-    for place in 0..script.len() {
-        let before = play_script(alloc, &script[..line.min(place)]);
-        if !bears_damage(alloc, script, place, &before.printed) {
-            return Some(place);
-        }
-        if script[place] == b'\n' {
-            line = place + 1;
-        }
-    }
-    None
-}
-
-/// Whether a script that is cut at a place, or has another octet there, prints as it should.
-fn bears_damage(alloc: Global, script: &[u8], place: usize, before: &[u8]) -> bool
-    requires { place < length script.now }
-{
-    let front = &script[..place];
-    let back = &script[place + 1..];
-    is_lawful(&play_script(alloc, front), before)
-        && STRANGE.iter().all(|octet| is_lawful(&with_octet(alloc, front, *octet, back), before))
-}
-
-fn with_octet(alloc: Global, front: &[u8], octet: u8, back: &[u8]) -> Replayed {
-    let mut script = Words::new(alloc);
-    script.put_octets(front);
-    script.put_octets(&[octet]);
-    script.put_octets(back);
-    play_script(alloc, script.so_far())
-}
-
-/// Whether a replay ended with a name that a script can bring about, and printed whole lines of printed ASCII behind these.
-fn is_lawful(replay: &Replayed, before: &[u8]) -> bool {
-    let is_named = matches!(replay.end, ReplayEnd::Done | ReplayEnd::BadScript { .. });
-    is_named
-        && replay.printed.starts_with(before)
-        && (replay.printed.is_empty() || replay.printed.ends_with(b"\n"))
-        && replay
-            .printed
-            .iter()
-            .all(|octet| *octet == b'\n' || (*octet >= 32 && *octet <= 126))
-}
 
 /// Sends octets, given in the escape, to a session behind a script, tells what is printed, and whether it is the same where
 /// they come in two pieces, cut at each place, and one by one.

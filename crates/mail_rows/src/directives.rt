@@ -17,6 +17,8 @@ pub enum Way<'a> {
     Damage,
     /// It is replayed with octets, given in the escape, sent to a session in all ways of cutting them.
     Pieces { session: &'a str, text: &'a str },
+    /// It is told whether so many damaged scripts were replayed so far, and as many damaged outputs audited.
+    Tried(u64),
     /// It is replayed with each of the lines that follow behind it, and also with this one behind that.
     Each(&'a str),
 }
@@ -29,6 +31,7 @@ pub fn way_of<'a>(word: &str, rest: &'a str) -> Option<Way<'a>> {
         "damage" => Some(Way::Damage),
         "pieces" => Some(pieces_of(rest)),
         "each" => Some(Way::Each(rest)),
+        "tried" => tried_of(rest),
         _ => None,
     }
 }
@@ -36,6 +39,13 @@ pub fn way_of<'a>(word: &str, rest: &'a str) -> Option<Way<'a>> {
 fn last_of<'a>(number: &'a str) -> Option<Way<'a>> {
     match number.parse::<usize>() {
         Ok(last) => Some(Way::Last(last)),
+        Err(_) => None,
+    }
+}
+
+fn tried_of<'a>(number: &'a str) -> Option<Way<'a>> {
+    match number.parse::<u64>() {
+        Ok(least) => Some(Way::Tried(least)),
         Err(_) => None,
     }
 }

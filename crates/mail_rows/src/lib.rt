@@ -4,6 +4,7 @@
 
 mod cases;
 mod cuts;
+mod damage;
 mod directives;
 mod replays;
 mod rows;

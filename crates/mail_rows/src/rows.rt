@@ -1,7 +1,8 @@
 //! Rows, line by line.
 
 use crate::cases::try_case;
-use crate::cuts::{tell_damage, tell_pieces};
+use crate::cuts::tell_pieces;
+use crate::damage::{Tried, tell_damage, tell_wrong};
 use crate::directives::{Way, build, cut, octets_of, way_of};
 use crate::replays::play_script;
 use case_text::Words;
@@ -10,10 +11,22 @@ use std::alloc::{AllocError, Global};
 /// Plays the rows of a text, each behind a line `== TITLE`; what stands before the first is left out. An error says that there is no memory.
 pub fn play(alloc: Global, text: &str) -> Result<Vec<u8>, AllocError> {
     let mut page = Words::new(alloc);
+    let mut tried = Tried::none(every_of(text));
     for row in text.split("\n== ").skip(1) {
-        play_row(alloc, row, &mut page);
+        play_row(alloc, row, &mut tried, &mut page);
     }
     page.finish()
+}
+
+/// Which places of all scripts and of what they print are damaged: the number behind `% every ` in front of the first row; 0 where there is none.
+fn every_of(text: &str) -> u64 {
+    let (head, _) = text.split_once("\n== ").unwrap_or((text, ""));
+    for line in head.lines() {
+        if let Some(number) = line.strip_prefix("% every ") {
+            return number.parse::<u64>().unwrap_or(0);
+        }
+    }
+    0
 }
 
 /// A row as far as it was read.
@@ -23,7 +36,7 @@ struct Row<'a> {
     way: Way<'a>,
 }
 
-fn play_row(alloc: Global, text: &str, page: &mut Words) {
+fn play_row(alloc: Global, text: &str, tried: &mut Tried, page: &mut Words) {
     let (title, lines) = cut(text, '\n');
     page.put("== ");
     page.put(title);
@@ -36,6 +49,10 @@ fn play_row(alloc: Global, text: &str, page: &mut Words) {
         take_line(alloc, line, &mut row, page);
     }
     end_row(alloc, row.script.so_far(), row.way, page);
+    match row.way {
+        Way::Tried(least) => tried.tell(least, page),
+        _ => tell_wrong(alloc, row.script.so_far(), tried, page),
+    }
 }
 
 /// Takes a line of a row: a directive, a comment in front of the script, or what belongs to the script.
@@ -89,6 +106,6 @@ fn end_row(alloc: Global, script: &[u8], way: Way, page: &mut Words) {
         Way::Count(line) => play_script(alloc, script).tell_count(line, page),
         Way::Damage => tell_damage(alloc, script, page),
         Way::Pieces { session, text } => tell_pieces(alloc, script, session, text, page),
-        Way::Each(_) => {}
+        Way::Each(_) | Way::Tried(_) => {}
     }
 }

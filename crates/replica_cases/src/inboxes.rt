@@ -3,6 +3,7 @@
 use crate::clocks::raised;
 use crate::dump::{tell_ids, tell_state};
 use crate::issuing::tell_issue;
+use crate::mutations::tell_damage;
 use crate::stage::{Mailboxes, Node, deliver};
 use case_text::{Trouble, Words, name, operation};
 use causal_inbox::{Arrival, DeliverFault, Delivered, HeldOps};
@@ -58,6 +59,7 @@ fn tell_delivery(inbox: &mut Node, line: &str, answer: &mut Words) -> Result<(),
         Ok(delivered) => tell_delivered(delivered, answer),
         Err(fault) => tell_fault(fault, answer),
     }
+    tell_damage(line.as_bytes(), answer);
     Ok(())
 }
 

@@ -42,6 +42,20 @@ pub fn tell_findings(findings: Findings, answer: &mut Words) {
     answer.put(" changed");
 }
 
+/// The octets that take the place of others where none are named.
+const STRANGE: [u8; 5] = [0, 10, 32, 126, 255];
+
+/// Where some of a text's shorter fronts, or of what it is with each octet replaced by 0, 10, 32, 126 and 255, aren't given back as they
+/// were read, tells how many.
+pub fn tell_damage(text: &[u8], answer: &mut Words) {
+    let cut = of_cuts(answer.alloc(), text).changed;
+    let replaced = of_octets(answer.alloc(), text, &STRANGE).changed;
+    if cut > 0 || replaced > 0 {
+        answer.put_number(", changed where it is cut ", cut);
+        answer.put_number(" and damaged ", replaced);
+    }
+}
+
 /// What the fronts of a text are that are shorter.
 pub fn of_cuts(alloc: Global, text: &[u8]) -> Findings {
     let mut findings = Findings::none();

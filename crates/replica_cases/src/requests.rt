@@ -3,7 +3,7 @@
 use crate::clocks::{ClockWord, answer_clock};
 use crate::given::{Given, add_any, add_first, tell_pairs, tell_replay};
 use crate::inboxes::{InboxWord, answer_inbox};
-use crate::mutations::{of_cuts, of_octets, tell_findings};
+use crate::mutations::{of_cuts, of_octets, tell_damage, tell_findings};
 use crate::operations::{finding_word, found};
 use crate::orders::tell_orders;
 use crate::sets::{SetWord, answer_set};
@@ -119,7 +119,10 @@ fn obey(stage: &mut Stage, asked: &str, answer: &mut Words) -> Result<(), Troubl
     match word {
         "" | "#" => Ok(()),
         "==" => restart(stage, answer.alloc()),
-        "given" => add_first(answer.alloc(), &mut stage.given, fields),
+        "given" => {
+            tell_damage(fields.as_bytes(), answer);
+            add_first(answer.alloc(), &mut stage.given, fields)
+        }
         "any" => add_any(answer.alloc(), &mut stage.given, fields),
         _ => answer_word(stage, word, fields, answer),
     }
@@ -164,6 +167,7 @@ fn answer_text(word: TextWord, fields: &str, answer: &mut Words) -> Result<(), T
 fn tell_found(text: &[u8], answer: &mut Words) {
     let finding = finding_word(found(answer.alloc(), text));
     answer.put_after(" ", finding.as_bytes());
+    tell_damage(text, answer);
 }
 
 fn tell_spelled(fields: &str, answer: &mut Words) -> Result<(), Trouble> {
