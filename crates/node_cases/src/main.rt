@@ -1,5 +1,5 @@
-//! Plays the cases over replicas' nodes. Those of a kind stand behind a line `=== KIND` on the standard input; it prints that line, and what
-//! the cases come to. The head of the crate's file `stdin` says which kinds there are, docs/formats.md what their cases are.
+//! Plays cases. Those of a kind stand behind a line `=== KIND` on the standard input; it prints that line, and what the cases come to. The head
+//! of the crate's file `stdin` says which kinds there are, docs/formats.md what their cases are.
 #![tactic(auto)]
 
 use std::alloc::{AllocError, Global};
@@ -14,16 +14,25 @@ fn main(rt: HostRuntime) -> io::Result<()> {
 }
 
 /// Prints the line of a kind, and what its cases come to.
-fn print_part(rt: &(impl Print + AllocGlobal), part: &str) -> io::Result<()> {
+fn print_part(rt: &HostRuntime, part: &str) -> io::Result<()> {
     let (kind, cases) = part.split_once('\n').unwrap_or((part, ""));
+    if kind == "costs" {
+        println!(*rt; "=== costs")?;
+        return node_costs::play(rt, cases);
+    }
     let told = told(rt.alloc(), kind, cases)?;
-    println!(rt; "=== {kind}")?;
+    println!(*rt; "=== {kind}")?;
     io::writer(rt).write_all(&told)
 }
 
 /// What the cases of a kind come to.
 fn told(alloc: Global, kind: &str, cases: &str) -> Result<Vec<u8>, AllocError> {
     match kind {
+        "texts" => imap_cases::play(alloc, cases),
+        "operations" => replica_cases::play(alloc, cases),
+        "uids" => uid_cases::play(alloc, cases),
+        "views" => view_cases::play(alloc, cases),
+        "queries" => query_cases::play(alloc, cases),
         "idle" => idle_cases::play(alloc),
         "worlds" => world_cases::play(alloc, cases),
         "audits" => audit_cases::told(alloc, cases),

@@ -1,9 +1,10 @@
 //! Deliveries while many operations are held.
 
-use crate::seat::{Seat, Trouble, since};
+use crate::seat::{Seat, since};
 use crdt_ops::SoundOp;
 use merge_laws::Caused;
 use std::alloc::Global;
+use std::io;
 use std::time::Instant;
 
 /// How many deliveries are timed.
@@ -11,26 +12,21 @@ const TIMED: u32 = 200;
 
 /// Has so many operations held, which all wait for one, and tells how long a delivery takes of one more that waits, and of one that waits for
 /// none.
-pub fn times(rt: &HostRuntime, count: u32) -> Result<(), Trouble> {
+pub fn times(rt: &HostRuntime, count: u32) -> io::Result<()> {
     let mut near = Seat::new(rt.alloc(), 1)?;
     let told = times_at(rt, &mut near, count);
     drop(near);
     told
 }
 
-fn times_at(rt: &HostRuntime, near: &mut Seat, count: u32) -> Result<(), Trouble> {
+fn times_at(rt: &HostRuntime, near: &mut Seat, count: u32) -> io::Result<()> {
     let mut far = Seat::new(rt.alloc(), 2)?;
     let told = times_from(rt, near, &mut far, count);
     drop(far);
     told
 }
 
-fn times_from(
-    rt: &HostRuntime,
-    near: &mut Seat,
-    far: &mut Seat,
-    count: u32,
-) -> Result<(), Trouble> {
+fn times_from(rt: &HostRuntime, near: &mut Seat, far: &mut Seat, count: u32) -> io::Result<()> {
     let mut other = Seat::new(rt.alloc(), 3)?;
     let told = tell_times(rt, near, far, &mut other, count);
     drop(other);
@@ -43,7 +39,7 @@ fn tell_times(
     far: &mut Seat,
     other: &mut Seat,
     count: u32,
-) -> Result<(), Trouble> {
+) -> io::Result<()> {
     far.give(rt.alloc(), "a CREATE first\r\n")?;
     subscribe(rt.alloc(), far, count)?;
     subscribe(rt.alloc(), other, TIMED)?;
@@ -56,7 +52,7 @@ fn tell_times(
 }
 
 /// Delivers all but the first of the operations, and tells the nanoseconds of one of the last ones.
-fn early_time(rt: &HostRuntime, near: &mut Seat, ops: &[SoundOp]) -> Result<u64, Trouble> {
+fn early_time(rt: &HostRuntime, near: &mut Seat, ops: &[SoundOp]) -> io::Result<u64> {
     let waiting = ops.get(1..).unwrap_or(&[]);
     let split = waiting.len().saturating_sub(TIMED as usize);
     let (before, timed) = waiting.split_at(split);
@@ -65,7 +61,7 @@ fn early_time(rt: &HostRuntime, near: &mut Seat, ops: &[SoundOp]) -> Result<u64,
 }
 
 /// Subscribes and unsubscribes so many times.
-fn subscribe(alloc: Global, seat: &mut Seat, count: u32) -> Result<(), Trouble> {
+fn subscribe(alloc: Global, seat: &mut Seat, count: u32) -> io::Result<()> {
     for _ in 0..count / 2 {
         seat.give(alloc, "a SUBSCRIBE first\r\n")?;
         seat.give(alloc, "a UNSUBSCRIBE first\r\n")?;
@@ -74,7 +70,7 @@ fn subscribe(alloc: Global, seat: &mut Seat, count: u32) -> Result<(), Trouble> 
 }
 
 /// Delivers copies of the operations.
-pub fn deliver_all(alloc: Global, seat: &mut Seat, ops: &[SoundOp]) -> Result<(), Trouble> {
+pub fn deliver_all(alloc: Global, seat: &mut Seat, ops: &[SoundOp]) -> io::Result<()> {
     for op in ops {
         let copy = op.copy(alloc)?;
         seat.deliver(alloc, copy)?;
@@ -83,7 +79,7 @@ pub fn deliver_all(alloc: Global, seat: &mut Seat, ops: &[SoundOp]) -> Result<()
 }
 
 /// The nanoseconds of a delivery of one of the operations, in the mean.
-pub fn time_of(rt: &HostRuntime, seat: &mut Seat, ops: &[SoundOp]) -> Result<u64, Trouble> {
+pub fn time_of(rt: &HostRuntime, seat: &mut Seat, ops: &[SoundOp]) -> io::Result<u64> {
     let start = Instant::now(rt)?;
     deliver_all(rt.alloc(), seat, ops)?;
     let spent = since(rt, start)?;
@@ -91,7 +87,7 @@ pub fn time_of(rt: &HostRuntime, seat: &mut Seat, ops: &[SoundOp]) -> Result<u64
 }
 
 /// Delivers what all wait for, and tells how long that takes.
-fn release(rt: &HostRuntime, seat: &mut Seat, ops: &[SoundOp]) -> Result<(), Trouble> {
+fn release(rt: &HostRuntime, seat: &mut Seat, ops: &[SoundOp]) -> io::Result<()> {
     let start = Instant::now(rt)?;
     deliver_all(rt.alloc(), seat, ops.get(..1).unwrap_or(&[]))?;
     let spent = since(rt, start)?;

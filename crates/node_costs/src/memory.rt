@@ -1,11 +1,12 @@
 //! What two replicas keep. (The memory itself is what the system says of the process.)
 
 use crate::held::deliver_all;
-use crate::seat::{Seat, Trouble};
+use crate::seat::Seat;
 use std::alloc::{AllocError, Global};
+use std::io;
 
 /// Has a replica take so many messages of so many octets, and another one have them delivered.
-pub fn fill(rt: &HostRuntime, count: u32, size: u32) -> Result<(), Trouble> {
+pub fn fill(rt: &HostRuntime, count: u32, size: u32) -> io::Result<()> {
     let append = append_of(rt.alloc(), size)?;
     let kept = kept_by_two(rt.alloc(), append.as_str(), count)?;
     println!(*rt; "{kept} messages of {size} octets at two replicas")?;
@@ -13,14 +14,14 @@ pub fn fill(rt: &HostRuntime, count: u32, size: u32) -> Result<(), Trouble> {
 }
 
 /// How many operations the second of two replicas applied.
-fn kept_by_two(alloc: Global, append: &str, count: u32) -> Result<usize, Trouble> {
+fn kept_by_two(alloc: Global, append: &str, count: u32) -> io::Result<usize> {
     let mut near = Seat::new(alloc, 1)?;
     let kept = kept_beside(alloc, &mut near, append, count);
     drop(near);
     kept
 }
 
-fn kept_beside(alloc: Global, near: &mut Seat, append: &str, count: u32) -> Result<usize, Trouble> {
+fn kept_beside(alloc: Global, near: &mut Seat, append: &str, count: u32) -> io::Result<usize> {
     let mut far = Seat::new(alloc, 2)?;
     let handed = hand_on(alloc, near, &mut far, append, count);
     let kept = far.node.op_list().len();
@@ -36,7 +37,7 @@ fn hand_on(
     far: &mut Seat,
     append: &str,
     count: u32,
-) -> Result<(), Trouble> {
+) -> io::Result<()> {
     for _ in 0..count {
         near.give(alloc, append)?;
         deliver_last(alloc, near, far)?;
@@ -44,7 +45,7 @@ fn hand_on(
     Ok(())
 }
 
-fn deliver_last(alloc: Global, near: &Seat, far: &mut Seat) -> Result<(), Trouble> {
+fn deliver_last(alloc: Global, near: &Seat, far: &mut Seat) -> io::Result<()> {
     let made = near.node.op_list();
     let last = made.get(made.len().saturating_sub(1)..).unwrap_or(&[]);
     deliver_all(alloc, far, last)

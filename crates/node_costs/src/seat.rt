@@ -4,41 +4,11 @@ use crdt_ops::SoundOp;
 use imap_grammar::{Tagged, parse};
 use imap_node::{Auth, Node, Reply, SessionNo};
 use imap_types::Moment;
-use std::alloc::{AllocError, Global};
-use std::io;
+use std::alloc::Global;
+use std::io::{self, ErrorKind};
 use std::time::Instant;
 use tags_clocks::ReplicaId;
-use thiserror::Error;
 use uid_projection::Start;
-
-/// Why the times can't be told.
-#[derive(Debug, Drop, Error)]
-pub enum Trouble {
-    /// There is no memory.
-    #[error("no memory")]
-    NoMemory,
-    /// A line has no known kind, or no numbers.
-    #[error("not a line")]
-    NotALine,
-    /// A command was refused, or an operation not taken.
-    #[error("not taken")]
-    NotTaken,
-    /// The input, the output or the clock failed.
-    #[error("input, output or clock failed")]
-    Failed,
-}
-
-impl From<AllocError> for Trouble {
-    fn from(_: AllocError) -> Trouble {
-        Trouble::NoMemory
-    }
-}
-
-impl From<io::Error> for Trouble {
-    fn from(_: io::Error) -> Trouble {
-        Trouble::Failed
-    }
-}
 
 /// A node and a session of it.
 #[derive(Drop)]
@@ -49,9 +19,9 @@ pub struct Seat {
 
 impl Seat {
     /// A replica of this number that received nothing, and a session of a known user.
-    pub fn new(alloc: Global, replica: u32) -> Result<Seat, Trouble> {
+    pub fn new(alloc: Global, replica: u32) -> io::Result<Seat> {
         let Some(replica) = ReplicaId::new(replica) else {
-            return Err(Trouble::NotALine);
+            return Err(io::Error::other("not a line"));
         };
         let start = Start {
             replica,
@@ -60,78 +30,84 @@ impl Seat {
         };
         match Node::new(alloc, start) {
             Ok(node) => seated(node),
-            Err(_) => Err(Trouble::NoMemory),
+            Err(_) => Err(ErrorKind::OutOfMemory.into()),
         }
     }
 
     /// Gives the command.
-    pub fn give(&mut self, alloc: Global, text: &str) -> Result<(), Trouble> {
+    pub fn give(&mut self, alloc: Global, text: &str) -> io::Result<()> {
         let tagged = spelled(alloc, text)?;
         self.carry_out(alloc, tagged)
     }
 
-    fn carry_out(&mut self, alloc: Global, tagged: Tagged) -> Result<(), Trouble> {
+    fn carry_out(&mut self, alloc: Global, tagged: Tagged) -> io::Result<()> {
         if !self.node.is_open(self.session) {
-            return Err(Trouble::NotTaken);
+            return Err(io::Error::other("not taken"));
         }
-        let reply = self
-            .node
-            .command(alloc, self.session, Moment::epoch(), tagged);
-        match reply {
-            Reply::Done { .. } => Ok(()),
-            Reply::Refused { .. } => Err(Trouble::NotTaken),
-        }
-    }
-
-    /// Gives the commands, again and again so many times, and tells the nanoseconds that the fastest took.
-    pub fn timed(&mut self, rt: &HostRuntime, texts: &[&str], turns: u32) -> Result<u64, Trouble> {
-        let mut least = u64::MAX;
-        for _ in 0..turns {
-            for text in texts {
-                least = least.min(self.time_of(rt, text)?);
-            }
-        }
-        Ok(least)
+        let now = Moment::epoch();
+        taken(self.node.command(alloc, self.session, now, tagged))
     }
 
     /// The nanoseconds that the command takes.
-    fn time_of(&mut self, rt: &HostRuntime, text: &str) -> Result<u64, Trouble> {
+    pub fn time_of(&mut self, rt: &HostRuntime, text: &str) -> io::Result<u64> {
         let tagged = spelled(rt.alloc(), text)?;
         let start = Instant::now(rt)?;
         self.carry_out(rt.alloc(), tagged)?;
         since(rt, start)
     }
 
+    /// The nanoseconds that a poll takes of the session, which idles.
+    pub fn poll_time(&mut self, rt: &HostRuntime) -> io::Result<u64> {
+        let start = Instant::now(rt)?;
+        self.poll(rt.alloc())?;
+        since(rt, start)
+    }
+
+    fn poll(&mut self, alloc: Global) -> io::Result<()> {
+        if !self.node.is_open(self.session) {
+            return Err(io::Error::other("not taken"));
+        }
+        taken(self.node.poll(alloc, self.session))
+    }
+
     /// Delivers the operation.
-    pub fn deliver(&mut self, alloc: Global, op: SoundOp) -> Result<(), Trouble> {
+    pub fn deliver(&mut self, alloc: Global, op: SoundOp) -> io::Result<()> {
         match self.node.deliver(alloc, op) {
             Ok(_) => Ok(()),
-            Err(_) => Err(Trouble::NotTaken),
+            Err(_) => Err(io::Error::other("not taken")),
         }
     }
 }
 
 /// The node with a session of a known user.
-fn seated(node: Node) -> Result<Seat, Trouble> {
+fn seated(node: Node) -> io::Result<Seat> {
     let mut node = node;
     match node.open(Auth::Preauth) {
         Ok(session) => Ok(Seat { node, session }),
         Err(_) => {
             drop(node);
-            Err(Trouble::NoMemory)
+            Err(ErrorKind::OutOfMemory.into())
         }
     }
 }
 
-fn spelled(alloc: Global, text: &str) -> Result<Tagged, Trouble> {
+/// Whether a node did it.
+fn taken(reply: Reply) -> io::Result<()> {
+    match reply {
+        Reply::Done { .. } => Ok(()),
+        Reply::Refused { .. } => Err(io::Error::other("not taken")),
+    }
+}
+
+fn spelled(alloc: Global, text: &str) -> io::Result<Tagged> {
     match parse(alloc, text.as_bytes()) {
         Ok(tagged) => Ok(tagged),
-        Err(_) => Err(Trouble::NotALine),
+        Err(_) => Err(io::Error::other("not a line")),
     }
 }
 
 /// The nanoseconds since this moment.
-pub fn since(rt: &HostRuntime, start: Instant) -> Result<u64, Trouble> {
+pub fn since(rt: &HostRuntime, start: Instant) -> io::Result<u64> {
     let spent = start.elapsed(rt)?;
     Ok(u64::try_from(spent.as_nanos()).unwrap_or(u64::MAX))
 }

@@ -1,6 +1,6 @@
 //! What a feed keeps, and that a session is told of more changes than its feed keeps.
 
-use crate::talks::{answers, begin, begin_at, deliver_last};
+use crate::talks::{Talk, answers, begin, begin_at, deliver_last, may_be_behind};
 use idle_feed::{Feed, Taken};
 use session_view::Note;
 use std::alloc::Global;
@@ -24,6 +24,81 @@ fn more_changes_than_a_feed_keeps_are_told(rt: HostRuntime) {
 #[test]
 fn as_many_changes_as_a_feed_keeps_are_told(rt: HostRuntime) {
     assert!(rt; is_told_behind(rt.alloc(), 3) == Some(true));
+}
+
+#[test]
+fn a_session_is_behind_only_what_it_was_not_told(rt: HostRuntime) {
+    let own = [
+        "c FETCH 1 FLAGS\r\n",
+        "d NOOP\r\n",
+        "e STORE 1 +FLAGS (\\Seen)\r\n",
+        "f IDLE\r\n",
+        "DONE\r\n",
+        "g FETCH 9 FLAGS\r\n",
+        "h STORE 1 +FLAGS (\\Deleted)\r\n",
+        "i UID EXPUNGE 1\r\n",
+        "j APPEND INBOX {1+}\r\ny\r\n",
+        "k APPEND other {1+}\r\ny\r\n",
+    ];
+    assert!(rt; is_behind_after(rt.alloc(), &own, b"----------") == Some(true));
+}
+
+#[test]
+fn a_session_is_behind_what_another_replica_did_until_it_is_told(rt: HostRuntime) {
+    let mixed = [
+        "c FETCH 1 FLAGS\r\n",
+        "elsewhere d APPEND INBOX {1+}\r\ny\r\n",
+        "e NOOP\r\n",
+        "elsewhere f STORE 1 +FLAGS (\\Deleted)\r\n",
+        "g FETCH 1 FLAGS\r\n",
+        "elsewhere h EXPUNGE\r\n",
+        "i FETCH 1 FLAGS\r\n",
+        "j NOOP\r\n",
+        "elsewhere k CREATE other\r\n",
+        "elsewhere l APPEND other {1+}\r\ny\r\n",
+        "elsewhere m APPEND INBOX {1+}\r\ny\r\n",
+        "n IDLE\r\n",
+        "DONE\r\n",
+    ];
+    assert!(rt; is_behind_after(rt.alloc(), &mixed, b"-!-!-!!---!!-") == Some(true));
+}
+
+/// Whether a session that has selected INBOX, with one message, may be behind after each of these steps as the marks say. A step `elsewhere ..` is another
+/// replica's, which hands its last operation on.
+fn is_behind_after(alloc: Global, steps: &[&str], marks: &[u8]) -> Option<bool> {
+    let mut other = begin(alloc, "joe", "secret")?;
+    let mut reader = begin_at(alloc, 2, "joe", "secret")?;
+    answers(
+        alloc,
+        &mut other,
+        "a LOGIN joe secret\r\nb APPEND INBOX {1+}\r\nx\r\nc SELECT INBOX\r\n",
+    )?;
+    deliver_last(alloc, &other, &mut reader)?;
+    answers(
+        alloc,
+        &mut reader,
+        "a LOGIN joe secret\r\nb SELECT INBOX\r\n",
+    )?;
+    let mut told = Vec::new(alloc);
+    for step in steps {
+        take_step(alloc, &mut other, &mut reader, step)?;
+        told.push(if may_be_behind(&reader) { b'!' } else { b'-' })
+            .ok()?;
+    }
+    Some(told.as_slice() == marks)
+}
+
+fn take_step(alloc: Global, other: &mut Talk, reader: &mut Talk, step: &str) -> Option<()> {
+    match step.strip_prefix("elsewhere ") {
+        Some(text) => {
+            answers(alloc, other, text)?;
+            deliver_last(alloc, other, reader)
+        }
+        None => {
+            answers(alloc, reader, step)?;
+            Some(())
+        }
+    }
 }
 
 /// How many notes are taken behind so many, and how many then; `None` for a resync.

@@ -1,6 +1,9 @@
-//! Tests of sessions that no script can open, since their user has to log in, and of what a node lends.
+//! Tests of nodes and of conversations with them: sessions that no script can open, since their user has to log in; what a node lends; and conversations over
+//! devices in memory and of std, whose reads and writes fail in turn or move one octet at a time, with a port that is made up or with a node's.
 #![tactic(auto)]
 
+#[cfg(test)]
+mod devices;
 #[cfg(test)]
 mod feeds;
 #[cfg(test)]
@@ -10,4 +13,10 @@ mod laws;
 #[cfg(test)]
 mod login;
 #[cfg(test)]
+mod made_up;
+#[cfg(test)]
+mod nodes;
+#[cfg(test)]
 mod talks;
+#[cfg(test)]
+mod wires;

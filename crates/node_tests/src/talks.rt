@@ -83,6 +83,11 @@ pub fn deliver_last(alloc: Global, from: &Talk, to: &mut Talk) -> Option<()> {
     Some(())
 }
 
+/// Whether the session may have something to be told.
+pub fn may_be_behind(talk: &Talk) -> bool {
+    talk.node.may_be_behind(talk.session)
+}
+
 /// Whether the session is open, and goes on.
 pub fn goes_on(talk: &Talk) -> bool {
     is_going(&talk.node, talk.session)

@@ -1,0 +1,36 @@
+//! How long calls took.
+
+use std::io;
+
+/// How long calls took, in nanoseconds.
+#[derive(Clone, Copy)]
+pub struct Spans {
+    least: u64,
+    sum: u64,
+    count: u64,
+}
+
+impl Spans {
+    /// Of no call.
+    pub fn none() -> Spans {
+        Spans {
+            least: u64::MAX,
+            sum: 0,
+            count: 0,
+        }
+    }
+
+    /// Of one call more.
+    pub fn note(&mut self, spent: u64) {
+        self.least = self.least.min(spent);
+        self.sum = self.sum.saturating_add(spent);
+        self.count = self.count.saturating_add(1);
+    }
+
+    /// Tells what the fastest took, and the mean.
+    pub fn tell(&self, rt: &HostRuntime, name: &str) -> io::Result<()> {
+        let least = self.least;
+        let mean = self.sum.checked_div(self.count).unwrap_or(0);
+        eprintln!(*rt; "  {name}: {least}, {mean}")
+    }
+}

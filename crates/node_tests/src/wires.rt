@@ -1,0 +1,180 @@
+//! Devices of std that move one octet at a time, are interrupted, and fail.
+
+use crate::devices::{SAID, TOLD};
+use crate::made_up::MadeUp;
+use imap_talk::{Ended, Wire, converse};
+use std::alloc::Global;
+use std::io;
+use std::io::{ErrorKind, Read, Write};
+use std::sync::Wait;
+use std::test::*;
+
+/// A device that moves one octet a call, is interrupted at each third call, and behind so many calls fails so, or moves nothing any more.
+#[derive(Drop)]
+struct Trickle<T> {
+    inner: T,
+    calls: u64,
+    most: u64,
+    fault: Option<ErrorKind>,
+}
+
+impl<T> Trickle<T> {
+    /// How much is moved of so much.
+    fn turn(&mut self, count: usize) -> io::Result<usize> {
+        self.calls = self.calls.saturating_add(1);
+        if self.calls > self.most {
+            return match self.fault {
+                Some(kind) => Err(io::Error::from(kind)),
+                None => Ok(0),
+            };
+        }
+        if self.calls % 3 == 0 {
+            return Err(io::Error::from(ErrorKind::Interrupted));
+        }
+        Ok(count.min(1))
+    }
+}
+
+impl<T: Read> Read for Trickle<T> {
+    fn read(&mut self, buf: &mut [u8]) -> io::Result<usize> {
+        let count = self.turn(buf.len())?.min(buf.len());
+        self.inner.read(&mut buf[..count])
+    }
+}
+
+impl<T: Write> Write for Trickle<T> {
+    fn write(&mut self, buf: &[u8]) -> io::Result<usize> {
+        let count = self.turn(buf.len())?.min(buf.len());
+        self.inner.write(&buf[..count])
+    }
+
+    fn flush(&mut self) -> io::Result<()> {
+        Ok(())
+    }
+}
+
+/// How a conversation ended, what was told, how many reads and writes failed, and how often the session was closed.
+#[derive(Drop)]
+struct Course {
+    ended: Ended,
+    told: Vec<u8>,
+    failed: (u64, u64),
+    closed: u32,
+}
+
+/// A conversation over devices of std, which fail so behind so many reads and so many writes, or move nothing any more.
+fn trickled<R: Wait>(
+    rt: &R,
+    alloc: Global,
+    reads: u64,
+    writes: u64,
+    fault: Option<ErrorKind>,
+) -> Course {
+    let mut told = Vec::new(alloc);
+    let mut source = Wire::new(Trickle {
+        inner: SAID,
+        calls: 0,
+        most: reads,
+        fault,
+    });
+    let mut sink = Wire::new(Trickle {
+        inner: &mut told,
+        calls: 0,
+        most: writes,
+        fault,
+    });
+    let mut port = MadeUp::new();
+    let ended = converse(rt, alloc, &mut source, &mut sink, &mut port);
+    let failed = (source.failed(), sink.failed());
+    drop(sink);
+    Course {
+        ended,
+        told,
+        failed,
+        closed: port.closed,
+    }
+}
+
+/// How devices fail in turn: `None` where they move nothing any more.
+const FAULTS: [Option<ErrorKind>; 4] = [
+    Some(ErrorKind::WouldBlock),
+    Some(ErrorKind::ConnectionReset),
+    Some(ErrorKind::BrokenPipe),
+    None,
+];
+
+/// Whether a conversation whose reads fail told a beginning, ended as its device did, and closed the session. It has all said where the device held out.
+fn is_lawful_reading(course: &Course, fault: Option<ErrorKind>) -> bool {
+    let ended = match fault {
+        Some(_) => Ended::ReadFailed,
+        None => Ended::PeerClosed,
+    };
+    let is_whole = course.ended == Ended::Logout && course.told.as_slice() == TOLD;
+    let is_cut = course.ended == ended && course.told.len() < TOLD.len();
+    TOLD.starts_with(&course.told)
+        && (is_whole || is_cut)
+        && (course.ended == Ended::ReadFailed) == (course.failed.0 > 0)
+        && course.failed.1 == 0
+        && course.closed == 1
+}
+
+/// Whether one whose writes fail did.
+fn is_lawful_writing(course: &Course) -> bool {
+    let is_whole = course.ended == Ended::Logout && course.told.as_slice() == TOLD;
+    let is_cut = course.ended == Ended::WriteFailed && course.told.len() < TOLD.len();
+    TOLD.starts_with(&course.told)
+        && (is_whole || is_cut)
+        && course.failed.0 == 0
+        && (course.ended == Ended::WriteFailed) == (course.failed.1 > 0)
+        && course.closed == 1
+}
+
+/// Whether a conversation goes as it should whose reads fail behind so many.
+fn bears_reads<R: Wait>(rt: &R, alloc: Global, reads: u64, fault: Option<ErrorKind>) -> bool {
+    is_lawful_reading(&trickled(rt, alloc, reads, u64::MAX, fault), fault)
+}
+
+/// The first number of reads behind which a conversation goes otherwise than it should; the last ones are more than it makes.
+fn first_unlawful_read<R: Wait>(rt: &R, alloc: Global, fault: Option<ErrorKind>) -> Option<u64> {
+    (0..200u64).find(|reads| !bears_reads(rt, alloc, *reads, fault))
+}
+
+/// The first number of writes behind which it does.
+fn first_unlawful_write<R: Wait>(rt: &R, alloc: Global, fault: Option<ErrorKind>) -> Option<u64> {
+    (0..500u64).find(|writes| !is_lawful_writing(&trickled(rt, alloc, u64::MAX, *writes, fault)))
+}
+
+#[test]
+fn octets_come_and_go_one_at_a_time(rt: HostRuntime) {
+    let course = trickled(&rt, rt.alloc(), u64::MAX, u64::MAX, None);
+    assert!(rt; course.ended == Ended::Logout);
+    assert!(rt; course.told.as_slice() == TOLD);
+    assert_eq!(rt; course.failed, (0, 0));
+}
+
+#[test]
+fn a_device_of_std_fails(rt: HostRuntime) {
+    let fault = Some(ErrorKind::WouldBlock);
+    let course = trickled(&rt, rt.alloc(), 20, u64::MAX, fault);
+    assert!(rt; course.ended == Ended::ReadFailed);
+    assert!(rt; course.told.len() < TOLD.len() && TOLD.starts_with(&course.told));
+    assert_eq!(rt; course.failed, (1, 0));
+    let course = trickled(&rt, rt.alloc(), u64::MAX, 30, fault);
+    assert!(rt; course.ended == Ended::WriteFailed);
+    assert!(rt; course.told.as_slice() == &TOLD[..20]);
+    assert_eq!(rt; course.failed, (0, 1));
+}
+
+#[test]
+fn each_read_of_a_device_of_std_fails_in_turn(rt: HostRuntime) {
+    for fault in FAULTS {
+        assert_eq!(rt; first_unlawful_read(&rt, rt.alloc(), fault), None);
+    }
+}
+
+#[test]
+fn each_write_of_a_device_of_std_fails_in_turn(rt: HostRuntime) {
+    for fault in FAULTS {
+        assert_eq!(rt; first_unlawful_write(&rt, rt.alloc(), fault), None);
+    }
+}
