@@ -37,197 +37,65 @@ use Rattle.imap_grammar.proofs.Spans.{ends_stop, run_reads}
 use Rattle.imap_grammar.proofs.Texts.{text_reads}
 use Rattle.imap_grammar.proofs.WordLaws.{NoItem, ends_item, named_at_again, named_at_takes, word_first}
 
+-- A key's word is found among those of all keys, its letters are those of words, and it can't be taken for a set of numbers, nor for what may stand in front of keys.
+abbrev IsKeyWord : KeyWord → Type 0
+IsKeyWord w =
+    (named key_word key_words (key_word w) ≡ Some w)
+    × (list_all (is_in Item) (lowered (key_word w)) ≡ true)
+    × (is_nil (lowered (key_word w)) ≡ false)
+    × (begins_in Digit (lowered (key_word w)) ≡ false)
+    × (bytes_eq (lowered (key_word w)) (lowered (codes "RETURN")) ≡ false)
+    × (bytes_eq (lowered (key_word w)) (lowered (codes "CHARSET")) ≡ false)
+
+is_key_word : (w : KeyWord) → IsKeyWord w
+is_key_word key.All = (refl, refl, refl, refl, refl, refl)
+is_key_word (key.System system.Answered true) = (refl, refl, refl, refl, refl, refl)
+is_key_word (key.System system.Answered false) = (refl, refl, refl, refl, refl, refl)
+is_key_word (key.System system.Flagged true) = (refl, refl, refl, refl, refl, refl)
+is_key_word (key.System system.Flagged false) = (refl, refl, refl, refl, refl, refl)
+is_key_word (key.System system.Deleted true) = (refl, refl, refl, refl, refl, refl)
+is_key_word (key.System system.Deleted false) = (refl, refl, refl, refl, refl, refl)
+is_key_word (key.System system.Seen true) = (refl, refl, refl, refl, refl, refl)
+is_key_word (key.System system.Seen false) = (refl, refl, refl, refl, refl, refl)
+is_key_word (key.System system.Draft true) = (refl, refl, refl, refl, refl, refl)
+is_key_word (key.System system.Draft false) = (refl, refl, refl, refl, refl, refl)
+is_key_word (key.Keyword true) = (refl, refl, refl, refl, refl, refl)
+is_key_word (key.Keyword false) = (refl, refl, refl, refl, refl, refl)
+is_key_word (key.Place place.Bcc) = (refl, refl, refl, refl, refl, refl)
+is_key_word (key.Place place.Cc) = (refl, refl, refl, refl, refl, refl)
+is_key_word (key.Place place.From) = (refl, refl, refl, refl, refl, refl)
+is_key_word (key.Place place.Subject) = (refl, refl, refl, refl, refl, refl)
+is_key_word (key.Place place.To) = (refl, refl, refl, refl, refl, refl)
+is_key_word (key.Place place.Body) = (refl, refl, refl, refl, refl, refl)
+is_key_word (key.Place place.Text) = (refl, refl, refl, refl, refl, refl)
+is_key_word key.Header = (refl, refl, refl, refl, refl, refl)
+is_key_word (key.Dated order.Before) = (refl, refl, refl, refl, refl, refl)
+is_key_word (key.Dated order.On) = (refl, refl, refl, refl, refl, refl)
+is_key_word (key.Dated order.Since) = (refl, refl, refl, refl, refl, refl)
+is_key_word key.Larger = (refl, refl, refl, refl, refl, refl)
+is_key_word key.Smaller = (refl, refl, refl, refl, refl, refl)
+is_key_word key.ModSeq = (refl, refl, refl, refl, refl, refl)
+is_key_word key.Uid = (refl, refl, refl, refl, refl, refl)
+is_key_word key.Not = (refl, refl, refl, refl, refl, refl)
+is_key_word key.Or = (refl, refl, refl, refl, refl, refl)
+
 pub key_found : (w : KeyWord) → named key_word key_words (key_word w) ≡ Some w
-key_found key.All = refl
-key_found (key.System system.Answered true) = refl
-key_found (key.System system.Answered false) = refl
-key_found (key.System system.Flagged true) = refl
-key_found (key.System system.Flagged false) = refl
-key_found (key.System system.Deleted true) = refl
-key_found (key.System system.Deleted false) = refl
-key_found (key.System system.Seen true) = refl
-key_found (key.System system.Seen false) = refl
-key_found (key.System system.Draft true) = refl
-key_found (key.System system.Draft false) = refl
-key_found (key.Keyword true) = refl
-key_found (key.Keyword false) = refl
-key_found (key.Place place.Bcc) = refl
-key_found (key.Place place.Cc) = refl
-key_found (key.Place place.From) = refl
-key_found (key.Place place.Subject) = refl
-key_found (key.Place place.To) = refl
-key_found (key.Place place.Body) = refl
-key_found (key.Place place.Text) = refl
-key_found key.Header = refl
-key_found (key.Dated order.Before) = refl
-key_found (key.Dated order.On) = refl
-key_found (key.Dated order.Since) = refl
-key_found key.Larger = refl
-key_found key.Smaller = refl
-key_found key.ModSeq = refl
-key_found key.Uid = refl
-key_found key.Not = refl
-key_found key.Or = refl
+key_found w = (is_key_word w).0
 
 pub key_letters : (w : KeyWord) → list_all (is_in Item) (lowered (key_word w)) ≡ true
-key_letters key.All = refl
-key_letters (key.System system.Answered true) = refl
-key_letters (key.System system.Answered false) = refl
-key_letters (key.System system.Flagged true) = refl
-key_letters (key.System system.Flagged false) = refl
-key_letters (key.System system.Deleted true) = refl
-key_letters (key.System system.Deleted false) = refl
-key_letters (key.System system.Seen true) = refl
-key_letters (key.System system.Seen false) = refl
-key_letters (key.System system.Draft true) = refl
-key_letters (key.System system.Draft false) = refl
-key_letters (key.Keyword true) = refl
-key_letters (key.Keyword false) = refl
-key_letters (key.Place place.Bcc) = refl
-key_letters (key.Place place.Cc) = refl
-key_letters (key.Place place.From) = refl
-key_letters (key.Place place.Subject) = refl
-key_letters (key.Place place.To) = refl
-key_letters (key.Place place.Body) = refl
-key_letters (key.Place place.Text) = refl
-key_letters key.Header = refl
-key_letters (key.Dated order.Before) = refl
-key_letters (key.Dated order.On) = refl
-key_letters (key.Dated order.Since) = refl
-key_letters key.Larger = refl
-key_letters key.Smaller = refl
-key_letters key.ModSeq = refl
-key_letters key.Uid = refl
-key_letters key.Not = refl
-key_letters key.Or = refl
+key_letters w = (is_key_word w).1
 
 pub key_some : (w : KeyWord) → is_nil (lowered (key_word w)) ≡ false
-key_some key.All = refl
-key_some (key.System system.Answered true) = refl
-key_some (key.System system.Answered false) = refl
-key_some (key.System system.Flagged true) = refl
-key_some (key.System system.Flagged false) = refl
-key_some (key.System system.Deleted true) = refl
-key_some (key.System system.Deleted false) = refl
-key_some (key.System system.Seen true) = refl
-key_some (key.System system.Seen false) = refl
-key_some (key.System system.Draft true) = refl
-key_some (key.System system.Draft false) = refl
-key_some (key.Keyword true) = refl
-key_some (key.Keyword false) = refl
-key_some (key.Place place.Bcc) = refl
-key_some (key.Place place.Cc) = refl
-key_some (key.Place place.From) = refl
-key_some (key.Place place.Subject) = refl
-key_some (key.Place place.To) = refl
-key_some (key.Place place.Body) = refl
-key_some (key.Place place.Text) = refl
-key_some key.Header = refl
-key_some (key.Dated order.Before) = refl
-key_some (key.Dated order.On) = refl
-key_some (key.Dated order.Since) = refl
-key_some key.Larger = refl
-key_some key.Smaller = refl
-key_some key.ModSeq = refl
-key_some key.Uid = refl
-key_some key.Not = refl
-key_some key.Or = refl
+key_some w = (is_key_word w).2
 
 pub key_no_digit : (w : KeyWord) → begins_in Digit (lowered (key_word w)) ≡ false
-key_no_digit key.All = refl
-key_no_digit (key.System system.Answered true) = refl
-key_no_digit (key.System system.Answered false) = refl
-key_no_digit (key.System system.Flagged true) = refl
-key_no_digit (key.System system.Flagged false) = refl
-key_no_digit (key.System system.Deleted true) = refl
-key_no_digit (key.System system.Deleted false) = refl
-key_no_digit (key.System system.Seen true) = refl
-key_no_digit (key.System system.Seen false) = refl
-key_no_digit (key.System system.Draft true) = refl
-key_no_digit (key.System system.Draft false) = refl
-key_no_digit (key.Keyword true) = refl
-key_no_digit (key.Keyword false) = refl
-key_no_digit (key.Place place.Bcc) = refl
-key_no_digit (key.Place place.Cc) = refl
-key_no_digit (key.Place place.From) = refl
-key_no_digit (key.Place place.Subject) = refl
-key_no_digit (key.Place place.To) = refl
-key_no_digit (key.Place place.Body) = refl
-key_no_digit (key.Place place.Text) = refl
-key_no_digit key.Header = refl
-key_no_digit (key.Dated order.Before) = refl
-key_no_digit (key.Dated order.On) = refl
-key_no_digit (key.Dated order.Since) = refl
-key_no_digit key.Larger = refl
-key_no_digit key.Smaller = refl
-key_no_digit key.ModSeq = refl
-key_no_digit key.Uid = refl
-key_no_digit key.Not = refl
-key_no_digit key.Or = refl
+key_no_digit w = (is_key_word w).3
 
 pub key_no_return : (w : KeyWord) → bytes_eq (lowered (key_word w)) (lowered (codes "RETURN")) ≡ false
-key_no_return key.All = refl
-key_no_return (key.System system.Answered true) = refl
-key_no_return (key.System system.Answered false) = refl
-key_no_return (key.System system.Flagged true) = refl
-key_no_return (key.System system.Flagged false) = refl
-key_no_return (key.System system.Deleted true) = refl
-key_no_return (key.System system.Deleted false) = refl
-key_no_return (key.System system.Seen true) = refl
-key_no_return (key.System system.Seen false) = refl
-key_no_return (key.System system.Draft true) = refl
-key_no_return (key.System system.Draft false) = refl
-key_no_return (key.Keyword true) = refl
-key_no_return (key.Keyword false) = refl
-key_no_return (key.Place place.Bcc) = refl
-key_no_return (key.Place place.Cc) = refl
-key_no_return (key.Place place.From) = refl
-key_no_return (key.Place place.Subject) = refl
-key_no_return (key.Place place.To) = refl
-key_no_return (key.Place place.Body) = refl
-key_no_return (key.Place place.Text) = refl
-key_no_return key.Header = refl
-key_no_return (key.Dated order.Before) = refl
-key_no_return (key.Dated order.On) = refl
-key_no_return (key.Dated order.Since) = refl
-key_no_return key.Larger = refl
-key_no_return key.Smaller = refl
-key_no_return key.ModSeq = refl
-key_no_return key.Uid = refl
-key_no_return key.Not = refl
-key_no_return key.Or = refl
+key_no_return w = (is_key_word w).4
 
 pub key_no_charset : (w : KeyWord) → bytes_eq (lowered (key_word w)) (lowered (codes "CHARSET")) ≡ false
-key_no_charset key.All = refl
-key_no_charset (key.System system.Answered true) = refl
-key_no_charset (key.System system.Answered false) = refl
-key_no_charset (key.System system.Flagged true) = refl
-key_no_charset (key.System system.Flagged false) = refl
-key_no_charset (key.System system.Deleted true) = refl
-key_no_charset (key.System system.Deleted false) = refl
-key_no_charset (key.System system.Seen true) = refl
-key_no_charset (key.System system.Seen false) = refl
-key_no_charset (key.System system.Draft true) = refl
-key_no_charset (key.System system.Draft false) = refl
-key_no_charset (key.Keyword true) = refl
-key_no_charset (key.Keyword false) = refl
-key_no_charset (key.Place place.Bcc) = refl
-key_no_charset (key.Place place.Cc) = refl
-key_no_charset (key.Place place.From) = refl
-key_no_charset (key.Place place.Subject) = refl
-key_no_charset (key.Place place.To) = refl
-key_no_charset (key.Place place.Body) = refl
-key_no_charset (key.Place place.Text) = refl
-key_no_charset key.Header = refl
-key_no_charset (key.Dated order.Before) = refl
-key_no_charset (key.Dated order.On) = refl
-key_no_charset (key.Dated order.Since) = refl
-key_no_charset key.Larger = refl
-key_no_charset key.Smaller = refl
-key_no_charset key.ModSeq = refl
-key_no_charset key.Uid = refl
-key_no_charset key.Not = refl
-key_no_charset key.Or = refl
+key_no_charset w = (is_key_word w).5
 
 sizes_reads : Reads (spaced (number_at 9223372036854775807)) (λ value. sp ⌢ number_to 9223372036854775807 value) Ends
 sizes_reads = spaced_reads (stopping (number_reads 9223372036854775807) Ends (ends_stop Digit))

@@ -40,39 +40,39 @@ module _ {W : Type 0} (word_of : W → List ℕ) where
   pub named_again : (ws : List W) (text : List ℕ) (w : W) → named word_of ws (word_of w) ≡ Some w → word (word_of w) text → named word_of ws text ≡ Some w
   named_again ws text w h e = named_same ws text (word_of w) e ∙ h
 
--- each word of a command is found
-command_found : (w : CommandWord) → named command_word command_words (command_word w) ≡ Some w
-command_found Capability = refl
-command_found Noop = refl
-command_found Logout = refl
-command_found Login = refl
-command_found Enable = refl
-command_found Select = refl
-command_found Examine = refl
-command_found Create = refl
-command_found Delete = refl
-command_found Subscribe = refl
-command_found Unsubscribe = refl
-command_found ListNames = refl
-command_found Namespace = refl
-command_found Status = refl
-command_found Append = refl
-command_found Idle = refl
-command_found Close = refl
-command_found Unselect = refl
-command_found Expunge = refl
-command_found Search = refl
-command_found Fetch = refl
-command_found Store = refl
-command_found Copy = refl
-command_found Move = refl
-command_found Uid = refl
-command_found Rename = refl
-command_found StartTls = refl
-command_found Authenticate = refl
+-- each word of a command is found, and its octets are atom octets
+is_command_word : (w : CommandWord) → (named command_word command_words (command_word w) ≡ Some w) × (list_all is_atom_octet (lowered (command_word w)) ≡ true)
+is_command_word Capability = (refl, refl)
+is_command_word Noop = (refl, refl)
+is_command_word Logout = (refl, refl)
+is_command_word Login = (refl, refl)
+is_command_word Enable = (refl, refl)
+is_command_word Select = (refl, refl)
+is_command_word Examine = (refl, refl)
+is_command_word Create = (refl, refl)
+is_command_word Delete = (refl, refl)
+is_command_word Subscribe = (refl, refl)
+is_command_word Unsubscribe = (refl, refl)
+is_command_word ListNames = (refl, refl)
+is_command_word Namespace = (refl, refl)
+is_command_word Status = (refl, refl)
+is_command_word Append = (refl, refl)
+is_command_word Idle = (refl, refl)
+is_command_word Close = (refl, refl)
+is_command_word Unselect = (refl, refl)
+is_command_word Expunge = (refl, refl)
+is_command_word Search = (refl, refl)
+is_command_word Fetch = (refl, refl)
+is_command_word Store = (refl, refl)
+is_command_word Copy = (refl, refl)
+is_command_word Move = (refl, refl)
+is_command_word Uid = (refl, refl)
+is_command_word Rename = (refl, refl)
+is_command_word StartTls = (refl, refl)
+is_command_word Authenticate = (refl, refl)
 
 pub command_again : (text : List ℕ) (w : CommandWord) → word (command_word w) text → named command_word command_words text ≡ Some w
-command_again text w e = named_again command_word command_words text w (command_found w) e
+command_again text w e = named_again command_word command_words text w (is_command_word w).0 e
 
 -- case is nothing to atoms
 atom_lower : (b : ℕ) → is_atom_octet (to_ascii_lowercase b) ≡ true → is_atom_octet b ≡ true
@@ -87,34 +87,7 @@ pub word_atoms : (letters text : List ℕ) → list_all is_atom_octet (lowered l
 word_atoms letters text h e = atoms_lower text (ap (list_all is_atom_octet) e ∙ h)
 
 pub command_atoms : (w : CommandWord) → list_all is_atom_octet (lowered (command_word w)) ≡ true
-command_atoms Capability = refl
-command_atoms Noop = refl
-command_atoms Logout = refl
-command_atoms Login = refl
-command_atoms Enable = refl
-command_atoms Select = refl
-command_atoms Examine = refl
-command_atoms Create = refl
-command_atoms Delete = refl
-command_atoms Subscribe = refl
-command_atoms Unsubscribe = refl
-command_atoms ListNames = refl
-command_atoms Namespace = refl
-command_atoms Status = refl
-command_atoms Append = refl
-command_atoms Idle = refl
-command_atoms Close = refl
-command_atoms Unselect = refl
-command_atoms Expunge = refl
-command_atoms Search = refl
-command_atoms Fetch = refl
-command_atoms Store = refl
-command_atoms Copy = refl
-command_atoms Move = refl
-command_atoms Uid = refl
-command_atoms Rename = refl
-command_atoms StartTls = refl
-command_atoms Authenticate = refl
+command_atoms w = (is_command_word w).1
 
 -- words as the arguments have them, which `[` ends too
 item_octet : (b : ℕ) → is_in Item (to_ascii_lowercase b) ≡ true → is_in Item b ≡ true
