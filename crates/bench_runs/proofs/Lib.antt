@@ -1,0 +1,4 @@
+pub mod AnswerLemmas
+pub mod LiteralLemmas
+pub mod ReplyLemmas
+pub mod WordLemmas

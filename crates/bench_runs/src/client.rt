@@ -1,0 +1,286 @@
+//! A connection to a server, as its client uses it: a command is sent and its end waited for.
+
+ghost use Rattle.std.specs.Prelude.{◌≤◌, IfOk, length, vec_len};
+
+use crate::answers::{Answer, answer_of};
+use crate::commands::{Ask, Command, MailboxAsk, push_line};
+use crate::fault::{BenchFault, judged, read_fault};
+use crate::replies::Reading;
+use std::alloc::Global;
+use std::io::{ErrorKind, Read, Write};
+use std::net::{Net, TcpListener, TcpStream};
+use std::time::Duration;
+
+/// A read that waits for more than so many seconds fails.
+const PATIENCE: u64 = 30;
+
+/// So many octets are read at once, at most.
+const PIECE: usize = 65_536;
+
+/// So many reads are made for one answer, at most.
+const MAX_READS: u32 = 100_000_000;
+
+/// So many answers are read for one command, at most.
+const MAX_ANSWERS: u32 = 100_000_000;
+
+/// So often a read is tried that was interrupted.
+const MAX_TRIES: u32 = 1_000;
+
+/// A client's side of a connection.
+#[derive(Drop)]
+pub struct Client {
+    stream: TcpStream,
+    reading: Reading,
+    piece: Vec<u8>,
+    at: usize,
+    end: usize,
+    line: Vec<u8>,
+    sent: u64,
+    leaves: bool,
+    messages: u32,
+    ghost before_end: { at ≤ end },
+    ghost within: { end ≤ vec_len piece },
+}
+
+impl Client {
+    /// Connects, and waits for the greeting.
+    pub fn connect<R: Net<Listener = TcpListener, Stream = TcpStream>>(
+        rt: &R,
+        alloc: Global,
+        address: &str,
+    ) -> Result<Client, BenchFault> {
+        let Ok(stream) = TcpStream::connect(rt, address) else {
+            return Err(BenchFault::Connect);
+        };
+        let mut client = Client::over(alloc, stream)?;
+        client.greet()?;
+        Ok(client)
+    }
+
+    fn over(alloc: Global, stream: TcpStream) -> Result<Client, BenchFault> {
+        let patience = Some(Duration::from_secs(PATIENCE));
+        if stream.set_nodelay(true).is_err() || stream.set_read_timeout(patience).is_err() {
+            return Err(BenchFault::Connect);
+        }
+        let piece = vec![in alloc; 0u8; PIECE]?;
+        Ok(Client {
+            stream,
+            reading: Reading::new(alloc),
+            piece,
+            at: 0,
+            end: 0,
+            line: Vec::new(alloc),
+            sent: 0,
+            leaves: false,
+            messages: 0,
+        })
+    }
+
+    fn greet(&mut self) -> Result<(), BenchFault> {
+        match self.hear(0)? {
+            Answer::Other => Ok(()),
+            Answer::Bye => Err(BenchFault::Bye),
+            _ => Err(BenchFault::Unreadable),
+        }
+    }
+
+    /// The number of messages that the server told of last.
+    pub fn messages(&self) -> u32 {
+        self.messages
+    }
+
+    /// Logs in.
+    pub fn login(&mut self, user: &str, pass: &str) -> Result<(), BenchFault> {
+        self.run(Command::Login { user, pass })
+    }
+
+    /// Selects a mailbox.
+    pub fn select(&mut self, name: &str) -> Result<(), BenchFault> {
+        self.messages = 0;
+        self.run(Command::Mailbox {
+            ask: MailboxAsk::Select,
+            name,
+        })
+    }
+
+    /// Logs out.
+    pub fn logout(&mut self) -> Result<(), BenchFault> {
+        self.leaves = true;
+        self.run(Command::Plain(Ask::Logout))
+    }
+
+    /// Sends a command, and waits until it is answered OK.
+    pub fn run(&mut self, command: Command<'_>) -> Result<(), BenchFault> {
+        self.begin();
+        let number = self.push(command)?;
+        self.send()?;
+        self.await_end(number)
+    }
+
+    /// Sends so many NOOPs in one write, and waits until all are answered OK.
+    pub fn run_noops(&mut self, count: u64) -> Result<(), BenchFault> {
+        self.begin();
+        let first = self.sent;
+        for _ in 0..count {
+            self.push(Command::Plain(Ask::Noop))?;
+        }
+        self.send()?;
+        for number in first..first.saturating_add(count) {
+            self.await_end(number)?;
+        }
+        Ok(())
+    }
+
+    /// Appends a message to a mailbox, as a literal for which the server says when it may come.
+    pub fn append(&mut self, name: &str, message: &[u8]) -> Result<(), BenchFault> {
+        let number = self.begin_append(name, message.len())?;
+        self.end_append(message)?;
+        self.await_end(number)
+    }
+
+    /// Announces a message, waits until it may come, and gives the number of its command.
+    pub fn begin_append(&mut self, name: &str, octets: usize) -> Result<u64, BenchFault> {
+        self.begin();
+        let number = self.push(Command::Append { name, octets })?;
+        self.send()?;
+        self.await_continue(number)?;
+        Ok(number)
+    }
+
+    /// Sends the message that was announced.
+    pub fn end_append(&mut self, message: &[u8]) -> Result<(), BenchFault> {
+        self.begin();
+        self.line.extend_from_slice(message)?;
+        self.line.extend_from_slice(b"\r\n")?;
+        self.send()
+    }
+
+    /// Begins to idle, and gives the number of its command.
+    pub fn idle(&mut self) -> Result<u64, BenchFault> {
+        self.begin();
+        let number = self.push(Command::Plain(Ask::Idle))?;
+        self.send()?;
+        self.await_continue(number)?;
+        Ok(number)
+    }
+
+    /// Waits until the server tells that the mailbox has so many messages, or more.
+    pub fn await_messages(&mut self, least: u32) -> Result<(), BenchFault> {
+        for _ in 0..MAX_ANSWERS {
+            match self.hear(0)? {
+                Answer::Exists(_) if self.messages >= least => return Ok(()),
+                Answer::Exists(_) | Answer::Other => {}
+                Answer::Bye => return Err(BenchFault::Bye),
+                _ => return Err(BenchFault::Unreadable),
+            }
+        }
+        Err(BenchFault::Endless)
+    }
+
+    /// Ends to idle.
+    pub fn done(&mut self, number: u64) -> Result<(), BenchFault> {
+        self.begin();
+        self.line.extend_from_slice(b"DONE\r\n")?;
+        self.send()?;
+        self.await_end(number)
+    }
+
+    /// Begins what is to be sent.
+    fn begin(&mut self) {
+        self.line.clear();
+    }
+
+    /// Puts a command behind what is to be sent, and gives its number.
+    fn push(&mut self, command: Command<'_>) -> Result<u64, BenchFault> {
+        let number = self.sent;
+        self.sent = self.sent.wrapping_add(1);
+        push_line(command, number, &mut self.line)?;
+        Ok(number)
+    }
+
+    fn send(&mut self) -> Result<(), BenchFault> {
+        let mut writer = &self.stream;
+        match writer.write_all(&self.line) {
+            Ok(()) => Ok(()),
+            Err(_) => Err(BenchFault::Write),
+        }
+    }
+
+    /// Waits until the command with this number is answered OK.
+    pub fn await_end(&mut self, number: u64) -> Result<(), BenchFault> {
+        for _ in 0..MAX_ANSWERS {
+            match self.hear(number)? {
+                Answer::Ended(status) => return judged(status),
+                Answer::Exists(_) | Answer::Other => {}
+                Answer::Bye if self.leaves => {}
+                Answer::Bye => return Err(BenchFault::Bye),
+                Answer::Continue | Answer::Unreadable => return Err(BenchFault::Unreadable),
+            }
+        }
+        Err(BenchFault::Endless)
+    }
+
+    /// Waits until the server asks for more of the command with this number.
+    fn await_continue(&mut self, number: u64) -> Result<(), BenchFault> {
+        for _ in 0..MAX_ANSWERS {
+            match self.hear(number)? {
+                Answer::Continue => return Ok(()),
+                Answer::Exists(_) | Answer::Other => {}
+                Answer::Ended(status) => {
+                    judged(status)?;
+                    return Err(BenchFault::Unreadable);
+                }
+                Answer::Bye => return Err(BenchFault::Bye),
+                Answer::Unreadable => return Err(BenchFault::Unreadable),
+            }
+        }
+        Err(BenchFault::Endless)
+    }
+
+    /// Reads the next answer, and says what it says to whom waits for the end of the command with this number.
+    fn hear(&mut self, number: u64) -> Result<Answer, BenchFault> {
+        self.reading.begin();
+        self.read_answer()?;
+        let answer = answer_of(&self.reading.line, number);
+        if let Answer::Exists(messages) = answer {
+            self.messages = messages;
+        }
+        Ok(answer)
+    }
+
+    fn read_answer(&mut self) -> Result<(), BenchFault> {
+        for _ in 0..MAX_READS {
+            let count = self.reading.read(&self.piece[self.at..self.end])?;
+            self.at += count;
+            if self.reading.is_ended() {
+                return Ok(());
+            }
+            self.refill()?;
+        }
+        Err(BenchFault::Endless)
+    }
+
+    fn refill(&mut self) -> Result<(), BenchFault> {
+        self.at = 0;
+        self.end = 0;
+        let count = fill(&self.stream, &mut self.piece)?;
+        self.end = count;
+        Ok(())
+    }
+}
+
+/// Reads what has come, one octet at least, and gives how many octets did.
+fn fill(stream: &TcpStream, piece: &mut [u8]) -> Result<usize, BenchFault>
+    ensures { IfOk result (λ count. count ≤ length piece.new) }
+{
+    let mut reader = stream;
+    for _ in 0..MAX_TRIES {
+        match reader.read(piece) {
+            Ok(0) => return Err(BenchFault::Closed),
+            Ok(count) => return Ok(count),
+            Err(error) if error.kind() == ErrorKind::Interrupted => {}
+            Err(error) => return Err(read_fault(&error)),
+        }
+    }
+    Err(BenchFault::Read)
+}

@@ -1,0 +1,103 @@
+//! What stands in front of each measurement: connections that are logged in, and a mailbox with messages enough.
+
+ghost use Rattle.std.specs.Prelude.{◌<◌, ◌≤◌, IfOk};
+
+use crate::client::Client;
+use crate::commands::{Command, MailboxAsk, message};
+use crate::fault::BenchFault;
+use crate::settings::Settings;
+use std::alloc::Global;
+use std::net::{Net, TcpListener, TcpStream};
+use std::rt::Clock;
+use std::thread;
+use std::time::Duration;
+
+/// A small message has so many octets.
+pub const SMALL: usize = 1_024;
+
+/// A large one has so many.
+pub const LARGE: usize = 65_536;
+
+/// So often a second server is asked whether it has what the first one has, ten times a second.
+const MAX_LOOKS: u32 = 600;
+
+/// So many milliseconds lie between two looks.
+const PAUSE: u64 = 100;
+
+/// A connection to this address that is logged in.
+pub fn logged_in<R: Net<Listener = TcpListener, Stream = TcpStream>>(
+    rt: &R,
+    alloc: Global,
+    settings: &Settings<'_>,
+    address: &str,
+) -> Result<Client, BenchFault> {
+    let mut client = Client::connect(rt, alloc, address)?;
+    client.login(settings.user, settings.pass)?;
+    Ok(client)
+}
+
+/// One that has the mailbox selected.
+pub fn selected<R: Net<Listener = TcpListener, Stream = TcpStream>>(
+    rt: &R,
+    alloc: Global,
+    settings: &Settings<'_>,
+) -> Result<Client, BenchFault> {
+    let mut client = logged_in(rt, alloc, settings, settings.address)?;
+    client.select(settings.mailbox)?;
+    Ok(client)
+}
+
+/// Makes sure of the mailbox and of its messages, and gives how many it has: those that were asked for, or more.
+pub fn prepare<R: Net<Listener = TcpListener, Stream = TcpStream>>(
+    rt: &R,
+    alloc: Global,
+    settings: &Settings<'_>,
+) -> Result<u32, BenchFault>
+    ensures { IfOk result (λ messages. settings.now.messages ≤ messages) }
+{
+    let mut client = logged_in(rt, alloc, settings, settings.address)?;
+    open(&mut client, settings.mailbox)?;
+    let message = message(alloc, SMALL)?;
+    for _ in client.messages()..settings.messages {
+        client.append(settings.mailbox, &message)?;
+    }
+    client.select(settings.mailbox)?;
+    let messages = client.messages();
+    client.logout()?;
+    if messages < settings.messages {
+        return Err(BenchFault::Missing);
+    }
+    Ok(messages)
+}
+
+/// Selects a mailbox, which is made where it isn't there.
+fn open(client: &mut Client, name: &str) -> Result<(), BenchFault> {
+    match client.select(name) {
+        Err(BenchFault::No) => {}
+        selected => return selected,
+    }
+    client.run(Command::Mailbox {
+        ask: MailboxAsk::Create,
+        name,
+    })?;
+    client.select(name)
+}
+
+/// A connection to this address that has the mailbox selected, once it has so many messages there.
+pub fn selected_with<R: Clock + Net<Listener = TcpListener, Stream = TcpStream>>(
+    rt: &R,
+    alloc: Global,
+    settings: &Settings<'_>,
+    address: &str,
+    messages: u32,
+) -> Result<Client, BenchFault> {
+    let mut client = logged_in(rt, alloc, settings, address)?;
+    for _ in 0..MAX_LOOKS {
+        match client.select(settings.mailbox) {
+            Ok(()) if client.messages() >= messages => return Ok(client),
+            Ok(()) | Err(BenchFault::No) => thread::sleep(rt, Duration::from_millis(PAUSE)),
+            Err(fault) => return Err(fault),
+        }
+    }
+    Err(BenchFault::Missing)
+}

@@ -1,0 +1,147 @@
+//! The program's way from its command line to its status.
+
+use crate::fault::BenchFault;
+use crate::idling::{BYSTANDERS, LISTENERS, beside_idle, fan_out};
+use crate::measuring::{measure, measure_visits, workers};
+use crate::preparing::prepare;
+use crate::report::Report;
+use crate::settings::Settings;
+use crate::telling::{settings_or_status, tell_no_memory};
+use crate::times::Summary;
+use crate::working::Plan;
+use crate::workload::Workload;
+use std::alloc::Global;
+use std::io::Eprint;
+use std::net::{Net, TcpListener, TcpStream};
+use std::rt::{Clock, Env};
+use std::sync::Wait;
+use std::thread::Threads;
+use std::time::Duration;
+use std::{env, io};
+
+/// Reads the command line, measures what it asks for, prints a line for each measurement, and gives the program's status: 0 where all was measured or help was asked
+/// for, 1 where the run ended before its time, which is told on standard error, 2 where the words ask for nothing.
+pub fn run<
+    R: Env
+        + Print
+        + Eprint
+        + AllocGlobal
+        + Threads
+        + Wait
+        + Clock
+        + Sync
+        + Net<Listener = TcpListener, Stream = TcpStream>,
+>(rt: &R) -> u8 {
+    match words(rt) {
+        Ok(words) => obey(rt, &words),
+        Err(_) => tell_no_memory(rt),
+    }
+}
+
+fn words<R: Env + AllocGlobal>(rt: &R) -> io::Result<Vec<String>> {
+    let words = env::args(rt)?.collect(rt.alloc())?;
+    Ok(words)
+}
+
+fn obey<
+    R: Print
+        + Eprint
+        + AllocGlobal
+        + Threads
+        + Wait
+        + Clock
+        + Sync
+        + Net<Listener = TcpListener, Stream = TcpStream>,
+>(rt: &R, words: &[String]) -> u8 {
+    let settings = match settings_or_status(rt, words) {
+        Ok(settings) => settings,
+        Err(status) => return status,
+    };
+    match bench(rt, rt.alloc(), &settings) {
+        Ok(()) => 0,
+        Err(fault) => {
+            let _ = eprintln!(rt; "mail_bench: {fault}");
+            1
+        }
+    }
+}
+
+/// Makes sure of the mailbox, and measures.
+fn bench<
+    R: Print + Threads + Wait + Clock + Sync + Net<Listener = TcpListener, Stream = TcpStream>,
+>(rt: &R, alloc: Global, settings: &Settings<'_>) -> Result<(), BenchFault> {
+    let messages = prepare(rt, alloc, settings)?;
+    if messages == 0 {
+        return Err(BenchFault::Missing);
+    }
+    let plan = Plan::new(alloc, settings.workload, settings.mailbox, messages)?;
+    match settings.workload {
+        Workload::Login => {
+            let report = measure_visits(rt, alloc, settings, messages)?;
+            tell(rt, settings.workload, 0, &report)
+        }
+        Workload::IdleFanOut => {
+            let report = fan_out(rt, alloc, settings, &plan)?;
+            tell(rt, settings.workload, LISTENERS, &report)
+        }
+        Workload::NoopBesideIdle => {
+            let (alone, beside) = beside_idle(rt, alloc, settings, &plan)?;
+            tell(rt, settings.workload, 0, &alone)?;
+            tell(rt, settings.workload, BYSTANDERS, &beside)
+        }
+        workload => {
+            let limit = Duration::from_secs(u64::from(settings.seconds));
+            let all = workers(rt, alloc, settings, settings.connections, messages)?;
+            let report = measure(rt, alloc, limit, &plan, all)?;
+            tell(rt, workload, 0, &report)
+        }
+    }
+}
+
+/// Prints the line of a measurement beside which so many connections idled.
+fn tell<R: Print>(
+    rt: &R,
+    workload: Workload,
+    idling: u32,
+    report: &Report,
+) -> Result<(), BenchFault> {
+    let Some(times) = report.summary else {
+        return Err(BenchFault::Missing);
+    };
+    match tell_times(rt, workload, idling, report, times) {
+        Ok(()) => Ok(()),
+        Err(_) => Err(BenchFault::Print),
+    }
+}
+
+fn tell_times<R: Print>(
+    rt: &R,
+    workload: Workload,
+    idling: u32,
+    report: &Report,
+    times: Summary,
+) -> io::Result<()> {
+    let Report {
+        connections,
+        messages,
+        commands,
+        micros,
+        ..
+    } = *report;
+    let seconds = micros / 1_000_000;
+    let thousandths = micros % 1_000_000 / 1_000;
+    let rate = report.rate();
+    print!(rt;
+        "{workload} connections={connections} idling={idling} messages={messages} commands={commands} seconds={seconds}.{thousandths:03} per_second={rate}"
+    )?;
+    let Summary {
+        least,
+        median,
+        ninetieth,
+        ninety_ninth,
+        greatest,
+    } = times;
+    println!(rt;
+        " least={least} median={median} p90={ninetieth} p99={ninety_ninth} greatest={greatest}"
+    )
+}

@@ -1,0 +1,196 @@
+//! What a connection does again and again, and how long each time takes.
+
+ghost use Rattle.std.specs.Prelude.{◌+◌, ◌%◌, ◌≡◌, ◌≤◌, ◌<◌};
+
+use crate::client::Client;
+use crate::commands::{Ask, Command, MessageAsk, message};
+use crate::fault::BenchFault;
+use crate::preparing::{LARGE, SMALL, logged_in};
+use crate::report::Tally;
+use crate::settings::Settings;
+use crate::workload::Workload;
+use std::alloc::Global;
+use std::net::{Net, TcpListener, TcpStream};
+use std::rt::Clock;
+use std::time::{Duration, Instant};
+
+/// So many NOOPs are sent in one write.
+const PIPELINED: u64 = 64;
+
+/// What the connections of a run have in common.
+#[derive(Drop)]
+pub struct Plan<'a> {
+    /// What they do.
+    pub workload: Workload,
+    /// In which mailbox.
+    pub mailbox: &'a str,
+    /// The messages that it has, one at least.
+    pub messages: u32,
+    /// The message that is appended.
+    pub message: Vec<u8>,
+    ghost some: { 0 < messages },
+}
+
+impl<'a> Plan<'a> {
+    /// What the connections do by this workload, in a mailbox with so many messages.
+    pub fn new(
+        alloc: Global,
+        workload: Workload,
+        mailbox: &'a str,
+        messages: u32,
+    ) -> Result<Plan<'a>, BenchFault>
+        requires { 0 < messages }
+    {
+        let octets = match workload {
+            Workload::AppendLarge => LARGE,
+            _ => SMALL,
+        };
+        let message = message(alloc, octets)?;
+        Ok(Plan {
+            workload,
+            mailbox,
+            messages,
+            message,
+        })
+    }
+}
+
+/// What is done again and again.
+pub trait Work {
+    /// Does it once more, for the time with this number, and gives how many commands were answered.
+    fn turn(&mut self, number: u64) -> Result<u64, BenchFault>;
+}
+
+/// The moment now.
+pub fn now<R: Clock>(rt: &R) -> Result<Instant, BenchFault> {
+    match Instant::now(rt) {
+        Ok(now) => Ok(now),
+        Err(_) => Err(BenchFault::Clock),
+    }
+}
+
+/// Works for so long, and once at least, and gives what was done.
+pub fn drive<R: Clock, W: Work>(
+    rt: &R,
+    alloc: Global,
+    limit: Duration,
+    work: &mut W,
+) -> Result<Tally, BenchFault> {
+    let mut tally = Tally::new(alloc);
+    let begun = now(rt)?;
+    let mut before = begun;
+    for number in 0..u64::MAX {
+        let commands = work.turn(number)?;
+        let after = now(rt)?;
+        tally.note(commands, after.duration_since(before))?;
+        if after.duration_since(begun) >= limit {
+            break;
+        }
+        before = after;
+    }
+    Ok(tally)
+}
+
+/// The work of a connection that is kept, with the mailbox selected.
+#[derive(Drop)]
+pub struct Mailing<'a> {
+    /// The connection.
+    pub client: &'a mut Client,
+    /// What is done.
+    pub plan: &'a Plan<'a>,
+    /// The place among all messages at which it begins.
+    pub first: u32,
+}
+
+impl Work for Mailing<'_> {
+    fn turn(&mut self, number: u64) -> Result<u64, BenchFault> {
+        match self.plan.workload {
+            Workload::NoopPipelined => {
+                self.client.run_noops(PIPELINED)?;
+                Ok(PIPELINED)
+            }
+            Workload::Mixed => {
+                self.mixed(number)?;
+                Ok(1)
+            }
+            workload => {
+                self.one(workload, number)?;
+                Ok(1)
+            }
+        }
+    }
+}
+
+impl Mailing<'_> {
+    /// One command of a workload.
+    fn one(&mut self, workload: Workload, number: u64) -> Result<(), BenchFault> {
+        match workload {
+            Workload::AppendSmall | Workload::AppendLarge | Workload::IdleFanOut => {
+                self.client.append(self.plan.mailbox, &self.plan.message)
+            }
+            Workload::FetchFlags => self.client.run(Command::Plain(Ask::FetchAllFlags)),
+            Workload::FetchBody => self.ask(MessageAsk::FetchBody, number),
+            Workload::Store => self.ask(stored(number), number / 2),
+            Workload::SearchUnseen => self.client.run(Command::Plain(Ask::SearchUnseen)),
+            Workload::SearchSubject => self.client.run(Command::Plain(Ask::SearchSubject)),
+            _ => self.client.run(Command::Plain(Ask::Noop)),
+        }
+    }
+
+    /// The next command of the fixed cycle.
+    fn mixed(&mut self, number: u64) -> Result<(), BenchFault> {
+        let round = number / 6;
+        match number % 6 {
+            0 => self.ask(MessageAsk::FetchFlags, round),
+            1 => self.ask(MessageAsk::FetchBody, round),
+            2 => self.ask(stored(round), round / 2),
+            3 => self.one(Workload::Noop, number),
+            4 => self.one(Workload::SearchUnseen, number),
+            _ => self.one(Workload::AppendSmall, number),
+        }
+    }
+
+    /// Asks something of a message, for the time with this number.
+    fn ask(&mut self, ask: MessageAsk, number: u64) -> Result<(), BenchFault> {
+        let number = message_at(self.first, number, self.plan.messages);
+        self.client.run(Command::Message { ask, number })
+    }
+}
+
+/// The flag is set and cleared in turn.
+fn stored(number: u64) -> MessageAsk {
+    if number % 2 == 0 {
+        MessageAsk::Flag
+    } else {
+        MessageAsk::Unflag
+    }
+}
+
+/// The number of the message for this time, of so many: all come round, from a place on.
+fn message_at(first: u32, number: u64, messages: u32) -> u32
+    requires { 0 < messages }
+    ensures { (0 < result) × (result ≤ messages) }
+{
+    let messages = u64::from(messages);
+    let place = (number % messages + u64::from(first)) % messages;
+    (place + 1) as u32
+}
+
+/// The work of whoever comes and goes.
+#[derive(Drop)]
+pub struct Visiting<'a, R: Net<Listener = TcpListener, Stream = TcpStream>> {
+    /// The network.
+    pub rt: &'a R,
+    /// The memory.
+    pub alloc: Global,
+    /// Who comes, and where.
+    pub settings: &'a Settings<'a>,
+}
+
+impl<R: Net<Listener = TcpListener, Stream = TcpStream>> Work for Visiting<'_, R> {
+    fn turn(&mut self, _number: u64) -> Result<u64, BenchFault> {
+        let mut client = logged_in(self.rt, self.alloc, self.settings, self.settings.address)?;
+        client.logout()?;
+        Ok(1)
+    }
+}
