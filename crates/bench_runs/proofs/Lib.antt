@@ -2,3 +2,4 @@ pub mod AnswerLemmas
 pub mod LiteralLemmas
 pub mod ReplyLemmas
 pub mod WordLemmas
+pub mod WorkloadLemmas

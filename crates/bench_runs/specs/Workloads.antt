@@ -1,4 +1,4 @@
-use Rattle.std.specs.Prelude.{ℕ, List, codes}
+use Rattle.std.specs.Prelude.{◌≢◌, ℕ, List, codes}
 use Rattle.bench_runs.specs.declared.workload.Workload.{Workload}
 use Rattle.bench_runs.specs.declared.workload.Workload.TheVariants as workloads
 
@@ -17,3 +17,7 @@ word_of workloads.Mixed = codes "mixed"
 word_of workloads.Login = codes "login"
 word_of workloads.IdleFanOut = codes "idle-fan-out"
 word_of workloads.NoopBesideIdle = codes "noop-beside-idle"
+
+-- No workload has this word.
+abbrev pub NamesNone : List ℕ → Type 0
+NamesNone word = (workload : Workload) → word_of workload ≢ word

@@ -41,8 +41,7 @@ pub fn fan_out<R: Threads + Wait + Clock + Sync + Net<Listener = TcpListener, St
     let mut sender = logged_in(rt, alloc, settings, settings.address)?;
     let board = Board::new(alloc, listeners.len());
     let limit = Duration::from_secs(u64::from(settings.seconds));
-    let begun = now(rt)?;
-    let (tally, heard) = thread::join(
+    let (sent, heard) = thread::join(
         rt,
         || send_all(rt, alloc, limit, plan, &board, &mut sender),
         || thread::map_vec(
@@ -51,14 +50,14 @@ pub fn fan_out<R: Threads + Wait + Clock + Sync + Net<Listener = TcpListener, St
             &|client: Client| listen(rt, &board, plan.messages, client),
         ),
     );
-    let took = now(rt)?.duration_since(begun);
     for end in heard? {
         end?;
     }
-    Report::of(1, plan.messages, took, tally?)
+    let (tally, took) = sent?;
+    Report::of(1, plan.messages, took, tally)
 }
 
-/// Sends messages for so long, and one at least.
+/// Sends messages for so long, and one at least, once all idle; what was sent, and how long it took.
 fn send_all<R: Wait + Clock>(
     rt: &R,
     alloc: Global,
@@ -66,7 +65,7 @@ fn send_all<R: Wait + Clock>(
     plan: &Plan<'_>,
     board: &Board,
     sender: &mut Client,
-) -> Result<Tally, BenchFault> {
+) -> Result<(Tally, Duration), BenchFault> {
     let mut tally = Tally::new(alloc);
     board.await_all(rt)?;
     let begun = now(rt)?;
@@ -78,7 +77,8 @@ fn send_all<R: Wait + Clock>(
             break;
         }
     }
-    Ok(tally)
+    let took = now(rt)?.duration_since(begun);
+    Ok((tally, took))
 }
 
 /// Sends a message, and notes how long each took to hear of it.

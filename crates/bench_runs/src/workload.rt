@@ -1,7 +1,7 @@
 //! What is measured.
 
-ghost use Rattle.std.specs.Prelude.{◌≡◌, IfSome};
-ghost use Rattle.bench_runs.specs.Workloads.{word_of};
+ghost use Rattle.std.specs.Prelude.{◌≡◌, IfNone, IfSome};
+ghost use Rattle.bench_runs.specs.Workloads.{NamesNone, word_of};
 
 use std::fmt;
 
@@ -75,11 +75,13 @@ impl Workload {
         }
     }
 
-    /// The workload with this word.
+    /// The workload with this word; `None` just where there is none.
     pub fn named(word: &str) -> Option<Workload>
-        ensures { IfSome result (λ workload. word.now ≡ word_of workload) }
+        ensures some { IfSome result (λ workload. word_of workload ≡ word.now) }
+        ensures none { IfNone result (NamesNone word.now) }
     {
-        for workload in Workload::ALL {
+        for place in 0..Workload::ALL.len() {
+            let workload = Workload::ALL[place];
             if workload.word() == word {
                 return Some(workload);
             }
