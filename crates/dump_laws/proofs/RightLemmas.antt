@@ -21,9 +21,10 @@ use Rattle.crdt_ops.specs.Text.{ids_text, name_text}
 use Rattle.crdt_ops.proofs.MeaningLemmas.{one_set_means_one}
 use Rattle.mail_script.specs.Lines.{lines_of}
 use Rattle.mail_audit.specs.Audits.{IsRight, IsRightPart, Part, Spoken, Result, Dumped, ended_line, part_text, said_by, said_in, text_of}
-use Rattle.mail_audit.specs.Dumps.{AreOrdered, HasCauses, IsRightDump, message_line, op_line, state_text}
+use Rattle.dump_lines.specs.DumpLines.{message_line, op_line, state_text}
+use Rattle.mail_audit.specs.Dumps.{AreOrdered, HasCauses, IsRightDump}
 use Rattle.mail_audit.specs.Transcripts.{IsExplainedTranscript}
-use Rattle.node_talk.specs.Dumps.{IsDump, state_text as written_state}
+use Rattle.node_talk.specs.Dumps.{IsDump}
 use Rattle.dump_laws.proofs.LineLemmas.{whole_lines}
 
 abbrev id_of : Op → OpId
@@ -70,10 +71,6 @@ same_state xs ys m = λ i.
     flat_map (λ (folder : List ℕ). (codes "folder " ++ (name_text folder ++ 32 ∷ (ids_text (m.folder_tags folder i) ++ 10 ∷ []))) ++ flat_map message_line (m.messages folder i)) (m.folders i)
     ++ flat_map (λ (name : List ℕ). codes "subscribed " ++ (name_text name ++ 32 ∷ (ids_text (m.subscription_tags name i) ++ 10 ∷ []))) (m.subscribed i)
 
--- both write the same lines of a list
-one_state : (ops : List Op) → written_state ops ≡ state_text ops
-one_state ops = refl
-
 grouped : (d n x s e : List ℕ) → d ++ n ++ x ++ s ++ e ++ n ≡ d ++ (n ++ (x ++ (s ++ (e ++ n))))
 grouped d n x s e =
     append_assoc (d ++ n ++ x ++ s) e n
@@ -88,7 +85,7 @@ right_dump replica applied text named form sound causal dump =
     let listed : List Op = dump.0 in
     let same : HaveSameElements listed applied = dump.2 in
     let determined : IdsDetermine id_of listed = λ a b h k e. causal_determines id_of clock_of applied a b causal ((same a).0 h) ((same b).0 k) e in
-    let state : written_state applied ≡ state_text listed = one_state applied ∙ sym (same_state listed applied (one_set_means_one listed applied same determined)) in (
+    let state : state_text applied ≡ state_text listed = sym (same_state listed applied (one_set_means_one listed applied same determined)) in (
       replica,
       listed,
       named,

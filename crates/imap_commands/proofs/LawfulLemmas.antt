@@ -14,6 +14,7 @@ use Rattle.imap_types.specs.Names.{IsLawfulName, inbox}
 use Rattle.tags_clocks.specs.declared.id.OpId.{OpId}
 use Rattle.imap_commands.specs.declared.session.Credentials.{Credentials}
 use Rattle.imap_commands.specs.Appending.{append_wants, given_date}
+use Rattle.imap_commands.specs.Asked.{AppendAsked}
 use Rattle.imap_commands.specs.Asking.{status_wants}
 use Rattle.imap_commands.specs.Entering.{are_right, login_wants}
 use Rattle.imap_commands.specs.Lawful.{AreLawfulKinds, IsLawfulKind}
@@ -102,7 +103,6 @@ append_by true true false name flags date text kinds n l m e =
 append_by true false many name flags date text kinds n l m e = never KeywordTooLong kinds e
 append_by false lawful many name flags date text kinds n l m e = never NoDestination kinds e
 
-pub append_lawful : (is_there : Bool) (name : List ℕ) (flags : Flags) (date : Option (List ℕ)) (stamp text : List ℕ) (kinds : List Kind) → IsLawfulName name
-    → append_wants is_there name flags date stamp text ≡ Ok kinds → AreLawfulKinds kinds
-append_lawful is_there name flags date stamp text kinds n e =
-    append_by is_there (list_all is_lawful_keyword flags.keywords) (nat_lt 32 (length flags.keywords)) name flags (given_date date stamp) text kinds n refl refl e
+pub append_lawful : (is_there : Bool) (stamp : List ℕ) (asked : AppendAsked) (kinds : List Kind) → IsLawfulName asked.name → append_wants is_there stamp asked ≡ Ok kinds → AreLawfulKinds kinds
+append_lawful is_there stamp asked kinds n e =
+    append_by is_there (list_all is_lawful_keyword asked.flags.keywords) (nat_lt 32 (length asked.flags.keywords)) asked.name asked.flags (given_date asked.date stamp) asked.text kinds n refl refl e

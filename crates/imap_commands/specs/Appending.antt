@@ -5,8 +5,8 @@ use Rattle.crdt_ops.specs.declared.kind.Kind.TheVariants.{Append}
 use Rattle.imap_answers.specs.declared.codes.Code.TheVariants.{AppendUid}
 use Rattle.imap_answers.specs.declared.words.Refusal.{Refusal}
 use Rattle.imap_answers.specs.declared.words.Refusal.TheVariants.{KeywordTooLong, NoDestination, TooManyKeywords}
-use Rattle.imap_types.specs.declared.flags.Flags.{Flags}
 use Rattle.imap_types.specs.Keywords.{is_lawful_keyword}
+use Rattle.imap_commands.specs.Asked.{AppendAsked}
 use Rattle.imap_commands.specs.Told.{Telling}
 
 -- The date that a message is given: the command's own, or else that of the moment (RFC 9051, section 6.3.12).
@@ -16,12 +16,12 @@ given_date (Some date) stamp = date
 
 -- APPEND (RFC 9051, section 6.3.12) to a mailbox that is there, or isn't. A keyword is too long where no message may bear it: those of a
 -- command have no other fault. `stamp` is the date-time of the moment.
-abbrev pub append_wants : Bool → List ℕ → Flags → Option (List ℕ) → List ℕ → List ℕ → Result (List Kind) Refusal
-append_wants is_there name flags date stamp text =
+abbrev pub append_wants : Bool → List ℕ → AppendAsked → Result (List Kind) Refusal
+append_wants is_there stamp asked =
     if is_there
     then (
-    if list_all is_lawful_keyword flags.keywords
-    then (if nat_lt 32 (length flags.keywords) then Err TooManyKeywords else Ok (Append name flags (given_date date stamp) text ∷ []))
+    if list_all is_lawful_keyword asked.flags.keywords
+    then (if nat_lt 32 (length asked.flags.keywords) then Err TooManyKeywords else Ok (Append asked.name asked.flags (given_date asked.date stamp) asked.text ∷ []))
     else Err KeywordTooLong
     )
     else Err NoDestination

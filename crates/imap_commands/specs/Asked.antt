@@ -22,6 +22,13 @@ pub record Landing : Type 0 where
   pub uidnext : ℕ
   pub rows : List Listed
 
+-- What APPEND asks (RFC 9051, section 6.3.12).
+pub record AppendAsked : Type 0 where
+  pub name : List ℕ
+  pub flags : Flags
+  pub date : Option (List ℕ)
+  pub text : List ℕ
+
 -- What STORE asks (RFC 9051, section 6.4.6; RFC 7162, section 3.1.3).
 pub record StoreAsked : Type 0 where
   pub by_uid : Bool

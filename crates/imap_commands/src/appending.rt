@@ -7,6 +7,7 @@ ghost use Rattle.imap_commands.specs.Appending.{append_tells, append_wants, give
 ghost use Rattle.imap_commands.specs.Gives.{Gives};
 ghost use Rattle.imap_types.specs.Keywords.{is_lawful_keyword};
 
+use crate::asked::AppendAsked;
 use crate::mailboxes::one_kind;
 use crate::telling::Telling;
 use crdt_ops::Kind;
@@ -20,24 +21,22 @@ use std::alloc::{AllocError, Global};
 pub fn append_wants(
     alloc: Global,
     is_there: bool,
-    name: &Name,
-    flags: &Flags,
-    date: &Option<DateTime>,
     stamp: &DateTime,
-    text: &Text,
+    asked: &AppendAsked<'_>,
 ) -> Result<Vec<Kind>, Refusal>
-    ensures { Gives (λ kinds. kinds.items) result (append_wants is_there name.now flags.now date.now stamp.now text.now) }
+    ensures { Gives (λ kinds. kinds.items) result (append_wants is_there stamp.now asked.now) }
 {
     if !is_there {
         return Err(Refusal::NoDestination);
     }
-    if !are_lawful(flags.keywords.as_slice()) {
+    if !are_lawful(asked.flags.keywords.as_slice()) {
         return Err(Refusal::KeywordTooLong);
     }
-    if flags.keywords.len() > MAX_KEYWORDS {
+    if asked.flags.keywords.len() > MAX_KEYWORDS {
         return Err(Refusal::TooManyKeywords);
     }
-    Ok(append(alloc, name, flags, given_date(date, stamp), text)?)
+    let date = given_date(asked.date, stamp);
+    Ok(append(alloc, asked.name, asked.flags, date, asked.text)?)
 }
 
 /// Whether messages may bear each of these keywords.

@@ -7,7 +7,7 @@ ghost use Rattle.imap_commands.specs.Told.{message_at};
 
 use crate::telling::message_at;
 use imap_syntax::{FetchItem, SearchOption, SearchSteps, StoreAction};
-use imap_types::{Flags, Name, SequenceSet};
+use imap_types::{DateTime, Flags, Name, SequenceSet, Text};
 use mail_listing::{Row, Rows};
 use session_view::View;
 use std::marker::Model;
@@ -59,6 +59,27 @@ impl<'a> Model for Landing<'a> {
     ghost Value = { Landing };
 
     ghost view = { λ l. record { uidvalidity = l.uidvalidity; uidnext = l.uidnext; rows = l.rows } };
+}
+
+/// What APPEND asks (RFC 9051, section 6.3.12).
+#[derive(Drop)]
+pub struct AppendAsked<'a> {
+    /// The mailbox.
+    pub name: &'a Name,
+    /// The flags that the message takes.
+    pub flags: &'a Flags,
+    /// The date-time that it takes, if one is given.
+    pub date: &'a Option<DateTime>,
+    /// The message.
+    pub text: &'a Text,
+}
+
+impl<'a> Model for AppendAsked<'a> {
+    ghost use Rattle.imap_commands.specs.Asked.{AppendAsked};
+
+    ghost Value = { AppendAsked };
+
+    ghost view = { λ a. record { name = a.name.now; flags = a.flags.now; date = a.date.now; text = a.text.now } };
 }
 
 /// What STORE asks (RFC 9051, section 6.4.6; RFC 7162, section 3.1.3).

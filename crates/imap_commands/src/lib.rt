@@ -29,7 +29,9 @@ mod telling;
 mod versions;
 
 pub use appending::{append_tells, append_wants};
-pub use asked::{CopyAsked, FetchAsked, Landing, OpenMailbox, SearchAsked, StoreAsked};
+pub use asked::{
+    AppendAsked, CopyAsked, FetchAsked, Landing, OpenMailbox, SearchAsked, StoreAsked,
+};
 pub use asking::{
     capability_tells, idle_tells, list_tells, logout_tells, namespace_tells, status_tells,
     status_wants,

@@ -44,20 +44,31 @@ pub fn select_tells(
     ensures { IfOk result (λ told. SelectTells was_selected read_only name.now marks rows.now told) }
 {
     let keywords = listed_keywords(alloc, rows)?;
-    told_of(alloc, was_selected, read_only, name, marks, rows, keywords)
+    let opened = Opened {
+        name,
+        marks,
+        read_only,
+    };
+    told_of(alloc, was_selected, &opened, rows, keywords)
+}
+
+/// A mailbox that is selected, and how.
+#[derive(Drop)]
+struct Opened<'a> {
+    name: &'a Name,
+    marks: Marks,
+    read_only: bool,
 }
 
 /// What is told where the messages bear these keywords.
 fn told_of(
     alloc: Global,
     was_selected: bool,
-    read_only: bool,
-    name: &Name,
-    marks: Marks,
+    opened: &Opened<'_>,
     rows: &Rows<'_>,
     keywords: Keywords,
 ) -> Result<Telling, AllocError>
-    ensures { IfOk result (λ told. told ≡ select_tells was_selected read_only name.now marks rows.now keywords) }
+    ensures { IfOk result (λ told. told ≡ select_tells was_selected opened.now.read_only opened.now.name.now opened.now.marks rows.now keywords) }
 {
     let mut own = Vec::new(alloc);
     if was_selected {
@@ -65,16 +76,9 @@ fn told_of(
             notice: Notice::Closed,
         })?;
     }
-    push_mailbox(
-        alloc,
-        read_only,
-        name,
-        marks,
-        rows.count(),
-        keywords,
-        &mut own,
-    )?;
-    Ok(Telling::new(own, Vec::new(alloc), Some(access_code(read_only))))
+    push_mailbox(alloc, opened, rows.count(), keywords, &mut own)?;
+    let code = access_code(opened.read_only);
+    Ok(Telling::new(own, Vec::new(alloc), Some(code)))
 }
 
 fn access_code(read_only: bool) -> Code
@@ -89,26 +93,24 @@ fn access_code(read_only: bool) -> Code
 
 fn push_mailbox(
     alloc: Global,
-    read_only: bool,
-    name: &Name,
-    marks: Marks,
+    opened: &Opened<'_>,
     count: u32,
     keywords: Keywords,
     answers: &mut Vec<Answer>,
 ) -> Result<(), AllocError>
-    ensures { OnOk result (answers.new.items ≡ answers.old.items ++ mailbox_answers read_only name.now marks count (flags_in_use keywords)) }
+    ensures { OnOk result (answers.new.items ≡ answers.old.items ++ mailbox_answers opened.now.read_only opened.now.name.now opened.now.marks count (flags_in_use keywords)) }
 {
     let flags = flags_in_use(keywords);
-    let permanent = match permanent_flags(alloc, read_only, &flags) {
+    let permanent = match permanent_flags(alloc, opened.read_only, &flags) {
         Ok(permanent) => permanent,
         Err(error) => {
             drop(flags);
             return Err(error);
         }
     };
-    push_contents(alloc, flags, name, count, answers)?;
-    push_uids(marks, answers)?;
-    push_changes(permanent, marks, answers)
+    push_contents(alloc, flags, opened.name, count, answers)?;
+    push_uids(opened.marks, answers)?;
+    push_changes(permanent, opened.marks, answers)
 }
 
 /// FLAGS, with these flags, EXISTS and LIST.

@@ -1,6 +1,6 @@
 //! STORE and UID STORE (RFC 9051, section 6.4.6; RFC 7162, section 3.1.3).
 
-ghost use Rattle.std.specs.Prelude.{◌≡◌, ◌&&◌, ◌++◌, flat_map, not, is_some, IfOk, OnOk};
+ghost use Rattle.std.specs.Prelude.{◌≡◌, ◌&&◌, ◌++◌, flat_map, not, is_some, IfOk, OnOk, Some};
 ghost use Rattle.std.specs.List.{list_all};
 ghost use Rattle.imap_types.specs.Keywords.{is_lawful_keyword};
 ghost use Rattle.imap_types.specs.Numbers.{AreRisingFrom};
@@ -264,26 +264,24 @@ fn answers_of(
 {
     let mut answers = Vec::new(alloc);
     for number in taken {
-        push_answer(alloc, after, view, condstore, asked, *number, &mut answers)?;
+        if let Some(row) = message_at(after, view, *number) {
+            push_answer(alloc, condstore, asked, *number, &row, &mut answers)?;
+        }
     }
     Ok(answers)
 }
 
-/// Adds FETCH of a message as it is behind the command.
+/// Adds FETCH of the message with this number as it is behind the command.
 fn push_answer(
     alloc: Global,
-    after: &Rows<'_>,
-    view: &Entries,
     condstore: bool,
     asked: &StoreAsked<'_>,
     number: u32,
+    row: &Row<'_>,
     answers: &mut Vec<Answer>,
 ) -> Result<(), AllocError>
-    ensures { OnOk result (answers.new.items ≡ answers.old.items ++ stored_answer condstore asked.now number (message_at after.now view.now.items number)) }
+    ensures { OnOk result (answers.new.items ≡ answers.old.items ++ stored_answer condstore asked.now number (Some (listed row.now))) }
 {
-    let Some(row) = message_at(after, view, number) else {
-        return Ok(());
-    };
     let flags = flags_where(alloc, !asked.action.silent, &row.versions)?;
     let with_modseq = asked.unchanged_since.is_some() || condstore;
     answers.push(Answer::Fetch {

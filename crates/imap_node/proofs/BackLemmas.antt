@@ -44,7 +44,8 @@ use Rattle.uid_projection.proofs.Presence.{applied_front}
 use Rattle.imap_node.specs.Commands.{Tells, is_selected, is_selecting, moves_to, notice, sync_of}
 use Rattle.imap_node.specs.Deliveries.{Delivers, Drains}
 use Rattle.imap_node.specs.Endings.{Course, ending, ending_of, synced_by}
-use Rattle.imap_node.specs.GoingBack.{GoesBack, ViewsGoBack, is_full, tells_all, tells_all_of, uids_of}
+use Rattle.session_view.specs.Changes.{uids_of}
+use Rattle.imap_node.specs.GoingBack.{GoesBack, ViewsGoBack, is_full, tells_all, tells_all_of}
 use Rattle.imap_node.specs.Issues.{issued_by}
 use Rattle.imap_node.specs.Mailboxes.{marks_of, rows_for, validity_of}
 use Rattle.imap_node.specs.Nodes.{NodeState, closed, received}

@@ -21,6 +21,7 @@ use Rattle.crdt_ops.proofs.SetLemmas.{delete_set_in, subscription_tags_in}
 use Rattle.imap_answers.specs.declared.words.Refusal.{Refusal}
 use Rattle.imap_answers.specs.declared.words.Refusal.TheVariants as refusals
 use Rattle.imap_commands.specs.Appending.{append_wants, given_date}
+use Rattle.imap_commands.specs.Asked.{AppendAsked}
 use Rattle.imap_commands.specs.Asking.{status_wants}
 use Rattle.imap_commands.specs.Asked.{CopyAsked, FetchAsked, OpenMailbox, StoreAsked}
 use Rattle.imap_commands.specs.Copying.{copy_wants, move_wants}
@@ -45,7 +46,6 @@ use Rattle.imap_commands.specs.Issued.{AreIssuable, HaveLawfulKeywords, IsIssuab
 use Rattle.imap_commands.specs.Lawful.{AreLawfulKinds, IsLawfulKind}
 use Rattle.imap_types.specs.Keywords.{is_lawful_keyword}
 use Rattle.imap_types.specs.Names.{IsLawfulName, inbox}
-use Rattle.imap_types.specs.declared.flags.Flags.{Flags}
 use Rattle.mail_listing.specs.Listed.{Listed}
 use Rattle.merge_laws.specs.Orders.{AreSound, HasId, IsIn}
 use Rattle.tags_clocks.specs.Clock.{IsCause}
@@ -229,15 +229,13 @@ unsubscribe_covers ops name given e =
     let lawful = where_true (is_lawful_name name) _ _ given e in
     subst (Covers ops) (ok_is (unsubscribes (subscription_tags_of ops name) name) given lawful.1) (unsubscribe_by ops (subscription_tags_of ops name) name (unsubscribe_covered ops name))
 
-pub append_covers : (ops : List Op) (there : Bool) (name : List ℕ) (flags : Flags) (date : Option (List ℕ)) (stamp text : List ℕ) (given : List Kind) → append_wants there name flags date stamp text ≡ Ok given
-    → (there ≡ true) × Covers ops given
-append_covers ops there name flags date stamp text given e =
+pub append_covers : (ops : List Op) (there : Bool) (stamp : List ℕ) (asked : AppendAsked) (given : List Kind) → append_wants there stamp asked ≡ Ok given → (there ≡ true) × Covers ops given
+append_covers ops there stamp asked given e =
     let found = where_true there _ _ given e in
-    let short = where_true (list_all is_lawful_keyword flags.keywords) _ _ given found.1 in
-    let few = where_false (nat_lt 32 (length flags.keywords)) _ _ given short.1 in (
-      found.0,
-      subst (Covers ops) (ok_is (kinds.Append name flags (given_date date stamp) text ∷ []) given few.1) (covers_one ops (kinds.Append name flags (given_date date stamp) text) (λ clock counts. tt)),
-    )
+    let short = where_true (list_all is_lawful_keyword asked.flags.keywords) _ _ given found.1 in
+    let few = where_false (nat_lt 32 (length asked.flags.keywords)) _ _ given short.1 in
+    let kind = kinds.Append asked.name asked.flags (given_date asked.date stamp) asked.text in
+    (found.0, subst (Covers ops) (ok_is (kind ∷ []) given few.1) (covers_one ops kind (λ clock counts. tt)))
 
 pub deleted_there : (there : Bool) (seen : List OpId) (name : List ℕ) (given : List Kind) → delete_wants there seen name ≡ Ok given → there ≡ true
 deleted_there there seen name given e = (where_true there _ _ given e).0
@@ -376,9 +374,10 @@ module _ (start : Start) (ops : List Op) (a : IsApplied ops) (stamp : List ℕ) 
   wanted_can (commands.Status name items) given e = nothing_where ops (is_there name ops) refusals.NoSuchMailbox given (known_wants state (status_wants (is_there name ops)) given e)
   wanted_can (commands.Append name flags date text) given e =
       let there = is_there name ops in
-      let w = known_wants state (append_wants there name flags date stamp text) given e in
-      let c = append_covers ops there name flags date stamp text given w in
-      can_all ops given (append_lawful there name flags date stamp text given (there_lawful ops name a.sound c.0) w) c.1
+      let asked : AppendAsked = record { name = name; flags = flags; date = date; text = text } in
+      let w = known_wants state (append_wants there stamp asked) given e in
+      let c = append_covers ops there stamp asked given w in
+      can_all ops given (append_lawful there stamp asked given (there_lawful ops name a.sound c.0) w) c.1
   wanted_can commands.Idle given e = nothing_wanted ops given (known_wants state (Ok []) given e)
   wanted_can commands.Close given e =
       let w = selected_wants state (λ view read_only. close_wants (mailbox_in start ops view read_only)) given e in

@@ -20,5 +20,6 @@ pub mod BesideLemmas
 pub mod FeedLemmas
 pub mod OwnLemmas
 pub mod GoingLemmas
+pub mod FirstLemmas
 pub mod NewsLemmas
 pub mod ThreadLemmas

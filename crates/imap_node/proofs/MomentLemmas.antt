@@ -19,7 +19,8 @@ use Rattle.uid_projection.proofs.Lasting.{Stays, stays_there}
 use Rattle.uid_projection.proofs.Listed.{row_in}
 use Rattle.uid_projection.proofs.Noted.{validity_inbox, validity_there}
 use Rattle.uid_projection.proofs.Steps.{k_here}
-use Rattle.imap_node.specs.GoingBack.{GoesBack, uids_of}
+use Rattle.session_view.specs.Changes.{uids_of}
+use Rattle.imap_node.specs.GoingBack.{GoesBack}
 use Rattle.imap_node.specs.Mailboxes.{rows_for, validity_of}
 use Rattle.imap_node.proofs.UidLemmas.{IsKnown}
 

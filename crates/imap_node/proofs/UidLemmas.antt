@@ -17,7 +17,7 @@ use Rattle.session_view.specs.Views.{Knows, entries_of, entry_of, has_uid, last_
 use Rattle.session_view.specs.declared.entry.Entry.{Entry}
 use Rattle.session_view.specs.declared.entry.SyncKind.TheVariants.{Partial}
 use Rattle.session_view.specs.declared.replaying.Silent.{Silent}
-use Rattle.imap_node.specs.GoingBack.{uids_of}
+use Rattle.session_view.specs.Changes.{uids_of}
 
 -- ---- answers that leave the UIDs as they are
 

@@ -82,7 +82,7 @@ wants start ops stamp state (commands.Unsubscribe name) = when_known state (unsu
 wants start ops stamp state (commands.ListNames subscribed_only reference pattern return_subscribed) = when_known state (Ok [])
 wants start ops stamp state commands.Namespace = when_known state (Ok [])
 wants start ops stamp state (commands.Status name items) = when_known state (status_wants (is_there name ops))
-wants start ops stamp state (commands.Append name flags date text) = when_known state (append_wants (is_there name ops) name flags date stamp text)
+wants start ops stamp state (commands.Append name flags date text) = when_known state (append_wants (is_there name ops) stamp (record { name = name; flags = flags; date = date; text = text }))
 wants start ops stamp state commands.Idle = when_known state (Ok [])
 wants start ops stamp state commands.Close = when_selected state (λ view read_only. close_wants (mailbox_in start ops view read_only))
 wants start ops stamp state commands.Unselect = when_selected state (λ view read_only. Ok [])

@@ -1,7 +1,9 @@
-use Rattle.std.specs.Prelude.{Bool, List, [], ◌++◌, Option, Some, None}
+use Rattle.std.specs.Prelude.{◌≡◌, Bool, true, false, List, [], ◌++◌, Option, Some, None}
+use Rattle.std.specs.List.{list_any}
 use Rattle.std.specs.Option.{unwrap_or}
 use Rattle.crdt_ops.specs.declared.op.Op.{Op}
 use Rattle.imap_answers.specs.declared.answer.Answer.{Answer}
+use Rattle.imap_answers.specs.declared.answer.Answer.TheVariants.{Expunge, Fetch}
 use Rattle.imap_commands.specs.declared.session.State.{State}
 use Rattle.imap_commands.specs.declared.session.State.TheVariants.{Selected}
 use Rattle.mail_listing.specs.Listed.{Listed}
@@ -76,3 +78,16 @@ pub record FrontOf : Type 0 where
 
 abbrev pub ending_behind : Start → List Op → State → FrontOf → Ending
 ending_behind start ops state front = ending start ops front.sync front.modseq state front.silent front.own
+
+-- The answer takes a message away, or tells a message's items.
+abbrev pub alters : Answer → Bool
+alters (Expunge n) = true
+alters (Fetch n items) = true
+alters _ = false
+
+-- Nothing was shown before, nothing is synced, and what stands in front shows messages as the listing has them.
+pub record IsFirstSight (entries : List Entry) (front : FrontOf) : Type 0 where
+  pub nothing : entries ≡ []
+  pub unsynced : front.sync ≡ None
+  pub silent : front.silent ≡ []
+  pub own : list_any alters front.own ≡ false

@@ -1,10 +1,10 @@
-use Rattle.std.specs.Prelude.{◌≡◌, ℕ, ◌<◌, Bool, true, false, ◌||◌, List, ◌++◌, map, Option, Some, None}
+use Rattle.std.specs.Prelude.{◌≡◌, ℕ, ◌<◌, Bool, true, false, ◌||◌, List, ◌++◌, Option, Some, None}
 use Rattle.crdt_ops.specs.declared.op.Op.{Op}
 use Rattle.imap_syntax.specs.declared.command.Command.{Command}
 use Rattle.mail_listing.specs.Listed.{Listed}
 use Rattle.merge_laws.specs.Orders.{IsIn}
+use Rattle.session_view.specs.Changes.{uids_of}
 use Rattle.session_view.specs.Seen.{Seen}
-use Rattle.session_view.specs.declared.entry.Entry.{Entry}
 use Rattle.session_view.specs.declared.entry.SyncKind.{SyncKind}
 use Rattle.session_view.specs.declared.entry.SyncKind.TheVariants.{Full, Partial}
 use Rattle.imap_node.specs.Commands.{is_selecting, sync_of}
@@ -16,10 +16,6 @@ use Rattle.uid_projection.specs.declared.start.Start.{Start}
 use Rattle.uid_projection.specs.Incarnations.{uidvalidity_of}
 use Rattle.uid_projection.specs.Lines.{uidnext_of}
 use Rattle.uid_projection.specs.Listing.{listing}
-
--- The UIDs of a view's messages.
-abbrev pub uids_of : List Entry → List ℕ
-uids_of view = map (λ e. e.uid) view
 
 -- A view goes back to an earlier moment of its mailbox's incarnation: as long as that incarnation goes on, the view has each message that
 -- was listed at the moment, and no UID but those that were given before it (RFC 9051, section 2.3.1.1).

@@ -3,7 +3,7 @@ use Rattle.causal_inbox.specs.Seen.{AreIssued, AreKept}
 use Rattle.crdt_ops.specs.declared.kind.Kind.{Kind}
 use Rattle.crdt_ops.specs.declared.op.Op.{Op}
 use Rattle.imap_node.specs.Nodes.{NodeState}
-use Rattle.imap_node.specs.Operations.{AreNext, IsFresh}
+use Rattle.imap_node.specs.Operations.{AreNext, IsFresh, clock_of, id_of}
 use Rattle.imap_node.specs.declared.reply.Reply.{Reply}
 use Rattle.imap_node.specs.declared.reply.Reply.TheVariants.{Done, Refused}
 use Rattle.merge_laws.specs.Orders.{IsIn}
@@ -21,8 +21,8 @@ issued_by (Refused why closed) = []
 pub record Issues (old : NodeState) (ops : List Op) (new : NodeState) : Type 0 where
   pub start : new.start ≡ old.start
   pub applied : new.applied ≡ old.applied ++ ops
-  pub held : AreKept (λ (o : Op). o.id) ops old.held new.held
-  pub issued : AreIssued (λ (o : Op). o.id) (λ o. o.clock) old.applied ops
+  pub held : AreKept id_of ops old.held new.held
+  pub issued : AreIssued id_of clock_of old.applied ops
   pub kinds : List Kind
   pub next : AreNext old.start.replica old.applied kinds ops
   pub fresh : (op : Op) → IsIn op ops → IsFresh old.start.replica old.applied op

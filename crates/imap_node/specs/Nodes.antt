@@ -1,4 +1,4 @@
-use Rattle.std.specs.Prelude.{◌≡◌, ℕ, List, Some, None, IsSome}
+use Rattle.std.specs.Prelude.{◌≡◌, ℕ, List, [], Some, None, IsSome}
 use Rattle.causal_inbox.specs.Seen.{Seen}
 use Rattle.crdt_ops.specs.declared.op.Op.{Op}
 use Rattle.imap_commands.specs.declared.session.Session.{Session}
@@ -15,6 +15,18 @@ pub record NodeState : Type 0 where
   pub applied : List Op
   pub held : List Op
   pub sessions : Places
+
+-- A node that has received nothing, without sessions, and with these first numbers.
+abbrev pub unused_node : Start → NodeState
+unused_node start = record { start = start; applied = []; held = []; sessions = [] }
+
+-- What the counters of a replica that joins begin with: its UIDs and its incarnations count from 1.
+abbrev pub first_numbers : ℕ → Start
+first_numbers name = record { replica = name; uid = 1; k = 1 }
+
+-- A replica of this name that joined with these operations: they are its list, as if each had been delivered to it. It holds nothing and has no sessions.
+abbrev pub joined : ℕ → List Op → NodeState
+joined name ops = record { start = first_numbers name; applied = ops; held = []; sessions = [] }
 
 -- A node with the room that was made in it.
 pub record NodeKept : Type 0 where

@@ -8,15 +8,23 @@ use Rattle.imap_answers.specs.declared.words.Refusal.TheVariants.{NoMemory, Numb
 use Rattle.imap_commands.specs.Lawful.{IsLawfulKind}
 use Rattle.merge_laws.specs.Orders.{HasId, IsIn}
 use Rattle.tags_clocks.specs.Clock.{count_of}
+use Rattle.tags_clocks.specs.declared.id.OpId.{OpId}
 use Rattle.uid_projection.specs.declared.start.Start.{Start}
 use Rattle.uid_projection.specs.Applied.{IsApplied}
 use Rattle.uid_projection.specs.Exhaustion.{Exhausts}
+
+-- An operation's id, and the clock that it bears.
+abbrev pub id_of : Op → OpId
+id_of op = op.id
+
+abbrev pub clock_of : Op → List (ℕ × ℕ)
+clock_of op = op.clock
 
 -- An operation that comes next at this replica: its clock counts all that was applied there, and its number is one more
 -- than those of the replica's operations among these.
 pub record IsNext (replica : ℕ) (applied : List Op) (op : Op) : Type 0 where
   pub own : op.id.replica ≡ replica
-  pub clock : IsClockOf (λ (o : Op). o.id) applied op.clock
+  pub clock : IsClockOf id_of applied op.clock
   pub number : op.id.number ≡ count_of op.clock replica + 1
 
 -- Operations of these kinds, in their order, each of which comes next behind those applied and those in front of it.
@@ -27,7 +35,7 @@ pub record AreNext (replica : ℕ) (applied : List Op) (kinds : List Kind) (ops 
 -- The replica's own numbers, which end at 4,294,967,295, don't suffice for operations of these kinds.
 abbrev pub NumbersEnd : ℕ → List Op → List Kind → Type 0
 NumbersEnd replica applied kinds =
-    (clock : List (ℕ × ℕ)) × IsClockOf (λ (o : Op). o.id) applied clock × (4294967295 < count_of clock replica + length kinds)
+    (clock : List (ℕ × ℕ)) × IsClockOf id_of applied clock × (4294967295 < count_of clock replica + length kinds)
 
 -- A counter is at its end for one of these: the replica's own numbers, a folder's UIDs or the UIDVALIDITY's.
 abbrev pub IsUsedUp : Start → List Op → List Kind → Type 0
@@ -47,7 +55,7 @@ IsNotReady start applied kinds why = (why ≡ NoMemory) ⊎ ((why ≡ NumberUsed
 -- what was applied.
 pub record CanIssue (applied : List Op) (kind : Kind) : Type 0 where
   pub lawful : IsLawfulKind kind
-  pub covered : (clock : List (ℕ × ℕ)) → IsClockOf (λ (o : Op). o.id) applied clock → CoversNamed clock kind
+  pub covered : (clock : List (ℕ × ℕ)) → IsClockOf id_of applied clock → CoversNamed clock kind
 
 -- Behind what this clock counts, it may issue an operation of this kind.
 pub record CanIssueBy (clock : List (ℕ × ℕ)) (kind : Kind) : Type 0 where
@@ -62,4 +70,4 @@ CanIssueAll applied kinds = (kind : Kind) → IsIn kind kinds → CanIssue appli
 pub record IsFresh (replica : ℕ) (applied : List Op) (op : Op) : Type 0 where
   pub sound : IsSound op
   pub own : op.id.replica ≡ replica
-  pub fresh : ¬ HasId (λ (o : Op). o.id) applied op.id
+  pub fresh : ¬ HasId id_of applied op.id

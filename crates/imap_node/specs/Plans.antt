@@ -16,7 +16,7 @@ use Rattle.imap_node.specs.Endings.{Course, answers_of_course}
 use Rattle.imap_node.specs.Feeds.{IsNews}
 use Rattle.imap_node.specs.Going.{CanGo, gone_on}
 use Rattle.imap_node.specs.Nodes.{NodeKept, NodeState}
-use Rattle.imap_node.specs.Operations.{AreNext}
+use Rattle.imap_node.specs.Operations.{AreNext, clock_of, id_of}
 use Rattle.imap_node.specs.Respond.{Holds, IsStamp, Responds, TakesCourse, closes, ends_idling, leaves, session_after, wants_of}
 use Rattle.imap_node.specs.Rooms.{HasRoomFor}
 use Rattle.imap_node.specs.Sessions.{IsOpen, awake, session_at, unselected, with_session}
@@ -62,7 +62,7 @@ CanStep start ops session next = Unit {0}
 -- its next step behind them.
 pub record IsPlanned (node : NodeKept) (plan : Plan) : Type 0 where
   pub is_open : IsOpen node.state.sessions plan.number
-  pub issued : AreIssued (λ (o : Op). o.id) (λ o. o.clock) node.state.applied plan.ops
+  pub issued : AreIssued id_of clock_of node.state.applied plan.ops
   pub room : (plan.ops ≡ [] → ⊥) → HasRoomFor node.state.applied node.room plan.ops
   pub news : IsNews node.state.start node.state.applied (node.state.applied ++ plan.ops) plan.news
   pub can : (session : Session) → session_at node.state.sessions plan.number ≡ Some session → CanStep node.state.start (node.state.applied ++ plan.ops) session plan.next

@@ -25,7 +25,7 @@ use Rattle.imap_node.specs.declared.reply.Reply.TheVariants.{Done, Refused}
 use Rattle.imap_node.specs.Commands.{Tells, is_enabling, is_idle, is_selected, is_selecting, moves_to, notice, sync_of, wants, word_of}
 use Rattle.imap_node.specs.Endings.{Course, answers_of_course, ending_of}
 use Rattle.imap_node.specs.Nodes.{NodeState}
-use Rattle.imap_node.specs.Operations.{AreNext, IsUsedUp}
+use Rattle.imap_node.specs.Operations.{AreNext, IsUsedUp, id_of}
 use Rattle.imap_node.specs.Sessions.{Places, session_at, with_session}
 use Rattle.uid_projection.specs.declared.start.Start.{Start}
 use Rattle.uid_projection.specs.Exhaustion.{Exhausts}
@@ -144,7 +144,7 @@ IsRefused start ops state input why =
 -- The held operations that stay where these are issued: all of them where none is.
 abbrev pub KeepsHeld : List Op → List Op → List Op → Type 0
 KeepsHeld [] old new = new ≡ old
-KeepsHeld (op ∷ ops) old new = AreKept (λ (o : Op). o.id) (op ∷ ops) old new
+KeepsHeld (op ∷ ops) old new = AreKept id_of (op ∷ ops) old new
 
 -- The node issues operations, and its sessions are these then: the operations stand behind those applied, and a held one with the id of one
 -- of them is dropped.

@@ -9,6 +9,7 @@ use Rattle.subs_state.specs.Table.{IsPrepared as AreSubsPrepared}
 use Rattle.subs_state.specs.declared.subs.Subs.{Subs}
 use Rattle.uid_projection.specs.Following.{IsReadyFor}
 use Rattle.uid_projection.specs.declared.charts.Charts.{Charts}
+use Rattle.imap_node.specs.Operations.{clock_of, id_of}
 
 -- The room that was made in a replica: its folders and subscriptions, and the charts of its folders.
 abbrev pub Room : Type 0
@@ -24,4 +25,4 @@ AreNoted charts list ops = IsReadyFor charts.follower list ops
 
 -- The replica can apply these operations behind those applied with no more memory.
 abbrev pub HasRoomFor : List Op → Room → List Op → Type 0
-HasRoomFor applied room ops = IsReadied ArePrepared AreNoted (λ (o : Op). o.id) (λ o. o.clock) applied room ops
+HasRoomFor applied room ops = IsReadied ArePrepared AreNoted id_of clock_of applied room ops

@@ -1,12 +1,12 @@
 //! What stands behind an input's own answers: the sync, and what the session sees then.
 
-ghost use Rattle.std.specs.Prelude.{◌≡◌, ◌++◌, [], IfOk, Some};
+ghost use Rattle.std.specs.Prelude.{◌≡◌, ◌++◌, true, [], IfOk, Some};
 ghost use Rattle.imap_commands.specs.declared.session.State.{State as Stands};
 ghost use Rattle.imap_commands.specs.declared.session.State.TheVariants.{Selected};
 ghost use Rattle.imap_node.specs.Commands.{moves_to};
-ghost use Rattle.imap_node.specs.Endings.{answers_by, ending_behind, moved_from, synced_by};
+ghost use Rattle.imap_node.specs.Endings.{IsFirstSight, alters, answers_by, ending_behind, moved_from, synced_by};
 ghost use Rattle.imap_node.specs.Feeds.{IsNews, IsNotedFor};
-ghost use Rattle.imap_node.specs.Going.{CanGo, state_onward};
+ghost use Rattle.imap_node.specs.Going.{CanGo, ShowsAll, state_onward};
 ghost use Rattle.imap_node.specs.Mailboxes.{rows_for, validity_of};
 ghost use Rattle.imap_node.specs.Nodes.{IsReady};
 ghost use Rattle.imap_node.specs.Replays.{view_of};
@@ -33,7 +33,7 @@ use session_view::{
 };
 use std::alloc::{AllocError, Global};
 use std::marker::Model;
-use view_sync::{Planned, plan};
+use view_sync::{Noted, Planned, SyncForm, plan};
 
 /// The state behind a command, before its answers are replayed, where it isn't the one before. It shows no messages of a mailbox that is selected anew.
 pub fn moves_to(
@@ -111,6 +111,17 @@ impl<'a> Model for Untold<'a> {
     ghost view = { λ u. record { pending = u.feed.now.pending; news = u.news.now } };
 }
 
+/// The sync behind what stands in front of it, and a state that is made anew.
+#[derive(Drop)]
+pub struct Anew {
+    /// What the sync sends.
+    pub answers: Vec<Answer>,
+    /// The state then.
+    pub state: State,
+    /// Whether all that the mailbox has is surely shown then, as it is behind SELECT.
+    pub shows_all: bool,
+}
+
 /// The sync behind what stands in front of it, and the state then, which is made anew.
 pub fn ending(
     alloc: Global,
@@ -118,14 +129,16 @@ pub fn ending(
     ops: &[SoundOp],
     state: State,
     front: &Front<'_>,
-) -> Result<(Vec<Answer>, State), AllocError>
+) -> Result<Anew, AllocError>
     requires { IsReady replica.now ops.now }
-    ensures answers { IfOk result (λ e. e.0.items ≡ (ending_behind replica.now.start (replica.now.applied ++ ops.now) state front.now).answers) }
-    ensures state { IfOk result (λ e. e.1 ≡ (ending_behind replica.now.start (replica.now.applied ++ ops.now) state front.now).state) }
+    ensures answers { IfOk result (λ anew. anew.answers.items ≡ (ending_behind replica.now.start (replica.now.applied ++ ops.now) state front.now).answers) }
+    ensures state { IfOk result (λ anew. anew.state ≡ (ending_behind replica.now.start (replica.now.applied ++ ops.now) state front.now).state) }
+    ensures shown { IfOk result (λ anew. ShowsAll replica.now.start (replica.now.applied ++ ops.now) anew.state anew.shows_all) }
 {
     match state {
         State::Selected { view, read_only } => {
             let rows = rows_behind(alloc, replica, ops, &view)?;
+            let is_first = is_first_sight(&view, front);
             let (answers, view) = seen(
                 alloc,
                 front.sync,
@@ -135,9 +148,50 @@ pub fn ending(
                 front.silent,
                 front.own,
             )?;
-            Ok((answers, State::Selected { view, read_only }))
+            let shows_all = is_first && view.entries().len() == rows.count() as usize;
+            Ok(Anew {
+                answers,
+                state: State::Selected { view, read_only },
+                shows_all,
+            })
         }
-        other => Ok((Vec::new(alloc), other)),
+        other => Ok(Anew {
+            answers: Vec::new(alloc),
+            state: other,
+            shows_all: false,
+        }),
+    }
+}
+
+/// Whether nothing was shown, and what stands in front shows messages as the mailbox has them.
+fn is_first_sight(view: &View, front: &Front<'_>) -> bool
+    ensures { result ≡ true → IsFirstSight view.now.entries front.now }
+{
+    if front.sync.is_some() {
+        return false;
+    }
+    view.entries().is_empty() && front.silent.is_empty() && !do_alter(front.own)
+}
+
+/// Whether some of these answers take a message away or tell one's items.
+fn do_alter(answers: &[Answer]) -> bool
+    ensures { result ≡ list_any alters answers.now }
+{
+    for answer in answers {
+        if alters(answer) {
+            return true;
+        }
+    }
+    false
+}
+
+fn alters(answer: &Answer) -> bool
+    ensures { result ≡ alters answer.now }
+{
+    match answer {
+        Answer::Expunge { .. } => true,
+        Answer::Fetch { .. } => true,
+        _ => false,
     }
 }
 
@@ -160,29 +214,27 @@ pub fn ending_in_place(
     ensures can { IfOk result (λ e. CanGo replica.now.start (replica.now.applied ++ ops.now) state.old e.1) }
 {
     if do_shift(front.own) {
-        return anew(alloc, replica, ops, state, front);
+        return made_anew(alloc, replica, ops, state, front);
     }
     let first = flags_first(alloc, front)?;
     let Some(kind) = front.sync else {
         if first.is_empty() {
             return Ok((Vec::new(alloc), Onward::Stays { change: None }));
         }
-        return anew(alloc, replica, ops, state, front);
+        return made_anew(alloc, replica, ops, state, front);
     };
     match state {
         State::Selected { view, .. } => {
             let rows = rows_behind(alloc, replica, ops, view)?;
-            let notes = untold.news.notes_of(view.name());
-            let planned = plan(
-                alloc,
-                view,
-                untold.feed,
-                &rows,
-                notes,
-                first,
+            let noted = Noted {
+                feed: untold.feed,
+                notes: untold.news.notes_of(view.name()),
+            };
+            let form = SyncForm {
                 kind,
-                front.modseq,
-            )?;
+                modseq: front.modseq,
+            };
+            let planned = plan(alloc, view, &rows, noted, first, form)?;
             let Planned { answers, change } = planned;
             Ok((
                 answers,
@@ -196,7 +248,7 @@ pub fn ending_in_place(
 }
 
 /// The sync, and the state then, on a copy of the state.
-fn anew(
+fn made_anew(
     alloc: Global,
     replica: &Replica,
     ops: &[SoundOp],
@@ -209,8 +261,12 @@ fn anew(
     ensures can { IfOk result (λ e. CanGo replica.now.start (replica.now.applied ++ ops.now) state.now e.1) }
 {
     let state = state.copy(alloc)?;
-    let (answers, state) = ending(alloc, replica, ops, state, front)?;
-    Ok((answers, Onward::Moves { state }))
+    let Anew {
+        answers,
+        state,
+        shows_all,
+    } = ending(alloc, replica, ops, state, front)?;
+    Ok((answers, Onward::Moves { state, shows_all }))
 }
 
 /// The flags that are set in front of a sync: in silence, and by the answers that tell them.

@@ -249,10 +249,15 @@ fn go_on(state: &mut State, feed: &mut Feed, onward: Onward)
     ensures noted { (start : First) (ops : List Operation) → LeavesNoted start ops state.old onward → ((view : Seen) → view_of state.old ≡ Some view → IsNotedFor start ops feed.old.pending view) → (view : Seen) → view_of state.new ≡ Some view → IsNotedFor start ops feed.new.pending view }
 {
     match onward {
-        Onward::Moves { state: next } => {
+        Onward::Moves {
+            state: next,
+            shows_all,
+        } => {
             *state = next;
             feed.clear();
-            feed.restore(Taken::Resync);
+            if !shows_all {
+                feed.restore(Taken::Resync);
+            }
         }
         Onward::Stays { change } => change_in(state, feed, change),
     }

@@ -7,8 +7,8 @@ use view_sync::Change;
 /// What becomes of a session's state.
 #[derive(Drop)]
 pub enum Onward {
-    /// It is this then.
-    Moves { state: State },
+    /// It is this then; where it is said to show all, what it shows is all that its mailbox has.
+    Moves { state: State, shows_all: bool },
     /// It stays, and where a mailbox is selected, its view is changed so.
     Stays { change: Option<Change> },
 }

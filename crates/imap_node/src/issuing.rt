@@ -4,9 +4,8 @@ ghost use Rattle.std.specs.Prelude.{◌≡◌, ◌↔◌, ◌++◌, ◌+◌, ◌
 ghost use Rattle.causal_inbox.specs.Seen.{IsClockOf};
 ghost use Rattle.crdt_ops.specs.Sound.{IsSound};
 ghost use Rattle.crdt_ops.specs.declared.kind.Kind.{Kind as Action};
-ghost use Rattle.crdt_ops.specs.declared.op.Op.{Op as Operation};
 ghost use Rattle.imap_answers.specs.declared.words.Refusal.TheVariants.{NoMemory, NumberUsedUp};
-ghost use Rattle.imap_node.specs.Operations.{AreNext, CanIssueAll, CanIssueBy, IsNotReady, NumbersEnd};
+ghost use Rattle.imap_node.specs.Operations.{AreNext, CanIssueAll, CanIssueBy, IsNotReady, NumbersEnd, id_of};
 ghost use Rattle.imap_node.specs.Nodes.{IsReady};
 ghost use Rattle.merge_laws.specs.Orders.{AreSound};
 ghost use Rattle.tags_clocks.specs.Clock.{count_of};
@@ -68,7 +67,7 @@ fn make_room(alloc: Global, replica: &mut Replica, ops: &[SoundOp]) -> Result<()
 
 /// Whether the replica's own numbers suffice for so many operations more.
 fn has_numbers(replica: &Replica, count: usize) -> bool
-    ensures yes { IsTrue result → (clock : List (ℕ × ℕ)) → IsClockOf (λ (o : Operation). o.id) replica.now.applied clock → count_of clock replica.now.start.replica + count ≤ 4294967295 }
+    ensures yes { IsTrue result → (clock : List (ℕ × ℕ)) → IsClockOf id_of replica.now.applied clock → count_of clock replica.now.start.replica + count ≤ 4294967295 }
     ensures no { result ≡ false → (kinds : List Action) → count ≡ length kinds → NumbersEnd replica.now.start.replica replica.now.applied kinds }
 {
     let given = replica.clock().get(replica.id());
@@ -78,7 +77,7 @@ fn has_numbers(replica: &Replica, count: usize) -> bool
 /// The replica's next operations, of these kinds.
 fn next_ops(alloc: Global, replica: &Replica, kinds: Vec<Kind>) -> Result<Vec<SoundOp>, AllocError>
     requires can { CanIssueAll replica.now.applied kinds.items }
-    requires numbers { (clock : List (ℕ × ℕ)) → IsClockOf (λ (o : Operation). o.id) replica.now.applied clock → count_of clock replica.now.start.replica + length kinds.items ≤ 4294967295 }
+    requires numbers { (clock : List (ℕ × ℕ)) → IsClockOf id_of replica.now.applied clock → count_of clock replica.now.start.replica + length kinds.items ≤ 4294967295 }
     ensures next { IfOk result (λ ops. AreNext replica.now.start.replica replica.now.applied kinds.items ops.items) }
     ensures sound { IfOk result (λ ops. AreSound IsSound ops.items) }
 {

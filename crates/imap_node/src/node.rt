@@ -11,6 +11,7 @@ ghost use Rattle.imap_commands.specs.declared.session.Session.{Session as One};
 ghost use Rattle.crdt_ops.specs.Tags.{name_of};
 ghost use Rattle.imap_node.specs.Feeds.{AreAllNoted, IsCurrent, pending_at};
 ghost use Rattle.imap_node.specs.News.{IsAheadOf};
+ghost use Rattle.imap_node.specs.Operations.{clock_of, id_of};
 ghost use Rattle.imap_node.specs.Plans.{CanStep, done_plan, next_left, place_next, plan_by};
 ghost use Rattle.imap_node.specs.Replays.{view_at};
 ghost use Rattle.imap_node.specs.Respond.{KeepsHeld};
@@ -177,7 +178,7 @@ impl Node {
     /// What it costs: a mailbox's name is a look-up, whatever else there is; a subscription is looked for among all. A mailbox's messages are a window on what the
     /// replica keeps, which is made anew for each question and costs nothing by itself; behind operations of the command's own it costs what these change, and they are copied once.
     /// STORE, FETCH, COPY, MOVE and UID EXPUNGE look each message that they name up a few times. SELECT, EXAMINE, SEARCH, STATUS of sizes, EXPUNGE and CLOSE go over all messages of their mailbox.
-    /// With a mailbox selected the sync behind each command, or poll, looks at what changed since the last one; behind SELECT, and where the session's feed missed some, it goes once over what the session sees and what the mailbox has. DELETE names all tags of its folder. LIST costs
+    /// With a mailbox selected the sync behind each command, or poll, looks at what changed since the last one; where the session's feed missed some, it goes once over what the session sees and what the mailbox has. DELETE names all tags of its folder. LIST costs
     /// what `list_names` of `imap_query` says; SEARCH and FETCH go once over a text for each key or section that asks for it, but for a whole text, which the
     /// answer shares with the message; APPEND, COPY and MOVE share texts and go over none. LOGIN, ENABLE, NAMESPACE, CAPABILITY and LOGOUT cost what they name.
     pub fn command(
@@ -335,14 +336,14 @@ impl Node {
 
     /// The clock that counts the operations applied.
     pub fn clock(&self) -> &Clock
-        ensures { IsClockOf (λ (o : Operation). o.id) self.now.state.applied result.now }
+        ensures { IsClockOf id_of self.now.state.applied result.now }
     {
         self.replica.clock()
     }
 
     /// Copies of the operations applied that the clock doesn't cover, in their order; `Err` where there is no memory for them.
     pub fn ops_since(&self, alloc: Global, clock: &Clock) -> Result<Vec<SoundOp>, AllocError>
-        ensures { IfOk result (λ ops. ops.items ≡ uncovered (λ (o : Operation). o.id) clock.now self.now.state.applied) }
+        ensures { IfOk result (λ ops. ops.items ≡ uncovered id_of clock.now self.now.state.applied) }
     {
         self.replica.ops_since(alloc, clock)
     }
@@ -381,7 +382,7 @@ impl Node {
 /// Issues the operations, if there are any.
 fn issue(replica: &mut Replica, ops: Issued)
     requires room { (ops ≡ [] → ⊥) → HasRoomFor replica.old.applied replica.old.room ops }
-    requires issued { AreIssued (λ (o : Operation). o.id) (λ (o : Operation). o.clock) replica.old.applied ops }
+    requires issued { AreIssued id_of clock_of replica.old.applied ops }
     ensures start { replica.new.start ≡ replica.old.start }
     ensures applied { replica.new.applied ≡ replica.old.applied ++ ops }
     ensures held { KeepsHeld ops replica.old.held replica.new.held }

@@ -2,14 +2,13 @@
 
 ghost use Rattle.std.specs.Prelude.{◌≡◌, ◌++◌, IfOk, IfErr, IsSome, Some};
 ghost use Rattle.causal_inbox.specs.Seen.{AreIssued};
-ghost use Rattle.crdt_ops.specs.declared.op.Op.{Op as Operation};
 ghost use Rattle.imap_commands.specs.Gives.{Gives};
 ghost use Rattle.imap_commands.specs.declared.session.Session.{Session as One};
 ghost use Rattle.imap_node.specs.Endings.{answers_of_course, course_from, ending_behind, ending_of, moved_from};
 ghost use Rattle.imap_node.specs.Feeds.{AreAllNoted, IsNews, IsNotedFor};
 ghost use Rattle.imap_node.specs.Going.{CanGo, state_onward};
 ghost use Rattle.imap_node.specs.Nodes.{IsReady};
-ghost use Rattle.imap_node.specs.Operations.{CanIssueAll};
+ghost use Rattle.imap_node.specs.Operations.{CanIssueAll, clock_of, id_of};
 ghost use Rattle.imap_node.specs.Plans.{IsAnswered, Prepares};
 ghost use Rattle.imap_node.specs.Replays.{view_in, view_of};
 ghost use Rattle.imap_node.specs.Respond.{IsRefused, IsStamp, wants_of};
@@ -18,7 +17,7 @@ ghost use Rattle.imap_node.specs.Sessions.{IsOpen, session_at};
 ghost use Rattle.session_view.specs.Seen.{Seen};
 
 use crate::course::{Course, condstore_after, course_of, idling_after, joined};
-use crate::ending::{Front, Untold, ending, ending_in_place};
+use crate::ending::{Anew, Front, Untold, ending, ending_in_place};
 use crate::feeds::Feeds;
 use crate::going::{Going, Onward};
 use crate::input::Input;
@@ -103,7 +102,7 @@ pub fn prepare_for(
     ensures applied { replica.new.applied ≡ replica.old.applied }
     ensures held { replica.new.held ≡ replica.old.held }
     ensures room { IfOk result (λ p. HasRoomFor replica.new.applied replica.new.room p.ops) }
-    ensures issued { IfOk result (λ p. AreIssued (λ (o : Operation). o.id) (λ (o : Operation). o.clock) replica.old.applied p.ops) }
+    ensures issued { IfOk result (λ p. AreIssued id_of clock_of replica.old.applied p.ops) }
     ensures news { IfOk result (λ p. IsNews replica.old.start replica.old.applied (replica.old.applied ++ p.ops) p.news) }
     ensures can { (s : One) → session_at sessions.old number ≡ Some s → IfOk result (λ p. CanGo replica.old.start (replica.old.applied ++ p.ops) s.state p.answered.going.onward) }
     ensures ok { (s : One) → session_at sessions.old number ≡ Some s → IfOk result (λ p. Prepares replica.old.start replica.old.applied s input.now p) }
@@ -132,7 +131,7 @@ fn prepare_at(
     ensures applied { replica.new.applied ≡ replica.old.applied }
     ensures held { replica.new.held ≡ replica.old.held }
     ensures room { IfOk result (λ p. HasRoomFor replica.new.applied replica.new.room p.ops) }
-    ensures issued { IfOk result (λ p. AreIssued (λ (o : Operation). o.id) (λ (o : Operation). o.clock) replica.old.applied p.ops) }
+    ensures issued { IfOk result (λ p. AreIssued id_of clock_of replica.old.applied p.ops) }
     ensures news { IfOk result (λ p. IsNews replica.old.start replica.old.applied (replica.old.applied ++ p.ops) p.news) }
     ensures can { (s : One) → place.old ≡ Some s → IfOk result (λ p. CanGo replica.old.start (replica.old.applied ++ p.ops) s.state p.answered.going.onward) }
     ensures ok { (s : One) → place.old ≡ Some s → IfOk result (λ p. Prepares replica.old.start replica.old.applied s input.now p) }
@@ -158,7 +157,7 @@ fn prepare(
     ensures applied { replica.new.applied ≡ replica.old.applied }
     ensures held { replica.new.held ≡ replica.old.held }
     ensures room { IfOk result (λ p. HasRoomFor replica.new.applied replica.new.room p.ops) }
-    ensures issued { IfOk result (λ p. AreIssued (λ (o : Operation). o.id) (λ (o : Operation). o.clock) replica.old.applied p.ops) }
+    ensures issued { IfOk result (λ p. AreIssued id_of clock_of replica.old.applied p.ops) }
     ensures news { IfOk result (λ p. IsNews replica.old.start replica.old.applied (replica.old.applied ++ p.ops) p.news) }
     ensures can { IfOk result (λ p. CanGo replica.old.start (replica.old.applied ++ p.ops) session.old.state p.answered.going.onward) }
     ensures ok { IfOk result (λ p. Prepares replica.old.start replica.old.applied session.old input.now p) }
@@ -327,8 +326,12 @@ fn ended(
 {
     match moved {
         Some(next) => {
-            let (answers, state) = ending(alloc, replica, ops, next, front)?;
-            Ok((answers, Onward::Moves { state }))
+            let Anew {
+                answers,
+                state,
+                shows_all,
+            } = ending(alloc, replica, ops, next, front)?;
+            Ok((answers, Onward::Moves { state, shows_all }))
         }
         None => ending_in_place(alloc, replica, ops, state, untold, front),
     }

@@ -7,10 +7,10 @@ ghost use Rattle.causal_inbox.specs.Stalls.{StallsFor};
 ghost use Rattle.causal_inbox.specs.declared.answers.IssueFault.TheVariants.{Exhausted as UsedUp};
 ghost use Rattle.crdt_ops.specs.Sets.{delete_set_of, folder_tags_of, folders_of, messages_of, subscribed_of, subscription_tags_of};
 ghost use Rattle.crdt_ops.specs.Sound.{IsSound};
-ghost use Rattle.crdt_ops.specs.declared.op.Op.{Op as Operation};
 ghost use Rattle.folder_state.specs.Contents.{IsMadeBy};
 ghost use Rattle.folder_state.specs.Tables.{contents_of};
 ghost use Rattle.imap_node.specs.Nodes.{IsReady, replica_received};
+ghost use Rattle.imap_node.specs.Operations.{clock_of, id_of};
 ghost use Rattle.imap_node.specs.Rooms.{HasRoomFor};
 ghost use Rattle.merge_laws.specs.Orders.{AreSound, IsCausal};
 ghost use Rattle.subs_state.specs.Subscriptions.{IsMadeBy as AreMadeBy};
@@ -89,7 +89,7 @@ impl Replica {
     /// The operations applied, in their order, which is causal.
     pub fn applied(&self) -> &[SoundOp]
         ensures applied { result.now ≡ self.now.applied }
-        ensures lawful { IsLawful (λ (o : Operation). o.id) (λ (o : Operation). o.clock) (replica_received self.now) }
+        ensures lawful { IsLawful id_of clock_of (replica_received self.now) }
         ensures sound { AreSound IsSound self.now.applied }
     {
         self.inbox.op_list()
@@ -98,7 +98,7 @@ impl Replica {
     /// The operations held, by ascending ids.
     pub fn held(&self) -> HeldOps<'_, SoundOp>
         ensures held { result ≡ self.now.held }
-        ensures lawful { IsLawful (λ (o : Operation). o.id) (λ (o : Operation). o.clock) (replica_received self.now) }
+        ensures lawful { IsLawful id_of clock_of (replica_received self.now) }
         ensures sound { AreSound IsSound self.now.held }
     {
         let _list = self.inbox.op_list();
@@ -107,14 +107,14 @@ impl Replica {
 
     /// The clock that counts the operations applied.
     pub fn clock(&self) -> &Clock
-        ensures { IsClockOf (λ (o : Operation). o.id) self.now.applied result.now }
+        ensures { IsClockOf id_of self.now.applied result.now }
     {
         self.inbox.clock()
     }
 
     /// Copies of the operations applied that the clock doesn't cover, in their order; `Err` where there is no memory for them.
     pub fn ops_since(&self, alloc: Global, clock: &Clock) -> Result<Vec<SoundOp>, AllocError>
-        ensures { IfOk result (λ ops. ops.items ≡ uncovered (λ (o : Operation). o.id) clock.now self.now.applied) }
+        ensures { IfOk result (λ ops. ops.items ≡ uncovered id_of clock.now self.now.applied) }
     {
         self.inbox.ops_since(alloc, clock)
     }
@@ -126,7 +126,7 @@ impl Replica {
         ensures applied { self.new.applied ≡ self.old.applied }
         ensures held { self.new.held ≡ self.old.held }
         ensures room { OnOk result (HasRoomFor self.new.applied self.new.room ops.now) }
-        ensures exhausted { IsCausal (λ (o : Operation). o.id) (λ (o : Operation). o.clock) (self.old.applied ++ ops.now) → (result ≡ Err UsedUp) ↔ Exhausts self.old.start self.old.applied ops.now }
+        ensures exhausted { IsCausal id_of clock_of (self.old.applied ++ ops.now) → (result ≡ Err UsedUp) ↔ Exhausts self.old.start self.old.applied ops.now }
     {
         self.inbox.ready(alloc, ops)
     }
@@ -134,10 +134,10 @@ impl Replica {
     /// Applies the replica's own next operations, for which there is room; takes no memory.
     pub fn issue(&mut self, ops: Vec<SoundOp>)
         requires room { HasRoomFor self.old.applied self.old.room ops.items }
-        requires issued { AreIssued (λ (o : Operation). o.id) (λ (o : Operation). o.clock) self.old.applied ops.items }
+        requires issued { AreIssued id_of clock_of self.old.applied ops.items }
         ensures start { self.new.start ≡ self.old.start }
         ensures applied { self.new.applied ≡ self.old.applied ++ ops.items }
-        ensures held { AreKept (λ (o : Operation). o.id) ops.items self.old.held self.new.held }
+        ensures held { AreKept id_of ops.items self.old.held self.new.held }
     {
         self.inbox.issue(ops);
     }
@@ -145,8 +145,8 @@ impl Replica {
     /// Receives an operation: applies it and those that waited for it, or holds it where it is early. An error leaves the
     /// replica as it was.
     pub fn deliver(&mut self, alloc: Global, op: SoundOp) -> Result<Delivered, DeliverFault>
-        ensures answer { MatchResult result (λ d. Arrives (λ (o : Operation). o.id) (λ (o : Operation). o.clock) Exhausts (replica_received self.old) op d.arrival (replica_received self.new)) (λ e. Refuses (λ (o : Operation). o.id) (λ (o : Operation). o.clock) Exhausts (replica_received self.old) op e) }
-        ensures stalled { IfOk result (λ d. IsTrue d.stalled ↔ IsStalled (λ (o : Operation). o.id) (λ (o : Operation). o.clock) (replica_received self.new)) }
+        ensures answer { MatchResult result (λ d. Arrives id_of clock_of Exhausts (replica_received self.old) op d.arrival (replica_received self.new)) (λ e. Refuses id_of clock_of Exhausts (replica_received self.old) op e) }
+        ensures stalled { IfOk result (λ d. IsTrue d.stalled ↔ IsStalled id_of clock_of (replica_received self.new)) }
         ensures err { OnErr result (replica_received self.new ≡ replica_received self.old) }
     {
         self.inbox.deliver(alloc, op)
@@ -154,8 +154,8 @@ impl Replica {
 
     /// Applies held operations whose causes were all applied, the least id first, until there is none or one is refused.
     pub fn drain(&mut self, alloc: Global) -> Drained
-        ensures released { AreReleased (λ (o : Operation). o.id) (λ (o : Operation). o.clock) Exhausts result.applied (replica_received self.old) (replica_received self.new) }
-        ensures stalled { IsTrue result.stalled ↔ IsStalled (λ (o : Operation). o.id) (λ (o : Operation). o.clock) (replica_received self.new) }
+        ensures released { AreReleased id_of clock_of Exhausts result.applied (replica_received self.old) (replica_received self.new) }
+        ensures stalled { IsTrue result.stalled ↔ IsStalled id_of clock_of (replica_received self.new) }
         ensures at_most { result.applied ≤ held_limit }
     {
         self.inbox.drain(alloc)
@@ -164,7 +164,7 @@ impl Replica {
     /// Why a ripe operation is held, if one is. What was received stays.
     pub fn stall(&mut self, alloc: Global) -> Option<Stall>
         ensures same { replica_received self.new ≡ replica_received self.old }
-        ensures stalls { StallsFor (λ (o : Operation). o.id) (λ (o : Operation). o.clock) Exhausts (replica_received self.old) result }
+        ensures stalls { StallsFor id_of clock_of Exhausts (replica_received self.old) result }
     {
         self.inbox.stall(alloc)
     }

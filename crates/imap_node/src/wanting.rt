@@ -25,9 +25,10 @@ use crate::telling::mailbox_before;
 use crdt_ops::Kind;
 use imap_answers::Refusal;
 use imap_commands::{
-    CopyAsked, FetchAsked, State, StoreAsked, append_wants, close_wants, copy_wants, create_wants,
-    created_name, delete_wants, expunge_wants, fetch_wants, login_wants, move_wants, search_wants,
-    select_wants, status_wants, store_wants, subscribe_wants, uid_expunge_wants, unsubscribe_wants,
+    AppendAsked, CopyAsked, FetchAsked, State, StoreAsked, append_wants, close_wants, copy_wants,
+    create_wants, created_name, delete_wants, expunge_wants, fetch_wants, login_wants, move_wants,
+    search_wants, select_wants, status_wants, store_wants, subscribe_wants, uid_expunge_wants,
+    unsubscribe_wants,
 };
 use imap_syntax::{Command, IdleLine, SearchStep};
 use imap_types::{DateTime, Flags, Name, Octets, SequenceSet, Text};
@@ -86,7 +87,15 @@ fn wants(
             flags,
             date,
             text,
-        } => wants_append(alloc, replica, stamp, state, name, flags, date, text),
+        } => {
+            let asked = AppendAsked {
+                name,
+                flags,
+                date,
+                text,
+            };
+            wants_append(alloc, replica, stamp, state, &asked)
+        }
         Command::Idle => known(alloc, state),
         Command::Close => wants_close(alloc, replica, state),
         Command::Unselect => selected(alloc, state),
@@ -298,17 +307,14 @@ fn wants_append(
     replica: &Replica,
     stamp: &DateTime,
     state: &State,
-    name: &Name,
-    flags: &Flags,
-    date: &Option<DateTime>,
-    text: &Text,
+    asked: &AppendAsked<'_>,
 ) -> Result<Vec<Kind>, Refusal>
-    ensures { Gives (λ kinds. kinds.items) result (when_known state.now (append_wants (is_there name.now replica.now.applied) name.now flags.now date.now stamp.now text.now)) }
+    ensures { Gives (λ kinds. kinds.items) result (when_known state.now (append_wants (is_there asked.now.name replica.now.applied) stamp.now asked.now)) }
 {
     if !is_known(state) {
         return Err(Refusal::NotNow);
     }
-    append_wants(alloc, replica.exists(name), name, flags, date, stamp, text)
+    append_wants(alloc, replica.exists(asked.name), stamp, asked)
 }
 
 fn wants_close(alloc: Global, replica: &Replica, state: &State) -> Result<Vec<Kind>, Refusal>

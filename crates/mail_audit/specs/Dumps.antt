@@ -4,49 +4,15 @@ use Rattle.std.specs.List.{flat_map}
 use Rattle.tags_clocks.specs.declared.id.OpId.{OpId}
 use Rattle.tags_clocks.specs.Clock.{IsCause}
 use Rattle.merge_laws.specs.Orders.{AreSound, HasId, IsIn}
-use Rattle.crdt_ops.specs.declared.message.Message.{Message}
 use Rattle.crdt_ops.specs.declared.op.Op.{Op}
 use Rattle.crdt_ops.specs.Form.{IsInForm, IsReplica}
 use Rattle.crdt_ops.specs.Order.{IsAscending, id_order}
-use Rattle.crdt_ops.specs.Sets.{folder_tags_of, folders_of, messages_of, subscribed_of, subscription_tags_of}
 use Rattle.crdt_ops.specs.Sound.{IsSound}
-use Rattle.crdt_ops.specs.Text.{flags_text, id_text, ids_text, letter_text, name_text, op_text}
+use Rattle.dump_lines.specs.DumpLines.{op_line, state_text}
 
 -- The first line of a replica's dump.
 abbrev pub dump_line : ℕ → List ℕ
 dump_line replica = codes "dump " ++ decimal replica
-
--- The line of an operation.
-abbrev pub op_line : Op → List ℕ
-op_line op = codes "op " ++ (op_text op ++ 10 ∷ [])
-
--- The line of a folder, with the ids of its present folder tags.
-abbrev pub folder_line : List Op → List ℕ → List ℕ
-folder_line ops folder = codes "folder " ++ (name_text folder ++ 32 ∷ (ids_text (folder_tags_of ops folder) ++ 10 ∷ []))
-
--- A message's date and text, each behind a space (32), and the end of their line.
-abbrev pub dated_text : Message → List ℕ
-dated_text message = 32 ∷ (message.date ++ 32 ∷ (letter_text message.text ++ 10 ∷ []))
-
--- A message's flags, date and text, and the end of their line.
-abbrev pub body_text : Message → List ℕ
-body_text message = flags_text message.flags ++ dated_text message
-
--- The line of a message: its origin, its versions, and what it says.
-abbrev pub message_line : Message → List ℕ
-message_line message = codes "message " ++ (id_text message.origin ++ 32 ∷ (ids_text message.versions ++ 32 ∷ body_text message))
-
--- The lines of a folder: its own, and those of its messages by their origins.
-abbrev pub folder_lines : List Op → List ℕ → List ℕ
-folder_lines ops folder = folder_line ops folder ++ flat_map message_line (messages_of ops folder)
-
--- The line of a name that is subscribed to, with the ids of its present subscription tags.
-abbrev pub subscription_line : List Op → List ℕ → List ℕ
-subscription_line ops name = codes "subscribed " ++ (name_text name ++ 32 ∷ (ids_text (subscription_tags_of ops name) ++ 10 ∷ []))
-
--- What the set of these operations defines: its folders with their messages, and the names that are subscribed to.
-abbrev pub state_text : List Op → List ℕ
-state_text ops = flat_map (folder_lines ops) (folders_of ops) ++ flat_map (subscription_line ops) (subscribed_of ops)
 
 -- The list has an operation for each cause of its operations.
 abbrev pub HasCauses : List Op → Type 0

@@ -4,7 +4,7 @@ use Rattle.causal_inbox.specs.Owns.{IsLeastOwn}
 use Rattle.crdt_ops.specs.declared.op.Op.{Op}
 use Rattle.mail_replay.specs.declared.stage.Replica.{Replica}
 use Rattle.mail_replay.proofs.StageLemmas.{some_same, stands_at}
-use Rattle.world_core.specs.Moments.{id_of}
+use Rattle.imap_node.specs.Operations.{id_of}
 
 -- what a list that is as it was gives at a place stood there
 pub there_still : (old items : List Replica) (place : ℕ) (x : Replica) → items ≡ old → place < length old → x ≡ get_or items place x → slice_get old place ≡ Some x

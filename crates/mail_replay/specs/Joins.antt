@@ -8,8 +8,9 @@ use Rattle.mail_script.specs.declared.outcome.OutcomeLine.TheVariants.{Joined}
 use Rattle.mail_replay.specs.Deliveries.{StandsAt}
 use Rattle.mail_replay.specs.Stage.{Scene, replica_place}
 use Rattle.mail_replay.specs.declared.stage.Replica.{Replica}
-use Rattle.world_core.specs.Joins.{LacksNumbers, joined}
-use Rattle.world_core.specs.Moments.{id_of}
+use Rattle.imap_node.specs.Nodes.{joined}
+use Rattle.imap_node.specs.Operations.{id_of}
+use Rattle.world_core.specs.Joins.{LacksNumbers}
 
 -- A replica of this name that applied these operations, as if each had been delivered to it in turn, and that has issued none.
 abbrev pub IsJoined : ℕ → List Op → Replica → Type 0

@@ -35,7 +35,7 @@ use Rattle.uid_projection.specs.declared.start.Start.{Start}
 use Rattle.uid_projection.specs.Incarnations.{uidvalidity_of}
 use Rattle.imap_node.specs.Commands.{Tells, by_kind, highest_of, highest_told, is_idle, is_selecting, notice, sync_of, tells, turns_on}
 use Rattle.imap_node.specs.Endings.{Course, answers_of_course, ending, ending_of}
-use Rattle.imap_node.specs.GoingBack.{uids_of}
+use Rattle.session_view.specs.Changes.{uids_of}
 use Rattle.imap_node.specs.Mailboxes.{mailbox_in, rows_for}
 use Rattle.imap_node.specs.Nodes.{NodeState}
 use Rattle.imap_node.specs.Replays.{base_of, replayed_on, view_at}

@@ -3,7 +3,7 @@ use Rattle.imap_answers.specs.declared.answer.Answer.{Answer}
 use Rattle.imap_syntax.specs.declared.command.Command.{Command}
 use Rattle.imap_syntax.specs.declared.command.Command.TheVariants as commands
 use Rattle.session_view.specs.Seen.{Seen}
-use Rattle.imap_node.specs.GoingBack.{uids_of}
+use Rattle.session_view.specs.Changes.{uids_of}
 use Rattle.imap_node.specs.declared.input.Input.{Input}
 use Rattle.imap_node.specs.declared.input.Input.TheVariants as inputs
 use Rattle.imap_node.specs.declared.reply.Reply.{Reply}

@@ -4,12 +4,13 @@ ghost use Rattle.std.specs.Prelude.{◌≡◌, ◌++◌, ◌∷◌, [], ℕ, Lis
 ghost use Rattle.std.specs.Fmt.{decimal};
 ghost use Rattle.std.specs.List.{flat_map};
 ghost use Rattle.crdt_ops.specs.Sets.{folders_of, subscribed_of};
-ghost use Rattle.crdt_ops.specs.Text.{ids_text, letter_text, name_text};
-ghost use Rattle.node_talk.specs.Dumps.{IsDump, body_text, dated_text, folder_line, folder_lines, message_line, message_lines, op_line, op_lines_by, own_line, state_text, subscription_line};
+ghost use Rattle.dump_lines.specs.DumpLines.{folder_line, folder_lines, op_line, state_text, subscription_line};
+ghost use Rattle.node_talk.specs.Dumps.{IsDump, op_lines_by, own_line};
 
-use crdt_ops::{Ids, Message, SoundOp, write_flags, write_id, write_ids, write_op};
+use crdt_ops::{SoundOp, write_op};
+use dump_lines::{push_messages, push_named_line};
 use imap_node::{Node, Replica};
-use imap_types::{Escape, Name, Text, write_escaped};
+use imap_types::Name;
 use itoa::Buffer;
 use merge_laws::Caused;
 use std::alloc::{AllocError, Global};
@@ -140,7 +141,8 @@ fn push_folder(
     ensures { OnOk result (text.new.items ≡ text.old.items ++ folder_lines replica.now.applied folder.now) }
 {
     push_folder_line(alloc, replica, folder, text)?;
-    push_messages(alloc, replica, folder, text)
+    let messages = replica.messages(alloc, folder)?;
+    push_messages(alloc, &messages, text)
 }
 
 fn push_folder_line(
@@ -152,80 +154,7 @@ fn push_folder_line(
     ensures { OnOk result (text.new.items ≡ text.old.items ++ folder_line replica.now.applied folder.now) }
 {
     let tags = replica.tags(alloc, folder)?;
-    push_named(b"folder ", folder, text)?;
-    push_tags(alloc, &tags, text)
-}
-
-/// A word with the space behind it, and a name.
-fn push_named(word: &[u8], name: &Name, text: &mut Vec<u8>) -> Result<(), AllocError>
-    ensures { OnOk result (text.new.items ≡ text.old.items ++ (word.now ++ name_text name.now)) }
-{
-    text.extend_from_slice(word)?;
-    write_escaped(Escape::Field, name.as_bytes(), text)?;
-    Ok(())
-}
-
-/// The ids of tags, behind a space, and the end of their line.
-fn push_tags(alloc: Global, tags: &Ids, text: &mut Vec<u8>) -> Result<(), AllocError>
-    ensures { OnOk result (text.new.items ≡ text.old.items ++ 32 ∷ (ids_text tags.now ++ 10 ∷ [])) }
-{
-    text.push(b' ')?;
-    write_ids(alloc, tags, text)?;
-    text.push(b'\n')?;
-    Ok(())
-}
-
-/// The lines of a folder's messages.
-fn push_messages(
-    alloc: Global,
-    replica: &Replica,
-    folder: &Name,
-    text: &mut Vec<u8>,
-) -> Result<(), AllocError>
-    ensures { OnOk result (text.new.items ≡ text.old.items ++ message_lines replica.now.applied folder.now) }
-{
-    let messages = replica.messages(alloc, folder)?;
-    for message in messages.iter() {
-        push_message(alloc, message, text)?;
-    }
-    Ok(())
-}
-
-fn push_message(alloc: Global, message: &Message, text: &mut Vec<u8>) -> Result<(), AllocError>
-    ensures { OnOk result (text.new.items ≡ text.old.items ++ message_line message.now) }
-{
-    text.extend_from_slice(b"message ")?;
-    write_id(alloc, message.origin, text)?;
-    text.push(b' ')?;
-    write_ids(alloc, &message.versions, text)?;
-    text.push(b' ')?;
-    push_body(message, text)
-}
-
-fn push_body(message: &Message, text: &mut Vec<u8>) -> Result<(), AllocError>
-    ensures { OnOk result (text.new.items ≡ text.old.items ++ body_text message.now) }
-{
-    write_flags(&message.flags, text)?;
-    push_dated(message, text)
-}
-
-/// The date and the text of a message, each behind a space, and the end of its line.
-fn push_dated(message: &Message, text: &mut Vec<u8>) -> Result<(), AllocError>
-    ensures { OnOk result (text.new.items ≡ text.old.items ++ dated_text message.now) }
-{
-    text.push(b' ')?;
-    text.extend_from_slice(message.date.as_bytes())?;
-    push_letter(&message.text, text)
-}
-
-/// The text of a message, behind a space, and the end of its line.
-fn push_letter(letter: &Text, text: &mut Vec<u8>) -> Result<(), AllocError>
-    ensures { OnOk result (text.new.items ≡ text.old.items ++ 32 ∷ (letter_text letter.now ++ 10 ∷ [])) }
-{
-    text.extend_from_slice(b" =")?;
-    write_escaped(Escape::Text, letter.as_bytes(), text)?;
-    text.push(b'\n')?;
-    Ok(())
+    push_named_line(alloc, b"folder ", folder, &tags, text)
 }
 
 /// The lines of the names that are subscribed to.
@@ -252,6 +181,5 @@ fn push_subscription(
     ensures { OnOk result (text.new.items ≡ text.old.items ++ subscription_line replica.now.applied name.now) }
 {
     let tags = replica.subscription_tags(alloc, name)?;
-    push_named(b"subscribed ", name, text)?;
-    push_tags(alloc, &tags, text)
+    push_named_line(alloc, b"subscribed ", name, &tags, text)
 }

@@ -63,6 +63,21 @@ fn a_session_is_behind_what_another_replica_did_until_it_is_told(rt: HostRuntime
     assert!(rt; is_behind_after(rt.alloc(), &mixed, b"-!-!-!!---!!-") == Some(true));
 }
 
+#[test]
+fn a_session_is_not_behind_what_select_shows(rt: HostRuntime) {
+    let selected = [
+        "c SELECT INBOX\r\n",
+        "d EXAMINE INBOX\r\n",
+        "elsewhere e STORE 1 +FLAGS (\\Seen)\r\n",
+        "f SELECT INBOX\r\n",
+        "g UNSELECT\r\n",
+        "elsewhere h APPEND INBOX {1+}\r\ny\r\n",
+        "i SELECT INBOX\r\n",
+        "j FETCH 2 FLAGS\r\n",
+    ];
+    assert!(rt; is_behind_after(rt.alloc(), &selected, b"--!-----") == Some(true));
+}
+
 /// Whether a session that has selected INBOX, with one message, may be behind after each of these steps as the marks say. A step `elsewhere ..` is another
 /// replica's, which hands its last operation on.
 fn is_behind_after(alloc: Global, steps: &[&str], marks: &[u8]) -> Option<bool> {

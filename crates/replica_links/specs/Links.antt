@@ -9,7 +9,7 @@ use Rattle.replica_links.specs.declared.message.Letter.{Letter}
 use Rattle.replica_links.specs.declared.message.LinkMsg.{LinkMsg}
 use Rattle.replica_links.specs.declared.message.LinkMsg.TheVariants.{Have, Ops, Stop}
 use Rattle.replica_links.specs.declared.took.Took.{Took}
-use Rattle.replica_lock.specs.Joins.{clock_of, id_of}
+use Rattle.imap_node.specs.Operations.{clock_of, id_of}
 use Rattle.replica_lock.specs.Passes.{Held as PassHeld, IsCalled}
 use Rattle.replica_lock.specs.declared.event.BookEvent.TheVariants.{Deliver, Drain}
 use Rattle.replica_lock.specs.declared.outcome.Outcome.{Outcome}

@@ -11,9 +11,10 @@ use Rattle.causal_inbox.specs.declared.answers.Arrival.TheVariants.{Applied, Hel
 use Rattle.causal_inbox.specs.declared.answers.DeliverFault.TheVariants as delivering
 use Rattle.crdt_ops.specs.declared.op.Op.{Op}
 use Rattle.imap_node.specs.Deliveries.{Delivers, HoldsRipe}
-use Rattle.imap_node.specs.Nodes.{NodeState, received}
+use Rattle.imap_node.specs.Nodes.{NodeState, first_numbers, joined, received}
 use Rattle.replica_lock.specs.Histories.{Recorded}
-use Rattle.replica_lock.specs.Joins.{IsUnjoined, IsUntaken, Stops, clock_of, first_numbers, id_of, joined, joined_book, taken, told_by, told_by_arrival}
+use Rattle.imap_node.specs.Operations.{clock_of, id_of}
+use Rattle.replica_lock.specs.Joins.{IsUnjoined, IsUntaken, Stops, joined_book, taken, told_by, told_by_arrival}
 use Rattle.causal_inbox.specs.Owns.{IsLeastOwn}
 use Rattle.replica_lock.specs.Steps.{IsStep}
 use Rattle.replica_lock.specs.declared.book.Entry.{Entry}

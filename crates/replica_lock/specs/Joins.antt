@@ -4,7 +4,8 @@ use Rattle.causal_inbox.specs.declared.answers.Arrival.{Arrival}
 use Rattle.causal_inbox.specs.declared.answers.Arrival.TheVariants.{Applied, Held, Repeat}
 use Rattle.causal_inbox.specs.declared.answers.DeliverFault.TheVariants as delivering
 use Rattle.crdt_ops.specs.declared.op.Op.{Op}
-use Rattle.imap_node.specs.Nodes.{NodeState}
+use Rattle.imap_node.specs.Nodes.{NodeState, first_numbers, joined}
+use Rattle.imap_node.specs.Operations.{clock_of, id_of}
 use Rattle.merge_laws.specs.Orders.{IsCausal, IsRipe}
 use Rattle.replica_lock.specs.Histories.{Recorded}
 use Rattle.causal_inbox.specs.Owns.{IsLeastOwn}
@@ -15,21 +16,6 @@ use Rattle.replica_lock.specs.declared.faults.JoinFault.TheVariants.{Exhausted, 
 use Rattle.replica_lock.specs.declared.outcome.Outcome.{Outcome}
 use Rattle.replica_lock.specs.declared.outcome.Outcome.TheVariants.{Delivered}
 use Rattle.uid_projection.specs.Exhaustion.{Exhausts}
-use Rattle.uid_projection.specs.declared.start.Start.{Start}
-
-abbrev pub id_of : Op → OpId
-id_of op = op.id
-
-abbrev pub clock_of : Op → List (ℕ × ℕ)
-clock_of op = op.clock
-
--- What the counters of a replica that joins begin with: its UIDs and its incarnations count from 1.
-abbrev pub first_numbers : ℕ → Start
-first_numbers name = record { replica = name; uid = 1; k = 1 }
-
--- A replica of this name that applied these operations, holds nothing and has no sessions.
-abbrev pub joined : ℕ → List Op → NodeState
-joined name ops = record { start = first_numbers name; applied = ops; held = []; sessions = [] }
 
 -- The entry of an operation that was delivered and applied, and that no held one waited for.
 abbrev pub taken : Op → Entry

@@ -16,11 +16,6 @@ use Rattle.replica_lock.specs.declared.event.BookEvent.{BookEvent}
 use Rattle.replica_lock.specs.declared.event.BookEvent.TheVariants.{Close, Command, Deliver, Drain, Line, Open, Poll}
 use Rattle.replica_lock.specs.declared.outcome.Outcome.{Outcome}
 use Rattle.replica_lock.specs.declared.outcome.Outcome.TheVariants.{Closed, Delivered, Drained, Opened, PassedOver, Replied}
-use Rattle.uid_projection.specs.declared.start.Start.{Start}
-
--- A node that has received nothing, without sessions, and with these first numbers.
-abbrev pub unused_node : Start → NodeState
-unused_node start = record { start = start; applied = []; held = []; sessions = [] }
 
 -- Whether a copy of an outcome takes memory: only that of a reply that was carried out does.
 abbrev pub takes_memory : Outcome → Bool

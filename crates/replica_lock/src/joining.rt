@@ -2,7 +2,9 @@
 
 ghost use Rattle.std.specs.Prelude.{◌≡◌, ◌∷◌, ◌++◌, [], IfErr, MatchResult, None, OnOk};
 ghost use Rattle.merge_laws.specs.Orders.{IsCausal, IsRipe};
-ghost use Rattle.replica_lock.specs.Joins.{IsUnjoined, IsUntaken, clock_of, first_numbers, id_of, joined_book, taken, told_by, told_by_arrival};
+ghost use Rattle.imap_node.specs.Nodes.{first_numbers};
+ghost use Rattle.imap_node.specs.Operations.{clock_of, id_of};
+ghost use Rattle.replica_lock.specs.Joins.{IsUnjoined, IsUntaken, joined_book, taken, told_by, told_by_arrival};
 ghost use Rattle.causal_inbox.specs.Owns.{IsLeastOwn};
 ghost use Rattle.uid_projection.specs.Exhaustion.{Exhausts};
 

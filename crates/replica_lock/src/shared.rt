@@ -4,7 +4,7 @@ ghost use Rattle.std.specs.Prelude.{◌≡◌, ◌≢◌, OnOk, OnErr, ◌<◌, 
 ghost use Rattle.causal_inbox.specs.Seen.{IsClockOf, uncovered};
 ghost use Rattle.crdt_ops.specs.declared.op.Op.{Op as Operation};
 ghost use Rattle.merge_laws.specs.Orders.{IsCausal};
-ghost use Rattle.replica_lock.specs.Joins.{clock_of, id_of};
+ghost use Rattle.imap_node.specs.Operations.{clock_of, id_of};
 
 use crate::bells::Bells;
 use crate::book::Book;

@@ -140,8 +140,7 @@ type Served<L> = Result<(Vec<Pass<L>>, Vec<Vec<u8>>), AllocError>;
 fn side_served<L: Ledger + Send + Sync, R: Threads + Wait + Clock + Log + Sync>(
     rt: &R,
     alloc: Global,
-    house: &House<'_>,
-    shared: &Shared<L>,
+    desk: &Desk<'_, L>,
     first: &mut Pass<L>,
     signs: &Signs,
     side: Side,
@@ -152,15 +151,10 @@ fn side_served<L: Ledger + Send + Sync, R: Threads + Wait + Clock + Log + Sync>(
         lines,
     } = side;
     let doors = doors_of(alloc, &ways, signs)?;
-    let desk = Desk {
-        house,
-        own: 0,
-        shared,
-    };
     let (heard, passes) = thread::join(
         rt,
         || thread::map_vec(rt, lines, &|line: Line| hear(rt, alloc, signs, line)),
-        || serve_over(rt, alloc, &desk, first, streams, doors),
+        || serve_over(rt, alloc, desk, first, streams, doors),
     );
     Ok((passes?, heard?))
 }
@@ -188,7 +182,12 @@ fn first_served<L: Ledger + Send + Sync, M: Ledger, R: Threads + Wait + Clock + 
     pass: &mut Pass<L>,
     side: Side,
 ) -> Served<L> {
-    side_served(rt, alloc, stage.house, stage.one, pass, stage.signs, side)
+    let desk = Desk {
+        house: stage.house,
+        own: 0,
+        shared: stage.one,
+    };
+    side_served(rt, alloc, &desk, pass, stage.signs, side)
 }
 
 /// Serves the second replica's connections.
@@ -199,7 +198,12 @@ fn second_served<L: Ledger, M: Ledger + Send + Sync, R: Threads + Wait + Clock +
     pass: &mut Pass<M>,
     side: Side,
 ) -> Served<M> {
-    side_served(rt, alloc, stage.house, stage.two, pass, stage.signs, side)
+    let desk = Desk {
+        house: stage.house,
+        own: 0,
+        shared: stage.two,
+    };
+    side_served(rt, alloc, &desk, pass, stage.signs, side)
 }
 
 /// Serves both replicas' connections, each in a thread.
@@ -243,31 +247,19 @@ fn served_beside<
     )
 }
 
-/// The same of these replicas in this house.
+/// The same of replicas that are lent for as long.
 fn served_on<
-    'a,
     L: Ledger + Send + Sync,
     M: Ledger + Send + Sync,
     R: Threads + Wait + Clock + Log + Sync,
 >(
     rt: &R,
     alloc: Global,
-    house: &'a House<'a>,
-    replicas: (&'a Shared<L>, &'a Shared<M>),
-    signs: &'a Signs,
-    hold: &'a Hold,
+    stage: Stage<'_, L, M>,
     near: &mut Pass<L>,
     far: &mut Pass<M>,
     sides: (Side, Side),
 ) -> (u64, (Served<L>, Served<M>)) {
-    let (one, two) = replicas;
-    let stage = Stage {
-        house,
-        one,
-        two,
-        signs,
-        hold,
-    };
     served_beside(rt, alloc, &stage, near, far, sides)
 }
 
@@ -324,13 +316,16 @@ fn played<
     let (heard, (served, other_served)) = served_on(
         rt,
         alloc,
-        &house,
-        (&one, &two),
-        &signs,
-        &Hold {
-            called,
-            until,
-            turns,
+        Stage {
+            house: &house,
+            one: &one,
+            two: &two,
+            signs: &signs,
+            hold: &Hold {
+                called,
+                until,
+                turns,
+            },
         },
         &mut near,
         &mut far,

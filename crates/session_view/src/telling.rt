@@ -90,41 +90,39 @@ pub fn told_by(
 {
     let count = count_of(view);
     let listed = rows.count();
+    let walk = walked(alloc, kind, modseq, rows, view, uids)?;
+    let mut came = Vec::new(alloc);
+    let last = last_staying(kind, rows, view);
+    push_new(alloc, last, rows, &mut came)?;
+    let _last = last_from(last, &came);
+    ended(alloc, count, listed, walk, came)
+}
+
+/// What a sync comes to where so many messages were looked through, with a listing of so many, and these come behind.
+fn ended(
+    alloc: Global,
+    count: u32,
+    listed: u32,
+    walk: Walk,
+    came: Vec<Entry>,
+) -> Result<Told, AllocError>
+    requires few { length walk.gone.items ≤ count }
+    requires fits { count - length walk.gone.items + length came.items < 2 ^ 32 }
+    ensures answers { IfOk result (λ told. told.answers.items ≡ expunged walk.gone.items ++ (announced (count - length walk.gone.items) (count - length walk.gone.items + length came.items) ++ walk.fetches.items)) }
+    ensures gone { IfOk result (λ told. told.patch.gone.items ≡ walk.gone.items) }
+    ensures came { IfOk result (λ told. told.patch.came.items ≡ came.items) }
+    ensures flags { IfOk result (λ told. told.patch.flags.items ≡ walk.flags.items) }
+    ensures left { IfOk result (λ told. told.left.items ≡ walk.left.items) }
+    ensures whole { IfOk result (λ told. told.whole ≡ true → count - length walk.gone.items + length came.items ≡ listed + length walk.left.items) }
+    ensures place { IfOk result (λ told. (came.items ≡ []) ⊎ ((count ≤ told.patch.place.most) × (length came.items ≤ told.patch.place.room))) }
+{
     let Walk {
         gone,
         flags,
         fetches,
         left,
         ..
-    } = walked(alloc, kind, modseq, rows, view, uids)?;
-    let mut came = Vec::new(alloc);
-    let last = last_staying(kind, rows, view);
-    push_new(alloc, last, rows, &mut came)?;
-    let _last = last_from(last, &came);
-    ended(alloc, count, listed, gone, came, flags, fetches, left)
-}
-
-/// What a sync comes to that takes these out of so many messages, puts these behind, and sets these flags, with a listing of so many.
-fn ended(
-    alloc: Global,
-    count: u32,
-    listed: u32,
-    gone: Vec<u32>,
-    came: Vec<Entry>,
-    flags: Vec<Silent>,
-    fetches: Vec<Answer>,
-    left: Vec<Note>,
-) -> Result<Told, AllocError>
-    requires few { length gone.items ≤ count }
-    requires fits { count - length gone.items + length came.items < 2 ^ 32 }
-    ensures answers { IfOk result (λ told. told.answers.items ≡ expunged gone.items ++ (announced (count - length gone.items) (count - length gone.items + length came.items) ++ fetches.items)) }
-    ensures gone { IfOk result (λ told. told.patch.gone.items ≡ gone.items) }
-    ensures came { IfOk result (λ told. told.patch.came.items ≡ came.items) }
-    ensures flags { IfOk result (λ told. told.patch.flags.items ≡ flags.items) }
-    ensures left { IfOk result (λ told. told.left.items ≡ left.items) }
-    ensures whole { IfOk result (λ told. told.whole ≡ true → count - length gone.items + length came.items ≡ listed + length left.items) }
-    ensures place { IfOk result (λ told. (came.items ≡ []) ⊎ ((count ≤ told.patch.place.most) × (length came.items ≤ told.patch.place.room))) }
-{
+    } = walk;
     let answers = answered(alloc, count, &gone, &came, fetches)?;
     let whole = is_whole(
         count as usize - gone.len() + came.len(),

@@ -30,35 +30,51 @@ pub struct Planned {
     pub change: Change,
 }
 
-/// What a sync tells behind these flags, which the session sets itself or was told, over a listing that differs from an earlier one in what these notes name;
-/// the feed names how the view differs from that one. View and feed stay as they were, so that a refused input has nothing to put back. `Err` where there is no
+/// How a sync is told (RFC 9051, section 7.5.1; RFC 7162, section 3.2).
+#[derive(Clone, Copy)]
+pub struct SyncForm {
+    /// Whether messages that are gone are told.
+    pub kind: SyncKind,
+    /// Whether mod-sequences are told.
+    pub modseq: bool,
+}
+
+/// What names how a view differs from its mailbox's listing.
+#[derive(Drop)]
+pub struct Noted<'a> {
+    /// How the view differs from an earlier listing.
+    pub feed: &'a Feed,
+    /// How that listing differs from the one that is there.
+    pub notes: &'a [Note],
+}
+
+/// What a sync tells behind these flags, which the session sets itself or was told, over a listing from which the view differs in what is noted. View and feed stay as they were, so that a refused input has nothing to put back. `Err` where there is no
 /// memory. Cost: what the notes and the feed name; where the feed missed some, all of a mailbox may differ, or there are many notes, one pass over the view and the listing.
 pub fn plan(
     alloc: Global,
     view: &mut View,
-    feed: &Feed,
     rows: &Rows<'_>,
-    notes: &[Note],
+    noted: Noted<'_>,
     first: Vec<Silent>,
-    kind: SyncKind,
-    modseq: bool,
+    form: SyncForm,
 ) -> Result<Planned, AllocError>
-    requires { (before : List Listed) × IsNoted feed.now.pending before view.old.entries × NamesAll notes.now rows.now (entries_of before) }
+    requires { (before : List Listed) × IsNoted noted.feed.now.pending before view.old.entries × NamesAll noted.notes.now rows.now (entries_of before) }
     ensures same { view.new ≡ view.old }
-    ensures answers { IfOk result (λ plan. plan.answers.items ≡ sync_answers kind modseq rows.now (after_silent view.old.entries first.items)) }
-    ensures changed { IfOk result (λ plan. changed view.old.entries plan.change ≡ synced kind rows.now (after_silent view.old.entries first.items)) }
+    ensures answers { IfOk result (λ plan. plan.answers.items ≡ sync_answers form.kind form.modseq rows.now (after_silent view.old.entries first.items)) }
+    ensures changed { IfOk result (λ plan. changed view.old.entries plan.change ≡ synced form.kind rows.now (after_silent view.old.entries first.items)) }
     ensures change { IfOk result (λ plan. IsChangeTo rows.now view.old.entries plan.change) }
     ensures can { IfOk result (λ plan. CanCommit view.old.entries plan.change) }
 {
-    let Some(noted) = feed.notes() else {
-        return compared(alloc, view, rows, first, kind, modseq);
+    let Noted { feed, notes } = noted;
+    let Some(kept) = feed.notes() else {
+        return compared(alloc, view, rows, first, form);
     };
-    let count = noted.len().saturating_add(notes.len());
-    if have_end(noted) || have_end(notes) || are_many(count, view.entries().len()) {
-        return compared(alloc, view, rows, first, kind, modseq);
+    let count = kept.len().saturating_add(notes.len());
+    if have_end(kept) || have_end(notes) || are_many(count, view.entries().len()) {
+        return compared(alloc, view, rows, first, form);
     }
-    let all = joined(alloc, noted, notes)?;
-    in_place(alloc, view, rows, all, first, kind, modseq)
+    let all = joined(alloc, kept, notes)?;
+    in_place(alloc, view, rows, all, first, form)
 }
 
 /// Whether so many notes of so many messages are too many to look each up.
@@ -74,20 +90,19 @@ fn compared(
     view: &mut View,
     rows: &Rows<'_>,
     first: Vec<Silent>,
-    kind: SyncKind,
-    modseq: bool,
+    form: SyncForm,
 ) -> Result<Planned, AllocError>
     ensures same { view.new ≡ view.old }
-    ensures answers { IfOk result (λ plan. plan.answers.items ≡ sync_answers kind modseq rows.now (after_silent view.old.entries first.items)) }
-    ensures changed { IfOk result (λ plan. changed view.old.entries plan.change ≡ synced kind rows.now (after_silent view.old.entries first.items)) }
+    ensures answers { IfOk result (λ plan. plan.answers.items ≡ sync_answers form.kind form.modseq rows.now (after_silent view.old.entries first.items)) }
+    ensures changed { IfOk result (λ plan. changed view.old.entries plan.change ≡ synced form.kind rows.now (after_silent view.old.entries first.items)) }
     ensures change { IfOk result (λ plan. IsChangeTo rows.now view.old.entries plan.change) }
     ensures can { IfOk result (λ plan. CanCommit view.old.entries plan.change) }
 {
-    match kind {
-        SyncKind::Full => anew(alloc, view, rows, first, kind, modseq),
+    match form.kind {
+        SyncKind::Full => anew(alloc, view, rows, first, form),
         SyncKind::Partial => {
             notes_keep_up();
-            in_place(alloc, view, rows, ended(alloc)?, first, kind, modseq)
+            in_place(alloc, view, rows, ended(alloc)?, first, form)
         }
     }
 }
@@ -148,17 +163,23 @@ fn in_place(
     rows: &Rows<'_>,
     notes: Vec<Note>,
     first: Vec<Silent>,
-    kind: SyncKind,
-    modseq: bool,
+    form: SyncForm,
 ) -> Result<Planned, AllocError>
     requires { NamesAll notes.items rows.now view.old.entries }
     ensures same { view.new ≡ view.old }
-    ensures answers { IfOk result (λ plan. plan.answers.items ≡ sync_answers kind modseq rows.now (after_silent view.old.entries first.items)) }
-    ensures changed { IfOk result (λ plan. changed view.old.entries plan.change ≡ synced kind rows.now (after_silent view.old.entries first.items)) }
+    ensures answers { IfOk result (λ plan. plan.answers.items ≡ sync_answers form.kind form.modseq rows.now (after_silent view.old.entries first.items)) }
+    ensures changed { IfOk result (λ plan. changed view.old.entries plan.change ≡ synced form.kind rows.now (after_silent view.old.entries first.items)) }
     ensures change { IfOk result (λ plan. IsChangeTo rows.now view.old.entries plan.change) }
     ensures can { IfOk result (λ plan. CanCommit view.old.entries plan.change) }
 {
-    let ToldBehind { first, told } = view.told_behind(alloc, rows, notes, first, kind, modseq)?;
+    let ToldBehind { first, told } = view.told_behind(
+        alloc,
+        rows,
+        notes,
+        first,
+        form.kind,
+        form.modseq,
+    )?;
     let Told {
         answers,
         patch,
@@ -182,19 +203,18 @@ fn anew(
     view: &View,
     rows: &Rows<'_>,
     first: Vec<Silent>,
-    kind: SyncKind,
-    modseq: bool,
+    form: SyncForm,
 ) -> Result<Planned, AllocError>
-    ensures answers { IfOk result (λ plan. plan.answers.items ≡ sync_answers kind modseq rows.now (after_silent view.now.entries first.items)) }
-    ensures changed { IfOk result (λ plan. changed view.now.entries plan.change ≡ synced kind rows.now (after_silent view.now.entries first.items)) }
+    ensures answers { IfOk result (λ plan. plan.answers.items ≡ sync_answers form.kind form.modseq rows.now (after_silent view.now.entries first.items)) }
+    ensures changed { IfOk result (λ plan. changed view.now.entries plan.change ≡ synced form.kind rows.now (after_silent view.now.entries first.items)) }
     ensures change { IfOk result (λ plan. IsChangeTo rows.now view.now.entries plan.change) }
     ensures can { IfOk result (λ plan. CanCommit view.now.entries plan.change) }
 {
     counts_tell();
     let listed = rows.count();
     let seen = replayed(alloc, rows, view.entries(), &first, &[])?;
-    let SyncOutcome { entries, answers } = synced(alloc, kind, modseq, rows, &seen)?;
-    let whole = is_all(kind, entries.len(), listed);
+    let SyncOutcome { entries, answers } = synced(alloc, form.kind, form.modseq, rows, &seen)?;
+    let whole = is_all(form.kind, entries.len(), listed);
     Ok(Planned {
         answers,
         change: Change::Anew {

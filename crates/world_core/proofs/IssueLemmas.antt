@@ -5,7 +5,7 @@ use Rattle.crdt_ops.specs.declared.kind.Kind.{Kind}
 use Rattle.crdt_ops.specs.declared.op.Op.{Op}
 use Rattle.crdt_ops.specs.Sound.{IsSound}
 use Rattle.imap_commands.specs.declared.session.State.{State}
-use Rattle.imap_node.specs.Operations.{AreNext, CanIssueAll}
+use Rattle.imap_node.specs.Operations.{AreNext, CanIssueAll, id_of}
 use Rattle.imap_node.specs.Respond.{wants_of}
 use Rattle.imap_node.specs.declared.input.Input.{Input}
 use Rattle.imap_node.proofs.CanLemmas.{input_can}
@@ -16,7 +16,6 @@ use Rattle.merge_laws.proofs.Lists.{split_at}
 use Rattle.tags_clocks.specs.Clock.{count_of}
 use Rattle.uid_projection.specs.declared.start.Start.{Start}
 use Rattle.uid_projection.specs.Applied.{IsApplied}
-use Rattle.world_core.specs.Moments.{id_of}
 
 -- ---- what was issued
 

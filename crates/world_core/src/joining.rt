@@ -2,12 +2,12 @@
 
 ghost use Rattle.std.specs.Prelude.{◌≡◌, ◌≢◌, ◌∷◌, ◌++◌, [], Err, IfErr, IsTrue, MatchResult, None, OnErr, OnOk, false};
 ghost use Rattle.crdt_ops.specs.declared.op.Op.{Op as Operation};
-ghost use Rattle.imap_node.specs.Nodes.{NodeState};
+ghost use Rattle.imap_node.specs.Nodes.{NodeState, joined, unused_node};
 ghost use Rattle.merge_laws.specs.Orders.{IsCausal, IsRipe};
 ghost use Rattle.uid_projection.specs.Exhaustion.{Exhausts};
-ghost use Rattle.world_core.specs.Joins.{IsNotJoined, LacksNumbers, joined, outcome_of};
-ghost use Rattle.world_core.specs.Moments.{clock_of, id_of};
-ghost use Rattle.world_core.specs.Replicas.{IsAt, blank, by_name, states_of};
+ghost use Rattle.world_core.specs.Joins.{IsNotJoined, LacksNumbers, outcome_of};
+ghost use Rattle.imap_node.specs.Operations.{clock_of, id_of};
+ghost use Rattle.world_core.specs.Replicas.{IsAt, by_name, states_of};
 ghost use Rattle.world_core.specs.Steps.{Steps};
 ghost use Rattle.world_core.specs.declared.event.Event.TheVariants as events;
 ghost use Rattle.world_core.specs.declared.joining.JoinRefusal.TheVariants.{Exhausted as UsedUp};
@@ -127,7 +127,7 @@ pub fn with_operations_of(alloc: Global, name: ReplicaId, from: &Node) -> Result
 /// Has a node that has received nothing apply copies of these operations, in their order.
 fn take_all(alloc: Global, node: &mut Node, ops: &[SoundOp]) -> Result<(), JoinRefusal>
     requires causal { IsCausal id_of clock_of ops.now }
-    requires fresh { node.old.state ≡ blank node.old.state.start }
+    requires fresh { node.old.state ≡ unused_node node.old.state.start }
     ensures ok { OnOk result (node.new.state ≡ record node.old.state { applied = ops.now }) }
     ensures lasts { OnOk result (¬ Exhausts node.old.state.start [] ops.now) }
     ensures used_up { IfErr result (λ why. why ≡ UsedUp → Exhausts node.old.state.start [] ops.now) }

@@ -14,10 +14,10 @@ pub plan-requires : goal.plan-requires
 plan-requires c =
     let start = c.args.replica.now.start in
     let before = c.args.replica.now.applied in
-    asked_in_place start before (before ++ c.args.ops.now) c.in-Selected.view c.untold.inside.feed.now.pending c.untold.inside.news.now c.in_ok-rows-in-Selected.rows c.notes_of-notes.result.now c.name.result.now
+    asked_in_place start before (before ++ c.args.ops.now) c.in-Selected.view c.untold.inside.feed.now.pending c.untold.inside.news.now c.in_ok-rows-in-Selected.rows c.notes_of.result.now c.name.result.now
     (subst (λ (u : UntoldOf). IsNotedFor start before u.pending c.in-Selected.view) (sym c.untold.view_is) (c.requires.noted c.in-Selected.view (ap view_of c.in-Selected.is)))
     (subst (λ (u : UntoldOf). IsNews start before (before ++ c.args.ops.now) u.news) (sym c.untold.view_is) c.requires.news)
-    (c.in_ok-rows-in-Selected.ensures {u = tt}) c.name.ensures c.notes_of-notes.ensures
+    (c.in_ok-rows-in-Selected.ensures {u = tt}) c.name.ensures c.notes_of.ensures
 
 pub returns-in_ok-planned-in-Selected-clause-answers : goal.returns-in_ok-planned-in-Selected-clause-answers
 returns-in_ok-planned-in-Selected-clause-answers c =

@@ -3,7 +3,7 @@ use Rattle.causal_inbox.specs.Owns.{IsLeastOwn}
 use Rattle.crdt_ops.specs.declared.op.Op.{Op}
 use Rattle.mail_replay.proofs.JoinLemmas.{none_own, there_still}
 use Rattle.mail_replay.specs.declared.stage.Replica.{Replica}
-use Rattle.world_core.specs.Moments.{id_of}
+use Rattle.imap_node.specs.Operations.{id_of}
 use Rattle.mail_replay.proofs.joining.join_behind.Goals as goal
 
 pub returns-in-Some : goal.returns-in-Some

@@ -11,7 +11,7 @@ use Rattle.view_sync.proofs.planning.anew.Goals as goal
 
 pub returns-clause-change : goal.returns-clause-change
 returns-clause-change c = λ h.
-    let kind = c.args.kind in
+    let kind = c.args.form.kind in
     let rows = c.args.rows.now in
     let seen = c.in_ok-seen.seen.items in
     let stay = staying kind rows seen in

@@ -1,6 +1,7 @@
 use Rattle.std.proofs.Common.{◌∙◌, ℕ, None, [], ap, subst, sym}
 use Rattle.imap_node.specs.Nodes.{NodeState}
-use Rattle.replica_lock.specs.Joins.{IsUnjoined, id_of, joined_book}
+use Rattle.imap_node.specs.Operations.{id_of}
+use Rattle.replica_lock.specs.Joins.{IsUnjoined, joined_book}
 use Rattle.uid_projection.specs.Exhaustion.{Exhausts}
 use Rattle.uid_projection.specs.declared.start.Start.{Start}
 use Rattle.causal_inbox.specs.Owns.{IsLeastOwn}

@@ -1,0 +1,80 @@
+//! The lines of folders, subscriptions and messages.
+
+ghost use Rattle.std.specs.Prelude.{◌≡◌, ◌++◌, ◌∷◌, [], OnOk};
+ghost use Rattle.std.specs.List.{flat_map};
+ghost use Rattle.crdt_ops.specs.Text.{letter_text};
+ghost use Rattle.dump_lines.specs.DumpLines.{body_text, dated_text, message_line, named_line};
+
+use crdt_ops::{Ids, Message, write_flags, write_id, write_ids};
+use imap_types::{Escape, Name, Text, write_escaped};
+use std::alloc::{AllocError, Global};
+
+/// Puts the line of a name behind what is there: a word with its space, the name, and these ids. `Err` where there is no memory, and then a part of it may be there.
+pub fn push_named_line(
+    alloc: Global,
+    word: &[u8],
+    name: &Name,
+    ids: &Ids,
+    text: &mut Vec<u8>,
+) -> Result<(), AllocError>
+    ensures { OnOk result (text.new.items ≡ text.old.items ++ named_line word.now name.now ids.now) }
+{
+    text.extend_from_slice(word)?;
+    write_escaped(Escape::Field, name.as_bytes(), text)?;
+    text.push(b' ')?;
+    write_ids(alloc, ids, text)?;
+    text.push(b'\n')?;
+    Ok(())
+}
+
+/// Puts the lines of messages behind what is there. `Err` where there is no memory, and then a part of them may be there.
+pub fn push_messages(
+    alloc: Global,
+    messages: &[Message],
+    text: &mut Vec<u8>,
+) -> Result<(), AllocError>
+    ensures { OnOk result (text.new.items ≡ text.old.items ++ flat_map message_line messages.now) }
+{
+    for message in messages {
+        push_message(alloc, message, text)?;
+    }
+    Ok(())
+}
+
+fn push_message(alloc: Global, message: &Message, text: &mut Vec<u8>) -> Result<(), AllocError>
+    ensures { OnOk result (text.new.items ≡ text.old.items ++ message_line message.now) }
+{
+    text.extend_from_slice(b"message ")?;
+    write_id(alloc, message.origin, text)?;
+    text.push(b' ')?;
+    write_ids(alloc, &message.versions, text)?;
+    text.push(b' ')?;
+    push_body(message, text)
+}
+
+/// The flags, the date and the text of a message, and the end of its line.
+fn push_body(message: &Message, text: &mut Vec<u8>) -> Result<(), AllocError>
+    ensures { OnOk result (text.new.items ≡ text.old.items ++ body_text message.now) }
+{
+    write_flags(&message.flags, text)?;
+    push_dated(message, text)
+}
+
+/// The date and the text of a message, each behind a space, and the end of its line.
+fn push_dated(message: &Message, text: &mut Vec<u8>) -> Result<(), AllocError>
+    ensures { OnOk result (text.new.items ≡ text.old.items ++ dated_text message.now) }
+{
+    text.push(b' ')?;
+    text.extend_from_slice(message.date.as_bytes())?;
+    push_letter(&message.text, text)
+}
+
+/// The text of a message, behind a space, and the end of its line.
+fn push_letter(letter: &Text, text: &mut Vec<u8>) -> Result<(), AllocError>
+    ensures { OnOk result (text.new.items ≡ text.old.items ++ 32 ∷ (letter_text letter.now ++ 10 ∷ [])) }
+{
+    text.extend_from_slice(b" =")?;
+    write_escaped(Escape::Text, letter.as_bytes(), text)?;
+    text.push(b'\n')?;
+    Ok(())
+}

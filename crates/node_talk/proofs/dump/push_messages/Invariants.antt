@@ -1,7 +1,0 @@
-use Rattle.std.proofs.Common.{◌≡◌, ◌++◌, take}
-use Rattle.std.specs.List.{flat_map}
-use Rattle.node_talk.specs.Dumps.{message_line}
-use Rattle.node_talk.proofs.dump.push_messages.Given as goal
-
-abbrev pub invariant-loop-message : goal.invariant-loop-message
-invariant-loop-message l = l.text.items ≡ l.fn.text.items ++ flat_map message_line (take l.message-index l.message-items)
