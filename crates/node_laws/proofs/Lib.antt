@@ -2,3 +2,4 @@ pub mod ByNumberLemmas
 mod IdLemmas
 mod CopyLemmas
 mod ToldLemmas
+mod UnionLemmas

@@ -1,0 +1,16 @@
+use Rattle.std.specs.Prelude.{◌≡◌, List, ℕ}
+use Rattle.std.specs.List.{list_any}
+use Rattle.imap_types.specs.Ascending.{AreAscending}
+use Rattle.imap_types.specs.declared.flags.Flags.{Flags}
+use Rattle.message_versions.specs.Members.{holds}
+
+-- Flags are the union of these (RFC 9051, section 2.3.2): they have each system flag that one of these has, and no other; a word is a keyword of
+-- theirs, by octets, exactly where it is one of these flags'; and their keywords ascend, so that none stands twice.
+pub record IsUnion (parts : List Flags) (union : Flags) : Type 0 where
+  pub answered : union.answered ≡ list_any (λ f. f.answered) parts
+  pub flagged : union.flagged ≡ list_any (λ f. f.flagged) parts
+  pub deleted : union.deleted ≡ list_any (λ f. f.deleted) parts
+  pub seen : union.seen ≡ list_any (λ f. f.seen) parts
+  pub draft : union.draft ≡ list_any (λ f. f.draft) parts
+  pub words : (word : List ℕ) → holds union.keywords word ≡ list_any (λ f. holds f.keywords word) parts
+  pub ascending : AreAscending union.keywords
