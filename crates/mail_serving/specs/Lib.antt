@@ -1,3 +1,4 @@
 pub mod Calls
 pub mod Logins
 pub mod Places
+pub mod Totals

@@ -12,6 +12,7 @@ mod reading;
 mod serving;
 mod session;
 mod station;
+mod totals;
 
 pub use connection::{Desk, talk_over};
 pub use house::{House, Stop};
@@ -24,3 +25,4 @@ pub use server_settings::{
 pub use serving::{Beginning, Part, serve, serve_over};
 pub use session::SessionPort;
 pub use station::{Call, CopyOrder, Newcomers, Station};
+pub use totals::{Totals, totals_of};

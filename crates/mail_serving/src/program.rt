@@ -5,7 +5,7 @@ use crate::joining::Newcomer;
 use crate::serving::{Beginning, Part, serve};
 use crate::station::{Call, CopyOrder, Newcomers, Station};
 use crossbeam_channel::{Receiver, Sender, unbounded};
-use log::Log;
+use log::{Log, error};
 use replica_links::Letter;
 use server_settings::{CommandLine, Join, Place, listen_at, settings_or_status, tell_fault};
 use std::alloc::{AllocError, AllocFailed, Global};
@@ -16,30 +16,41 @@ use std::thread::Threads;
 use std::{env, io};
 use tags_clocks::ReplicaId;
 
-/// Why the server doesn't run.
-#[derive(Drop)]
+/// Why the server doesn't run; as a text, what the log says of it.
+#[derive(Debug, Drop, thiserror::Error)]
 pub enum RunFault {
     /// An address can't be listened at, and this was told.
+    #[error("an address can't be listened at")]
     Told,
-    /// Anything else.
-    Other,
+    /// There was no memory for it.
+    #[error("there is no memory for it")]
+    NoMemory,
+    /// An address or the standard output failed.
+    #[error("{0}")]
+    Device(io::Error),
+    /// A replica or its peer isn't among those that were read.
+    #[error("a replica has no number or no peer")]
+    Unnamed,
+    /// A replica that ran didn't hand its journal out.
+    #[error("a replica's journal was not handed out")]
+    Unfinished,
 }
 
 impl From<AllocError> for RunFault {
     fn from(_none: AllocError) -> RunFault {
-        RunFault::Other
+        RunFault::NoMemory
     }
 }
 
 impl<T: Drop> From<AllocFailed<T>> for RunFault {
     fn from(_none: AllocFailed<T>) -> RunFault {
-        RunFault::Other
+        RunFault::NoMemory
     }
 }
 
 impl From<io::Error> for RunFault {
-    fn from(_why: io::Error) -> RunFault {
-        RunFault::Other
+    fn from(why: io::Error) -> RunFault {
+        RunFault::Device(why)
     }
 }
 
@@ -84,7 +95,10 @@ fn obey<
     match run_as(rt, rt.alloc(), &settings) {
         Ok(()) => 0,
         Err(RunFault::Told) => 1,
-        Err(RunFault::Other) => tell_fault(rt),
+        Err(why) => {
+            error!(rt; "the server can't run: {why}");
+            tell_fault(rt)
+        }
     }
 }
 
@@ -101,7 +115,7 @@ fn run_as<
 >(rt: &R, alloc: Global, settings: &CommandLine<'_>) -> Result<(), RunFault> {
     let (house, parts) = open_all(rt, alloc, settings)?;
     if settings.stop_after != Some(0) && !serve(rt, alloc, &house, parts) {
-        return Err(RunFault::Other);
+        return Err(RunFault::Unfinished);
     }
     println!(rt; "stopped")?;
     Ok(())
@@ -119,7 +133,7 @@ struct Opened<'a> {
 }
 
 /// Listens at the addresses, in their order: what the threads of the server will share, and the parts of the replicas.
-pub fn open_all<'a, R: Print + Net<Listener = TcpListener, Stream = TcpStream>>(
+pub fn open_all<'a, R: Print + Log + Net<Listener = TcpListener, Stream = TcpStream>>(
     rt: &R,
     alloc: Global,
     settings: &CommandLine<'a>,
@@ -147,7 +161,7 @@ pub fn open_all<'a, R: Print + Net<Listener = TcpListener, Stream = TcpStream>>(
     Ok((house, parts))
 }
 
-fn open_each<'a, R: Print + Net<Listener = TcpListener, Stream = TcpStream>>(
+fn open_each<'a, R: Print + Log + Net<Listener = TcpListener, Stream = TcpStream>>(
     rt: &R,
     alloc: Global,
     settings: &CommandLine<'a>,
@@ -163,7 +177,7 @@ fn open_each<'a, R: Print + Net<Listener = TcpListener, Stream = TcpStream>>(
 }
 
 /// Listens at a replica's address, and tells so.
-fn open_place<R: Print + Net<Listener = TcpListener, Stream = TcpStream>>(
+fn open_place<R: Print + Log + Net<Listener = TcpListener, Stream = TcpStream>>(
     rt: &R,
     alloc: Global,
     place: &Place<'_>,
@@ -184,7 +198,7 @@ fn await_join<'a>(
     opened: &mut Opened<'a>,
 ) -> Result<(), RunFault> {
     let Some(peer) = settings.place_named(join.peer) else {
-        return Err(RunFault::Other);
+        return Err(RunFault::Unnamed);
     };
     let (begin, done) = add_call(alloc, &mut opened.calls)?;
     let newcomer = Newcomer {
@@ -215,7 +229,7 @@ fn add_part<'a>(
 ) -> Result<(), RunFault> {
     let Some(replica) = ReplicaId::new(u32::from(name)) else {
         drop(beginning);
-        return Err(RunFault::Other);
+        return Err(RunFault::Unnamed);
     };
     let own = opened.stations.len();
     let (letters, orders) = match add_station(alloc, address, &mut opened.stations) {
@@ -234,7 +248,7 @@ fn add_part<'a>(
     };
     match opened.parts.push(part) {
         Ok(()) => Ok(()),
-        Err(_) => Err(RunFault::Other),
+        Err(_) => Err(RunFault::NoMemory),
     }
 }
 

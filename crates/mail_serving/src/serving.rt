@@ -7,9 +7,10 @@ use crate::house::House;
 use crate::joining::{Joined, Newcomer, lend_copies};
 use crate::mailing::Mail;
 use crate::station::{CopyOrder, others};
+use crate::totals::{Totals, totals_of};
 use crossbeam_channel::Receiver;
 use imap_node::Node;
-use log::Log;
+use log::{Log, info};
 use replica_links::{Gate, Inbox, Letter, ReplicaTaker, link_worker};
 use replica_lock::{Book, Pass, Shared};
 use std::alloc::{AllocError, Global};
@@ -272,7 +273,25 @@ fn run_replica<
     if passes.push(first).is_err() {
         return false;
     }
-    shared.finish(passes).is_ok()
+    match shared.finish(passes) {
+        Ok(book) => {
+            tell_totals(rt, &book);
+            true
+        }
+        Err(_) => false,
+    }
+}
+
+/// Tells by the log what a replica served.
+fn tell_totals<R: Log>(rt: &R, book: &Book) {
+    let Totals {
+        sessions,
+        commands,
+        operations,
+        entries,
+    } = totals_of(book);
+    let replica = book.node().replica().id().get();
+    info!(rt; "replica {replica} served {sessions} sessions and {commands} commands; it applied {operations} operations, and its journal has {entries} entries");
 }
 
 /// Takes and answers what comes from the other replicas, and gives the pass back. A replica that has joined begins by asking them all for what it lacks.

@@ -187,7 +187,9 @@ fn matched<'a>(alloc: Global, words: &'a [String]) -> Result<ArgMatches<'a>, Err
 fn described<'a>(alloc: Global) -> Result<Command<'a>, AllocError>
     ensures { IfOk result (λ command. app_of command ≡ server_words) }
 {
-    let command = Command::new(alloc, "imap_server").about("Serve mail from linked replicas");
+    let command = Command::new(alloc, "imap_server").about(
+        "Serves the mail of one user over IMAP, at several replicas that take changes from each other. Mail lives as long as the program runs.",
+    );
     let command = with_access(alloc, command)?;
     with_replicas(alloc, command)
 }
@@ -199,17 +201,17 @@ fn with_access<'a>(alloc: Global, command: Command<'a>) -> Result<Command<'a>, A
     let preauth = Arg::new(alloc, "preauth")
         .long("preauth")
         .action(ArgAction::SetTrue)
-        .help("Every user is known beforehand");
+        .help("Everybody is let in without a password. Give this, or --user and --pass.");
     let command = command.arg(preauth)?;
     let user = Arg::new(alloc, "user")
         .long("user")
         .action(ArgAction::Set)
-        .help("The user's name");
+        .help("This is the name by which the user logs in.");
     let command = command.arg(user)?;
     let pass = Arg::new(alloc, "pass")
         .long("pass")
         .action(ArgAction::Set)
-        .help("The user's password");
+        .help("This is the password with which the user logs in.");
     command.arg(pass)
 }
 
@@ -221,18 +223,22 @@ fn with_replicas<'a>(alloc: Global, command: Command<'a>) -> Result<Command<'a>,
         .long("stop-after")
         .action(ArgAction::Set)
         .value_parser(ValueParser::unsigned(0, 4_294_967_295))
-        .help("Stop behind so many connections");
+        .help("The server stops behind so many connections. Else it runs until it is ended.");
     let command = command.arg(stop)?;
     let joins = Arg::new(alloc, "join")
         .long("join")
         .action(ArgAction::Append)
-        .help("A replica that joins when the first connection has ended, as 3=127.0.0.1:1433/1");
+        .help(
+            "A further replica joins when the first connection has ended: its number, its address and, behind a slash, the replica whose operations it takes, as in 3=127.0.0.1:1433/1.",
+        );
     let command = command.arg(joins)?;
     let replicas = Arg::new(alloc, "REPLICA")
         .required(true)
         .action(ArgAction::Append)
         .num_args(1..)
-        .help("A replica and its address, as 1=127.0.0.1:1431");
+        .help(
+            "Each replica has a number from 1 to 65535 and an address at which it listens, as in 1=127.0.0.1:1431.",
+        );
     command.arg(replicas)
 }
 

@@ -1,0 +1,68 @@
+//! What a replica served until it stopped.
+
+ghost use Rattle.std.specs.Prelude.{◌≡◌, ◌+◌, ◌<◌, if◌then◌else◌};
+ghost use Rattle.mail_serving.specs.Totals.{has_opened, is_command, totals_of};
+
+use replica_lock::{Book, BookEvent, Entry, Outcome};
+
+/// What a replica served until it stopped.
+#[derive(Clone, Copy, Debug, PartialEq, Eq)]
+pub struct Totals {
+    /// How many sessions were opened.
+    pub sessions: u64,
+    /// How many commands came, those that were refused among them.
+    pub commands: u64,
+    /// How many operations were applied.
+    pub operations: u64,
+    /// How many entries the journal has.
+    pub entries: u64,
+}
+
+/// What a replica served, by its book: one pass over the journal. Takes no memory.
+pub fn totals_of(book: &Book) -> Totals
+    ensures { result ≡ totals_of book.now }
+{
+    let mut sessions = 0;
+    let mut commands = 0;
+    for place in 0..book.len() {
+        let Some(entry) = book.entry(place + 1) else {
+            unreachable!()
+        };
+        sessions = counted(sessions, has_opened(entry));
+        commands = counted(commands, is_command(entry));
+    }
+    Totals {
+        sessions,
+        commands,
+        operations: book.node().replica().applied().len() as u64,
+        entries: book.len(),
+    }
+}
+
+/// One more where it is so.
+fn counted(count: u64, is_so: bool) -> u64
+    requires { count < 18446744073709551615 }
+    ensures { result ≡ (if is_so then count + 1 else count) }
+{
+    if is_so { count + 1 } else { count }
+}
+
+/// Whether a session was opened.
+fn has_opened(entry: &Entry) -> bool
+    ensures { result ≡ has_opened entry.now }
+{
+    match &entry.outcome {
+        Outcome::Opened { answer: Ok(_) } => true,
+        _ => false,
+    }
+}
+
+/// Whether a command came.
+fn is_command(entry: &Entry) -> bool
+    ensures { result ≡ is_command entry.now }
+{
+    match &entry.event {
+        BookEvent::Command { .. } => true,
+        _ => false,
+    }
+}
