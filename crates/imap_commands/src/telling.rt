@@ -86,12 +86,12 @@ pub fn entry_at(view: &Entries, number: u32) -> Option<&Entry>
     view.get(number as usize - 1)
 }
 
-/// What the listing has for the view's message with this number; `None` where it is gone. A binary search.
+/// What the listing has for the view's message with this number; `None` where it is gone. A look-up.
 pub fn message_at<'a>(rows: &'a Rows<'_>, view: &Entries, number: u32) -> Option<Row<'a>>
     ensures { option_map listed result ≡ message_at rows.now view.now.items number }
 {
     match entry_at(view, number) {
-        Some(entry) => rows.row_of(entry.uid),
+        Some(entry) => rows.row_near((number as usize).saturating_sub(1), entry.uid),
         None => None,
     }
 }

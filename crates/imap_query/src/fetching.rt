@@ -70,9 +70,9 @@ fn push_answer(
 ) -> Result<(), AllocError>
     ensures { OnOk result (answers.new.items ≡ answers.old.items ++ answer_of items.now mode shown (row_of shown.uid before.now) (row_of shown.uid after.now)) }
 {
-    match before.row_of(shown.uid) {
+    match before.row_near(shown.place(), shown.uid) {
         None => Ok(()),
-        Some(old) => match after.row_of(shown.uid) {
+        Some(old) => match after.row_near(shown.place(), shown.uid) {
             None => Ok(()),
             Some(row) => {
                 if !is_kept(mode.changed_since, &old) {

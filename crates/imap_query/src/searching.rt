@@ -83,7 +83,7 @@ fn push_hit(
     ensures hits { OnOk result ((key : Key) → steps.now ≡ steps_of key → found.new.items ≡ found.old.items ++ hit_of by_uid key last shown (row_of shown.uid rows.now)) }
     ensures numbers { OnOk result (MayAdd (name_of by_uid shown) (map (λ hit. hit.number) found.old.items) (map (λ hit. hit.number) found.new.items)) }
 {
-    match rows.row_of(shown.uid) {
+    match rows.row_near(shown.place(), shown.uid) {
         None => Ok(()),
         Some(row) => {
             if !hits(alloc, last, shown, &row, steps)? {

@@ -5,3 +5,10 @@ pub struct Shown {
     pub number: u32,
     pub uid: u32,
 }
+
+impl Shown {
+    /// The place, from 0, that it has in a listing of which the view shows all that stands in front of it.
+    pub fn place(&self) -> usize {
+        (self.number as usize).saturating_sub(1)
+    }
+}

@@ -13,7 +13,7 @@ use Rattle.mail_listing.specs.declared.mailbox.Mailbox.{Mailbox}
 use Rattle.mail_listing.specs.declared.mailbox.HeldMessage.{HeldMessage}
 use Rattle.mail_listing.specs.Windows.{IsEdge, above}
 use Rattle.entry_table.specs.Entries.{AreRising}
-use Rattle.std.specs.Option.{option_to_list}
+use Rattle.std.specs.Option.{option_to_list, unwrap_or}
 
 -- ---- what is told
 
@@ -154,6 +154,29 @@ found_seam uid low (row ∷ rows) (suc n) h s =
     let first : row.uid < uid = s.below 0 row (omega arith) (omega arith) in
     let is : nat_eq row.uid uid ≡ false = grind (arith, nat_tests) in
     rw is (found_seam uid (row.uid + 1) rows n h.1 (seam_rest uid row rows n s))
+
+-- A message that stands at a place is the one with its UID.
+at_least : (low : ℕ) (rows : List Listed) (n : ℕ) (row : Listed) → AreRisingRows low rows → slice_get rows n ≡ Some row → low ≤ row.uid
+at_least low [] n row h g = cc g
+at_least low (first ∷ rows) zero row h g =
+    let front : low ≤ first.uid = h.0 in
+    let same : first.uid ≡ row.uid = ap (λ o. (unwrap_or o row).uid) g in
+    omega arith
+at_least low (first ∷ rows) (suc n) row h g =
+    let front : low ≤ first.uid = h.0 in
+    let rest : first.uid + 1 ≤ row.uid = at_least (first.uid + 1) rows n row h.1 g in
+    omega arith
+
+pub found_at : (low : ℕ) (rows : List Listed) (n : ℕ) (row : Listed) → AreRisingRows low rows → slice_get rows n ≡ Some row → row_of row.uid rows ≡ Some row
+found_at low [] n row h g = cc g
+found_at low (other ∷ rows) zero row h g =
+    let same : other.uid ≡ row.uid = ap (λ o. (unwrap_or o row).uid) g in
+    let is : nat_eq other.uid row.uid ≡ true = grind (arith, nat_tests) in
+    rw is g
+found_at low (other ∷ rows) (suc n) row h g =
+    let later : other.uid + 1 ≤ row.uid = at_least (other.uid + 1) rows n row h.1 g in
+    let is : nat_eq other.uid row.uid ≡ false = grind (arith, nat_tests) in
+    rw is (found_at (other.uid + 1) rows n row h.1 g)
 
 -- ---- rows that are left out
 

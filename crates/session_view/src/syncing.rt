@@ -111,7 +111,7 @@ fn push_loss(
     ensures { OnOk result ((d : Message) → answers.new.items ≡ answers.old.items ++ loss rows.now (place + 1) (get_or view.now.items place d)) }
 {
     let number = place as u32 + 1;
-    if let None = rows.row_of(uid_at(view, place)) {
+    if let None = rows.row_near(place, uid_at(view, place)) {
         answers.push(Answer::Expunge { number })?;
     }
     Ok(())
@@ -141,7 +141,7 @@ fn push_changes(
 {
     let mut number = 0;
     for entry in view.iter_from(0) {
-        match rows.row_of(entry.uid) {
+        match rows.row_near(number as usize, entry.uid) {
             Some(row) => {
                 number += 1;
                 push_change(alloc, modseq, number, entry, &row, answers)?;
@@ -228,7 +228,7 @@ fn push_kept(
 ) -> Result<(), AllocError>
     ensures { OnOk result (kept.new.items ≡ kept.old.items ++ kept_of kind rows.now entry.now) }
 {
-    match rows.row_of(entry.uid) {
+    match rows.row_near(kept.len(), entry.uid) {
         Some(row) => {
             let flags = row.versions.flags(alloc)?;
             let uid = entry.uid;

@@ -216,7 +216,7 @@ fn last_there(rows: &Rows<'_>, view: &Entries) -> u32
 {
     for i in (0..view.len()).rev() {
         let uid = uid_at(view, i);
-        if let Some(_) = rows.row_of(uid) {
+        if let Some(_) = rows.row_near(i, uid) {
             return uid;
         }
     }
@@ -304,7 +304,7 @@ fn take_named(
 {
     let number = (walk.done - walk.gone.len()) as u32 + 1;
     walk.done += 1;
-    match rows.row_of(entry.uid) {
+    match rows.row_near((number as usize).saturating_sub(1), entry.uid) {
         Some(row) => {
             push_told(
                 alloc,
