@@ -16,7 +16,53 @@ use causal_inbox::IssueFault;
 use crdt_ops::{Kind, Op, SoundOp, check};
 use imap_answers::Refusal;
 use std::alloc::{AllocError, Global};
+use std::marker::Model;
 use tags_clocks::{Clock, OpId, ReplicaId};
+
+/// Operations that are ready to be issued, in the order of their numbers.
+pub struct ReadyOps {
+    ops: Vec<SoundOp>,
+}
+
+// By hand, so that what has them lets them go as a whole.
+impl Drop for ReadyOps {
+    fn drop(self) {
+        let Self { ops: _ } = self;
+    }
+}
+
+impl Model for ReadyOps {
+    ghost use Rattle.std.specs.Prelude.{List};
+    ghost use Rattle.crdt_ops.specs.declared.op.Op.{Op};
+
+    ghost Value = { List Op };
+
+    ghost view = { λ r. r.ops.items };
+}
+
+impl ReadyOps {
+    /// These operations, whose memory it takes over.
+    pub fn new(ops: Vec<SoundOp>) -> ReadyOps
+        ensures { result ≡ ops.items }
+    {
+        ReadyOps { ops }
+    }
+
+    /// The operations in order.
+    pub fn as_slice(&self) -> &[SoundOp]
+        ensures { result.now ≡ self.now }
+    {
+        &self.ops
+    }
+
+    /// The operations, with their memory.
+    pub fn into_vec(self) -> Vec<SoundOp>
+        ensures { result.items ≡ self }
+    {
+        let ReadyOps { ops } = self;
+        ops
+    }
+}
 
 /// The replica's next operations, of these kinds, with room for issuing them. An error leaves what was received as it was:
 /// `NumberUsedUp` where a counter is at its end for one of them.

@@ -25,10 +25,11 @@ ghost use Rattle.uid_projection.specs.declared.start.Start.{Start as First};
 
 use crate::feeds::{Feeds, may_be_told};
 use crate::input::Input;
+use crate::issuing::ReadyOps;
 use crate::news::{Ahead, News, ahead_of, coarse_news, delivered_news};
 use crate::planning::{Answered, Next, Plan, Prepared, prepare_for};
 use crate::replica::Replica;
-use crate::reply::{Issued, Reply};
+use crate::reply::Reply;
 use crate::sessions::{Auth, OpenFault, SessionNo, Sessions};
 use crate::tables::{closes, ends_idling, leaves};
 use causal_inbox::{DeliverFault, Delivered, Drained, HeldOps, Stall};
@@ -380,7 +381,7 @@ impl Node {
 }
 
 /// Issues the operations, if there are any.
-fn issue(replica: &mut Replica, ops: Issued)
+fn issue(replica: &mut Replica, ops: ReadyOps)
     requires room { (ops ≡ [] → ⊥) → HasRoomFor replica.old.applied replica.old.room ops }
     requires issued { AreIssued id_of clock_of replica.old.applied ops }
     ensures start { replica.new.start ≡ replica.old.start }
@@ -495,7 +496,7 @@ fn plan_by(
                 why,
                 closed: closes(state, input, why),
             },
-            ops: Issued::new(Vec::new(alloc)),
+            ops: ReadyOps::new(Vec::new(alloc)),
             news: News::none(alloc),
             next: next_left(state, input, why),
         },

@@ -21,7 +21,7 @@ use crate::ending::{Anew, Front, Untold, ending, ending_in_place};
 use crate::feeds::Feeds;
 use crate::going::{Going, Onward};
 use crate::input::Input;
-use crate::issuing::readied;
+use crate::issuing::{ReadyOps, readied};
 use crate::news::{News, news_of};
 use crate::replica::Replica;
 use crate::reply::{Answers, Issued, Reply, Silents, copied_ops};
@@ -54,7 +54,7 @@ pub enum Next {
 pub struct Plan {
     pub(crate) number: SessionNo,
     pub(crate) reply: Reply,
-    pub(crate) ops: Issued,
+    pub(crate) ops: ReadyOps,
     pub(crate) news: News,
     pub(crate) next: Next,
 }
@@ -80,7 +80,7 @@ pub struct Answered {
 #[derive(Drop)]
 pub struct Prepared {
     pub answered: Answered,
-    pub ops: Issued,
+    pub ops: ReadyOps,
     pub copies: Issued,
     pub news: News,
 }
@@ -218,8 +218,8 @@ fn finished(
     let copies = copied_ops(alloc, &ops)?;
     Ok(Prepared {
         answered,
-        ops: Issued::new(ops),
-        copies: Issued::new(copies),
+        ops: ReadyOps::new(ops),
+        copies: Issued::new(copies)?,
         news,
     })
 }
@@ -249,8 +249,8 @@ fn answers_to(
         onward,
     } = followed(alloc, replica, ops, &mut session.state, untold, course)?;
     Ok(Answered {
-        answers: Answers::new(answers),
-        silent: Silents::new(silent),
+        answers: Answers::new(answers)?,
+        silent: Silents::new(silent)?,
         going: Going {
             onward,
             condstore,

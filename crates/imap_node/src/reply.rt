@@ -7,12 +7,13 @@ use crdt_ops::SoundOp;
 use imap_answers::{Answer, Refusal};
 use merge_laws::Caused;
 use session_view::Silent;
+use shared_list::SharedList;
 use std::alloc::{AllocError, Global};
 use std::marker::Model;
 
-/// Answers in the order in which they are sent.
+/// Answers in the order in which they are sent. Copies share one memory.
 pub struct Answers {
-    answers: Vec<Answer>,
+    answers: SharedList<Answer>,
 }
 
 // By hand, so that crates above let it go as a whole.
@@ -28,37 +29,39 @@ impl Model for Answers {
 
     ghost Value = { List Answer };
 
-    ghost view = { λ a. a.answers.items };
+    ghost view = { λ a. a.answers };
 }
 
 impl Answers {
-    /// These answers, whose memory it takes over.
-    pub fn new(answers: Vec<Answer>) -> Answers
-        ensures { result ≡ answers.items }
+    /// These answers, whose memory it takes over; `Err` where there is no memory to share them.
+    pub fn new(answers: Vec<Answer>) -> Result<Answers, AllocError>
+        ensures { IfOk result (λ shared. shared ≡ answers.items) }
     {
-        Answers { answers }
+        Ok(Answers {
+            answers: SharedList::new(answers)?,
+        })
     }
 
     /// The answers in order.
     pub fn as_slice(&self) -> &[Answer]
         ensures { result.now ≡ self.now }
     {
-        &self.answers
+        self.answers.as_slice()
     }
 
-    /// Equal answers; `Err` where there is no memory for them.
-    pub fn copy(&self, alloc: Global) -> Result<Answers, AllocError>
+    /// The same answers, in the same memory. `Err` where so many copies share it that they can't be counted.
+    pub fn copy(&self) -> Result<Answers, AllocError>
         ensures { IfOk result (λ copied. copied ≡ self.now) }
     {
         Ok(Answers {
-            answers: copied_answers(alloc, &self.answers)?,
+            answers: self.answers.copy()?,
         })
     }
 }
 
-/// Flags that a session set in silence, in their order (RFC 9051, section 6.4.6).
+/// Flags that a session set in silence, in their order (RFC 9051, section 6.4.6). Copies share one memory.
 pub struct Silents {
-    silents: Vec<Silent>,
+    silents: SharedList<Silent>,
 }
 
 // By hand, so that crates above let it go as a whole.
@@ -74,37 +77,39 @@ impl Model for Silents {
 
     ghost Value = { List Silent };
 
-    ghost view = { λ s. s.silents.items };
+    ghost view = { λ s. s.silents };
 }
 
 impl Silents {
-    /// These, whose memory it takes over.
-    pub fn new(silents: Vec<Silent>) -> Silents
-        ensures { result ≡ silents.items }
+    /// These, whose memory it takes over; `Err` where there is no memory to share them.
+    pub fn new(silents: Vec<Silent>) -> Result<Silents, AllocError>
+        ensures { IfOk result (λ shared. shared ≡ silents.items) }
     {
-        Silents { silents }
+        Ok(Silents {
+            silents: SharedList::new(silents)?,
+        })
     }
 
     /// The flags in order.
     pub fn as_slice(&self) -> &[Silent]
         ensures { result.now ≡ self.now }
     {
-        &self.silents
+        self.silents.as_slice()
     }
 
-    /// Equal ones; `Err` where there is no memory for them.
-    pub fn copy(&self, alloc: Global) -> Result<Silents, AllocError>
+    /// The same, in the same memory. `Err` where so many copies share it that they can't be counted.
+    pub fn copy(&self) -> Result<Silents, AllocError>
         ensures { IfOk result (λ copied. copied ≡ self.now) }
     {
         Ok(Silents {
-            silents: copied_silents(alloc, &self.silents)?,
+            silents: self.silents.copy()?,
         })
     }
 }
 
-/// Operations that a command issued, in the order of their numbers.
+/// Operations that a command issued, in the order of their numbers. Copies share one memory.
 pub struct Issued {
-    ops: Vec<SoundOp>,
+    ops: SharedList<SoundOp>,
 }
 
 // By hand, so that crates above let it go as a whole.
@@ -120,39 +125,33 @@ impl Model for Issued {
 
     ghost Value = { List Op };
 
-    ghost view = { λ i. i.ops.items };
+    ghost view = { λ i. i.ops };
 }
 
 impl Issued {
-    /// These operations, whose memory it takes over.
-    pub fn new(ops: Vec<SoundOp>) -> Issued
-        ensures { result ≡ ops.items }
+    /// These operations, whose memory it takes over; `Err` where there is no memory to share them.
+    pub fn new(ops: Vec<SoundOp>) -> Result<Issued, AllocError>
+        ensures { IfOk result (λ shared. shared ≡ ops.items) }
     {
-        Issued { ops }
+        Ok(Issued {
+            ops: SharedList::new(ops)?,
+        })
     }
 
     /// The operations in order.
     pub fn as_slice(&self) -> &[SoundOp]
         ensures { result.now ≡ self.now }
     {
-        &self.ops
+        self.ops.as_slice()
     }
 
-    /// Equal operations; `Err` where there is no memory for them.
-    pub fn copy(&self, alloc: Global) -> Result<Issued, AllocError>
+    /// The same operations, in the same memory. `Err` where so many copies share it that they can't be counted.
+    pub fn copy(&self) -> Result<Issued, AllocError>
         ensures { IfOk result (λ copied. copied ≡ self.now) }
     {
         Ok(Issued {
-            ops: copied_ops(alloc, &self.ops)?,
+            ops: self.ops.copy()?,
         })
-    }
-
-    /// The operations, with their memory.
-    pub fn into_vec(self) -> Vec<SoundOp>
-        ensures { result.items ≡ self }
-    {
-        let Issued { ops } = self;
-        ops
     }
 }
 
@@ -179,8 +178,8 @@ pub enum Reply {
 }
 
 impl Reply {
-    /// An equal reply; `Err` where there is no memory for it, which a refusal doesn't take.
-    pub fn copy(&self, alloc: Global) -> Result<Reply, AllocError>
+    /// The same reply, in the same memory. `Err` where so many copies share it that they can't be counted, as those of a refusal can.
+    pub fn copy(&self) -> Result<Reply, AllocError>
         ensures copied { IfOk result (λ copied. copied ≡ self.now) }
         ensures refused { is_done self.now ≡ false → IsOk result }
     {
@@ -190,9 +189,9 @@ impl Reply {
                 silent,
                 issued,
             } => Reply::Done {
-                answers: answers.copy(alloc)?,
-                silent: silent.copy(alloc)?,
-                issued: issued.copy(alloc)?,
+                answers: answers.copy()?,
+                silent: silent.copy()?,
+                issued: issued.copy()?,
             },
             Reply::Refused { why, closed } => Reply::Refused {
                 why: *why,
@@ -202,16 +201,7 @@ impl Reply {
     }
 }
 
-fn copied_answers(alloc: Global, answers: &[Answer]) -> Result<Vec<Answer>, AllocError>
-    ensures { IfOk result (λ copies. copies.items ≡ answers.now) }
-{
-    let mut copies = Vec::with_capacity(alloc, answers.len())?;
-    for answer in answers {
-        copies.push(answer.copy(alloc)?)?;
-    }
-    Ok(copies)
-}
-
+/// Equal flags, in their order; `Err` where there is no memory for them.
 pub fn copied_silents(alloc: Global, silents: &[Silent]) -> Result<Vec<Silent>, AllocError>
     ensures { IfOk result (λ copies. copies.items ≡ silents.now) }
 {

@@ -22,11 +22,11 @@ struct Worked<L: Ledger> {
 }
 
 /// Notes the outcome of a pass's last call, and where its entry stands.
-fn note<L: Ledger>(alloc: Global, pass: &Pass<L>, seen: &mut Vec<(u64, Outcome)>) -> bool {
+fn note<L: Ledger>(pass: &Pass<L>, seen: &mut Vec<(u64, Outcome)>) -> bool {
     let Some(last) = pass.last() else {
         return false;
     };
-    match last.copy(alloc) {
+    match last.copy() {
         Ok(copy) => seen.push((pass.seen(), copy)).is_ok(),
         Err(_) => false,
     }
@@ -57,13 +57,12 @@ fn work<L: Ledger, R: Wait>(
 ) -> Worked<L> {
     let mut pass = pass;
     let mut seen = Vec::new(alloc);
-    let mut whole = open_one(rt, alloc, shared, &mut pass) && note(alloc, &pass, &mut seen);
+    let mut whole = open_one(rt, alloc, shared, &mut pass) && note(&pass, &mut seen);
     for number in 0..100u8 {
-        let said = say_noop(rt, alloc, shared, &mut pass, client, number)
-            && note(alloc, &pass, &mut seen);
+        let said = say_noop(rt, alloc, shared, &mut pass, client, number) && note(&pass, &mut seen);
         whole = whole && said;
     }
-    let closed = close_one(rt, alloc, shared, &mut pass) && note(alloc, &pass, &mut seen);
+    let closed = close_one(rt, alloc, shared, &mut pass) && note(&pass, &mut seen);
     Worked {
         pass,
         client,

@@ -105,7 +105,7 @@ impl<'a, L: Ledger, R: Wait + Clock, G: Gate> SessionPort<'a, L, R, G> {
         match self.shared.command(self.rt, alloc, pass, moment, tagged) {
             Ok(()) => {
                 self.follow(alloc, idles, pass.last());
-                replied(alloc, pass.last())
+                replied(pass.last())
             }
             Err(fault) => Err(fault_of(fault)),
         }
@@ -121,7 +121,7 @@ impl<'a, L: Ledger, R: Wait + Clock, G: Gate> SessionPort<'a, L, R, G> {
         }
         self.outlet.set_idles(self.rt, false);
         match self.shared.done(self.rt, alloc, pass, line) {
-            Ok(()) => replied(alloc, pass.last()),
+            Ok(()) => replied(pass.last()),
             Err(fault) => Err(fault_of(fault)),
         }
     }
@@ -222,12 +222,12 @@ fn opened(last: Option<&Outcome>, login: Login) -> Result<Login, PortFault>
     }
 }
 
-/// A copy of the reply; `NoMemory` where there is none for it.
-fn replied(alloc: Global, last: Option<&Outcome>) -> Result<Reply, PortFault>
+/// The reply, in the same memory; `NoMemory` where so many copies share it that they can't be counted.
+fn replied(last: Option<&Outcome>) -> Result<Reply, PortFault>
     ensures { IfOk result (λ reply. option_map (λ o. o.now) last.entry ≡ Some (Replied reply)) }
 {
     match last {
-        Some(Outcome::Replied { reply }) => match reply.copy(alloc) {
+        Some(Outcome::Replied { reply }) => match reply.copy() {
             Ok(reply) => Ok(reply),
             Err(_) => Err(PortFault::NoMemory),
         },

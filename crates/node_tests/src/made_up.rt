@@ -114,8 +114,8 @@ fn reply_of(alloc: Global, answer: Answer) -> Result<Reply, AllocError> {
     let mut answers = Vec::new(alloc);
     answers.push(answer)?;
     Ok(Reply::Done {
-        answers: Answers::new(answers),
-        silent: Silents::new(Vec::new(alloc)),
-        issued: Issued::new(Vec::new(alloc)),
+        answers: Answers::new(answers)?,
+        silent: Silents::new(Vec::new(alloc))?,
+        issued: Issued::new(Vec::new(alloc))?,
     })
 }

@@ -2,7 +2,7 @@
 use denote.RattleType.{RattleType}
 use denote.Param.Send.{IsSend, IsSync, sendable, view_send, recorded_send, recorded_sync, struct_send, struct_sync}
 use denote.Struct.Declared.{shape}
-use Rattle.std.proofs.Crossing.{Vec-send}
+use Rattle.chunk_list.proofs.list.ChunkList.TheSendSync as chunks
 use Rattle.std.proofs.sync.Condvar.TheSendSync as condvar
 use Rattle.std.proofs.sync.Mutex.TheSendSync as mutex
 use Rattle.std.proofs.sync.ledger.Book.TheSendSync as calls
@@ -19,7 +19,7 @@ use Rattle.replica_lock.specs.contracts.shared.Shared as shared
 pub book_send : IsSend book.the_row
 book_send = view_send told.the_row _ _ _ _
     (recorded_send (told.the_field).row _ _ (told.the_type).to_one
-    (struct_send (shape told.the_type) (node_send, (Vec-send _ entry.the_send, (search sendable, tt)))))
+    (struct_send (shape told.the_type) (node_send, (search sendable, (chunks.the_send _ entry.the_send, (search sendable, tt))))))
 
 module _ (L : RattleType) (g : ledger.Ghosts L.Denot) where
   locked_send : IsSend L → IsSend (locked.the_row L g)
