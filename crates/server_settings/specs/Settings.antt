@@ -1,5 +1,6 @@
-use Rattle.std.specs.Prelude.{◌≡◌, ◌<◌, ◌==◌, ℕ, Bool, false, true, List, [], ◌∷◌, ◌++◌, Option, None, Some, map}
+use Rattle.std.specs.Prelude.{◌≡◌, ◌≢◌, ◌<◌, ◌==◌, ℕ, Bool, false, true, List, [], ◌∷◌, ◌++◌, Option, None, Some, map}
 use Rattle.std.specs.Borrow.{Bor}
+use Rattle.std.specs.Fmt.{decimal}
 use Rattle.std.specs.List.{list_any}
 use Rattle.server_settings.specs.declared.settings.Access.{Access}
 use Rattle.server_settings.specs.declared.settings.Access.TheVariants.{Password, Preauth}
@@ -31,6 +32,18 @@ newcomers_of joins = map (λ (join : Join). join.place.replica) joins
 abbrev pub HavePeers : List ℕ → List Join → Type 0
 HavePeers names [] = Unit {0}
 HavePeers names (join ∷ joins) = (is_named join.peer names ≡ true) × HavePeers (names ++ join.place.replica ∷ []) joins
+
+-- The text is a replica's name: the digits of a number from 1 to 65,535, without leading zeros.
+abbrev pub IsNameText : List ℕ → ℕ → Type 0
+IsNameText text name = (0 < name) × (name < 65536) × (text ≡ decimal name)
+
+-- The text is a replica and its address: its name, `=` (61), which no name has, so that it is the text's first, and an address of one octet at least.
+abbrev pub IsPlaceText : List ℕ → Place → Type 0
+IsPlaceText text place = (name : List ℕ) × IsNameText name place.replica × (place.address.now ≢ []) × (text ≡ name ++ 61 ∷ place.address.now)
+
+-- The text is a replica that joins: it and its address, `/` (47), which no name has, so that it is the text's last, and the name of its peer.
+abbrev pub IsJoinText : List ℕ → Join → Type 0
+IsJoinText text join = (place peer : List ℕ) × IsPlaceText place join.place × IsNameText peer join.peer × (text ≡ place ++ 47 ∷ peer)
 
 -- Who may use the server: whoever comes, or who gives this user and this password; nothing else is asked for.
 abbrev pub access_of : Bool → Option (Bor (List ℕ)) → Option (Bor (List ℕ)) → Option Access

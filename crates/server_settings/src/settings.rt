@@ -1,10 +1,11 @@
 //! The program's command line.
 
-ghost use Rattle.std.specs.Prelude.{◌≡◌, ◌++◌, ◌∷◌, ◌<◌, [], false, true, IfNone, IfOk, IfSome, OnOk, Some, map, slice_get};
+ghost use Rattle.std.specs.Prelude.{ℕ, ◌≡◌, ◌++◌, ◌∷◌, ◌<◌, [], false, true, IfNone, IfOk, IfSome, OnOk, Some, map, slice_get};
 ghost use Rattle.clap.specs.Words.{app_of, found_of, matches_of, rows_of};
 ghost use Rattle.server_settings.specs.Options.{NamesAccess, server_words, with_access_words, with_replica_words};
-ghost use Rattle.server_settings.specs.Settings.{AreNames, HavePeers, access_of, is_named, names_of, newcomers_of};
+ghost use Rattle.server_settings.specs.Settings.{AreNames, HavePeers, IsJoinText, IsNameText, IsPlaceText, access_of, is_named, names_of, newcomers_of};
 ghost use Rattle.server_settings.specs.declared.settings.Join.{Join as Joining};
+ghost use Rattle.server_settings.specs.declared.settings.Place.{Place as Standing};
 
 use clap::builder::ValueParser;
 use clap::error::ErrorKind;
@@ -369,7 +370,9 @@ fn add_name(names: &mut Vec<u16>, name: u16) -> Result<bool, AllocError>
 
 /// The replica that a word names: a number from 1 to 65,535 without leading zeros, `=`, and an address of one octet at least.
 pub fn place_of(text: &str) -> Option<Place<'_>>
-    ensures { IfSome result (λ place. 0 < place.replica) }
+    ensures positive { IfSome result (λ place. 0 < place.replica) }
+    ensures some { IfSome result (λ place. IsPlaceText text.now place) }
+    ensures none { IfNone result ((place : Standing) → IsPlaceText text.now place → ⊥) }
 {
     let (name, address) = text.split_once('=')?;
     if address.is_empty() {
@@ -381,7 +384,9 @@ pub fn place_of(text: &str) -> Option<Place<'_>>
 
 /// The replica that is to join by a word: one with its address, and behind the last `/` the name of its peer.
 pub fn join_of(text: &str) -> Option<Join<'_>>
-    ensures { IfSome result (λ join. 0 < join.place.replica) }
+    ensures positive { IfSome result (λ join. 0 < join.place.replica) }
+    ensures some { IfSome result (λ join. IsJoinText text.now join) }
+    ensures none { IfNone result ((join : Joining) → IsJoinText text.now join → ⊥) }
 {
     let (place, peer) = text.rsplit_once('/')?;
     let place = place_of(place)?;
@@ -391,7 +396,9 @@ pub fn join_of(text: &str) -> Option<Join<'_>>
 
 /// The name that these digits spell.
 fn name_of(digits: &str) -> Option<u16>
-    ensures { IfSome result (λ name. 0 < name) }
+    ensures positive { IfSome result (λ name. 0 < name) }
+    ensures some { IfSome result (λ name. IsNameText digits.now name) }
+    ensures none { IfNone result ((name : ℕ) → IsNameText digits.now name → ⊥) }
 {
     if !digits.bytes().all(|octet| octet.is_ascii_digit()) || digits.starts_with('0') {
         return None;
