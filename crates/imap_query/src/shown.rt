@@ -1,3 +1,5 @@
+ghost use Rattle.std.specs.Prelude.{◌≡◌, ◌-◌};
+
 /// A message that a view shows (RFC 9051, section 2.3.1).
 #[derive(Clone, Copy, Debug, PartialEq, Eq)]
 pub struct Shown {
@@ -8,7 +10,9 @@ pub struct Shown {
 
 impl Shown {
     /// The place, from 0, that it has in a listing of which the view shows all that stands in front of it.
-    pub fn place(&self) -> usize {
+    pub fn place(&self) -> usize
+        ensures { result ≡ self.now.number - 1 }
+    {
         (self.number as usize).saturating_sub(1)
     }
 }
