@@ -17,6 +17,7 @@ mod totals;
 pub use connection::{Desk, talk_over};
 pub use house::{House, Stop};
 pub use joining::{JoinEnd, Newcomer};
+pub use mailing::Mail;
 pub use outlet::Outlet;
 pub use program::{RunFault, open_all, run};
 pub use server_settings::{

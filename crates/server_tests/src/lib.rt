@@ -12,6 +12,8 @@ mod doors;
 #[cfg(test)]
 mod hostile;
 #[cfg(test)]
+mod letters;
+#[cfg(test)]
 mod loopback;
 #[cfg(test)]
 mod scene;
