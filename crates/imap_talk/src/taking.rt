@@ -84,15 +84,21 @@ fn take_command<P: Port>(
 {
     // The command is given away, and its tag is wanted behind it.
     let Ok(tag) = tagged.tag.copy(alloc) else {
+        drop(tagged);
         return Err(Ended::NoMemory);
     };
     let idles = is_idle(&tagged.command);
     let leaves = is_logout(&tagged.command);
     let reply = match port.command(alloc, tagged) {
         Ok(reply) => reply,
-        Err(fault) => return Err(end_of(fault)),
+        Err(fault) => {
+            drop(tag);
+            return Err(end_of(fault));
+        }
     };
     let Ok(()) = tell_reply(alloc, text, &tag, &reply) else {
+        drop(reply);
+        drop(tag);
         return Err(Ended::NoMemory);
     };
     let done = is_done(&reply);

@@ -22,6 +22,17 @@ use std::sync::Wait;
 /// How many octets are read at once.
 const PIECE: usize = 4_096;
 
+/// What a conversation keeps from one piece of what is read to the next.
+#[derive(Drop)]
+struct Talk {
+    /// Cuts what is read into items.
+    framer: Framer,
+    /// The tag of the session's IDLE, while it idles.
+    idling: Option<Octets>,
+    /// What is said, and held back until it is written.
+    text: Vec<u8>,
+}
+
 /// Holds a conversation with a mail client: opens a session, greets, answers what the client sends, in order, until the conversation
 /// ends, and closes the session. The answers to one piece of what was read are written together, behind the last of them.
 ///
@@ -41,12 +52,11 @@ pub fn converse<R: Wait, S: Source, K: Sink, P: Port>(
     ensures reads { ((result ≡ WriteFailed) → ⊥) → S.failures source.new ≡ S.failures source.old + failed_reads result }
     ensures writes { K.failures sink.new ≡ K.failures sink.old + failed_writes result }
 {
-    let mut text = Vec::new(alloc);
     let login = match port.open(alloc) {
         Ok(login) => login,
-        Err(fault) => return write_last(sink, &mut text, end_of(fault)),
+        Err(fault) => return write_last(sink, &mut Vec::new(alloc), end_of(fault)),
     };
-    let ended = hold(rt, alloc, login, source, sink, port, &mut text);
+    let (ended, mut text) = hold(rt, alloc, login, source, sink, port);
     port.close(alloc);
     write_last(sink, &mut text, ended)
 }
@@ -81,7 +91,7 @@ fn write_bye<K: Sink>(sink: &mut K, bye: &[u8]) -> bool
     sink.write(bye)
 }
 
-/// Greets, and answers what the client sends, until the conversation ends.
+/// Greets, and answers what the client sends, until the conversation ends; tells how it ended, and what is held back then.
 fn hold<R: Wait, S: Source, K: Sink, P: Port>(
     rt: &R,
     alloc: Global,
@@ -89,21 +99,26 @@ fn hold<R: Wait, S: Source, K: Sink, P: Port>(
     source: &mut S,
     sink: &mut K,
     port: &mut P,
-    text: &mut Vec<u8>,
-) -> Ended
+) -> (Ended, Vec<u8>)
     requires source { S.failures source.old < 18446744073709551615 }
     requires sink { K.failures sink.old < 18446744073709551615 }
-    requires text { text.old.items ≡ [] }
     ensures talked { (octets : List ℕ) × (said : List ℕ) × Gave (S.left source.old) octets (S.left source.new)
-        × Holds P.steps port.old login Limits.STANDARD octets result (S.is_ended source.new) said port.new
-        × IsSaid result (K.taken sink.old) [] said (K.taken sink.new) text.new.items }
-    ensures reads { S.failures source.new ≡ S.failures source.old + failed_reads result }
-    ensures writes { K.failures sink.new ≡ K.failures sink.old + failed_writes result }
+        × Holds P.steps port.old login Limits.STANDARD octets result.0 (S.is_ended source.new) said port.new
+        × IsSaid result.0 (K.taken sink.old) [] said (K.taken sink.new) result.1.items }
+    ensures reads { S.failures source.new ≡ S.failures source.old + failed_reads result.0 }
+    ensures writes { K.failures sink.new ≡ K.failures sink.old + failed_writes result.0 }
 {
+    let mut text = Vec::new(alloc);
     let Ok(()) = text.extend_from_slice(greeting(login)) else {
-        return Ended::NoMemory;
+        return (Ended::NoMemory, text);
     };
-    answer_all(rt, alloc, source, sink, port, text)
+    let mut talk = Talk {
+        framer: Framer::new(alloc, Limits::STANDARD),
+        idling: None,
+        text,
+    };
+    let ended = answer_all(rt, alloc, source, sink, port, &mut talk);
+    (ended, talk.text)
 }
 
 #[tactic(auto, unfolding(imap_answers::specs::Printed::answer_text))]
@@ -123,21 +138,21 @@ fn answer_all<R: Wait, S: Source, K: Sink, P: Port>(
     source: &mut S,
     sink: &mut K,
     port: &mut P,
-    text: &mut Vec<u8>,
+    talk: &mut Talk,
 ) -> Ended
     requires source { S.failures source.old < 18446744073709551615 }
     requires sink { K.failures sink.old < 18446744073709551615 }
+    requires framer { talk.old.framer ≡ record { limits = Limits.STANDARD; state = Ok start } }
+    requires idling { talk.old.idling ≡ None }
     ensures talked { (octets : List ℕ) × (said : List ℕ) × Gave (S.left source.old) octets (S.left source.new)
         × Ends P.steps port.old (goes_on Limits.STANDARD (Ok start) octets) result (S.is_ended source.new) said port.new
-        × IsSaid result (K.taken sink.old) text.old.items said (K.taken sink.new) text.new.items }
+        × IsSaid result (K.taken sink.old) talk.old.text.items said (K.taken sink.new) talk.new.text.items }
     ensures reads { S.failures source.new ≡ S.failures source.old + failed_reads result }
     ensures writes { K.failures sink.new ≡ K.failures sink.old + failed_writes result }
 {
-    let mut framer = Framer::new(alloc, Limits::STANDARD);
-    let mut idling = None;
     let mut piece = [0u8; PIECE];
     for _ in rt.forever() {
-        if !write_held(sink, text) {
+        if !write_held(sink, &mut talk.text) {
             return Ended::WriteFailed;
         }
         let Some(count) = source.read(&mut piece) else {
@@ -146,15 +161,7 @@ fn answer_all<R: Wait, S: Source, K: Sink, P: Port>(
         if count == 0 {
             return Ended::PeerClosed;
         }
-        match answer_piece(
-            alloc,
-            &mut framer,
-            &piece[..count],
-            &mut idling,
-            port,
-            sink,
-            text,
-        ) {
+        match answer_piece(alloc, talk, &piece[..count], port, sink) {
             Ok(()) => {}
             Err(ended) => return ended,
         }
@@ -165,29 +172,34 @@ fn answer_all<R: Wait, S: Source, K: Sink, P: Port>(
 /// Answers what a piece of what was read completes.
 fn answer_piece<K: Sink, P: Port>(
     alloc: Global,
-    framer: &mut Framer,
+    talk: &mut Talk,
     piece: &[u8],
-    idling: &mut Option<Octets>,
     port: &mut P,
     sink: &mut K,
-    text: &mut Vec<u8>,
 ) -> Result<(), Ended>
-    requires going { IsOk framer.old.state }
+    requires going { IsOk talk.old.framer.state }
     requires sink { K.failures sink.old < 18446744073709551615 }
-    ensures limits { framer.new.limits ≡ framer.old.limits }
-    ensures ok { OnOk result ((said : List ℕ) × Converses P.steps port.old idling.old (goes_on framer.old.limits framer.old.state piece.now).0 said port.new idling.new
-        × Said (K.taken sink.old) text.old.items said (K.taken sink.new) text.new.items) }
-    ensures state { OnOk result ((framer.new.state ≡ (goes_on framer.old.limits framer.old.state piece.now).1) × IsOk framer.new.state) }
-    ensures err { IfErr result (λ ended. (said : List ℕ) × Halts P.steps port.old idling.old (goes_on framer.old.limits framer.old.state piece.now) ended said port.new
-        × IsSaid ended (K.taken sink.old) text.old.items said (K.taken sink.new) text.new.items) }
+    ensures limits { talk.new.framer.limits ≡ talk.old.framer.limits }
+    ensures ok { OnOk result ((said : List ℕ) × Converses P.steps port.old talk.old.idling (goes_on talk.old.framer.limits talk.old.framer.state piece.now).0 said port.new talk.new.idling
+        × Said (K.taken sink.old) talk.old.text.items said (K.taken sink.new) talk.new.text.items) }
+    ensures state { OnOk result ((talk.new.framer.state ≡ (goes_on talk.old.framer.limits talk.old.framer.state piece.now).1) × IsOk talk.new.framer.state) }
+    ensures err { IfErr result (λ ended. (said : List ℕ) × Halts P.steps port.old talk.old.idling (goes_on talk.old.framer.limits talk.old.framer.state piece.now) ended said port.new
+        × IsSaid ended (K.taken sink.old) talk.old.text.items said (K.taken sink.new) talk.new.text.items) }
     ensures devices { IfErr result (λ ended. failed_reads ended ≡ 0) }
     ensures failures { K.failures sink.new ≡ K.failures sink.old + failed result }
 {
-    match framer.feed(alloc, piece) {
-        Ok(items) => take_all(alloc, port, idling, &items, sink, text),
+    match talk.framer.feed(alloc, piece) {
+        Ok(items) => take_all(alloc, port, &mut talk.idling, &items, sink, &mut talk.text),
         Err(fault) => {
             let FrameFault { items, why } = fault;
-            if let Err(ended) = take_all(alloc, port, idling, &items, sink, text) {
+            if let Err(ended) = take_all(
+                alloc,
+                port,
+                &mut talk.idling,
+                &items,
+                sink,
+                &mut talk.text,
+            ) {
                 return Err(ended);
             }
             Err(Ended::Framing(why))

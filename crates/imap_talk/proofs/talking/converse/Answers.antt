@@ -8,7 +8,7 @@ use Rattle.imap_talk.proofs.talking.converse.Goals as goal
 pub returns-in-Err-clause-talked : goal.returns-in-Err-clause-talked
 returns-in-Err-clause-talked g c =
     let fault = c.in-Err.fault in
-    let none : c.new-text.result.items ≡ [] = search rules in
+    let none : c.new.result.items ≡ [] = search rules in
     let written = c.write_last.ensures.written (ap failed_writes c.end_of.ensures ∙ port_writes fault) in
     let taken = g.K.Sink.taken c.args.sink.now in
     let after = g.K.Sink.taken c.write_last.new.sink in
@@ -18,7 +18,7 @@ returns-in-Err-clause-talked g c =
 pub returns-clause-talked : goal.returns-clause-talked
 returns-clause-talked g c =
     let all = c.hold-ended.ensures.talked in
-    let ended = c.hold-ended.result in
+    let ended = c.hold-ended.result.0 in
     inr (
       c.in-Ok.login,
       c.open.new.self,
@@ -30,6 +30,6 @@ returns-clause-talked g c =
       c.close.ensures,
       all.2,
       all.3,
-      all_written ended c.write_last-2.result (g.K.Sink.taken c.args.sink.now) (g.K.Sink.taken c.hold-ended.new.sink) (g.K.Sink.taken c.write_last-2.new.sink) all.1 c.hold-ended.new.text.items (bye_text_of ended)
+      all_written ended c.write_last-2.result (g.K.Sink.taken c.args.sink.now) (g.K.Sink.taken c.hold-ended.new.sink) (g.K.Sink.taken c.write_last-2.new.sink) all.1 c.hold-ended.result.1.items (bye_text_of ended)
           all.4 c.write_last-2.ensures.written c.write_last-2.ensures.failed,
     )

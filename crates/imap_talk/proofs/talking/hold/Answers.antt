@@ -6,11 +6,11 @@ use Rattle.imap_talk.proofs.talking.hold.Goals as goal
 
 pub returns-clause-talked : goal.returns-clause-talked
 returns-clause-talked g c =
-    let all = c.answer_all.ensures.talked in
+    let all = c.answer_all-ended.ensures.talked in
     let first = printed (Greeting c.args.login) in (
       all.0,
       first ++ all.1,
       all.2,
       inl (all.1, refl, all.3),
-      said_behind c.answer_all.result (g.K.Sink.taken c.args.sink.now) (g.K.Sink.taken c.answer_all.new.sink) c.extend_from_slice.new.self.items first all.1 c.answer_all.new.text.items (search rules) all.4,
+      said_behind c.answer_all-ended.result (g.K.Sink.taken c.args.sink.now) (g.K.Sink.taken c.answer_all-ended.new.sink) c.extend_from_slice.new.self.items first all.1 c.answer_all-ended.new.talk.text.items (search rules) all.4,
     )
