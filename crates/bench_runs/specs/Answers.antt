@@ -1,17 +1,13 @@
-use Rattle.std.specs.Prelude.{ℕ, ◌+◌, ◌-◌, ◌*◌, ◌==◌, ◌&&◌, not, nat_lt, length, take, drop, List, [], ◌∷◌, Option, Some, None, is_some, option_and_then, codes, if◌then◌else◌}
+use Rattle.std.specs.Prelude.{ℕ, ◌+◌, ◌-◌, ◌*◌, ◌==◌, ◌&&◌, not, nat_lt, length, take, drop, List, [], ◌∷◌, Option, Some, None, is_some, codes, if◌then◌else◌}
 use Rattle.std.specs.Char.{is_ascii_digit}
 use Rattle.std.specs.Fmt.{decimal}
 use Rattle.std.specs.List.{list_all}
 use Rattle.std.specs.Str.{bytes_eq}
+use Rattle.text_fields.specs.Reading.{◌>>=◌}
 use Rattle.bench_runs.specs.declared.answers.Answer.{Answer}
 use Rattle.bench_runs.specs.declared.answers.Answer.TheVariants.{Bye, Continue, Ended, Exists, Other, Unreadable}
 use Rattle.bench_runs.specs.declared.answers.Status.{Status}
 use Rattle.bench_runs.specs.declared.answers.Status.TheVariants.{Bad, Done, No}
-
-infixl 10 ◌>>=◌
--- What follows a reading, where there is one.
-abbrev pub ◌>>=◌ : {A B : Type 0} → Option A → (A → Option B) → Option B
-read >>= next = option_and_then next read
 
 -- What stands behind this front, and what in front of this end, where the text has them.
 abbrev pub behind : List ℕ → List ℕ → Option (List ℕ)

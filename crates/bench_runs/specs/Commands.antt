@@ -1,6 +1,5 @@
-use Rattle.std.specs.Prelude.{ℕ, ◌==◌, ◌||◌, List, [], ◌∷◌, ◌++◌, codes, if◌then◌else◌}
+use Rattle.std.specs.Prelude.{ℕ, List, [], ◌∷◌, ◌++◌, codes}
 use Rattle.std.specs.Fmt.{decimal}
-use Rattle.std.specs.List.{flat_map}
 use Rattle.bench_runs.specs.declared.commands.Ask.{Ask}
 use Rattle.bench_runs.specs.declared.commands.Ask.TheVariants as asks
 use Rattle.bench_runs.specs.declared.commands.Command.{Command}
@@ -9,13 +8,8 @@ use Rattle.bench_runs.specs.declared.commands.MailboxAsk.{MailboxAsk}
 use Rattle.bench_runs.specs.declared.commands.MailboxAsk.TheVariants as mailboxes
 use Rattle.bench_runs.specs.declared.commands.MessageAsk.{MessageAsk}
 use Rattle.bench_runs.specs.declared.commands.MessageAsk.TheVariants as messages
-
--- A text as a quoted string (RFC 9051, section 9, `quoted`): `"` (34) around it, and `\` (92) in front of each `"` and `\`.
-abbrev pub escaped : ℕ → List ℕ
-escaped octet = if (octet == 34) || (octet == 92) then 92 ∷ octet ∷ [] else octet ∷ []
-
-abbrev pub quoted : List ℕ → List ℕ
-quoted text = (34 ∷ flat_map escaped text) ++ 34 ∷ []
+-- A text as a quoted string, and an octet of it (RFC 9051, section 9, `quoted`).
+pub use Rattle.imap_answers.specs.Strings.{escaped_octet as escaped, quoted_text as quoted}
 
 -- A command with no argument of its own.
 abbrev pub plain_text : Ask → List ℕ

@@ -1,20 +1,14 @@
-use Rattle.std.specs.Prelude.{◌≡◌, ◌≤◌, ◌<◌, ℕ, false, true, List, None, Some, unwrap_or, codes}
+use Rattle.std.specs.Prelude.{◌≡◌, ◌≤◌, ◌<◌, ℕ, true, List, None, Some, unwrap_or, codes}
 use Rattle.std.specs.Borrow.{Bor}
 use Rattle.std.specs.List.{All}
 use Rattle.std.specs.Option.{option_map}
-use Rattle.clap.specs.Words.{App, Row, Rule, first_of, new_app, new_rule, one_of, rule_of, with_rule}
+use Rattle.clap.specs.Words.{App, Row, Rule, first_of, new_app, new_rule, one_of, with_rule}
 use Rattle.clap.specs.declared.builder.action.ArgAction.TheVariants.{Set}
-use Rattle.clap.specs.declared.builder.arg.Arg.{Arg}
 use Rattle.clap.specs.declared.builder.value_parser.ValueParser.TheVariants.{Unsigned}
 use Rattle.bench_runs.specs.Workloads.{word_of}
 use Rattle.bench_runs.specs.declared.settings.Settings.{Settings}
 
 -- ---- the words that the program knows
-
--- An argument with this rule, which isn't global.
-pub record IsWord (argument : Arg) (word : Rule) : Type 0 where
-  pub rule : rule_of argument ≡ word
-  pub own : argument.global ≡ false
 
 -- A word with a value; one that has to be there; one whose value is a number from 1 on.
 abbrev pub named_word : List ℕ → Rule

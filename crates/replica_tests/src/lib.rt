@@ -13,8 +13,6 @@ mod laws;
 #[cfg(test)]
 mod refusals;
 #[cfg(test)]
-mod reluctant;
-#[cfg(test)]
 mod retries;
 #[cfg(test)]
 mod telling;

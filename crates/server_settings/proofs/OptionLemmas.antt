@@ -1,17 +1,12 @@
-use Rattle.std.proofs.Common.{◌≡◌, ℕ, Bool, true, false, List, Option, None, Some, Result, Ok, Err, refl, ap, ap₂, ◌∙◌}
-use Rattle.std.specs.Prelude.{IfOk, IsSomeAnd}
+use Rattle.std.proofs.Common.{◌≡◌, ℕ, true, false, List, Option, None, Some, ap, ◌∙◌}
+use Rattle.std.specs.Prelude.{IsSomeAnd}
 use Rattle.std.specs.Borrow.{Bor}
-use Rattle.clap.specs.Words.{AddsArg, App, Rule, app_of, new_rule, rule_of, with_rule}
+use Rattle.clap.specs.Words.{Rule, new_rule, rule_of}
 use Rattle.clap.specs.declared.builder.action.ArgAction.{ArgAction}
 use Rattle.clap.specs.declared.builder.arg.Arg.{Arg}
-use Rattle.clap.specs.declared.builder.command.Command.{Command}
 use Rattle.clap.specs.declared.builder.range.ValueRange.{ValueRange}
 use Rattle.clap.specs.declared.builder.value_parser.ValueParser.{ValueParser}
-
--- An argument with this rule, which isn't global.
-pub record IsWord (a : Arg) (word : Rule) : Type 0 where
-  pub rule : rule_of a ≡ word
-  pub own : a.global ≡ false
+use Rattle.clap_laws.specs.Words.{IsWord}
 
 module _ (id : List ℕ) (name help : Bor (List ℕ)) (action : ArgAction) (x l a h : Arg) (begun : rule_of x ≡ new_rule id) (own : x.global ≡ false) (long : l ≡ record x { long = Some name })
     (acts : a ≡ record l { action = Some action }) where
@@ -52,15 +47,6 @@ required_word id help action x r a n h range begun own requires acts counts is h
       rule = ap rule_of whole ∙ ap (λ (u : Rule). record u { required = true; action = Some action; range = Some range }) begun;
       own = ap (λ (y : Arg). y.global) whole ∙ own;
     }
-
--- a word that is added
-pub added : (old new : Command) (a : Arg) (app : App) (rule : Rule) → AddsArg old a new → IsWord a rule → app_of old ≡ app → app_of new ≡ with_rule app rule
-added old new a app rule adds word is = adds.shape word.own ∙ ap₂ with_rule is word.rule
-
-pub added_last : {E : Type 0} (r : Result Command E) (old : Command) (a : Arg) (app : App) (rule : Rule) → IfOk r (λ new. AddsArg old a new) → IsWord a rule → app_of old ≡ app
-    → IfOk r (λ new. app_of new ≡ with_rule app rule)
-added_last (Err e) old a app rule adds word is = tt
-added_last (Ok new) old a app rule adds word is = added old new a app rule adds word is
 
 pub counted : (o : Option ValueRange) (range : ValueRange) → IsSomeAnd o (λ r. r ≡ range) → o ≡ Some range
 counted None range h = absurd h

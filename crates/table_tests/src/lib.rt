@@ -19,8 +19,6 @@ mod plain_inbox;
 #[cfg(test)]
 mod plain_mailboxes;
 #[cfg(test)]
-mod reluctant;
-#[cfg(test)]
 mod shown;
 #[cfg(test)]
 mod tables;

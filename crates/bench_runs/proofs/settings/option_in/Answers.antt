@@ -1,6 +1,6 @@
 use Rattle.std.proofs.Common.{◌∙◌}
 use Rattle.clap.specs.Words.{found_of}
-use Rattle.bench_runs.proofs.WordLemmas.{first_found}
+use Rattle.clap_laws.proofs.FoundLemmas.{first_found}
 use Rattle.bench_runs.proofs.settings.option_in.Goals as goal
 
 pub returns : goal.returns

@@ -1,6 +1,6 @@
 use Rattle.std.proofs.Common.{refl}
 use Rattle.clap.specs.Words.{app_of}
-use Rattle.bench_runs.proofs.WordLemmas.{added, added_last}
+use Rattle.clap_laws.proofs.WordLemmas.{added, added_last}
 use Rattle.bench_runs.proofs.settings.with_amounts.Goals as goal
 
 pub returns : goal.returns

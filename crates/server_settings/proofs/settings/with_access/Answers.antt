@@ -1,7 +1,9 @@
 use Rattle.std.proofs.Common.{refl}
 use Rattle.clap.specs.Words.{app_of, with_rule}
+use Rattle.clap_laws.specs.Words.{IsWord}
+use Rattle.clap_laws.proofs.WordLemmas.{added, added_last}
 use Rattle.server_settings.specs.Options.{pass_word, preauth_word, user_word}
-use Rattle.server_settings.proofs.OptionLemmas.{IsWord, added, added_last, named_word}
+use Rattle.server_settings.proofs.OptionLemmas.{named_word}
 use Rattle.server_settings.proofs.settings.with_access.Goals as goal
 
 pub returns : goal.returns

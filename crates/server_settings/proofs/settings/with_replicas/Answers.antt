@@ -2,8 +2,10 @@ use Rattle.std.proofs.Common.{◌≡◌, Some, refl, rules}
 use Rattle.clap.specs.Lexer.{usize_max}
 use Rattle.clap.specs.Words.{app_of, with_rule}
 use Rattle.clap.specs.declared.builder.value_parser.ValueParser.TheVariants.{Unsigned}
+use Rattle.clap_laws.specs.Words.{IsWord}
+use Rattle.clap_laws.proofs.WordLemmas.{added, added_last}
 use Rattle.server_settings.specs.Options.{join_word, replica_word, stop_word}
-use Rattle.server_settings.proofs.OptionLemmas.{IsWord, added, added_last, counted, named_word, parsed_word, required_word}
+use Rattle.server_settings.proofs.OptionLemmas.{counted, named_word, parsed_word, required_word}
 use Rattle.server_settings.proofs.settings.with_replicas.Goals as goal
 
 pub returns : goal.returns

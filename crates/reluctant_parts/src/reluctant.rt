@@ -1,24 +1,10 @@
 //! Values and followers that are refused memory at one call.
 
+use crate::refusing::is_refused;
 use merge_laws::{Follower, NotReady, Replicated};
 use std::alloc::{AllocError, Global};
 
-/// Whether this call is the one that is refused: there were to be so many before it. Only one ever is.
-pub fn is_refused(before: &mut Option<u32>) -> bool {
-    match *before {
-        Some(0) => {
-            *before = None;
-            true
-        }
-        Some(count) => {
-            *before = Some(count - 1);
-            false
-        }
-        None => false,
-    }
-}
-
-/// Folders, or another value, that are refused memory at one call: the first where there are 0 before it.
+/// A value that is refused memory at one call: the first where there are 0 before it.
 #[derive(Drop)]
 pub struct Reluctant<R> {
     /// The value.

@@ -1,0 +1,21 @@
+//! Which call is refused.
+
+ghost use Rattle.std.specs.Prelude.{◌≡◌, ◌-◌, ◌↔◌, if◌then◌else◌, IsTrue, None, Some, option_map};
+
+/// Whether this call is the one that is refused: there were to be so many before it. Only one ever is.
+pub fn is_refused(before: &mut Option<u32>) -> bool
+    ensures refused { IsTrue result ↔ (before.old ≡ Some 0) }
+    ensures left { before.new ≡ (if result then None else option_map (λ count. count - 1) before.old) }
+{
+    match *before {
+        Some(0) => {
+            *before = None;
+            true
+        }
+        Some(count) => {
+            *before = Some(count - 1);
+            false
+        }
+        None => false,
+    }
+}
