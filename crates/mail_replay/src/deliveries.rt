@@ -128,7 +128,8 @@ fn hand_if_sound(
 {
     match check(op) {
         Ok(op) => hand_over(alloc, stage, Source::Forged, replica, op, printed),
-        Err((_, why)) => {
+        Err((op, why)) => {
+            drop(op);
             let rule = rule_told(why);
             write_outcome(OutcomeLine::Unsound { rule }, printed)?;
             Ok(())

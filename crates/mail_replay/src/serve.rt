@@ -265,40 +265,44 @@ fn feed(
     };
     let replica = &mut stage.replicas[at];
     let applied = replica.node.op_list().len();
-    session.connection = converse(
-        alloc,
-        &mut replica.node,
-        connection,
-        stage.moment,
+    let piece = Piece {
+        moment: stage.moment,
         octets,
-        name,
-        printed,
-    )?;
+    };
+    session.connection = converse(alloc, &mut replica.node, connection, &piece, name, printed)?;
     replica
         .issued
         .add_behind(alloc, replica.node.op_list(), applied)?;
     Ok(())
 }
 
-/// Feeds a connection these octets, which come at the moment, and prints the turns that they make; gives the connection back where it goes on.
+/// Octets that come of a client.
+#[derive(Drop)]
+struct Piece<'a> {
+    /// When they come.
+    moment: Moment,
+    /// The octets.
+    octets: &'a [u8],
+}
+
+/// Feeds a connection these octets, and prints the turns that they make; gives the connection back where it goes on.
 fn converse(
     alloc: Global,
     node: &mut Node,
     connection: Connection,
-    moment: Moment,
-    octets: &[u8],
+    piece: &Piece<'_>,
     name: &SessionName,
     printed: &mut Vec<u8>,
 ) -> Result<Option<Connection>, ServeFault>
-    ensures ok { IfOk result (λ left. (turns : List OneTurn) × TalksOn node.old.state connection moment octets.now turns node.new.state left × (printed.new.items ≡ printed.old.items ++ transcript name.now turns)) }
+    ensures ok { IfOk result (λ left. (turns : List OneTurn) × TalksOn node.old.state connection piece.now.moment piece.now.octets.now turns node.new.state left × (printed.new.items ≡ printed.old.items ++ transcript name.now turns)) }
     ensures bad { result ≡ Err BadScript → (IsGoing node.old.state connection.number → ⊥) × (printed.new.items ≡ printed.old.items) }
-    ensures memory { result ≡ Err NoMemory → (turns : List OneTurn) × (count : ℕ) × HasTurns node.old.state connection moment octets.now turns × (printed.new.items ≡ printed.old.items ++ transcript name.now (take count turns)) }
+    ensures memory { result ≡ Err NoMemory → (turns : List OneTurn) × (count : ℕ) × HasTurns node.old.state connection piece.now.moment piece.now.octets.now turns × (printed.new.items ≡ printed.old.items ++ transcript name.now (take count turns)) }
 {
     let Connection { number, mut framer } = connection;
     if !is_going(node, number) {
         return Err(ServeFault::BadScript);
     }
-    match talk(alloc, node, &mut framer, number, moment, octets) {
+    match talk(alloc, node, &mut framer, number, piece.moment, piece.octets) {
         Ok(turns) => {
             write_turns(name, &turns, printed)?;
             if is_going(node, number) {

@@ -6,6 +6,7 @@ use Rattle.imap_node.specs.declared.reply.Reply.{Reply}
 use Rattle.imap_node.specs.declared.sessions.OpenFault.TheVariants as refusals
 use Rattle.imap_syntax.specs.declared.command.Tagged.{Tagged}
 use Rattle.mail_serving.specs.Logins.{auth_of, login_of}
+use Rattle.mail_serving.specs.declared.session.Position.{Position}
 use Rattle.server_settings.specs.declared.settings.Access.{Access}
 use Rattle.imap_talk.specs.Asked.{Asked}
 use Rattle.imap_talk.specs.Asked as asked
@@ -53,17 +54,22 @@ StepsIn p (asked.Command tagged) (Ok reply) q = (moment : ℕ) × IsCalledIn p (
 StepsIn p (asked.Line line) (Ok reply) q = IsCalledIn p (λ n. events.Line n line) q × (q.last ≡ Some (Replied reply))
 StepsIn p call (Err fault) q = Unit {0}
 
--- A pass that had seen the journal at least up to one place has seen it up to another one since.
-abbrev pub GoesFrom : ℕ → Held → Held → ℕ → Type 0
-GoesFrom from p q to = (from ≤ p.seen) × (to ≡ q.seen)
+-- A pass that had seen the journal at least as far as a connection opened a session for it, and the connection stands where the pass does since.
+abbrev pub BeginsFrom : Position → Held → Held → Position → Type 0
+BeginsFrom from p q to = (from.seen ≤ p.seen) × (to.session ≡ q.session) × (to.seen ≡ q.seen)
+
+-- A pass in the session of a connection, which had seen the journal at least as far, has seen it up to where the connection stands since, in the same session.
+abbrev pub GoesFrom : Position → Held → Held → Position → Type 0
+GoesFrom from p q to = (from.session ≡ p.session) × (from.seen ≤ p.seen) × (to.session ≡ from.session) × (to.seen ≡ q.seen)
 
 -- What a connection is told of the beginning of its session comes of a call of some pass, between these places of the journal.
-abbrev pub OpensByCall : Access → ℕ → Result Login PortFault → ℕ → Type 0
-OpensByCall access from (Ok login) to = (p : Held) × (q : Held) × GoesFrom from p q to × OpensIn access p (Ok login) q
-OpensByCall access from (Err TooManySessions) to = (p : Held) × (q : Held) × GoesFrom from p q to × OpensIn access p (Err TooManySessions) q
+abbrev pub OpensByCall : Access → Position → Result Login PortFault → Position → Type 0
+OpensByCall access from (Ok login) to = (p : Held) × (q : Held) × BeginsFrom from p q to × OpensIn access p (Ok login) q
+OpensByCall access from (Err TooManySessions) to = (p : Held) × (q : Held) × BeginsFrom from p q to × OpensIn access p (Err TooManySessions) q
 OpensByCall access from (Err fault) to = Unit {0}
 
--- What it is told of a command, or of a line of IDLE, comes of a call of some pass, between these places of the journal: the call's entry stands at the second one, above the first.
-abbrev pub StepsByCall : ℕ → Asked → Result Reply PortFault → ℕ → Type 0
+-- What it is told of a command, or of a line of IDLE, comes of a call of some pass in its own session, between these places of the journal: the call's entry stands at the second one, above the
+-- first. Behind a fault it is in the same session, and no less far.
+abbrev pub StepsByCall : Position → Asked → Result Reply PortFault → Position → Type 0
 StepsByCall from call (Ok reply) to = (p : Held) × (q : Held) × GoesFrom from p q to × StepsIn p call (Ok reply) q
-StepsByCall from call (Err fault) to = Unit {0}
+StepsByCall from call (Err fault) to = (to.session ≡ from.session) × (from.seen ≤ to.seen)

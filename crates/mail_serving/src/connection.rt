@@ -113,16 +113,7 @@ fn talk<L: Ledger, R: Wait + Clock, G: Gate>(
     gate: &mut G,
     line: &Line<'_, L>,
 ) -> Ended {
-    let desk = line.desk;
-    let mut port = SessionPort::new(
-        rt,
-        desk.shared,
-        line.pass,
-        desk.house,
-        desk.own,
-        line.outlet,
-        gate,
-    );
+    let mut port = SessionPort::new(rt, line.desk, line.pass, line.outlet, gate);
     let mut source = Reader::new(rt, line.outlet, line.stream);
     let mut sink = Wire::new(line.stream);
     let ended = talk_over(rt, alloc, &mut source, &mut sink, &mut port);
@@ -132,7 +123,7 @@ fn talk<L: Ledger, R: Wait + Clock, G: Gate>(
 }
 
 /// Holds a conversation as a session of a replica behind its lock, over any source of octets and any sink for them. The session is opened by one call of the replica for
-/// whom the server lets in; each command and each line of IDLE that the octets read spell is one call, in their order, and so do their entries stand in the journal; and what is written is
+/// whom the server lets in; each command and each line of IDLE that the octets read spell is one call in the session that was opened, in their order, and so do their entries stand in the journal; and what is written is
 /// the greeting, the printed outcomes of these calls in that order, and the BYE that the end names, or, where a write failed, a beginning of it.
 pub fn talk_over<L: Ledger, R: Wait + Clock, G: Gate, S: Source, K: Sink>(
     rt: &R,
@@ -143,7 +134,7 @@ pub fn talk_over<L: Ledger, R: Wait + Clock, G: Gate, S: Source, K: Sink>(
 ) -> Ended
     requires source { S.failures source.old < 18446744073709551615 }
     requires sink { K.failures sink.old < 18446744073709551615 }
-    ensures { Talked (λ s r t. OpensByCall s.house.now.access s.seen r t.seen) (λ s call r t. StepsByCall s.seen call r t.seen) (λ s t. Unit {0}) port.old port.new Limits.STANDARD (S.left source.old) (S.left source.new) (S.is_ended source.new) (K.taken sink.old) (K.taken sink.new) result }
+    ensures { Talked (λ s r t. OpensByCall s.house.now.access s.at r t.at) (λ s call r t. StepsByCall s.at call r t.at) (λ s t. Unit {0}) port.old port.new Limits.STANDARD (S.left source.old) (S.left source.new) (S.is_ended source.new) (K.taken sink.old) (K.taken sink.new) result }
 {
     converse(rt, alloc, source, sink, port)
 }

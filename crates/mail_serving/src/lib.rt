@@ -24,6 +24,6 @@ pub use server_settings::{
     Access, CommandLine, Join, Place, SettingsFault, access_of, read_settings,
 };
 pub use serving::{Beginning, Part, serve, serve_over};
-pub use session::SessionPort;
+pub use session::{Position, SessionPort};
 pub use station::{Call, CopyOrder, Newcomers, Station};
 pub use totals::{Totals, totals_of};

@@ -1,6 +1,6 @@
 //! One session of a replica behind its lock, as a port.
 
-ghost use Rattle.std.specs.Prelude.{◌≡◌, ◌⊎◌, ℕ, Err, IfOk, Ok, OnErr, OnOk, Some};
+ghost use Rattle.std.specs.Prelude.{◌≡◌, ◌⊎◌, ◌≤◌, ℕ, Err, IfOk, IsTrue, Ok, OnErr, OnOk, Some};
 ghost use Rattle.std.specs.Option.{option_map};
 ghost use Rattle.imap_node.specs.declared.sessions.OpenFault.TheVariants as refusals;
 ghost use Rattle.imap_talk.specs.Asked as asked;
@@ -10,12 +10,13 @@ ghost use Rattle.mail_serving.specs.Logins.{auth_of};
 ghost use Rattle.replica_lock.specs.declared.event.BookEvent.TheVariants as events;
 ghost use Rattle.replica_lock.specs.declared.outcome.Outcome.TheVariants.{Opened, Replied};
 
+use crate::connection::Desk;
 use crate::house::{House, auth_of, login_of};
 use crate::mailing::Mail;
 use crate::outlet::Outlet;
 use crdt_ops::SoundOp;
 use imap_answers::Login;
-use imap_node::{OpenFault, Reply};
+use imap_node::{OpenFault, Reply, SessionNo};
 use imap_syntax::{Command, IdleLine, Tagged};
 use imap_talk::{Port, PortFault};
 use imap_types::Moment;
@@ -39,31 +40,39 @@ pub struct SessionPort<'a, L: Ledger, R: Wait + Clock, G: Gate> {
     outlet: &'a Outlet,
     gate: &'a mut G,
     commands: u64,
-    /// How far the pass had seen the journal behind the last call of this port.
+    /// Where the last call of this port left it.
+    at: Position,
+}
+
+/// Where a connection stands at its replica: the session that it opened, and how far its pass had seen the journal.
+#[derive(Clone, Copy, Debug, PartialEq, Eq)]
+pub struct Position {
+    session: Option<SessionNo>,
     seen: u64,
 }
 
 impl<'a, L: Ledger, R: Wait + Clock, G: Gate> SessionPort<'a, L, R, G> {
-    /// A session at a replica.
+    /// A session at the replica of this desk.
     pub fn new(
         rt: &'a R,
-        shared: &'a Shared<L>,
+        desk: &Desk<'a, L>,
         pass: &'a Mutex<Pass<L>>,
-        house: &'a House<'a>,
-        own: usize,
         outlet: &'a Outlet,
         gate: &'a mut G,
     ) -> SessionPort<'a, L, R, G> {
         SessionPort {
             rt,
-            shared,
+            shared: desk.shared,
             pass,
-            house,
-            own,
+            house: desk.house,
+            own: desk.own,
             outlet,
             gate,
             commands: 0,
-            seen: 0,
+            at: Position {
+                session: None,
+                seen: 0,
+            },
         }
     }
 }
@@ -138,6 +147,14 @@ impl<'a, L: Ledger, R: Wait + Clock, G: Gate> SessionPort<'a, L, R, G> {
         self.shared.close(self.rt, alloc, pass)
     }
 
+    /// Whether a pass has the session of this port, and has seen the journal no less far.
+    fn knows(&self, pass: &Pass<L>) -> bool
+        ensures session { IsTrue result → self.now.at.session ≡ pass.now.session }
+        ensures seen { IsTrue result → self.now.at.seen ≤ pass.now.seen }
+    {
+        self.at.session == pass.session() && self.at.seen <= pass.seen()
+    }
+
     /// Hands on what a command issued, and says whether the session idles behind it.
     fn follow(&self, alloc: Global, idles: bool, last: Option<&Outcome>) {
         let mail = Mail::new(self.rt, self.house, self.own);
@@ -147,19 +164,22 @@ impl<'a, L: Ledger, R: Wait + Clock, G: Gate> SessionPort<'a, L, R, G> {
 }
 
 impl<'a, L: Ledger, R: Wait + Clock, G: Gate> Port for SessionPort<'a, L, R, G> {
-    ghost opens = { λ s r t. OpensByCall s.house.now.access s.seen r t.seen };
+    ghost opens = { λ s r t. OpensByCall s.house.now.access s.at r t.at };
 
-    ghost steps = { λ s call r t. StepsByCall s.seen call r t.seen };
+    ghost steps = { λ s call r t. StepsByCall s.at call r t.at };
 
     ghost closes = { λ s t. Unit {0} };
 
     fn open(&mut self, alloc: Global) -> Result<Login, PortFault> {
         let mut pass = self.pass.lock(self.rt);
-        if pass.seen() < self.seen {
+        if pass.seen() < self.at.seen {
             return Err(PortFault::Torn);
         }
         let told = self.open_in(alloc, &mut pass);
-        self.seen = pass.seen();
+        self.at = Position {
+            session: pass.session(),
+            seen: pass.seen(),
+        };
         told
     }
 
@@ -167,22 +187,22 @@ impl<'a, L: Ledger, R: Wait + Clock, G: Gate> Port for SessionPort<'a, L, R, G> 
         self.commands = self.commands.saturating_add(1);
         self.gate.pass(self.commands);
         let mut pass = self.pass.lock(self.rt);
-        if pass.seen() < self.seen {
+        if !self.knows(&pass) {
             drop(tagged);
             return Err(PortFault::Torn);
         }
         let told = self.command_in(alloc, &mut pass, tagged);
-        self.seen = pass.seen();
+        self.at.seen = pass.seen();
         told
     }
 
     fn done(&mut self, alloc: Global, line: IdleLine) -> Result<Reply, PortFault> {
         let mut pass = self.pass.lock(self.rt);
-        if pass.seen() < self.seen {
+        if !self.knows(&pass) {
             return Err(PortFault::Torn);
         }
         let told = self.line_in(alloc, &mut pass, line);
-        self.seen = pass.seen();
+        self.at.seen = pass.seen();
         told
     }
 
