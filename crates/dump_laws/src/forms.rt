@@ -1,7 +1,7 @@
 //! An operation that was found sound has a text: its types keep its octets, numbers and lists in range. These functions do nothing; each
 //! says what every value of a type keeps.
 
-ghost use Rattle.std.specs.Prelude.{◌≡◌, ℕ, ◌<◌, ◌≤◌, length};
+ghost use Rattle.std.specs.Prelude.{◌≡◌, ℕ, ◌^◌, ◌<◌, ◌≤◌, length};
 ghost use Rattle.imap_types.specs.DateTimes.{IsDateTime};
 ghost use Rattle.imap_types.specs.Escape.{AreOctets};
 ghost use Rattle.imap_types.specs.Flags.{IsLawfulFlags};
@@ -9,6 +9,8 @@ ghost use Rattle.merge_laws.specs.Orders.{AreSound};
 ghost use Rattle.tags_clocks.specs.Clock.{IsClock};
 ghost use Rattle.crdt_ops.specs.Form.{AreIds, Each, HasFields, HasWords, IsDated, IsEntry, IsId, IsInForm, IsReplica};
 ghost use Rattle.crdt_ops.specs.Sound.{HasLawfulFlags};
+ghost use Rattle.crdt_ops.specs.declared.op.Op.{Op as Operation};
+ghost use Rattle.uid_projection.specs.Bounds.{AreWritable, IsCountable};
 
 use crdt_ops::{Ids, Kind, SoundOp};
 use imap_types::{DateTime, Flags, Name, Text};
@@ -28,6 +30,41 @@ fn each_in_form(ops: &[SoundOp])
         in_form(op);
     }
 }
+
+/// Operations that were found sound can be told of: they have texts, and the octets of the messages that they append can be counted.
+pub fn all_writable(ops: &[SoundOp])
+    ensures { AreWritable ops.now }
+{
+    each_writable(ops);
+}
+
+fn each_writable(ops: &[SoundOp])
+    ensures { Each (λ (op : Operation). IsInForm op × IsCountable op.kind) ops.now }
+{
+    for op in ops {
+        in_form(op);
+        text_counts(&op.op().kind);
+    }
+}
+
+/// A message that is appended stands in memory, so that its octets are fewer than 2^64.
+fn text_counts(kind: &Kind)
+    ensures { IsCountable kind.now }
+{
+    match kind {
+        Kind::Append { text, .. } => count_fits(text.as_bytes().len()),
+        Kind::Create { .. } => {}
+        Kind::Delete { .. } => {}
+        Kind::Expunge { .. } => {}
+        Kind::Store { .. } => {}
+        Kind::Subscribe { .. } => {}
+        Kind::Unsubscribe { .. } => {}
+    }
+}
+
+fn count_fits(count: usize)
+    ensures { count < 2 ^ 64 }
+{}
 
 /// An operation that was found sound has a text.
 pub fn in_form(op: &SoundOp)

@@ -5,5 +5,5 @@
 mod forms;
 mod laws;
 
-pub use forms::{all_in_form, in_form};
+pub use forms::{all_in_form, all_writable, in_form};
 pub use laws::dumps_are_right;

@@ -1,11 +1,12 @@
 //! Replicas, sessions and commands for the tests.
 
-use crdt_ops::{SoundOp, check, read_op};
+use crdt_ops::{Op, SoundOp, check, read_op};
 use imap_grammar::{Tagged, parse};
 use imap_node::{Auth, Node};
 use imap_types::Moment;
+use merge_laws::Caused;
 use replica_lock::{Book, Pass, Shared};
-use std::alloc::Global;
+use std::alloc::{AllocError, Global};
 use std::sync::Wait;
 use std::sync::ledger::Ledger;
 use tags_clocks::ReplicaId;
@@ -16,7 +17,12 @@ pub fn fresh_book(alloc: Global, number: u32) -> Option<Book> {
     book_from(alloc, number, 1)
 }
 
-/// The same, with this as the first UID of INBOX; `None` for 0.
+/// Two new replicas, the first and the second.
+pub fn fresh_books(alloc: Global) -> Option<(Book, Book)> {
+    fresh_book(alloc, 1).zip(fresh_book(alloc, 2))
+}
+
+/// The replica with this number, new, and with this as the first UID of INBOX; `None` for 0.
 pub fn book_from(alloc: Global, number: u32, uid: u32) -> Option<Book> {
     if uid == 0 {
         return None;
@@ -64,6 +70,7 @@ fn say_tagged<L: Ledger, R: Wait>(
     tagged: Tagged,
 ) -> bool {
     if pass.session().is_none() {
+        drop(tagged);
         return false;
     }
     shared
@@ -84,16 +91,66 @@ pub fn close_one<L: Ledger, R: Wait>(
     shared.close(rt, alloc, pass).is_ok()
 }
 
+/// The operations that lines spell, in their order; `None` where one spells none that is sound.
+pub fn operations(alloc: Global, lines: &[&str]) -> Option<Vec<SoundOp>> {
+    let mut ops = Vec::new(alloc);
+    if push_operations(alloc, lines, &mut ops) {
+        Some(ops)
+    } else {
+        drop(ops);
+        None
+    }
+}
+
+fn push_operations(alloc: Global, lines: &[&str], ops: &mut Vec<SoundOp>) -> bool {
+    for line in lines {
+        let Some(op) = operation(alloc, line) else {
+            return false;
+        };
+        if ops.push(op).is_err() {
+            return false;
+        }
+    }
+    true
+}
+
 /// The operation that a line spells, if it is sound.
 pub fn operation(alloc: Global, line: &str) -> Option<SoundOp> {
     match read_op(alloc, line.as_bytes()) {
-        Ok(op) => match check(op) {
-            Ok(sound) => Some(sound),
-            Err((op, _)) => {
-                drop(op);
-                None
-            }
-        },
+        Ok(op) => sound(op),
         Err(_) => None,
     }
+}
+
+fn sound(op: Op) -> Option<SoundOp> {
+    match check(op) {
+        Ok(sound) => Some(sound),
+        Err((op, _)) => {
+            drop(op);
+            None
+        }
+    }
+}
+
+/// Copies of operations.
+pub fn copies(alloc: Global, ops: &[SoundOp]) -> Result<Vec<SoundOp>, AllocError> {
+    let mut copies = Vec::new(alloc);
+    match push_copies(alloc, ops, &mut copies) {
+        Ok(()) => Ok(copies),
+        Err(fault) => {
+            drop(copies);
+            Err(fault)
+        }
+    }
+}
+
+fn push_copies(
+    alloc: Global,
+    ops: &[SoundOp],
+    copies: &mut Vec<SoundOp>,
+) -> Result<(), AllocError> {
+    for op in ops {
+        copies.push(op.copy(alloc)?)?;
+    }
+    Ok(())
 }

@@ -2,7 +2,7 @@
 
 ghost use Rattle.std.specs.Prelude.{◌≡◌};
 
-use crate::fixtures::{fresh_book, open_one};
+use crate::fixtures::{fresh_book, fresh_books, open_one};
 use replica_lock::{Book, Gate, Pass, Shared};
 use std::alloc::Global;
 use std::marker::Brand;
@@ -13,20 +13,29 @@ use std::test::*;
 use std::thread;
 use std::thread::Threads;
 
-/// A gate that tells that it was reached, and looks for an answer for so many turns.
+/// What the thread that holds a lock and the one that calls tell one another.
+#[derive(Drop)]
+struct Signs {
+    /// Not 0 once the lock is held.
+    reached: AtomicU64,
+    /// Not 0 once the call was answered.
+    answered: AtomicU64,
+    /// For so many turns the lock is held, unless the answer comes before.
+    turns: u64,
+}
+
+/// A gate that tells that it was reached, and looks for an answer.
 #[derive(Drop)]
 struct Until<'a> {
-    reached: &'a AtomicU64,
-    answered: &'a AtomicU64,
-    turns: u64,
+    signs: &'a Signs,
     saw: bool,
 }
 
 impl<'a> Gate for Until<'a> {
     fn pass(&mut self, n: u64) {
-        self.reached.store(n, Ordering::SeqCst);
-        for _ in 0..self.turns {
-            if self.answered.load(Ordering::SeqCst) != 0 {
+        self.signs.reached.store(n, Ordering::SeqCst);
+        for _ in 0..self.signs.turns {
+            if self.signs.answered.load(Ordering::SeqCst) != 0 {
                 self.saw = true;
                 return;
             }
@@ -36,19 +45,8 @@ impl<'a> Gate for Until<'a> {
 }
 
 /// Holds the lock, and says whether the answer came meanwhile.
-fn held<L: Ledger, R: Wait>(
-    rt: &R,
-    shared: &Shared<L>,
-    reached: &AtomicU64,
-    answered: &AtomicU64,
-    turns: u64,
-) -> bool {
-    let mut gate = Until {
-        reached,
-        answered,
-        turns,
-        saw: false,
-    };
+fn held<L: Ledger, R: Wait>(rt: &R, shared: &Shared<L>, signs: &Signs) -> bool {
+    let mut gate = Until { signs, saw: false };
     shared.hold(rt, &mut gate, 1);
     gate.saw
 }
@@ -59,18 +57,38 @@ fn opened<L: Ledger, R: Wait>(
     alloc: Global,
     shared: &Shared<L>,
     pass: &mut Pass<L>,
-    reached: &AtomicU64,
-    answered: &AtomicU64,
+    signs: &Signs,
 ) -> bool {
     for _ in rt.forever() {
-        if reached.load(Ordering::SeqCst) != 0 {
+        if signs.reached.load(Ordering::SeqCst) != 0 {
             break;
         }
         thread::yield_now();
     }
     let done = open_one(rt, alloc, shared, pass);
-    answered.store(1, Ordering::SeqCst);
+    signs.answered.store(1, Ordering::SeqCst);
     done
+}
+
+/// Whether a call at one replica was answered while the lock of one was held, for so many turns at most, and whether it was in the end.
+fn called<L: Ledger + Send + Sync, M: Ledger + Send + Sync, R: Threads + Wait + Sync>(
+    rt: &R,
+    alloc: Global,
+    locked: &Shared<L>,
+    shared: &Shared<M>,
+    pass: &mut Pass<M>,
+    turns: u64,
+) -> (bool, bool) {
+    let signs = Signs {
+        reached: AtomicU64::new(0),
+        answered: AtomicU64::new(0),
+        turns,
+    };
+    thread::join(
+        rt,
+        || held(rt, locked, &signs),
+        || opened(rt, alloc, shared, pass, &signs),
+    )
 }
 
 /// Whether a call at the other replica was answered while a lock was held, and whether one at the same replica was; and that both were
@@ -87,20 +105,8 @@ fn gates<L: Ledger + Send + Sync, M: Ledger + Send + Sync, R: Threads + Wait + S
 {
     let (one, mut pass) = Shared::<L>::new(blank, books.0);
     let (other, mut far) = Shared::<M>::new(other_blank, books.1);
-    let reached = AtomicU64::new(0);
-    let answered = AtomicU64::new(0);
-    let (apart, done) = thread::join(
-        rt,
-        || held(rt, &one, &reached, &answered, 1_000_000),
-        || opened(rt, alloc, &other, &mut far, &reached, &answered),
-    );
-    let reached = AtomicU64::new(0);
-    let answered = AtomicU64::new(0);
-    let (same, after) = thread::join(
-        rt,
-        || held(rt, &one, &reached, &answered, 100_000),
-        || opened(rt, alloc, &one, &mut pass, &reached, &answered),
-    );
+    let (apart, done) = called(rt, alloc, &one, &other, &mut far, 1_000_000);
+    let (same, after) = called(rt, alloc, &one, &one, &mut pass, 100_000);
     (apart, done, same, after)
 }
 
@@ -109,7 +115,7 @@ fn gates_of_two<R: Threads + Wait + Sync>(
     rt: &R,
     alloc: Global,
 ) -> Option<(bool, bool, bool, bool)> {
-    let books = (fresh_book(alloc, 1)?, fresh_book(alloc, 2)?);
+    let books = fresh_books(alloc)?;
     let whole = 4_294_967_295;
     Some(gates::<Brand, Brand, R>(rt, alloc, Blank::new(whole), Blank::new(whole), books))
 }

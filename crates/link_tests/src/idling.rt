@@ -3,6 +3,7 @@
 ghost use Rattle.std.specs.Prelude.{◌≡◌};
 
 use crate::fixtures::{fresh_book, open_one, say};
+use crate::replica::Replica;
 use crate::station::Watched;
 use replica_lock::{Book, Pass, Shared};
 use std::alloc::Global;
@@ -127,19 +128,19 @@ fn two_idle<L: Ledger + Send + Sync, R: Threads + Wait + Sync>(
 ) -> Option<(bool, (u64, u64))>
     requires { (blank.name ≡ L.name) × (blank.parts ≡ L.parts) × (L.parts ≡ 4294967295) }
 {
-    let (shared, mut first) = Shared::<L>::new(blank, book);
-    let mut one = first.cut()?;
-    let mut other = first.cut()?;
+    let mut replica = Replica::<L>::new(blank, book);
+    let ((one, other), watching) = replica.cut().zip(replica.cut()).zip(replica.cut())?;
+    let (mut one, mut other, mut watching) = (one, other, watching);
     let inbox: [&[u8]; 2] = [b"a SELECT INBOX\r\n", b"b NOOP\r\n"];
     let made: [&[u8]; 3] = [b"a CREATE other\r\n", b"b SELECT other\r\n", b"c NOOP\r\n"];
-    let begun = idle_in(rt, alloc, &shared, &mut one, &inbox)
-        && idle_in(rt, alloc, &shared, &mut other, &made);
+    let begun = idle_in(rt, alloc, replica.shared(), &mut one, &inbox)
+        && idle_in(rt, alloc, replica.shared(), &mut other, &made);
     let over = AtomicU64::new(0);
     let watched = Watched {
-        shared: &shared,
+        shared: replica.shared(),
         over: &over,
     };
-    let (_, (_, lengths)) = feed_both(rt, alloc, &watched, (&mut one, &mut other), &mut first);
+    let (_, (_, lengths)) = feed_both(rt, alloc, &watched, (&mut one, &mut other), &mut watching);
     Some((begun, lengths))
 }
 

@@ -2,9 +2,10 @@
 
 ghost use Rattle.std.specs.Prelude.{◌≡◌};
 
-use crate::fixtures::{fresh_book, open_one, operation, say};
+use crate::fixtures::{fresh_book, open_one, operations, say};
 use crate::link::Step;
 use crate::playing::{Deed, play_two};
+use crate::replica::Replica;
 use crate::told::{tell_answers, tell_id};
 use crdt_ops::SoundOp;
 use replica_lock::{Book, FinishFault, JoinFault, Pass, Shared};
@@ -15,18 +16,6 @@ use std::sync::Wait;
 use std::sync::ledger::{Blank, Ledger};
 use std::test::*;
 use tags_clocks::ReplicaId;
-
-/// The operations that lines spell, in their order.
-fn operations(alloc: Global, lines: &[&str]) -> Result<Option<Vec<SoundOp>>, AllocError> {
-    let mut ops = Vec::new(alloc);
-    for line in lines {
-        match operation(alloc, line) {
-            Some(op) => ops.push(op)?,
-            None => return Ok(None),
-        }
-    }
-    Ok(Some(ops))
-}
 
 /// What comes of it where a replica joins with these operations: its journal, or why it doesn't join.
 fn tell_joined(
@@ -107,9 +96,9 @@ const CASES: &[Case<'static>] = &[
 /// What a case comes to.
 fn case_text(alloc: Global, name: u32, lines: &[&str]) -> Result<String, AllocError> {
     let mut text = String::new(alloc);
-    let told = match operations(alloc, lines)? {
+    let told = match operations(alloc, lines) {
         Some(ops) => tell_joined(alloc, &mut text, name, &ops),
-        None => Ok(()),
+        None => text.push_str("no operations\n"),
     };
     told?;
     Ok(text)
@@ -142,27 +131,40 @@ fn worked<L: Ledger, R: Wait>(
 ) -> Option<(Book, Vec<SoundOp>)>
     requires { (blank.name ≡ L.name) × (blank.parts ≡ L.parts) × (L.parts ≡ 4294967295) }
 {
-    let (shared, mut pass) = Shared::<L>::new(blank, book);
-    let said = open_one(rt, alloc, &shared, &mut pass)
-        && say(rt, alloc, &shared, &mut pass, b"a CREATE a\r\n")
-        && say(rt, alloc, &shared, &mut pass, b"b DELETE a\r\n")
-        && say(rt, alloc, &shared, &mut pass, b"c CREATE a\r\n")
-        && say(rt, alloc, &shared, &mut pass, b"d APPEND a {1}\r\nx\r\n");
-    let ops = shared.ops_copy(rt, alloc, &pass).ok();
-    let book = handed_out(alloc, shared, pass).ok();
-    if said { both(book, ops) } else { None }
+    let mut replica = Replica::<L>::new(blank, book);
+    let mut pass = replica.cut()?;
+    let said = work(rt, alloc, replica.shared(), &mut pass);
+    let ops = replica.shared().ops_copy(rt, alloc, &pass).ok();
+    let book = finished(alloc, replica, pass).ok();
+    if said {
+        book.zip(ops)
+    } else {
+        drop(book);
+        drop(ops);
+        None
+    }
 }
 
-/// Both, or nothing.
-fn both(book: Option<Book>, ops: Option<Vec<SoundOp>>) -> Option<(Book, Vec<SoundOp>)> {
-    match (book, ops) {
-        (Some(book), Some(ops)) => Some((book, ops)),
-        (book, ops) => {
-            drop(book);
-            drop(ops);
-            None
-        }
-    }
+/// Makes a folder, deletes it, makes it again and puts a message into it; whether all of it was done.
+fn work<L: Ledger, R: Wait>(rt: &R, alloc: Global, shared: &Shared<L>, pass: &mut Pass<L>) -> bool {
+    open_one(rt, alloc, shared, pass)
+        && say(rt, alloc, shared, pass, b"a CREATE a\r\n")
+        && say(rt, alloc, shared, pass, b"b DELETE a\r\n")
+        && say(rt, alloc, shared, pass, b"c CREATE a\r\n")
+        && say(rt, alloc, shared, pass, b"d APPEND a {1}\r\nx\r\n")
+}
+
+/// Hands a book out, for this pass and the first one.
+fn finished<L: Ledger>(
+    alloc: Global,
+    replica: Replica<L>,
+    pass: Pass<L>,
+) -> Result<Book, FinishFault>
+    requires { L.parts ≡ 4294967295 }
+{
+    let mut passes = Vec::new(alloc);
+    let _ = passes.push(pass);
+    replica.finish(passes)
 }
 
 /// The same at a new replica.
@@ -250,57 +252,61 @@ fn lacking<L: Ledger, M: Ledger, R: Wait>(
     requires one { (blank.name ≡ L.name) × (blank.parts ≡ L.parts) × (L.parts ≡ 4294967295) }
     requires two { (other_blank.name ≡ M.name) × (other_blank.parts ≡ M.parts) × (M.parts ≡ 4294967295) }
 {
-    let (one, mut first) = Shared::<L>::new(blank, books.0);
-    let (other, mut second) = Shared::<M>::new(other_blank, books.1);
-    let (Some(mut cut), Some(idle)) = (first.cut(), second.cut()) else {
-        return None;
-    };
-    let opened = open_one(rt, alloc, &one, &mut cut) && open_one(rt, alloc, &other, &mut second);
-    drop(cut);
-    drop(idle);
-    let fault = handed_out(alloc, one, first).err();
-    let entries = match handed_out(alloc, other, second) {
-        Ok(book) => book.len(),
-        Err(_) => 0,
-    };
+    let mut one = Replica::<L>::new(blank, books.0);
+    let mut other = Replica::<M>::new(other_blank, books.1);
+    let opened = open_and_lose(rt, alloc, &mut one);
+    let pass = open_beside(rt, alloc, &mut other)?;
+    let entries = entries_of(finished(alloc, other, pass));
+    let fault = one.finish(Vec::new(alloc)).err();
     if opened { Some((fault, entries)) } else { None }
 }
 
-/// Hands a book out, with one pass.
-fn handed_out<L: Ledger>(
+/// Opens a session by a pass that is lost then; whether it was opened.
+fn open_and_lose<L: Ledger, R: Wait>(rt: &R, alloc: Global, replica: &mut Replica<L>) -> bool {
+    match replica.cut() {
+        Some(pass) => {
+            let mut pass = pass;
+            let opened = open_one(rt, alloc, replica.shared(), &mut pass);
+            drop(pass);
+            opened
+        }
+        None => false,
+    }
+}
+
+/// Opens a session, and loses a pass beside that made no call; the pass that opened it.
+fn open_beside<L: Ledger, R: Wait>(
+    rt: &R,
     alloc: Global,
-    shared: Shared<L>,
-    pass: Pass<L>,
-) -> Result<Book, FinishFault>
-    requires { L.parts ≡ 4294967295 }
-{
-    let mut passes = Vec::new(alloc);
-    let _ = passes.push(pass);
-    shared.finish(passes)
+    replica: &mut Replica<L>,
+) -> Option<Pass<L>> {
+    let (pass, idle) = replica.cut().zip(replica.cut())?;
+    drop(idle);
+    let mut pass = pass;
+    if open_one(rt, alloc, replica.shared(), &mut pass) {
+        Some(pass)
+    } else {
+        drop(pass);
+        None
+    }
+}
+
+/// How many entries the journal of a book has; 0 where there is none.
+fn entries_of(book: Result<Book, FinishFault>) -> u64 {
+    match book {
+        Ok(book) => book.len(),
+        Err(_) => 0,
+    }
 }
 
 /// The same at a new replica, and at one that joined with two operations.
 fn lacking_two<R: Wait>(rt: &R, alloc: Global) -> Option<(Option<FinishFault>, u64)> {
-    let ops = operations(alloc, &["1:1 - create a", "1:2 1=1 create b"]).ok()??;
+    let ops = operations(alloc, &["1:1 - create a", "1:2 1=1 create b"])?;
     let other = joined_book(alloc, 2, &ops);
     drop(ops);
-    match (fresh_book(alloc, 1), other) {
-        (Some(one), Some(other)) => {
-            let whole = 4_294_967_295;
-            lacking::<Brand, Brand, R>(
-                rt,
-                alloc,
-                Blank::new(whole),
-                Blank::new(whole),
-                (one, other),
-            )
-        }
-        (one, other) => {
-            drop(one);
-            drop(other);
-            None
-        }
-    }
+    let books = fresh_book(alloc, 1).zip(other)?;
+    let whole = 4_294_967_295;
+    lacking::<Brand, Brand, R>(rt, alloc, Blank::new(whole), Blank::new(whole), books)
 }
 
 #[test]

@@ -19,11 +19,15 @@ mod link;
 mod links;
 #[cfg(test)]
 mod losing;
-pub mod mail;
+#[cfg(test)]
+mod mail;
 #[cfg(test)]
 mod playing;
 #[cfg(test)]
+mod replica;
+#[cfg(test)]
 mod scripted;
-pub mod station;
+#[cfg(test)]
+mod station;
 #[cfg(test)]
 mod told;

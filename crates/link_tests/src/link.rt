@@ -1,9 +1,11 @@
 //! A link whose messages are passed, lost and doubled as a test says.
 
+use crate::fixtures::copies;
 use crdt_ops::SoundOp;
-use merge_laws::Caused;
+use crossbeam_channel::Sender;
 use replica_links::{Letter, LinkMsg, Post};
 use std::alloc::{AllocError, Global};
+use std::sync::Wait;
 use tags_clocks::Clock;
 
 /// What becomes of a message, by its place among those on the link; the first place is 0.
@@ -28,9 +30,15 @@ impl Step {
 }
 
 /// Messages on their way to one replica.
-#[derive(Drop)]
 pub struct Link {
     letters: Vec<Letter>,
+}
+
+// By hand, so that what holds it lets it go as a whole.
+impl Drop for Link {
+    fn drop(self) {
+        let Self { letters: _ } = self;
+    }
 }
 
 impl Link {
@@ -47,26 +55,28 @@ impl Link {
         Ok(())
     }
 
-    /// Takes the steps, one after another: what comes, in this order; `None` where there is no such message.
-    pub fn take(
+    /// Takes the steps, one after another, and sends what comes into a channel, in this order; false where there is no such message.
+    pub fn take<R: Wait>(
         &mut self,
+        rt: &R,
         alloc: Global,
         steps: &[Step],
-    ) -> Result<Option<Vec<Letter>>, AllocError> {
-        let mut come = Vec::new(alloc);
+        to: &Sender<Letter>,
+    ) -> Result<bool, AllocError> {
         for step in steps {
-            if !self.take_one(alloc, *step, &mut come)? {
-                return Ok(None);
+            if !self.take_one(rt, alloc, *step, to)? {
+                return Ok(false);
             }
         }
-        Ok(Some(come))
+        Ok(true)
     }
 
-    fn take_one(
+    fn take_one<R: Wait>(
         &mut self,
+        rt: &R,
         alloc: Global,
         step: Step,
-        come: &mut Vec<Letter>,
+        to: &Sender<Letter>,
     ) -> Result<bool, AllocError> {
         let place = step.place();
         if place >= self.letters.len() {
@@ -74,16 +84,26 @@ impl Link {
         }
         let letter = self.letters.remove(place);
         match step {
-            Step::Pass(_) => come.push(letter)?,
-            Step::Lose(_) => drop(letter),
-            Step::Twice(_) => {
-                let copy = copy_of(alloc, &letter);
-                come.push(letter)?;
-                come.push(copy?)?;
+            Step::Pass(_) => Ok(to.send(rt, letter).is_ok()),
+            Step::Lose(_) => {
+                drop(letter);
+                Ok(true)
             }
+            Step::Twice(_) => send_twice(rt, alloc, letter, to),
         }
-        Ok(true)
     }
+}
+
+/// Sends a message and a copy of it into a channel; whether it takes them.
+fn send_twice<R: Wait>(
+    rt: &R,
+    alloc: Global,
+    letter: Letter,
+    to: &Sender<Letter>,
+) -> Result<bool, AllocError> {
+    let copied = copy_of(alloc, &letter);
+    let sent = to.send(rt, letter).is_ok();
+    Ok(to.send(rt, copied?).is_ok() && sent)
 }
 
 fn copy_of(alloc: Global, letter: &Letter) -> Result<Letter, AllocError> {
@@ -98,20 +118,31 @@ fn copy_of(alloc: Global, letter: &Letter) -> Result<Letter, AllocError> {
     })
 }
 
-/// Copies of operations.
-pub fn copies(alloc: Global, ops: &[SoundOp]) -> Result<Vec<SoundOp>, AllocError> {
-    let mut copies = Vec::with_capacity(alloc, ops.len())?;
-    for op in ops {
-        copies.push(op.copy(alloc)?)?;
-    }
-    Ok(copies)
+/// What a replica sends, kept in its order, with the places to which it goes.
+pub struct Outbox {
+    sent: Vec<(usize, LinkMsg)>,
 }
 
-/// What a replica sends, kept in its order, with the places to which it goes.
-#[derive(Drop)]
-pub struct Outbox {
+// By hand, so that what holds it lets it go as a whole.
+impl Drop for Outbox {
+    fn drop(self) {
+        let Self { sent: _ } = self;
+    }
+}
+
+impl Outbox {
+    /// One from which nothing was sent.
+    pub fn new(alloc: Global) -> Outbox {
+        Outbox {
+            sent: Vec::new(alloc),
+        }
+    }
+
     /// What was sent.
-    pub sent: Vec<(usize, LinkMsg)>,
+    pub fn into_sent(self) -> Vec<(usize, LinkMsg)> {
+        let Self { sent } = self;
+        sent
+    }
 }
 
 impl Post for Outbox {

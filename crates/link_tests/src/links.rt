@@ -2,9 +2,10 @@
 
 ghost use Rattle.std.specs.Prelude.{◌≡◌};
 
-use crate::fixtures::{fresh_book, open_one, say};
+use crate::fixtures::{copies, fresh_books, open_one, say};
 use crate::mail::{Lines, Mail, Open, two_lines};
-use crate::station::{Both, Station};
+use crate::replica::{Passes, Replica};
+use crate::station::{Both, Part, Station, Work};
 use crdt_ops::SoundOp;
 use imap_node::Reply;
 use merge_laws::Caused;
@@ -14,7 +15,7 @@ use std::alloc::{AllocError, Global};
 use std::marker::Brand;
 use std::rt::Clock;
 use std::sync::Wait;
-use std::sync::atomic::{AtomicU64, Ordering};
+use std::sync::atomic::Ordering;
 use std::sync::ledger::{Blank, Ledger};
 use std::test::*;
 use std::thread;
@@ -24,20 +25,16 @@ use std::time::Duration;
 /// How often it is looked whether two replicas agree.
 const TURNS: u32 = 1_000_000;
 
-/// Copies of what the last call issued.
-pub fn issued<L: Ledger>(alloc: Global, pass: &Pass<L>) -> Result<Vec<SoundOp>, AllocError> {
-    let mut ops = Vec::new(alloc);
-    if let Some(
-        Outcome::Replied {
-            reply: Reply::Done { issued, .. },
-        },
-    ) = pass.last()
-    {
-        for op in issued.as_slice() {
-            ops.push(op.copy(alloc)?)?;
-        }
+/// What the last call issued.
+pub fn issued<L: Ledger>(pass: &Pass<L>) -> &[SoundOp] {
+    match pass.last() {
+        Some(
+            Outcome::Replied {
+                reply: Reply::Done { issued, .. },
+            },
+        ) => issued.as_slice(),
+        _ => &[],
     }
-    Ok(ops)
 }
 
 /// The nth command: a mailbox or a message.
@@ -55,7 +52,7 @@ fn peer_of(place: usize) -> usize {
 }
 
 /// Gives a command and sends what it issued; how many operations these are.
-fn say_and_send<L: Ledger, R: Wait>(
+pub fn say_and_send<L: Ledger, R: Wait>(
     alloc: Global,
     shared: &Shared<L>,
     pass: &mut Pass<L>,
@@ -65,9 +62,9 @@ fn say_and_send<L: Ledger, R: Wait>(
     if !say(mail.rt, alloc, shared, pass, line.as_bytes()) {
         return Ok(0);
     }
-    let ops = issued(alloc, pass)?;
-    let count = ops.len();
-    if mail.send(peer_of(mail.own), LinkMsg::Ops(ops)) {
+    let count = issued(pass).len();
+    let message = LinkMsg::Ops(copies(alloc, issued(pass))?);
+    if mail.send(peer_of(mail.own), message) {
         Ok(count)
     } else {
         Ok(0)
@@ -99,9 +96,40 @@ fn agree<L: Ledger, M: Ledger, R: Wait>(
     one: &Shared<L>,
     other: &Shared<M>,
 ) -> bool {
-    match (one.clock(rt, alloc), other.clock(rt, alloc)) {
-        (Ok(near), Ok(far)) => near.same(&far),
-        _ => false,
+    match one.clock(rt, alloc) {
+        Ok(clock) => {
+            let agreed = has_applied(rt, alloc, other, &clock);
+            drop(clock);
+            agreed
+        }
+        Err(_) => false,
+    }
+}
+
+/// Whether a replica has applied what this clock counts, and no more.
+fn has_applied<L: Ledger, R: Wait>(
+    rt: &R,
+    alloc: Global,
+    shared: &Shared<L>,
+    counted: &tags_clocks::Clock,
+) -> bool {
+    match shared.clock(rt, alloc) {
+        Ok(clock) => clock.same(counted),
+        Err(_) => false,
+    }
+}
+
+/// Does the work of a replica's client: how many operations it sent; `None` where it couldn't, or watched and saw no agreement.
+fn act<L: Ledger, M: Ledger, R: Wait>(
+    alloc: Global,
+    near: &Station<'_, L, R>,
+    far: &Station<'_, M, R>,
+    pass: &mut Pass<L>,
+) -> Option<u64> {
+    match near.part.work {
+        Work::Commands => work_and_stop(alloc, near, far, pass).ok(),
+        Work::Watch => watch(alloc, near, far),
+        Work::Nothing => Some(0),
     }
 }
 
@@ -126,8 +154,20 @@ fn work_and_stop<L: Ledger, M: Ledger, R: Wait>(
     sent
 }
 
+/// Looks many times whether two replicas agree, and then stops both links; nothing was sent. `None` where they don't agree.
+fn watch<L: Ledger, M: Ledger, R: Wait>(
+    alloc: Global,
+    near: &Station<'_, L, R>,
+    far: &Station<'_, M, R>,
+) -> Option<u64> {
+    let mail = &near.mail;
+    let agreed = is_agreed(mail.rt, alloc, near.shared, far.shared);
+    let stopped = mail.send(0, LinkMsg::Stop) && mail.send(1, LinkMsg::Stop);
+    if agreed && stopped { Some(0) } else { None }
+}
+
 /// Looks many times whether two replicas agree; whether they did.
-pub fn is_agreed<L: Ledger, M: Ledger, R: Wait>(
+fn is_agreed<L: Ledger, M: Ledger, R: Wait>(
     rt: &R,
     alloc: Global,
     one: &Shared<L>,
@@ -160,7 +200,7 @@ fn take<L: Ledger, R: Wait + Clock>(
 }
 
 /// Takes what comes to a replica of two, which asks the other one behind each rest, and answers it.
-pub fn serve<L: Ledger, R: Wait + Clock>(
+fn serve<L: Ledger, R: Wait + Clock>(
     alloc: Global,
     station: &Station<'_, L, R>,
     pass: Pass<L>,
@@ -171,37 +211,46 @@ pub fn serve<L: Ledger, R: Wait + Clock>(
         letters: mail.letters,
         peers: &peers,
         asks_first: false,
-        rest: station.rest,
+        rest: station.part.rest,
     };
     let mut answers = mail.again();
     take(alloc, station.shared, pass, &mut answers, &inbox)
 }
 
-/// Whether an operation stands in a list.
-fn has(ops: &[SoundOp], op: &SoundOp) -> bool {
-    ops.iter().any(|other| other.same(op))
-}
-
-/// How many operations one applied, and how many of these the other did.
-fn common(one: &Book, other: &Book) -> (usize, usize) {
-    let ops = one.node().op_list();
-    let others = other.node().op_list();
-    (ops.len(), ops.iter().filter(|op| has(others, op)).count())
-}
-
-/// The passes of a replica's client and of its link.
-#[derive(Drop)]
-struct Passes<L: Ledger> {
+/// What a link's ends at a replica bring back.
+pub struct Side<L: Ledger> {
     client: Pass<L>,
     link: Pass<L>,
+    /// How many operations its client sent; `None` where it couldn't do its work.
+    pub sent: Option<u64>,
 }
 
-/// What a link's ends at a replica bring back: the pass of the client, that of the link, and how many operations were sent.
-#[derive(Drop)]
-struct Side<L: Ledger> {
-    client: Pass<L>,
-    link: Pass<L>,
-    sent: u64,
+// By hand, so that functions with several exits let it go as a whole.
+impl<L: Ledger> Drop for Side<L> {
+    fn drop(self) {
+        let Self {
+            client: _,
+            link: _,
+            sent: _,
+        } = self;
+    }
+}
+
+impl<L: Ledger> Side<L> {
+    /// Hands the book of its replica out.
+    pub fn finish(self, alloc: Global, replica: Replica<L>) -> Option<Book>
+        requires { L.parts ≡ 4294967295 }
+    {
+        let Self {
+            client,
+            link,
+            sent: _,
+        } = self;
+        let mut passes = Vec::new(alloc);
+        let _ = passes.push(client);
+        let _ = passes.push(link);
+        replica.finish(passes).ok()
+    }
 }
 
 /// A replica's client and its link, each in a thread.
@@ -216,12 +265,12 @@ fn run_side<L: Ledger + Send + Sync, M: Ledger + Send + Sync, R: Threads + Wait 
     let (link, sent) = thread::join(
         near.mail.rt,
         || serve(alloc, near, link),
-        || work_and_stop(alloc, near, far, &mut mine),
+        || act(alloc, near, far, &mut mine),
     );
     Side {
         client: mine,
         link,
-        sent: sent.unwrap_or(0),
+        sent,
     }
 }
 
@@ -260,8 +309,8 @@ fn run_both<L: Ledger + Send + Sync, M: Ledger + Send + Sync, R: Threads + Wait 
     )
 }
 
-/// The same of these replicas.
-fn run_replicas<
+/// The same of these replicas, each with its part.
+pub fn run_replicas<
     'a,
     L: Ledger + Send + Sync,
     M: Ledger + Send + Sync,
@@ -271,65 +320,39 @@ fn run_replicas<
     alloc: Global,
     lines: &'a Lines,
     replicas: (&'a Shared<L>, &'a Shared<M>),
-    done: &'a AtomicU64,
-    passes: Passes<L>,
-    far_passes: Passes<M>,
+    parts: (Part, Part),
+    passes: (Passes<L>, Passes<M>),
 ) -> (Side<L>, Side<M>) {
     let (shared, far_shared) = replicas;
-    let rest = Duration::from_secs(3_600);
     let one = Station {
         shared,
         mail: Mail::new(rt, 0, lines),
-        rest,
-        done,
+        part: parts.0,
+        done: &lines.done,
     };
     let other = Station {
         shared: far_shared,
         mail: Mail::new(rt, 1, lines),
-        rest,
-        done,
+        part: parts.1,
+        done: &lines.done,
     };
     let both = Both {
         one: &one,
         other: &other,
     };
-    run_both(alloc, &both, passes, far_passes)
+    run_both(alloc, &both, passes.0, passes.1)
 }
 
-/// Hands the book of a replica out, with all its passes.
-fn finished_side<L: Ledger>(
-    alloc: Global,
-    shared: Shared<L>,
-    first: Pass<L>,
-    side: Side<L>,
-) -> Option<Book>
-    requires { L.parts ≡ 4294967295 }
-{
-    let Side {
-        client,
-        link,
-        sent: _,
-    } = side;
-    let mut passes = Vec::new(alloc);
-    let _ = passes.push(first);
-    let _ = passes.push(client);
-    let _ = passes.push(link);
-    shared.finish(passes).ok()
+/// Whether an operation stands in a list.
+fn has(ops: &[SoundOp], op: &SoundOp) -> bool {
+    ops.iter().any(|other| other.same(op))
 }
 
-/// The same of a replica with two passes.
-pub fn finished<L: Ledger>(
-    alloc: Global,
-    shared: Shared<L>,
-    first: Pass<L>,
-    link: Pass<L>,
-) -> Option<Book>
-    requires { L.parts ≡ 4294967295 }
-{
-    let mut passes = Vec::new(alloc);
-    let _ = passes.push(first);
-    let _ = passes.push(link);
-    shared.finish(passes).ok()
+/// How many operations one applied, and how many of these the other did.
+fn common(one: &Book, other: &Book) -> (usize, usize) {
+    let ops = one.node().op_list();
+    let others = other.node().op_list();
+    (ops.len(), ops.iter().filter(|op| has(others, op)).count())
 }
 
 /// Two replicas with a client each and links both ways: how many operations were sent from each, how many the first applied at the end, and
@@ -345,49 +368,32 @@ fn linked<L: Ledger + Send + Sync, M: Ledger + Send + Sync, R: Threads + Wait + 
     requires one { (blank.name ≡ L.name) × (blank.parts ≡ L.parts) × (L.parts ≡ 4294967295) }
     requires two { (other_blank.name ≡ M.name) × (other_blank.parts ≡ M.parts) × (M.parts ≡ 4294967295) }
 {
-    let (one, mut first) = Shared::<L>::new(blank, books.0);
-    let (other, mut far) = Shared::<M>::new(other_blank, books.1);
-    let (Some(client), Some(link)) = (first.cut(), first.cut()) else {
-        return None;
+    let mut one = Replica::<L>::new(blank, books.0);
+    let mut other = Replica::<M>::new(other_blank, books.1);
+    let passes = one.cut_both().zip(other.cut_both())?;
+    let part = Part {
+        work: Work::Commands,
+        rest: Duration::from_secs(3_600),
     };
-    let (Some(far_client), Some(far_link)) = (far.cut(), far.cut()) else {
-        return None;
-    };
-    let done = AtomicU64::new(0);
-    let (near, distant) = run_replicas(
-        rt,
-        alloc,
-        lines,
-        (&one, &other),
-        &done,
-        Passes { client, link },
-        Passes {
-            client: far_client,
-            link: far_link,
-        },
-    );
-    let sent = (near.sent, distant.sent);
-    let one = finished_side(alloc, one, first, near);
-    let other = finished_side(alloc, other, far, distant);
-    counted(sent, one, other)
+    let replicas = (one.shared(), other.shared());
+    let (near, distant) = run_replicas(rt, alloc, lines, replicas, (part, part), passes);
+    let sent = near.sent.zip(distant.sent);
+    counted(sent, near.finish(alloc, one), distant.finish(alloc, other))
 }
 
 fn counted(
-    sent: (u64, u64),
+    sent: Option<(u64, u64)>,
     one: Option<Book>,
     other: Option<Book>,
 ) -> Option<(u64, u64, usize, usize)> {
-    match (one, other) {
-        (Some(one), Some(other)) => {
-            let (applied, shared) = common(&one, &other);
-            Some((sent.0, sent.1, applied, shared))
-        }
-        (one, other) => {
-            drop(one);
-            drop(other);
-            None
-        }
-    }
+    let counts = match (&one, &other) {
+        (Some(one), Some(other)) => Some(common(one, other)),
+        _ => None,
+    };
+    drop(one);
+    drop(other);
+    let ((near, distant), (applied, shared)) = sent.zip(counts)?;
+    Some((near, distant, applied, shared))
 }
 
 /// The same at two new replicas.
@@ -396,7 +402,7 @@ fn linked_two<R: Threads + Wait + Clock + Sync>(
     alloc: Global,
 ) -> Result<Option<(u64, u64, usize, usize)>, AllocError> {
     let lines = two_lines(alloc)?;
-    let (Some(one), Some(other)) = (fresh_book(alloc, 1), fresh_book(alloc, 2)) else {
+    let Some(books) = fresh_books(alloc) else {
         return Ok(None);
     };
     let whole = 4_294_967_295;
@@ -405,7 +411,7 @@ fn linked_two<R: Threads + Wait + Clock + Sync>(
         alloc,
         Blank::new(whole),
         Blank::new(whole),
-        (one, other),
+        books,
         &lines,
     ))
 }

@@ -15,9 +15,9 @@ fn played<R: Wait + Clock>(
     uid: u32,
     deeds: &[(usize, Deed)],
 ) -> Result<Option<String>, AllocError> {
-    match (fresh_book(alloc, 1), book_from(alloc, 2, uid)) {
-        (Some(one), Some(two)) => Ok(Some(play_two(rt, alloc, (one, two), deeds)?)),
-        _ => Ok(None),
+    match fresh_book(alloc, 1).zip(book_from(alloc, 2, uid)) {
+        Some(books) => Ok(Some(play_two(rt, alloc, books, deeds)?)),
+        None => Ok(None),
     }
 }
 

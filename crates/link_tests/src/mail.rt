@@ -5,6 +5,7 @@ use crossbeam_channel::{Receiver, Sender, unbounded};
 use replica_links::{Gate, Letter, LinkMsg, Post};
 use std::alloc::{AllocError, Global};
 use std::sync::Wait;
+use std::sync::atomic::AtomicU64;
 use tags_clocks::Clock;
 
 /// A gate that is open.
@@ -15,26 +16,47 @@ impl Gate for Open {
     fn pass(&mut self, _n: u64) {}
 }
 
-/// Channels to two replicas.
-#[derive(Drop)]
+/// Channels to two replicas, and what their clients tell one another.
 pub struct Lines {
     /// The way to each, by place.
     pub links: Vec<Sender<Letter>>,
     /// Where the letters of the first and of the second come.
     pub inboxes: (Receiver<Letter>, Receiver<Letter>),
+    /// How many clients are through with their commands.
+    pub done: AtomicU64,
+}
+
+// By hand, so that functions with several exits let it go as a whole.
+impl Drop for Lines {
+    fn drop(self) {
+        let Self {
+            links: _,
+            inboxes: _,
+            done: _,
+        } = self;
+    }
 }
 
 /// Two new channels.
 pub fn two_lines(alloc: Global) -> Result<Lines, AllocError> {
-    let (to_one, for_one) = unbounded(alloc)?;
-    let (to_other, for_other) = unbounded(alloc)?;
     let mut links = Vec::new(alloc);
-    links.push(to_one)?;
-    links.push(to_other)?;
+    let first = one_line(alloc, &mut links)?;
+    let second = one_line(alloc, &mut links)?;
     Ok(Lines {
         links,
-        inboxes: (for_one, for_other),
+        inboxes: (first, second),
+        done: AtomicU64::new(0),
     })
+}
+
+/// A new channel, whose way is put behind these.
+fn one_line(
+    alloc: Global,
+    links: &mut Vec<Sender<Letter>>,
+) -> Result<Receiver<Letter>, AllocError> {
+    let (to, from) = unbounded(alloc)?;
+    links.push(to)?;
+    Ok(from)
 }
 
 /// The way from the replica at one place to those at all places.

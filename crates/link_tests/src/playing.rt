@@ -2,12 +2,12 @@
 
 ghost use Rattle.std.specs.Prelude.{◌≡◌, IfSome, None};
 
-use crate::fixtures::{open_one, operation, say};
+use crate::fixtures::{copies, open_one, operations, say};
 use crate::link::{Link, Outbox, Step};
 use crate::links::issued;
 use crate::mail::Open;
 use crate::told::{tell_answers, tell_message};
-use crossbeam_channel::unbounded;
+use crossbeam_channel::{Receiver, Sender, unbounded};
 use replica_links::{Inbox, Letter, LinkMsg, ReplicaTaker, ask_all, link_worker};
 use replica_lock::{Book, Pass, Shared};
 use std::alloc::{AllocError, Global};
@@ -31,7 +31,6 @@ pub enum Deed<'a> {
 }
 
 /// One of two replicas.
-#[derive(Drop)]
 struct End<L: Ledger> {
     shared: Shared<L>,
     /// Its place, 0 or 1.
@@ -42,8 +41,19 @@ struct End<L: Ledger> {
     passes: Vec<Pass<L>>,
 }
 
+// By hand, so that what holds it lets it go as a whole.
+impl<L: Ledger> Drop for End<L> {
+    fn drop(self) {
+        let Self {
+            shared: _,
+            own: _,
+            client: _,
+            passes: _,
+        } = self;
+    }
+}
+
 /// What is sent on both links, and where it waits.
-#[derive(Drop)]
 struct Ways {
     /// The link to each place.
     links: (Link, Link),
@@ -51,38 +61,61 @@ struct Ways {
     text: String,
 }
 
+// By hand, so that what holds it lets it go as a whole.
+impl Drop for Ways {
+    fn drop(self) {
+        let Self { links: _, text: _ } = self;
+    }
+}
+
 impl Ways {
-    /// Takes steps of the link to a place.
-    fn take(
+    /// Links on which nothing is.
+    fn new(alloc: Global) -> Ways {
+        Ways {
+            links: (Link::new(alloc), Link::new(alloc)),
+            text: String::new(alloc),
+        }
+    }
+
+    /// Takes steps of the link to a place, and sends what comes into a channel; false where there is no such message.
+    fn take<R: Wait>(
         &mut self,
+        rt: &R,
         alloc: Global,
         place: usize,
         steps: &[Step],
-    ) -> Result<Option<Vec<Letter>>, AllocError> {
+        to: &Sender<Letter>,
+    ) -> Result<bool, AllocError> {
         if place == 0 {
-            self.links.0.take(alloc, steps)
+            self.links.0.take(rt, alloc, steps, to)
         } else {
-            self.links.1.take(alloc, steps)
+            self.links.1.take(rt, alloc, steps, to)
         }
     }
 
     fn send(&mut self, from: usize, to: usize, message: LinkMsg) -> Result<(), AllocError> {
         let told = tell_message(&mut self.text, from, to, &message);
         let letter = Letter { from, message };
-        if to == 0 {
-            self.links.0.put(letter)?;
+        let put = if to == 0 {
+            self.links.0.put(letter)
         } else {
-            self.links.1.put(letter)?;
-        }
-        told
+            self.links.1.put(letter)
+        };
+        put.and(told)
     }
 
     fn send_all(&mut self, from: usize, outbox: Outbox) -> Result<(), AllocError> {
-        let Outbox { sent } = outbox;
-        for (to, message) in sent {
-            self.send(from, to, message)?;
+        let mut sent = Ok(());
+        for (to, message) in outbox.into_sent() {
+            sent = self.send(from, to, message).and(sent);
         }
-        Ok(())
+        sent
+    }
+
+    /// What was sent, line by line.
+    fn into_text(self) -> String {
+        let Self { links: _, text } = self;
+        text
     }
 }
 
@@ -129,10 +162,7 @@ impl<L: Ledger> End<L> {
             Deed::Says(line) => self.say(rt, alloc, line, ways),
             Deed::Forges(line) => self.forge(alloc, line, ways),
             Deed::Asks => self.ask(rt, alloc, ways),
-            Deed::Takes(steps) => match ways.take(alloc, self.own, steps)? {
-                Some(letters) => self.take(rt, alloc, letters, ways),
-                None => Ok(false),
-            },
+            Deed::Takes(steps) => self.take(rt, alloc, steps, ways),
         }
     }
 
@@ -150,17 +180,15 @@ impl<L: Ledger> End<L> {
         if !say(rt, alloc, &self.shared, &mut self.client, frame.as_bytes()) {
             return Ok(false);
         }
-        let ops = issued(alloc, &self.client)?;
+        let ops = copies(alloc, issued(&self.client))?;
         ways.send(self.own, self.other(), LinkMsg::Ops(ops))?;
         Ok(true)
     }
 
     fn forge(&mut self, alloc: Global, line: &str, ways: &mut Ways) -> Result<bool, AllocError> {
-        let Some(op) = operation(alloc, line) else {
+        let Some(ops) = operations(alloc, &[line]) else {
             return Ok(false);
         };
-        let mut ops = Vec::new(alloc);
-        ops.push(op)?;
         ways.send(self.own, self.other(), LinkMsg::Ops(ops))?;
         Ok(true)
     }
@@ -169,60 +197,65 @@ impl<L: Ledger> End<L> {
         let Some(pass) = self.fresh() else {
             return Ok(false);
         };
-        let mut outbox = Outbox {
-            sent: Vec::new(alloc),
-        };
+        let mut outbox = Outbox::new(alloc);
         let other = self.other();
         let taker = ReplicaTaker::new(rt, alloc, &self.shared, pass);
         let pass = asked(taker, &mut outbox, other);
-        let kept = self.passes.push(pass).is_ok();
-        ways.send_all(self.own, outbox)?;
-        Ok(kept)
+        self.keep(pass, outbox, ways)
     }
 
-    /// Has the link's worker take these messages, and no more.
+    /// Takes steps of the link to it, and has the link's worker take what comes, and no more.
     fn take<R: Wait + Clock>(
         &mut self,
         rt: &R,
         alloc: Global,
-        letters: Vec<Letter>,
+        steps: &[Step],
         ways: &mut Ways,
     ) -> Result<bool, AllocError> {
-        let (to, from) = unbounded(alloc)?;
-        let mut sent = true;
-        for letter in letters {
-            sent = to.send(rt, letter).is_ok() && sent;
-        }
+        let (to, come) = unbounded(alloc)?;
+        let taken = ways.take(rt, alloc, self.own, steps, &to);
         drop(to);
+        if taken? {
+            self.hear(rt, alloc, &come, ways)
+        } else {
+            Ok(false)
+        }
+    }
+
+    fn hear<R: Wait + Clock>(
+        &mut self,
+        rt: &R,
+        alloc: Global,
+        come: &Receiver<Letter>,
+        ways: &mut Ways,
+    ) -> Result<bool, AllocError> {
         let Some(pass) = self.fresh() else {
             return Ok(false);
         };
-        let mut outbox = Outbox {
-            sent: Vec::new(alloc),
-        };
-        let inbox = Inbox {
-            letters: &from,
-            peers: &[],
-            asks_first: false,
-            rest: Duration::from_secs(3_600),
-        };
-        let mut taker = ReplicaTaker::new(rt, alloc, &self.shared, pass);
-        link_worker(rt, &mut Open, &inbox, &mut taker, &mut outbox);
-        let kept = self.passes.push(taker.into_pass()).is_ok();
+        let mut outbox = Outbox::new(alloc);
+        let taker = ReplicaTaker::new(rt, alloc, &self.shared, pass);
+        let pass = heard(rt, taker, come, &mut outbox);
+        self.keep(pass, outbox, ways)
+    }
+
+    /// Keeps a pass of the link, and sends what it sends; whether the pass is kept.
+    fn keep(&mut self, pass: Pass<L>, outbox: Outbox, ways: &mut Ways) -> Result<bool, AllocError> {
+        let kept = self.passes.push(pass).is_ok();
         ways.send_all(self.own, outbox)?;
-        Ok(sent && kept)
+        Ok(kept)
     }
 
     /// Hands the book out, with all passes.
     fn finish(self) -> Option<Book>
         requires { L.parts ≡ 4294967295 }
     {
-        let End {
+        let Self {
             shared,
             own: _,
             client,
-            mut passes,
+            passes,
         } = self;
+        let mut passes = passes;
         let _ = passes.push(client);
         shared.finish(passes).ok()
     }
@@ -235,6 +268,24 @@ fn asked<L: Ledger, R: Wait>(
     other: usize,
 ) -> Pass<L> {
     ask_all(&taker, outbox, &[other]);
+    taker.into_pass()
+}
+
+/// Has the link's worker take what came, and gives the pass back.
+fn heard<L: Ledger, R: Wait + Clock>(
+    rt: &R,
+    taker: ReplicaTaker<'_, L, R>,
+    come: &Receiver<Letter>,
+    outbox: &mut Outbox,
+) -> Pass<L> {
+    let inbox = Inbox {
+        letters: come,
+        peers: &[],
+        asks_first: false,
+        rest: Duration::from_secs(3_600),
+    };
+    let mut taker = taker;
+    link_worker(rt, &mut Open, &inbox, &mut taker, outbox);
     taker.into_pass()
 }
 
@@ -252,14 +303,9 @@ fn play<L: Ledger, M: Ledger, R: Wait + Clock>(
 {
     let mut one = End::<L>::new(alloc, blank, books.0, 0);
     let mut two = End::<M>::new(alloc, other_blank, books.1, 1);
-    let mut ways = Ways {
-        links: (Link::new(alloc), Link::new(alloc)),
-        text: String::new(alloc),
-    };
+    let mut ways = Ways::new(alloc);
     let done = play_all(rt, alloc, &mut one, &mut two, &mut ways, deeds);
-    let Ways { links, text } = ways;
-    drop(links);
-    ended(done, text, one.finish(), two.finish())
+    ended(done, ways.into_text(), one.finish(), two.finish())
 }
 
 /// Does one thing after another.
@@ -298,8 +344,7 @@ fn ended(
     };
     drop(one);
     drop(two);
-    done?;
-    told?;
+    done.and(told)?;
     Ok(text)
 }
 

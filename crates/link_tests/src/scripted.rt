@@ -1,6 +1,6 @@
 //! In which order the worker of a link makes its calls.
 
-use crate::fixtures::operation;
+use crate::fixtures::{operation, operations};
 use crate::told::{tell_clock, tell_id};
 use crdt_ops::SoundOp;
 use crossbeam_channel::{Receiver, Sender, unbounded};
@@ -49,18 +49,46 @@ impl<'a, R: Wait> Notes<'a, R> {
     }
 }
 
+/// How a scripted replica behaves.
+#[derive(Drop)]
+struct Behaviour<'a> {
+    /// What it answers, one delivery after another; behind them nothing lacks.
+    answers: &'a [Took],
+    /// Its clock, of this replica's operations; `None` where it has no memory.
+    clock: Option<ReplicaId>,
+    /// What it gives to each one who asks.
+    gives: &'a [&'a str],
+    /// Whether it asks the others before it hears.
+    asks_first: bool,
+}
+
+/// One with memory to which nothing lacks, and which has nothing to give.
+fn plain() -> Behaviour<'static> {
+    Behaviour {
+        answers: &[],
+        clock: ReplicaId::new(9),
+        gives: &[],
+        asks_first: false,
+    }
+}
+
+/// One that has just joined, and has this clock.
+fn joined(clock: Option<ReplicaId>) -> Behaviour<'static> {
+    Behaviour {
+        answers: &[],
+        clock,
+        gives: &[],
+        asks_first: true,
+    }
+}
+
 /// A replica that answers deliveries as it was told, and has a clock and operations only where it has memory.
 #[derive(Drop)]
 struct Scripted<'a, R: Wait> {
     notes: Notes<'a, R>,
     alloc: Global,
-    /// What it answers, one delivery after another; behind them nothing lacks.
-    answers: &'a [Took],
+    behaviour: &'a Behaviour<'a>,
     given: usize,
-    /// Its clock, of this replica's operations; `None` where it has no memory.
-    clock: Option<ReplicaId>,
-    /// What it gives to each one who asks.
-    gives: &'a [&'a str],
 }
 
 impl<'a, R: Wait> Taker for Scripted<'a, R> {
@@ -79,7 +107,7 @@ impl<'a, R: Wait> Taker for Scripted<'a, R> {
         drop(op);
         let place = self.given;
         self.given = place.saturating_add(1);
-        match self.answers.get(place) {
+        match self.behaviour.answers.get(place) {
             Some(took) => *took,
             None => Took::nothing(),
         }
@@ -91,8 +119,12 @@ impl<'a, R: Wait> Taker for Scripted<'a, R> {
 
     fn clock(&self) -> Option<Clock> {
         self.notes.note(Call::Looked);
+        let replica = self.behaviour.clock?;
         let mut clock = Clock::new(self.alloc);
-        clock.raise(self.clock?, 7).ok()?;
+        if clock.raise(replica, 7).is_err() {
+            drop(clock);
+            return None;
+        }
         Some(clock)
     }
 
@@ -100,19 +132,9 @@ impl<'a, R: Wait> Taker for Scripted<'a, R> {
         if let Ok(copy) = clock.copy(self.alloc) {
             self.notes.note(Call::Searched(copy));
         }
-        self.clock?;
-        operations(self.alloc, self.gives)
+        self.behaviour.clock?;
+        operations(self.alloc, self.behaviour.gives)
     }
-}
-
-/// The operations that lines spell.
-fn operations(alloc: Global, lines: &[&str]) -> Option<Vec<SoundOp>> {
-    let mut ops = Vec::new(alloc);
-    for line in lines {
-        let op = operation(alloc, line)?;
-        ops.push(op).ok()?;
-    }
-    Some(ops)
 }
 
 impl<'a, R: Wait> Post for Notes<'a, R> {
@@ -188,65 +210,103 @@ enum Said<'a> {
 
 fn letter(alloc: Global, from: usize, said: Said) -> Result<Letter, AllocError> {
     let message = match said {
-        Said::Ops(lines) => match operations(alloc, lines) {
-            Some(ops) => LinkMsg::Ops(ops),
-            None => LinkMsg::Stop,
-        },
-        Said::Have(line) => match operation(alloc, line) {
-            Some(op) => LinkMsg::Have(op.clock().copy(alloc)?),
-            None => LinkMsg::Stop,
-        },
+        Said::Ops(lines) => ops(alloc, lines),
+        Said::Have(line) => have(alloc, line)?,
         Said::Stop => LinkMsg::Stop,
     };
     Ok(Letter { from, message })
 }
 
-/// The calls that the worker makes over a replica that answers so, where these letters come.
-fn worked<R: Wait + rt::Clock>(
-    rt: &R,
-    alloc: Global,
-    answers: &[Took],
-    gives: &[&str],
-    clock: Option<ReplicaId>,
-    script: &[(usize, Said)],
-) -> Result<String, AllocError> {
-    worked_from(rt, alloc, answers, gives, clock, script, false)
+fn ops(alloc: Global, lines: &[&str]) -> LinkMsg {
+    match operations(alloc, lines) {
+        Some(ops) => LinkMsg::Ops(ops),
+        None => LinkMsg::Stop,
+    }
 }
 
-/// The same, where it asks the others first or doesn't.
-fn worked_from<R: Wait + rt::Clock>(
+fn have(alloc: Global, line: &str) -> Result<LinkMsg, AllocError> {
+    match operation(alloc, line) {
+        Some(op) => {
+            let clock = op.clock().copy(alloc);
+            drop(op);
+            Ok(LinkMsg::Have(clock?))
+        }
+        None => Ok(LinkMsg::Stop),
+    }
+}
+
+/// Sends the letters of a script.
+fn send_all<R: Wait>(
     rt: &R,
     alloc: Global,
-    answers: &[Took],
-    gives: &[&str],
-    clock: Option<ReplicaId>,
+    to: &Sender<Letter>,
     script: &[(usize, Said)],
-    asks_first: bool,
-) -> Result<String, AllocError> {
-    let (sender, calls) = unbounded(alloc)?;
-    let (to, letters) = unbounded(alloc)?;
+) -> Result<(), AllocError> {
     for (from, said) in script {
         let _ = to.send(rt, letter(alloc, *from, *said)?);
     }
-    drop(to);
+    Ok(())
+}
+
+/// Has a worker hear at this gate, over a replica that behaves so, and notes its calls.
+fn hear<R: Wait + rt::Clock, G: Gate>(
+    rt: &R,
+    alloc: Global,
+    calls: &Sender<Call>,
+    gate: &mut G,
+    behaviour: &Behaviour,
+    inbox: &Inbox,
+) {
     let mut taker = Scripted {
-        notes: Notes { rt, calls: &sender },
+        notes: Notes { rt, calls },
         alloc,
-        answers,
+        behaviour,
         given: 0,
-        clock,
-        gives,
     };
+    let mut post = Notes { rt, calls };
+    link_worker(rt, gate, inbox, &mut taker, &mut post);
+}
+
+/// The calls that the worker makes over a replica that behaves so, where these letters come.
+fn worked<R: Wait + rt::Clock>(
+    rt: &R,
+    alloc: Global,
+    behaviour: &Behaviour,
+    script: &[(usize, Said)],
+) -> Result<String, AllocError> {
+    let (sender, calls) = unbounded(alloc)?;
+    let heard = hear_script(rt, alloc, &sender, behaviour, script);
+    drop(sender);
+    heard?;
+    tell_calls(rt, alloc, &calls)
+}
+
+fn hear_script<R: Wait + rt::Clock>(
+    rt: &R,
+    alloc: Global,
+    calls: &Sender<Call>,
+    behaviour: &Behaviour,
+    script: &[(usize, Said)],
+) -> Result<(), AllocError> {
+    let (to, letters) = unbounded(alloc)?;
+    let sent = send_all(rt, alloc, &to, script);
+    drop(to);
+    sent?;
     let inbox = Inbox {
         letters: &letters,
         peers: &[1, 2],
-        asks_first,
+        asks_first: behaviour.asks_first,
         rest: Duration::from_secs(3_600),
     };
-    let mut gate = Notes { rt, calls: &sender };
-    let mut post = Notes { rt, calls: &sender };
-    link_worker(rt, &mut gate, &inbox, &mut taker, &mut post);
-    tell_calls(rt, alloc, &calls)
+    hear(
+        rt,
+        alloc,
+        calls,
+        &mut Notes { rt, calls },
+        behaviour,
+        &inbox,
+    );
+    Ok(())
 }
 
 const NOTHING: Took = Took {
@@ -289,7 +349,12 @@ fn what_becomes_of_each_message(rt: HostRuntime) -> Result<(), Fail> {
     let answers = [
         STALLED, LACKING, NOTHING, NOTHING, BOTH, BOTH, NOTHING, STALLED, NOTHING, NOTHING, LACKING,
     ];
-    let told = worked(&rt, rt.alloc(), &answers, THREE, ReplicaId::new(9), &script)?;
+    let behaviour = Behaviour {
+        answers: &answers,
+        gives: THREE,
+        ..plain()
+    };
+    let told = worked(&rt, rt.alloc(), &behaviour, &script)?;
     let wanted =
         "pass 1\ndeliver 1:1\ndeliver 1:2\ndeliver 2:1\ndrain\nclock\nask 4 9=7\npass 2\ndeliver 1:1\npass 3\ndeliver 1:1\ndeliver 1:2\ndeliver 2:1\ndrain\nclock\nask 3 9=7\npass 4\ndeliver 1:1\ndrain\npass 5\ndeliver 1:1\ndeliver 1:2\ndeliver 2:1\nclock\nask 6 9=7\npass 6\npass 7\nsince 1=2,4=1\nhand 8 3\npass 8\n";
     assert!(rt; told.as_str() == wanted);
@@ -299,7 +364,13 @@ fn what_becomes_of_each_message(rt: HostRuntime) -> Result<(), Fail> {
 #[test]
 fn nothing_is_sent_without_memory(rt: HostRuntime) -> Result<(), Fail> {
     let script = [(4, Said::Ops(ONE)), (8, Said::Have("1:3 1=2,4=1 create d"))];
-    let told = worked(&rt, rt.alloc(), &[BOTH], THREE, None, &script)?;
+    let behaviour = Behaviour {
+        answers: &[BOTH],
+        clock: None,
+        gives: THREE,
+        asks_first: false,
+    };
+    let told = worked(&rt, rt.alloc(), &behaviour, &script)?;
     let wanted = "pass 1\ndeliver 1:1\ndrain\nclock\npass 2\nsince 1=2,4=1\n";
     assert!(rt; told.as_str() == wanted);
     Ok(())
@@ -308,19 +379,18 @@ fn nothing_is_sent_without_memory(rt: HostRuntime) -> Result<(), Fail> {
 #[test]
 fn nothing_is_handed_where_nothing_lacks(rt: HostRuntime) -> Result<(), Fail> {
     let script = [(8, Said::Have("1:1 - create d")), (8, Said::Stop)];
-    let told = worked(&rt, rt.alloc(), &[], &[], ReplicaId::new(9), &script)?;
+    let told = worked(&rt, rt.alloc(), &plain(), &script)?;
     assert!(rt; told.as_str() == "pass 1\nsince -\npass 2\n");
     Ok(())
 }
 
 #[test]
 fn one_that_joined_asks_first(rt: HostRuntime) -> Result<(), Fail> {
-    let alloc = rt.alloc();
     let script = [(1, Said::Ops(ONE)), (2, Said::Stop)];
-    let told = worked_from(&rt, alloc, &[], &[], ReplicaId::new(9), &script, true)?;
+    let told = worked(&rt, rt.alloc(), &joined(ReplicaId::new(9)), &script)?;
     let wanted = "clock\nask 1 9=7\nclock\nask 2 9=7\npass 1\ndeliver 1:1\npass 2\n";
     assert!(rt; told.as_str() == wanted);
-    let told = worked_from(&rt, alloc, &[], &[], None, &script, true)?;
+    let told = worked(&rt, rt.alloc(), &joined(None), &script)?;
     assert!(rt; told.as_str() == "clock\nclock\npass 1\ndeliver 1:1\npass 2\n");
     Ok(())
 }
@@ -336,10 +406,8 @@ fn asked_all<R: Wait>(
     let taker = Scripted {
         notes: Notes { rt, calls: &sender },
         alloc,
-        answers: &[],
+        behaviour: &joined(clock),
         given: 0,
-        clock,
-        gives: &[],
     };
     let mut post = Notes { rt, calls: &sender };
     ask_all(&taker, &mut post, peers);
@@ -372,10 +440,19 @@ fn stop_behind<R: Wait>(rt: &R, calls: &Receiver<Call>, count: usize, to: &Sende
 }
 
 /// What a worker hears, and whom it asks.
-#[derive(Drop)]
 struct Heard {
     letters: Receiver<Letter>,
     peers: Vec<usize>,
+}
+
+// By hand, so that functions with several exits let it go as a whole.
+impl Drop for Heard {
+    fn drop(self) {
+        let Self {
+            letters: _,
+            peers: _,
+        } = self;
+    }
 }
 
 impl Heard {
@@ -397,18 +474,16 @@ fn work_until_stopped<R: Wait + rt::Clock>(
     sender: Sender<Call>,
     heard: &Heard,
 ) {
-    let mut taker = Scripted {
-        notes: Notes { rt, calls: &sender },
-        alloc,
-        answers: &[],
-        given: 0,
-        clock: ReplicaId::new(9),
-        gives: &[],
-    };
-    let inbox = heard.inbox();
-    let mut gate = Notes { rt, calls: &sender };
-    let mut post = Notes { rt, calls: &sender };
-    link_worker(rt, &mut gate, &inbox, &mut taker, &mut post);
+    let calls = &sender;
+    let mut gate = Notes { rt, calls };
+    hear(rt, alloc, calls, &mut gate, &plain(), &heard.inbox());
+}
+
+/// A channel for letters, and who hears them.
+fn hearing(alloc: Global, peers: &[usize]) -> Result<(Sender<Letter>, Heard), AllocError> {
+    let peers = peers.to_vec(alloc)?;
+    let (to, letters) = unbounded(alloc)?;
+    Ok((to, Heard { letters, peers }))
 }
 
 /// The calls that the worker makes where no letter comes.
@@ -418,12 +493,8 @@ fn rested<R: Threads + Wait + rt::Clock + Sync>(
     peers: &[usize],
     count: usize,
 ) -> Result<String, AllocError> {
+    let (to, heard) = hearing(alloc, peers)?;
     let (sender, calls) = unbounded(alloc)?;
-    let (to, letters) = unbounded(alloc)?;
-    let heard = Heard {
-        letters,
-        peers: peers.to_vec(alloc)?,
-    };
     thread::join(
         rt,
         || work_until_stopped(rt, alloc, sender, &heard),
@@ -458,19 +529,22 @@ impl<'a, R: Wait + rt::Clock> Gate for Slow<'a, R> {
 /// The calls that the worker makes where each of three letters takes longer than the others are left alone.
 fn hurried<R: Wait + rt::Clock>(rt: &R, alloc: Global) -> Result<String, AllocError> {
     let (sender, calls) = unbounded(alloc)?;
+    let heard = hear_slowly(rt, alloc, &sender);
+    drop(sender);
+    heard?;
+    tell_calls(rt, alloc, &calls)
+}
+
+fn hear_slowly<R: Wait + rt::Clock>(
+    rt: &R,
+    alloc: Global,
+    calls: &Sender<Call>,
+) -> Result<(), AllocError> {
     let (to, letters) = unbounded(alloc)?;
-    for _ in 0..3u8 {
-        let _ = to.send(rt, letter(alloc, 4, Said::Ops(&[]))?);
-    }
+    let empty = (4, Said::Ops(&[]));
+    let sent = send_all(rt, alloc, &to, &[empty, empty, empty]);
     drop(to);
-    let mut taker = Scripted {
-        notes: Notes { rt, calls: &sender },
-        alloc,
-        answers: &[],
-        given: 0,
-        clock: ReplicaId::new(9),
-        gives: &[],
-    };
+    sent?;
     let inbox = Inbox {
         letters: &letters,
         peers: &[1],
@@ -478,11 +552,10 @@ fn hurried<R: Wait + rt::Clock>(rt: &R, alloc: Global) -> Result<String, AllocEr
         rest: Duration::from_millis(20),
     };
     let mut gate = Slow {
-        notes: Notes { rt, calls: &sender },
+        notes: Notes { rt, calls },
     };
-    let mut post = Notes { rt, calls: &sender };
-    link_worker(rt, &mut gate, &inbox, &mut taker, &mut post);
-    tell_calls(rt, alloc, &calls)
+    hear(rt, alloc, calls, &mut gate, &plain(), &inbox);
+    Ok(())
 }
 
 /// Whether the other replica was asked between two of the letters.

@@ -18,15 +18,19 @@ pub fn tell_message(
     let from = from.saturating_add(1);
     let to = to.saturating_add(1);
     write!(text, "{from} to {to}:")?;
+    tell_said(text, message)?;
+    text.push_str("\n")
+}
+
+fn tell_said(text: &mut String, message: &LinkMsg) -> Result<(), AllocError> {
     match message {
-        LinkMsg::Ops(ops) => tell_ops(text, ops)?,
+        LinkMsg::Ops(ops) => tell_ops(text, ops),
         LinkMsg::Have(clock) => {
             text.push_str(" have ")?;
-            tell_clock(text, clock)?;
+            tell_clock(text, clock)
         }
-        LinkMsg::Stop => text.push_str(" stop")?,
+        LinkMsg::Stop => text.push_str(" stop"),
     }
-    text.push_str("\n")
 }
 
 /// Tells the ids of operations, with a space in front of each.
@@ -76,18 +80,22 @@ fn tell_entry(text: &mut String, entry: &Entry) -> Result<(), AllocError> {
         BookEvent::Drain => text.push_str("drain")?,
         _ => return Ok(()),
     }
-    match &entry.outcome {
+    tell_outcome(text, &entry.outcome)?;
+    text.push_str("\n")
+}
+
+fn tell_outcome(text: &mut String, outcome: &Outcome) -> Result<(), AllocError> {
+    match outcome {
         Outcome::Delivered {
             answer: Ok(delivered),
-        } => tell_delivered(text, *delivered)?,
-        Outcome::Delivered { answer: Err(fault) } => tell_fault(text, *fault)?,
+        } => tell_delivered(text, *delivered),
+        Outcome::Delivered { answer: Err(fault) } => tell_fault(text, *fault),
         Outcome::Drained { drained } => {
             tell_applied(text, drained.applied)?;
-            tell_stalled(text, drained.stalled)?;
+            tell_stalled(text, drained.stalled)
         }
-        _ => text.push_str(" otherwise")?,
+        _ => text.push_str(" otherwise"),
     }
-    text.push_str("\n")
 }
 
 fn tell_delivered(text: &mut String, delivered: Delivered) -> Result<(), AllocError> {

@@ -36,24 +36,35 @@ impl Seat {
 
     /// Gives the command.
     pub fn give(&mut self, alloc: Global, text: &str) -> io::Result<()> {
-        let tagged = spelled(alloc, text)?;
-        self.carry_out(alloc, tagged)
-    }
-
-    fn carry_out(&mut self, alloc: Global, tagged: Tagged) -> io::Result<()> {
         if !self.node.is_open(self.session) {
             return Err(io::Error::other("not taken"));
         }
-        let now = Moment::epoch();
-        taken(self.node.command(alloc, self.session, now, tagged))
+        let tagged = spelled(alloc, text)?;
+        taken(
+            self.node
+                .command(alloc, self.session, Moment::epoch(), tagged),
+        )
     }
 
     /// The nanoseconds that the command takes.
     pub fn time_of(&mut self, rt: &HostRuntime, text: &str) -> io::Result<u64> {
+        if !self.node.is_open(self.session) {
+            return Err(io::Error::other("not taken"));
+        }
         let tagged = spelled(rt.alloc(), text)?;
-        let start = Instant::now(rt)?;
-        self.carry_out(rt.alloc(), tagged)?;
-        since(rt, start)
+        match Instant::now(rt) {
+            Ok(start) => {
+                taken(
+                    self.node
+                        .command(rt.alloc(), self.session, Moment::epoch(), tagged),
+                )?;
+                since(rt, start)
+            }
+            Err(fault) => {
+                drop(tagged);
+                Err(fault)
+            }
+        }
     }
 
     /// The nanoseconds that a poll takes of the session, which idles.

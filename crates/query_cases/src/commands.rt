@@ -9,8 +9,9 @@ use case_text::{Trouble, Words, cut};
 use imap_answers::{Answer, SearchResults};
 use imap_grammar::{Command, FetchItem, ParseFault, StatusItem, Tagged, parse};
 use imap_print::print;
-use imap_query::{FetchMode, ListMode, fetch, list_names, matches, status};
+use imap_query::{FetchMode, ListMode, Shown, fetch, list_names, matches, status};
 use imap_types::{Escape, Name, Octets, SequenceSet};
+use mail_listing::Rows;
 use std::alloc::{AllocError, Global};
 
 /// The answers to the command that a line spells, its tagged one left out.
@@ -20,9 +21,20 @@ pub fn put_command(
     stage: &Stage,
     line: &str,
 ) -> Result<(), Trouble> {
+    let tagged = tagged(alloc, line)?;
+    let done = put_answers_to(alloc, words, stage, &tagged);
+    drop(tagged);
+    done
+}
+
+fn tagged(alloc: Global, line: &str) -> Result<Tagged, Trouble> {
     let frame = frame(alloc, line)?;
-    match parse(alloc, &frame) {
-        Ok(tagged) => put_answers_to(alloc, words, stage, &tagged),
+    spelled(parse(alloc, &frame))
+}
+
+fn spelled(parsed: Result<Tagged, ParseFault>) -> Result<Tagged, Trouble> {
+    match parsed {
+        Ok(tagged) => Ok(tagged),
         Err(ParseFault::NoMemory) => Err(Trouble::NoMemory),
         Err(_) => Err(Trouble::NotACase),
     }
@@ -32,9 +44,15 @@ pub fn put_command(
 pub fn put_matches(alloc: Global, words: &mut Words, input: &str) -> Result<(), Trouble> {
     let (pattern, name) = cut(input)?;
     let pattern = octets(alloc, Escape::Field, pattern)?;
-    let name = octets(alloc, Escape::Field, name)?;
-    words.put_whether("", matches(alloc, pattern.as_bytes(), name.as_bytes())?);
+    let matched = is_matched(alloc, pattern.as_bytes(), name);
+    drop(pattern);
+    words.put_whether("", matched?);
     Ok(())
+}
+
+fn is_matched(alloc: Global, pattern: &[u8], name: &str) -> Result<bool, Trouble> {
+    let name = octets(alloc, Escape::Field, name)?;
+    Ok(matches(alloc, pattern, name.as_bytes())?)
 }
 
 fn frame(alloc: Global, line: &str) -> Result<Vec<u8>, Trouble> {
@@ -50,20 +68,31 @@ fn put_answers_to(
     tagged: &Tagged,
 ) -> Result<(), Trouble> {
     let answers = answers_to(alloc, stage, tagged)?;
-    put_answers(alloc, words, &answers)?;
-    Ok(())
+    let done = put_answers(alloc, words, &answers);
+    drop(answers);
+    Ok(done?)
 }
 
 /// Each answer without its line end, ` | ` between them, `nothing` where there are none.
 fn put_answers(alloc: Global, words: &mut Words, answers: &[Answer]) -> Result<(), AllocError> {
     let mut mark = "";
     for answer in answers {
-        let mut text = Vec::new(alloc);
-        print(answer, &mut text)?;
-        words.put_escaped(mark, text.strip_suffix(b"\r\n".as_slice()).unwrap_or(&text));
+        put_answer(alloc, words, mark, answer)?;
         mark = " | ";
     }
     words.put_if(answers.is_empty(), "nothing");
+    Ok(())
+}
+
+fn put_answer(
+    alloc: Global,
+    words: &mut Words,
+    mark: &str,
+    answer: &Answer,
+) -> Result<(), AllocError> {
+    let mut text = Vec::new(alloc);
+    print(answer, &mut text)?;
+    words.put_escaped(mark, text.strip_suffix(b"\r\n".as_slice()).unwrap_or(&text));
     Ok(())
 }
 
@@ -151,9 +180,18 @@ fn status_told(
 ) -> Result<Vec<Answer>, Trouble> {
     let rows = rows_of(alloc, &mailbox.messages, false)?;
     let items = status(&rows, items, mailbox.marks);
+    drop(rows);
     let name = name.copy(alloc)?;
-    let mut answers = Vec::new(alloc);
-    answers.push(Answer::Status { name, items })?;
+    alone(alloc, Answer::Status { name, items })
+}
+
+/// The list of this answer.
+fn alone(alloc: Global, answer: Answer) -> Result<Vec<Answer>, Trouble> {
+    let Ok(mut answers) = Vec::with_capacity(alloc, 1) else {
+        drop(answer);
+        return Err(Trouble::NoMemory);
+    };
+    answers.push_reserved(answer);
     Ok(answers)
 }
 
@@ -163,14 +201,18 @@ fn search_answers(
     by_uid: bool,
     results: SearchResults,
 ) -> Result<Vec<Answer>, Trouble> {
-    let tag = tag.copy(alloc)?;
-    let mut answers = Vec::new(alloc);
-    answers.push(Answer::Search {
-        tag,
-        by_uid,
-        results,
-    })?;
-    Ok(answers)
+    let Ok(tag) = tag.copy(alloc) else {
+        drop(results);
+        return Err(Trouble::NoMemory);
+    };
+    alone(
+        alloc,
+        Answer::Search {
+            tag,
+            by_uid,
+            results,
+        },
+    )
 }
 
 fn fetched(
@@ -181,7 +223,35 @@ fn fetched(
     mode: FetchMode,
 ) -> Result<Vec<Answer>, Trouble> {
     let named = named(alloc, &mailbox.view, messages.ranges(), mode.by_uid)?;
+    let told = fetched_before(alloc, mailbox, &named, items, mode);
+    drop(named);
+    told
+}
+
+/// What a FETCH of these messages tells, by how they stood before the command, and how they stand after it.
+fn fetched_before(
+    alloc: Global,
+    mailbox: &Mailbox,
+    named: &[Shown],
+    items: &[FetchItem],
+    mode: FetchMode,
+) -> Result<Vec<Answer>, Trouble> {
     let before = rows_of(alloc, &mailbox.messages, false)?;
+    let told = fetched_after(alloc, mailbox, named, &before, items, mode);
+    drop(before);
+    told
+}
+
+fn fetched_after(
+    alloc: Global,
+    mailbox: &Mailbox,
+    named: &[Shown],
+    before: &Rows<'_>,
+    items: &[FetchItem],
+    mode: FetchMode,
+) -> Result<Vec<Answer>, Trouble> {
     let after = rows_of(alloc, &mailbox.messages, true)?;
-    Ok(fetch(alloc, &named, &before, &after, items, mode)?)
+    let told = fetch(alloc, named, before, &after, items, mode);
+    drop(after);
+    Ok(told?)
 }

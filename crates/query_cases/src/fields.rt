@@ -15,22 +15,32 @@ pub fn octets(alloc: Global, escape: Escape, text: &str) -> Result<Octets, Troub
 /// The octets of each field.
 pub fn all_octets(alloc: Global, text: &str) -> Result<Vec<Octets>, Trouble> {
     let mut found = Vec::new(alloc);
+    push_octets(alloc, text, &mut found)?;
+    Ok(found)
+}
+
+fn push_octets(alloc: Global, text: &str, found: &mut Vec<Octets>) -> Result<(), Trouble> {
     for field in text.split(' ') {
         found.push(octets(alloc, Escape::Field, field)?)?;
     }
-    Ok(found)
+    Ok(())
 }
 
 /// The name of each field, none where `-` stands alone.
 pub fn names(alloc: Global, text: &str) -> Result<Vec<Name>, Trouble> {
     let mut found = Vec::new(alloc);
+    push_names(alloc, text, &mut found)?;
+    Ok(found)
+}
+
+fn push_names(alloc: Global, text: &str, found: &mut Vec<Name>) -> Result<(), Trouble> {
     if text == "-" {
-        return Ok(found);
+        return Ok(());
     }
     for field in text.split(' ') {
         found.push(name(alloc, field)?)?;
     }
-    Ok(found)
+    Ok(())
 }
 
 fn name(alloc: Global, field: &str) -> Result<Name, Trouble> {

@@ -1,6 +1,6 @@
 //! The mailbox that commands look at.
 
-use crate::messages::{Message, message_in, standing_in};
+use crate::messages::{Message, message_in};
 use case_text::{Trouble, cut, long_number, number};
 use imap_query::{Marks, Shown};
 use std::alloc::Global;
@@ -37,18 +37,18 @@ impl Mailbox {
     /// Sets what a line says; `false` where it is a line that sets nothing.
     pub fn set(&mut self, alloc: Global, kind: &str, rest: &str) -> Result<bool, Trouble> {
         match kind {
-            "message" => self.add(message_in(alloc, rest)?)?,
+            "message" => self.add(alloc, rest)?,
             "after" => self.set_after(alloc, rest)?,
-            "view" => self.view = view(alloc, rest)?,
-            "marks" => self.marks = marks(rest)?,
+            "view" => self.set_view(alloc, rest)?,
+            "marks" => self.set_marks(rest)?,
             "mode" => self.set_mode(rest)?,
             _ => return Ok(false),
         }
         Ok(true)
     }
 
-    fn add(&mut self, message: Message) -> Result<(), Trouble> {
-        self.messages.push(message)?;
+    fn add(&mut self, alloc: Global, text: &str) -> Result<(), Trouble> {
+        self.messages.push(message_in(alloc, text)?)?;
         Ok(())
     }
 
@@ -56,15 +56,21 @@ impl Mailbox {
     fn set_after(&mut self, alloc: Global, text: &str) -> Result<(), Trouble> {
         let (uid, rest) = cut(text)?;
         let uid = number(uid)?;
-        let after = standing_in(alloc, rest)?;
         let place = self.messages.iter().position(|message| message.uid == uid);
         match self.messages.get_mut(place.unwrap_or(usize::MAX)) {
-            Some(message) => {
-                message.after = Some(after);
-                Ok(())
-            }
+            Some(message) => message.set_after(alloc, rest),
             None => Err(Trouble::NotACase),
         }
+    }
+
+    fn set_view(&mut self, alloc: Global, text: &str) -> Result<(), Trouble> {
+        self.view = view(alloc, text)?;
+        Ok(())
+    }
+
+    fn set_marks(&mut self, text: &str) -> Result<(), Trouble> {
+        self.marks = marks(text)?;
+        Ok(())
     }
 
     /// `read-write` or `read-only`, and behind it `condstore` or nothing.
@@ -98,8 +104,13 @@ fn marks(text: &str) -> Result<Marks, Trouble> {
 /// The messages of these UIDs, none where `-` stands.
 fn view(alloc: Global, text: &str) -> Result<Vec<Shown>, Trouble> {
     let mut view = Vec::new(alloc);
+    show_all(text, &mut view)?;
+    Ok(view)
+}
+
+fn show_all(text: &str, view: &mut Vec<Shown>) -> Result<(), Trouble> {
     if text == "-" {
-        return Ok(view);
+        return Ok(());
     }
     let mut last = 0u32;
     for uid in text.split(',') {
@@ -109,5 +120,5 @@ fn view(alloc: Global, text: &str) -> Result<Vec<Shown>, Trouble> {
             uid: number(uid)?,
         })?;
     }
-    Ok(view)
+    Ok(())
 }

@@ -21,12 +21,18 @@ pub struct Message {
     pub uid: u32,
     before: Standing,
     /// How it stands after a command, where that changes it.
-    pub after: Option<Standing>,
+    after: Option<Standing>,
     date: DateTime,
     text: Text,
 }
 
 impl Message {
+    /// `MODSEQ FLAGS`: how it stands after a command.
+    pub fn set_after(&mut self, alloc: Global, text: &str) -> Result<(), Trouble> {
+        self.after = Some(standing_in(alloc, text)?);
+        Ok(())
+    }
+
     fn stands(&self, is_after: bool) -> &Standing {
         match &self.after {
             Some(after) => { if is_after { after } else { &self.before } }
@@ -38,21 +44,28 @@ impl Message {
 /// `UID MODSEQ FLAGS DATE TEXT`.
 pub fn message_in(alloc: Global, text: &str) -> Result<Message, Trouble> {
     let (uid, rest) = cut(text)?;
-    let uid = number(uid)?;
     let (front, back) = rest.split_once(" \"").ok_or(Trouble::NotACase)?;
-    let before = standing_in(alloc, front)?;
     let (date, text) = back.split_once("\" ").ok_or(Trouble::NotACase)?;
+    let uid = number(uid)?;
+    let date = date_time(date.as_bytes())?;
+    let text = text_in(alloc, text)?;
+    let before = standing_in(alloc, front)?;
     Ok(Message {
         uid,
         before,
         after: None,
-        date: date_time(date.as_bytes())?,
-        text: Text::new(octets(alloc, Escape::Text, text)?.into_vec())?,
+        date,
+        text,
     })
 }
 
+fn text_in(alloc: Global, text: &str) -> Result<Text, Trouble> {
+    let octets = octets(alloc, Escape::Text, text)?;
+    Ok(Text::new(octets.into_vec())?)
+}
+
 /// `MODSEQ FLAGS`.
-pub fn standing_in(alloc: Global, text: &str) -> Result<Standing, Trouble> {
+fn standing_in(alloc: Global, text: &str) -> Result<Standing, Trouble> {
     let (modseq, flags) = cut(text)?;
     Ok(Standing {
         modseq: long_number(modseq)?,
@@ -72,19 +85,19 @@ fn version_of(alloc: Global, flags: Flags) -> Result<Vec<Version>, Trouble> {
 /// `()`, or flags with spaces between them in parentheses.
 fn flags_in(alloc: Global, text: &str) -> Result<Flags, Trouble> {
     let mut flags = Flags::none(alloc);
-    if text == "()" {
-        return Ok(flags);
-    }
-    let Some(text) = text.strip_prefix('(') else {
-        return Err(Trouble::NotACase);
-    };
-    let Some(text) = text.strip_suffix(')') else {
-        return Err(Trouble::NotACase);
-    };
-    for flag in text.split(' ') {
-        set_flag(alloc, flag, &mut flags)?;
+    if text != "()" {
+        set_flags(alloc, text, &mut flags)?;
     }
     Ok(flags)
+}
+
+fn set_flags(alloc: Global, text: &str, flags: &mut Flags) -> Result<(), Trouble> {
+    let inner = text.strip_prefix('(').ok_or(Trouble::NotACase)?;
+    let inner = inner.strip_suffix(')').ok_or(Trouble::NotACase)?;
+    for flag in inner.split(' ') {
+        set_flag(alloc, flag, flags)?;
+    }
+    Ok(())
 }
 
 fn set_flag(alloc: Global, flag: &str, flags: &mut Flags) -> Result<(), Trouble> {

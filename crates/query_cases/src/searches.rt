@@ -71,7 +71,9 @@ pub fn found(
         return Err(Trouble::NotACase);
     }
     let rows = rows_of(alloc, &mailbox.messages, false)?;
-    Ok(search(alloc, &mailbox.view, &rows, by_uid, steps, options)?)
+    let found = search(alloc, &mailbox.view, &rows, by_uid, steps, options);
+    drop(rows);
+    Ok(found?)
 }
 
 /// Whether the numbers, or the UIDs, of these messages ascend from 1 on.

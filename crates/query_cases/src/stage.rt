@@ -29,12 +29,22 @@ impl Stage {
     /// Sets what a line says; `false` where it is a line that sets nothing.
     pub fn set(&mut self, alloc: Global, kind: &str, rest: &str) -> Result<bool, Trouble> {
         match kind {
-            "text" => self.text = octets(alloc, Escape::Text, rest)?,
+            "text" => self.set_text(alloc, rest)?,
             "mailbox" => self.mailbox = Mailbox::new(alloc),
-            "folders" => self.folders = names(alloc, rest)?,
-            "subscriptions" => self.subscriptions = names(alloc, rest)?,
+            "folders" => set_names(alloc, rest, &mut self.folders)?,
+            "subscriptions" => set_names(alloc, rest, &mut self.subscriptions)?,
             _ => return self.mailbox.set(alloc, kind, rest),
         }
         Ok(true)
     }
+
+    fn set_text(&mut self, alloc: Global, text: &str) -> Result<(), Trouble> {
+        self.text = octets(alloc, Escape::Text, text)?;
+        Ok(())
+    }
+}
+
+fn set_names(alloc: Global, text: &str, to: &mut Vec<Name>) -> Result<(), Trouble> {
+    *to = names(alloc, text)?;
+    Ok(())
 }

@@ -22,13 +22,25 @@ pub fn put_of_text(
         "header" => put_between(words, header(text)),
         "body" => put_between(words, body(text)),
         "partial" => return put_partial(words, text, input),
-        "fields" => return put_fields(alloc, words, text, input),
-        "other_fields" => return put_other_fields(alloc, words, text, input),
         "contains_nocase" => return put_contains(alloc, words, text, input),
         "field_contains_nocase" => return put_field_contains(alloc, words, text, input),
-        _ => return put_of_date(alloc, words, kind, input),
+        _ => return put_of_fields(alloc, words, text, kind, input),
     }
     Ok(())
+}
+
+fn put_of_fields(
+    alloc: Global,
+    words: &mut Words,
+    text: &[u8],
+    kind: &str,
+    input: &str,
+) -> Result<(), Trouble> {
+    match kind {
+        "fields" => put_fields(alloc, words, text, input),
+        "other_fields" => put_other_fields(alloc, words, text, input),
+        _ => put_of_date(alloc, words, kind, input),
+    }
 }
 
 /// Octets in the escape, between `<` and `>`.
@@ -46,7 +58,9 @@ fn put_partial(words: &mut Words, text: &[u8], input: &str) -> Result<(), Troubl
 
 fn put_fields(alloc: Global, words: &mut Words, text: &[u8], input: &str) -> Result<(), Trouble> {
     let names = all_octets(alloc, input)?;
-    put_between(words, &fields(alloc, text, &names)?);
+    let found = fields(alloc, text, &names);
+    drop(names);
+    put_between(words, &found?);
     Ok(())
 }
 
@@ -57,13 +71,17 @@ fn put_other_fields(
     input: &str,
 ) -> Result<(), Trouble> {
     let names = all_octets(alloc, input)?;
-    put_between(words, &other_fields(alloc, text, &names)?);
+    let found = other_fields(alloc, text, &names);
+    drop(names);
+    put_between(words, &found?);
     Ok(())
 }
 
 fn put_contains(alloc: Global, words: &mut Words, text: &[u8], input: &str) -> Result<(), Trouble> {
     let word = octets(alloc, Escape::Text, input)?;
-    words.put_whether("", contains_nocase(alloc, text, word.as_bytes())?);
+    let contained = contains_nocase(alloc, text, word.as_bytes());
+    drop(word);
+    words.put_whether("", contained?);
     Ok(())
 }
 
@@ -76,24 +94,30 @@ fn put_field_contains(
 ) -> Result<(), Trouble> {
     let (name, word) = cut(input)?;
     let name = octets(alloc, Escape::Field, name)?;
-    let word = octets(alloc, Escape::Text, word)?;
-    words.put_whether(
-        "",
-        field_contains_nocase(alloc, text, name.as_bytes(), word.as_bytes())?,
-    );
+    let contained = field_contains(alloc, text, name.as_bytes(), word);
+    drop(name);
+    words.put_whether("", contained?);
     Ok(())
+}
+
+fn field_contains(alloc: Global, text: &[u8], name: &[u8], word: &str) -> Result<bool, Trouble> {
+    let word = octets(alloc, Escape::Text, word)?;
+    Ok(field_contains_nocase(alloc, text, name, word.as_bytes())?)
 }
 
 fn put_of_date(alloc: Global, words: &mut Words, kind: &str, input: &str) -> Result<(), Trouble> {
     match kind {
         "civil" => put_civil(words, long_number(input)?),
-        "date_ok" => {
-            let date = octets(alloc, Escape::Text, input)?;
-            words.put_whether("", date_ok(date.as_bytes()));
-        }
+        "date_ok" => put_date_ok(alloc, words, input)?,
         "written_day" => put_day(words, written_day(&date_time(input.as_bytes())?)),
         _ => return Err(Trouble::NotACase),
     }
+    Ok(())
+}
+
+fn put_date_ok(alloc: Global, words: &mut Words, input: &str) -> Result<(), Trouble> {
+    let date = octets(alloc, Escape::Text, input)?;
+    words.put_whether("", date_ok(date.as_bytes()));
     Ok(())
 }
 

@@ -9,10 +9,9 @@ use std::time::Duration;
 /// A client's side of a connection, with all that it was told.
 #[derive(Drop)]
 pub struct Client {
-    /// The connection.
-    pub stream: TcpStream,
-    /// All that the client was told so far.
-    pub told: Vec<u8>,
+    stream: TcpStream,
+    told: Vec<u8>,
+    is_served: bool,
 }
 
 impl Client {
@@ -27,26 +26,15 @@ impl Client {
         let mut client = Client {
             stream,
             told: Vec::new(alloc),
+            is_served: true,
         };
-        client.await_text(b"ready\r\n")?;
+        client.await_text(b"ready\r\n");
         Ok(client)
     }
 
-    /// Reads until a text was told; false where the connection ends first.
-    pub fn await_text(&mut self, text: &[u8]) -> io::Result<bool> {
-        let mut piece = [0u8; 512];
-        for _ in 0..100_000u32 {
-            if self.was_told(text) {
-                return Ok(true);
-            }
-            let mut reader = &self.stream;
-            let count = reader.read(&mut piece)?;
-            if count == 0 {
-                return Ok(false);
-            }
-            self.told.extend_from_slice(&piece[..count])?;
-        }
-        Ok(false)
+    /// Whether it was told all that it waited for so far.
+    pub fn is_served(&self) -> bool {
+        self.is_served
     }
 
     /// Whether a text was told.
@@ -56,10 +44,45 @@ impl Client {
             .any(|part| part == text)
     }
 
-    /// Says something, and waits for a text.
-    pub fn say(&mut self, said: &[u8], told: &[u8]) -> io::Result<bool> {
+    /// Waits until a text was told. One that wasn't told something before waits no more.
+    pub fn await_text(&mut self, text: &[u8]) {
+        if self.is_served {
+            self.is_served = matches!(self.hear(text), Ok(true));
+        }
+    }
+
+    /// Says something, and waits for a text. One that wasn't told something before says no more.
+    pub fn say(&mut self, said: &[u8], told: &[u8]) {
+        if self.is_served {
+            self.is_served = self.send(said).is_ok();
+            self.await_text(told)
+        }
+    }
+
+    fn send(&self, said: &[u8]) -> io::Result<()> {
         let mut writer = &self.stream;
-        writer.write_all(said)?;
-        self.await_text(told)
+        writer.write_all(said)
+    }
+
+    /// Reads until a text was told; false where the connection ends first.
+    fn hear(&mut self, text: &[u8]) -> io::Result<bool> {
+        for _ in 0..100_000u32 {
+            if self.was_told(text) {
+                return Ok(true);
+            }
+            if !self.read()? {
+                return Ok(false);
+            }
+        }
+        Ok(false)
+    }
+
+    /// Reads once; false where the connection has ended.
+    fn read(&mut self) -> io::Result<bool> {
+        let mut piece = [0u8; 512];
+        let mut reader = &self.stream;
+        let count = reader.read(&mut piece)?;
+        self.told.extend_from_slice(&piece[..count])?;
+        Ok(count != 0)
     }
 }

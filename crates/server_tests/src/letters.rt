@@ -2,7 +2,7 @@
 
 use crdt_ops::{SoundOp, check, read_op};
 use crossbeam_channel::{Receiver, unbounded};
-use mail_serving::{Access, CopyOrder, House, Mail, Newcomers, Station, Stop};
+use mail_serving::{Access, House, Mail, Newcomers, Station, Stop};
 use merge_laws::Caused;
 use replica_links::{Letter, LinkMsg, Post};
 use std::alloc::Global;
@@ -10,30 +10,6 @@ use std::net::{IpAddr, Ipv4Addr, SocketAddr};
 use std::sync::{Mutex, Wait};
 use std::test::*;
 use tags_clocks::{Clock, OpId, ReplicaId};
-
-/// A replica of a house, with what comes to it.
-#[derive(Drop)]
-struct Reached {
-    station: Station,
-    letters: Receiver<Letter>,
-    _orders: Receiver<CopyOrder>,
-}
-
-/// A replica that is there.
-fn fresh_station(alloc: Global) -> Option<Reached> {
-    let (link, letters) = unbounded(alloc).ok()?;
-    let (orders, taken) = unbounded(alloc).ok()?;
-    let address = SocketAddr::new(IpAddr::V4(Ipv4Addr::LOCALHOST), 1);
-    Some(Reached {
-        station: Station {
-            link,
-            orders,
-            address: Mutex::new(Some(address)),
-        },
-        letters,
-        _orders: taken,
-    })
-}
 
 /// The operation that a line spells, if it is sound.
 fn operation(alloc: Global, line: &str) -> Option<SoundOp> {
@@ -67,24 +43,31 @@ enum Parcel {
     Nothing,
 }
 
-/// What the next letter brings.
-fn next_letter<R: Wait>(rt: &R, alloc: Global, letters: &Receiver<Letter>) -> Parcel {
-    let Ok(Letter { from, message }) = letters.try_recv(rt) else {
-        return Parcel::Nothing;
-    };
-    match message {
+/// What a letter brings.
+fn parcel_of(alloc: Global, letter: &Letter) -> Parcel {
+    match &letter.message {
         LinkMsg::Ops(ops) => match ops.as_slice() {
-            [op] => Parcel::One(from, op.id()),
+            [op] => Parcel::One(letter.from, op.id()),
             _ => Parcel::Others,
         },
-        LinkMsg::Have(clock) => {
-            let same = match clock_of_one(alloc) {
-                Some(one) => one.same(&clock),
-                None => false,
-            };
-            Parcel::Asked(from, same)
-        }
+        LinkMsg::Have(clock) => Parcel::Asked(letter.from, is_clock_of_one(alloc, clock)),
         LinkMsg::Stop => Parcel::Nothing,
+    }
+}
+
+/// Whether this is the clock that covers the first replica's first operation.
+fn is_clock_of_one(alloc: Global, clock: &Clock) -> bool {
+    match clock_of_one(alloc) {
+        Some(one) => one.same(clock),
+        None => false,
+    }
+}
+
+/// What the next letter brings.
+fn next_letter<R: Wait>(rt: &R, alloc: Global, letters: &Receiver<Letter>) -> Parcel {
+    match letters.try_recv(rt) {
+        Ok(letter) => parcel_of(alloc, &letter),
+        Err(_) => Parcel::Nothing,
     }
 }
 
@@ -103,54 +86,73 @@ struct Stations {
     letters: Vec<Receiver<Letter>>,
 }
 
-fn three_stations<R: Wait>(rt: &R, alloc: Global) -> Option<Stations> {
+/// Adds a replica that listens at this address, or isn't there yet.
+fn add_station(alloc: Global, address: Option<SocketAddr>, three: &mut Stations) -> Option<()> {
+    let (link, letters) = unbounded(alloc).ok()?;
+    let (orders, _) = unbounded(alloc).ok()?;
+    three.letters.push(letters).ok()?;
+    let station = Station {
+        link,
+        orders,
+        address: Mutex::new(address),
+    };
+    three.stations.push(station).ok()
+}
+
+fn three_stations(alloc: Global) -> Option<Stations> {
     let mut three = Stations {
         stations: Vec::new(alloc),
         letters: Vec::new(alloc),
     };
-    for place in 0..3 {
-        let Reached {
-            station,
-            letters,
-            _orders: _,
-        } = fresh_station(alloc)?;
-        if place == 2 {
-            *station.address.lock(rt) = None;
-        }
-        three.stations.push(station).ok()?;
-        three.letters.push(letters).ok()?;
+    let address = SocketAddr::new(IpAddr::V4(Ipv4Addr::LOCALHOST), 1);
+    for address in [Some(address), Some(address), None] {
+        add_station(alloc, address, &mut three)?;
     }
     Some(three)
 }
 
-/// What the first replica of three sends: it hands an operation to the second, asks it, hands one to the third, which isn't there, and tells all of one. What comes to
-/// the first, the second and the third, in that order, until nothing does.
+/// A list of the operation that a line spells, if it is sound.
+fn one_operation(alloc: Global, line: &str) -> Option<Vec<SoundOp>> {
+    let mut ops = Vec::new(alloc);
+    ops.push(operation(alloc, line)?).ok()?;
+    Some(ops)
+}
+
+/// The first replica of three hands an operation to the second, asks it, hands one to the third, which isn't there, and tells all of one.
+fn send_all<R: Wait>(rt: &R, alloc: Global, house: &House<'_>) -> Option<()> {
+    let mut mail = Mail::new(rt, house, 0);
+    mail.hand(1, one_operation(alloc, "1:1 - create a")?);
+    mail.ask(1, clock_of_one(alloc)?);
+    mail.hand(2, one_operation(alloc, "1:2 1=1 create b")?);
+    let told = one_operation(alloc, "1:3 1=2 create c")?;
+    mail.tell_all(alloc, &told);
+    Some(())
+}
+
+/// What the first replica of three sends. What comes to the first, the second and the third, in that order, until nothing does.
 fn sent<R: Wait>(rt: &R, alloc: Global) -> Option<[Parcel; 6]> {
-    let Stations { stations, letters } = three_stations(rt, alloc)?;
+    let Stations { stations, letters } = three_stations(alloc)?;
     let house = House {
         access: Access::Preauth,
         stations,
         newcomers: Newcomers::new(Vec::new(alloc)),
         stop: Stop::after(None),
     };
-    let mut mail = Mail::new(rt, &house, 0);
-    let mut first = Vec::new(alloc);
-    first.push(operation(alloc, "1:1 - create a")?).ok()?;
-    let mut second = Vec::new(alloc);
-    second.push(operation(alloc, "1:2 1=1 create b")?).ok()?;
-    let told = operation(alloc, "1:3 1=2 create c")?;
-    mail.hand(1, first);
-    mail.ask(1, clock_of_one(alloc)?);
-    mail.hand(2, second);
-    mail.tell_all(alloc, std::slice::from_ref(&told));
-    Some([
-        letter_at(rt, alloc, &letters, 0),
-        letter_at(rt, alloc, &letters, 1),
-        letter_at(rt, alloc, &letters, 1),
-        letter_at(rt, alloc, &letters, 1),
-        letter_at(rt, alloc, &letters, 1),
-        letter_at(rt, alloc, &letters, 2),
-    ])
+    match send_all(rt, alloc, &house) {
+        Some(()) => Some(came(rt, alloc, &letters)),
+        None => None,
+    }
+}
+
+fn came<R: Wait>(rt: &R, alloc: Global, letters: &[Receiver<Letter>]) -> [Parcel; 6] {
+    [
+        letter_at(rt, alloc, letters, 0),
+        letter_at(rt, alloc, letters, 1),
+        letter_at(rt, alloc, letters, 1),
+        letter_at(rt, alloc, letters, 1),
+        letter_at(rt, alloc, letters, 1),
+        letter_at(rt, alloc, letters, 2),
+    ]
 }
 
 /// What is wanted of it: one operation handed, one question and one operation told to the second replica, and nothing to the others.

@@ -1,21 +1,13 @@
-//! Tests of the server over sockets of the loopback interface, and of its command line.
+//! Tests of the server over sockets of the loopback interface, of the letters between its replicas, and of what it prints of those that join.
 #![tactic(auto)]
 
 #[cfg(test)]
-mod callers;
-#[cfg(test)]
 mod clients;
 #[cfg(test)]
-mod crowd;
-#[cfg(test)]
-mod doors;
-#[cfg(test)]
-mod hostile;
+mod joins;
 #[cfg(test)]
 mod letters;
 #[cfg(test)]
 mod loopback;
 #[cfg(test)]
-mod scene;
-#[cfg(test)]
-mod words;
+mod visits;

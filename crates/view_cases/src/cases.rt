@@ -2,14 +2,20 @@
 
 use crate::reading::{Message, messages_in, rows_of, set_in, view_in};
 use crate::writing::{put_answers, put_entries, put_numbers};
-use case_text::Words;
+use case_text::{Trouble, Words};
+use imap_answers::Answer;
 use imap_types::DateTime;
 use mail_listing::Rows;
 use session_view::{BadSet, Silent, SyncKind, View, replayed};
 use std::alloc::{AllocError, Global};
 
-/// What is printed for a case that isn't in the form.
-const NO_CASE: &str = "no case";
+/// A sync that a case asks for.
+#[derive(Clone, Copy)]
+struct Sync {
+    kind: SyncKind,
+    /// Whether mod-sequences are told with flags.
+    modseq: bool,
+}
 
 /// Plays the lines of a text, and tells each with what the code answers now. An error says that there is no memory.
 pub fn play(alloc: Global, text: &str) -> Result<Vec<u8>, AllocError> {
@@ -37,129 +43,120 @@ fn put_case(alloc: Global, words: &mut Words, line: &str) {
     let (case, _) = line.split_once(" => ").unwrap_or((line, ""));
     words.put(case);
     words.put(" => ");
-    if put_answer(alloc, words, case).is_err() {
-        words.give_up();
+    if let Err(trouble) = put_answer(alloc, words, case) {
+        words.put_trouble("", trouble);
     }
 }
 
-fn put_answer(alloc: Global, words: &mut Words, case: &str) -> Result<(), AllocError> {
-    let (kind, input) = case.split_once(' ').unwrap_or((case, ""));
-    let (which, rest) = input.split_once(' ').unwrap_or((input, ""));
-    let (view, other) = rest.split_once(' ').unwrap_or((rest, ""));
-    match view_in(alloc, view)? {
-        Some(view) => put_of_view(alloc, words, kind, which, view, other),
-        None => {
-            words.put(NO_CASE);
-            Ok(())
-        }
-    }
-}
-
-fn put_of_view(
-    alloc: Global,
-    words: &mut Words,
-    kind: &str,
-    which: &str,
-    view: View,
-    other: &str,
-) -> Result<(), AllocError> {
+/// `KIND WHICH VIEW OTHER`.
+fn put_answer(alloc: Global, words: &mut Words, case: &str) -> Result<(), Trouble> {
+    let (kind, input) = cut(case);
+    let (which, rest) = cut(input);
+    let (view, other) = cut(rest);
     match kind {
-        "resolve" => put_resolved(alloc, words, which, &view, other),
-        "sync" => put_sync(alloc, words, which, &view, other),
-        _ => {
-            words.put(NO_CASE);
-            Ok(())
-        }
+        "resolve" => put_resolved(alloc, words, view, other, which == "uid"),
+        "sync" => put_sync(alloc, words, view, other, sync_in(which)?),
+        _ => Err(Trouble::NotACase),
     }
+}
+
+/// The first field, and what follows behind a space.
+fn cut(text: &str) -> (&str, &str) {
+    text.split_once(' ').unwrap_or((text, ""))
+}
+
+fn sync_in(word: &str) -> Result<Sync, Trouble> {
+    let (kind, modseq) = match word {
+        "full" => (SyncKind::Full, false),
+        "full-modseq" => (SyncKind::Full, true),
+        "partial" => (SyncKind::Partial, false),
+        "partial-modseq" => (SyncKind::Partial, true),
+        _ => return Err(Trouble::NotACase),
+    };
+    Ok(Sync { kind, modseq })
 }
 
 fn put_resolved(
     alloc: Global,
     words: &mut Words,
-    which: &str,
+    view: &str,
+    set: &str,
+    by_uid: bool,
+) -> Result<(), Trouble> {
+    let view = view_in(alloc, view)?;
+    let done = put_resolved_in(alloc, words, &view, set, by_uid);
+    drop(view);
+    done
+}
+
+fn put_resolved_in(
+    alloc: Global,
+    words: &mut Words,
     view: &View,
     set: &str,
-) -> Result<(), AllocError> {
-    let Some(set) = set_in(alloc, set)? else {
-        words.put(NO_CASE);
-        return Ok(());
-    };
-    match view.resolve(alloc, &set, which == "uid") {
-        Ok(numbers) => put_numbers(words, &numbers),
-        Err(BadSet::OutOfRange) => words.put("out of range"),
-        Err(BadSet::NoMemory) => words.give_up(),
+    by_uid: bool,
+) -> Result<(), Trouble> {
+    let set = set_in(alloc, set)?;
+    match view.resolve(alloc, &set, by_uid) {
+        Ok(numbers) => {
+            put_numbers(words, &numbers);
+            Ok(())
+        }
+        Err(BadSet::OutOfRange) => Err(Trouble::OutOfRange),
+        Err(BadSet::NoMemory) => Err(Trouble::NoMemory),
     }
-    Ok(())
 }
 
 fn put_sync(
     alloc: Global,
     words: &mut Words,
-    which: &str,
-    view: &View,
+    view: &str,
     listing: &str,
-) -> Result<(), AllocError> {
-    match messages_in(alloc, listing)? {
-        Some(messages) => put_listed(alloc, words, which, view, &messages),
-        None => {
-            words.put(NO_CASE);
-            Ok(())
-        }
-    }
+    sync: Sync,
+) -> Result<(), Trouble> {
+    let view = view_in(alloc, view)?;
+    let messages = messages_in(alloc, listing)?;
+    put_listed(alloc, words, &view, &messages, sync)
 }
 
 fn put_listed(
     alloc: Global,
     words: &mut Words,
-    which: &str,
     view: &View,
     messages: &[Message],
-) -> Result<(), AllocError> {
+    sync: Sync,
+) -> Result<(), Trouble> {
     let date = DateTime::epoch();
-    match rows_of(alloc, messages, &date)? {
-        Some(rows) => put_kind(alloc, words, which, view, &rows),
-        None => {
-            words.put(NO_CASE);
-            Ok(())
-        }
-    }
-}
-
-fn put_kind(
-    alloc: Global,
-    words: &mut Words,
-    which: &str,
-    view: &View,
-    rows: &Rows<'_>,
-) -> Result<(), AllocError> {
-    match which {
-        "full" => put_synced(alloc, words, SyncKind::Full, false, view, rows),
-        "full-modseq" => put_synced(alloc, words, SyncKind::Full, true, view, rows),
-        "partial" => put_synced(alloc, words, SyncKind::Partial, false, view, rows),
-        "partial-modseq" => put_synced(alloc, words, SyncKind::Partial, true, view, rows),
-        _ => {
-            words.put(NO_CASE);
-            Ok(())
-        }
-    }
+    let rows = rows_of(alloc, messages, &date)?;
+    put_synced(alloc, words, view, &rows, sync)
 }
 
 /// What a sync answers, the view behind it, and what a replay of the answers makes of the view before it.
 fn put_synced(
     alloc: Global,
     words: &mut Words,
-    kind: SyncKind,
-    modseq: bool,
     view: &View,
     rows: &Rows<'_>,
-) -> Result<(), AllocError> {
+    sync: Sync,
+) -> Result<(), Trouble> {
     let mut after = view.copy(alloc)?;
-    let answers = after.sync(alloc, rows, kind, modseq)?;
+    let answers = after.sync(alloc, rows, sync.kind, sync.modseq)?;
     put_answers(words, &answers);
     words.put(" => ");
     put_entries(words, after.entries());
+    drop(after);
+    put_replayed(alloc, words, view, rows, &answers)
+}
+
+fn put_replayed(
+    alloc: Global,
+    words: &mut Words,
+    view: &View,
+    rows: &Rows<'_>,
+    answers: &[Answer],
+) -> Result<(), Trouble> {
     let silents: Vec<Silent> = Vec::new(alloc);
-    let replayed = replayed(alloc, rows, view.entries(), &silents, &answers)?;
+    let replayed = replayed(alloc, rows, view.entries(), &silents, answers)?;
     words.put(" => ");
     put_entries(words, &replayed);
     Ok(())

@@ -1,11 +1,12 @@
 //! Views, listings and sets, from text.
 
+use case_text::{Trouble, long_number, number};
 use chunk_list::ChunkList;
 use imap_types::{DateTime, Flags, Name, SequenceBound, SequenceRange, SequenceSet};
 use mail_listing::{HeldRow, HeldVersions, Rows};
 use message_versions::{Version, Versions};
 use session_view::{Entries, Entry, View, are_rising};
-use std::alloc::{AllocError, Global};
+use std::alloc::Global;
 use tags_clocks::{OpId, ReplicaId};
 
 /// A message of a listing.
@@ -16,63 +17,66 @@ pub struct Message {
     versions: Vec<Version>,
 }
 
-/// A view of INBOX; `None` where the text is none, or its UIDs don't ascend.
-pub fn view_in(alloc: Global, text: &str) -> Result<Option<View>, AllocError> {
-    match entries_in(alloc, text)? {
-        Some(entries) => view_of(alloc, entries),
-        None => Ok(None),
-    }
+/// A view of INBOX, whose UIDs ascend.
+pub fn view_in(alloc: Global, text: &str) -> Result<View, Trouble> {
+    view_of(alloc, entries_in(alloc, text)?)
 }
 
-fn view_of(alloc: Global, entries: Entries) -> Result<Option<View>, AllocError> {
+fn view_of(alloc: Global, entries: Entries) -> Result<View, Trouble> {
     if !are_rising(&entries) {
-        return Ok(None);
+        drop(entries);
+        return Err(Trouble::NotACase);
     }
-    let name = Name::inbox(alloc)?;
-    Ok(Some(View::new(name, 1, entries)))
+    let Ok(name) = Name::inbox(alloc) else {
+        drop(entries);
+        return Err(Trouble::NoMemory);
+    };
+    Ok(View::new(name, 1, entries))
 }
 
-fn entries_in(alloc: Global, text: &str) -> Result<Option<Entries>, AllocError> {
+fn entries_in(alloc: Global, text: &str) -> Result<Entries, Trouble> {
     let mut entries = ChunkList::new(alloc);
+    push_entries(alloc, text, &mut entries)?;
+    Ok(entries)
+}
+
+fn push_entries(alloc: Global, text: &str, entries: &mut Entries) -> Result<(), Trouble> {
     if text == "-" {
-        return Ok(Some(entries));
+        return Ok(());
     }
     for part in text.split(',') {
-        match entry_in(alloc, part)? {
-            Some(entry) => entries.push(alloc, entry)?,
-            None => return Ok(None),
-        }
+        entries.push(alloc, entry_in(alloc, part)?)?;
     }
-    Ok(Some(entries))
+    Ok(())
 }
 
 /// `UID/FLAGS`, or `UID` alone where there are none.
-fn entry_in(alloc: Global, text: &str) -> Result<Option<Entry>, AllocError> {
+fn entry_in(alloc: Global, text: &str) -> Result<Entry, Trouble> {
     let (uid, flags) = text.split_once('/').unwrap_or((text, "-"));
-    let Ok(uid) = uid.parse::<u32>() else {
-        return Ok(None);
-    };
-    match flags_in(alloc, flags)? {
-        Some(flags) => Ok(Some(Entry { uid, flags })),
-        None => Ok(None),
-    }
+    Ok(Entry {
+        uid: number(uid)?,
+        flags: flags_in(alloc, flags)?,
+    })
 }
 
-fn flags_in(alloc: Global, text: &str) -> Result<Option<Flags>, AllocError> {
+fn flags_in(alloc: Global, text: &str) -> Result<Flags, Trouble> {
     let mut flags = Flags::none(alloc);
+    set_flags(alloc, text, &mut flags)?;
+    Ok(flags)
+}
+
+fn set_flags(alloc: Global, text: &str, flags: &mut Flags) -> Result<(), Trouble> {
     if text == "-" {
-        return Ok(Some(flags));
+        return Ok(());
     }
     for letter in text.as_bytes() {
-        if !set_flag(alloc, *letter, &mut flags)? {
-            return Ok(None);
-        }
+        set_flag(alloc, *letter, flags)?;
     }
-    Ok(Some(flags))
+    Ok(())
 }
 
-/// Sets the flag of this letter; `false` where it is no flag's.
-fn set_flag(alloc: Global, letter: u8, flags: &mut Flags) -> Result<bool, AllocError> {
+/// Sets the flag of this letter.
+fn set_flag(alloc: Global, letter: u8, flags: &mut Flags) -> Result<(), Trouble> {
     match letter {
         b'a' => flags.answered = true,
         b'f' => flags.flagged = true,
@@ -80,44 +84,42 @@ fn set_flag(alloc: Global, letter: u8, flags: &mut Flags) -> Result<bool, AllocE
         b's' => flags.seen = true,
         b'r' => flags.draft = true,
         b'x' | b'y' => flags.keywords.insert(alloc, &[letter])?,
-        _ => return Ok(false),
+        _ => return Err(Trouble::NotACase),
     }
-    Ok(true)
+    Ok(())
 }
 
-/// The messages of a listing, in their order; `None` where the text is none.
-pub fn messages_in(alloc: Global, text: &str) -> Result<Option<Vec<Message>>, AllocError> {
+/// The messages of a listing, in their order.
+pub fn messages_in(alloc: Global, text: &str) -> Result<Vec<Message>, Trouble> {
     let mut messages = Vec::new(alloc);
+    push_messages(alloc, text, &mut messages)?;
+    Ok(messages)
+}
+
+fn push_messages(alloc: Global, text: &str, messages: &mut Vec<Message>) -> Result<(), Trouble> {
     if text == "-" {
-        return Ok(Some(messages));
+        return Ok(());
     }
     for part in text.split(',') {
-        match message_in(alloc, part)? {
-            Some(message) => messages.push(message)?,
-            None => return Ok(None),
-        }
+        messages.push(message_in(alloc, part)?)?;
     }
-    Ok(Some(messages))
+    Ok(())
 }
 
 /// `UID/FLAGS@MODSEQ`.
-fn message_in(alloc: Global, text: &str) -> Result<Option<Message>, AllocError> {
+fn message_in(alloc: Global, text: &str) -> Result<Message, Trouble> {
     let (front, modseq) = text.split_once('@').unwrap_or((text, "1"));
-    let Ok(modseq) = modseq.parse::<u64>() else {
-        return Ok(None);
-    };
-    match entry_in(alloc, front)? {
-        Some(Entry { uid, flags }) => Ok(Some(Message {
-            uid,
-            modseq,
-            versions: version_of(alloc, flags)?,
-        })),
-        None => Ok(None),
-    }
+    let modseq = long_number(modseq)?;
+    let Entry { uid, flags } = entry_in(alloc, front)?;
+    Ok(Message {
+        uid,
+        modseq,
+        versions: version_of(alloc, flags)?,
+    })
 }
 
 /// The one version of a message with these flags, under some id.
-fn version_of(alloc: Global, flags: Flags) -> Result<Vec<Version>, AllocError> {
+fn version_of(alloc: Global, flags: Flags) -> Result<Vec<Version>, Trouble> {
     let mut versions = Vec::new(alloc);
     if let Some(id) = some_id() {
         versions.push(Version { id, flags })?;
@@ -125,27 +127,27 @@ fn version_of(alloc: Global, flags: Flags) -> Result<Vec<Version>, AllocError> {
     Ok(versions)
 }
 
-/// The rows of these messages; `None` where their UIDs don't ascend.
+/// The rows of these messages, whose UIDs ascend.
 pub fn rows_of<'a>(
     alloc: Global,
     messages: &'a [Message],
     date: &'a DateTime,
-) -> Result<Option<Rows<'a>>, AllocError> {
+) -> Result<Rows<'a>, Trouble> {
     let mut rows = Vec::new(alloc);
     let mut low = 1;
     for message in messages {
         let Some(row) = row_of(message, date) else {
-            return Ok(None);
+            return Err(Trouble::NotACase);
         };
         if u64::from(row.uid) < low {
-            return Ok(None);
+            return Err(Trouble::NotACase);
         }
         low = u64::from(row.uid) + 1;
         if rows.push(row).is_err() {
-            return Err(AllocError);
+            return Err(Trouble::NoMemory);
         }
     }
-    Ok(Some(Rows::from_ascending(rows)))
+    Ok(Rows::from_ascending(rows))
 }
 
 /// The row of a message, under some id.
@@ -164,32 +166,31 @@ fn some_id() -> Option<OpId> {
     OpId::new(ReplicaId::new(1)?, 1)
 }
 
-/// A set as a command spells it; `None` where the text is none.
-pub fn set_in(alloc: Global, text: &str) -> Result<Option<SequenceSet>, AllocError> {
+/// A set as a command spells it.
+pub fn set_in(alloc: Global, text: &str) -> Result<SequenceSet, Trouble> {
     let mut ranges = Vec::new(alloc);
-    for part in text.split(',') {
-        match range_in(part) {
-            Some(range) => ranges.push(range)?,
-            None => return Ok(None),
-        }
-    }
-    Ok(Some(SequenceSet::new(ranges)))
+    push_ranges(text, &mut ranges)?;
+    Ok(SequenceSet::new(ranges))
 }
 
-fn range_in(text: &str) -> Option<SequenceRange> {
+fn push_ranges(text: &str, ranges: &mut Vec<SequenceRange>) -> Result<(), Trouble> {
+    for part in text.split(',') {
+        ranges.push(range_in(part)?)?;
+    }
+    Ok(())
+}
+
+fn range_in(text: &str) -> Result<SequenceRange, Trouble> {
     let (first, last) = text.split_once(':').unwrap_or((text, text));
-    Some(SequenceRange {
+    Ok(SequenceRange {
         first: bound_in(first)?,
         last: bound_in(last)?,
     })
 }
 
-fn bound_in(text: &str) -> Option<SequenceBound> {
+fn bound_in(text: &str) -> Result<SequenceBound, Trouble> {
     if text == "*" {
-        return Some(SequenceBound::Greatest);
+        return Ok(SequenceBound::Greatest);
     }
-    match text.parse::<u32>() {
-        Ok(number) => Some(SequenceBound::Number(number)),
-        Err(_) => None,
-    }
+    Ok(SequenceBound::Number(number(text)?))
 }

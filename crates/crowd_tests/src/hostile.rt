@@ -61,20 +61,37 @@ fn deaf(alloc: Global) -> Result<Caller, AllocError> {
     Ok(caller)
 }
 
+/// Adds one that doesn't read, one whose literal doesn't come, and one whose line doesn't end.
+fn add_endless(alloc: Global, clients: &mut Vec<Caller>) -> Result<(), AllocError> {
+    clients.push(deaf(alloc)?)?;
+    let begun = b"a APPEND INBOX {10}\r\nabc";
+    clients.push(caller(alloc, Manner::Waits(GOING), Way::Open, begun)?)?;
+    clients.push(endless(alloc, b"a NOOP ", 10_000_000)?)?;
+    Ok(())
+}
+
+/// Adds one that sends a NUL, one whose literal is too long, and one that does as it should.
+fn add_others(alloc: Global, clients: &mut Vec<Caller>) -> Result<(), AllocError> {
+    let nul = b"a NOOP\r\n\0b NOOP\r\n";
+    clients.push(caller(alloc, Manner::Hears, Way::Behind(4), nul)?)?;
+    clients.push(endless(alloc, b"a APPEND INBOX {1048577+}\r\n", 1_050_000)?)?;
+    let good = b"a NOOP\r\nb LOGOUT\r\n";
+    clients.push(caller(alloc, Manner::Hears, Way::Behind(4), good)?)?;
+    Ok(())
+}
+
+/// All of them.
+fn clients(alloc: Global) -> Result<Vec<Caller>, AllocError> {
+    let mut clients = Vec::new(alloc);
+    add_endless(alloc, &mut clients)?;
+    add_others(alloc, &mut clients)?;
+    Ok(clients)
+}
+
 /// All of them at one replica. Those with commands wait until the one that doesn't read has asked for the message twice.
 fn plan(alloc: Global) -> Result<Plan, AllocError> {
-    let mut first = Vec::new(alloc);
-    first.push(deaf(alloc)?)?;
-    let begun = b"a APPEND INBOX {10}\r\nabc";
-    first.push(caller(alloc, Manner::Waits(GOING), Way::Open, begun)?)?;
-    first.push(endless(alloc, b"a NOOP ", 10_000_000)?)?;
-    let nul = b"a NOOP\r\n\0b NOOP\r\n";
-    first.push(caller(alloc, Manner::Hears, Way::Behind(4), nul)?)?;
-    first.push(endless(alloc, b"a APPEND INBOX {1048577+}\r\n", 1_050_000)?)?;
-    let good = b"a NOOP\r\nb LOGOUT\r\n";
-    first.push(caller(alloc, Manner::Hears, Way::Behind(4), good)?)?;
     Ok(Plan {
-        first,
+        first: clients(alloc)?,
         second: Vec::new(alloc),
         called: 0,
         until: 0,

@@ -63,6 +63,18 @@ fn fresh_book(alloc: Global, number: u32) -> Option<Book> {
     }
 }
 
+/// Two new replicas, numbered 1 and 2.
+fn fresh_books(alloc: Global) -> Option<(Book, Book)> {
+    let first = fresh_book(alloc, 1)?;
+    match fresh_book(alloc, 2) {
+        Some(second) => Some((first, second)),
+        None => {
+            drop(first);
+            None
+        }
+    }
+}
+
 /// The server's sides of connections, with what their doors do, and the clients'.
 #[derive(Drop)]
 struct Side {
@@ -71,7 +83,60 @@ struct Side {
     lines: Vec<Line>,
 }
 
-/// Connects the clients.
+impl Side {
+    /// Adds a connection: the server's side of it, and the client's.
+    fn add(&mut self, stream: TcpStream, line: Line) -> Result<(), AllocError> {
+        let way = line.caller.way;
+        self.lines.push(line)?;
+        self.streams.push(stream)?;
+        self.ways.push(way)?;
+        Ok(())
+    }
+}
+
+/// A connection: the client's side of it, and the server's.
+fn connection<R: Net<Listener = TcpListener, Stream = TcpStream>>(
+    rt: &R,
+    listener: &TcpListener,
+) -> io::Result<(TcpStream, TcpStream)> {
+    let ours = TcpStream::connect(rt, listener.local_addr()?)?;
+    let (theirs, _) = listener.accept()?;
+    Ok((ours, theirs))
+}
+
+/// Connects a client.
+fn connect<R: Net<Listener = TcpListener, Stream = TcpStream>>(
+    rt: &R,
+    listener: &TcpListener,
+    caller: Caller,
+    side: &mut Side,
+) -> io::Result<()> {
+    match connection(rt, listener) {
+        Ok((stream, theirs)) => {
+            side.add(theirs, Line { stream, caller })?;
+            Ok(())
+        }
+        Err(why) => {
+            drop(caller);
+            Err(why)
+        }
+    }
+}
+
+/// Connects all of these clients.
+fn connect_all<R: Net<Listener = TcpListener, Stream = TcpStream>>(
+    rt: &R,
+    listener: &TcpListener,
+    callers: Vec<Caller>,
+    side: &mut Side,
+) -> io::Result<()> {
+    for caller in callers {
+        connect(rt, listener, caller, side)?;
+    }
+    Ok(())
+}
+
+/// Both sides of these clients' connections.
 fn connected<R: Net<Listener = TcpListener, Stream = TcpStream>>(
     rt: &R,
     alloc: Global,
@@ -83,14 +148,32 @@ fn connected<R: Net<Listener = TcpListener, Stream = TcpStream>>(
         ways: Vec::new(alloc),
         lines: Vec::new(alloc),
     };
-    for caller in callers {
-        let stream = TcpStream::connect(rt, listener.local_addr()?)?;
-        let (theirs, _) = listener.accept()?;
-        side.streams.push(theirs)?;
-        side.ways.push(caller.way)?;
-        side.lines.push(Line { stream, caller })?;
+    match connect_all(rt, listener, callers, &mut side) {
+        Ok(()) => Ok(side),
+        Err(why) => {
+            drop(side);
+            Err(why)
+        }
     }
-    Ok(side)
+}
+
+/// Both sides of the connections of the first replica's clients, and of the second one's.
+fn both_connected<R: Net<Listener = TcpListener, Stream = TcpStream>>(
+    rt: &R,
+    alloc: Global,
+    first: Vec<Caller>,
+    second: Vec<Caller>,
+) -> Option<(Side, Side)> {
+    let Ok(listener) = TcpListener::bind(rt, "127.0.0.1:0") else {
+        return None;
+    };
+    match (
+        connected(rt, alloc, &listener, first),
+        connected(rt, alloc, &listener, second),
+    ) {
+        (Ok(side), Ok(other_side)) => Some((side, other_side)),
+        _ => None,
+    }
 }
 
 /// The doors that do this.
@@ -145,18 +228,47 @@ fn side_served<L: Ledger + Send + Sync, R: Threads + Wait + Clock + Log + Sync>(
     signs: &Signs,
     side: Side,
 ) -> Served<L> {
+    match doors_of(alloc, &side.ways, signs) {
+        Ok(doors) => served_behind(rt, alloc, desk, first, signs, side, doors),
+        Err(_) => {
+            drop(side);
+            Err(AllocError)
+        }
+    }
+}
+
+/// The same behind these doors.
+fn served_behind<L: Ledger + Send + Sync, R: Threads + Wait + Clock + Log + Sync>(
+    rt: &R,
+    alloc: Global,
+    desk: &Desk<'_, L>,
+    first: &mut Pass<L>,
+    signs: &Signs,
+    side: Side,
+    doors: Vec<Door<'_>>,
+) -> Served<L> {
     let Side {
         streams,
-        ways,
+        ways: _,
         lines,
     } = side;
-    let doors = doors_of(alloc, &ways, signs)?;
     let (heard, passes) = thread::join(
         rt,
         || thread::map_vec(rt, lines, &|line: Line| hear(rt, alloc, signs, line)),
         || serve_over(rt, alloc, desk, first, streams, doors),
     );
-    Ok((passes?, heard?))
+    both_given(passes, heard)
+}
+
+/// Both, where neither lacked memory.
+fn both_given<L: Ledger>(
+    passes: Result<Vec<Pass<L>>, AllocError>,
+    heard: Result<Vec<Vec<u8>>, AllocError>,
+) -> Served<L> {
+    match (passes, heard) {
+        (Ok(passes), Ok(heard)) => Ok((passes, heard)),
+        _ => Err(AllocError),
+    }
 }
 
 /// Two replicas as the threads of their connections and clients see them.
@@ -263,7 +375,7 @@ fn served_on<
     served_beside(rt, alloc, &stage, near, far, sides)
 }
 
-/// How many calls the journal tells of, where all passes are there.
+/// How many calls the journal tells of; 0 where a pass is lacking.
 fn entries_of<L: Ledger>(
     shared: Shared<L>,
     first: Pass<L>,
@@ -272,25 +384,67 @@ fn entries_of<L: Ledger>(
     requires { L.parts ≡ 4294967295 }
 {
     let mut passes = passes;
-    passes.push(first)?;
+    if passes.push(first).is_err() {
+        drop(passes);
+        drop(shared);
+        return Err(AllocError);
+    }
     match shared.finish(passes) {
         Ok(book) => Ok(book.len()),
         Err(_) => Ok(0),
     }
 }
 
-fn played<
-    L: Ledger + Send + Sync,
-    M: Ledger + Send + Sync,
-    R: Threads + Wait + Clock + Log + Sync + Net<Listener = TcpListener, Stream = TcpStream>,
->(
+/// What came of one replica.
+#[derive(Drop)]
+struct Ending {
+    /// What its clients heard, in their order.
+    heard: Vec<Vec<u8>>,
+    /// How many calls its journal tells of.
+    entries: u64,
+}
+
+/// What came of a replica that was served so.
+fn ending_of<L: Ledger>(shared: Shared<L>, first: Pass<L>, served: Served<L>) -> Option<Ending>
+    requires { L.parts ≡ 4294967295 }
+{
+    let Ok((passes, heard)) = served else {
+        drop(first);
+        drop(shared);
+        return None;
+    };
+    match entries_of(shared, first, passes) {
+        Ok(entries) => Some(Ending { heard, entries }),
+        Err(_) => {
+            drop(heard);
+            None
+        }
+    }
+}
+
+/// What came of both replicas.
+fn course_of(heard: u64, seen: u64, endings: (Option<Ending>, Option<Ending>)) -> Option<Course> {
+    match endings {
+        (Some(first), Some(second)) => Some(Course {
+            first: first.heard,
+            second: second.heard,
+            heard,
+            seen,
+            entries: (first.entries, second.entries),
+        }),
+        _ => None,
+    }
+}
+
+fn played<L: Ledger + Send + Sync, M: Ledger + Send + Sync, R: Threads + Wait + Clock + Log + Sync>(
     rt: &R,
     alloc: Global,
     blank: Blank,
     other_blank: Blank,
     books: (Book, Book),
-    plan: Plan,
-) -> io::Result<Course>
+    sides: (Side, Side),
+    hold: &Hold,
+) -> Option<Course>
     requires one { (blank.name ≡ L.name) × (blank.parts ≡ L.parts) × (L.parts ≡ 4294967295) }
     requires two { (other_blank.name ≡ M.name) × (other_blank.parts ≡ M.parts) × (M.parts ≡ 4294967295) }
 {
@@ -302,17 +456,7 @@ fn played<
         newcomers: Newcomers::new(Vec::new(alloc)),
         stop: Stop::after(None),
     };
-    let Plan {
-        first,
-        second,
-        called,
-        until,
-        turns,
-    } = plan;
     let signs = Signs::new();
-    let listener = TcpListener::bind(rt, "127.0.0.1:0")?;
-    let side = connected(rt, alloc, &listener, first)?;
-    let other_side = connected(rt, alloc, &listener, second)?;
     let (heard, (served, other_served)) = served_on(
         rt,
         alloc,
@@ -321,35 +465,46 @@ fn played<
             one: &one,
             two: &two,
             signs: &signs,
-            hold: &Hold {
-                called,
-                until,
-                turns,
-            },
+            hold,
         },
         &mut near,
         &mut far,
-        (side, other_side),
+        sides,
     );
-    let (passes, first) = served?;
-    let (other_passes, second) = other_served?;
-    Ok(Course {
-        first,
-        second,
-        heard,
-        seen: signs.seen.load(Ordering::SeqCst),
-        entries: (
-            entries_of(one, near, passes)?,
-            entries_of(two, far, other_passes)?,
-        ),
-    })
+    let first = ending_of(one, near, served);
+    let second = ending_of(two, far, other_served);
+    course_of(heard, signs.seen.load(Ordering::SeqCst), (first, second))
 }
 
 /// Serves the clients of a plan at two new replicas; `None` where that fails.
 pub fn play<
     R: Threads + Wait + Clock + Log + Sync + Net<Listener = TcpListener, Stream = TcpStream>,
 >(rt: &R, alloc: Global, plan: Plan) -> Option<Course> {
-    let books = (fresh_book(alloc, 1)?, fresh_book(alloc, 2)?);
+    let Plan {
+        first,
+        second,
+        called,
+        until,
+        turns,
+    } = plan;
+    let hold = Hold {
+        called,
+        until,
+        turns,
+    };
+    let sides = both_connected(rt, alloc, first, second)?;
+    let Some(books) = fresh_books(alloc) else {
+        drop(sides);
+        return None;
+    };
     let whole = 4_294_967_295;
-    played::<Brand, Brand, R>(rt, alloc, Blank::new(whole), Blank::new(whole), books, plan).ok()
+    played::<Brand, Brand, R>(
+        rt,
+        alloc,
+        Blank::new(whole),
+        Blank::new(whole),
+        books,
+        sides,
+        &hold,
+    )
 }

@@ -1,4 +1,4 @@
-use Rattle.server_tests.proofs.scene.play.Given as goal
+use Rattle.crowd_tests.proofs.scene.play.Given as goal
 
 abbrev pub ghosts-played-L-Ledger : goal.ghosts-played-L-Ledger
 ghosts-played-L-Ledger g a = record { name = a.blank.name; parts = a.blank.parts }

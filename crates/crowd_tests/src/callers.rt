@@ -9,7 +9,7 @@ use std::sync::Wait;
 use std::sync::atomic::Ordering;
 
 /// How a client behaves behind what it says.
-#[derive(Clone, Copy, Debug, PartialEq, Eq)]
+#[derive(Clone, Copy)]
 pub enum Manner {
     /// It tells that no more comes, and hears all.
     Hears,

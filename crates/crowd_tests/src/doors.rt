@@ -61,7 +61,7 @@ pub fn wait_for<R: Wait>(rt: &R, count: &AtomicU64, least: u64) {
 }
 
 /// What a door does.
-#[derive(Clone, Copy, Debug, PartialEq, Eq)]
+#[derive(Clone, Copy)]
 pub enum Way {
     /// It is open.
     Open,

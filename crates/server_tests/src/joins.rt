@@ -1,0 +1,32 @@
+//! What is printed of replicas that join.
+
+use mail_serving::{Join, JoinEnd, Place};
+use std::alloc::Global;
+use std::test::*;
+
+/// Whether what is printed of a replica that was to join is this.
+fn is_printed(alloc: Global, end: JoinEnd<'_>, wanted: &str) -> bool {
+    match format!(in alloc; "{end}") {
+        Ok(text) => text.as_str() == wanted,
+        Err(_) => false,
+    }
+}
+
+#[test]
+fn joins_are_told(rt: HostRuntime) {
+    let join = Join {
+        place: Place {
+            replica: 3,
+            address: "127.0.0.1:1433",
+        },
+        peer: 1,
+    };
+    assert!(rt;
+        is_printed(
+            rt.alloc(),
+            JoinEnd::Joined(join),
+            "joined 3 1\nlistening 3 127.0.0.1:1433"
+        )
+    );
+    assert!(rt; is_printed(rt.alloc(), JoinEnd::Failed(join), "cannot join 3 1"));
+}

@@ -1,0 +1,281 @@
+//! What clients do who visit a server, and whether they are told what they should be.
+
+use crate::clients::Client;
+use imap_types::Moment;
+use mail_serving::House;
+use mail_text::civil;
+use std::alloc::Global;
+use std::net::{Net, SocketAddr, TcpListener, TcpStream};
+use std::rt::Clock;
+use std::sync::Wait;
+use std::thread;
+use std::time::{Duration, SystemTime, UNIX_EPOCH};
+
+/// Who visits a server.
+#[derive(Clone, Copy)]
+pub enum Visit {
+    /// Clients of two replicas.
+    Two,
+    /// Clients of two replicas, and one of a third that joins.
+    Three,
+    /// Clients of a replica, where another can't join.
+    Alone,
+    /// A client that has to log in.
+    Password,
+    /// A client that asks when its message came.
+    Clock,
+}
+
+impl Visit {
+    /// Whether the clients were told what they should be; `None` where one can't connect.
+    pub fn pay<R: Wait + Clock + Net<Listener = TcpListener, Stream = TcpStream>>(
+        self,
+        rt: &R,
+        alloc: Global,
+        house: &House<'_>,
+    ) -> Option<bool> {
+        match self {
+            Visit::Two => visit_two(rt, alloc, house),
+            Visit::Three => visit_three(rt, alloc, house),
+            Visit::Alone => visit_alone(rt, alloc, house),
+            Visit::Password => visit_password(rt, alloc, house),
+            Visit::Clock => visit_clock(rt, alloc, house),
+        }
+    }
+}
+
+/// The address at which the replica at a place listens, once it does.
+fn address_at<R: Wait + Clock>(rt: &R, house: &House<'_>, place: usize) -> Option<SocketAddr> {
+    let station = house.stations.get(place)?;
+    for _ in 0..6_000u32 {
+        let address = *station.address.lock(rt);
+        if address.is_some() {
+            return address;
+        }
+        thread::sleep(rt, Duration::from_millis(10));
+    }
+    None
+}
+
+/// A client of the replica at a place, once it listens.
+fn client_at<R: Wait + Clock + Net<Listener = TcpListener, Stream = TcpStream>>(
+    rt: &R,
+    alloc: Global,
+    house: &House<'_>,
+    place: usize,
+) -> Option<Client> {
+    let address = address_at(rt, house, place)?;
+    Client::connect(rt, alloc, address).ok()
+}
+
+/// Whether there is a replica at this place that hasn't joined.
+fn is_awaited<R: Wait>(rt: &R, house: &House<'_>, place: usize) -> bool {
+    match house.stations.get(place) {
+        Some(station) => !station.is_open(rt),
+        None => false,
+    }
+}
+
+/// Logs out.
+fn leave(client: &mut Client) {
+    client.say(b"z LOGOUT\r\n", b"z OK LOGOUT completed\r\n")
+}
+
+/// Selects INBOX.
+fn select(client: &mut Client) {
+    client.say(
+        b"s SELECT INBOX\r\n",
+        b"s OK [READ-WRITE] SELECT completed\r\n",
+    )
+}
+
+/// Selects INBOX, and idles.
+fn idle(client: &mut Client) {
+    select(client);
+    client.say(b"i IDLE\r\n", b"+ idling\r\n")
+}
+
+/// Idles no more.
+fn stir(client: &mut Client) {
+    client.say(b"DONE\r\n", b"i OK IDLE completed\r\n")
+}
+
+/// What the clients of two replicas do; whether each was told what it should be.
+fn visit_two<R: Wait + Clock + Net<Listener = TcpListener, Stream = TcpStream>>(
+    rt: &R,
+    alloc: Global,
+    house: &House<'_>,
+) -> Option<bool> {
+    let mut first = client_at(rt, alloc, house, 0)?;
+    let mut second = client_at(rt, alloc, house, 1)?;
+    first.say(b"a CREATE work\r\n", b"a OK CREATE completed\r\n");
+    first.say(
+        b"b LIST \"\" *\r\n",
+        b"* LIST () \"/\" work\r\nb OK LIST completed\r\n",
+    );
+    idle(&mut second);
+    first.say(
+        b"c APPEND INBOX {3+}\r\nabc\r\n",
+        b"c OK [APPENDUID 1 1] APPEND completed\r\n",
+    );
+    second.await_text(b"* 1 EXISTS\r\n");
+    store_two(&mut first, &mut second);
+    stir(&mut second);
+    leave(&mut first);
+    leave(&mut second);
+    Some(first.is_served() && second.is_served())
+}
+
+/// Stores a flag of two messages by one command of the first client; the second, which idles at another replica, is told of both.
+fn store_two(first: &mut Client, second: &mut Client) {
+    first.say(
+        b"d APPEND INBOX {3+}\r\ndef\r\n",
+        b"d OK [APPENDUID 1 2] APPEND completed\r\n",
+    );
+    second.await_text(b"* 2 EXISTS\r\n");
+    select(first);
+    first.say(
+        b"f STORE 1:2 +FLAGS (\\Seen)\r\n",
+        b"f OK STORE completed\r\n",
+    );
+    second.await_text(b"* 1 FETCH (UID 1 FLAGS (\\Seen))\r\n");
+    second.await_text(b"* 2 FETCH (UID 2 FLAGS (\\Seen))\r\n")
+}
+
+/// What the clients of two replicas do, and then one of a third, which has joined when the first client is gone; whether each was told what it should be.
+fn visit_three<R: Wait + Clock + Net<Listener = TcpListener, Stream = TcpStream>>(
+    rt: &R,
+    alloc: Global,
+    house: &House<'_>,
+) -> Option<bool> {
+    let mut second = client_at(rt, alloc, house, 1)?;
+    let mut first = client_at(rt, alloc, house, 0)?;
+    first.say(b"a CREATE work\r\n", b"a OK CREATE completed\r\n");
+    first.say(
+        b"b APPEND work {3+}\r\nabc\r\n",
+        b"b OK [APPENDUID 65537 1] APPEND completed\r\n",
+    );
+    let was_awaited = is_awaited(rt, house, 2);
+    leave(&mut first);
+    let mut third = client_at(rt, alloc, house, 2)?;
+    third.say(
+        b"a STATUS work (MESSAGES UIDNEXT UIDVALIDITY)\r\n",
+        b"* STATUS work (MESSAGES 1 UIDNEXT 2 UIDVALIDITY 65539)\r\na OK STATUS completed\r\n",
+    );
+    append_in_turn(&mut second, &mut third);
+    leave(&mut third);
+    leave(&mut second);
+    Some(was_awaited && first.is_served() && second.is_served() && third.is_served())
+}
+
+/// Appends a message at the third replica, of which the client of the second is told while it idles, and then one the other way round.
+fn append_in_turn(second: &mut Client, third: &mut Client) {
+    idle(second);
+    third.say(
+        b"b APPEND INBOX {3+}\r\nabc\r\n",
+        b"b OK [APPENDUID 3 1] APPEND completed\r\n",
+    );
+    second.await_text(b"* 1 EXISTS\r\n");
+    stir(second);
+    idle(third);
+    second.say(
+        b"c APPEND INBOX {3+}\r\nabc\r\n",
+        b"c OK [APPENDUID 2 2] APPEND completed\r\n",
+    );
+    third.await_text(b"* 2 EXISTS\r\n");
+    stir(third)
+}
+
+/// What two clients of one replica do, one behind the other, where another replica was to join between them and can't; whether each was told what it should be.
+fn visit_alone<R: Wait + Clock + Net<Listener = TcpListener, Stream = TcpStream>>(
+    rt: &R,
+    alloc: Global,
+    house: &House<'_>,
+) -> Option<bool> {
+    let mut first = client_at(rt, alloc, house, 0)?;
+    first.say(b"a CREATE work\r\n", b"a OK CREATE completed\r\n");
+    leave(&mut first);
+    let mut second = client_at(rt, alloc, house, 0)?;
+    second.say(
+        b"a LIST \"\" w*\r\n",
+        b"* LIST () \"/\" work\r\na OK LIST completed\r\n",
+    );
+    leave(&mut second);
+    Some(first.is_served() && second.is_served() && is_awaited(rt, house, 1))
+}
+
+/// What a client does that has to log in; whether it was told what it should be. User and password don't stand for each other, and nothing but both lets it in.
+fn visit_password<R: Wait + Clock + Net<Listener = TcpListener, Stream = TcpStream>>(
+    rt: &R,
+    alloc: Global,
+    house: &House<'_>,
+) -> Option<bool> {
+    let mut client = client_at(rt, alloc, house, 0)?;
+    let is_greeted = client.was_told(b"* OK [CAPABILITY IMAP4rev2 IDLE CONDSTORE] ready\r\n");
+    client.say(b"a LIST \"\" *\r\n", b"a BAD not now\r\n");
+    client.say(
+        b"b LOGIN secret me\r\n",
+        b"b NO [AUTHENTICATIONFAILED] login failed\r\n",
+    );
+    client.say(
+        b"c LOGIN secret secret\r\n",
+        b"c NO [AUTHENTICATIONFAILED] login failed\r\n",
+    );
+    client.say(
+        b"d LOGIN me me\r\n",
+        b"d NO [AUTHENTICATIONFAILED] login failed\r\n",
+    );
+    client.say(b"e SELECT INBOX\r\n", b"e BAD not now\r\n");
+    client.say(b"f LOGIN me secret\r\n", b"f OK ");
+    select(&mut client);
+    leave(&mut client);
+    Some(is_greeted && client.is_served())
+}
+
+/// What a client does who appends a message without a date; whether it is told that the message came while it waited.
+fn visit_clock<R: Wait + Clock + Net<Listener = TcpListener, Stream = TcpStream>>(
+    rt: &R,
+    alloc: Global,
+    house: &House<'_>,
+) -> Option<bool> {
+    let mut client = client_at(rt, alloc, house, 0)?;
+    select(&mut client);
+    let before = seconds(rt);
+    client.say(
+        b"b APPEND INBOX {3+}\r\nabc\r\n",
+        b"b OK [APPENDUID 1 1] APPEND completed\r\n",
+    );
+    let after = seconds(rt);
+    client.say(b"c FETCH 1 INTERNALDATE\r\n", b"c OK FETCH completed\r\n");
+    leave(&mut client);
+    Some(client.is_served() && is_dated(alloc, &client, before?, after?))
+}
+
+/// The seconds of the clock, from 1970 on.
+fn seconds<R: Clock>(rt: &R) -> Option<u64> {
+    let since = SystemTime::now(rt).ok()?.duration_since(UNIX_EPOCH).ok()?;
+    Some(since.as_secs())
+}
+
+/// Whether the client was told that its message came at one of these moments.
+fn is_dated(alloc: Global, client: &Client, first: u64, last: u64) -> bool {
+    (first..=last).any(|moment| dates(alloc, client, moment))
+}
+
+/// Whether the client was told that its message came at this moment.
+fn dates(alloc: Global, client: &Client, seconds: u64) -> bool {
+    match dated(alloc, seconds) {
+        Some(text) => client.was_told(&text),
+        None => false,
+    }
+}
+
+/// What is told of a message that came at this moment.
+fn dated(alloc: Global, seconds: u64) -> Option<Vec<u8>> {
+    let date = civil(Moment::new(seconds)?);
+    let mut text = Vec::new(alloc);
+    text.extend_from_slice(b"* 1 FETCH (INTERNALDATE ").ok()?;
+    text.extend_from_slice(date.as_bytes()).ok()?;
+    text.extend_from_slice(b")\r\n").ok()?;
+    Some(text)
+}
