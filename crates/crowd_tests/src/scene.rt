@@ -167,13 +167,15 @@ fn both_connected<R: Net<Listener = TcpListener, Stream = TcpStream>>(
     let Ok(listener) = TcpListener::bind(rt, "127.0.0.1:0") else {
         return None;
     };
-    match (
-        connected(rt, alloc, &listener, first),
-        connected(rt, alloc, &listener, second),
-    ) {
-        (Ok(side), Ok(other_side)) => Some((side, other_side)),
-        _ => None,
-    }
+    let Ok(side) = connected(rt, alloc, &listener, first) else {
+        drop(second);
+        return None;
+    };
+    let Ok(other_side) = connected(rt, alloc, &listener, second) else {
+        drop(side);
+        return None;
+    };
+    Some((side, other_side))
 }
 
 /// The doors that do this.
@@ -265,10 +267,7 @@ fn both_given<L: Ledger>(
     passes: Result<Vec<Pass<L>>, AllocError>,
     heard: Result<Vec<Vec<u8>>, AllocError>,
 ) -> Served<L> {
-    match (passes, heard) {
-        (Ok(passes), Ok(heard)) => Ok((passes, heard)),
-        _ => Err(AllocError),
-    }
+    Ok((passes?, heard?))
 }
 
 /// Two replicas as the threads of their connections and clients see them.
@@ -423,17 +422,21 @@ fn ending_of<L: Ledger>(shared: Shared<L>, first: Pass<L>, served: Served<L>) ->
 }
 
 /// What came of both replicas.
-fn course_of(heard: u64, seen: u64, endings: (Option<Ending>, Option<Ending>)) -> Option<Course> {
-    match endings {
-        (Some(first), Some(second)) => Some(Course {
-            first: first.heard,
-            second: second.heard,
-            heard,
-            seen,
-            entries: (first.entries, second.entries),
-        }),
-        _ => None,
-    }
+fn course_of(
+    heard: u64,
+    seen: u64,
+    first: Option<Ending>,
+    second: Option<Ending>,
+) -> Option<Course> {
+    let first = first?;
+    let second = second?;
+    Some(Course {
+        first: first.heard,
+        second: second.heard,
+        heard,
+        seen,
+        entries: (first.entries, second.entries),
+    })
 }
 
 fn played<L: Ledger + Send + Sync, M: Ledger + Send + Sync, R: Threads + Wait + Clock + Log + Sync>(
@@ -473,7 +476,7 @@ fn played<L: Ledger + Send + Sync, M: Ledger + Send + Sync, R: Threads + Wait + 
     );
     let first = ending_of(one, near, served);
     let second = ending_of(two, far, other_served);
-    course_of(heard, signs.seen.load(Ordering::SeqCst), (first, second))
+    course_of(heard, signs.seen.load(Ordering::SeqCst), first, second)
 }
 
 /// Serves the clients of a plan at two new replicas; `None` where that fails.
