@@ -231,7 +231,7 @@ fn side_served<L: Ledger + Send + Sync, R: Threads + Wait + Clock + Log + Sync>(
     side: Side,
 ) -> Served<L> {
     match doors_of(alloc, &side.ways, signs) {
-        Ok(doors) => served_behind(rt, alloc, desk, first, signs, side, doors),
+        Ok(doors) => served_behind(rt, alloc, desk, first, signs, Entrance { side, doors }),
         Err(_) => {
             drop(side);
             Err(AllocError)
@@ -239,16 +239,23 @@ fn side_served<L: Ledger + Send + Sync, R: Threads + Wait + Clock + Log + Sync>(
     }
 }
 
-/// The same behind these doors.
+/// A side, and the doors behind which its clients are served.
+#[derive(Drop)]
+struct Entrance<'a> {
+    side: Side,
+    doors: Vec<Door<'a>>,
+}
+
+/// The same behind its doors.
 fn served_behind<L: Ledger + Send + Sync, R: Threads + Wait + Clock + Log + Sync>(
     rt: &R,
     alloc: Global,
     desk: &Desk<'_, L>,
     first: &mut Pass<L>,
     signs: &Signs,
-    side: Side,
-    doors: Vec<Door<'_>>,
+    entrance: Entrance<'_>,
 ) -> Served<L> {
+    let Entrance { side, doors } = entrance;
     let Side {
         streams,
         ways: _,
@@ -442,17 +449,16 @@ fn course_of(
 fn played<L: Ledger + Send + Sync, M: Ledger + Send + Sync, R: Threads + Wait + Clock + Log + Sync>(
     rt: &R,
     alloc: Global,
-    blank: Blank,
-    other_blank: Blank,
+    blanks: (Blank, Blank),
     books: (Book, Book),
     sides: (Side, Side),
     hold: &Hold,
 ) -> Option<Course>
-    requires one { (blank.name ≡ L.name) × (blank.parts ≡ L.parts) × (L.parts ≡ 4294967295) }
-    requires two { (other_blank.name ≡ M.name) × (other_blank.parts ≡ M.parts) × (M.parts ≡ 4294967295) }
+    requires one { (blanks.0.name ≡ L.name) × (blanks.0.parts ≡ L.parts) × (L.parts ≡ 4294967295) }
+    requires two { (blanks.1.name ≡ M.name) × (blanks.1.parts ≡ M.parts) × (M.parts ≡ 4294967295) }
 {
-    let (one, mut near) = Shared::<L>::new(blank, books.0);
-    let (two, mut far) = Shared::<M>::new(other_blank, books.1);
+    let (one, mut near) = Shared::<L>::new(blanks.0, books.0);
+    let (two, mut far) = Shared::<M>::new(blanks.1, books.1);
     let house = House {
         access: Access::Preauth,
         stations: Vec::new(alloc),
@@ -504,8 +510,7 @@ pub fn play<
     played::<Brand, Brand, R>(
         rt,
         alloc,
-        Blank::new(whole),
-        Blank::new(whole),
+        (Blank::new(whole), Blank::new(whole)),
         books,
         sides,
         &hold,

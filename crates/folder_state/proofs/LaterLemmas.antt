@@ -20,6 +20,7 @@ use Rattle.folder_state.specs.Kept.{HasTagIn, Kept, body_in_folder, has_tag_in, 
 use Rattle.folder_state.specs.Later.{after, alone, has_body, has_tag_after, is_brought, is_some, is_version}
 use Rattle.folder_state.specs.Rooms.{origin_by}
 use Rattle.folder_state.proofs.VersionLemmas.{body_source, cond_some, origin_some}
+use Rattle.crdt_ops.specs.Ops.{clock_of, id_of}
 
 fold_append : (v : Contents) (xs ys : List Op) → after v (xs ++ ys) ≡ after (after v xs) ys
 fold_append v [] ys = refl
@@ -153,5 +154,5 @@ origin_more false true x y = refl
 origin_more false false x y = refl
 
 -- contents after more operations were made by all of them
-pub made_after : (c : Contents) (list ops : List Op) → IsMadeBy c list → AreSound IsSound (list ++ ops) → IsCausal (λ (o : Op). o.id) (λ o. o.clock) (list ++ ops) → IsMadeBy (after c ops) (list ++ ops)
+pub made_after : (c : Contents) (list ops : List Op) → IsMadeBy c list → AreSound IsSound (list ++ ops) → IsCausal id_of clock_of (list ++ ops) → IsMadeBy (after c ops) (list ++ ops)
 made_after c list ops m s d = record { sound = s; causal = d; made = ap (λ v. after v ops) m.made ∙ sym (fold_append no_contents list ops) }

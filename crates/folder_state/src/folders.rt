@@ -1,5 +1,7 @@
 //! The replicated folders.
 
+ghost use Rattle.crdt_ops.specs.Ops.{clock_of, id_of};
+
 use crate::changes::{forget_removed, keep_added};
 use crate::folder::Folder;
 use crate::later::{has_tag_left, has_tags, has_version_left, has_versions};
@@ -106,7 +108,7 @@ impl Folders {
     /// the operations times the folder's tags and operations together.
     pub fn exists_after(&self, name: &Name, ops: &[SoundOp]) -> bool
         ensures contents { IsTrue result ↔ IsFolder (after (contents_of self.now) ops.now) name.now }
-        ensures set { (list : List Operation) → IsMadeBy (contents_of self.now) list → AreSound IsSound (list ++ ops.now) → IsCausal (λ (o : Operation). o.id) (λ o. o.clock) (list ++ ops.now) → IsTrue result ↔ IsIn name.now (folders_of (list ++ ops.now)) }
+        ensures set { (list : List Operation) → IsMadeBy (contents_of self.now) list → AreSound IsSound (list ++ ops.now) → IsCausal id_of clock_of (list ++ ops.now) → IsTrue result ↔ IsIn name.now (folders_of (list ++ ops.now)) }
     {
         is_inbox(name) || has_tag_left(self.folder(name), name, ops)
     }
@@ -122,7 +124,7 @@ impl Folders {
     /// Whether the origin will have a version in the folder after these operations, applied in this order. Takes no memory.
     pub fn has_version_after(&self, folder: &Name, origin: &OpId, ops: &[SoundOp]) -> bool
         ensures contents { IsTrue result ↔ HasVersion (after (contents_of self.now) ops.now) folder.now origin.now }
-        ensures set { (list : List Operation) → IsMadeBy (contents_of self.now) list → AreSound IsSound (list ++ ops.now) → IsCausal (λ (o : Operation). o.id) (λ o. o.clock) (list ++ ops.now) → IsTrue result ↔ IsIn origin.now (origins_of (list ++ ops.now) folder.now) }
+        ensures set { (list : List Operation) → IsMadeBy (contents_of self.now) list → AreSound IsSound (list ++ ops.now) → IsCausal id_of clock_of (list ++ ops.now) → IsTrue result ↔ IsIn origin.now (origins_of (list ++ ops.now) folder.now) }
     {
         has_version_left(self.folder(folder), folder, origin, ops)
     }

@@ -8,7 +8,6 @@ use imap_types::{Flags, Name, Octets};
 use std::alloc::{AllocError, Global};
 
 /// One answer to a client (RFC 9051, section 7).
-#[derive(Drop)]
 pub enum Answer {
     /// The greeting of a connection.
     Greeting {
@@ -83,6 +82,47 @@ pub enum Answer {
         tag: Octets,
         reason: Refusal,
     },
+}
+
+// By hand, so that crates above let it go as a whole.
+impl Drop for Answer {
+    fn drop(self) {
+        match self {
+            Self::Greeting { login: _ } => {}
+            Self::Continue { with: _ } => {}
+            Self::Capability => {}
+            Self::Enabled { extensions: _ } => {}
+            Self::Namespace => {}
+            Self::Flags { flags: _ } => {}
+            Self::Exists { count: _ } => {}
+            Self::Expunge { number: _ } => {}
+            Self::List {
+                name: _,
+                state: _,
+                subscribed: _,
+            } => {}
+            Self::Tell { notice: _ } => {}
+            Self::Status { name: _, items: _ } => {}
+            Self::Search {
+                tag: _,
+                by_uid: _,
+                results: _,
+            } => {}
+            Self::Fetch {
+                number: _,
+                items: _,
+            } => {}
+            Self::Bye { reason: _ } => {}
+            Self::NoTag => {}
+            Self::LiteralTooLong => {}
+            Self::Completed {
+                tag: _,
+                code: _,
+                command: _,
+            } => {}
+            Self::Refused { tag: _, reason: _ } => {}
+        }
+    }
 }
 
 impl Answer {

@@ -6,7 +6,6 @@ use imap_types::{Flags, NumberSet};
 use std::alloc::{AllocError, Global};
 
 /// The code of a tagged OK. UIDVALIDITY and UIDs are from 1 on.
-#[derive(Drop)]
 pub enum Code {
     ReadWrite,
     ReadOnly,
@@ -27,6 +26,27 @@ pub enum Code {
     },
     /// Some of the messages named are gone.
     ExpungeIssued,
+}
+
+// By hand, so that crates above let it go as a whole.
+impl Drop for Code {
+    fn drop(self) {
+        match self {
+            Self::ReadWrite => {}
+            Self::ReadOnly => {}
+            Self::AppendUid {
+                uidvalidity: _,
+                uid: _,
+            } => {}
+            Self::CopyUid {
+                uidvalidity: _,
+                source: _,
+                copies: _,
+            } => {}
+            Self::Modified { refused: _ } => {}
+            Self::ExpungeIssued => {}
+        }
+    }
 }
 
 impl Code {
@@ -95,7 +115,6 @@ impl Code {
 }
 
 /// What an untagged OK tells.
-#[derive(Drop)]
 pub enum Notice {
     /// The mailbox that was selected is left.
     Closed,
@@ -121,6 +140,24 @@ pub enum Notice {
         source: NumberSet,
         copies: NumberSet,
     },
+}
+
+// By hand, so that crates above let it go as a whole.
+impl Drop for Notice {
+    fn drop(self) {
+        match self {
+            Self::Closed => {}
+            Self::UidValidity { value: _ } => {}
+            Self::UidNext { uid: _ } => {}
+            Self::PermanentFlags { flags: _ } => {}
+            Self::HighestModSeq { modseq: _ } => {}
+            Self::CopyUid {
+                uidvalidity: _,
+                source: _,
+                copies: _,
+            } => {}
+        }
+    }
 }
 
 impl Notice {

@@ -8,7 +8,6 @@ use std::alloc::{AllocError, Global};
 use std::marker::Model;
 
 /// A message's parts, of what was asked.
-#[derive(Drop)]
 pub struct FetchItems {
     pub uid: Option<u32>,
     pub flags: Option<Flags>,
@@ -20,6 +19,20 @@ pub struct FetchItems {
     pub modseq: Option<u64>,
     /// Parts of its text, in the order asked.
     pub sections: Sections,
+}
+
+// By hand, so that crates above let it go as a whole.
+impl Drop for FetchItems {
+    fn drop(self) {
+        let Self {
+            uid: _,
+            flags: _,
+            date: _,
+            size: _,
+            modseq: _,
+            sections: _,
+        } = self;
+    }
 }
 
 impl FetchItems {
@@ -70,13 +83,23 @@ fn copied_date(date: &Option<DateTime>) -> Option<DateTime>
 }
 
 /// A part of a message's text.
-#[derive(Drop)]
 pub struct SectionData {
     pub section: Section,
     /// Where the octets begin in the section, where a partial was asked.
     pub origin: Option<u32>,
     /// Where the whole text is asked, shared with the message.
     pub octets: Text,
+}
+
+// By hand, so that crates above let it go as a whole.
+impl Drop for SectionData {
+    fn drop(self) {
+        let Self {
+            section: _,
+            origin: _,
+            octets: _,
+        } = self;
+    }
 }
 
 impl SectionData {
@@ -102,9 +125,15 @@ impl SectionData {
 }
 
 /// Parts of a message's text in order, seen by contracts as their list.
-#[derive(Drop)]
 pub struct Sections {
     parts: Vec<SectionData>,
+}
+
+// By hand, so that crates above let it go as a whole.
+impl Drop for Sections {
+    fn drop(self) {
+        let Self { parts: _ } = self;
+    }
 }
 
 impl Model for Sections {

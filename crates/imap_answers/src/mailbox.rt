@@ -55,7 +55,6 @@ pub struct StatusItems {
 }
 
 /// What a search found, of what was asked (RFC 9051, section 7.3.4; RFC 7162, section 3.1.10).
-#[derive(Drop)]
 pub struct SearchResults {
     /// The least hit.
     pub min: Option<u32>,
@@ -67,6 +66,19 @@ pub struct SearchResults {
     pub count: Option<u32>,
     /// The greatest mod-sequence of the hits.
     pub modseq: Option<u64>,
+}
+
+// By hand, so that crates above let it go as a whole.
+impl Drop for SearchResults {
+    fn drop(self) {
+        let Self {
+            min: _,
+            max: _,
+            all: _,
+            count: _,
+            modseq: _,
+        } = self;
+    }
 }
 
 impl SearchResults {

@@ -3,7 +3,7 @@
 use crate::keys::put_steps;
 use crate::parts::{put_flags, put_section, put_texts};
 use case_text::Words;
-use imap_grammar::{Command, FetchItem, StoreAction, Tagged};
+use imap_grammar::{Command, FetchItem, StoreAction, Tagged, Transfer};
 use imap_types::{DateTime, SequenceBound, SequenceSet};
 use std::fmt::Debug;
 
@@ -60,28 +60,18 @@ fn put_longer(words: &mut Words, command: &Command) {
 
 fn put_longest(words: &mut Words, command: &Command) {
     match command {
-        Command::ListNames {
-            subscribed_only,
-            reference,
-            pattern,
-            return_subscribed,
-        } => {
-            words.put_text("list ", reference.as_bytes());
-            words.put_text(" ", pattern.as_bytes());
-            words.put_if(*subscribed_only, " subscribed-only");
-            words.put_if(*return_subscribed, " return-subscribed");
+        Command::ListNames(list) => {
+            words.put_text("list ", list.reference.as_bytes());
+            words.put_text(" ", list.pattern.as_bytes());
+            words.put_if(list.subscribed_only, " subscribed-only");
+            words.put_if(list.return_subscribed, " return-subscribed");
         }
-        Command::Append {
-            name,
-            flags,
-            date,
-            text,
-        } => {
-            words.put_text("append ", name.as_bytes());
+        Command::Append(append) => {
+            words.put_text("append ", append.name.as_bytes());
             words.put(" ");
-            put_flags(words, flags);
-            put_date(words, date);
-            words.put_text(" text ", text.as_bytes());
+            put_flags(words, &append.flags);
+            put_date(words, &append.date);
+            words.put_text(" text ", append.text.as_bytes());
         }
         _ => put_of_messages(words, command),
     }
@@ -90,59 +80,36 @@ fn put_longest(words: &mut Words, command: &Command) {
 fn put_of_messages(words: &mut Words, command: &Command) {
     match command {
         Command::UidExpunge { uids } => put_messages(words, true, "expunge", uids),
-        Command::Copy {
-            by_uid,
-            messages,
-            name,
-        } => {
-            put_messages(words, *by_uid, "copy", messages);
-            words.put_text(" ", name.as_bytes());
-        }
-        Command::Move {
-            by_uid,
-            messages,
-            name,
-        } => {
-            put_messages(words, *by_uid, "move", messages);
-            words.put_text(" ", name.as_bytes());
-        }
+        Command::Copy(transfer) => put_transfer(words, "copy", transfer),
+        Command::Move(transfer) => put_transfer(words, "move", transfer),
         _ => put_of_more(words, command),
     }
 }
 
+/// COPY or MOVE.
+fn put_transfer(words: &mut Words, word: &str, transfer: &Transfer) {
+    put_messages(words, transfer.by_uid, word, &transfer.messages);
+    words.put_text(" ", transfer.name.as_bytes());
+}
+
 fn put_of_more(words: &mut Words, command: &Command) {
     match command {
-        Command::Search {
-            by_uid,
-            options,
-            steps,
-        } => {
-            words.put_if(*by_uid, "uid-");
+        Command::Search(search) => {
+            words.put_if(search.by_uid, "uid-");
             words.put("search");
-            put_each(words, options.as_slice());
-            put_steps(words, steps.as_slice());
+            put_each(words, search.options.as_slice());
+            put_steps(words, search.steps.as_slice());
         }
-        Command::Fetch {
-            by_uid,
-            messages,
-            items,
-            changed_since,
-        } => {
-            put_messages(words, *by_uid, "fetch", messages);
-            put_items(words, items.as_slice());
-            words.put_optional(" since ", *changed_since);
+        Command::Fetch(fetch) => {
+            put_messages(words, fetch.by_uid, "fetch", &fetch.messages);
+            put_items(words, fetch.items.as_slice());
+            words.put_optional(" since ", fetch.changed_since);
         }
-        Command::Store {
-            by_uid,
-            messages,
-            unchanged_since,
-            action,
-            flags,
-        } => {
-            put_messages(words, *by_uid, "store", messages);
-            words.put_optional(" unless-since ", *unchanged_since);
-            put_action(words, *action);
-            put_flags(words, flags);
+        Command::Store(store) => {
+            put_messages(words, store.by_uid, "store", &store.messages);
+            words.put_optional(" unless-since ", store.unchanged_since);
+            put_action(words, store.action);
+            put_flags(words, &store.flags);
         }
         _ => words.put("no command of these"),
     }

@@ -8,6 +8,7 @@ pub mod FlagSetLemmas
 pub mod IssuedLemmas
 pub mod NamedLemmas
 pub mod PlaceLemmas
+pub mod RangeLemmas
 pub mod PrintSelected
 pub mod PrintViews
 pub mod PrintFetched

@@ -159,13 +159,13 @@ answerable : (command : Command) (text : List ℕ) → arguments command text �
 answerable (commands.Select name condstore) text h w = name_folded name h.3.0 h.3.2
 answerable (commands.Examine name condstore) text h w = name_folded name h.3.0 h.3.2
 answerable (commands.Status name items) text h w = (name_folded name h.3.0 h.3.2, asked_some sp status_item items h.3.3.3.3.0 h.3.3.3.3.2)
-answerable (commands.Search by_uid options steps) text h w = tt
-answerable (commands.Fetch by_uid messages items changed_since) text h w =
+answerable (commands.Search asked) text h w = tt
+answerable (commands.Fetch asked) text h w =
     let a = back_wide text h.0 h.1 h.4 w in
     let b = back_wide h.1 h.3.0 h.3.1 h.3.4 a in
     let c = back_wide h.3.1 h.3.3.0 h.3.3.1 h.3.3.4 b in
     let d = back_wide h.3.3.1 h.3.3.3.0 h.3.3.3.1 h.3.3.3.4 c in
-    items_are items h.3.3.3.3.0 h.3.3.3.3.2 (front_wide h.3.3.3.1 h.3.3.3.3.0 h.3.3.3.3.1 h.3.3.3.3.4 d)
+    items_are asked.items h.3.3.3.3.0 h.3.3.3.3.2 (front_wide h.3.3.3.1 h.3.3.3.3.0 h.3.3.3.3.1 h.3.3.3.3.4 d)
 answerable _ text h w = tt
 
 pub spelled_answerable : (tagged : Tagged) (octets : List ℕ) → IsSpelled tagged octets → IsWide (length octets) → IsTag tagged.tag × IsAnswerable tagged.command

@@ -71,6 +71,6 @@ is_modseq_item (Body peek section partial) = false
 abbrev pub fetch_asks_modseq : List FetchItem → Option ℕ → Bool
 fetch_asks_modseq items changed_since = list_any is_modseq_item items || is_some changed_since
 
--- SEARCH has a key MODSEQ, wherever it stands.
+-- SEARCH has a key MODSEQ, wherever it stands, as its steps tell; `searches_are_by_keys` ties that to the key.
 abbrev pub search_asks_modseq : List SearchStep → Bool
 search_asks_modseq steps = list_any step_names_modseq steps

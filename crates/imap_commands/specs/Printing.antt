@@ -70,5 +70,5 @@ abbrev pub IsAnswerable : Command → Type 0
 IsAnswerable (commands.Select name condstore) = IsFolded name
 IsAnswerable (commands.Examine name condstore) = IsFolded name
 IsAnswerable (commands.Status name items) = IsFolded name × (0 < length items)
-IsAnswerable (commands.Fetch by_uid messages items changed_since) = AreTellable items
+IsAnswerable (commands.Fetch asked) = AreTellable asked.items
 IsAnswerable _ = Unit {0}

@@ -1,4 +1,4 @@
-use Rattle.std.specs.Prelude.{◌≡◌, ℕ, ◌+◌, Bool, true, false, List, [], ◌∷◌, Result, Ok, Err, if◌then◌else◌}
+use Rattle.std.specs.Prelude.{◌≡◌, ℕ, ◌+◌, Bool, true, false, ◌&&◌, List, [], ◌∷◌, Result, Ok, Err, if◌then◌else◌}
 use Rattle.std.specs.List.{list_all}
 use Rattle.crdt_ops.specs.declared.kind.Kind.{Kind}
 use Rattle.imap_answers.specs.declared.answer.Answer.TheVariants.{Search}
@@ -9,7 +9,7 @@ use Rattle.imap_syntax.specs.declared.search.SearchStep.{SearchStep}
 use Rattle.imap_syntax.specs.declared.search.SearchStep.TheVariants.{Test, Not, Or, And}
 use Rattle.imap_syntax.specs.declared.search.SearchTest.{SearchTest}
 use Rattle.imap_syntax.specs.declared.search.SearchTest.TheVariants as tests
-use Rattle.imap_query.specs.Keys.{Key, steps_of}
+use Rattle.imap_query.specs.Keys.{Asks, Both, Either, Key, Lacks, steps_of}
 use Rattle.imap_query.specs.Search.{asks_modseq, hits_in, results_of}
 use Rattle.imap_query.specs.declared.shown.Shown.{Shown}
 use Rattle.session_view.specs.Sets.{is_in_range}
@@ -17,7 +17,7 @@ use Rattle.session_view.specs.declared.entry.Entry.{Entry}
 use Rattle.imap_commands.specs.Asked.{OpenMailbox, SearchAsked}
 use Rattle.imap_commands.specs.Told.{Telling, only_told}
 
--- A key can be asked: a set of numbers names only numbers that messages have. UIDs can be any.
+-- A test can be asked: a set of numbers names only numbers that messages have. UIDs can be any.
 abbrev pub test_is_in_range : List Entry → SearchTest → Bool
 test_is_in_range view (tests.Numbers numbers) = is_in_range false numbers view
 test_is_in_range view tests.All = true
@@ -31,13 +31,24 @@ test_is_in_range view (tests.Smaller octets) = true
 test_is_in_range view (tests.ModSeq value) = true
 test_is_in_range view (tests.Uids uids) = true
 
+-- A key can be asked: each of its tests can, wherever it stands (RFC 9051, section 6.4.4).
+abbrev pub key_is_in_range : List Entry → Key → Bool
+key_is_in_range view (Asks test) = test_is_in_range view test
+key_is_in_range view (Lacks key) = key_is_in_range view key
+key_is_in_range view (Either this that) = key_is_in_range view this && key_is_in_range view that
+key_is_in_range view (Both this that) = key_is_in_range view this && key_is_in_range view that
+
+-- SEARCH issues nothing; it is refused where a set of numbers in its key names one that no message has.
+abbrev pub key_wants : List Entry → Key → Result (List Kind) Refusal
+key_wants view key = if key_is_in_range view key then Ok [] else Err NoSuchMessage
+
+-- The same by a key's steps, one after another: `searches_are_by_keys` ties them to the key.
 abbrev pub step_is_in_range : List Entry → SearchStep → Bool
 step_is_in_range view (Test test) = test_is_in_range view test
 step_is_in_range view Not = true
 step_is_in_range view Or = true
 step_is_in_range view And = true
 
--- SEARCH issues nothing; it is refused where a set of numbers, wherever it stands, names one that no message has.
 abbrev pub search_wants : List Entry → List SearchStep → Result (List Kind) Refusal
 search_wants view steps = if list_all (step_is_in_range view) steps then Ok [] else Err NoSuchMessage
 

@@ -52,7 +52,9 @@ pub use issued::{
     copies_are_issuable, expunges_are_issuable, moves_are_issuable, seen_stores_are_issuable,
     stores_are_issuable,
 };
-pub use laws::{lawful_name_is, listed_keywords_are_borne, one_set_of_keywords};
+pub use laws::{
+    lawful_name_is, listed_keywords_are_borne, one_set_of_keywords, searches_are_by_keys,
+};
 pub use mailboxes::{
     create_wants, created_name, delete_wants, is_lawful_name, subscribe_wants, unsubscribe_wants,
 };

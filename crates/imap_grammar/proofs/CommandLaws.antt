@@ -1,10 +1,11 @@
 -- What stands behind a command's word is read as its arguments, and nothing else is.
 use Rattle.std.proofs.Common.{◌≡◌, ℕ, Bool, true, false, cond, codes, eqb, List, [], ◌∷◌, Option, Some, ap, inl, inr, sym, ◌∙◌, refl, subst}
 use Rattle.std.proofs.lemmas.Bool.{eqb-true}
-use Rattle.imap_syntax.specs.Commands.{word_of, arguments, condstore_parameter, own_word, status_item, modifier, returns, selection}
+use Rattle.imap_syntax.specs.Commands.{word_of, arguments, condstore_parameter, first_word, own_word, status_item, modifier, returns, selection}
 use Rattle.imap_syntax.specs.Languages.{◌⌢◌, exactly, sp, nothing, word, in_parens, listed, optional}
 use Rattle.imap_grammar.specs.Reading.{after, after_word, both, is_nil, listed_at, made, mailbox_at, named, named_at, parens_at, peeks, run_at, set_at, spaced, text_at, ◌>>=◌}
-use Rattle.imap_grammar.specs.CommandReading.{arguments_at, condstore_at, copied_at, opened_at, uid_arguments_at, uid_at, fetch_parts_at, store_parts_at, list_parts_at}
+use Rattle.imap_grammar.specs.CommandReading.{append_of, arguments_at, condstore_at, copied_at, copy_of, fetch_of, list_of, move_of, opened_at, store_of, uid_arguments_at, uid_at, fetch_parts_at, store_parts_at, list_parts_at}
+use Rattle.imap_grammar.specs.KeyReading.{search_of}
 use Rattle.imap_syntax.specs.Items.{fetched}
 use Rattle.imap_syntax.specs.MessageFlags.{stored}
 use Rattle.imap_syntax.specs.Sets.{sequence_set}
@@ -195,12 +196,12 @@ own_by {A} {read} {form} reads make own is there octets x h =
     (is a.0.0, λ mid g. let j = joined (sp ⌢ word (command_word own)) (form a.0.0) mid octets a.0.1 g f in (j.0, there a.0.0 j.0 j.1, j.2))
 
 uid_take : (own : CommandWord) (octets : List ℕ) (x : Command × List ℕ) → uid_arguments_at own octets ≡ Some x → Own own octets x
-uid_take words.Copy octets x h = own_by copied_reads (λ parts. commands.Copy true parts.0 parts.1) words.Copy (λ value. refl) (λ value text f. f) octets x h
-uid_take words.Move octets x h = own_by copied_reads (λ parts. commands.Move true parts.0 parts.1) words.Move (λ value. refl) (λ value text f. f) octets x h
+uid_take words.Copy octets x h = own_by copied_reads (copy_of true) words.Copy (λ value. refl) (λ value text f. f) octets x h
+uid_take words.Move octets x h = own_by copied_reads (move_of true) words.Move (λ value. refl) (λ value text f. f) octets x h
 uid_take words.Expunge octets x h = own_by uids_reads commands.UidExpunge words.Expunge (λ value. refl) (λ value text f. f) octets x h
-uid_take words.Fetch octets x h = own_by fetch_parts (λ parts. commands.Fetch true parts.0 parts.1.0 parts.1.1) words.Fetch (λ value. refl) (λ value text f. f) octets x h
-uid_take words.Store octets x h = own_by store_parts (λ parts. commands.Store true parts.0 parts.1.0 parts.1.1.0 parts.1.1.1) words.Store (λ value. refl) (λ value text f. f) octets x h
-uid_take words.Search octets x h = own_by search_parts (λ parts. commands.Search true parts.0 parts.1) words.Search (λ value. refl) (λ value text f. f) octets x h
+uid_take words.Fetch octets x h = own_by fetch_parts (fetch_of true) words.Fetch (λ value. refl) (λ value text f. f) octets x h
+uid_take words.Store octets x h = own_by store_parts (store_of true) words.Store (λ value. refl) (λ value text f. f) octets x h
+uid_take words.Search octets x h = own_by search_parts (search_of true) words.Search (λ value. refl) (λ value text f. f) octets x h
 uid_take _ octets x h = absurd cc
 
 uid_found : (octets : List ℕ) (x : Command × List ℕ) → uid_at octets ≡ Some x → Found words.Uid octets x
@@ -232,20 +233,20 @@ arguments_take words.Create octets x h = found_by name_reads commands.Create wor
 arguments_take words.Delete octets x h = found_by name_reads commands.Delete words.Delete (λ value text f. (refl, f)) octets x h
 arguments_take words.Subscribe octets x h = found_by name_reads commands.Subscribe words.Subscribe (λ value text f. (refl, f)) octets x h
 arguments_take words.Unsubscribe octets x h = found_by name_reads commands.Unsubscribe words.Unsubscribe (λ value text f. (refl, f)) octets x h
-arguments_take words.ListNames octets x h = found_by list_reads (λ parts. commands.ListNames parts.0 parts.1.0 parts.1.1.0 parts.1.1.1) words.ListNames (λ value text f. (refl, f)) octets x h
+arguments_take words.ListNames octets x h = found_by list_reads list_of words.ListNames (λ value text f. (refl, f)) octets x h
 arguments_take words.Namespace octets x h = found_alone commands.Namespace words.Namespace octets x refl (λ text e. e) h
 arguments_take words.Status octets x h = found_by status_parts (λ parts. commands.Status parts.0 parts.1) words.Status (λ value text f. (refl, f)) octets x h
 arguments_take words.Idle octets x h = found_alone commands.Idle words.Idle octets x refl (λ text e. e) h
 arguments_take words.Close octets x h = found_alone commands.Close words.Close octets x refl (λ text e. e) h
 arguments_take words.Unselect octets x h = found_alone commands.Unselect words.Unselect octets x refl (λ text e. e) h
 arguments_take words.Expunge octets x h = found_alone commands.Expunge words.Expunge octets x refl (λ text e. e) h
-arguments_take words.Copy octets x h = found_by copied_reads (λ parts. commands.Copy false parts.0 parts.1) words.Copy (λ value text f. (refl, with_nothing _ text f)) octets x h
-arguments_take words.Move octets x h = found_by copied_reads (λ parts. commands.Move false parts.0 parts.1) words.Move (λ value text f. (refl, with_nothing _ text f)) octets x h
+arguments_take words.Copy octets x h = found_by copied_reads (copy_of false) words.Copy (λ value text f. (refl, with_nothing _ text f)) octets x h
+arguments_take words.Move octets x h = found_by copied_reads (move_of false) words.Move (λ value text f. (refl, with_nothing _ text f)) octets x h
 arguments_take words.Uid octets x h = uid_found octets x h
-arguments_take words.Append octets x h = found_by append_parts (λ parts. commands.Append parts.0 parts.1.0 parts.1.1.0 parts.1.1.1) words.Append (λ value text f. (refl, f)) octets x h
-arguments_take words.Search octets x h = found_by search_parts (λ parts. commands.Search false parts.0 parts.1) words.Search (λ value text f. (refl, with_nothing _ text f)) octets x h
-arguments_take words.Fetch octets x h = found_by fetch_parts (λ parts. commands.Fetch false parts.0 parts.1.0 parts.1.1) words.Fetch (λ value text f. (refl, with_nothing _ text f)) octets x h
-arguments_take words.Store octets x h = found_by store_parts (λ parts. commands.Store false parts.0 parts.1.0 parts.1.1.0 parts.1.1.1) words.Store (λ value text f. (refl, with_nothing _ text f)) octets x h
+arguments_take words.Append octets x h = found_by append_parts append_of words.Append (λ value text f. (refl, f)) octets x h
+arguments_take words.Search octets x h = found_by search_parts (search_of false) words.Search (λ value text f. (refl, with_nothing _ text f)) octets x h
+arguments_take words.Fetch octets x h = found_by fetch_parts (fetch_of false) words.Fetch (λ value text f. (refl, with_nothing _ text f)) octets x h
+arguments_take words.Store octets x h = found_by store_parts (store_of false) words.Store (λ value text f. (refl, with_nothing _ text f)) octets x h
 arguments_take words.Rename octets x h = absurd cc
 arguments_take words.StartTls octets x h = absurd cc
 arguments_take words.Authenticate octets x h = absurd cc
@@ -255,6 +256,17 @@ copy_front true own octets rest Q f =
     let p = parted (sp ⌢ word (command_word own)) _ octets rest f in
     sp_ends (word (command_word own)) octets p.0 p.1
 copy_front false own octets rest Q f = sp_ends Q octets rest (without_nothing _ octets rest f)
+
+-- The command takes message numbers or UIDs, and its parts are read in either case.
+either_again : {A : Type 0} {read : List ℕ → Option (A × List ℕ)} {form : A → List ℕ → Type 0} (reads : Reads read form Closes) (make : Bool → A → Command) (own : CommandWord) (value : A)
+    → named command_word uid_words (command_word own) ≡ Some own → list_all (is_in Item) (lowered (command_word own)) ≡ true
+    → ((octets : List ℕ) → uid_arguments_at own octets ≡ made (make true) read octets) → ((octets : List ℕ) → arguments_at own octets ≡ made (make false) read octets)
+    → ((octets rest : List ℕ) → Front (form value) octets rest → Ends octets)
+    → (by_uid : Bool) (octets rest : List ℕ) → Front (own_word by_uid own ⌢ form value) octets rest → Closes rest → arguments_at (first_word by_uid own) octets ≡ Some (make by_uid value, rest)
+either_again {form} reads make own value e l behind plain ends true octets rest f s =
+    let p = parted (own_word true own) (form value) octets rest f in
+    own_again own octets p.0 e l p.1 (ends p.0 rest p.2) ∙ behind p.0 ∙ again_by reads (make true) value p.0 rest p.2 s
+either_again {form} reads make own value e l behind plain ends false octets rest f s = plain octets ∙ again_by reads (make false) value octets rest (without_nothing _ octets rest f) s
 
 pub arguments_again : (this : Command) (octets rest : List ℕ) → Front (arguments this) octets rest → Closes rest → arguments_at (word_of this) octets ≡ Some (this, rest)
 arguments_again commands.Capability octets rest f s = again_alone commands.Capability octets rest f
@@ -268,10 +280,11 @@ arguments_again (commands.Create name) octets rest f s = again_by name_reads com
 arguments_again (commands.Delete name) octets rest f s = again_by name_reads commands.Delete name octets rest f s
 arguments_again (commands.Subscribe name) octets rest f s = again_by name_reads commands.Subscribe name octets rest f s
 arguments_again (commands.Unsubscribe name) octets rest f s = again_by name_reads commands.Unsubscribe name octets rest f s
-arguments_again (commands.ListNames only reference wanted returned) octets rest f s = again_by list_reads (λ parts. commands.ListNames parts.0 parts.1.0 parts.1.1.0 parts.1.1.1) (only, (reference, (wanted, returned))) octets rest f s
+arguments_again (commands.ListNames asked) octets rest f s =
+    again_by list_reads list_of (asked.subscribed_only, (asked.reference, (asked.pattern, asked.return_subscribed))) octets rest f s
 arguments_again commands.Namespace octets rest f s = again_alone commands.Namespace octets rest f
 arguments_again (commands.Status name items) octets rest f s = again_by status_parts (λ parts. commands.Status parts.0 parts.1) (name, items) octets rest f s
-arguments_again (commands.Append name flags date text) octets rest f s = again_by append_parts (λ parts. commands.Append parts.0 parts.1.0 parts.1.1.0 parts.1.1.1) (name, (flags, (date, text))) octets rest f s
+arguments_again (commands.Append asked) octets rest f s = again_by append_parts append_of (asked.name, (asked.flags, (asked.date, asked.text))) octets rest f s
 arguments_again commands.Idle octets rest f s = again_alone commands.Idle octets rest f
 arguments_again commands.Close octets rest f s = again_alone commands.Close octets rest f
 arguments_again commands.Unselect octets rest f s = again_alone commands.Unselect octets rest f
@@ -279,26 +292,16 @@ arguments_again commands.Expunge octets rest f s = again_alone commands.Expunge 
 arguments_again (commands.UidExpunge uids) octets rest f s =
     let p = parted (own_word true words.Expunge) _ octets rest f in
     own_again words.Expunge octets p.0 refl refl p.1 (sp_ends (sequence_set uids) p.0 rest p.2) ∙ again_by uids_reads commands.UidExpunge uids p.0 rest p.2 s
-arguments_again (commands.Search true options steps) octets rest f s =
-    let p = parted (own_word true words.Search) _ octets rest f in
-    own_again words.Search octets p.0 refl refl p.1 (sp_ends _ p.0 rest p.2) ∙ again_by search_parts (λ parts. commands.Search true parts.0 parts.1) (options, steps) p.0 rest p.2 s
-arguments_again (commands.Search false options steps) octets rest f s = again_by search_parts (λ parts. commands.Search false parts.0 parts.1) (options, steps) octets rest (without_nothing _ octets rest f) s
-arguments_again (commands.Fetch true messages items since) octets rest f s =
-    let p = parted (own_word true words.Fetch) _ octets rest f in
-    own_again words.Fetch octets p.0 refl refl p.1 (sp_ends _ p.0 rest p.2) ∙ again_by fetch_parts (λ parts. commands.Fetch true parts.0 parts.1.0 parts.1.1) (messages, (items, since)) p.0 rest p.2 s
-arguments_again (commands.Fetch false messages items since) octets rest f s = again_by fetch_parts (λ parts. commands.Fetch false parts.0 parts.1.0 parts.1.1) (messages, (items, since)) octets rest (without_nothing _ octets rest f) s
-arguments_again (commands.Store true messages since action flags) octets rest f s =
-    let p = parted (own_word true words.Store) _ octets rest f in
-    own_again words.Store octets p.0 refl refl p.1 (sp_ends _ p.0 rest p.2) ∙ again_by store_parts (λ parts. commands.Store true parts.0 parts.1.0 parts.1.1.0 parts.1.1.1) (messages, (since, (action, flags))) p.0 rest p.2 s
-arguments_again (commands.Store false messages since action flags) octets rest f s = again_by store_parts (λ parts. commands.Store false parts.0 parts.1.0 parts.1.1.0 parts.1.1.1) (messages, (since, (action, flags))) octets rest (without_nothing _ octets rest f) s
-arguments_again (commands.Copy true messages name) octets rest f s =
-    let p = parted (own_word true words.Copy) _ octets rest f in
-    own_again words.Copy octets p.0 refl refl p.1 (sp_ends (sequence_set messages ⌢ sp ⌢ mailbox name) p.0 rest p.2) ∙ again_by copied_reads (λ parts. commands.Copy true parts.0 parts.1) (messages, name) p.0 rest p.2 s
-arguments_again (commands.Copy false messages name) octets rest f s = again_by copied_reads (λ parts. commands.Copy false parts.0 parts.1) (messages, name) octets rest (without_nothing _ octets rest f) s
-arguments_again (commands.Move true messages name) octets rest f s =
-    let p = parted (own_word true words.Move) _ octets rest f in
-    own_again words.Move octets p.0 refl refl p.1 (sp_ends (sequence_set messages ⌢ sp ⌢ mailbox name) p.0 rest p.2) ∙ again_by copied_reads (λ parts. commands.Move true parts.0 parts.1) (messages, name) p.0 rest p.2 s
-arguments_again (commands.Move false messages name) octets rest f s = again_by copied_reads (λ parts. commands.Move false parts.0 parts.1) (messages, name) octets rest (without_nothing _ octets rest f) s
+arguments_again (commands.Search asked) octets rest f s =
+    either_again search_parts search_of words.Search (asked.options, asked.steps) refl refl (λ from. refl) (λ from. refl) (λ from to g. sp_ends _ from to g) asked.by_uid octets rest f s
+arguments_again (commands.Fetch asked) octets rest f s =
+    either_again fetch_parts fetch_of words.Fetch (asked.messages, (asked.items, asked.changed_since)) refl refl (λ from. refl) (λ from. refl) (λ from to g. sp_ends _ from to g) asked.by_uid octets rest f s
+arguments_again (commands.Store asked) octets rest f s =
+    either_again store_parts store_of words.Store (asked.messages, (asked.unchanged_since, (asked.action, asked.flags))) refl refl (λ from. refl) (λ from. refl) (λ from to g. sp_ends _ from to g) asked.by_uid octets rest f s
+arguments_again (commands.Copy asked) octets rest f s =
+    either_again copied_reads copy_of words.Copy (asked.messages, asked.name) refl refl (λ from. refl) (λ from. refl) (λ from to g. sp_ends _ from to g) asked.by_uid octets rest f s
+arguments_again (commands.Move asked) octets rest f s =
+    either_again copied_reads move_of words.Move (asked.messages, asked.name) refl refl (λ from. refl) (λ from. refl) (λ from to g. sp_ends _ from to g) asked.by_uid octets rest f s
 
 -- No octet of a word stands behind the command's word.
 pub arguments_end : (this : Command) (octets rest : List ℕ) → Front (arguments this) octets rest → Closes rest → Ends octets
@@ -313,17 +316,17 @@ arguments_end (commands.Create name) octets rest f s = sp_ends _ octets rest f
 arguments_end (commands.Delete name) octets rest f s = sp_ends _ octets rest f
 arguments_end (commands.Subscribe name) octets rest f s = sp_ends _ octets rest f
 arguments_end (commands.Unsubscribe name) octets rest f s = sp_ends _ octets rest f
-arguments_end (commands.ListNames only reference wanted returned) octets rest f s = sp_ends _ octets rest f
+arguments_end (commands.ListNames asked) octets rest f s = sp_ends _ octets rest f
 arguments_end commands.Namespace octets rest f s = end_alone octets rest f s
 arguments_end (commands.Status name items) octets rest f s = sp_ends _ octets rest f
-arguments_end (commands.Append name flags date text) octets rest f s = sp_ends _ octets rest f
+arguments_end (commands.Append asked) octets rest f s = sp_ends _ octets rest f
 arguments_end commands.Idle octets rest f s = end_alone octets rest f s
 arguments_end commands.Close octets rest f s = end_alone octets rest f s
 arguments_end commands.Unselect octets rest f s = end_alone octets rest f s
 arguments_end commands.Expunge octets rest f s = end_alone octets rest f s
 arguments_end (commands.UidExpunge uids) octets rest f s = copy_front true words.Expunge octets rest _ f
-arguments_end (commands.Search by_uid options steps) octets rest f s = copy_front by_uid words.Search octets rest _ f
-arguments_end (commands.Fetch by_uid messages items since) octets rest f s = copy_front by_uid words.Fetch octets rest _ f
-arguments_end (commands.Store by_uid messages since action flags) octets rest f s = copy_front by_uid words.Store octets rest _ f
-arguments_end (commands.Copy by_uid messages name) octets rest f s = copy_front by_uid words.Copy octets rest _ f
-arguments_end (commands.Move by_uid messages name) octets rest f s = copy_front by_uid words.Move octets rest _ f
+arguments_end (commands.Search asked) octets rest f s = copy_front asked.by_uid words.Search octets rest _ f
+arguments_end (commands.Fetch asked) octets rest f s = copy_front asked.by_uid words.Fetch octets rest _ f
+arguments_end (commands.Store asked) octets rest f s = copy_front asked.by_uid words.Store octets rest _ f
+arguments_end (commands.Copy asked) octets rest f s = copy_front asked.by_uid words.Copy octets rest _ f
+arguments_end (commands.Move asked) octets rest f s = copy_front asked.by_uid words.Move octets rest _ f

@@ -76,8 +76,11 @@ returns_at (octet ∷ octets) =
 abbrev pub list_parts_at : List ℕ → Option ((Bool × (List ℕ × (List ℕ × Bool))) × List ℕ)
 list_parts_at = spaced (both selection_at (both (text_at Astring) (spaced (both (text_at Pattern) returns_at))))
 
+abbrev pub list_of : Bool × (List ℕ × (List ℕ × Bool)) → Command
+list_of parts = commands.ListNames (record { subscribed_only = parts.0; reference = parts.1.0; pattern = parts.1.1.0; return_subscribed = parts.1.1.1 })
+
 abbrev pub list_at : List ℕ → Option (Command × List ℕ)
-list_at = made (λ parts. commands.ListNames parts.0 parts.1.0 parts.1.1.0 parts.1.1.1) list_parts_at
+list_at = made list_of list_parts_at
 
 abbrev pub date_time_at : List ℕ → Option (List ℕ × List ℕ)
 date_time_at octets =
@@ -101,8 +104,11 @@ literal_text_at (octet ∷ octets) = if octet == 123 then literal_at octets else
 abbrev pub append_parts_at : List ℕ → Option ((List ℕ × (Flags × (Option (List ℕ) × List ℕ))) × List ℕ)
 append_parts_at = spaced (both mailbox_at (both append_flags_at (both append_date_at (spaced literal_text_at))))
 
+abbrev pub append_of : List ℕ × (Flags × (Option (List ℕ) × List ℕ)) → Command
+append_of parts = commands.Append (record { name = parts.0; flags = parts.1.0; date = parts.1.1.0; text = parts.1.1.1 })
+
 abbrev pub append_at : List ℕ → Option (Command × List ℕ)
-append_at = made (λ parts. commands.Append parts.0 parts.1.0 parts.1.1.0 parts.1.1.1) append_parts_at
+append_at = made append_of append_parts_at
 
 abbrev pub status_at : List ℕ → Option (Command × List ℕ)
 status_at = made (λ parts. commands.Status parts.0 parts.1) (spaced (both mailbox_at (spaced (parens_at (listed_at 32 (named_at status_word status_items))))))
@@ -110,11 +116,17 @@ status_at = made (λ parts. commands.Status parts.0 parts.1) (spaced (both mailb
 abbrev pub copied_at : List ℕ → Option ((List SequenceRange × List ℕ) × List ℕ)
 copied_at = spaced (both set_at (spaced mailbox_at))
 
+abbrev pub copy_of : Bool → List SequenceRange × List ℕ → Command
+copy_of by_uid parts = commands.Copy (record { by_uid = by_uid; messages = parts.0; name = parts.1 })
+
 abbrev pub copy_at : Bool → List ℕ → Option (Command × List ℕ)
-copy_at by_uid = made (λ parts. commands.Copy by_uid parts.0 parts.1) copied_at
+copy_at by_uid = made (copy_of by_uid) copied_at
+
+abbrev pub move_of : Bool → List SequenceRange × List ℕ → Command
+move_of by_uid parts = commands.Move (record { by_uid = by_uid; messages = parts.0; name = parts.1 })
 
 abbrev pub move_at : Bool → List ℕ → Option (Command × List ℕ)
-move_at by_uid = made (λ parts. commands.Move by_uid parts.0 parts.1) copied_at
+move_at by_uid = made (move_of by_uid) copied_at
 
 abbrev pub uid_expunge_at : List ℕ → Option (Command × List ℕ)
 uid_expunge_at = made commands.UidExpunge (spaced set_at)
@@ -122,14 +134,20 @@ uid_expunge_at = made commands.UidExpunge (spaced set_at)
 abbrev pub fetch_parts_at : List ℕ → Option ((List SequenceRange × (List FetchItem × Option ℕ)) × List ℕ)
 fetch_parts_at = spaced (both set_at (spaced (both fetched_at (modifier_at (codes "CHANGEDSINCE")))))
 
+abbrev pub fetch_of : Bool → List SequenceRange × (List FetchItem × Option ℕ) → Command
+fetch_of by_uid parts = commands.Fetch (record { by_uid = by_uid; messages = parts.0; items = parts.1.0; changed_since = parts.1.1 })
+
 abbrev pub fetch_at : Bool → List ℕ → Option (Command × List ℕ)
-fetch_at by_uid = made (λ parts. commands.Fetch by_uid parts.0 parts.1.0 parts.1.1) fetch_parts_at
+fetch_at by_uid = made (fetch_of by_uid) fetch_parts_at
 
 abbrev pub store_parts_at : List ℕ → Option ((List SequenceRange × (Option ℕ × (StoreAction × Flags))) × List ℕ)
 store_parts_at = spaced (both set_at (both (modifier_at (codes "UNCHANGEDSINCE")) (spaced (both (named_at store_word store_actions) (spaced stored_at)))))
 
+abbrev pub store_of : Bool → List SequenceRange × (Option ℕ × (StoreAction × Flags)) → Command
+store_of by_uid parts = commands.Store (record { by_uid = by_uid; messages = parts.0; unchanged_since = parts.1.0; action = parts.1.1.0; flags = parts.1.1.1 })
+
 abbrev pub store_at : Bool → List ℕ → Option (Command × List ℕ)
-store_at by_uid = made (λ parts. commands.Store by_uid parts.0 parts.1.0 parts.1.1.0 parts.1.1.1) store_parts_at
+store_at by_uid = made (store_of by_uid) store_parts_at
 
 abbrev pub uid_arguments_at : CommandWord → List ℕ → Option (Command × List ℕ)
 uid_arguments_at words.Copy octets = copy_at true octets

@@ -88,5 +88,8 @@ charset_at octets =
 abbrev pub search_parts_at : List ℕ → Option ((List SearchOption × List SearchStep) × List ℕ)
 search_parts_at = spaced (both returned_at (λ octets. charset_at octets >>= keys_at (below_at 65)))
 
+abbrev pub search_of : Bool → List SearchOption × List SearchStep → Command
+search_of by_uid parts = commands.Search (record { by_uid = by_uid; options = parts.0; steps = parts.1 })
+
 abbrev pub search_at : Bool → List ℕ → Option (Command × List ℕ)
-search_at by_uid = made (λ parts. commands.Search by_uid parts.0 parts.1) search_parts_at
+search_at by_uid = made (search_of by_uid) search_parts_at

@@ -1,8 +1,9 @@
 -- The parser's own steps, production by production. Which text means what, Strings, Sets, Dates, MessageFlags and Items say.
-use Rattle.std.specs.Prelude.{◌≡◌, ℕ, zero, suc, Bool, true, false, ◌||◌, ◌==◌, nat_lt, List, [], ◌∷◌, ◌++◌, codes, length, take, drop, Option, Some, None, Result, Ok, Err, if◌then◌else◌, ◌&&◌, not, pos}
+use Rattle.std.specs.Prelude.{◌≡◌, ℕ, zero, suc, Bool, true, false, ◌||◌, ◌==◌, nat_lt, List, [], ◌∷◌, codes, length, take, drop, Option, Some, None, Result, if◌then◌else◌, ◌&&◌, not, pos}
 use Rattle.std.specs.Str.{bytes_eq}
 use Rattle.imap_types.specs.Keywords.{lowered, with_text}
 use Rattle.imap_types.specs.Names.{folded_name}
+pub use Rattle.imap_types.specs.Reading.{◌>>=◌, GivesBy, after, with_front}
 use Rattle.jiff.specs.Words.{days_in_month}
 use Rattle.imap_types.specs.declared.sequence_set.SequenceBound.{SequenceBound}
 use Rattle.imap_types.specs.declared.sequence_set.SequenceBound.TheVariants.{Number, Greatest}
@@ -30,12 +31,6 @@ use Rattle.imap_syntax.specs.declared.class.Class.TheVariants.{Atom, Astring, Di
 use Rattle.imap_grammar.specs.declared.fault.ParseFault.{ParseFault}
 use Rattle.imap_grammar.specs.declared.fault.ParseFault.TheVariants.{NoMemory, BadSyntax, NotInProfile, NoTag, UnknownCommand}
 
-infixl 10 ◌>>=◌
--- A step and what comes behind it, where neither fails.
-abbrev pub ◌>>=◌ : {A B : Type 0} → Option A → (A → Option B) → Option B
-None >>= f = None
-(Some x) >>= f = f x
-
 -- Nothing was read: which of the two faults it is, no clause says; want of memory may stand in place of either, or of a value.
 abbrev pub Fails : {Y : Type 0} → ParseFault → Option Y → Type 0
 Fails NoMemory read = Unit {0}
@@ -46,8 +41,7 @@ Fails UnknownCommand read = ⊥
 
 -- What the code answers is what a reading function gives.
 abbrev pub Gives : {X Y : Type 0} → (X → Y) → Result X ParseFault → Option Y → Type 0
-Gives view (Ok x) read = read ≡ Some (view x)
-Gives view (Err e) read = Fails e read
+Gives = GivesBy Fails
 
 -- The first of the values whose word is this text, but for ASCII case.
 abbrev pub named : {W : Type 0} → (W → List ℕ) → List W → List ℕ → Option W
@@ -76,22 +70,12 @@ abbrev pub is_nil : List ℕ → Bool
 is_nil [] = true
 is_nil (octet ∷ octets) = false
 
--- What stands behind these octets.
-abbrev pub after : List ℕ → List ℕ → Option (List ℕ)
-after [] octets = Some octets
-after (wanted ∷ more) [] = None
-after (wanted ∷ more) (octet ∷ octets) = if octet == wanted then after more octets else None
-
 -- A value read behind another one and a space.
 abbrev pub spaced : {A : Type 0} → (List ℕ → Option (A × List ℕ)) → List ℕ → Option (A × List ℕ)
 spaced read octets = after (32 ∷ []) octets >>= read
 
 abbrev pub run_at : Class → List ℕ → Option (List ℕ × List ℕ)
 run_at class octets = if is_nil (span (is_in class) octets).0 then None else Some (span (is_in class) octets)
-
-abbrev pub with_front : List ℕ → Option (List ℕ × List ℕ) → Option (List ℕ × List ℕ)
-with_front front None = None
-with_front front (Some x) = Some (front ++ x.0, x.1)
 
 -- What stands up to the closing quote; the flag says that a `\` went before.
 abbrev pub quoted_at : Bool → List ℕ → Option (List ℕ × List ℕ)

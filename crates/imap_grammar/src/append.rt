@@ -7,7 +7,7 @@ use crate::flags::{collected, flag_group};
 use crate::modifier::{left_out, peeks};
 use crate::scan::space;
 use crate::text::{literal, mailbox};
-use imap_syntax::Command;
+use imap_syntax::{Append, Command};
 use imap_types::{DateTime, Flags, Text};
 use std::alloc::Global;
 
@@ -22,13 +22,13 @@ pub fn append(alloc: Global, octets: &[u8]) -> Result<(Command, &[u8]), ParseFau
             Err(fault)
         }
         Ok(((flags, (date, text)), rest)) => {
-            let command = Command::Append {
+            let append = Append {
                 name,
                 flags,
                 date,
                 text,
             };
-            Ok((command, rest))
+            Ok((Command::Append(append), rest))
         }
     }
 }

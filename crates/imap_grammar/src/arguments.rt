@@ -16,7 +16,7 @@ use crate::status::StatusItems;
 use crate::store::store;
 use crate::text::{mailbox, plain, text};
 use crate::word::named;
-use imap_syntax::{Class, Command, CommandWord, Many, StatusItem};
+use imap_syntax::{Class, Command, CommandWord, Many, StatusItem, Transfer};
 use imap_types::Octets;
 use std::alloc::Global;
 
@@ -186,14 +186,12 @@ fn copy(alloc: Global, by_uid: bool, octets: &[u8]) -> Result<(Command, &[u8]), 
 {
     let (messages, rest) = set(alloc, space(octets)?)?;
     let (name, rest) = mailbox(alloc, space(rest)?)?;
-    Ok((
-        Command::Copy {
-            by_uid,
-            messages,
-            name,
-        },
-        rest,
-    ))
+    let transfer = Transfer {
+        by_uid,
+        messages,
+        name,
+    };
+    Ok((Command::Copy(transfer), rest))
 }
 
 fn move_messages(alloc: Global, by_uid: bool, octets: &[u8]) -> Result<(Command, &[u8]), ParseFault>
@@ -201,14 +199,12 @@ fn move_messages(alloc: Global, by_uid: bool, octets: &[u8]) -> Result<(Command,
 {
     let (messages, rest) = set(alloc, space(octets)?)?;
     let (name, rest) = mailbox(alloc, space(rest)?)?;
-    Ok((
-        Command::Move {
-            by_uid,
-            messages,
-            name,
-        },
-        rest,
-    ))
+    let transfer = Transfer {
+        by_uid,
+        messages,
+        name,
+    };
+    Ok((Command::Move(transfer), rest))
 }
 
 const UID_WORDS: [CommandWord; 6] = [

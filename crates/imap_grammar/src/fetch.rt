@@ -13,7 +13,7 @@ use crate::scan::{skip, space, span};
 use crate::sets::set;
 use crate::text::text;
 use crate::word::{Word, find};
-use imap_syntax::{Class, Command, FetchItem, FetchWord, Many, Partial, SectionWord};
+use imap_syntax::{Class, Command, Fetch, FetchItem, FetchWord, Many, Partial, SectionWord};
 use imap_types::{FieldNames, Octets, Section};
 use std::alloc::{AllocError, Global};
 
@@ -74,15 +74,13 @@ pub fn fetch(alloc: Global, by_uid: bool, octets: &[u8]) -> Result<(Command, &[u
     let (messages, rest) = set(alloc, space(octets)?)?;
     let (items, rest) = fetched(alloc, space(rest)?)?;
     let (changed_since, rest) = changed_since(rest)?;
-    Ok((
-        Command::Fetch {
-            by_uid,
-            messages,
-            items: Many::new(items),
-            changed_since,
-        },
-        rest,
-    ))
+    let fetch = Fetch {
+        by_uid,
+        messages,
+        items: Many::new(items),
+        changed_since,
+    };
+    Ok((Command::Fetch(fetch), rest))
 }
 
 fn fetched(alloc: Global, octets: &[u8]) -> Result<(Vec<FetchItem>, &[u8]), ParseFault>

@@ -29,7 +29,8 @@ mod word;
 pub use fault::ParseFault;
 pub use idle::idle_line;
 pub use imap_syntax::{
-    Command, CommandWord, DayOrder, FetchItem, Flag, IdleLine, Many, Partial, SearchOption,
-    SearchStep, SearchTest, StatusItem, StoreAction, StoreMode, SystemFlag, Tagged, TextPlace,
+    Append, Command, CommandWord, DayOrder, Fetch, FetchItem, Flag, IdleLine, ListNames, Many,
+    Partial, Search, SearchOption, SearchStep, SearchTest, StatusItem, Store, StoreAction,
+    StoreMode, SystemFlag, Tagged, TextPlace, Transfer,
 };
 pub use reading::{one_reading, parse, tag_of};

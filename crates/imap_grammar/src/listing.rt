@@ -6,7 +6,7 @@ ghost use Rattle.imap_syntax.specs.declared.class.Class.TheVariants.{Pattern};
 use crate::fault::ParseFault;
 use crate::scan::{skip, skip_word, space, span};
 use crate::text::text;
-use imap_syntax::{Class, Command};
+use imap_syntax::{Class, Command, ListNames};
 use imap_types::Octets;
 use std::alloc::Global;
 
@@ -18,15 +18,13 @@ pub fn list(alloc: Global, octets: &[u8]) -> Result<(Command, &[u8]), ParseFault
     let (reference, rest) = text(alloc, Class::Astring, rest)?;
     let (pattern, rest) = pattern(alloc, space(rest)?)?;
     let (return_subscribed, rest) = returns(rest)?;
-    Ok((
-        Command::ListNames {
-            subscribed_only,
-            reference,
-            pattern,
-            return_subscribed,
-        },
-        rest,
-    ))
+    let list = ListNames {
+        subscribed_only,
+        reference,
+        pattern,
+        return_subscribed,
+    };
+    Ok((Command::ListNames(list), rest))
 }
 
 /// A pattern. A list of patterns is a form that this server leaves out.

@@ -10,7 +10,7 @@ use crate::modifier::left_out;
 use crate::scan::{skip, space, span};
 use crate::text::text;
 use crate::word::find;
-use imap_syntax::{Class, Command, Many, SearchOption, SearchSteps};
+use imap_syntax::{Class, Command, Many, Search, SearchOption, SearchSteps};
 use std::alloc::Global;
 
 /// How deep NOT, OR and parentheses may stand in one another.
@@ -30,14 +30,12 @@ pub fn search(alloc: Global, by_uid: bool, octets: &[u8]) -> Result<(Command, &[
     let (options, rest) = returned(alloc, space(octets)?)?;
     let rest = charset(alloc, rest)?;
     let (steps, rest) = key(alloc, rest)?;
-    Ok((
-        Command::Search {
-            by_uid,
-            options: Many::new(options),
-            steps,
-        },
-        rest,
-    ))
+    let search = Search {
+        by_uid,
+        options: Many::new(options),
+        steps,
+    };
+    Ok((Command::Search(search), rest))
 }
 
 /// The keys, which are one key together.

@@ -9,7 +9,7 @@ use crate::modifier::unchanged_since;
 use crate::scan::space;
 use crate::sets::set;
 use crate::word::{Word, named};
-use imap_syntax::{Command, StoreAction, StoreMode};
+use imap_syntax::{Command, Store, StoreAction, StoreMode};
 use imap_types::Flags;
 use std::alloc::Global;
 
@@ -83,14 +83,14 @@ pub fn store(alloc: Global, by_uid: bool, octets: &[u8]) -> Result<(Command, &[u
             Err(fault)
         }
         Ok(((unchanged_since, (action, flags)), rest)) => {
-            let command = Command::Store {
+            let store = Store {
                 by_uid,
                 messages,
                 unchanged_since,
                 action,
                 flags,
             };
-            Ok((command, rest))
+            Ok((Command::Store(store), rest))
         }
     }
 }

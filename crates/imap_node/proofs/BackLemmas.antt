@@ -65,6 +65,7 @@ use Rattle.imap_node.proofs.PrintReplies.{names_there}
 use Rattle.imap_node.proofs.QuietLemmas.{notice_quiet, tells_quiet}
 use Rattle.imap_node.proofs.ReplayLemmas.{closed_sees, closes_alone, left_view, nothing_seen, others_as_before, rows_rising, seen_now}
 use Rattle.imap_node.proofs.UidLemmas.{IsKnown, IsQuiet, beyond_first, knows_all, listed_uid, partial_from, partial_has, replayed_uids, uid_listed, under_knows}
+use Rattle.crdt_ops.specs.Ops.{clock_of, id_of}
 
 -- a view goes back, and its UIDs ascend
 pub record IsFine (start : Start) (ops : List Op) (view : Seen) : Type 0 where
@@ -266,20 +267,20 @@ module _ (start : Start) (ops : List Op) (l : 1 ≤ start.uid) (a : IsApplied op
     command_back tag (commands.Delete name) told n t view e = stays_back tag (commands.Delete name) told refl t view e
     command_back tag (commands.Subscribe name) told n t view e = stays_back tag (commands.Subscribe name) told refl t view e
     command_back tag (commands.Unsubscribe name) told n t view e = stays_back tag (commands.Unsubscribe name) told refl t view e
-    command_back tag (commands.ListNames subscribed_only reference pattern return_subscribed) told n t view e = stays_back tag (commands.ListNames subscribed_only reference pattern return_subscribed) told refl t view e
+    command_back tag (commands.ListNames asked) told n t view e = stays_back tag (commands.ListNames asked) told refl t view e
     command_back tag commands.Namespace told n t view e = stays_back tag commands.Namespace told refl t view e
     command_back tag (commands.Status name items) told n t view e = stays_back tag (commands.Status name items) told refl t view e
-    command_back tag (commands.Append name flags date text) told n t view e = stays_back tag (commands.Append name flags date text) told refl t view e
+    command_back tag (commands.Append asked) told n t view e = stays_back tag (commands.Append asked) told refl t view e
     command_back tag commands.Idle told n t view e = stays_back tag commands.Idle told refl t view e
     command_back tag commands.Close told n t view e = stays_back tag commands.Close told refl t view e
     command_back tag commands.Unselect told n t view e = stays_back tag commands.Unselect told refl t view e
     command_back tag commands.Expunge told n t view e = stays_back tag commands.Expunge told refl t view e
     command_back tag (commands.UidExpunge uids) told n t view e = stays_back tag (commands.UidExpunge uids) told refl t view e
-    command_back tag (commands.Search by_uid options steps) told n t view e = stays_back tag (commands.Search by_uid options steps) told refl t view e
-    command_back tag (commands.Fetch by_uid set items changed_since) told n t view e = stays_back tag (commands.Fetch by_uid set items changed_since) told refl t view e
-    command_back tag (commands.Store by_uid set unchanged_since action flags) told n t view e = stays_back tag (commands.Store by_uid set unchanged_since action flags) told refl t view e
-    command_back tag (commands.Copy by_uid set name) told n t view e = stays_back tag (commands.Copy by_uid set name) told refl t view e
-    command_back tag (commands.Move by_uid set name) told n t view e = stays_back tag (commands.Move by_uid set name) told refl t view e
+    command_back tag (commands.Search asked) told n t view e = stays_back tag (commands.Search asked) told refl t view e
+    command_back tag (commands.Fetch asked) told n t view e = stays_back tag (commands.Fetch asked) told refl t view e
+    command_back tag (commands.Store asked) told n t view e = stays_back tag (commands.Store asked) told refl t view e
+    command_back tag (commands.Copy asked) told n t view e = stays_back tag (commands.Copy asked) told refl t view e
+    command_back tag (commands.Move asked) told n t view e = stays_back tag (commands.Move asked) told refl t view e
 
     -- a line in IDLE, and a poll
     synced_course_back : (tail : List Answer) (view : Seen) → view_of (ending_of start ops (synced_course session tail)).state ≡ Some view → GoesBack start ops view × ShowsAll start ops view
@@ -388,10 +389,10 @@ grown_back old new s p g a h = λ m view e.
 
 pub delivered_back : (old new : NodeState) (op : Op) (came : Arrival) → IsApplied new.applied → Delivers old op came new → ViewsGoBack old.start old.applied old.sessions → ViewsGoBack new.start new.applied new.sessions
 delivered_back old new op came a d =
-    grown_back old new (arrival_start (λ (o : Op). o.id) (λ (o : Op). o.clock) Exhausts (received old) (received new) op came d.arrives) d.sessions
-    (arrival_grows (λ (o : Op). o.id) (λ (o : Op). o.clock) Exhausts (received old) (received new) op came d.arrives) a
+    grown_back old new (arrival_start id_of clock_of Exhausts (received old) (received new) op came d.arrives) d.sessions
+    (arrival_grows id_of clock_of Exhausts (received old) (received new) op came d.arrives) a
 
 pub drained_back : (old new : NodeState) (count : ℕ) → IsApplied new.applied → Drains old count new → ViewsGoBack old.start old.applied old.sessions → ViewsGoBack new.start new.applied new.sessions
 drained_back old new count a d =
-    grown_back old new (releases_start (λ (o : Op). o.id) (λ (o : Op). o.clock) Exhausts count (received old) (received new) d.released) d.sessions
-    (releases_grow (λ (o : Op). o.id) (λ (o : Op). o.clock) Exhausts count (received old) (received new) d.released) a
+    grown_back old new (releases_start id_of clock_of Exhausts count (received old) (received new) d.released) d.sessions
+    (releases_grow id_of clock_of Exhausts count (received old) (received new) d.released) a

@@ -63,6 +63,7 @@ use Rattle.uid_projection.specs.Listing.{listing}
 use Rattle.uid_projection.proofs.Listed.{row_in}
 use Rattle.uid_projection.proofs.ListingLaws.{keywords_lawful, names_applied}
 use Rattle.uid_projection.proofs.Versions.{version_in}
+use Rattle.crdt_ops.specs.Ops.{id_of}
 
 -- ---- names
 
@@ -125,7 +126,7 @@ listed_lawful start folder ops row a i =
 
 -- ---- ids
 
-id_in : (ops : List Op) (op : Op) (i : OpId) → IsIn op ops → op.id ≡ i → HasId (λ (o : Op). o.id) ops i
+id_in : (ops : List Op) (op : Op) (i : OpId) → IsIn op ops → op.id ≡ i → HasId id_of ops i
 id_in [] op i h e = absurd h
 id_in (o ∷ ops) op i h e = elim h [ inl k ↦ inl (subst (λ (p : Op). p.id ≡ i) (sym k) e) | inr t ↦ inr (id_in ops op i t e) ]
 
@@ -134,13 +135,13 @@ covered_from clock [] h = tt
 covered_from clock (i ∷ ids) h = (h i (inl refl), covered_from clock ids (λ j t. h j (inr t)))
 
 -- a present tag was added by an operation with its id
-added_in : (ops : List Op) (tag : Tag) (i : OpId) → ((op : Op) → adds tag op ≡ true → op.id ≡ i) → is_present ops tag ≡ true → HasId (λ (o : Op). o.id) ops i
+added_in : (ops : List Op) (tag : Tag) (i : OpId) → ((op : Op) → adds tag op ≡ true → op.id ≡ i) → is_present ops tag ≡ true → HasId id_of ops i
 added_in ops tag i own p =
     let a = (any_in (adds tag) ops).0 (and_parts _ _ p).0 in
     id_in ops a.0 i a.1 (own a.0 a.2)
 
 -- each id that a Delete lists is the id of an operation applied
-listed_in : (ops : List Op) (folder : List ℕ) (i : OpId) → IsIn i (delete_set_of ops folder) → HasId (λ (o : Op). o.id) ops i
+listed_in : (ops : List Op) (folder : List ℕ) (i : OpId) → IsIn i (delete_set_of ops folder) → HasId id_of ops i
 listed_in ops folder i h =
     let l = (in_order_lists {order = id_order} id_order_total id_order_same (filter_map (folder_id folder) (present_tags ops))).1 i in
     elim ((delete_set_in ops folder i).0 (l.0 h)) [
@@ -149,23 +150,23 @@ listed_in ops folder i h =
     ]
 
 -- the clock of the operations applied covers what a Delete lists
-delete_covered : (ops : List Op) (folder : List ℕ) (clock : List (ℕ × ℕ)) → IsClockOf (λ (o : Op). o.id) ops clock → AreCovered clock (delete_set_of ops folder)
+delete_covered : (ops : List Op) (folder : List ℕ) (clock : List (ℕ × ℕ)) → IsClockOf id_of ops clock → AreCovered clock (delete_set_of ops folder)
 delete_covered ops folder clock counts = covered_from clock (delete_set_of ops folder) (λ i h. (counts i).1 (listed_in ops folder i h))
 
 -- and what an Unsubscribe lists
-tag_in : (ops : List Op) (name : List ℕ) (i : OpId) → IsIn i (subscription_tags_of ops name) → HasId (λ (o : Op). o.id) ops i
+tag_in : (ops : List Op) (name : List ℕ) (i : OpId) → IsIn i (subscription_tags_of ops name) → HasId id_of ops i
 tag_in ops name i h =
     let l = (in_order_lists {order = id_order} id_order_total id_order_same (filter_map (subscription_id name) (present_tags ops))).1 i in
     added_in ops (SubscriptionTag name i) i (λ op a. sym (adds_own (SubscriptionTag name i) op a)) ((subscription_tags_in ops name i).0 (l.0 h))
 
-unsubscribe_covered : (ops : List Op) (name : List ℕ) (clock : List (ℕ × ℕ)) → IsClockOf (λ (o : Op). o.id) ops clock → AreCovered clock (subscription_tags_of ops name)
+unsubscribe_covered : (ops : List Op) (name : List ℕ) (clock : List (ℕ × ℕ)) → IsClockOf id_of ops clock → AreCovered clock (subscription_tags_of ops name)
 unsubscribe_covered ops name clock counts = covered_from clock (subscription_tags_of ops name) (λ i h. (counts i).1 (tag_in ops name i h))
 
 -- ---- what the commands over mailboxes want
 
 -- each kind covers only what was applied
 abbrev Covers : List Op → List Kind → Type 0
-Covers ops given = (kind : Kind) → IsIn kind given → (clock : List (ℕ × ℕ)) → IsClockOf (λ (o : Op). o.id) ops clock → CoversNamed clock kind
+Covers ops given = (kind : Kind) → IsIn kind given → (clock : List (ℕ × ℕ)) → IsClockOf id_of ops clock → CoversNamed clock kind
 
 lawful_in : (given : List Kind) (kind : Kind) → AreLawfulKinds given → IsIn kind given → IsLawfulKind kind
 lawful_in [] kind h i = absurd i
@@ -180,7 +181,7 @@ can_none ops = λ kind i. absurd i
 pub covers_none : (ops : List Op) → Covers ops []
 covers_none ops = λ kind i. absurd i
 
-covers_one : (ops : List Op) (kind : Kind) → ((clock : List (ℕ × ℕ)) → IsClockOf (λ (o : Op). o.id) ops clock → CoversNamed clock kind) → Covers ops (kind ∷ [])
+covers_one : (ops : List Op) (kind : Kind) → ((clock : List (ℕ × ℕ)) → IsClockOf id_of ops clock → CoversNamed clock kind) → Covers ops (kind ∷ [])
 covers_one ops kind h = λ k i. elim i [ inl e ↦ λ clock counts. subst (λ (x : Kind). CoversNamed clock x) e (h clock counts) | inr t ↦ absurd t ]
 
 pub ok_is : (wanted given : List Kind) → ◌≡◌ {A = Result (List Kind) Refusal} (Ok wanted) (Ok given) → wanted ≡ given
@@ -220,7 +221,7 @@ subscribe_covers ops subscribed name given e =
     let lawful = where_true (is_lawful_name name) _ _ given e in
     subst (Covers ops) (ok_is (if subscribed then [] else kinds.Subscribe name ∷ []) given lawful.1) (subscribe_by ops subscribed name)
 
-unsubscribe_by : (ops : List Op) (seen : List OpId) (name : List ℕ) → ((clock : List (ℕ × ℕ)) → IsClockOf (λ (o : Op). o.id) ops clock → AreCovered clock seen) → Covers ops (unsubscribes seen name)
+unsubscribe_by : (ops : List Op) (seen : List OpId) (name : List ℕ) → ((clock : List (ℕ × ℕ)) → IsClockOf id_of ops clock → AreCovered clock seen) → Covers ops (unsubscribes seen name)
 unsubscribe_by ops [] name h = covers_none ops
 unsubscribe_by ops (i ∷ is) name h = covers_one ops (kinds.Unsubscribe name (i ∷ is)) h
 
@@ -262,10 +263,10 @@ module _ (start : Start) (ops : List Op) (a : IsApplied ops) where
     name_of_view row i = listed_lawful start view.name ops row a (view_row view row i)
 
     ids_of_row : (row : Listed) → IsIn row (rows_for start ops view)
-        → ((id : OpId) → IsIn id row.versions → HasId (λ (o : Op). o.id) ops id) × HasId (λ (o : Op). o.id) ops row.origin × (1 ≤ length row.versions)
+        → ((id : OpId) → IsIn id row.versions → HasId id_of ops id) × HasId id_of ops row.origin × (1 ≤ length row.versions)
     ids_of_row row i = names_applied start view.name ops row a (view_row view row i)
 
-    versions_covered : (clock : List (ℕ × ℕ)) → IsClockOf (λ (o : Op). o.id) ops clock → (row : Listed) → IsIn row (rows_for start ops view) → (olds : List OpId) → olds ≡ row.versions → AreCovered clock olds
+    versions_covered : (clock : List (ℕ × ℕ)) → IsClockOf id_of ops clock → (row : Listed) → IsIn row (rows_for start ops view) → (olds : List OpId) → olds ≡ row.versions → AreCovered clock olds
     versions_covered clock counts row i olds e = subst (AreCovered clock) (sym e) (covered_from clock row.versions (λ id h. (counts id).1 ((ids_of_row row i).0 id h)))
 
     versions_counted : (row : Listed) → IsIn row (rows_for start ops view) → (olds : List OpId) → olds ≡ row.versions → length olds ≤ 64 → IsCount olds
@@ -369,15 +370,15 @@ module _ (start : Start) (ops : List Op) (a : IsApplied ops) (stamp : List ℕ) 
       let seen = subscription_tags_of ops name in
       let w = known_wants state (unsubscribe_wants seen name) given e in
       can_all ops given (unsubscribe_lawful seen name given w) (unsubscribe_covers ops name given w)
-  wanted_can (commands.ListNames subscribed_only reference pattern return_subscribed) given e = nothing_wanted ops given (known_wants state (Ok []) given e)
+  wanted_can (commands.ListNames asked) given e = nothing_wanted ops given (known_wants state (Ok []) given e)
   wanted_can commands.Namespace given e = nothing_wanted ops given (known_wants state (Ok []) given e)
   wanted_can (commands.Status name items) given e = nothing_where ops (is_there name ops) refusals.NoSuchMailbox given (known_wants state (status_wants (is_there name ops)) given e)
-  wanted_can (commands.Append name flags date text) given e =
-      let there = is_there name ops in
-      let asked : AppendAsked = record { name = name; flags = flags; date = date; text = text } in
+  wanted_can (commands.Append append) given e =
+      let there = is_there append.name ops in
+      let asked : AppendAsked = record { name = append.name; flags = append.flags; date = append.date; text = append.text } in
       let w = known_wants state (append_wants there stamp asked) given e in
       let c = append_covers ops there stamp asked given w in
-      can_all ops given (append_lawful there stamp asked given (there_lawful ops name a.sound c.0) w) c.1
+      can_all ops given (append_lawful there stamp asked given (there_lawful ops append.name a.sound c.0) w) c.1
   wanted_can commands.Idle given e = nothing_wanted ops given (known_wants state (Ok []) given e)
   wanted_can commands.Close given e =
       let w = selected_wants state (λ view read_only. close_wants (mailbox_in start ops view read_only)) given e in
@@ -389,28 +390,28 @@ module _ (start : Start) (ops : List Op) (a : IsApplied ops) (stamp : List ℕ) 
   wanted_can (commands.UidExpunge uids) given e =
       let w = selected_wants state (λ view read_only. uid_expunge_wants (mailbox_in start ops view read_only) uids) given e in
       issuable_all start ops a w.0 inbox inbox_lawful given (uid_expunge_wants_issuable (mailbox_in start ops w.0 w.1) inbox uids given w.2)
-  wanted_can (commands.Search by_uid options steps) given e =
-      let w = selected_wants state (λ view read_only. search_wants view.entries steps) given e in
-      nothing_where ops (list_all (step_is_in_range w.0.entries) steps) refusals.NoSuchMessage given w.2
-  wanted_can (commands.Fetch by_uid set items changed_since) given e =
-      let asked : FetchAsked = record { by_uid = by_uid; messages = set; items = items; changed_since = changed_since } in
+  wanted_can (commands.Search asked) given e =
+      let w = selected_wants state (λ view read_only. search_wants view.entries asked.steps) given e in
+      nothing_where ops (list_all (step_is_in_range w.0.entries) asked.steps) refusals.NoSuchMessage given w.2
+  wanted_can (commands.Fetch fetch) given e =
+      let asked : FetchAsked = record { by_uid = fetch.by_uid; messages = fetch.messages; items = fetch.items; changed_since = fetch.changed_since } in
       let w = selected_wants state (λ view read_only. fetch_wants (mailbox_in start ops view read_only) asked) given e in
       issuable_all start ops a w.0 inbox inbox_lawful given (fetch_wants_issuable (mailbox_in start ops w.0 w.1) inbox asked given (view_keywords start ops a w.0) w.2)
-  wanted_can (commands.Store by_uid set unchanged_since action flags) given e =
-      let asked : StoreAsked = record { by_uid = by_uid; messages = set; unchanged_since = unchanged_since; action = action; flags = flags } in
+  wanted_can (commands.Store store) given e =
+      let asked : StoreAsked = record { by_uid = store.by_uid; messages = store.messages; unchanged_since = store.unchanged_since; action = store.action; flags = store.flags } in
       let w = selected_wants state (λ view read_only. store_wants (mailbox_in start ops view read_only) asked) given e in
       issuable_all start ops a w.0 inbox inbox_lawful given (store_wants_issuable (mailbox_in start ops w.0 w.1) inbox asked given (view_keywords start ops a w.0) w.2)
-  wanted_can (commands.Copy by_uid set name) given e =
-      let there = is_there name ops in
-      let asked : CopyAsked = record { by_uid = by_uid; messages = set; destination = name } in
+  wanted_can (commands.Copy transfer) given e =
+      let there = is_there transfer.name ops in
+      let asked : CopyAsked = record { by_uid = transfer.by_uid; messages = transfer.messages; destination = transfer.name } in
       let w = selected_wants state (λ view read_only. copy_wants (mailbox_in start ops view read_only) asked there) given e in
-      issuable_all start ops a w.0 name (there_lawful ops name a.sound (copy_there (mailbox_in start ops w.0 w.1) asked there given w.2)) given
+      issuable_all start ops a w.0 transfer.name (there_lawful ops transfer.name a.sound (copy_there (mailbox_in start ops w.0 w.1) asked there given w.2)) given
       (copy_wants_issuable (mailbox_in start ops w.0 w.1) asked there given (view_keywords start ops a w.0) w.2)
-  wanted_can (commands.Move by_uid set name) given e =
-      let there = is_there name ops in
-      let asked : CopyAsked = record { by_uid = by_uid; messages = set; destination = name } in
+  wanted_can (commands.Move transfer) given e =
+      let there = is_there transfer.name ops in
+      let asked : CopyAsked = record { by_uid = transfer.by_uid; messages = transfer.messages; destination = transfer.name } in
       let w = selected_wants state (λ view read_only. move_wants (mailbox_in start ops view read_only) asked there) given e in
-      issuable_all start ops a w.0 name (there_lawful ops name a.sound (move_there (mailbox_in start ops w.0 w.1) asked there given w.2)) given
+      issuable_all start ops a w.0 transfer.name (there_lawful ops transfer.name a.sound (move_there (mailbox_in start ops w.0 w.1) asked there given w.2)) given
       (move_wants_issuable (mailbox_in start ops w.0 w.1) asked there given (view_keywords start ops a w.0) w.2)
 
   pub input_can : (input : Input) (given : List Kind) → wants_of start ops stamp state input ≡ Ok given → CanIssueAll ops given

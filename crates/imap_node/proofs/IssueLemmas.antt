@@ -16,9 +16,10 @@ use Rattle.imap_node.specs.declared.reply.Reply.TheVariants.{Done, Refused}
 use Rattle.imap_node.proofs.CanLemmas.{input_can}
 use Rattle.imap_node.proofs.NextLemmas.{can_by, next_applied, next_issued, next_ripe, no_cut}
 use Rattle.uid_projection.specs.Applied.{IsApplied}
+use Rattle.crdt_ops.specs.Ops.{id_of}
 
 -- what may be issued and comes next is sound
-next_sound : (replica : ℕ) (applied front : List Op) (op : Op) (counts : List (ℕ × ℕ)) → IsClockOf (λ (o : Op). o.id) applied counts → CanIssue applied op.kind → IsNext replica (applied ++ front) op → IsSound op
+next_sound : (replica : ℕ) (applied front : List Op) (op : Op) (counts : List (ℕ × ℕ)) → IsClockOf id_of applied counts → CanIssue applied op.kind → IsNext replica (applied ++ front) op → IsSound op
 next_sound replica applied front op counts c can n =
     let by : CanIssueBy op.clock op.kind = can_by applied front op.kind counts op.clock can c n.clock in
     record {
@@ -31,7 +32,7 @@ next_sound replica applied front op counts c can n =
     }
 
 -- the first operation of those that come next has a clock of what was applied
-clock_there : (replica : ℕ) (applied : List Op) (kinds : List Kind) (ops : List Op) (op : Op) → AreNext replica applied kinds ops → IsIn op ops → (clock : List (ℕ × ℕ)) × IsClockOf (λ (o : Op). o.id) applied clock
+clock_there : (replica : ℕ) (applied : List Op) (kinds : List Kind) (ops : List Op) (op : Op) → AreNext replica applied kinds ops → IsIn op ops → (clock : List (ℕ × ℕ)) × IsClockOf id_of applied clock
 clock_there replica applied kinds [] op h i = absurd i
 clock_there replica applied kinds (o ∷ ops) op h i =
     (o.clock, subst (λ (os : List Op). IsClockOf (λ (p : Op). p.id) os o.clock) (append-nil applied) (h.next [] o ops refl).clock)
@@ -49,10 +50,10 @@ next_fresh replica applied kinds ops can h op i =
     record {
       sound = next_sound replica applied cut.0 op c.0 c.1 (can op.kind (subst (IsIn op.kind) h.of_kinds (kind_in ops op i))) n;
       own = n.own;
-      fresh = λ has. (next_ripe replica (applied ++ cut.0) op n).1 (id_in_front (λ (o : Op). o.id) op.id applied cut.0 has);
+      fresh = λ has. (next_ripe replica (applied ++ cut.0) op n).1 (id_in_front id_of op.id applied cut.0 has);
     }
 
-kept_always : (ops old new : List Op) → KeepsHeld ops old new → AreKept (λ (o : Op). o.id) ops old new
+kept_always : (ops old new : List Op) → KeepsHeld ops old new → AreKept id_of ops old new
 kept_always [] old new h = λ o. (λ i. (subst (IsIn o) h i, λ none. none), λ p. subst (IsIn o) (sym h) p.0)
 kept_always (op ∷ ops) old new h = h
 

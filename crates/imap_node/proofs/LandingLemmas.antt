@@ -42,6 +42,7 @@ use Rattle.uid_projection.proofs.Steps.{uid_kept, uid_new, uidnext_here}
 use Rattle.uid_projection.proofs.Versions.{begun_added, origin_applied, origin_new, version_cases, version_in, version_kept}
 use Rattle.imap_node.proofs.ThereLemmas.{IsNoDelete, added_there, kept_one, mapped_in}
 use Rattle.imap_node.specs.Mailboxes.{landing_in}
+use Rattle.crdt_ops.specs.Ops.{id_of}
 
 -- ---- operations that copy
 
@@ -206,7 +207,7 @@ at_end y (z ∷ xs) = inr (at_end y xs)
 
 -- the ids of those that append a message to the folder
 abbrev pub landing : List ℕ → List Op → List OpId
-landing folder ops = map (λ (o : Op). o.id) (filter (λ (o : Op). appends_to folder o.kind) ops)
+landing folder ops = map id_of (filter (λ (o : Op). appends_to folder o.kind) ops)
 
 abbrev landing_by : Bool → OpId → List OpId
 landing_by b id = if b then id ∷ [] else []
@@ -437,7 +438,7 @@ rows_landed : (start : Start) (folder : List ℕ) (before issued : List Op) → 
 rows_landed start folder before issued least a r t c =
     ap (λ (rows : List Listed). length rows) (rows_are_landed start folder before issued least a r t c)
     ∙ mapped_length (listed_of start folder (before ++ issued)) (landing folder issued)
-    ∙ mapped_length (λ (o : Op). o.id) (filter (λ (o : Op). appends_to folder o.kind) issued)
+    ∙ mapped_length id_of (filter (λ (o : Op). appends_to folder o.kind) issued)
 
 -- ---- what COPY and MOVE issue
 

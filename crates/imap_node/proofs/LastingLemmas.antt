@@ -16,6 +16,7 @@ use Rattle.uid_projection.specs.declared.start.Start.{Start}
 use Rattle.uid_projection.specs.Applied.{IsApplied}
 use Rattle.uid_projection.specs.Bounds.{IsLasting}
 use Rattle.uid_projection.specs.Exhaustion.{Exhausts, IsExhausted}
+use Rattle.crdt_ops.specs.Ops.{clock_of, id_of}
 
 -- one operation more, for which no counter was at its end
 lasts_one : (start : Start) (ops : List Op) (o : Op) → (Exhausts start [] ops → ⊥) → (Exhausts start ops (o ∷ []) → ⊥) → Exhausts start [] (ops ++ o ∷ []) → ⊥
@@ -41,14 +42,14 @@ lasts_more start (o ∷ more) ops l n =
     first_of (y ∷ []) p back e x = absurd cc
     first_of (y ∷ z ∷ front) p back e x = absurd cc
 
-released_lasts : (count : ℕ) (old new : Seen Start Op) → AreReleased (λ (o : Op). o.id) (λ o. o.clock) Exhausts count old new → (Exhausts old.start [] old.applied → ⊥) → Exhausts new.start [] new.applied → ⊥
+released_lasts : (count : ℕ) (old new : Seen Start Op) → AreReleased id_of clock_of Exhausts count old new → (Exhausts old.start [] old.applied → ⊥) → Exhausts new.start [] new.applied → ⊥
 released_lasts zero old new h l = subst (λ (s : Seen Start Op). Exhausts s.start [] s.applied → ⊥) (sym h) l
 released_lasts (suc count) old new (before, r, s) l =
     let early = released_lasts count old before r l in
     subst (λ (x : Start). Exhausts x [] new.applied → ⊥) (sym s.start)
     (subst (λ (xs : List Op). Exhausts before.start [] xs → ⊥) (sym s.applied) (lasts_one before.start before.applied s.op early s.in_reach))
 
-arrived_lasts : (old new : Seen Start Op) (op : Op) (came : Arrival) → Arrives (λ (o : Op). o.id) (λ o. o.clock) Exhausts old op came new → (Exhausts old.start [] old.applied → ⊥) → Exhausts new.start [] new.applied → ⊥
+arrived_lasts : (old new : Seen Start Op) (op : Op) (came : Arrival) → Arrives id_of clock_of Exhausts old op came new → (Exhausts old.start [] old.applied → ⊥) → Exhausts new.start [] new.applied → ⊥
 arrived_lasts old new op Repeat h l = subst (λ (s : Seen Start Op). Exhausts s.start [] s.applied → ⊥) (sym h.1) l
 arrived_lasts old new op Held (is_new, holds, start, applied, held) l =
     subst (λ (x : Start). Exhausts x [] new.applied → ⊥) (sym start) (subst (λ (xs : List Op). Exhausts old.start [] xs → ⊥) (sym applied) l)

@@ -16,9 +16,10 @@ use Rattle.tags_clocks.specs.Clock.{IsCause, IsRaised, count_of}
 use Rattle.tags_clocks.specs.declared.id.OpId.{OpId}
 use Rattle.imap_node.specs.Operations.{AreNext, CanIssue, CanIssueAll, CanIssueBy, IsNext}
 use Rattle.uid_projection.specs.Applied.{IsApplied}
+use Rattle.crdt_ops.specs.Ops.{clock_of, id_of}
 
 -- an operation that comes next is ripe
-pub next_ripe : (replica : ℕ) (applied : List Op) (op : Op) → IsNext replica applied op → IsRipe (λ (o : Op). o.id) (λ o. o.clock) applied op
+pub next_ripe : (replica : ℕ) (applied : List Op) (op : Op) → IsNext replica applied op → IsRipe id_of clock_of applied op
 next_ripe replica applied op n = (
   λ i cause. (n.clock i).0 cause,
   λ has.
@@ -28,22 +29,22 @@ next_ripe replica applied op n = (
 )
 
 -- operations that come next are issued, as an inbox says it
-pub next_issued : (replica : ℕ) (applied : List Op) (kinds : List Kind) (ops : List Op) → AreNext replica applied kinds ops → AreIssued (λ (o : Op). o.id) (λ o. o.clock) applied ops
+pub next_issued : (replica : ℕ) (applied : List Op) (kinds : List Kind) (ops : List Op) → AreNext replica applied kinds ops → AreIssued id_of clock_of applied ops
 next_issued replica applied kinds ops h = λ front o back e.
     let n = h.next front o back e in
     (n.clock, ap (λ (r : ℕ). count_of o.clock r + 1) n.own ∙ sym n.number)
 
 -- the list stays causal with them
-pub next_causal : (replica : ℕ) (applied : List Op) (kinds : List Kind) (ops : List Op) → IsCausal (λ (o : Op). o.id) (λ o. o.clock) applied → AreNext replica applied kinds ops
-    → IsCausal (λ (o : Op). o.id) (λ o. o.clock) (applied ++ ops)
-next_causal replica applied kinds ops causal h = causal_append (λ (o : Op). o.id) (λ o. o.clock) applied ops causal (λ front o back e. next_ripe replica (applied ++ front) o (h.next front o back e))
+pub next_causal : (replica : ℕ) (applied : List Op) (kinds : List Kind) (ops : List Op) → IsCausal id_of clock_of applied → AreNext replica applied kinds ops
+    → IsCausal id_of clock_of (applied ++ ops)
+next_causal replica applied kinds ops causal h = causal_append id_of clock_of applied ops causal (λ front o back e. next_ripe replica (applied ++ front) o (h.next front o back e))
 
 in_both : (xs ys : List Op) (o : Op) → IsIn o (xs ++ ys) → IsIn o xs ⊎ IsIn o ys
 in_both [] ys o i = inr i
 in_both (x ∷ xs) ys o i = elim i [ inl e ↦ inl (inl e) | inr t ↦ elim (in_both xs ys o t) [ inl u ↦ inl (inr u) | inr u ↦ inr u ] ]
 
 -- and so an applied list
-pub next_applied : (replica : ℕ) (applied : List Op) (kinds : List Kind) (ops : List Op) → AreSound IsSound applied → IsCausal (λ (o : Op). o.id) (λ o. o.clock) applied
+pub next_applied : (replica : ℕ) (applied : List Op) (kinds : List Kind) (ops : List Op) → AreSound IsSound applied → IsCausal id_of clock_of applied
     → AreSound IsSound ops → AreNext replica applied kinds ops → IsApplied (applied ++ ops)
 next_applied replica applied kinds ops sound causal more h = record {
   sound = λ o i. elim (in_both applied ops o i) [ inl t ↦ sound o t | inr t ↦ more o t ];
@@ -92,15 +93,15 @@ covers_more clock more (Subscribe name) w h = tt
 covers_more clock more (Unsubscribe name seen) w h = covered_more clock more seen w h
 
 -- what may be issued behind a list may be issued behind a longer one
-pub can_by : (applied more : List Op) (kind : Kind) (before after : List (ℕ × ℕ)) → CanIssue applied kind → IsClockOf (λ (o : Op). o.id) applied before → IsClockOf (λ (o : Op). o.id) (applied ++ more) after
+pub can_by : (applied more : List Op) (kind : Kind) (before after : List (ℕ × ℕ)) → CanIssue applied kind → IsClockOf id_of applied before → IsClockOf id_of (applied ++ more) after
     → CanIssueBy after kind
 can_by applied more kind before after can b a = record {
   lawful = can.lawful;
-  covered = covers_more before after kind (λ i c. (a i).1 (id_in_front (λ (o : Op). o.id) i applied more ((b i).0 c))) (can.covered before b);
+  covered = covers_more before after kind (λ i c. (a i).1 (id_in_front id_of i applied more ((b i).0 c))) (can.covered before b);
 }
 
 -- two clocks of one list count the same
-pub counts_within : (ops : List Op) (c d : List (ℕ × ℕ)) → IsClockOf (λ (o : Op). o.id) ops c → IsClockOf (λ (o : Op). o.id) ops d → (r : ℕ) → count_of c r ≤ count_of d r
+pub counts_within : (ops : List Op) (c d : List (ℕ × ℕ)) → IsClockOf id_of ops c → IsClockOf id_of ops d → (r : ℕ) → count_of c r ≤ count_of d r
 counts_within ops c d hc hd r =
     elim (cases_lt 0 (count_of c r)) [
       | inl l ↦
@@ -118,7 +119,7 @@ pub record IsMade (replica : ℕ) (applied : List Op) (given rest : List Kind) (
   pub split : map (λ (o : Op). o.kind) ops ++ rest ≡ given
   pub next : (front : List Op) (op : Op) (back : List Op) → ops ≡ front ++ op ∷ back → IsNext replica (applied ++ front) op
   pub sound : AreSound IsSound ops
-  pub counts : IsClockOf (λ (o : Op). o.id) (applied ++ ops) clock
+  pub counts : IsClockOf id_of (applied ++ ops) clock
   pub few : count_of clock replica + length rest ≤ 4294967295
 
 pub no_cut : (front : List Op) (op : Op) (back : List Op) → [] ≡ front ++ op ∷ back → ⊥
@@ -126,7 +127,7 @@ no_cut [] op back e = absurd cc
 no_cut (o ∷ front) op back e = absurd cc
 
 pub made_none : (replica : ℕ) (applied : List Op) (given rest : List Kind) (ops : List Op) (clock now : List (ℕ × ℕ)) → rest ≡ given → ops ≡ [] → clock ≡ now
-    → IsClockOf (λ (o : Op). o.id) applied now → count_of now replica + length given ≤ 4294967295 → IsMade replica applied given rest ops clock
+    → IsClockOf id_of applied now → count_of now replica + length given ≤ 4294967295 → IsMade replica applied given rest ops clock
 made_none replica applied given rest ops clock now r o k counts few =
     subst (λ (xs : List Kind). IsMade replica applied given xs ops clock) (sym r)
     (subst (λ (os : List Op). IsMade replica applied given given os clock) (sym o)
@@ -135,7 +136,7 @@ made_none replica applied given rest ops clock now r o k counts few =
       split = refl;
       next = λ front op back e. absurd (no_cut front op back e);
       sound = λ op i. absurd i;
-      counts = subst (λ (os : List Op). IsClockOf (λ (o : Op). o.id) os now) (sym (append-nil applied)) counts;
+      counts = subst (λ (os : List Op). IsClockOf id_of os now) (sym (append-nil applied)) counts;
       few = few;
     })))
 
@@ -157,7 +158,7 @@ pub made_more : (replica : ℕ) (applied : List Op) (given : List Kind) (kind : 
 made_more replica applied given kind rest ops clock op new h k c r n sound raised =
     let is_next : IsNext replica (applied ++ ops) op = record {
       own = r;
-      clock = subst (IsClockOf (λ (o : Op). o.id) (applied ++ ops)) (sym c) h.counts;
+      clock = subst (IsClockOf id_of (applied ++ ops)) (sym c) h.counts;
       number = n ∙ ap (λ (x : List (ℕ × ℕ)). count_of x replica + 1) (sym c);
     } in
     let own : count_of op.clock op.id.replica + 1 ≡ op.id.number = ap (λ (x : ℕ). count_of op.clock x + 1) r ∙ sym is_next.number in
@@ -168,8 +169,8 @@ made_more replica applied given kind rest ops clock op new h k c r n sound raise
       split = kinds_more ops op rest ∙ ap (λ (x : Kind). map (λ (o : Op). o.kind) ops ++ x ∷ rest) k ∙ h.split;
       next = next_more replica applied ops op h.next is_next;
       sound = λ o i. elim (in_both ops (op ∷ []) o i) [ inl t ↦ h.sound o t | inr t ↦ elim t [ inl e ↦ subst IsSound e sound | inr f ↦ absurd f ] ];
-      counts = subst (λ (os : List Op). IsClockOf (λ (o : Op). o.id) os new) (append_assoc applied ops (op ∷ []))
-          (clock_step (λ (o : Op). o.id) (λ o. o.clock) (applied ++ ops) clock new op h.counts (next_ripe replica (applied ++ ops) op is_next) own here);
+      counts = subst (λ (os : List Op). IsClockOf id_of os new) (append_assoc applied ops (op ∷ []))
+          (clock_step id_of clock_of (applied ++ ops) clock new op h.counts (next_ripe replica (applied ++ ops) op is_next) own here);
       few = omega (arith, now, left, n);
     }
 
@@ -178,7 +179,7 @@ kind_among [] kind rest = inl refl
 kind_among (x ∷ xs) kind rest = inr (kind_among xs kind rest)
 
 pub made_can : (replica : ℕ) (applied : List Op) (given : List Kind) (kind : Kind) (rest : List Kind) (ops : List Op) (clock before : List (ℕ × ℕ))
-    → IsMade replica applied given (kind ∷ rest) ops clock → CanIssueAll applied given → IsClockOf (λ (o : Op). o.id) applied before → CanIssueBy clock kind
+    → IsMade replica applied given (kind ∷ rest) ops clock → CanIssueAll applied given → IsClockOf id_of applied before → CanIssueBy clock kind
 made_can replica applied given kind rest ops clock before h can counts =
     can_by applied ops kind before clock (can kind (subst (IsIn kind) h.split (kind_among (map (λ (o : Op). o.kind) ops) kind rest))) counts h.counts
 

@@ -40,6 +40,7 @@ use Rattle.imap_node.proofs.CanLemmas.{input_can}
 use Rattle.imap_node.proofs.FeedLemmas.{no_news}
 use Rattle.uid_projection.specs.declared.start.Start.{Start}
 use Rattle.uid_projection.specs.Applied.{IsApplied}
+use Rattle.crdt_ops.specs.Ops.{clock_of, id_of}
 
 -- what holds of either outcome
 pub match_weaker : {T E : Type 0} (r : Result T E) (P P' : T → Type 0) (Q Q' : E → Type 0) → ((t : T) → P t → P' t) → ((e : E) → Q e → Q' e) → MatchResult r P Q → MatchResult r P' Q'
@@ -47,7 +48,7 @@ match_weaker (Ok t) P P' Q Q' f g h = f t h
 match_weaker (Err e) P P' Q Q' f g h = g e h
 
 -- what is kept where something is issued
-pub kept_some : (ops old new : List Op) → (ops ≡ [] → ⊥) → AreKept (λ (o : Op). o.id) ops old new → KeepsHeld ops old new
+pub kept_some : (ops old new : List Op) → (ops ≡ [] → ⊥) → AreKept id_of ops old new → KeepsHeld ops old new
 kept_some [] old new n h = absurd (n refl)
 kept_some (op ∷ ops) old new n h = h
 
@@ -134,7 +135,7 @@ left_steps start ops session false false = tt
 
 -- a plan can be committed
 pub plan_planned : (node : NodeKept) (n : ℕ) (state : State) (input : Input) (outcome : Result Prepared Refusal) → IsOpen node.state.sessions n
-    → IfOk outcome (λ p. AreIssued (λ (o : Op). o.id) (λ o. o.clock) node.state.applied p.ops) → IfOk outcome (λ p. HasRoomFor node.state.applied node.room p.ops)
+    → IfOk outcome (λ p. AreIssued id_of clock_of node.state.applied p.ops) → IfOk outcome (λ p. HasRoomFor node.state.applied node.room p.ops)
     → IfOk outcome (λ p. IsNews node.state.start node.state.applied (node.state.applied ++ p.ops) p.news)
     → ((s : Session) → session_at node.state.sessions n ≡ Some s → IfOk outcome (λ p. CanGo node.state.start (node.state.applied ++ p.ops) s.state p.answered.going.onward)) → IsPlanned node (plan_by n state input outcome)
 plan_planned node n state input (Ok p) opened i r w c = record { is_open = opened; issued = i; room = λ f. r; news = w; can = c }
@@ -148,12 +149,12 @@ plan_planned node n state input (Err why) opened i r w c = record {
 
 -- the same where the room was made behind
 pub plan_planned_behind : (start : Start) (applied : List Op) (places : Places) (node : NodeKept) (n : ℕ) (state : State) (input : Input) (outcome : Result Prepared Refusal) → node.state.start ≡ start → node.state.applied ≡ applied → node.state.sessions ≡ places
-    → IsOpen places n → IfOk outcome (λ p. AreIssued (λ (o : Op). o.id) (λ o. o.clock) applied p.ops) → IfOk outcome (λ p. HasRoomFor node.state.applied node.room p.ops) → IfOk outcome (λ p. IsNews start applied (applied ++ p.ops) p.news)
+    → IsOpen places n → IfOk outcome (λ p. AreIssued id_of clock_of applied p.ops) → IfOk outcome (λ p. HasRoomFor node.state.applied node.room p.ops) → IfOk outcome (λ p. IsNews start applied (applied ++ p.ops) p.news)
     → ((s : Session) → session_at places n ≡ Some s → IfOk outcome (λ p. CanGo start (applied ++ p.ops) s.state p.answered.going.onward)) → IsPlanned node (plan_by n state input outcome)
 plan_planned_behind start applied places node n state input outcome e f g opened i r w c =
     plan_planned node n state input outcome
     (subst (λ (ps : Places). IsOpen ps n) (sym g) opened)
-    (subst (λ (os : List Op). IfOk outcome (λ p. AreIssued (λ (o : Op). o.id) (λ o. o.clock) os p.ops)) (sym f) i)
+    (subst (λ (os : List Op). IfOk outcome (λ p. AreIssued id_of clock_of os p.ops)) (sym f) i)
     r
     (subst (λ (x : Start). IfOk outcome (λ p. IsNews x node.state.applied (node.state.applied ++ p.ops) p.news)) (sym e) (subst (λ (os : List Op). IfOk outcome (λ p. IsNews start os (os ++ p.ops) p.news)) (sym f) w))
     (λ s at.
@@ -162,10 +163,10 @@ plan_planned_behind start applied places node n state input outcome e f g opened
 
 -- what a delivery applies
 pub deliver_grown : {T : Type 0} (arrival : T → Arrival) (old new : Seen Start Op) (op : Op) (r : Result T DeliverFault)
-    → MatchResult r (λ d. Arrives (λ (o : Op). o.id) (λ o. o.clock) Exhausts old op (arrival d) new) (λ e. Refuses (λ (o : Op). o.id) (λ o. o.clock) Exhausts old op e) → OnErr r (new ≡ old) → HasGrown old.applied new.applied × (new.start ≡ old.start)
+    → MatchResult r (λ d. Arrives id_of clock_of Exhausts old op (arrival d) new) (λ e. Refuses id_of clock_of Exhausts old op e) → OnErr r (new ≡ old) → HasGrown old.applied new.applied × (new.start ≡ old.start)
 deliver_grown arrival old new op (Ok d) h e = (
-  arrival_grows (λ (o : Op). o.id) (λ (o : Op). o.clock) Exhausts old new op (arrival d) h,
-  arrival_start (λ (o : Op). o.id) (λ (o : Op). o.clock) Exhausts old new op (arrival d) h,
+  arrival_grows id_of clock_of Exhausts old new op (arrival d) h,
+  arrival_start id_of clock_of Exhausts old new op (arrival d) h,
 )
 deliver_grown arrival old new op (Err x) h e = (([], ap (λ (s : Seen Start Op). s.applied) e ∙ sym (append-nil old.applied)), ap (λ (s : Seen Start Op). s.start) e)
 
@@ -174,18 +175,18 @@ none_more : {X : Type 0} (xs : List X) → length xs ≡ 0 → xs ≡ []
 none_more [] l = refl
 none_more (x ∷ xs) l = absurd (omega (arith, l))
 
-arrive_one : (old new : Seen Start Op) (op : Op) (came : Arrival) → Arrives (λ (o : Op). o.id) (λ o. o.clock) Exhausts old op came new → length new.applied ≡ length old.applied + 1 → new.applied ≡ old.applied ++ op ∷ []
+arrive_one : (old new : Seen Start Op) (op : Op) (came : Arrival) → Arrives id_of clock_of Exhausts old op came new → length new.applied ≡ length old.applied + 1 → new.applied ≡ old.applied ++ op ∷ []
 arrive_one old new op Repeat h l = let e = ap (λ (s : Seen Start Op). length s.applied) h.1 in absurd (omega (arith, e, l))
 arrive_one old new op Held h l = let e = ap (λ (ops : List Op). length ops) h.3 in absurd (omega (arith, e, l))
 arrive_one old new op (Applied n) h l =
-    let g = releases_grow (λ (o : Op). o.id) (λ (o : Op). o.clock) Exhausts h.2.0 (record old { applied = old.applied ++ op ∷ [] }) new h.2.2 in
+    let g = releases_grow id_of clock_of Exhausts h.2.0 (record old { applied = old.applied ++ op ∷ [] }) new h.2.2 in
     let a = ap (λ (ops : List Op). length ops) g.1 in
     let b = length-append (old.applied ++ op ∷ []) g.0 in
     let d = length-append old.applied (op ∷ []) in
     g.1 ∙ ap (λ (more : List Op). (old.applied ++ op ∷ []) ++ more) (none_more g.0 (omega (arith, a, b, d, l))) ∙ append-nil (old.applied ++ op ∷ [])
 
 pub deliver_one : {T : Type 0} (arrival : T → Arrival) (old new : Seen Start Op) (op : Op) (r : Result T DeliverFault)
-    → MatchResult r (λ d. Arrives (λ (o : Op). o.id) (λ o. o.clock) Exhausts old op (arrival d) new) (λ e. Refuses (λ (o : Op). o.id) (λ o. o.clock) Exhausts old op e) → OnErr r (new ≡ old)
+    → MatchResult r (λ d. Arrives id_of clock_of Exhausts old op (arrival d) new) (λ e. Refuses id_of clock_of Exhausts old op e) → OnErr r (new ≡ old)
     → length new.applied ≡ length old.applied + 1 → new.applied ≡ old.applied ++ op ∷ []
 deliver_one arrival old new op (Ok d) h e l = arrive_one old new op (arrival d) h l
 deliver_one arrival old new op (Err x) h e l = let k = ap (λ (s : Seen Start Op). length s.applied) e in absurd (omega (arith, k, l))

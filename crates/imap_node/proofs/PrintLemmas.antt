@@ -41,17 +41,17 @@ abbrev pub NamesThere : List Op → Command → State → Type 0
 NamesThere after (commands.Select name condstore) state = is_there name after ≡ true
 NamesThere after (commands.Examine name condstore) state = is_there name after ≡ true
 NamesThere after (commands.Status name items) state = is_there name after ≡ true
-NamesThere after (commands.Append name flags date text) state = is_there name after ≡ true
-NamesThere after (commands.Copy by_uid set name) (Selected view read_only) = is_there name after ≡ true
-NamesThere after (commands.Move by_uid set name) (Selected view read_only) = is_there name after ≡ true
+NamesThere after (commands.Append asked) state = is_there asked.name after ≡ true
+NamesThere after (commands.Copy asked) (Selected view read_only) = is_there asked.name after ≡ true
+NamesThere after (commands.Move asked) (Selected view read_only) = is_there asked.name after ≡ true
 NamesThere after _ _ = Unit {0}
 
 -- where messages are copied, as many come into the destination
 abbrev pub LandsAll : Start → List Op → List Op → State → Command → Type 0
-LandsAll start before after (Selected view read_only) (commands.Copy by_uid set name) =
-    AreAsMany (mailbox_in start before view read_only) (record { by_uid = by_uid; messages = set; destination = name }) (landing_in start before after name)
-LandsAll start before after (Selected view read_only) (commands.Move by_uid set name) =
-    AreAsMany (mailbox_in start before view read_only) (record { by_uid = by_uid; messages = set; destination = name }) (landing_in start before after name)
+LandsAll start before after (Selected view read_only) (commands.Copy asked) =
+    AreAsMany (mailbox_in start before view read_only) (record { by_uid = asked.by_uid; messages = asked.messages; destination = asked.name }) (landing_in start before after asked.name)
+LandsAll start before after (Selected view read_only) (commands.Move asked) =
+    AreAsMany (mailbox_in start before view read_only) (record { by_uid = asked.by_uid; messages = asked.messages; destination = asked.name }) (landing_in start before after asked.name)
 LandsAll start before after _ _ = Unit {0}
 
 nothing_printable : IsPrintableTelling nothing_told
@@ -81,40 +81,40 @@ module _ (start : Start) (before issued : List Op) (p : IsPresentable start (bef
   tells_printable (commands.Status name items) state modseq tag told t a v n l h =
       subst IsPrintableTelling (sym h)
       (status_printable name items (marks_of start name (before ++ issued)) (listing start name (before ++ issued)) a.0 a.1 (marks_nonzero start name (before ++ issued) p n) (listing_showable start name (before ++ issued) p))
-  tells_printable (commands.Append name flags date text) state modseq tag told t a v n l h =
+  tells_printable (commands.Append asked) state modseq tag told t a v n l h =
       subst IsPrintableTelling (sym h)
-      (append_printable (validity_of start name (before ++ issued)) (uidnext_of start name before) (validity_nonzero start name (before ++ issued) p n) (next_nonzero start name before before_shown))
+      (append_printable (validity_of start asked.name (before ++ issued)) (uidnext_of start asked.name before) (validity_nonzero start asked.name (before ++ issued) p n) (next_nonzero start asked.name before before_shown))
   tells_printable (commands.UidExpunge uids) state modseq tag told t a v n l h =
       subst IsPrintableTelling (sym h) (selected_printable state _ v (λ view read_only k. uid_expunge_printable (mailbox_in start before view read_only) uids))
-  tells_printable (commands.Fetch by_uid set items changed_since) state modseq tag told t a v n l h =
+  tells_printable (commands.Fetch asked) state modseq tag told t a v n l h =
       subst IsPrintableTelling (sym h) (selected_printable state _ v (λ view read_only k.
-      fetch_printable (mailbox_in start before view read_only) (rows_for start (before ++ issued) view) modseq (record { by_uid = by_uid; messages = set; items = items; changed_since = changed_since }) (rows_showable start (before ++ issued) view p) k a))
-  tells_printable (commands.Store by_uid set unchanged_since action flags) state modseq tag told t a v n l h =
+      fetch_printable (mailbox_in start before view read_only) (rows_for start (before ++ issued) view) modseq (record { by_uid = asked.by_uid; messages = asked.messages; items = asked.items; changed_since = asked.changed_since }) (rows_showable start (before ++ issued) view p) k a))
+  tells_printable (commands.Store asked) state modseq tag told t a v n l h =
       subst IsPrintableTelling (sym h) (selected_printable state _ v (λ view read_only k.
-      store_printable (mailbox_in start before view read_only) (rows_for start (before ++ issued) view) modseq (record { by_uid = by_uid; messages = set; unchanged_since = unchanged_since; action = action; flags = flags }) (rows_showable start (before ++ issued) view p) k))
-  tells_printable (commands.Copy by_uid set name) (Selected view read_only) modseq tag told t a v n l h =
+      store_printable (mailbox_in start before view read_only) (rows_for start (before ++ issued) view) modseq (record { by_uid = asked.by_uid; messages = asked.messages; unchanged_since = asked.unchanged_since; action = asked.action; flags = asked.flags }) (rows_showable start (before ++ issued) view p) k))
+  tells_printable (commands.Copy asked) (Selected view read_only) modseq tag told t a v n l h =
       subst IsPrintableTelling (sym h)
-      (copy_printable (mailbox_in start before view read_only) (record { by_uid = by_uid; messages = set; destination = name }) (landing_in start before (before ++ issued) name) v
-      (validity_nonzero start name (before ++ issued) p n) (listing_showable start name (before ++ issued) p) l)
-  tells_printable (commands.Copy by_uid set name) (NotAuthenticated credentials) modseq tag told t a v n l h = subst IsPrintableTelling (sym h) nothing_printable
-  tells_printable (commands.Copy by_uid set name) Authenticated modseq tag told t a v n l h = subst IsPrintableTelling (sym h) nothing_printable
-  tells_printable (commands.Copy by_uid set name) LoggedOut modseq tag told t a v n l h = subst IsPrintableTelling (sym h) nothing_printable
-  tells_printable (commands.Move by_uid set name) (Selected view read_only) modseq tag told t a v n l h =
+      (copy_printable (mailbox_in start before view read_only) (record { by_uid = asked.by_uid; messages = asked.messages; destination = asked.name }) (landing_in start before (before ++ issued) asked.name) v
+      (validity_nonzero start asked.name (before ++ issued) p n) (listing_showable start asked.name (before ++ issued) p) l)
+  tells_printable (commands.Copy asked) (NotAuthenticated credentials) modseq tag told t a v n l h = subst IsPrintableTelling (sym h) nothing_printable
+  tells_printable (commands.Copy asked) Authenticated modseq tag told t a v n l h = subst IsPrintableTelling (sym h) nothing_printable
+  tells_printable (commands.Copy asked) LoggedOut modseq tag told t a v n l h = subst IsPrintableTelling (sym h) nothing_printable
+  tells_printable (commands.Move asked) (Selected view read_only) modseq tag told t a v n l h =
       subst IsPrintableTelling (sym h)
-      (move_printable (mailbox_in start before view read_only) (record { by_uid = by_uid; messages = set; destination = name }) (landing_in start before (before ++ issued) name) v
-      (validity_nonzero start name (before ++ issued) p n) (listing_showable start name (before ++ issued) p) l)
-  tells_printable (commands.Move by_uid set name) (NotAuthenticated credentials) modseq tag told t a v n l h = subst IsPrintableTelling (sym h) nothing_printable
-  tells_printable (commands.Move by_uid set name) Authenticated modseq tag told t a v n l h = subst IsPrintableTelling (sym h) nothing_printable
-  tells_printable (commands.Move by_uid set name) LoggedOut modseq tag told t a v n l h = subst IsPrintableTelling (sym h) nothing_printable
-  tells_printable (commands.ListNames subscribed_only reference pattern return_subscribed) state modseq tag told t a v n l h =
+      (move_printable (mailbox_in start before view read_only) (record { by_uid = asked.by_uid; messages = asked.messages; destination = asked.name }) (landing_in start before (before ++ issued) asked.name) v
+      (validity_nonzero start asked.name (before ++ issued) p n) (listing_showable start asked.name (before ++ issued) p) l)
+  tells_printable (commands.Move asked) (NotAuthenticated credentials) modseq tag told t a v n l h = subst IsPrintableTelling (sym h) nothing_printable
+  tells_printable (commands.Move asked) Authenticated modseq tag told t a v n l h = subst IsPrintableTelling (sym h) nothing_printable
+  tells_printable (commands.Move asked) LoggedOut modseq tag told t a v n l h = subst IsPrintableTelling (sym h) nothing_printable
+  tells_printable (commands.ListNames asked) state modseq tag told t a v n l h =
       let sound = before_shown.lasting.applied.sound in
-      list_printable (record { subscribed_only = subscribed_only; return_subscribed = return_subscribed }) reference pattern (folders_of before) (subscribed_of before) told (folders_folded before sound)
+      list_printable (record { subscribed_only = asked.subscribed_only; return_subscribed = asked.return_subscribed }) asked.reference asked.pattern (folders_of before) (subscribed_of before) told (folders_folded before sound)
       (subscriptions_folded before sound) h
-  tells_printable (commands.Search by_uid options steps) (Selected view read_only) modseq tag told t a v n l h =
-      search_printable (mailbox_in start (before ++ issued) view read_only) tag (record { by_uid = by_uid; options = options; steps = steps }) told t (rows_showable start (before ++ issued) view p) v h
-  tells_printable (commands.Search by_uid options steps) (NotAuthenticated credentials) modseq tag told t a v n l h = subst IsPrintableTelling (sym h) nothing_printable
-  tells_printable (commands.Search by_uid options steps) Authenticated modseq tag told t a v n l h = subst IsPrintableTelling (sym h) nothing_printable
-  tells_printable (commands.Search by_uid options steps) LoggedOut modseq tag told t a v n l h = subst IsPrintableTelling (sym h) nothing_printable
+  tells_printable (commands.Search asked) (Selected view read_only) modseq tag told t a v n l h =
+      search_printable (mailbox_in start (before ++ issued) view read_only) tag (record { by_uid = asked.by_uid; options = asked.options; steps = asked.steps }) told t (rows_showable start (before ++ issued) view p) v h
+  tells_printable (commands.Search asked) (NotAuthenticated credentials) modseq tag told t a v n l h = subst IsPrintableTelling (sym h) nothing_printable
+  tells_printable (commands.Search asked) Authenticated modseq tag told t a v n l h = subst IsPrintableTelling (sym h) nothing_printable
+  tells_printable (commands.Search asked) LoggedOut modseq tag told t a v n l h = subst IsPrintableTelling (sym h) nothing_printable
   tells_printable _ state modseq tag told t a v n l h = subst IsPrintableTelling (sym h) nothing_printable
 
 -- ---- what stands in front of it, and behind

@@ -87,27 +87,27 @@ module _ (start : Start) (before issued : List Op) (stamp : List ℕ) (wanted : 
       let t = wanted_there (is_known state) (is_there name before) wanted w in stays_there name before issued wanted a m (none_wanted wanted t.1) t.0
   names_there (commands.Status name items) state w =
       let t = wanted_there (is_known state) (is_there name before) wanted w in stays_there name before issued wanted a m (none_wanted wanted t.1) t.0
-  names_there (commands.Append name flags date text) state w =
-      let one = kinds.Append name flags (given_date date stamp) text in
-      let t = append_there (is_known state) (is_there name before) (list_all is_lawful_keyword flags.keywords) (nat_lt 32 (length flags.keywords)) one wanted w in
-      stays_there name before issued wanted a m (one_wanted one wanted tt t.1) t.0
-  names_there (commands.Copy by_uid set name) (Selected view read_only) w =
+  names_there (commands.Append asked) state w =
+      let one = kinds.Append asked.name asked.flags (given_date asked.date stamp) asked.text in
+      let t = append_there (is_known state) (is_there asked.name before) (list_all is_lawful_keyword asked.flags.keywords) (nat_lt 32 (length asked.flags.keywords)) one wanted w in
+      stays_there asked.name before issued wanted a m (one_wanted one wanted tt t.1) t.0
+  names_there (commands.Copy asked) (Selected view read_only) w =
       let rows = rows_for start before view in
-      let t = copy_there (is_in_range by_uid set view.entries) (is_there name before) (appends_of name rows view.entries (resolved by_uid set view.entries)) wanted w in
-      let i = copy_wants_issuable (mailbox_in start before view read_only) (record { by_uid = by_uid; messages = set; destination = name }) (is_there name before) wanted (rows_lawful start before view b) w in
-      stays_there name before issued wanted a m (λ kind k. none_deleted view.name name rows kind (i kind k)) t
-  names_there (commands.Copy by_uid set name) (NotAuthenticated credentials) w = tt
-  names_there (commands.Copy by_uid set name) Authenticated w = tt
-  names_there (commands.Copy by_uid set name) LoggedOut w = tt
-  names_there (commands.Move by_uid set name) (Selected view read_only) w =
+      let t = copy_there (is_in_range asked.by_uid asked.messages view.entries) (is_there asked.name before) (appends_of asked.name rows view.entries (resolved asked.by_uid asked.messages view.entries)) wanted w in
+      let i = copy_wants_issuable (mailbox_in start before view read_only) (record { by_uid = asked.by_uid; messages = asked.messages; destination = asked.name }) (is_there asked.name before) wanted (rows_lawful start before view b) w in
+      stays_there asked.name before issued wanted a m (λ kind k. none_deleted view.name asked.name rows kind (i kind k)) t
+  names_there (commands.Copy asked) (NotAuthenticated credentials) w = tt
+  names_there (commands.Copy asked) Authenticated w = tt
+  names_there (commands.Copy asked) LoggedOut w = tt
+  names_there (commands.Move asked) (Selected view read_only) w =
       let rows = rows_for start before view in
-      let numbers = resolved by_uid set view.entries in
-      let t = move_there (is_in_range by_uid set view.entries) read_only (is_there name before) (appends_of name rows view.entries numbers ++ removals_of view.name rows view.entries numbers) wanted w in
-      let i = move_wants_issuable (mailbox_in start before view read_only) (record { by_uid = by_uid; messages = set; destination = name }) (is_there name before) wanted (rows_lawful start before view b) w in
-      stays_there name before issued wanted a m (λ kind k. none_deleted view.name name rows kind (i kind k)) t
-  names_there (commands.Move by_uid set name) (NotAuthenticated credentials) w = tt
-  names_there (commands.Move by_uid set name) Authenticated w = tt
-  names_there (commands.Move by_uid set name) LoggedOut w = tt
+      let numbers = resolved asked.by_uid asked.messages view.entries in
+      let t = move_there (is_in_range asked.by_uid asked.messages view.entries) read_only (is_there asked.name before) (appends_of asked.name rows view.entries numbers ++ removals_of view.name rows view.entries numbers) wanted w in
+      let i = move_wants_issuable (mailbox_in start before view read_only) (record { by_uid = asked.by_uid; messages = asked.messages; destination = asked.name }) (is_there asked.name before) wanted (rows_lawful start before view b) w in
+      stays_there asked.name before issued wanted a m (λ kind k. none_deleted view.name asked.name rows kind (i kind k)) t
+  names_there (commands.Move asked) (NotAuthenticated credentials) w = tt
+  names_there (commands.Move asked) Authenticated w = tt
+  names_there (commands.Move asked) LoggedOut w = tt
   names_there _ state w = tt
 
 -- ---- as many come into the destination as are copied
@@ -134,27 +134,27 @@ module _ (start : Start) (before issued : List Op) (stamp : List ℕ) (wanted : 
   lands_all (NotAuthenticated credentials) command w = tt
   lands_all Authenticated command w = tt
   lands_all LoggedOut command w = tt
-  lands_all (Selected view read_only) (commands.Copy by_uid set name) w =
+  lands_all (Selected view read_only) (commands.Copy asked) w =
       let rows = rows_for start before view in
-      let numbers = resolved by_uid set view.entries in
-      let appends = appends_of name rows view.entries numbers in
-      let t = copy_there (is_in_range by_uid set view.entries) (is_there name before) appends wanted w in
-      let is = copy_is (is_in_range by_uid set view.entries) (is_there name before) appends wanted w in
-      copies_landed start name before issued wanted (mailbox_in start before view read_only) (record { by_uid = by_uid; messages = set; destination = name }) (at_least name) p.lasting.applied (rising name) t m (subst (Each (IsCopying before)) (sym is) (appends_copying before name rows view.entries numbers))
-      (ap (λ ks. length (filter (appends_to name) ks)) is ∙ appends_counted name rows view.entries numbers)
-  lands_all (Selected view read_only) (commands.Move by_uid set name) w =
+      let numbers = resolved asked.by_uid asked.messages view.entries in
+      let appends = appends_of asked.name rows view.entries numbers in
+      let t = copy_there (is_in_range asked.by_uid asked.messages view.entries) (is_there asked.name before) appends wanted w in
+      let is = copy_is (is_in_range asked.by_uid asked.messages view.entries) (is_there asked.name before) appends wanted w in
+      copies_landed start asked.name before issued wanted (mailbox_in start before view read_only) (record { by_uid = asked.by_uid; messages = asked.messages; destination = asked.name }) (at_least asked.name) p.lasting.applied (rising asked.name) t m (subst (Each (IsCopying before)) (sym is) (appends_copying before asked.name rows view.entries numbers))
+      (ap (λ ks. length (filter (appends_to asked.name) ks)) is ∙ appends_counted asked.name rows view.entries numbers)
+  lands_all (Selected view read_only) (commands.Move asked) w =
       let rows = rows_for start before view in
-      let numbers = resolved by_uid set view.entries in
-      let appends = appends_of name rows view.entries numbers in
+      let numbers = resolved asked.by_uid asked.messages view.entries in
+      let appends = appends_of asked.name rows view.entries numbers in
       let removals = removals_of view.name rows view.entries numbers in
-      let t = move_there (is_in_range by_uid set view.entries) read_only (is_there name before) (appends ++ removals) wanted w in
-      let is = move_is (is_in_range by_uid set view.entries) read_only (is_there name before) (appends ++ removals) wanted w in
+      let t = move_there (is_in_range asked.by_uid asked.messages view.entries) read_only (is_there asked.name before) (appends ++ removals) wanted w in
+      let is = move_is (is_in_range asked.by_uid asked.messages view.entries) read_only (is_there asked.name before) (appends ++ removals) wanted w in
       let had = rows_had start before view (shown_before start before issued p).lasting.applied in
-      let copying = each_append (IsCopying before) appends removals (appends_copying before name rows view.entries numbers) (removals_copying before view.name rows view.entries numbers had) in
-      let both = ap (λ ks. length (filter (appends_to name) ks)) is ∙ more_counted (appends_to name) appends removals in
-      let one = appends_counted name rows view.entries numbers in
-      let none = removals_counted view.name name rows view.entries numbers in
-      copies_landed start name before issued wanted (mailbox_in start before view read_only) (record { by_uid = by_uid; messages = set; destination = name }) (at_least name) p.lasting.applied (rising name) t m (subst (Each (IsCopying before)) (sym is) copying) (omega (arith, both, one, none))
+      let copying = each_append (IsCopying before) appends removals (appends_copying before asked.name rows view.entries numbers) (removals_copying before view.name rows view.entries numbers had) in
+      let both = ap (λ ks. length (filter (appends_to asked.name) ks)) is ∙ more_counted (appends_to asked.name) appends removals in
+      let one = appends_counted asked.name rows view.entries numbers in
+      let none = removals_counted view.name asked.name rows view.entries numbers in
+      copies_landed start asked.name before issued wanted (mailbox_in start before view read_only) (record { by_uid = asked.by_uid; messages = asked.messages; destination = asked.name }) (at_least asked.name) p.lasting.applied (rising asked.name) t m (subst (Each (IsCopying before)) (sym is) copying) (omega (arith, both, one, none))
   lands_all (Selected view read_only) _ w = tt
 
 -- ---- replies

@@ -89,28 +89,28 @@ module _ (start : Start) (before after : List Op) where
   tells_quiet (commands.Select name condstore) state modseq tag told s h = absurd (false≢true (sym s))
   tells_quiet (commands.Examine name condstore) state modseq tag told s h = absurd (false≢true (sym s))
   tells_quiet (commands.Status name items) state modseq tag told s h = subst (λ (t : Telling). Each IsQuiet t.own) (sym h) (tt, tt)
-  tells_quiet (commands.Append name flags date text) state modseq tag told s h = subst (λ (t : Telling). Each IsQuiet t.own) (sym h) tt
+  tells_quiet (commands.Append asked) state modseq tag told s h = subst (λ (t : Telling). Each IsQuiet t.own) (sym h) tt
   tells_quiet (commands.UidExpunge uids) state modseq tag told s h = subst (λ (t : Telling). Each IsQuiet t.own) (sym h) (selected_quiet state _ (λ view read_only. tt))
-  tells_quiet (commands.Fetch by_uid set items changed_since) state modseq tag told s h =
+  tells_quiet (commands.Fetch asked) state modseq tag told s h =
       subst (λ (t : Telling). Each IsQuiet t.own) (sym h)
       (selected_quiet state _ (λ view read_only.
-      let mode = mode_of (mailbox_in start before view read_only) modseq (record { by_uid = by_uid; messages = set; items = items; changed_since = changed_since }) in
-      quiet_flat (λ (shown : Shown). answer_of items mode shown (row_of shown.uid (rows_for start before view)) (row_of shown.uid (rows_for start after view))) (shown_of view.entries (resolved by_uid set view.entries))
-      (λ shown. fetch_quiet items mode shown (row_of shown.uid (rows_for start before view)) (row_of shown.uid (rows_for start after view)))))
-  tells_quiet (commands.Store by_uid set unchanged_since action flags) state modseq tag told s h =
+      let mode = mode_of (mailbox_in start before view read_only) modseq (record { by_uid = asked.by_uid; messages = asked.messages; items = asked.items; changed_since = asked.changed_since }) in
+      quiet_flat (λ (shown : Shown). answer_of asked.items mode shown (row_of shown.uid (rows_for start before view)) (row_of shown.uid (rows_for start after view))) (shown_of view.entries (resolved asked.by_uid asked.messages view.entries))
+      (λ shown. fetch_quiet asked.items mode shown (row_of shown.uid (rows_for start before view)) (row_of shown.uid (rows_for start after view)))))
+  tells_quiet (commands.Store asked) state modseq tag told s h =
       subst (λ (t : Telling). Each IsQuiet t.own) (sym h)
       (selected_quiet state _ (λ view read_only.
-      store_quiet (rows_for start after view) view.entries modseq (record { by_uid = by_uid; messages = set; unchanged_since = unchanged_since; action = action; flags = flags }) (those_taken (rows_for start before view) view.entries unchanged_since (resolved by_uid set view.entries))))
-  tells_quiet (commands.Copy by_uid set name) state modseq tag told s h = subst (λ (t : Telling). Each IsQuiet t.own) (sym h) (selected_quiet state _ (λ view read_only. tt))
-  tells_quiet (commands.Move by_uid set name) state modseq tag told s h =
+      store_quiet (rows_for start after view) view.entries modseq (record { by_uid = asked.by_uid; messages = asked.messages; unchanged_since = asked.unchanged_since; action = asked.action; flags = asked.flags }) (those_taken (rows_for start before view) view.entries asked.unchanged_since (resolved asked.by_uid asked.messages view.entries))))
+  tells_quiet (commands.Copy asked) state modseq tag told s h = subst (λ (t : Telling). Each IsQuiet t.own) (sym h) (selected_quiet state _ (λ view read_only. tt))
+  tells_quiet (commands.Move asked) state modseq tag told s h =
       subst (λ (t : Telling). Each IsQuiet t.own) (sym h)
-      (selected_quiet state _ (λ view read_only. move_quiet (validity_of start name after) (sources_of (rows_for start before view) view.entries (resolved by_uid set view.entries)) (copies_in (uidnext_of start name before) (listing start name after))))
-  tells_quiet (commands.ListNames subscribed_only reference pattern return_subscribed) state modseq tag told s h =
-      names_quiet (record { subscribed_only = subscribed_only; return_subscribed = return_subscribed }) reference pattern (folders_of before) (subscribed_of before) told.own h.names
-  tells_quiet (commands.Search by_uid options steps) (Selected view read_only) modseq tag told s h = subst (λ (t : Telling). Each IsQuiet t.own) (sym h.only) (tt, tt)
-  tells_quiet (commands.Search by_uid options steps) (NotAuthenticated credentials) modseq tag told s h = subst (λ (t : Telling). Each IsQuiet t.own) (sym h) tt
-  tells_quiet (commands.Search by_uid options steps) Authenticated modseq tag told s h = subst (λ (t : Telling). Each IsQuiet t.own) (sym h) tt
-  tells_quiet (commands.Search by_uid options steps) LoggedOut modseq tag told s h = subst (λ (t : Telling). Each IsQuiet t.own) (sym h) tt
+      (selected_quiet state _ (λ view read_only. move_quiet (validity_of start asked.name after) (sources_of (rows_for start before view) view.entries (resolved asked.by_uid asked.messages view.entries)) (copies_in (uidnext_of start asked.name before) (listing start asked.name after))))
+  tells_quiet (commands.ListNames asked) state modseq tag told s h =
+      names_quiet (record { subscribed_only = asked.subscribed_only; return_subscribed = asked.return_subscribed }) asked.reference asked.pattern (folders_of before) (subscribed_of before) told.own h.names
+  tells_quiet (commands.Search asked) (Selected view read_only) modseq tag told s h = subst (λ (t : Telling). Each IsQuiet t.own) (sym h.only) (tt, tt)
+  tells_quiet (commands.Search asked) (NotAuthenticated credentials) modseq tag told s h = subst (λ (t : Telling). Each IsQuiet t.own) (sym h) tt
+  tells_quiet (commands.Search asked) Authenticated modseq tag told s h = subst (λ (t : Telling). Each IsQuiet t.own) (sym h) tt
+  tells_quiet (commands.Search asked) LoggedOut modseq tag told s h = subst (λ (t : Telling). Each IsQuiet t.own) (sym h) tt
   tells_quiet _ state modseq tag told s h = subst (λ (t : Telling). Each IsQuiet t.own) (sym h) tt
 
 -- ---- what stands in front of it

@@ -79,25 +79,25 @@ wants start ops stamp state (commands.Create name) = when_known state (create_wa
 wants start ops stamp state (commands.Delete name) = when_known state (delete_wants (is_there name ops) (delete_set_of ops name) name)
 wants start ops stamp state (commands.Subscribe name) = when_known state (subscribe_wants (is_subscribed name ops) name)
 wants start ops stamp state (commands.Unsubscribe name) = when_known state (unsubscribe_wants (subscription_tags_of ops name) name)
-wants start ops stamp state (commands.ListNames subscribed_only reference pattern return_subscribed) = when_known state (Ok [])
+wants start ops stamp state (commands.ListNames asked) = when_known state (Ok [])
 wants start ops stamp state commands.Namespace = when_known state (Ok [])
 wants start ops stamp state (commands.Status name items) = when_known state (status_wants (is_there name ops))
-wants start ops stamp state (commands.Append name flags date text) = when_known state (append_wants (is_there name ops) stamp (record { name = name; flags = flags; date = date; text = text }))
+wants start ops stamp state (commands.Append asked) = when_known state (append_wants (is_there asked.name ops) stamp (record { name = asked.name; flags = asked.flags; date = asked.date; text = asked.text }))
 wants start ops stamp state commands.Idle = when_known state (Ok [])
 wants start ops stamp state commands.Close = when_selected state (λ view read_only. close_wants (mailbox_in start ops view read_only))
 wants start ops stamp state commands.Unselect = when_selected state (λ view read_only. Ok [])
 wants start ops stamp state commands.Expunge = when_selected state (λ view read_only. expunge_wants (mailbox_in start ops view read_only))
 wants start ops stamp state (commands.UidExpunge uids) =
     when_selected state (λ view read_only. uid_expunge_wants (mailbox_in start ops view read_only) uids)
-wants start ops stamp state (commands.Search by_uid options steps) = when_selected state (λ view read_only. search_wants view.entries steps)
-wants start ops stamp state (commands.Fetch by_uid set items changed_since) =
-    when_selected state (λ view read_only. fetch_wants (mailbox_in start ops view read_only) (record { by_uid = by_uid; messages = set; items = items; changed_since = changed_since }))
-wants start ops stamp state (commands.Store by_uid set unchanged_since action flags) =
-    when_selected state (λ view read_only. store_wants (mailbox_in start ops view read_only) (record { by_uid = by_uid; messages = set; unchanged_since = unchanged_since; action = action; flags = flags }))
-wants start ops stamp state (commands.Copy by_uid set name) =
-    when_selected state (λ view read_only. copy_wants (mailbox_in start ops view read_only) (record { by_uid = by_uid; messages = set; destination = name }) (is_there name ops))
-wants start ops stamp state (commands.Move by_uid set name) =
-    when_selected state (λ view read_only. move_wants (mailbox_in start ops view read_only) (record { by_uid = by_uid; messages = set; destination = name }) (is_there name ops))
+wants start ops stamp state (commands.Search asked) = when_selected state (λ view read_only. search_wants view.entries asked.steps)
+wants start ops stamp state (commands.Fetch asked) =
+    when_selected state (λ view read_only. fetch_wants (mailbox_in start ops view read_only) (record { by_uid = asked.by_uid; messages = asked.messages; items = asked.items; changed_since = asked.changed_since }))
+wants start ops stamp state (commands.Store asked) =
+    when_selected state (λ view read_only. store_wants (mailbox_in start ops view read_only) (record { by_uid = asked.by_uid; messages = asked.messages; unchanged_since = asked.unchanged_since; action = asked.action; flags = asked.flags }))
+wants start ops stamp state (commands.Copy asked) =
+    when_selected state (λ view read_only. copy_wants (mailbox_in start ops view read_only) (record { by_uid = asked.by_uid; messages = asked.messages; destination = asked.name }) (is_there asked.name ops))
+wants start ops stamp state (commands.Move asked) =
+    when_selected state (λ view read_only. move_wants (mailbox_in start ops view read_only) (record { by_uid = asked.by_uid; messages = asked.messages; destination = asked.name }) (is_there asked.name ops))
 
 -- What a command tells of a mailbox that is selected, and nothing where none is.
 abbrev pub tells_selected : State → (Seen → Bool → Telling) → Telling
@@ -113,17 +113,17 @@ tells start before after state modseq commands.Idle = idle_tells
 tells start before after state modseq (commands.Enable names) = enable_tells names
 tells start before after state modseq (commands.Status name items) =
     status_tells name items (marks_of start name after) (listing start name after)
-tells start before after state modseq (commands.Append name flags date text) = append_tells (validity_of start name after) (uidnext_of start name before)
+tells start before after state modseq (commands.Append asked) = append_tells (validity_of start asked.name after) (uidnext_of start asked.name before)
 tells start before after state modseq (commands.UidExpunge uids) =
     tells_selected state (λ view read_only. uid_expunge_tells (mailbox_in start before view read_only) uids)
-tells start before after state modseq (commands.Fetch by_uid set items changed_since) =
-    tells_selected state (λ view read_only. fetch_tells (mailbox_in start before view read_only) (rows_for start after view) modseq (record { by_uid = by_uid; messages = set; items = items; changed_since = changed_since }))
-tells start before after state modseq (commands.Store by_uid set unchanged_since action flags) =
-    tells_selected state (λ view read_only. store_tells (mailbox_in start before view read_only) (rows_for start after view) modseq (record { by_uid = by_uid; messages = set; unchanged_since = unchanged_since; action = action; flags = flags }))
-tells start before after state modseq (commands.Copy by_uid set name) =
-    tells_selected state (λ view read_only. copy_tells (mailbox_in start before view read_only) (record { by_uid = by_uid; messages = set; destination = name }) (landing_in start before after name))
-tells start before after state modseq (commands.Move by_uid set name) =
-    tells_selected state (λ view read_only. move_tells (mailbox_in start before view read_only) (record { by_uid = by_uid; messages = set; destination = name }) (landing_in start before after name))
+tells start before after state modseq (commands.Fetch asked) =
+    tells_selected state (λ view read_only. fetch_tells (mailbox_in start before view read_only) (rows_for start after view) modseq (record { by_uid = asked.by_uid; messages = asked.messages; items = asked.items; changed_since = asked.changed_since }))
+tells start before after state modseq (commands.Store asked) =
+    tells_selected state (λ view read_only. store_tells (mailbox_in start before view read_only) (rows_for start after view) modseq (record { by_uid = asked.by_uid; messages = asked.messages; unchanged_since = asked.unchanged_since; action = asked.action; flags = asked.flags }))
+tells start before after state modseq (commands.Copy asked) =
+    tells_selected state (λ view read_only. copy_tells (mailbox_in start before view read_only) (record { by_uid = asked.by_uid; messages = asked.messages; destination = asked.name }) (landing_in start before after asked.name))
+tells start before after state modseq (commands.Move asked) =
+    tells_selected state (λ view read_only. move_tells (mailbox_in start before view read_only) (record { by_uid = asked.by_uid; messages = asked.messages; destination = asked.name }) (landing_in start before after asked.name))
 tells start before after state modseq _ = nothing_told
 
 abbrev pub SearchTellsSelected : Start → List Op → State → List ℕ → SearchAsked → Telling → Type 0
@@ -136,10 +136,10 @@ Tells start before after state modseq tag (commands.Select name condstore) told 
     SelectTells (is_selected state) false name (marks_of start name after) (listing start name after) told
 Tells start before after state modseq tag (commands.Examine name condstore) told =
     SelectTells (is_selected state) true name (marks_of start name after) (listing start name after) told
-Tells start before after state modseq tag (commands.ListNames subscribed_only reference pattern return_subscribed) told =
-    ListTells (record { subscribed_only = subscribed_only; return_subscribed = return_subscribed }) reference pattern (folders_of before) (subscribed_of before) told
-Tells start before after state modseq tag (commands.Search by_uid options steps) told =
-    SearchTellsSelected start after state tag (record { by_uid = by_uid; options = options; steps = steps }) told
+Tells start before after state modseq tag (commands.ListNames asked) told =
+    ListTells (record { subscribed_only = asked.subscribed_only; return_subscribed = asked.return_subscribed }) asked.reference asked.pattern (folders_of before) (subscribed_of before) told
+Tells start before after state modseq tag (commands.Search asked) told =
+    SearchTellsSelected start after state tag (record { by_uid = asked.by_uid; options = asked.options; steps = asked.steps }) told
 Tells start before after state modseq tag command told = told ≡ tells start before after state modseq command
 
 -- The state behind a command, before its answers are replayed. It shows no messages of a mailbox that is selected anew.
@@ -165,9 +165,9 @@ sync_of (commands.Examine name condstore) = None
 sync_of commands.Idle = None
 sync_of commands.Unselect = None
 sync_of commands.Close = None
-sync_of (commands.Search by_uid options steps) = Some (by_kind by_uid)
-sync_of (commands.Fetch by_uid set items changed_since) = Some (by_kind by_uid)
-sync_of (commands.Store by_uid set unchanged_since action flags) = Some (by_kind by_uid)
+sync_of (commands.Search asked) = Some (by_kind asked.by_uid)
+sync_of (commands.Fetch asked) = Some (by_kind asked.by_uid)
+sync_of (commands.Store asked) = Some (by_kind asked.by_uid)
 sync_of _ = Some Full
 
 -- The commands that turn mod-sequences on (RFC 7162, section 3.1).
@@ -176,9 +176,9 @@ is_enabling (commands.Enable names) = asks_condstore names
 is_enabling (commands.Select name condstore) = condstore
 is_enabling (commands.Examine name condstore) = condstore
 is_enabling (commands.Status name items) = status_asks_modseq items
-is_enabling (commands.Search by_uid options steps) = search_asks_modseq steps
-is_enabling (commands.Fetch by_uid set items changed_since) = fetch_asks_modseq items changed_since
-is_enabling (commands.Store by_uid set unchanged_since action flags) = is_some unchanged_since
+is_enabling (commands.Search asked) = search_asks_modseq asked.steps
+is_enabling (commands.Fetch asked) = fetch_asks_modseq asked.items asked.changed_since
+is_enabling (commands.Store asked) = is_some asked.unchanged_since
 is_enabling _ = false
 
 -- A command that leaves the selected mailbox also where it is refused (RFC 9051, section 6.3.2).
@@ -205,20 +205,20 @@ word_of (commands.Create name) = words.Create
 word_of (commands.Delete name) = words.Delete
 word_of (commands.Subscribe name) = words.Subscribe
 word_of (commands.Unsubscribe name) = words.Unsubscribe
-word_of (commands.ListNames subscribed_only reference pattern return_subscribed) = words.List
+word_of (commands.ListNames asked) = words.List
 word_of commands.Namespace = words.Namespace
 word_of (commands.Status name items) = words.Status
-word_of (commands.Append name flags date text) = words.Append
+word_of (commands.Append asked) = words.Append
 word_of commands.Idle = words.Idle
 word_of commands.Close = words.Close
 word_of commands.Unselect = words.Unselect
 word_of commands.Expunge = words.Expunge
 word_of (commands.UidExpunge uids) = words.UidExpunge
-word_of (commands.Search by_uid options steps) = if by_uid then words.UidSearch else words.Search
-word_of (commands.Fetch by_uid set items changed_since) = if by_uid then words.UidFetch else words.Fetch
-word_of (commands.Store by_uid set unchanged_since action flags) = if by_uid then words.UidStore else words.Store
-word_of (commands.Copy by_uid set name) = if by_uid then words.UidCopy else words.Copy
-word_of (commands.Move by_uid set name) = if by_uid then words.UidMove else words.Move
+word_of (commands.Search asked) = if asked.by_uid then words.UidSearch else words.Search
+word_of (commands.Fetch asked) = if asked.by_uid then words.UidFetch else words.Fetch
+word_of (commands.Store asked) = if asked.by_uid then words.UidStore else words.Store
+word_of (commands.Copy asked) = if asked.by_uid then words.UidCopy else words.Copy
+word_of (commands.Move asked) = if asked.by_uid then words.UidMove else words.Move
 
 -- ---- mod-sequences (RFC 7162, section 3.1)
 

@@ -16,3 +16,4 @@ pub mod Going
 pub mod Issues
 pub mod GoingBack
 pub mod Replies
+pub mod Steps

@@ -2,23 +2,16 @@ use Rattle.std.specs.Prelude.{◌≡◌, ◌⊎◌, ℕ, ◌+◌, ◌<◌, List,
 use Rattle.causal_inbox.specs.Seen.{IsClockOf}
 use Rattle.crdt_ops.specs.declared.kind.Kind.{Kind}
 use Rattle.crdt_ops.specs.declared.op.Op.{Op}
+pub use Rattle.crdt_ops.specs.Ops.{clock_of, id_of}
 use Rattle.crdt_ops.specs.Sound.{CoversNamed, IsSound}
 use Rattle.imap_answers.specs.declared.words.Refusal.{Refusal}
 use Rattle.imap_answers.specs.declared.words.Refusal.TheVariants.{NoMemory, NumberUsedUp}
 use Rattle.imap_commands.specs.Lawful.{IsLawfulKind}
 use Rattle.merge_laws.specs.Orders.{HasId, IsIn}
 use Rattle.tags_clocks.specs.Clock.{count_of}
-use Rattle.tags_clocks.specs.declared.id.OpId.{OpId}
 use Rattle.uid_projection.specs.declared.start.Start.{Start}
 use Rattle.uid_projection.specs.Applied.{IsApplied}
 use Rattle.uid_projection.specs.Exhaustion.{Exhausts}
-
--- An operation's id, and the clock that it bears.
-abbrev pub id_of : Op → OpId
-id_of op = op.id
-
-abbrev pub clock_of : Op → List (ℕ × ℕ)
-clock_of op = op.clock
 
 -- An operation that comes next at this replica: its clock counts all that was applied there, and its number is one more
 -- than those of the replica's operations among these.

@@ -115,12 +115,11 @@ fn command_course(
     requires { IsReady replica.now ops.now }
     ensures { IfOk result (λ course. CommandTakes replica.now.start replica.now.applied (replica.now.applied ++ ops.now) session.now tagged.now (course_from session.now.state course)) }
 {
-    let Tagged { tag, command } = tagged;
-    let modseq = is_on(session, command);
-    let told = tells(alloc, replica, ops, &session.state, modseq, tag, command)?;
-    let moved = moves_to(alloc, replica, ops, command)?;
-    let first = notice(alloc, replica, ops, session, command)?;
-    told_course(alloc, first, told, moved, modseq, tag, command)
+    let modseq = is_on(session, &tagged.command);
+    let told = tells(alloc, replica, ops, &session.state, modseq, tagged)?;
+    let moved = moves_to(alloc, replica, ops, &tagged.command)?;
+    let first = notice(alloc, replica, ops, session, &tagged.command)?;
+    told_course(alloc, first, told, moved, modseq, tagged)
 }
 
 /// The course of a command that tells this.
@@ -130,11 +129,11 @@ fn told_course(
     told: Telling,
     moved: Option<State>,
     modseq: bool,
-    tag: &Octets,
-    command: &Command,
+    tagged: &Tagged,
 ) -> Result<Course, AllocError>
-    ensures { IfOk result (λ course. (state : Stands) → course_from state course ≡ told_course first.items told (moved_from state moved) modseq tag.now command.now) }
+    ensures { IfOk result (λ course. (state : Stands) → course_from state course ≡ told_course first.items told (moved_from state moved) modseq tagged.now.tag tagged.now.command) }
 {
+    let Tagged { tag, command } = tagged;
     let (own, silent, code) = told.into_parts();
     let tail = tail_of(alloc, tag, code, command)?;
     Ok(Course {

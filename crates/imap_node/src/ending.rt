@@ -29,11 +29,12 @@ use imap_syntax::Command;
 use imap_types::Name;
 use mail_listing::Rows;
 use session_view::{
-    Entries, Silent, SyncKind, SyncOutcome, View, do_shift, push_flags_told, replayed, synced,
+    Entries, Silent, SyncForm, SyncKind, SyncOutcome, View, do_shift, push_flags_told, replayed,
+    synced,
 };
 use std::alloc::{AllocError, Global};
 use std::marker::Model;
-use view_sync::{Noted, Planned, SyncForm, plan};
+use view_sync::{Noted, Planned, plan};
 
 /// The state behind a command, before its answers are replayed, where it isn't the one before. It shows no messages of a mailbox that is selected anew.
 pub fn moves_to(
@@ -139,15 +140,7 @@ pub fn ending(
         State::Selected { view, read_only } => {
             let rows = rows_behind(alloc, replica, ops, &view)?;
             let is_first = is_first_sight(&view, front);
-            let (answers, view) = seen(
-                alloc,
-                front.sync,
-                front.modseq,
-                &rows,
-                view,
-                front.silent,
-                front.own,
-            )?;
+            let (answers, view) = seen(alloc, &rows, view, front)?;
             let shows_all = is_first && view.entries().len() == rows.count() as usize;
             Ok(Anew {
                 answers,
@@ -278,20 +271,18 @@ fn flags_first(alloc: Global, front: &Front<'_>) -> Result<Vec<Silent>, AllocErr
     Ok(first)
 }
 
+/// What the sync sends behind what stands in front of it, and what a view shows then.
 fn seen(
     alloc: Global,
-    sync: Option<SyncKind>,
-    modseq: bool,
     rows: &Rows<'_>,
     view: View,
-    silent: &[Silent],
-    own: &[Answer],
+    front: &Front<'_>,
 ) -> Result<(Vec<Answer>, View), AllocError>
-    ensures answers { IfOk result (λ s. s.0.items ≡ answers_by sync modseq rows.now (replayed rows.now view.entries silent.now own.now)) }
-    ensures view { IfOk result (λ s. s.1 ≡ record view { entries = synced_by sync rows.now (replayed rows.now view.entries silent.now own.now) }) }
+    ensures answers { IfOk result (λ s. s.0.items ≡ answers_by front.now.sync front.now.modseq rows.now (replayed rows.now view.entries front.now.silent front.now.own)) }
+    ensures view { IfOk result (λ s. s.1 ≡ record view { entries = synced_by front.now.sync rows.now (replayed rows.now view.entries front.now.silent front.now.own) }) }
 {
-    let entries = replayed(alloc, rows, view.entries(), silent, own)?;
-    let (entries, answers) = brought(alloc, sync, modseq, rows, entries)?;
+    let entries = replayed(alloc, rows, view.entries(), front.silent, front.own)?;
+    let (entries, answers) = brought(alloc, front.sync, front.modseq, rows, entries)?;
     Ok((answers, view.with_entries(entries)))
 }
 

@@ -298,7 +298,8 @@ fn followed(
         sync,
         modseq,
     };
-    let (answers, onward) = ended(alloc, replica, ops, state, untold, moved, &front)?;
+    let applied = Applied { replica, ops };
+    let (answers, onward) = ended(alloc, &applied, state, untold, moved, &front)?;
     Ok(Told {
         answers: joined(own, joined(answers, tail)?)?,
         silent,
@@ -306,23 +307,29 @@ fn followed(
     })
 }
 
+/// A replica, and the operations of an input behind those that it applied.
+#[derive(Drop)]
+struct Applied<'a> {
+    replica: &'a Replica,
+    ops: &'a [SoundOp],
+}
+
 /// The sync, and what becomes of the state, behind what moved it, if something did.
 fn ended(
     alloc: Global,
-    replica: &Replica,
-    ops: &[SoundOp],
+    applied: &Applied<'_>,
     state: &mut State,
     untold: &Untold<'_>,
     moved: Option<State>,
     front: &Front<'_>,
 ) -> Result<(Vec<Answer>, Onward), AllocError>
-    requires ready { IsReady replica.now ops.now }
-    requires noted { (view : Seen) → view_of state.old ≡ Some view → IsNotedFor replica.now.start replica.now.applied untold.now.pending view }
-    requires news { IsNews replica.now.start replica.now.applied (replica.now.applied ++ ops.now) untold.now.news }
+    requires ready { IsReady applied.now.replica.now applied.now.ops.now }
+    requires noted { (view : Seen) → view_of state.old ≡ Some view → IsNotedFor applied.now.replica.now.start applied.now.replica.now.applied untold.now.pending view }
+    requires news { IsNews applied.now.replica.now.start applied.now.replica.now.applied (applied.now.replica.now.applied ++ applied.now.ops.now) untold.now.news }
     ensures same { state.new ≡ state.old }
-    ensures answers { IfOk result (λ e. e.0.items ≡ (ending_behind replica.now.start (replica.now.applied ++ ops.now) (moved_from state.old moved) front.now).answers) }
-    ensures state { IfOk result (λ e. state_onward state.old e.1 ≡ (ending_behind replica.now.start (replica.now.applied ++ ops.now) (moved_from state.old moved) front.now).state) }
-    ensures can { IfOk result (λ e. CanGo replica.now.start (replica.now.applied ++ ops.now) state.old e.1) }
+    ensures answers { IfOk result (λ e. e.0.items ≡ (ending_behind applied.now.replica.now.start (applied.now.replica.now.applied ++ applied.now.ops.now) (moved_from state.old moved) front.now).answers) }
+    ensures state { IfOk result (λ e. state_onward state.old e.1 ≡ (ending_behind applied.now.replica.now.start (applied.now.replica.now.applied ++ applied.now.ops.now) (moved_from state.old moved) front.now).state) }
+    ensures can { IfOk result (λ e. CanGo applied.now.replica.now.start (applied.now.replica.now.applied ++ applied.now.ops.now) state.old e.1) }
 {
     match moved {
         Some(next) => {
@@ -330,9 +337,9 @@ fn ended(
                 answers,
                 state,
                 shows_all,
-            } = ending(alloc, replica, ops, next, front)?;
+            } = ending(alloc, applied.replica, applied.ops, next, front)?;
             Ok((answers, Onward::Moves { state, shows_all }))
         }
-        None => ending_in_place(alloc, replica, ops, state, untold, front),
+        None => ending_in_place(alloc, applied.replica, applied.ops, state, untold, front),
     }
 }

@@ -9,7 +9,7 @@ use imap_answers::{CommandWord, Refusal};
 use imap_commands::{
     Session, State, asks_condstore, fetch_asks_modseq, search_asks_modseq, status_asks_modseq,
 };
-use imap_syntax::Command;
+use imap_syntax::{Command, Fetch, Search, Store, Transfer};
 use session_view::SyncKind;
 
 /// Whether a mailbox is selected.
@@ -42,9 +42,9 @@ pub fn sync_of(command: &Command) -> Option<SyncKind>
         Command::Idle => None,
         Command::Unselect => None,
         Command::Close => None,
-        Command::Search { by_uid, .. } => Some(by_kind(*by_uid)),
-        Command::Fetch { by_uid, .. } => Some(by_kind(*by_uid)),
-        Command::Store { by_uid, .. } => Some(by_kind(*by_uid)),
+        Command::Search(search) => Some(by_kind(search.by_uid)),
+        Command::Fetch(fetch) => Some(by_kind(fetch.by_uid)),
+        Command::Store(store) => Some(by_kind(store.by_uid)),
         _ => Some(SyncKind::Full),
     }
 }
@@ -58,16 +58,9 @@ pub fn is_enabling(command: &Command) -> bool
         Command::Select { condstore, .. } => *condstore,
         Command::Examine { condstore, .. } => *condstore,
         Command::Status { items, .. } => status_asks_modseq(items.as_slice()),
-        Command::Search { steps, .. } => search_asks_modseq(steps.as_slice()),
-        Command::Fetch {
-            items,
-            changed_since,
-            ..
-        } => fetch_asks_modseq(items.as_slice(), *changed_since),
-        Command::Store {
-            unchanged_since,
-            ..
-        } => unchanged_since.is_some(),
+        Command::Search(search) => search_asks_modseq(search.steps.as_slice()),
+        Command::Fetch(fetch) => fetch_asks_modseq(fetch.items.as_slice(), fetch.changed_since),
+        Command::Store(store) => store.unchanged_since.is_some(),
         _ => false,
     }
 }
@@ -143,24 +136,24 @@ pub fn word_of(command: &Command) -> CommandWord
         Command::Delete { .. } => CommandWord::Delete,
         Command::Subscribe { .. } => CommandWord::Subscribe,
         Command::Unsubscribe { .. } => CommandWord::Unsubscribe,
-        Command::ListNames { .. } => CommandWord::List,
+        Command::ListNames(_) => CommandWord::List,
         Command::Namespace => CommandWord::Namespace,
         Command::Status { .. } => CommandWord::Status,
-        Command::Append { .. } => CommandWord::Append,
+        Command::Append(_) => CommandWord::Append,
         Command::Idle => CommandWord::Idle,
         Command::Close => CommandWord::Close,
         Command::Unselect => CommandWord::Unselect,
         Command::Expunge => CommandWord::Expunge,
         Command::UidExpunge { .. } => CommandWord::UidExpunge,
-        Command::Search { by_uid: true, .. } => CommandWord::UidSearch,
-        Command::Search { by_uid: false, .. } => CommandWord::Search,
-        Command::Fetch { by_uid: true, .. } => CommandWord::UidFetch,
-        Command::Fetch { by_uid: false, .. } => CommandWord::Fetch,
-        Command::Store { by_uid: true, .. } => CommandWord::UidStore,
-        Command::Store { by_uid: false, .. } => CommandWord::Store,
-        Command::Copy { by_uid: true, .. } => CommandWord::UidCopy,
-        Command::Copy { by_uid: false, .. } => CommandWord::Copy,
-        Command::Move { by_uid: true, .. } => CommandWord::UidMove,
-        Command::Move { by_uid: false, .. } => CommandWord::Move,
+        Command::Search(Search { by_uid: true, .. }) => CommandWord::UidSearch,
+        Command::Search(Search { by_uid: false, .. }) => CommandWord::Search,
+        Command::Fetch(Fetch { by_uid: true, .. }) => CommandWord::UidFetch,
+        Command::Fetch(Fetch { by_uid: false, .. }) => CommandWord::Fetch,
+        Command::Store(Store { by_uid: true, .. }) => CommandWord::UidStore,
+        Command::Store(Store { by_uid: false, .. }) => CommandWord::Store,
+        Command::Copy(Transfer { by_uid: true, .. }) => CommandWord::UidCopy,
+        Command::Copy(Transfer { by_uid: false, .. }) => CommandWord::Copy,
+        Command::Move(Transfer { by_uid: true, .. }) => CommandWord::UidMove,
+        Command::Move(Transfer { by_uid: false, .. }) => CommandWord::Move,
     }
 }

@@ -26,7 +26,7 @@ use imap_commands::{
     store_tells, uid_expunge_tells,
 };
 use imap_query::{ListMode, Marks};
-use imap_syntax::{Command, StatusItem};
+use imap_syntax::{Command, StatusItem, Tagged};
 use imap_types::{Name, Octets, SequenceSet};
 use mail_listing::Rows;
 use session_view::View;
@@ -39,12 +39,12 @@ pub fn tells(
     ops: &[SoundOp],
     state: &State,
     modseq: bool,
-    tag: &Octets,
-    command: &Command,
+    tagged: &Tagged,
 ) -> Result<Telling, AllocError>
     requires { IsReady replica.now ops.now }
-    ensures { IfOk result (λ told. Tells replica.now.start replica.now.applied (replica.now.applied ++ ops.now) state.now modseq tag.now command.now told) }
+    ensures { IfOk result (λ told. Tells replica.now.start replica.now.applied (replica.now.applied ++ ops.now) state.now modseq tagged.now.tag tagged.now.command told) }
 {
+    let Tagged { tag, command } = tagged;
     match command {
         Command::Capability => capability_tells(alloc),
         Command::Noop => Ok(Telling::nothing(alloc)),
@@ -57,94 +57,66 @@ pub fn tells(
         Command::Delete { .. } => Ok(Telling::nothing(alloc)),
         Command::Subscribe { .. } => Ok(Telling::nothing(alloc)),
         Command::Unsubscribe { .. } => Ok(Telling::nothing(alloc)),
-        Command::ListNames {
-            subscribed_only,
-            reference,
-            pattern,
-            return_subscribed,
-        } => tells_list(
+        Command::ListNames(list) => tells_list(
             alloc,
             replica,
             ListMode {
-                subscribed_only: *subscribed_only,
-                return_subscribed: *return_subscribed,
+                subscribed_only: list.subscribed_only,
+                return_subscribed: list.return_subscribed,
             },
-            reference,
-            pattern,
+            &list.reference,
+            &list.pattern,
         ),
         Command::Namespace => namespace_tells(alloc),
         Command::Status { name, items } => {
             tells_status(alloc, replica, ops, name, items.as_slice())
         }
-        Command::Append { name, .. } => Ok(tells_append(alloc, replica, ops, name)),
+        Command::Append(append) => Ok(tells_append(alloc, replica, ops, &append.name)),
         Command::Idle => idle_tells(alloc),
         Command::Close => Ok(Telling::nothing(alloc)),
         Command::Unselect => Ok(Telling::nothing(alloc)),
         Command::Expunge => Ok(Telling::nothing(alloc)),
         Command::UidExpunge { uids } => tells_uid_expunge(alloc, replica, state, uids),
-        Command::Search {
-            by_uid,
-            options,
-            steps,
-        } => {
+        Command::Search(search) => {
             let asked = SearchAsked {
-                by_uid: *by_uid,
-                options: options.as_slice(),
-                steps,
+                by_uid: search.by_uid,
+                options: search.options.as_slice(),
+                steps: &search.steps,
             };
             tells_search(alloc, replica, ops, state, tag, &asked)
         }
-        Command::Fetch {
-            by_uid,
-            messages,
-            items,
-            changed_since,
-        } => {
+        Command::Fetch(fetch) => {
             let asked = FetchAsked {
-                by_uid: *by_uid,
-                messages,
-                items: items.as_slice(),
-                changed_since: *changed_since,
+                by_uid: fetch.by_uid,
+                messages: &fetch.messages,
+                items: fetch.items.as_slice(),
+                changed_since: fetch.changed_since,
             };
             tells_fetch(alloc, replica, ops, state, modseq, &asked)
         }
-        Command::Store {
-            by_uid,
-            messages,
-            unchanged_since,
-            action,
-            flags,
-        } => {
+        Command::Store(store) => {
             let asked = StoreAsked {
-                by_uid: *by_uid,
-                messages,
-                unchanged_since: *unchanged_since,
-                action: *action,
-                flags,
+                by_uid: store.by_uid,
+                messages: &store.messages,
+                unchanged_since: store.unchanged_since,
+                action: store.action,
+                flags: &store.flags,
             };
             tells_store(alloc, replica, ops, state, modseq, &asked)
         }
-        Command::Copy {
-            by_uid,
-            messages,
-            name,
-        } => {
+        Command::Copy(transfer) => {
             let asked = CopyAsked {
-                by_uid: *by_uid,
-                messages,
-                destination: name,
+                by_uid: transfer.by_uid,
+                messages: &transfer.messages,
+                destination: &transfer.name,
             };
             tells_copy(alloc, replica, ops, state, &asked)
         }
-        Command::Move {
-            by_uid,
-            messages,
-            name,
-        } => {
+        Command::Move(transfer) => {
             let asked = CopyAsked {
-                by_uid: *by_uid,
-                messages,
-                destination: name,
+                by_uid: transfer.by_uid,
+                messages: &transfer.messages,
+                destination: &transfer.name,
             };
             tells_move(alloc, replica, ops, state, &asked)
         }

@@ -79,20 +79,15 @@ fn wants(
         Command::Delete { name } => wants_delete(alloc, replica, state, name),
         Command::Subscribe { name } => wants_subscribe(alloc, replica, state, name),
         Command::Unsubscribe { name } => wants_unsubscribe(alloc, replica, state, name),
-        Command::ListNames { .. } => known(alloc, state),
+        Command::ListNames(_) => known(alloc, state),
         Command::Namespace => known(alloc, state),
         Command::Status { name, .. } => wants_status(alloc, replica, state, name),
-        Command::Append {
-            name,
-            flags,
-            date,
-            text,
-        } => {
+        Command::Append(append) => {
             let asked = AppendAsked {
-                name,
-                flags,
-                date,
-                text,
+                name: &append.name,
+                flags: &append.flags,
+                date: &append.date,
+                text: &append.text,
             };
             wants_append(alloc, replica, stamp, state, &asked)
         }
@@ -101,58 +96,39 @@ fn wants(
         Command::Unselect => selected(alloc, state),
         Command::Expunge => wants_expunge(alloc, replica, state),
         Command::UidExpunge { uids } => wants_uid_expunge(alloc, replica, state, uids),
-        Command::Search { steps, .. } => wants_search(alloc, state, steps.as_slice()),
-        Command::Fetch {
-            by_uid,
-            messages,
-            items,
-            changed_since,
-        } => {
+        Command::Search(search) => wants_search(alloc, state, search.steps.as_slice()),
+        Command::Fetch(fetch) => {
             let asked = FetchAsked {
-                by_uid: *by_uid,
-                messages,
-                items: items.as_slice(),
-                changed_since: *changed_since,
+                by_uid: fetch.by_uid,
+                messages: &fetch.messages,
+                items: fetch.items.as_slice(),
+                changed_since: fetch.changed_since,
             };
             wants_fetch(alloc, replica, state, &asked)
         }
-        Command::Store {
-            by_uid,
-            messages,
-            unchanged_since,
-            action,
-            flags,
-        } => {
+        Command::Store(store) => {
             let asked = StoreAsked {
-                by_uid: *by_uid,
-                messages,
-                unchanged_since: *unchanged_since,
-                action: *action,
-                flags,
+                by_uid: store.by_uid,
+                messages: &store.messages,
+                unchanged_since: store.unchanged_since,
+                action: store.action,
+                flags: &store.flags,
             };
             wants_store(alloc, replica, state, &asked)
         }
-        Command::Copy {
-            by_uid,
-            messages,
-            name,
-        } => {
+        Command::Copy(transfer) => {
             let asked = CopyAsked {
-                by_uid: *by_uid,
-                messages,
-                destination: name,
+                by_uid: transfer.by_uid,
+                messages: &transfer.messages,
+                destination: &transfer.name,
             };
             wants_copy(alloc, replica, state, &asked)
         }
-        Command::Move {
-            by_uid,
-            messages,
-            name,
-        } => {
+        Command::Move(transfer) => {
             let asked = CopyAsked {
-                by_uid: *by_uid,
-                messages,
-                destination: name,
+                by_uid: transfer.by_uid,
+                messages: &transfer.messages,
+                destination: &transfer.name,
             };
             wants_move(alloc, replica, state, &asked)
         }

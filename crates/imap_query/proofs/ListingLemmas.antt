@@ -8,8 +8,8 @@ use Rattle.std.proofs.lemmas.Slice.Eq.{bytes_eq-Decides}
 use Rattle.std.specs.Str.{bytes_eq}
 use Rattle.imap_types.specs.Names.{folded_name}
 use Rattle.imap_query.specs.Listing.{AreListed, EndsInPercent, IsListed, IsSuperior, Lists}
-use Rattle.imap_query.specs.Patterns.{IsIn, IsMatched, pattern_for}
-use Rattle.imap_query.specs.Placing.{ends_in_percent, found, is_among, levels_from, placed_all, shown_among, shown_level, shown_levels, shown_mailboxes}
+use Rattle.imap_query.specs.Patterns.{IsIn, IsMatched, is_among, pattern_for}
+use Rattle.imap_query.specs.Placing.{ends_in_percent, found, levels_from, placed_all, shown_among, shown_level, shown_levels, shown_mailboxes}
 use Rattle.imap_query.specs.Rows.{is_shown}
 use Rattle.imap_query.specs.declared.listing.ListEntry.{ListEntry}
 use Rattle.imap_query.proofs.MatchLemmas.{match_gives, match_takes, or_cases, or_left, or_right}

@@ -5,8 +5,7 @@ use Rattle.imap_answers.specs.declared.mailbox.MailboxState.{MailboxState}
 use Rattle.imap_answers.specs.declared.mailbox.MailboxState.TheVariants.{There, NoSelect, NonExistent}
 use Rattle.imap_types.specs.Ascending.{AreAscending}
 use Rattle.imap_query.specs.Listing.{AreListed}
-use Rattle.imap_query.specs.Patterns.{IsIn, IsMatched}
-use Rattle.imap_query.specs.Placing.{is_among}
+use Rattle.imap_query.specs.Patterns.{IsIn, IsMatched, is_among}
 use Rattle.imap_query.specs.declared.listing.ListEntry.{ListEntry}
 use Rattle.imap_query.specs.declared.naming.ListMode.{ListMode}
 

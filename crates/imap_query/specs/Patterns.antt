@@ -1,11 +1,17 @@
-use Rattle.std.specs.Prelude.{◌≡◌, ◌≢◌, ℕ, ◌⊎◌, List, [], ◌∷◌, ◌++◌, map, if◌then◌else◌}
+use Rattle.std.specs.Prelude.{◌≡◌, ◌≢◌, ℕ, Bool, ◌⊎◌, List, [], ◌∷◌, ◌++◌, map, if◌then◌else◌}
 use Rattle.std.specs.Char.{to_ascii_uppercase}
+use Rattle.std.specs.List.{list_any}
+use Rattle.std.specs.Str.{bytes_eq}
 use Rattle.imap_types.specs.Names.{folded_name, is_inbox}
 
 -- A value is one of a list's.
 abbrev pub IsIn : {X : Type 0} → X → List X → Type 0
 IsIn value [] = ⊥
 IsIn value (other ∷ others) = (other ≡ value) ⊎ IsIn value others
+
+-- Whether a name is one of some names.
+abbrev pub is_among : List (List ℕ) → List ℕ → Bool
+is_among names name = list_any (λ other. bytes_eq other name) names
 
 -- What an octet of a pattern stands for: `*` (42) for any text, `%` (37) for any text without a separator `/` (47),
 -- any other octet for itself (RFC 9051, section 6.3.9).

@@ -1,11 +1,10 @@
 -- What the code computes, entry by entry; proofs/PlacingLemmas and proofs/ListingLemmas tie it to Listing.
 use Rattle.std.specs.Prelude.{ℕ, Bool, true, false, ◌==◌, List, [], ◌∷◌, ◌++◌, if◌then◌else◌}
-use Rattle.std.specs.List.{list_any}
-use Rattle.std.specs.Str.{bytes_eq}
 use Rattle.std.specs.declared.cmp.Ordering.{Ordering}
 use Rattle.std.specs.declared.cmp.Ordering.TheVariants.{Less, Equal, Greater}
 use Rattle.imap_types.specs.Ascending.{compared}
 use Rattle.imap_types.specs.Names.{folded_name}
+use Rattle.imap_query.specs.Patterns.{is_among}
 use Rattle.imap_query.specs.Rows.{is_shown}
 use Rattle.imap_query.specs.declared.listing.ListEntry.{ListEntry}
 
@@ -29,10 +28,6 @@ placed_all (entry ∷ more) entries = placed_all more (placed entry entries)
 abbrev pub shown_mailboxes : List ℕ → List (List ℕ) → List ListEntry
 shown_mailboxes pattern [] = []
 shown_mailboxes pattern (folder ∷ folders) = if is_shown pattern folder then (record { name = folder; is_mailbox = true }) ∷ shown_mailboxes pattern folders else shown_mailboxes pattern folders
-
--- Whether a name is one of the folders.
-abbrev pub is_among : List (List ℕ) → List ℕ → Bool
-is_among folders name = list_any (λ folder. bytes_eq folder name) folders
 
 -- The entry of a superior level that a pattern matches and that is none of the folders.
 abbrev pub shown_level : List ℕ → List (List ℕ) → List ℕ → List ListEntry

@@ -1,10 +1,7 @@
-use Rattle.std.specs.Prelude.{ℕ, ◌+◌, ◌*◌, Bool, true, ◌&&◌, nat_le, nat_lt, ◌==◌, min, max, List, length, codes}
-use Rattle.std.specs.List.{list_any}
+use Rattle.std.specs.Prelude.{ℕ, ◌+◌, ◌*◌, Bool, true, nat_le, nat_lt, ◌==◌, List, length, codes}
 use Rattle.imap_types.specs.Keywords.{has_keyword}
+pub use Rattle.imap_types.specs.Sets.{bound_of, is_between, range_names, set_names}
 use Rattle.imap_types.specs.declared.day.Day.{Day}
-use Rattle.imap_types.specs.declared.sequence_set.SequenceBound.{SequenceBound}
-use Rattle.imap_types.specs.declared.sequence_set.SequenceBound.TheVariants.{Number, Greatest}
-use Rattle.imap_types.specs.declared.sequence_set.SequenceRange.{SequenceRange}
 use Rattle.imap_syntax.specs.declared.search.DayOrder.{DayOrder}
 use Rattle.imap_syntax.specs.declared.search.DayOrder.TheVariants.{Before, On, Since}
 use Rattle.imap_syntax.specs.declared.search.SearchTest.{SearchTest}
@@ -37,18 +34,6 @@ abbrev pub is_dated : DayOrder → Day → List ℕ → Bool
 is_dated Before day date = nat_lt (rank (written_day date)) (rank day)
 is_dated On day date = rank (written_day date) == rank day
 is_dated Since day date = nat_le (rank day) (rank (written_day date))
-
--- Whether a set names a number, where this is the greatest (RFC 9051, section 9, sequence-set).
-abbrev pub bound_of : ℕ → SequenceBound → ℕ
-bound_of top (Number n) = n
-bound_of top Greatest = top
-
-abbrev pub range_names : ℕ → ℕ → SequenceRange → Bool
-range_names top n range =
-    nat_le (min (bound_of top range.first) (bound_of top range.last)) n && nat_le n (max (bound_of top range.first) (bound_of top range.last))
-
-abbrev pub set_names : ℕ → List SequenceRange → ℕ → Bool
-set_names top set n = list_any (range_names top n) set
 
 -- Whether a test holds of a message that a view shows, of which this is the last (RFC 9051, section 6.4.4; RFC 7162, section 3.1.5).
 abbrev pub is_so : Shown → Shown → Listed → SearchTest → Bool

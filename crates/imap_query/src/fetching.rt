@@ -27,6 +27,13 @@ pub struct FetchMode {
     pub changed_since: Option<u64>,
 }
 
+/// What FETCH asks of each message, and how.
+#[derive(Clone, Copy)]
+struct Asked<'a> {
+    items: &'a [FetchItem],
+    mode: FetchMode,
+}
+
 /// What FETCH asks, but for the sections.
 #[derive(Clone, Copy, Debug, PartialEq, Eq)]
 enum Part {
@@ -51,9 +58,10 @@ pub fn fetch(
 ) -> Result<Vec<Answer>, AllocError>
     ensures { IfOk result (λ answers. answers.items ≡ fetch_answers items.now mode before.now after.now named.now) }
 {
+    let asked = Asked { items, mode };
     let mut answers = Vec::new(alloc);
     for shown in named {
-        push_answer(alloc, before, after, items, mode, *shown, &mut answers)?;
+        push_answer(alloc, before, after, asked, *shown, &mut answers)?;
     }
     Ok(answers)
 }
@@ -63,22 +71,21 @@ fn push_answer(
     alloc: Global,
     before: &Rows<'_>,
     after: &Rows<'_>,
-    items: &[FetchItem],
-    mode: FetchMode,
+    asked: Asked<'_>,
     shown: Shown,
     answers: &mut Vec<Answer>,
 ) -> Result<(), AllocError>
-    ensures { OnOk result (answers.new.items ≡ answers.old.items ++ answer_of items.now mode shown (row_of shown.uid before.now) (row_of shown.uid after.now)) }
+    ensures { OnOk result (answers.new.items ≡ answers.old.items ++ answer_of asked.entry.items.now asked.entry.mode shown (row_of shown.uid before.now) (row_of shown.uid after.now)) }
 {
     match before.row_near(shown.place(), shown.uid) {
         None => Ok(()),
         Some(old) => match after.row_near(shown.place(), shown.uid) {
             None => Ok(()),
             Some(row) => {
-                if !is_kept(mode.changed_since, &old) {
+                if !is_kept(asked.mode.changed_since, &old) {
                     return Ok(());
                 }
-                let told = items_of(alloc, items, mode, &old, &row)?;
+                let told = items_of(alloc, asked.items, asked.mode, &old, &row)?;
                 push_fetch(answers, shown.number, told)
             }
         },

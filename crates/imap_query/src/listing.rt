@@ -1,7 +1,8 @@
 ghost use Rattle.std.specs.Prelude.{◌≡◌, ℕ, ◌≤◌, false, List, [], ◌∷◌, ◌++◌, IfOk, OnOk, MatchOption, length};
 ghost use Rattle.std.specs.List.{insert};
 ghost use Rattle.imap_query.specs.Listing.{Lists};
-ghost use Rattle.imap_query.specs.Placing.{ends_in_percent, found, found_levels, is_among, levels_from, placed, placed_all, shown_among, shown_level, shown_mailboxes};
+ghost use Rattle.imap_query.specs.Patterns.{is_among};
+ghost use Rattle.imap_query.specs.Placing.{ends_in_percent, found, found_levels, levels_from, placed, placed_all, shown_among, shown_level, shown_mailboxes};
 ghost use Rattle.imap_query.specs.declared.listing.ListEntry.{ListEntry as Shown};
 
 use crate::pattern::{Pattern, is_shown};

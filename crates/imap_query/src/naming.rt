@@ -5,7 +5,8 @@ ghost use Rattle.imap_answers.specs.declared.answer.Answer.TheVariants.{List as 
 ghost use Rattle.imap_answers.specs.declared.mailbox.MailboxState.TheVariants.{NoSelect};
 ghost use Rattle.imap_query.specs.Listing.{names_of};
 ghost use Rattle.imap_query.specs.Naming.{ShowsNames, name_answer, name_state, subscribed_answer, subscribed_state};
-ghost use Rattle.imap_query.specs.Placing.{is_among, placed_all, shown_mailboxes};
+ghost use Rattle.imap_query.specs.Patterns.{is_among};
+ghost use Rattle.imap_query.specs.Placing.{placed_all, shown_mailboxes};
 
 use crate::listing::{ListEntry, is_among, list, place_mailboxes};
 use crate::pattern::Pattern;

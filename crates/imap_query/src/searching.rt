@@ -22,6 +22,17 @@ pub struct Hit {
     pub modseq: u64,
 }
 
+/// What SEARCH looks for in a view.
+#[derive(Clone, Copy)]
+struct Sought<'a> {
+    /// Whether messages are named by UIDs.
+    by_uid: bool,
+    /// The key, in steps.
+    steps: &'a [SearchStep],
+    /// The last message that the view shows.
+    last: Shown,
+}
+
 /// What SEARCH tells of the messages that a view shows and that the listing has (RFC 9051, section 6.4.4; RFC 7162,
 /// section 3.1.5): by UIDs or by message numbers. The steps are a key's; sets in keys name what the view shows. Each key
 /// costs one look at each message: its text's length for a key on texts. `Err` where there is no memory for it.
@@ -53,9 +64,14 @@ fn hits_in(
     ensures rising { IfOk result (λ hits. AreRisingFrom 1 (map (λ hit. hit.number) hits.items)) }
 {
     let last = last_shown(view);
+    let sought = Sought {
+        by_uid,
+        steps,
+        last,
+    };
     let mut hits = Vec::new(alloc);
     for shown in view {
-        push_hit(alloc, rows, by_uid, steps, last, *shown, &mut hits)?;
+        push_hit(alloc, rows, sought, *shown, &mut hits)?;
     }
     Ok(hits)
 }
@@ -74,23 +90,21 @@ fn last_shown(view: &[Shown]) -> Shown
 fn push_hit(
     alloc: Global,
     rows: &Rows<'_>,
-    by_uid: bool,
-    steps: &[SearchStep],
-    last: Shown,
+    sought: Sought<'_>,
     shown: Shown,
     found: &mut Vec<Hit>,
 ) -> Result<(), AllocError>
-    ensures hits { OnOk result ((key : Key) → steps.now ≡ steps_of key → found.new.items ≡ found.old.items ++ hit_of by_uid key last shown (row_of shown.uid rows.now)) }
-    ensures numbers { OnOk result (MayAdd (name_of by_uid shown) (map (λ hit. hit.number) found.old.items) (map (λ hit. hit.number) found.new.items)) }
+    ensures hits { OnOk result ((key : Key) → sought.entry.steps.now ≡ steps_of key → found.new.items ≡ found.old.items ++ hit_of sought.entry.by_uid key sought.entry.last shown (row_of shown.uid rows.now)) }
+    ensures numbers { OnOk result (MayAdd (name_of sought.entry.by_uid shown) (map (λ hit. hit.number) found.old.items) (map (λ hit. hit.number) found.new.items)) }
 {
     match rows.row_near(shown.place(), shown.uid) {
         None => Ok(()),
         Some(row) => {
-            if !hits(alloc, last, shown, &row, steps)? {
+            if !hits(alloc, sought.last, shown, &row, sought.steps)? {
                 return Ok(());
             }
             found.push(Hit {
-                number: name_of(by_uid, shown),
+                number: name_of(sought.by_uid, shown),
                 modseq: row.modseq,
             })?;
             Ok(())

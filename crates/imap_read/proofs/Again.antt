@@ -9,7 +9,7 @@ use Rattle.std.specs.List.{list_all}
 use Rattle.imap_types.specs.DateTimes.{is_digit}
 use Rattle.imap_types.specs.Keywords.{is_astring_octet}
 use Rattle.imap_print.specs.Appending.{spaced}
-use Rattle.imap_read.specs.Reading.{◌>>=◌, after, counted, field_at, is_in, lead, literal_at, number_from, numbers_where, or_else, quoted_from, run_at, run_or, runs_at, runs_on, set_at, small, span, string_at, string_or, with_elements, with_front}
+use Rattle.imap_read.specs.Reading.{◌>>=◌, after, counted, field_at, is_in, lead, literal_at, number_from, numbers_where, or_else, quoted_from, run_at, run_or, runs_at, runs_on, set_at, small, span, string_at, string_or, with_front, with_octet}
 use Rattle.imap_answers.specs.Strings.{escaped_octet, field_text, has_line_octet, is_plain, literal_text, name_text, quoted_text, run_text, separated, set_text}
 use Rattle.imap_answers.specs.Printable.{IsSet}
 use Rattle.imap_types.proofs.NumbersLemmas.{greatest-runs, numbers_in-runs_of, runs_of-are_runs, test_from_runs}
@@ -118,10 +118,10 @@ pub quoted-again : (string rest : List ℕ) → quoted_from false (flat_map esca
 quoted-again [] rest = refl
 quoted-again (b ∷ bs) rest =
     elim (cases_Bool (eqb b 34)) [
-      | inl t ↦ let k : b ≡ 34 = eqb-true b 34 t in rw (t, k) (ap (with_front 34) (quoted-again bs rest))
+      | inl t ↦ let k : b ≡ 34 = eqb-true b 34 t in rw (t, k) (ap (with_octet 34) (quoted-again bs rest))
       | inr f ↦ elim (cases_Bool (eqb b 92)) [
-        | inl t ↦ let k : b ≡ 92 = eqb-true b 92 t in rw (f, t) (ap (with_front b) (quoted-again bs rest))
-        | inr g ↦ rw (f, g) (rw (f, g) (ap (with_front b) (quoted-again bs rest)))
+        | inl t ↦ let k : b ≡ 92 = eqb-true b 92 t in rw (f, t) (ap (with_octet b) (quoted-again bs rest))
+        | inr g ↦ rw (f, g) (rw (f, g) (ap (with_octet b) (quoted-again bs rest)))
       ]
     ]
 
@@ -246,7 +246,7 @@ runs-again (suc fuel) r (s ∷ rs) rest l a e =
     let whole : (run_text r ++ (44 ∷ separated 44 (map run_text (s ∷ rs)))) ++ rest ≡ run_text r ++ (44 ∷ more) = append_assoc (run_text r) (44 ∷ separated 44 (map run_text (s ∷ rs))) rest in
     let read : run_at ((run_text r ++ (44 ∷ separated 44 (map run_text (s ∷ rs)))) ++ rest) ≡ (r, 44 ∷ more) = ap run_at whole ∙ run-again r (44 ∷ more) a.0 a.1 (λ n. refl) refl in
     ap (λ (x : Run × List ℕ). runs_on x.0 (after (codes ",") x.1) x.1 (runs_at fuel)) read
-    ∙ ap (with_elements (r ∷ [])) (runs-again fuel s rs rest (omega arith) a.2 e)
+    ∙ ap (with_front (r ∷ [])) (runs-again fuel s rs rest (omega arith) a.2 e)
 
 run_filled : (r : Run) → r.first < 2 ^ 32 → 0 < length (run_text r)
 run_filled r l = elim (cases_Bool (eqb r.first r.last)) [

@@ -14,7 +14,7 @@ use Rattle.imap_types.proofs.DateTimeLemmas.{test_from_date_time}
 use Rattle.imap_print.specs.Appending.{has_none, spaced}
 use Rattle.imap_answers.specs.Printable.{AreFetchItems, AreFlags, AreHits, AreResults, AreStatusItems, Each, IsModSeq, IsNonzero, IsPart, IsSection, IsSmall, IsWide, Where}
 use Rattle.imap_answers.specs.Printed.{all_text, body_text, date_item, fetch_texts, flags_item, flags_text, modseq_item, origin_text, results_text, section_text, status_texts}
-use Rattle.imap_read.specs.Reading.{◌>>=◌, Listed, after, counted, field_at, is_in, item_at, lead, literal_at, number_from, small, span, with_elements, within}
+use Rattle.imap_read.specs.Reading.{◌>>=◌, Listed, after, counted, field_at, is_in, item_at, lead, literal_at, number_from, small, span, with_front, within}
 use Rattle.imap_read.specs.ReadingAnswers.{all_or, bodies_at, bodies_on, body_at, data_at, date_at, date_or, fetch_items_at, fields_at, fields_on, flags_or, modseq_or, origin_or, results_at, section_at, small_option, status_items_at}
 use Rattle.imap_answers.specs.Strings.{field_text, item, labelled, literal_text, separated, set_text}
 use Rattle.imap_answers.specs.declared.fetched.FetchItems.{FetchItems}
@@ -127,9 +127,9 @@ fields-again (suc fuel) f (name ∷ names) rest w l =
     let bytes = lead f (field_text name) ++ more in
     ap (fields_at (suc fuel) f) (spaced-front f (field_text name) (map field_text names) (41 ∷ rest))
     ∙ ap (λ o. fields_on f o bytes (fields_at fuel false)) (not_closed_by f name more)
-    ∙ ap (λ o. (o >>= field_at) >>= λ x. with_elements (x.0 ∷ []) (fields_at fuel false x.1)) (lead-open f (field_text name) more)
-    ∙ ap (λ o. o >>= λ x. with_elements (x.0 ∷ []) (fields_at fuel false x.1)) (field-again name more w.0 (ends_string (map field_text names) rest))
-    ∙ ap (with_elements (name ∷ [])) (fields-again fuel false names rest w.1 (omega arith))
+    ∙ ap (λ o. (o >>= field_at) >>= λ x. with_front (x.0 ∷ []) (fields_at fuel false x.1)) (lead-open f (field_text name) more)
+    ∙ ap (λ o. o >>= λ x. with_front (x.0 ∷ []) (fields_at fuel false x.1)) (field-again name more w.0 (ends_string (map field_text names) rest))
+    ∙ ap (with_front (name ∷ [])) (fields-again fuel false names rest w.1 (omega arith))
 
 fields_filled : (names : List (List ℕ)) → Each (λ (t : List ℕ). 0 < length t) (map field_text names)
 fields_filled [] = tt
@@ -192,8 +192,8 @@ bodies-again (suc fuel) f (part ∷ parts) rest w l =
     let inner = section_text part.section ++ (93 ∷ (origin_text part.origin ++ (32 ∷ (literal_text part.octets ++ more)))) in
     ap (bodies_at (suc fuel) f) (spaced-front f (body_text part) (map body_text parts) (41 ∷ rest) ∙ body_whole f part more)
     ∙ ap (λ o. bodies_on o (lead f (codes "BODY[") ++ inner) (bodies_at fuel false)) (lead-again f (codes "BODY[") inner)
-    ∙ ap (λ o. o >>= λ x. with_elements (x.0 ∷ []) (bodies_at fuel false x.1)) (body-again part more w.0)
-    ∙ ap (with_elements (part ∷ [])) (bodies-again fuel false parts rest w.1 (omega arith))
+    ∙ ap (λ o. o >>= λ x. with_front (x.0 ∷ []) (bodies_at fuel false x.1)) (body-again part more w.0)
+    ∙ ap (with_front (part ∷ [])) (bodies-again fuel false parts rest w.1 (omega arith))
 
 pub bodies_filled : (parts : List SectionData) → Each (λ (t : List ℕ). 0 < length t) (map body_text parts)
 bodies_filled [] = tt

@@ -10,7 +10,7 @@ use Rattle.imap_types.proofs.KeywordLemmas.{test_from_keywords}
 use Rattle.imap_print.specs.Appending.{has_none, spaced}
 use Rattle.imap_answers.specs.Printable.{AreFlags, Each, IsAtom, IsWide, Where}
 use Rattle.imap_answers.specs.Printed.{flags_text, permanent_text}
-use Rattle.imap_read.specs.Reading.{◌>>=◌, Listed, after, flag_at, flag_or, followed, is_in, item_at, item_or, lead, number_from, span, with_elements, words_at, words_on}
+use Rattle.imap_read.specs.Reading.{◌>>=◌, Listed, after, flag_at, flag_or, followed, is_in, item_at, item_or, lead, number_from, span, with_front, words_at, words_on}
 use Rattle.imap_read.specs.ReadingAnswers.{flags_at, flags_from, permanent_at, permanent_from, permanent_or}
 use Rattle.imap_answers.specs.Strings.{item, separated}
 use Rattle.imap_read.specs.declared.scan.Class.TheVariants.{Atom}
@@ -95,9 +95,9 @@ words-again (suc fuel) f (k ∷ ks) end w l s stop =
     λ go. subst (λ (b : Bool). words_on (after (lead b []) end) end go ≡ Some ([], end)) (not_first f) (stop go) in
     ap (words_at (suc fuel) f) (spaced-front f k ks end)
     ∙ ap (λ o. words_on o (lead f k ++ rest) (words_at fuel false)) (lead-open f k rest)
-    ∙ ap (λ (x : List ℕ × List ℕ). cond (eqb (length x.0) 0) (Some ([], lead f k ++ rest)) (with_elements (x.0 ∷ []) (words_at fuel false x.1))) read
-    ∙ ap (λ b. cond b (Some ([], lead f k ++ rest)) (with_elements (k ∷ []) (words_at fuel false rest))) (filled_length k w.0)
-    ∙ ap (with_elements (k ∷ [])) (words-again fuel false ks end w.1 (omega arith) s stop')
+    ∙ ap (λ (x : List ℕ × List ℕ). cond (eqb (length x.0) 0) (Some ([], lead f k ++ rest)) (with_front (x.0 ∷ []) (words_at fuel false x.1))) read
+    ∙ ap (λ b. cond b (Some ([], lead f k ++ rest)) (with_front (k ∷ []) (words_at fuel false rest))) (filled_length k w.0)
+    ∙ ap (with_front (k ∷ [])) (words-again fuel false ks end w.1 (omega arith) s stop')
 
 lead_filled : (f : Bool) (k rest : List ℕ) → IsAtom k → suc (length rest) ≤ length (lead f k ++ rest)
 lead_filled f [] rest w = cc

@@ -3,17 +3,12 @@ use Rattle.std.specs.Prelude.{◌≡◌, ℕ, zero, suc, ◌+◌, ◌-◌, ◌*�
 use Rattle.imap_types.specs.DateTimes.{is_digit}
 use Rattle.imap_types.specs.Keywords.{is_astring_octet, is_atom_octet, is_tag_octet}
 use Rattle.imap_types.specs.Numbers.{are_runs_from, numbers_in}
+pub use Rattle.imap_types.specs.Reading.{◌>>=◌, GivesBy, after, with_front}
 use Rattle.imap_types.specs.declared.number_set.Run.{Run}
 use Rattle.imap_read.specs.declared.fault.ReadFault.{ReadFault}
 use Rattle.imap_read.specs.declared.fault.ReadFault.TheVariants.{NoMemory, NotPrinted}
 use Rattle.imap_read.specs.declared.scan.Class.{Class}
 use Rattle.imap_read.specs.declared.scan.Class.TheVariants.{Tag, Astring, Atom}
-
--- Steps that may find nothing.
-infixl 10 ◌>>=◌
-abbrev pub ◌>>=◌ : {A B : Type 0} → Option A → (A → Option B) → Option B
-None >>= f = None
-(Some x) >>= f = f x
 
 -- What a function returned, seen by view, is what reading gives, unless memory ran out.
 abbrev pub Fails : {Y : Type 0} → ReadFault → Option Y → Type 0
@@ -21,14 +16,7 @@ Fails NoMemory read = Unit {0}
 Fails NotPrinted read = read ≡ None
 
 abbrev pub Gives : {X Y : Type 0} → (X → Y) → Result X ReadFault → Option Y → Type 0
-Gives view (Ok x) read = read ≡ Some (view x)
-Gives view (Err e) read = Fails e read
-
--- What stands behind a prefix.
-abbrev pub after : List ℕ → List ℕ → Option (List ℕ)
-after [] bytes = Some bytes
-after (p ∷ ps) [] = None
-after (p ∷ ps) (b ∷ bs) = if b == p then after ps bs else None
+Gives = GivesBy Fails
 
 -- A value with what stands behind it, where that is there.
 abbrev pub followed : {A : Type 0} → A → Option (List ℕ) → Option (A × List ℕ)
@@ -76,21 +64,16 @@ abbrev pub small : ℕ → ℕ
 small number = min number 4294967295
 
 -- One octet more in front.
-abbrev pub with_front : ℕ → Option (List ℕ × List ℕ) → Option (List ℕ × List ℕ)
-with_front b None = None
-with_front b (Some x) = Some (b ∷ x.0, x.1)
-
--- Octets read before these.
-abbrev pub with_string : List ℕ → Option (List ℕ × List ℕ) → Option (List ℕ × List ℕ)
-with_string front None = None
-with_string front (Some x) = Some (front ++ x.0, x.1)
+abbrev pub with_octet : ℕ → Option (List ℕ × List ℕ) → Option (List ℕ × List ℕ)
+with_octet b None = None
+with_octet b (Some x) = Some (b ∷ x.0, x.1)
 
 -- What stands before the next `"` (34) that has no `\` (92) before it, and what stands behind that.
 abbrev pub quoted_from : Bool → List ℕ → Option (List ℕ × List ℕ)
 quoted_from escaped [] = None
-quoted_from true (b ∷ bs) = with_front b (quoted_from false bs)
+quoted_from true (b ∷ bs) = with_octet b (quoted_from false bs)
 quoted_from false (b ∷ bs) =
-    if b == 34 then Some ([], bs) else (if b == 92 then quoted_from true bs else with_front b (quoted_from false bs))
+    if b == 34 then Some ([], bs) else (if b == 92 then quoted_from true bs else with_octet b (quoted_from false bs))
 
 -- A string in quotes, or the octets that need none.
 abbrev pub string_or : Option (List ℕ) → List ℕ → Option (List ℕ × List ℕ)
@@ -123,15 +106,10 @@ run_or first (Some more) rest = (record { first = small first; last = small (num
 abbrev pub run_at : List ℕ → Run × List ℕ
 run_at bytes = run_or (number_from 0 bytes).0 (after (codes ":") (number_from 0 bytes).1) (number_from 0 bytes).1
 
--- Elements read before these.
-abbrev pub with_elements : {X : Type 0} → List X → Option (List X × List ℕ) → Option (List X × List ℕ)
-with_elements front None = None
-with_elements front (Some x) = Some (front ++ x.0, x.1)
-
 -- Runs with commas between them, at most so many.
 abbrev pub runs_on : Run → Option (List ℕ) → List ℕ → (List ℕ → Option (List Run × List ℕ)) → Option (List Run × List ℕ)
 runs_on run None rest go = Some (run ∷ [], rest)
-runs_on run (Some more) rest go = with_elements (run ∷ []) (go more)
+runs_on run (Some more) rest go = with_front (run ∷ []) (go more)
 
 abbrev pub runs_at : ℕ → List ℕ → Option (List Run × List ℕ)
 runs_at zero bytes = None
@@ -175,7 +153,7 @@ abbrev pub words_on : Option (List ℕ) → List ℕ → (List ℕ → Option (L
 words_on None bytes go = Some ([], bytes)
 words_on (Some rest) bytes go =
     if length (span (is_in Atom) rest).0 == 0 then Some ([], bytes)
-    else with_elements ((span (is_in Atom) rest).0 ∷ []) (go (span (is_in Atom) rest).1)
+    else with_front ((span (is_in Atom) rest).0 ∷ []) (go (span (is_in Atom) rest).1)
 
 abbrev pub words_at : ℕ → Bool → List ℕ → Option (List (List ℕ) × List ℕ)
 words_at zero is_first bytes = None

@@ -17,7 +17,7 @@ use Rattle.imap_answers.specs.declared.fetched.SectionData.{SectionData}
 use Rattle.imap_answers.specs.declared.mailbox.SearchResults.{SearchResults}
 use Rattle.imap_answers.specs.declared.mailbox.StatusItems.{StatusItems}
 use Rattle.imap_read.specs.declared.scan.Class.TheVariants.{Tag}
-use Rattle.imap_read.specs.Reading.{◌>>=◌, Listed, after, counted, field_at, flag_at, followed, is_in, item_at, lead, literal_at, number_from, or_else, set_at, small, span, string_at, with_elements, within, word_at, words_at}
+use Rattle.imap_read.specs.Reading.{◌>>=◌, Listed, after, counted, field_at, flag_at, followed, is_in, item_at, lead, literal_at, number_from, or_else, set_at, small, span, string_at, with_front, within, word_at, words_at}
 use Rattle.imap_answers.specs.Strings.{crlf}
 use Rattle.imap_read.specs.Tables.{all_attributes, bye_reasons, commands, continuations, enabled_words, logins, refusals}
 use Rattle.imap_answers.specs.Words.{attributes_text, bye_text, command_text, continuation_text, enabled_text, greeting_text, refusal_text}
@@ -171,7 +171,7 @@ next_field_at is_first bytes = after (lead is_first []) bytes >>= field_at
 -- Names of header fields up to the parenthesis, at most so many.
 abbrev pub fields_on : Bool → Option (List ℕ) → List ℕ → (List ℕ → Option (List (List ℕ) × List ℕ)) → Option (List (List ℕ) × List ℕ)
 fields_on is_first (Some rest) bytes go = Some ([], rest)
-fields_on is_first None bytes go = next_field_at is_first bytes >>= λ name. with_elements (name.0 ∷ []) (go name.1)
+fields_on is_first None bytes go = next_field_at is_first bytes >>= λ name. with_front (name.0 ∷ []) (go name.1)
 
 abbrev pub fields_at : ℕ → Bool → List ℕ → Option (List (List ℕ) × List ℕ)
 fields_at zero is_first bytes = None
@@ -210,7 +210,7 @@ body_at bytes = do
 -- Parts with their octets, at most so many.
 abbrev pub bodies_on : Option (List ℕ) → List ℕ → (List ℕ → Option (List SectionData × List ℕ)) → Option (List SectionData × List ℕ)
 bodies_on None bytes go = Some ([], bytes)
-bodies_on (Some rest) bytes go = body_at rest >>= λ part. with_elements (part.0 ∷ []) (go part.1)
+bodies_on (Some rest) bytes go = body_at rest >>= λ part. with_front (part.0 ∷ []) (go part.1)
 
 abbrev pub bodies_at : ℕ → Bool → List ℕ → Option (List SectionData × List ℕ)
 bodies_at zero is_first bytes = None

@@ -38,20 +38,20 @@ word_of (commands.Create name) = words.Create
 word_of (commands.Delete name) = words.Delete
 word_of (commands.Subscribe name) = words.Subscribe
 word_of (commands.Unsubscribe name) = words.Unsubscribe
-word_of (commands.ListNames subscribed_only reference wanted return_subscribed) = words.ListNames
+word_of (commands.ListNames asked) = words.ListNames
 word_of commands.Namespace = words.Namespace
 word_of (commands.Status name items) = words.Status
-word_of (commands.Append name flags date text) = words.Append
+word_of (commands.Append asked) = words.Append
 word_of commands.Idle = words.Idle
 word_of commands.Close = words.Close
 word_of commands.Unselect = words.Unselect
 word_of commands.Expunge = words.Expunge
 word_of (commands.UidExpunge uids) = words.Uid
-word_of (commands.Search by_uid options steps) = first_word by_uid words.Search
-word_of (commands.Fetch by_uid messages items changed_since) = first_word by_uid words.Fetch
-word_of (commands.Store by_uid messages unchanged_since action flags) = first_word by_uid words.Store
-word_of (commands.Copy by_uid messages name) = first_word by_uid words.Copy
-word_of (commands.Move by_uid messages name) = first_word by_uid words.Move
+word_of (commands.Search asked) = first_word asked.by_uid words.Search
+word_of (commands.Fetch asked) = first_word asked.by_uid words.Fetch
+word_of (commands.Store asked) = first_word asked.by_uid words.Store
+word_of (commands.Copy asked) = first_word asked.by_uid words.Copy
+word_of (commands.Move asked) = first_word asked.by_uid words.Move
 
 -- The parameter of SELECT and EXAMINE (RFC 7162, section 3.1.8).
 abbrev pub condstore_parameter : Bool → List ℕ → Type 0
@@ -106,14 +106,14 @@ arguments (commands.Subscribe name) = sp ⌢ mailbox name
 -- RFC 9051, section 6.3.8
 arguments (commands.Unsubscribe name) = sp ⌢ mailbox name
 -- RFC 9051, section 6.3.9
-arguments (commands.ListNames subscribed_only reference wanted return_subscribed) =
-    sp ⌢ selection subscribed_only ⌢ astring reference ⌢ sp ⌢ pattern wanted ⌢ returns return_subscribed
+arguments (commands.ListNames asked) =
+    sp ⌢ selection asked.subscribed_only ⌢ astring asked.reference ⌢ sp ⌢ pattern asked.pattern ⌢ returns asked.return_subscribed
 -- RFC 9051, section 6.3.10
 arguments commands.Namespace = nothing
 -- RFC 9051, section 6.3.11
 arguments (commands.Status name items) = sp ⌢ mailbox name ⌢ sp ⌢ in_parens (listed sp status_item items)
 -- RFC 9051, section 6.3.12
-arguments (commands.Append name flags date text) = sp ⌢ mailbox name ⌢ append_flags flags ⌢ optional date_time date ⌢ sp ⌢ literal text
+arguments (commands.Append asked) = sp ⌢ mailbox asked.name ⌢ append_flags asked.flags ⌢ optional date_time asked.date ⌢ sp ⌢ literal asked.text
 -- RFC 2177, section 3
 arguments commands.Idle = nothing
 -- RFC 9051, section 6.4.1
@@ -125,18 +125,19 @@ arguments commands.Expunge = nothing
 -- RFC 9051, section 6.4.9
 arguments (commands.UidExpunge uids) = own_word true words.Expunge ⌢ sp ⌢ sequence_set uids
 -- RFC 9051, section 6.4.4; RFC 7162, section 3.1.5
-arguments (commands.Search by_uid options steps) = own_word by_uid words.Search ⌢ sp ⌢ return_options options ⌢ charset ⌢ search_keys steps
+arguments (commands.Search asked) = own_word asked.by_uid words.Search ⌢ sp ⌢ return_options asked.options ⌢ charset ⌢ search_keys asked.steps
 -- RFC 9051, section 6.4.5; RFC 7162, section 3.1.4.1
-arguments (commands.Fetch by_uid messages items changed_since) =
-    own_word by_uid words.Fetch ⌢ sp ⌢ sequence_set messages ⌢ sp ⌢ fetched items ⌢ optional (modifier (codes "CHANGEDSINCE")) changed_since
+arguments (commands.Fetch asked) =
+    own_word asked.by_uid words.Fetch ⌢ sp ⌢ sequence_set asked.messages ⌢ sp ⌢ fetched asked.items
+    ⌢ optional (modifier (codes "CHANGEDSINCE")) asked.changed_since
 -- RFC 9051, section 6.4.6; RFC 7162, section 3.1.3
-arguments (commands.Store by_uid messages unchanged_since action flags) =
-    own_word by_uid words.Store ⌢ sp ⌢ sequence_set messages ⌢ optional (modifier (codes "UNCHANGEDSINCE")) unchanged_since
-    ⌢ sp ⌢ word (store_word action) ⌢ sp ⌢ stored flags
+arguments (commands.Store asked) =
+    own_word asked.by_uid words.Store ⌢ sp ⌢ sequence_set asked.messages ⌢ optional (modifier (codes "UNCHANGEDSINCE")) asked.unchanged_since
+    ⌢ sp ⌢ word (store_word asked.action) ⌢ sp ⌢ stored asked.flags
 -- RFC 9051, section 6.4.7
-arguments (commands.Copy by_uid messages name) = own_word by_uid words.Copy ⌢ sp ⌢ sequence_set messages ⌢ sp ⌢ mailbox name
+arguments (commands.Copy asked) = own_word asked.by_uid words.Copy ⌢ sp ⌢ sequence_set asked.messages ⌢ sp ⌢ mailbox asked.name
 -- RFC 9051, section 6.4.8
-arguments (commands.Move by_uid messages name) = own_word by_uid words.Move ⌢ sp ⌢ sequence_set messages ⌢ sp ⌢ mailbox name
+arguments (commands.Move asked) = own_word asked.by_uid words.Move ⌢ sp ⌢ sequence_set asked.messages ⌢ sp ⌢ mailbox asked.name
 
 -- A command without its tag: its word in any case, and its arguments.
 abbrev pub command : Command → List ℕ → Type 0

@@ -1,10 +1,7 @@
-use crate::fetch::FetchItem;
+use crate::arguments::{Append, Fetch, ListNames, Search, Store, Transfer};
 use crate::many::Many;
-use crate::search::SearchOption;
 use crate::status::StatusItem;
-use crate::steps::SearchSteps;
-use crate::store::StoreAction;
-use imap_types::{DateTime, Flags, Name, Octets, SequenceSet, Text};
+use imap_types::{Name, Octets, SequenceSet};
 
 /// A command and its tag (RFC 9051, section 2.2.1).
 #[derive(Drop)]
@@ -17,7 +14,6 @@ pub struct Tagged {
 
 /// What a client can want (RFC 9051, section 6). In names INBOX of any case stands in capitals; nothing else about a name
 /// is changed or asked. Sets name message numbers, or UIDs where `by_uid` says so (RFC 9051, section 6.4.9).
-#[derive(Drop)]
 pub enum Command {
     /// RFC 9051, section 6.1.1.
     Capability,
@@ -26,63 +22,29 @@ pub enum Command {
     /// RFC 9051, section 6.1.3.
     Logout,
     /// RFC 9051, section 6.2.3.
-    Login {
-        user: Octets,
-        password: Octets,
-    },
+    Login { user: Octets, password: Octets },
     /// RFC 9051, section 6.3.1. The names are as they were written.
-    Enable {
-        names: Many<Octets>,
-    },
+    Enable { names: Many<Octets> },
     /// RFC 9051, section 6.3.2; `condstore` turns mod-sequences on (RFC 7162, section 3.1.8).
-    Select {
-        name: Name,
-        condstore: bool,
-    },
+    Select { name: Name, condstore: bool },
     /// RFC 9051, section 6.3.3; `condstore` as in `Select`.
-    Examine {
-        name: Name,
-        condstore: bool,
-    },
+    Examine { name: Name, condstore: bool },
     /// RFC 9051, section 6.3.4.
-    Create {
-        name: Name,
-    },
+    Create { name: Name },
     /// RFC 9051, section 6.3.5.
-    Delete {
-        name: Name,
-    },
+    Delete { name: Name },
     /// RFC 9051, section 6.3.7.
-    Subscribe {
-        name: Name,
-    },
+    Subscribe { name: Name },
     /// RFC 9051, section 6.3.8.
-    Unsubscribe {
-        name: Name,
-    },
+    Unsubscribe { name: Name },
     /// LIST (RFC 9051, section 6.3.9).
-    ///
-    /// `subscribed_only` is the selection option SUBSCRIBED, `return_subscribed` the return option.
-    ListNames {
-        subscribed_only: bool,
-        reference: Octets,
-        pattern: Octets,
-        return_subscribed: bool,
-    },
+    ListNames(ListNames),
     /// RFC 9051, section 6.3.10.
     Namespace,
     /// RFC 9051, section 6.3.11. The items are at least one, as they were written.
-    Status {
-        name: Name,
-        items: Many<StatusItem>,
-    },
-    /// RFC 9051, section 6.3.12. Where no date is given the message takes the moment of the command.
-    Append {
-        name: Name,
-        flags: Flags,
-        date: Option<DateTime>,
-        text: Text,
-    },
+    Status { name: Name, items: Many<StatusItem> },
+    /// RFC 9051, section 6.3.12.
+    Append(Append),
     /// RFC 2177, section 3.
     Idle,
     /// RFC 9051, section 6.4.1.
@@ -92,42 +54,57 @@ pub enum Command {
     /// RFC 9051, section 6.4.3.
     Expunge,
     /// UID EXPUNGE (RFC 9051, section 6.4.9).
-    UidExpunge {
-        uids: SequenceSet,
-    },
-    /// RFC 9051, section 6.4.4. The options are as they were written; the steps are a key's, in the order in which they are
-    /// worked off, each behind those that it works on. A charset, which is UTF-8 or US-ASCII, isn't kept.
-    Search {
-        by_uid: bool,
-        options: Many<SearchOption>,
-        steps: SearchSteps,
-    },
-    /// RFC 9051, section 6.4.5. The items are at least one, as they were written, and those of FAST in its place;
-    /// `changed_since` is a mod-sequence up to 2^63 - 1 (RFC 7162, section 3.1.4.1).
-    Fetch {
-        by_uid: bool,
-        messages: SequenceSet,
-        items: Many<FetchItem>,
-        changed_since: Option<u64>,
-    },
-    /// RFC 9051, section 6.4.6; `unchanged_since` is a mod-sequence up to 2^63 - 1 (RFC 7162, section 3.1.3).
-    Store {
-        by_uid: bool,
-        messages: SequenceSet,
-        unchanged_since: Option<u64>,
-        action: StoreAction,
-        flags: Flags,
-    },
+    UidExpunge { uids: SequenceSet },
+    /// RFC 9051, section 6.4.4.
+    Search(Search),
+    /// RFC 9051, section 6.4.5.
+    Fetch(Fetch),
+    /// RFC 9051, section 6.4.6.
+    Store(Store),
     /// RFC 9051, section 6.4.7.
-    Copy {
-        by_uid: bool,
-        messages: SequenceSet,
-        name: Name,
-    },
+    Copy(Transfer),
     /// RFC 9051, section 6.4.8.
-    Move {
-        by_uid: bool,
-        messages: SequenceSet,
-        name: Name,
-    },
+    Move(Transfer),
+}
+
+// By hand, so that crates above let it go as a whole.
+impl Drop for Command {
+    fn drop(self) {
+        match self {
+            Self::Capability => {}
+            Self::Noop => {}
+            Self::Logout => {}
+            Self::Login {
+                user: _,
+                password: _,
+            } => {}
+            Self::Enable { names: _ } => {}
+            Self::Select {
+                name: _,
+                condstore: _,
+            } => {}
+            Self::Examine {
+                name: _,
+                condstore: _,
+            } => {}
+            Self::Create { name: _ } => {}
+            Self::Delete { name: _ } => {}
+            Self::Subscribe { name: _ } => {}
+            Self::Unsubscribe { name: _ } => {}
+            Self::ListNames(_) => {}
+            Self::Namespace => {}
+            Self::Status { name: _, items: _ } => {}
+            Self::Append(_) => {}
+            Self::Idle => {}
+            Self::Close => {}
+            Self::Unselect => {}
+            Self::Expunge => {}
+            Self::UidExpunge { uids: _ } => {}
+            Self::Search(_) => {}
+            Self::Fetch(_) => {}
+            Self::Store(_) => {}
+            Self::Copy(_) => {}
+            Self::Move(_) => {}
+        }
+    }
 }

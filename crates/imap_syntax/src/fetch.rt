@@ -1,7 +1,6 @@
 use imap_types::Section;
 
 /// What FETCH asks of a message (RFC 9051, section 6.4.5).
-#[derive(Drop)]
 pub enum FetchItem {
     Flags,
     InternalDate,
@@ -16,6 +15,24 @@ pub enum FetchItem {
         section: Section,
         partial: Option<Partial>,
     },
+}
+
+// By hand, so that crates above let it go as a whole.
+impl Drop for FetchItem {
+    fn drop(self) {
+        match self {
+            Self::Flags => {}
+            Self::InternalDate => {}
+            Self::Size => {}
+            Self::Uid => {}
+            Self::ModSeq => {}
+            Self::Body {
+                peek: _,
+                section: _,
+                partial: _,
+            } => {}
+        }
+    }
 }
 
 /// At most `count` octets, from 1 on, of a section, `start` octets from its beginning (RFC 9051, section 6.4.5, partial).

@@ -3,6 +3,7 @@
 //! `specs/Commands.antt` says which frame spells which command, production by production.
 #![tactic(auto)]
 
+mod arguments;
 mod class;
 mod command;
 mod fetch;
@@ -15,6 +16,7 @@ mod steps;
 mod store;
 mod word;
 
+pub use arguments::{Append, Fetch, ListNames, Search, Store, Transfer};
 pub use class::Class;
 pub use command::{Command, Tagged};
 pub use fetch::{FetchItem, FetchWord, Partial, SectionWord};

@@ -1,9 +1,15 @@
 use std::marker::Model;
 
 /// Values in the order in which they were written.
-#[derive(Drop)]
 pub struct Many<T> {
     values: Vec<T>,
+}
+
+// By hand, so that crates above let it go as a whole.
+impl<T: Drop> Drop for Many<T> {
+    fn drop(self) {
+        let Self { values: _ } = self;
+    }
 }
 
 impl<T> Model for Many<T> {

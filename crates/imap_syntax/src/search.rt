@@ -40,7 +40,6 @@ pub enum DayOrder {
 }
 
 /// What one key asks of a message (RFC 9051, section 6.4.4).
-#[derive(Drop)]
 pub enum SearchTest {
     All,
     /// The flag is set, or isn't.
@@ -63,8 +62,29 @@ pub enum SearchTest {
     Numbers { numbers: SequenceSet },
 }
 
+// By hand, so that crates above let it go as a whole.
+impl Drop for SearchTest {
+    fn drop(self) {
+        match self {
+            Self::All => {}
+            Self::System { flag: _, is_set: _ } => {}
+            Self::Keyword {
+                keyword: _,
+                is_set: _,
+            } => {}
+            Self::Holds { place: _, text: _ } => {}
+            Self::Header { name: _, text: _ } => {}
+            Self::Dated { order: _, day: _ } => {}
+            Self::Larger { octets: _ } => {}
+            Self::Smaller { octets: _ } => {}
+            Self::ModSeq { value: _ } => {}
+            Self::Uids { uids: _ } => {}
+            Self::Numbers { numbers: _ } => {}
+        }
+    }
+}
+
 /// A step of the search, behind the steps of what it works on.
-#[derive(Drop)]
 pub enum SearchStep {
     Test(SearchTest),
     /// The last result turned.
@@ -73,6 +93,18 @@ pub enum SearchStep {
     Or,
     /// Both of the last two results.
     And,
+}
+
+// By hand, so that crates above let it go as a whole.
+impl Drop for SearchStep {
+    fn drop(self) {
+        match self {
+            Self::Test(_) => {}
+            Self::Not => {}
+            Self::Or => {}
+            Self::And => {}
+        }
+    }
 }
 
 /// The words that begin keys.

@@ -1,4 +1,4 @@
-use Rattle.std.specs.Prelude.{◌≡◌, ◌⊎◌, ℕ, ◌<◌, ◌≤◌, List, [], ◌∷◌, ◌++◌, Option, Some, None, Result, Ok, Err}
+use Rattle.std.specs.Prelude.{◌≡◌, ◌⊎◌, ℕ, List, [], ◌∷◌, ◌++◌, Option, Some, None, Result, Ok, Err}
 use Rattle.causal_inbox.specs.declared.answers.Arrival.{Arrival}
 use Rattle.causal_inbox.specs.declared.answers.DeliverFault.{DeliverFault}
 use Rattle.crdt_ops.specs.declared.op.Op.{Op}
@@ -8,6 +8,7 @@ use Rattle.imap_node.specs.Deliveries.{Delivers, IsRefusedAt}
 use Rattle.imap_node.specs.Nodes.{NodeState, closed}
 use Rattle.imap_node.specs.Respond.{Responds}
 use Rattle.imap_node.specs.Sessions.{IsOpen, Opens}
+use Rattle.imap_node.specs.Steps.{IsFull}
 use Rattle.imap_node.specs.declared.input.Input.{Input}
 use Rattle.imap_node.specs.declared.input.Input.TheVariants as inputs
 use Rattle.imap_node.specs.declared.reply.Reply.{Reply}
@@ -36,9 +37,9 @@ abbrev pub login_by : Auth → Login
 login_by Preauth = Given
 login_by (Password credentials) = Wanted
 
--- Why no session was opened: all numbers from 1 to 1,024 are open; memory was wanting; or it was asked for before.
+-- Why no session was opened: all numbers are open; memory was wanting; or it was asked for before.
 abbrev pub IsUnopened : {O : Type 0} → NodeSession O → PortFault → Type 0
-IsUnopened {O} old TooManySessions = (n : ℕ) → 0 < n → n ≤ 1024 → IsOpen old.node.sessions n
+IsUnopened {O} old TooManySessions = IsFull old.node
 IsUnopened {O} old NoMemory = Unit {0}
 IsUnopened {O} old PassedOver = old.auth ≡ None
 IsUnopened {O} old fault = ⊥

@@ -38,54 +38,56 @@ idling_behind tagged reply = if is_idle tagged.command && is_done reply then Som
 abbrev pub logs_out : Tagged → Reply → Bool
 logs_out tagged reply = is_logout tagged.command && is_done reply
 
--- A session, which idles with this tag or doesn't, makes a request of the port; these are the answers, it idles so behind them, and it has
--- logged out or not.
-abbrev pub Handles : {S : Type 0} → (S → Asked → Result Reply PortFault → S → Type 0) → S → Option (List ℕ) → Request → List Answer → S → Option (List ℕ) → Bool → Type 0
-Handles {S} steps old idling (requests.Told answer) given new after out = (given ≡ answer ∷ []) × (new ≡ old) × (after ≡ idling) × (out ≡ false)
-Handles {S} steps old idling (requests.Command tagged) given new after out =
-    (reply : Reply) × steps old (asked.Command tagged) (Ok reply) new × (given ≡ answers_of tagged.tag reply) × (after ≡ idling_behind tagged reply) × (out ≡ logs_out tagged reply)
-Handles {S} steps old idling (requests.Line tag line) given new after out =
-    (reply : Reply) × steps old (asked.Line line) (Ok reply) new × (is_without_memory reply ≡ false) × (given ≡ answers_of tag reply) × (after ≡ None) × (out ≡ false)
-
 -- The call that a request makes of the port.
 abbrev pub call_of : Request → Option Asked
 call_of (requests.Told answer) = None
 call_of (requests.Command tagged) = Some (asked.Command tagged)
 call_of (requests.Line tag line) = Some (asked.Line line)
 
--- The port refuses the call, and nothing is answered.
-abbrev pub IsRefused : {S : Type 0} → (S → Asked → Result Reply PortFault → S → Type 0) → S → Request → Ended → List Answer → S → Type 0
-IsRefused {S} steps old request ended given new =
-    (call : Asked) × (fault : PortFault) × (call_of request ≡ Some call) × steps old call (Err fault) new × (ended ≡ end_of fault) × (given ≡ [])
-
--- A line of IDLE is refused for want of memory, and nothing is answered.
-abbrev pub IsLineRefused : {S : Type 0} → (S → Asked → Result Reply PortFault → S → Type 0) → S → Request → Ended → List Answer → S → Type 0
-IsLineRefused {S} steps old request ended given new =
-    (line : IdleLine) × (reply : Reply) × (call_of request ≡ Some (asked.Line line)) × steps old (asked.Line line) (Ok reply) new × (is_without_memory reply ≡ true)
-    × (ended ≡ NoMemory) × (given ≡ [])
-
--- A request ends the conversation so, behind these answers: a LOGOUT was answered OK; memory was wanting for an answer behind some of the
--- first; a line of IDLE was refused for want of memory; or the port gave no reply.
-abbrev pub Stops : {S : Type 0} → (S → Asked → Result Reply PortFault → S → Type 0) → S → Option (List ℕ) → Request → Ended → List Answer → S → Type 0
-Stops {S} steps old idling request ended given new =
-    ((ended ≡ Logout) × ((after : Option (List ℕ)) × Handles steps old idling request given new after true))
-    ⊎ (((ended ≡ NoMemory) × ((all : List Answer) × (after : Option (List ℕ)) × (out : Bool) × Handles steps old idling request all new after out × IsFront given all))
-    ⊎ (IsLineRefused steps old request ended given new
-    ⊎ IsRefused steps old request ended given new))
-
 -- Memory was wanting before anything was asked or answered.
 abbrev pub IsUnasked : {S : Type 0} → S → Ended → List Answer → S → Type 0
 IsUnasked {S} old ended given new = (ended ≡ NoMemory) × (given ≡ []) × (new ≡ old)
 
--- The same, or a request ends the conversation.
-abbrev pub Fails : {S : Type 0} → (S → Asked → Result Reply PortFault → S → Type 0) → S → Option (List ℕ) → Request → Ended → List Answer → S → Type 0
-Fails {S} steps old idling request ended given new = IsUnasked old ended given new ⊎ Stops steps old idling request ended given new
+-- What a command or a line of IDLE makes of the port.
+module _ {S : Type 0} (steps : S → Asked → Result Reply PortFault → S → Type 0) where
+  -- A session, which idles with this tag or doesn't, makes a request of the port; these are the answers, it idles so behind them, and it has
+  -- logged out or not.
+  abbrev pub Handles : S → Option (List ℕ) → Request → List Answer → S → Option (List ℕ) → Bool → Type 0
+  Handles old idling (requests.Told answer) given new after out = (given ≡ answer ∷ []) × (new ≡ old) × (after ≡ idling) × (out ≡ false)
+  Handles old idling (requests.Command tagged) given new after out =
+      (reply : Reply) × steps old (asked.Command tagged) (Ok reply) new × (given ≡ answers_of tagged.tag reply) × (after ≡ idling_behind tagged reply) × (out ≡ logs_out tagged reply)
+  Handles old idling (requests.Line tag line) given new after out =
+      (reply : Reply) × steps old (asked.Line line) (Ok reply) new × (is_without_memory reply ≡ false) × (given ≡ answers_of tag reply) × (after ≡ None) × (out ≡ false)
 
--- An item is answered.
-abbrev pub Takes : {S : Type 0} → (S → Asked → Result Reply PortFault → S → Type 0) → S → Option (List ℕ) → Item → List Answer → S → Option (List ℕ) → Bool → Type 0
-Takes {S} steps old idling item given new after out = (request : Request) × IsRequest idling item request × Handles steps old idling request given new after out
+  -- The port refuses the call, and nothing is answered.
+  abbrev pub IsRefused : S → Request → Ended → List Answer → S → Type 0
+  IsRefused old request ended given new =
+      (call : Asked) × (fault : PortFault) × (call_of request ≡ Some call) × steps old call (Err fault) new × (ended ≡ end_of fault) × (given ≡ [])
 
--- The conversation ends at an item: for want of memory before anything was asked; or as its request ends it.
-abbrev pub StopsAt : {S : Type 0} → (S → Asked → Result Reply PortFault → S → Type 0) → S → Option (List ℕ) → Item → Ended → List Answer → S → Type 0
-StopsAt {S} steps old idling item ended given new =
-    IsUnasked old ended given new ⊎ ((request : Request) × IsRequest idling item request × Stops steps old idling request ended given new)
+  -- A line of IDLE is refused for want of memory, and nothing is answered.
+  abbrev pub IsLineRefused : S → Request → Ended → List Answer → S → Type 0
+  IsLineRefused old request ended given new =
+      (line : IdleLine) × (reply : Reply) × (call_of request ≡ Some (asked.Line line)) × steps old (asked.Line line) (Ok reply) new × (is_without_memory reply ≡ true)
+      × (ended ≡ NoMemory) × (given ≡ [])
+
+  -- A request ends the conversation so, behind these answers: a LOGOUT was answered OK; memory was wanting for an answer behind some of the
+  -- first; a line of IDLE was refused for want of memory; or the port gave no reply.
+  abbrev pub Stops : S → Option (List ℕ) → Request → Ended → List Answer → S → Type 0
+  Stops old idling request ended given new =
+      ((ended ≡ Logout) × ((after : Option (List ℕ)) × Handles old idling request given new after true))
+      ⊎ (((ended ≡ NoMemory) × ((all : List Answer) × (after : Option (List ℕ)) × (out : Bool) × Handles old idling request all new after out × IsFront given all))
+      ⊎ (IsLineRefused old request ended given new
+      ⊎ IsRefused old request ended given new))
+
+  -- Memory was wanting before anything was asked or answered, or a request ends the conversation.
+  abbrev pub Fails : S → Option (List ℕ) → Request → Ended → List Answer → S → Type 0
+  Fails old idling request ended given new = IsUnasked old ended given new ⊎ Stops old idling request ended given new
+
+  -- An item is answered.
+  abbrev pub Takes : S → Option (List ℕ) → Item → List Answer → S → Option (List ℕ) → Bool → Type 0
+  Takes old idling item given new after out = (request : Request) × IsRequest idling item request × Handles old idling request given new after out
+
+  -- The conversation ends at an item: for want of memory before anything was asked; or as its request ends it.
+  abbrev pub StopsAt : S → Option (List ℕ) → Item → Ended → List Answer → S → Type 0
+  StopsAt old idling item ended given new =
+      IsUnasked old ended given new ⊎ ((request : Request) × IsRequest idling item request × Stops old idling request ended given new)

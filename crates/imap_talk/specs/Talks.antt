@@ -84,12 +84,13 @@ module _ {S : Type 0} (steps : S → Asked → Result Reply PortFault → S → 
 abbrev pub IsWritten : Ended → List ℕ → Ended → Option (List ℕ) → Option (List ℕ) → Type 0
 IsWritten ended said result old new = ((result ≡ ended) × Took old said new) ⊎ ((result ≡ WriteFailed) × TookSome false old said new)
 
--- A whole conversation, from the opening of its session to its close: the calls of the port, what was read, what was written and how it ended. A
--- refused open is the only call, and nothing is read.
-abbrev pub Talked : {S : Type 0} → (S → Result Login PortFault → S → Type 0) → (S → Asked → Result Reply PortFault → S → Type 0) → (S → S → Type 0)
-    → S → S → Limits → Option (List ℕ) → Option (List ℕ) → Bool → Option (List ℕ) → Option (List ℕ) → Ended → Type 0
-Talked {S} opens steps closes old new limits left rest at_end taken written result =
-    ((fault : PortFault) × opens old (Err fault) new × (rest ≡ left) × IsWritten (end_of fault) (bye_text_of (end_of fault)) result taken written)
-    ⊎ ((login : Login) × (first : S) × (last : S) × (octets : List ℕ) × (ended : Ended) × (said : List ℕ)
-    × opens old (Ok login) first × closes last new × Gave left octets rest × Holds steps first login limits octets ended at_end said last
-    × IsWritten ended (said ++ bye_text_of ended) result taken written)
+-- What the beginning of a session makes of the port, what a command or a line of IDLE makes of it, and what the end makes of it.
+module _ {S : Type 0} (opens : S → Result Login PortFault → S → Type 0) (steps : S → Asked → Result Reply PortFault → S → Type 0) (closes : S → S → Type 0) where
+  -- A whole conversation, from the opening of its session to its close: the calls of the port, what was read, what was written and how it ended. A
+  -- refused open is the only call, and nothing is read.
+  abbrev pub Talked : S → S → Limits → Option (List ℕ) → Option (List ℕ) → Bool → Option (List ℕ) → Option (List ℕ) → Ended → Type 0
+  Talked old new limits left rest at_end taken written result =
+      ((fault : PortFault) × opens old (Err fault) new × (rest ≡ left) × IsWritten (end_of fault) (bye_text_of (end_of fault)) result taken written)
+      ⊎ ((login : Login) × (first : S) × (last : S) × (octets : List ℕ) × (ended : Ended) × (said : List ℕ)
+      × opens old (Ok login) first × closes last new × Gave left octets rest × Holds steps first login limits octets ended at_end said last
+      × IsWritten ended (said ++ bye_text_of ended) result taken written)

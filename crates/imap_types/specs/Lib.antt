@@ -6,3 +6,5 @@ pub mod Flags
 pub mod Keywords
 pub mod Names
 pub mod Numbers
+pub mod Reading
+pub mod Sets

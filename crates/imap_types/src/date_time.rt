@@ -10,9 +10,15 @@ pub const DATE_TIME_OCTETS: usize = 28;
 
 /// A date-time as it is written, with its quotes and a digit first: `"dd-Mon-yyyy hh:mm:ss +zzzz"`
 /// (RFC 9051, section 9, date-time). Its day exists; its month keeps its case.
-#[derive(Drop)]
 pub struct DateTime {
     octets: [u8; 28],
+}
+
+// By hand, so that crates above let it go as a whole.
+impl Drop for DateTime {
+    fn drop(self) {
+        let Self { octets: _ } = self;
+    }
 }
 
 impl Model for DateTime {

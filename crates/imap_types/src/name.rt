@@ -14,9 +14,15 @@ use std::str;
 pub const MAX_NAME_OCTETS: usize = 255;
 
 /// A mailbox name as octets, lawful or not (RFC 9051, section 5.1).
-#[derive(Drop)]
 pub struct Name {
     octets: Vec<u8>,
+}
+
+// By hand, so that crates above let it go as a whole.
+impl Drop for Name {
+    fn drop(self) {
+        let Self { octets: _ } = self;
+    }
 }
 
 impl Model for Name {

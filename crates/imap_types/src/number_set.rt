@@ -13,9 +13,15 @@ pub struct Run {
 
 /// A set of numbers from 1 on, as message numbers and UIDs are (RFC 9051, section 2.3.1). It is kept as runs with
 /// gaps between them, and seen by contracts as the rising list of its numbers.
-#[derive(Drop)]
 pub struct NumberSet {
     runs: Vec<Run>,
+}
+
+// By hand, so that crates above let it go as a whole.
+impl Drop for NumberSet {
+    fn drop(self) {
+        let Self { runs: _ } = self;
+    }
 }
 
 impl Model for NumberSet {

@@ -7,9 +7,15 @@ use std::default::MadeWith;
 use std::marker::Model;
 
 /// Any octets, with memory of their own: a tag, a pattern, a keyword.
-#[derive(Drop)]
 pub struct Octets {
     octets: Vec<u8>,
+}
+
+// By hand, so that crates above let it go as a whole.
+impl Drop for Octets {
+    fn drop(self) {
+        let Self { octets: _ } = self;
+    }
 }
 
 impl Model for Octets {

@@ -4,7 +4,6 @@ use std::alloc::{AllocError, Global};
 use std::marker::Model;
 
 /// A part of a message's text, as FETCH names it (RFC 9051, section 6.4.5.1).
-#[derive(Drop)]
 pub enum Section {
     /// The whole text.
     Whole,
@@ -16,6 +15,19 @@ pub enum Section {
     Fields { names: FieldNames },
     /// The header fields of all other names.
     FieldsNot { names: FieldNames },
+}
+
+// By hand, so that crates above let it go as a whole.
+impl Drop for Section {
+    fn drop(self) {
+        match self {
+            Self::Whole => {}
+            Self::Header => {}
+            Self::Text => {}
+            Self::Fields { names: _ } => {}
+            Self::FieldsNot { names: _ } => {}
+        }
+    }
 }
 
 impl Section {
@@ -56,9 +68,15 @@ impl Section {
 }
 
 /// Names of header fields as they were written, in order.
-#[derive(Drop)]
 pub struct FieldNames {
     names: Vec<Octets>,
+}
+
+// By hand, so that crates above let it go as a whole.
+impl Drop for FieldNames {
+    fn drop(self) {
+        let Self { names: _ } = self;
+    }
 }
 
 impl Model for FieldNames {

@@ -19,9 +19,15 @@ pub struct SequenceRange {
 }
 
 /// One or more ranges of message numbers or UIDs, as they were written (RFC 9051, section 9, sequence-set).
-#[derive(Drop)]
 pub struct SequenceSet {
     ranges: Vec<SequenceRange>,
+}
+
+// By hand, so that crates above let it go as a whole.
+impl Drop for SequenceSet {
+    fn drop(self) {
+        let Self { ranges: _ } = self;
+    }
 }
 
 impl Model for SequenceSet {

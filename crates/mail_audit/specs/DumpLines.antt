@@ -22,6 +22,7 @@ use Rattle.mail_audit.specs.declared.dump.Step.TheVariants.{GoesOn, Ends, Wrong,
 use Rattle.mail_audit.specs.declared.forms.DumpLine.{DumpLine}
 use Rattle.mail_audit.specs.declared.forms.DumpLine.TheVariants as line
 use Rattle.mail_audit.specs.declared.op_lines.OpLines.{OpLines}
+use Rattle.crdt_ops.specs.Ops.{clock_of, id_of}
 
 -- The line is `op ` and a text that spells an operation.
 abbrev pub IsOp : List ℕ → Op → Type 0
@@ -57,7 +58,7 @@ IsExpected ops (Stuck place) = place < length ops
 -- What is to follow these applied operations.
 abbrev pub IsExpectedOf : List Op → Expected → Type 0
 IsExpectedOf applied (Lines lines) =
-    AreSound IsSound applied × IsCausal (λ (o : Op). o.id) (λ o. o.clock) applied
+    AreSound IsSound applied × IsCausal id_of clock_of applied
     × (lines.items ≡ state_text applied ++ (codes "end" ++ 10 ∷ []))
 IsExpectedOf applied (Stuck place) = ⊥
 

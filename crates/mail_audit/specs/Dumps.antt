@@ -9,6 +9,7 @@ use Rattle.crdt_ops.specs.Form.{IsInForm, IsReplica}
 use Rattle.crdt_ops.specs.Order.{IsAscending, id_order}
 use Rattle.crdt_ops.specs.Sound.{IsSound}
 use Rattle.dump_lines.specs.DumpLines.{op_line, state_text}
+use Rattle.crdt_ops.specs.Ops.{id_of}
 
 -- The first line of a replica's dump.
 abbrev pub dump_line : ℕ → List ℕ
@@ -16,7 +17,7 @@ dump_line replica = codes "dump " ++ decimal replica
 
 -- The list has an operation for each cause of its operations.
 abbrev pub HasCauses : List Op → Type 0
-HasCauses ops = (op : Op) → IsIn op ops → (cause : OpId) → IsCause op.clock cause → HasId (λ (o : Op). o.id) ops cause
+HasCauses ops = (op : Op) → IsIn op ops → (cause : OpId) → IsCause op.clock cause → HasId id_of ops cause
 
 -- Operations that ascend by their ids, so that none stands twice.
 abbrev pub AreOrdered : List Op → Type 0

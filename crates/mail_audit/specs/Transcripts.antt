@@ -18,9 +18,9 @@ use Rattle.mail_audit.specs.Explained.{IsExplained}
 
 -- EXPUNGE isn't told while FETCH, STORE or SEARCH by message numbers are in progress alone (RFC 9051, section 7.5.1).
 abbrev pub may_expunge : Command → Bool
-may_expunge (command.Fetch by_uid messages items changed_since) = by_uid
-may_expunge (command.Store by_uid messages unchanged_since action flags) = by_uid
-may_expunge (command.Search by_uid options steps) = by_uid
+may_expunge (command.Fetch asked) = asked.by_uid
+may_expunge (command.Store asked) = asked.by_uid
+may_expunge (command.Search asked) = asked.by_uid
 may_expunge _ = true
 
 abbrev pub idles : Command → Bool

@@ -170,9 +170,9 @@ fn may_expunge(command: &Command) -> bool
     ensures { result ≡ may_expunge command.now }
 {
     match command {
-        Command::Fetch { by_uid, .. } => *by_uid,
-        Command::Store { by_uid, .. } => *by_uid,
-        Command::Search { by_uid, .. } => *by_uid,
+        Command::Fetch(fetch) => fetch.by_uid,
+        Command::Store(store) => store.by_uid,
+        Command::Search(search) => search.by_uid,
         _ => true,
     }
 }

@@ -12,12 +12,18 @@ use message_versions::{Version, Versions};
 use tags_clocks::OpId;
 
 /// The date and text of an Append.
-#[derive(Drop)]
 pub struct Letter {
     /// When it was received (RFC 9051, section 2.3.3).
     pub date: DateTime,
     /// Its octets.
     pub text: Text,
+}
+
+// By hand, so that crates above let it go as a whole.
+impl Drop for Letter {
+    fn drop(self) {
+        let Self { date: _, text: _ } = self;
+    }
 }
 
 /// A folder's messages as they are kept, lent. Versions stand apart from dates and texts, since an origin's Append may come after a

@@ -12,6 +12,7 @@ use Rattle.mail_replay.specs.Stage.{Scene, replica_place}
 use Rattle.mail_replay.specs.declared.stage.Replica.{Replica}
 use Rattle.merge_laws.specs.Orders.{HasId, IsIn}
 use Rattle.tags_clocks.specs.declared.id.OpId.{OpId}
+use Rattle.crdt_ops.specs.Ops.{id_of}
 
 -- what a place within a list gives stands there
 pub stands_at : {X : Type 0} (xs ys : List X) (k : ℕ) (x : X) → ys ≡ xs → k < length ys → x ≡ get_or xs k x → slice_get xs k ≡ Some x
@@ -19,7 +20,7 @@ stands_at {X} xs ys k x same within e =
     let fits : k < length xs = subst (λ (zs : List X). k < length zs) same within in
     slice_get-get_or xs k x fits ∙ sym (ap Some e)
 
-has_id_in : (ops : List Op) (op : Op) (id : OpId) → IsIn op ops → op.id ≡ id → HasId (λ (o : Op). o.id) ops id
+has_id_in : (ops : List Op) (op : Op) (id : OpId) → IsIn op ops → op.id ≡ id → HasId id_of ops id
 has_id_in [] op id h e = absurd h
 has_id_in (o ∷ ops) op id h e = elim h [ inl k ↦ inl (subst (λ (p : Op). p.id ≡ id) (sym k) e) | inr t ↦ inr (has_id_in ops op id t e) ]
 
@@ -27,7 +28,7 @@ pub some_same : {X : Type 0} (o : Option X) (x y : X) → o ≡ Some x → o ≡
 some_same o x y e f = same_Some x y (sym e ∙ f)
 
 -- a replica that has issued none with this id has issued no such operation
-pub never_issued : (scene : Scene) (id : OpId) (op : Op) (at : ℕ) (source : Replica) → replica_place scene.replicas id.replica ≡ Some at → slice_get scene.replicas at ≡ Some source → ¬ HasId (λ (o : Op). o.id) source.issued id
+pub never_issued : (scene : Scene) (id : OpId) (op : Op) (at : ℕ) (source : Replica) → replica_place scene.replicas id.replica ≡ Some at → slice_get scene.replicas at ≡ Some source → ¬ HasId id_of source.issued id
     → Issued scene id op → ⊥
 never_issued scene id op at source place stands none i =
     let here : i.0 ≡ at = some_same (replica_place scene.replicas id.replica) i.0 at i.2.0 place in

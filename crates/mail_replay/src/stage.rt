@@ -5,6 +5,7 @@ ghost use Rattle.std.specs.Str.{bytes_eq};
 ghost use Rattle.crdt_ops.specs.declared.op.Op.{Op as Operation};
 ghost use Rattle.merge_laws.specs.Orders.{HasId, IsIn};
 ghost use Rattle.mail_replay.specs.Stage.{IsNew, replica_place, scene_of, session_place};
+ghost use Rattle.crdt_ops.specs.Ops.{id_of};
 
 use causal_inbox::find_in;
 use crdt_ops::SoundOp;
@@ -46,7 +47,7 @@ impl IssuedOps {
 
     /// The operation with this id, if it was issued.
     pub fn find(&self, id: OpId) -> Option<&SoundOp>
-        ensures { MatchOption result (¬ HasId (λ (o : Operation). o.id) self.now id) (λ found. IsIn found.now self.now × (found.now.id ≡ id)) }
+        ensures { MatchOption result (¬ HasId id_of self.now id) (λ found. IsIn found.now self.now × (found.now.id ≡ id)) }
     {
         find_in(&self.ops, id)
     }

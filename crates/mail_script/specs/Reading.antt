@@ -1,6 +1,7 @@
 use Rattle.std.specs.Prelude.{◌≡◌, ℕ, ◌==◌, List, [], ◌∷◌, Option, Some, None, Result, Ok, Err, codes, if◌then◌else◌}
 use Rattle.std.specs.Str.{bytes_eq}
 use Rattle.imap_types.specs.Escape.{unescaped}
+use Rattle.imap_types.specs.Reading.{GivesBy}
 use Rattle.imap_types.specs.declared.escape.Escape.TheVariants.{Text}
 use Rattle.mail_script.specs.Fields.{is_session_name}
 pub use Rattle.text_fields.specs.Reading.{◌>>=◌, cut_at, id_at, in_front, number_at, positive, replica_at}
@@ -20,8 +21,7 @@ Fails NotALine read = read ≡ None
 
 -- A reader gives what could be read, or runs out of memory.
 abbrev pub Gives : {X Y : Type 0} → (X → Y) → Result X LineFault → Option Y → Type 0
-Gives view (Ok x) read = read ≡ Some (view x)
-Gives view (Err e) read = Fails e read
+Gives = GivesBy Fails
 
 -- The moment that a field tells.
 unfoldable pub moment_at : List ℕ → Option ℕ

@@ -7,12 +7,18 @@ use std::alloc::{AllocError, Global};
 use tags_clocks::OpId;
 
 /// A version of a message: a message tag that is present, with the flags that it carries.
-#[derive(Drop)]
 pub struct Version {
     /// The tag's id, which is that of the operation that added it.
     pub id: OpId,
     /// The flags that it carries.
     pub flags: Flags,
+}
+
+// By hand, so that crates above let it go as a whole.
+impl Drop for Version {
+    fn drop(self) {
+        let Self { id: _, flags: _ } = self;
+    }
 }
 
 impl Version {

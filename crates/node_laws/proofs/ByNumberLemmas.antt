@@ -104,18 +104,18 @@ store_none mailbox after condstore asked =
 
 module _ (start : Start) (before after : List Op) (modseq : Bool) (tag : List ℕ) where
   own_none : (state : State) (command : Command) (told : Telling) → is_by_number command ≡ true → Tells start before after state modseq tag command told → HasNoExpunge told.own
-  own_none (Selected view read_only) (commands.Search by_uid options steps) told b t = subst (λ (x : Telling). HasNoExpunge x.own) (sym t.only) (tt, tt)
-  own_none (Selected view read_only) (commands.Fetch by_uid set items changed_since) told b t = subst (λ (x : Telling). HasNoExpunge x.own) (sym t) (fetch_none (mailbox_in start before view read_only) (rows_for start after view) modseq (record { by_uid = by_uid; messages = set; items = items; changed_since = changed_since }))
-  own_none (Selected view read_only) (commands.Store by_uid set unchanged_since action flags) told b t = subst (λ (x : Telling). HasNoExpunge x.own) (sym t) (store_none (mailbox_in start before view read_only) (rows_for start after view) modseq (record { by_uid = by_uid; messages = set; unchanged_since = unchanged_since; action = action; flags = flags }))
-  own_none (NotAuthenticated credentials) (commands.Search by_uid options steps) told b t = subst (λ (x : Telling). HasNoExpunge x.own) (sym t) tt
-  own_none (NotAuthenticated credentials) (commands.Fetch by_uid set items changed_since) told b t = subst (λ (x : Telling). HasNoExpunge x.own) (sym t) tt
-  own_none (NotAuthenticated credentials) (commands.Store by_uid set unchanged_since action flags) told b t = subst (λ (x : Telling). HasNoExpunge x.own) (sym t) tt
-  own_none Authenticated (commands.Search by_uid options steps) told b t = subst (λ (x : Telling). HasNoExpunge x.own) (sym t) tt
-  own_none Authenticated (commands.Fetch by_uid set items changed_since) told b t = subst (λ (x : Telling). HasNoExpunge x.own) (sym t) tt
-  own_none Authenticated (commands.Store by_uid set unchanged_since action flags) told b t = subst (λ (x : Telling). HasNoExpunge x.own) (sym t) tt
-  own_none LoggedOut (commands.Search by_uid options steps) told b t = subst (λ (x : Telling). HasNoExpunge x.own) (sym t) tt
-  own_none LoggedOut (commands.Fetch by_uid set items changed_since) told b t = subst (λ (x : Telling). HasNoExpunge x.own) (sym t) tt
-  own_none LoggedOut (commands.Store by_uid set unchanged_since action flags) told b t = subst (λ (x : Telling). HasNoExpunge x.own) (sym t) tt
+  own_none (Selected view read_only) (commands.Search asked) told b t = subst (λ (x : Telling). HasNoExpunge x.own) (sym t.only) (tt, tt)
+  own_none (Selected view read_only) (commands.Fetch asked) told b t = subst (λ (x : Telling). HasNoExpunge x.own) (sym t) (fetch_none (mailbox_in start before view read_only) (rows_for start after view) modseq (record { by_uid = asked.by_uid; messages = asked.messages; items = asked.items; changed_since = asked.changed_since }))
+  own_none (Selected view read_only) (commands.Store asked) told b t = subst (λ (x : Telling). HasNoExpunge x.own) (sym t) (store_none (mailbox_in start before view read_only) (rows_for start after view) modseq (record { by_uid = asked.by_uid; messages = asked.messages; unchanged_since = asked.unchanged_since; action = asked.action; flags = asked.flags }))
+  own_none (NotAuthenticated credentials) (commands.Search asked) told b t = subst (λ (x : Telling). HasNoExpunge x.own) (sym t) tt
+  own_none (NotAuthenticated credentials) (commands.Fetch asked) told b t = subst (λ (x : Telling). HasNoExpunge x.own) (sym t) tt
+  own_none (NotAuthenticated credentials) (commands.Store asked) told b t = subst (λ (x : Telling). HasNoExpunge x.own) (sym t) tt
+  own_none Authenticated (commands.Search asked) told b t = subst (λ (x : Telling). HasNoExpunge x.own) (sym t) tt
+  own_none Authenticated (commands.Fetch asked) told b t = subst (λ (x : Telling). HasNoExpunge x.own) (sym t) tt
+  own_none Authenticated (commands.Store asked) told b t = subst (λ (x : Telling). HasNoExpunge x.own) (sym t) tt
+  own_none LoggedOut (commands.Search asked) told b t = subst (λ (x : Telling). HasNoExpunge x.own) (sym t) tt
+  own_none LoggedOut (commands.Fetch asked) told b t = subst (λ (x : Telling). HasNoExpunge x.own) (sym t) tt
+  own_none LoggedOut (commands.Store asked) told b t = subst (λ (x : Telling). HasNoExpunge x.own) (sym t) tt
   own_none state _ told b t = absurd (false≢true b)
 
 partial_kind : (by_uid : Bool) → not by_uid ≡ true → by_kind by_uid ≡ Partial
@@ -124,22 +124,22 @@ partial_kind true b = absurd (false≢true b)
 
 -- the sync behind it is partial
 sync_partial : (command : Command) → is_by_number command ≡ true → sync_of command ≡ Some Partial
-sync_partial (commands.Search by_uid options steps) b = ap (λ (k : SyncKind). Some k) (partial_kind by_uid b)
-sync_partial (commands.Fetch by_uid set items changed_since) b = ap (λ (k : SyncKind). Some k) (partial_kind by_uid b)
-sync_partial (commands.Store by_uid set unchanged_since action flags) b = ap (λ (k : SyncKind). Some k) (partial_kind by_uid b)
+sync_partial (commands.Search asked) b = ap (λ (k : SyncKind). Some k) (partial_kind asked.by_uid b)
+sync_partial (commands.Fetch asked) b = ap (λ (k : SyncKind). Some k) (partial_kind asked.by_uid b)
+sync_partial (commands.Store asked) b = ap (λ (k : SyncKind). Some k) (partial_kind asked.by_uid b)
 sync_partial _ b = absurd (false≢true b)
 
 -- and it selects nothing
 base_stays : (start : Start) (ops : List Op) (view : Option Seen) (command : Command) → is_by_number command ≡ true → base_of start ops view command ≡ view
-base_stays start ops view (commands.Search by_uid options steps) b = refl
-base_stays start ops view (commands.Fetch by_uid set items changed_since) b = refl
-base_stays start ops view (commands.Store by_uid set unchanged_since action flags) b = refl
+base_stays start ops view (commands.Search asked) b = refl
+base_stays start ops view (commands.Fetch asked) b = refl
+base_stays start ops view (commands.Store asked) b = refl
 base_stays start ops view _ b = absurd (false≢true b)
 
 selects_none : (command : Command) → is_by_number command ≡ true → is_selecting command ≡ false
-selects_none (commands.Search by_uid options steps) b = refl
-selects_none (commands.Fetch by_uid set items changed_since) b = refl
-selects_none (commands.Store by_uid set unchanged_since action flags) b = refl
+selects_none (commands.Search asked) b = refl
+selects_none (commands.Fetch asked) b = refl
+selects_none (commands.Store asked) b = refl
 selects_none _ b = absurd (false≢true b)
 
 none_synced : (start : Start) (ops : List Op) (modseq : Bool) (state : State) (silent : List Silent) (own : List Answer) → HasNoExpunge (ending start ops (Some Partial) modseq state silent own).answers

@@ -18,6 +18,7 @@ use Rattle.merge_laws.specs.Orders.{IsIn}
 use Rattle.session_view.specs.declared.entry.Entry.{Entry as SeenEntry}
 use Rattle.node_laws.specs.Copies.{AreCopied, appends_among, is_append_to}
 use Rattle.node_laws.proofs.IdLemmas.{filter_more}
+use Rattle.crdt_ops.specs.Ops.{id_of}
 
 -- ---- the code of a COPY
 
@@ -106,8 +107,8 @@ module _ (rows landed : List Listed) (name : List ℕ) (view : List SeenEntry) w
   sources numbers = map (name_at true view) (those_there rows view numbers)
 
   copied_first : (n : ℕ) (row : Listed) (numbers : List ℕ) (ops : List Op) (new : List Listed) → row_for rows (entry_at view n) ≡ Some row → ((r : Listed) → IsIn r new → IsIn r landed)
-      → map (λ (r : Listed). r.origin) new ≡ map (λ (o : Op). o.id) ops → map (λ (o : Op). o.kind) ops ≡ kinds.Append name row.flags row.date row.text ∷ appends_of name rows view numbers
-      → ((os : List Op) (rs : List Listed) → ((r : Listed) → IsIn r rs → IsIn r landed) → map (λ (r : Listed). r.origin) rs ≡ map (λ (o : Op). o.id) os → map (λ (o : Op). o.kind) os ≡ appends_of name rows view numbers
+      → map (λ (r : Listed). r.origin) new ≡ map id_of ops → map (λ (o : Op). o.kind) ops ≡ kinds.Append name row.flags row.date row.text ∷ appends_of name rows view numbers
+      → ((os : List Op) (rs : List Listed) → ((r : Listed) → IsIn r rs → IsIn r landed) → map (λ (r : Listed). r.origin) rs ≡ map id_of os → map (λ (o : Op). o.kind) os ≡ appends_of name rows view numbers
       → AreCopied rows landed name (sources numbers) (map (λ (r : Listed). r.uid) rs) os)
       → AreCopied rows landed name (name_at true view n ∷ sources numbers) (map (λ (r : Listed). r.uid) new) ops
   copied_first n row numbers [] new f h e k more = absurd cc
@@ -115,7 +116,7 @@ module _ (rows landed : List Listed) (name : List ℕ) (view : List SeenEntry) w
   copied_first n row numbers (op ∷ ops) (r ∷ new) f h e k more =
       let found = message_found rows (entry_at view n) row f in
       let first : r.origin ≡ op.id = cc in
-      let rest : map (λ (r : Listed). r.origin) new ≡ map (λ (o : Op). o.id) ops = cc in
+      let rest : map (λ (r : Listed). r.origin) new ≡ map id_of ops = cc in
       let kind : op.kind ≡ kinds.Append name row.flags row.date row.text = cc in
       let others : map (λ (o : Op). o.kind) ops ≡ appends_of name rows view numbers = cc in (
         record {
@@ -129,7 +130,7 @@ module _ (rows landed : List Listed) (name : List ℕ) (view : List SeenEntry) w
       )
 
   pub copied_all : (numbers : List ℕ) (ops : List Op) (new : List Listed) → ((r : Listed) → IsIn r new → IsIn r landed)
-      → map (λ (r : Listed). r.origin) new ≡ map (λ (o : Op). o.id) ops → map (λ (o : Op). o.kind) ops ≡ appends_of name rows view numbers
+      → map (λ (r : Listed). r.origin) new ≡ map id_of ops → map (λ (o : Op). o.kind) ops ≡ appends_of name rows view numbers
       → AreCopied rows landed name (sources numbers) (map (λ (r : Listed). r.uid) new) ops
   copied_all [] [] [] h e k = tt
   copied_all [] [] (r ∷ new) h e k = absurd cc

@@ -29,6 +29,7 @@ use Rattle.uid_projection.proofs.Versions.{origin_applied, origin_new, version_i
 use Rattle.imap_node.proofs.ThereLemmas.{IsNoDelete, added_there}
 use Rattle.imap_node.proofs.LandingLemmas.{IsCopying, appends_to, landing, rows_are_landed}
 use Rattle.node_laws.specs.Copies.{IsLanded, appends_among, is_append_to}
+use Rattle.crdt_ops.specs.Ops.{id_of}
 
 -- ---- operations that copy
 
@@ -56,8 +57,8 @@ one_test folder (kinds.Store name flags olds origin) = refl
 one_test folder (kinds.Subscribe name) = refl
 one_test folder (kinds.Unsubscribe name seen) = refl
 
-landing_is : (folder : List ℕ) (ops : List Op) → landing folder ops ≡ map (λ (o : Op). o.id) (appends_among folder ops)
-landing_is folder ops = λ i. map (λ (o : Op). o.id) (filter (λ (o : Op). one_test folder o.kind i) ops)
+landing_is : (folder : List ℕ) (ops : List Op) → landing folder ops ≡ map id_of (appends_among folder ops)
+landing_is folder ops = λ i. map id_of (filter (λ (o : Op). one_test folder o.kind i) ops)
 
 origins_kept : (start : Start) (folder : List ℕ) (ops : List Op) (origins : List OpId) → map (λ (row : Listed). row.origin) (map (listed_of start folder ops) origins) ≡ origins
 origins_kept start folder ops [] = refl
@@ -70,7 +71,7 @@ listing_rises start folder ops l a =
 
 -- the rows with UIDs from the former UIDNEXT on are, one by one, those of the Appends
 pub ids_landed : (start : Start) (folder : List ℕ) (before issued : List Op) → 1 ≤ start.uid → 1 ≤ uidnext_of start folder before → IsApplied (before ++ issued) → is_there folder before ≡ true → ((o : Op) → IsIn o issued → IsCopying before o.kind)
-    → map (λ (row : Listed). row.origin) (beyond (uidnext_of start folder before - 1) (listing start folder (before ++ issued))) ≡ map (λ (o : Op). o.id) (appends_among folder issued)
+    → map (λ (row : Listed). row.origin) (beyond (uidnext_of start folder before - 1) (listing start folder (before ++ issued))) ≡ map id_of (appends_among folder issued)
 ids_landed start folder before issued first least a t c =
     ap (map (λ (row : Listed). row.origin)) (rows_are_landed start folder before issued least a (listing_rises start folder (before ++ issued) first a) t c)
     ∙ origins_kept start folder (before ++ issued) (landing folder issued)

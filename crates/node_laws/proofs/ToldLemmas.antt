@@ -23,11 +23,12 @@ use Rattle.imap_commands.specs.declared.session.Session.{Session}
 use Rattle.imap_commands.specs.declared.session.State.{State}
 use Rattle.imap_commands.specs.declared.session.State.TheVariants.{NotAuthenticated, Authenticated, Selected, LoggedOut}
 use Rattle.imap_commands.proofs.PrintSelected.{each_append, each_in}
+use Rattle.imap_syntax.specs.declared.arguments.Append.{Append}
+use Rattle.imap_syntax.specs.declared.arguments.Transfer.{Transfer}
 use Rattle.imap_syntax.specs.declared.command.Command.{Command}
 use Rattle.imap_syntax.specs.declared.command.Command.TheVariants as commands
 use Rattle.imap_types.specs.Keywords.{is_lawful_keyword}
 use Rattle.imap_types.specs.Names.{inbox}
-use Rattle.imap_types.specs.declared.flags.Flags.{Flags}
 use Rattle.imap_types.specs.declared.sequence_set.SequenceRange.{SequenceRange}
 use Rattle.mail_listing.specs.Listed.{Listed}
 use Rattle.mail_listing.specs.Listing.{beyond, row_of}
@@ -179,22 +180,22 @@ module _ (start : Start) (before issued : List Op) (stamp : List ℕ) (wanted : 
             (subst (λ (ys : List ℕ). AreCopied rows landed name (sources_of rows view.entries numbers) ys (appends_among name issued)) ec are),
       )
 
-  copy_told : (state : State) (view : Seen) (modseq by_uid : Bool) (set : List SequenceRange) (name : List ℕ) (v : ℕ) (ss cs : List ℕ) → view_of state ≡ Some view
-      → wants start before stamp state (commands.Copy by_uid set name) ≡ Ok wanted → (tells start before (before ++ issued) state modseq (commands.Copy by_uid set name)).code ≡ Some (codes.CopyUid v ss cs) → Tells name view v ss cs
-  copy_told (NotAuthenticated credentials) view modseq by_uid set name v ss cs s w e = absurd cc
-  copy_told Authenticated view modseq by_uid set name v ss cs s w e = absurd cc
-  copy_told LoggedOut view modseq by_uid set name v ss cs s w e = absurd cc
-  copy_told (Selected seen read_only) view modseq by_uid set name v ss cs s w e =
+  copy_told : (state : State) (view : Seen) (modseq : Bool) (transfer : Transfer) (v : ℕ) (ss cs : List ℕ) → view_of state ≡ Some view
+      → wants start before stamp state (commands.Copy transfer) ≡ Ok wanted → (tells start before (before ++ issued) state modseq (commands.Copy transfer)).code ≡ Some (codes.CopyUid v ss cs) → Tells transfer.name view v ss cs
+  copy_told (NotAuthenticated credentials) view modseq transfer v ss cs s w e = absurd cc
+  copy_told Authenticated view modseq transfer v ss cs s w e = absurd cc
+  copy_told LoggedOut view modseq transfer v ss cs s w e = absurd cc
+  copy_told (Selected seen read_only) view modseq transfer v ss cs s w e =
       let rows = rows_for start before seen in
-      let numbers = resolved by_uid set seen.entries in
-      let appends = appends_of name rows seen.entries numbers in
-      let t = copy_there (is_in_range by_uid set seen.entries) (incarnations.is_there name before) appends wanted w in
-      let is = copy_is (is_in_range by_uid set seen.entries) (incarnations.is_there name before) appends wanted w in
+      let numbers = resolved transfer.by_uid transfer.messages seen.entries in
+      let appends = appends_of transfer.name rows seen.entries numbers in
+      let t = copy_there (is_in_range transfer.by_uid transfer.messages seen.entries) (incarnations.is_there transfer.name before) appends wanted w in
+      let is = copy_is (is_in_range transfer.by_uid transfer.messages seen.entries) (incarnations.is_there transfer.name before) appends wanted w in
       let same : seen ≡ view = cc in
-      let p = code_parts rows seen.entries numbers (validity_of start name (before ++ issued)) v (sources_of rows seen.entries numbers) ss (copies_in (uidnext_of start name before) (listing start name (before ++ issued))) cs e in
-      subst (λ (x : Seen). Tells name x v ss cs) same
-      (told_so name seen by_uid set v ss cs t (subst (Each (IsCopying before)) (sym is) (appends_copying before name rows seen.entries numbers))
-      (ap (filter (is_append_to name)) is ∙ appends_kept name rows seen.entries numbers) p.0 p.1 p.2)
+      let p = code_parts rows seen.entries numbers (validity_of start transfer.name (before ++ issued)) v (sources_of rows seen.entries numbers) ss (copies_in (uidnext_of start transfer.name before) (listing start transfer.name (before ++ issued))) cs e in
+      subst (λ (x : Seen). Tells transfer.name x v ss cs) same
+      (told_so transfer.name seen transfer.by_uid transfer.messages v ss cs t (subst (Each (IsCopying before)) (sym is) (appends_copying before transfer.name rows seen.entries numbers))
+      (ap (filter (is_append_to transfer.name)) is ∙ appends_kept transfer.name rows seen.entries numbers) p.0 p.1 p.2)
 
 -- the operations afterwards
 whole_of : (old new : NodeState) (issued : List Op) → new.applied ≡ old.applied ++ issued → IsApplied new.applied → IsApplied (old.applied ++ issued)
@@ -215,17 +216,17 @@ module _ (start : Start) (after : List Op) (session : Session) (tag : List ℕ) 
       line_code (noticed ++ telling.own) (ending start after made.sync made.modseq made.state made.silent made.own).answers tag telling.code (word_of command) code own sent
       (subst (λ (xs : List Answer). HasCode code ((noticed ++ telling.own) ++ ((ending start after made.sync made.modseq made.state made.silent made.own).answers ++ xs))) tail h)
 
-copy_owns : (start : Start) (before after : List Op) (state : State) (modseq by_uid : Bool) (set : List SequenceRange) (name : List ℕ) → (tells start before after state modseq (commands.Copy by_uid set name)).own ≡ []
-copy_owns start before after (NotAuthenticated credentials) modseq by_uid set name = refl
-copy_owns start before after Authenticated modseq by_uid set name = refl
-copy_owns start before after LoggedOut modseq by_uid set name = refl
-copy_owns start before after (Selected view read_only) modseq by_uid set name = refl
+copy_owns : (start : Start) (before after : List Op) (state : State) (modseq : Bool) (transfer : Transfer) → (tells start before after state modseq (commands.Copy transfer)).own ≡ []
+copy_owns start before after (NotAuthenticated credentials) modseq transfer = refl
+copy_owns start before after Authenticated modseq transfer = refl
+copy_owns start before after LoggedOut modseq transfer = refl
+copy_owns start before after (Selected view read_only) modseq transfer = refl
 
-pub copies_told : (old new : NodeState) (n moment : ℕ) (tag : List ℕ) (by_uid : Bool) (set : List SequenceRange) (name : List ℕ) (told : List Answer) (silent : List Silent) (issued : List Op) (view : Seen) (v : ℕ) (ss cs : List ℕ)
-    → 1 ≤ old.start.uid → IsApplied old.applied → Responds old n (asked moment tag (commands.Copy by_uid set name)) (Done told silent issued) new → view_at old.sessions n ≡ Some view → HasCode (codes.CopyUid v ss cs) told
-    → AreCopiesTold old new view name issued v ss cs
-copies_told old new n moment tag by_uid set name told silent issued view v ss cs least b r seen code =
-    let command = commands.Copy by_uid set name in
+pub copies_told : (old new : NodeState) (n moment : ℕ) (tag : List ℕ) (transfer : Transfer) (told : List Answer) (silent : List Silent) (issued : List Op) (view : Seen) (v : ℕ) (ss cs : List ℕ)
+    → 1 ≤ old.start.uid → IsApplied old.applied → Responds old n (asked moment tag (commands.Copy transfer)) (Done told silent issued) new → view_at old.sessions n ≡ Some view → HasCode (codes.CopyUid v ss cs) told
+    → AreCopiesTold old new view transfer.name issued v ss cs
+copies_told old new n moment tag transfer told silent issued view v ss cs least b r seen code =
+    let command = commands.Copy transfer in
     let session = r.0 in
     let c = r.2 in
     let start = old.start in
@@ -234,14 +235,14 @@ copies_told old new n moment tag by_uid set name told silent issued view v ss cs
     let is = c.taken.1 in
     let a = whole_of old new issued c.becomes.applied (issues_well old new n (asked moment tag command) (Done told silent issued) b r).whole in
     let here : view_of session.state ≡ Some view = ap view_in (sym r.1) ∙ seen in
-    let none : telling.own ≡ [] = ap (λ (x : Telling). x.own) is ∙ copy_owns start old.applied after session.state (is_on session command) by_uid set name in
+    let none : telling.own ≡ [] = ap (λ (x : Telling). x.own) is ∙ copy_owns start old.applied after session.state (is_on session command) transfer in
     let sent : told ≡ answers_of_course start after (course_of start after session tag command telling) = c.answers_are ∙ ap (answers_of_course start after) c.taken.2 in
     let found = course_code start after session tag telling (codes.CopyUid v ss cs) none command refl refl (subst (HasCode (codes.CopyUid v ss cs)) sent code) in
-    let so = copy_told start old.applied issued c.stamp c.kinds least b a c.next.of_kinds session.state view (is_on session command) by_uid set name v ss cs here c.wanted (ap (λ (x : Telling). x.code) (sym is) ∙ found) in
+    let so = copy_told start old.applied issued c.stamp c.kinds least b a c.next.of_kinds session.state view (is_on session command) transfer v ss cs here c.wanted (ap (λ (x : Telling). x.code) (sym is) ∙ found) in
     record {
-      under = subst (λ (x : Start). uidvalidity_of x name new.applied ≡ Some v) (sym c.becomes.start) (subst (λ (os : List Op). uidvalidity_of start name os ≡ Some v) (sym c.becomes.applied) so.0);
-      copied = subst (λ (x : Start). AreCopied (rows_for start old.applied view) (listing x name new.applied) name ss cs (appends_among name issued)) (sym c.becomes.start)
-          (subst (λ (os : List Op). AreCopied (rows_for start old.applied view) (listing start name os) name ss cs (appends_among name issued)) (sym c.becomes.applied) so.1);
+      under = subst (λ (x : Start). uidvalidity_of x transfer.name new.applied ≡ Some v) (sym c.becomes.start) (subst (λ (os : List Op). uidvalidity_of start transfer.name os ≡ Some v) (sym c.becomes.applied) so.0);
+      copied = subst (λ (x : Start). AreCopied (rows_for start old.applied view) (listing x transfer.name new.applied) transfer.name ss cs (appends_among transfer.name issued)) (sym c.becomes.start)
+          (subst (λ (os : List Op). AreCopied (rows_for start old.applied view) (listing start transfer.name os) transfer.name ss cs (appends_among transfer.name issued)) (sym c.becomes.applied) so.1);
     }
 
 -- ---- APPEND
@@ -254,10 +255,10 @@ one_issued (o ∷ p ∷ issued) wanted one m w = absurd cc
 one_stays : (name : List ℕ) (one : Kind) (wanted : List Kind) → IsNoDelete one → wanted ≡ one ∷ [] → (kind : Kind) → IsIn kind wanted → IsNoDelete kind
 one_stays name one wanted k e kind i = elim (subst (IsIn kind) e i) [ inl x ↦ subst IsNoDelete x k | inr x ↦ absurd x ]
 
-pub append_told : (old new : NodeState) (n moment : ℕ) (tag name : List ℕ) (flags : Flags) (date : Option (List ℕ)) (text : List ℕ) (told : List Answer) (silent : List Silent) (issued : List Op) (v number : ℕ)
-    → IsApplied old.applied → Responds old n (asked moment tag (commands.Append name flags date text)) (Done told silent issued) new → HasCode (codes.AppendUid v number) told → IsAppendTold new name issued v number
-append_told old new n moment tag name flags date text told silent issued v number b r code =
-    let command = commands.Append name flags date text in
+pub append_told : (old new : NodeState) (n moment : ℕ) (tag : List ℕ) (append : Append) (told : List Answer) (silent : List Silent) (issued : List Op) (v number : ℕ)
+    → IsApplied old.applied → Responds old n (asked moment tag (commands.Append append)) (Done told silent issued) new → HasCode (codes.AppendUid v number) told → IsAppendTold new append.name issued v number
+append_told old new n moment tag append told silent issued v number b r code =
+    let command = commands.Append append in
     let session = r.0 in
     let c = r.2 in
     let start = old.start in
@@ -268,24 +269,24 @@ append_told old new n moment tag name flags date text told silent issued v numbe
     let none : telling.own ≡ [] = ap (λ (x : Telling). x.own) is in
     let sent : told ≡ answers_of_course start after (course_of start after session tag command telling) = c.answers_are ∙ ap (answers_of_course start after) c.taken.2 in
     let found = course_code start after session tag telling (codes.AppendUid v number) none command refl refl (subst (HasCode (codes.AppendUid v number)) sent code) in
-    let e : ◌≡◌ {A = Option Code} (Some (codes.AppendUid (validity_of start name after) (uidnext_of start name old.applied))) (Some (codes.AppendUid v number)) = ap (λ (x : Telling). x.code) (sym is) ∙ found in
-    let ev : validity_of start name after ≡ v = cc in
-    let en : uidnext_of start name old.applied ≡ number = cc in
-    let one = kinds.Append name flags (given_date date c.stamp) text in
-    let t = append_there (is_known session.state) (incarnations.is_there name old.applied) (list_all is_lawful_keyword flags.keywords) (nat_lt 32 (length flags.keywords)) one c.kinds c.wanted in
+    let e : ◌≡◌ {A = Option Code} (Some (codes.AppendUid (validity_of start append.name after) (uidnext_of start append.name old.applied))) (Some (codes.AppendUid v number)) = ap (λ (x : Telling). x.code) (sym is) ∙ found in
+    let ev : validity_of start append.name after ≡ v = cc in
+    let en : uidnext_of start append.name old.applied ≡ number = cc in
+    let one = kinds.Append append.name append.flags (given_date append.date c.stamp) append.text in
+    let t = append_there (is_known session.state) (incarnations.is_there append.name old.applied) (list_all is_lawful_keyword append.flags.keywords) (nat_lt 32 (length append.flags.keywords)) one c.kinds c.wanted in
     let o = one_issued issued c.kinds one c.next.of_kinds t.1 in
-    let there = stays_there name old.applied issued c.kinds a c.next.of_kinds (one_stays name one c.kinds tt t.1) t.0 in
-    let own : is_append_to name o.0.kind ≡ true = ap (is_append_to name) o.2 ∙ (bytes_eq-Decides name name).1 refl in
-    let row : IsLanded (listing start name after) (uidnext_of start name old.applied) o.0 =
-    subst (λ (os : List Op). IsLanded (listing start name (old.applied ++ os)) (uidnext_of start name old.applied) o.0) (sym o.1)
-    (append_landed start name old.applied o.0 (subst (λ (os : List Op). IsApplied (old.applied ++ os)) o.1 a) (subst (λ (os : List Op). incarnations.is_there name (old.applied ++ os) ≡ true) o.1 there) own) in
-    let under : uidvalidity_of start name after ≡ Some v = validity_is start name after there ∙ ap (λ (x : ℕ). Some x) ev in
+    let there = stays_there append.name old.applied issued c.kinds a c.next.of_kinds (one_stays append.name one c.kinds tt t.1) t.0 in
+    let own : is_append_to append.name o.0.kind ≡ true = ap (is_append_to append.name) o.2 ∙ (bytes_eq-Decides append.name append.name).1 refl in
+    let row : IsLanded (listing start append.name after) (uidnext_of start append.name old.applied) o.0 =
+    subst (λ (os : List Op). IsLanded (listing start append.name (old.applied ++ os)) (uidnext_of start append.name old.applied) o.0) (sym o.1)
+    (append_landed start append.name old.applied o.0 (subst (λ (os : List Op). IsApplied (old.applied ++ os)) o.1 a) (subst (λ (os : List Op). incarnations.is_there append.name (old.applied ++ os) ≡ true) o.1 there) own) in
+    let under : uidvalidity_of start append.name after ≡ Some v = validity_is start append.name after there ∙ ap (λ (x : ℕ). Some x) ev in
     record {
-      under = subst (λ (x : Start). uidvalidity_of x name new.applied ≡ Some v) (sym c.becomes.start) (subst (λ (os : List Op). uidvalidity_of start name os ≡ Some v) (sym c.becomes.applied) under);
+      under = subst (λ (x : Start). uidvalidity_of x append.name new.applied ≡ Some v) (sym c.becomes.start) (subst (λ (os : List Op). uidvalidity_of start append.name os ≡ Some v) (sym c.becomes.applied) under);
       op = o.0;
       only = o.1;
-      landed = subst (λ (x : Start). IsLanded (listing x name new.applied) number o.0) (sym c.becomes.start)
-          (subst (λ (os : List Op). IsLanded (listing start name os) number o.0) (sym c.becomes.applied) (subst (λ (x : ℕ). IsLanded (listing start name after) x o.0) en row));
+      landed = subst (λ (x : Start). IsLanded (listing x append.name new.applied) number o.0) (sym c.becomes.start)
+          (subst (λ (os : List Op). IsLanded (listing start append.name os) number o.0) (sym c.becomes.applied) (subst (λ (x : ℕ). IsLanded (listing start append.name after) x o.0) en row));
     }
 
 -- ---- MOVE
@@ -299,31 +300,31 @@ moved_parts u v [] sources cs copies i = absurd i
 moved_parts u v (s ∷ ss) sources cs copies i = elim i [ inl e ↦ (cc, cc, cc) | inr none ↦ absurd none ]
 
 module _ (start : Start) (before issued : List Op) (stamp : List ℕ) (wanted : List Kind) (least : 1 ≤ start.uid) (b : IsApplied before) (a : IsApplied (before ++ issued)) (m : map (λ (o : Op). o.kind) issued ≡ wanted) where
-  move_told : (state : State) (view : Seen) (modseq by_uid : Bool) (set : List SequenceRange) (name : List ℕ) (v : ℕ) (ss cs : List ℕ) → view_of state ≡ Some view
-      → wants start before stamp state (commands.Move by_uid set name) ≡ Ok wanted → IsIn (answers.Tell (notices.CopyUid v ss cs)) (tells start before (before ++ issued) state modseq (commands.Move by_uid set name)).own
-      → (uidvalidity_of start name (before ++ issued) ≡ Some v) × AreCopied (rows_for start before view) (listing start name (before ++ issued)) name ss cs (appends_among name issued)
-  move_told (NotAuthenticated credentials) view modseq by_uid set name v ss cs s w e = absurd cc
-  move_told Authenticated view modseq by_uid set name v ss cs s w e = absurd cc
-  move_told LoggedOut view modseq by_uid set name v ss cs s w e = absurd cc
-  move_told (Selected seen read_only) view modseq by_uid set name v ss cs s w e =
+  move_told : (state : State) (view : Seen) (modseq : Bool) (transfer : Transfer) (v : ℕ) (ss cs : List ℕ) → view_of state ≡ Some view
+      → wants start before stamp state (commands.Move transfer) ≡ Ok wanted → IsIn (answers.Tell (notices.CopyUid v ss cs)) (tells start before (before ++ issued) state modseq (commands.Move transfer)).own
+      → (uidvalidity_of start transfer.name (before ++ issued) ≡ Some v) × AreCopied (rows_for start before view) (listing start transfer.name (before ++ issued)) transfer.name ss cs (appends_among transfer.name issued)
+  move_told (NotAuthenticated credentials) view modseq transfer v ss cs s w e = absurd cc
+  move_told Authenticated view modseq transfer v ss cs s w e = absurd cc
+  move_told LoggedOut view modseq transfer v ss cs s w e = absurd cc
+  move_told (Selected seen read_only) view modseq transfer v ss cs s w e =
       let rows = rows_for start before seen in
-      let numbers = resolved by_uid set seen.entries in
-      let appends = appends_of name rows seen.entries numbers in
+      let numbers = resolved transfer.by_uid transfer.messages seen.entries in
+      let appends = appends_of transfer.name rows seen.entries numbers in
       let removals = removals_of seen.name rows seen.entries numbers in
-      let t = move_there (is_in_range by_uid set seen.entries) read_only (incarnations.is_there name before) (appends ++ removals) wanted w in
-      let is = move_is (is_in_range by_uid set seen.entries) read_only (incarnations.is_there name before) (appends ++ removals) wanted w in
-      let copying = each_append (IsCopying before) appends removals (appends_copying before name rows seen.entries numbers) (removals_copying before seen.name rows seen.entries numbers (rows_had start before seen b)) in
+      let t = move_there (is_in_range transfer.by_uid transfer.messages seen.entries) read_only (incarnations.is_there transfer.name before) (appends ++ removals) wanted w in
+      let is = move_is (is_in_range transfer.by_uid transfer.messages seen.entries) read_only (incarnations.is_there transfer.name before) (appends ++ removals) wanted w in
+      let copying = each_append (IsCopying before) appends removals (appends_copying before transfer.name rows seen.entries numbers) (removals_copying before seen.name rows seen.entries numbers (rows_had start before seen b)) in
       let same : seen ≡ view = cc in
-      let p = moved_parts (validity_of start name (before ++ issued)) v (sources_of rows seen.entries numbers) ss (copies_in (uidnext_of start name before) (listing start name (before ++ issued))) cs e in
-      subst (λ (x : Seen). (uidvalidity_of start name (before ++ issued) ≡ Some v) × AreCopied (rows_for start before x) (listing start name (before ++ issued)) name ss cs (appends_among name issued)) same
-      (told_so start before issued stamp wanted least b a m name seen by_uid set v ss cs t (subst (Each (IsCopying before)) (sym is) copying)
-      (ap (filter (is_append_to name)) is ∙ moves_kept seen.name name rows seen.entries numbers) p.0 p.1 p.2)
+      let p = moved_parts (validity_of start transfer.name (before ++ issued)) v (sources_of rows seen.entries numbers) ss (copies_in (uidnext_of start transfer.name before) (listing start transfer.name (before ++ issued))) cs e in
+      subst (λ (x : Seen). (uidvalidity_of start transfer.name (before ++ issued) ≡ Some v) × AreCopied (rows_for start before x) (listing start transfer.name (before ++ issued)) transfer.name ss cs (appends_among transfer.name issued)) same
+      (told_so start before issued stamp wanted least b a m transfer.name seen transfer.by_uid transfer.messages v ss cs t (subst (Each (IsCopying before)) (sym is) copying)
+      (ap (filter (is_append_to transfer.name)) is ∙ moves_kept seen.name transfer.name rows seen.entries numbers) p.0 p.1 p.2)
 
 -- what a reply to MOVE tells where copies are is what the command itself tells
-move_own : (start : Start) (after : List Op) (session : Session) (tag : List ℕ) (telling : Telling) (by_uid : Bool) (set : List SequenceRange) (name : List ℕ) (v : ℕ) (ss cs : List ℕ)
-    → IsIn (answers.Tell (notices.CopyUid v ss cs)) (answers_of_course start after (course_of start after session tag (commands.Move by_uid set name) telling)) → IsIn (answers.Tell (notices.CopyUid v ss cs)) telling.own
-move_own start after session tag telling by_uid set name v ss cs i =
-    let command = commands.Move by_uid set name in
+move_own : (start : Start) (after : List Op) (session : Session) (tag : List ℕ) (telling : Telling) (transfer : Transfer) (v : ℕ) (ss cs : List ℕ)
+    → IsIn (answers.Tell (notices.CopyUid v ss cs)) (answers_of_course start after (course_of start after session tag (commands.Move transfer) telling)) → IsIn (answers.Tell (notices.CopyUid v ss cs)) telling.own
+move_own start after session tag telling transfer v ss cs i =
+    let command = commands.Move transfer in
     let wanted = answers.Tell (notices.CopyUid v ss cs) in
     let made = course_of start after session tag command telling in
     let noticed = notice start after session.state session.condstore command in
@@ -335,11 +336,11 @@ move_own start after session tag telling by_uid set name v ss cs i =
       | inr back ↦ elim (in_parts wanted sent made.tail back) [ inl s ↦ absurd (each_in IsNoCopyUid sent wanted synced s) | inr last ↦ elim last [ inl e ↦ absurd cc | inr none ↦ absurd none ] ]
     ]
 
-pub moves_told : (old new : NodeState) (n moment : ℕ) (tag : List ℕ) (by_uid : Bool) (set : List SequenceRange) (name : List ℕ) (told : List Answer) (silent : List Silent) (issued : List Op) (view : Seen) (v : ℕ) (ss cs : List ℕ)
-    → 1 ≤ old.start.uid → IsApplied old.applied → Responds old n (asked moment tag (commands.Move by_uid set name)) (Done told silent issued) new → view_at old.sessions n ≡ Some view → IsIn (answers.Tell (notices.CopyUid v ss cs)) told
-    → AreCopiesTold old new view name issued v ss cs
-moves_told old new n moment tag by_uid set name told silent issued view v ss cs least b r seen i =
-    let command = commands.Move by_uid set name in
+pub moves_told : (old new : NodeState) (n moment : ℕ) (tag : List ℕ) (transfer : Transfer) (told : List Answer) (silent : List Silent) (issued : List Op) (view : Seen) (v : ℕ) (ss cs : List ℕ)
+    → 1 ≤ old.start.uid → IsApplied old.applied → Responds old n (asked moment tag (commands.Move transfer)) (Done told silent issued) new → view_at old.sessions n ≡ Some view → IsIn (answers.Tell (notices.CopyUid v ss cs)) told
+    → AreCopiesTold old new view transfer.name issued v ss cs
+moves_told old new n moment tag transfer told silent issued view v ss cs least b r seen i =
+    let command = commands.Move transfer in
     let session = r.0 in
     let c = r.2 in
     let start = old.start in
@@ -349,11 +350,11 @@ moves_told old new n moment tag by_uid set name told silent issued view v ss cs 
     let a = whole_of old new issued c.becomes.applied (issues_well old new n (asked moment tag command) (Done told silent issued) b r).whole in
     let here : view_of session.state ≡ Some view = ap view_in (sym r.1) ∙ seen in
     let sent : told ≡ answers_of_course start after (course_of start after session tag command telling) = c.answers_are ∙ ap (answers_of_course start after) c.taken.2 in
-    let own = move_own start after session tag telling by_uid set name v ss cs (subst (IsIn (answers.Tell (notices.CopyUid v ss cs))) sent i) in
-    let so = move_told start old.applied issued c.stamp c.kinds least b a c.next.of_kinds session.state view (is_on session command) by_uid set name v ss cs here c.wanted
+    let own = move_own start after session tag telling transfer v ss cs (subst (IsIn (answers.Tell (notices.CopyUid v ss cs))) sent i) in
+    let so = move_told start old.applied issued c.stamp c.kinds least b a c.next.of_kinds session.state view (is_on session command) transfer v ss cs here c.wanted
     (subst (λ (x : Telling). IsIn (answers.Tell (notices.CopyUid v ss cs)) x.own) is own) in
     record {
-      under = subst (λ (x : Start). uidvalidity_of x name new.applied ≡ Some v) (sym c.becomes.start) (subst (λ (os : List Op). uidvalidity_of start name os ≡ Some v) (sym c.becomes.applied) so.0);
-      copied = subst (λ (x : Start). AreCopied (rows_for start old.applied view) (listing x name new.applied) name ss cs (appends_among name issued)) (sym c.becomes.start)
-          (subst (λ (os : List Op). AreCopied (rows_for start old.applied view) (listing start name os) name ss cs (appends_among name issued)) (sym c.becomes.applied) so.1);
+      under = subst (λ (x : Start). uidvalidity_of x transfer.name new.applied ≡ Some v) (sym c.becomes.start) (subst (λ (os : List Op). uidvalidity_of start transfer.name os ≡ Some v) (sym c.becomes.applied) so.0);
+      copied = subst (λ (x : Start). AreCopied (rows_for start old.applied view) (listing x transfer.name new.applied) transfer.name ss cs (appends_among transfer.name issued)) (sym c.becomes.start)
+          (subst (λ (os : List Op). AreCopied (rows_for start old.applied view) (listing start transfer.name os) transfer.name ss cs (appends_among transfer.name issued)) (sym c.becomes.applied) so.1);
     }

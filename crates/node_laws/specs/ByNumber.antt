@@ -11,9 +11,9 @@ use Rattle.imap_node.specs.declared.reply.Reply.TheVariants.{Done, Refused}
 
 -- FETCH, STORE and SEARCH, which are no UID commands (RFC 9051, section 7.5.1).
 abbrev pub is_by_number : Command → Bool
-is_by_number (commands.Search by_uid options steps) = not by_uid
-is_by_number (commands.Fetch by_uid set items changed_since) = not by_uid
-is_by_number (commands.Store by_uid set unchanged_since action flags) = not by_uid
+is_by_number (commands.Search asked) = not asked.by_uid
+is_by_number (commands.Fetch asked) = not asked.by_uid
+is_by_number (commands.Store asked) = not asked.by_uid
 is_by_number _ = false
 
 -- An input that is one of these.

@@ -1,6 +1,6 @@
 //! Laws on replies: a contract each.
 
-ghost use Rattle.std.specs.Prelude.{◌≡◌, ◌≤◌, ℕ, true, Bool, List, Option, Some};
+ghost use Rattle.std.specs.Prelude.{◌≡◌, ◌≤◌, ℕ, true, List, Some};
 ghost use Rattle.crdt_ops.specs.declared.op.Op.{Op as Operation};
 ghost use Rattle.imap_answers.specs.declared.answer.Answer.{Answer as OneAnswer};
 ghost use Rattle.imap_answers.specs.declared.answer.Answer.TheVariants.{Tell};
@@ -14,9 +14,9 @@ ghost use Rattle.imap_node.specs.declared.input.Input.{Input as OneInput};
 ghost use Rattle.imap_node.specs.declared.reply.Reply.{Reply as OneReply};
 ghost use Rattle.node_laws.specs.ByNumber.{AreKeptInPlace, answers_in, asks_by_number};
 ghost use Rattle.imap_node.specs.declared.reply.Reply.TheVariants.{Done};
+ghost use Rattle.imap_syntax.specs.declared.arguments.Append.{Append as Appended};
+ghost use Rattle.imap_syntax.specs.declared.arguments.Transfer.{Transfer as Transferred};
 ghost use Rattle.imap_syntax.specs.declared.command.Command.TheVariants.{Append, Copy, Move};
-ghost use Rattle.imap_types.specs.declared.flags.Flags.{Flags as FlagSet};
-ghost use Rattle.imap_types.specs.declared.sequence_set.SequenceRange.{SequenceRange as Range};
 ghost use Rattle.node_laws.specs.Copies.{AreCopiesTold, HasCode, IsAppendTold, asked};
 ghost use Rattle.session_view.specs.Seen.{Seen};
 ghost use Rattle.session_view.specs.Sync.{HasNoExpunge};
@@ -34,12 +34,12 @@ pub fn by_number_keeps_places()
 /// What the codes APPENDUID and COPYUID tell is so (RFC 9051, section 7.1): under the mailbox's UIDVALIDITY the UID of an APPEND is that of
 /// the message which its one operation appended; and each copy of a COPY or a MOVE has the UID that stands where its source's does.
 pub fn told_uids_are_those_of_the_messages()
-    ensures appends { (old new : NodeState) (n moment : ℕ) (tag name : List ℕ) (flags : FlagSet) (date : Option (List ℕ)) (text : List ℕ) (told : List OneAnswer) (silent : List Set) (issued : List Operation) (v number : ℕ)
-        → IsApplied old.applied → Responds old n (asked moment tag (Append name flags date text)) (Done told silent issued) new → HasCode (AppendUid v number) told → IsAppendTold new name issued v number }
-    ensures copies { (old new : NodeState) (n moment : ℕ) (tag : List ℕ) (by_uid : Bool) (set : List Range) (name : List ℕ) (told : List OneAnswer) (silent : List Set) (issued : List Operation) (view : Seen) (v : ℕ)
-        (sources copies : List ℕ) → 1 ≤ old.start.uid → IsApplied old.applied → Responds old n (asked moment tag (Copy by_uid set name)) (Done told silent issued) new → view_at old.sessions n ≡ Some view
-        → HasCode (CopyUid v sources copies) told → AreCopiesTold old new view name issued v sources copies }
-    ensures moves { (old new : NodeState) (n moment : ℕ) (tag : List ℕ) (by_uid : Bool) (set : List Range) (name : List ℕ) (told : List OneAnswer) (silent : List Set) (issued : List Operation) (view : Seen) (v : ℕ)
-        (sources copies : List ℕ) → 1 ≤ old.start.uid → IsApplied old.applied → Responds old n (asked moment tag (Move by_uid set name)) (Done told silent issued) new → view_at old.sessions n ≡ Some view
-        → IsIn (Tell (Moved v sources copies)) told → AreCopiesTold old new view name issued v sources copies }
+    ensures appends { (old new : NodeState) (n moment : ℕ) (tag : List ℕ) (append : Appended) (told : List OneAnswer) (silent : List Set) (issued : List Operation) (v number : ℕ)
+        → IsApplied old.applied → Responds old n (asked moment tag (Append append)) (Done told silent issued) new → HasCode (AppendUid v number) told → IsAppendTold new append.name issued v number }
+    ensures copies { (old new : NodeState) (n moment : ℕ) (tag : List ℕ) (transfer : Transferred) (told : List OneAnswer) (silent : List Set) (issued : List Operation) (view : Seen) (v : ℕ)
+        (sources copies : List ℕ) → 1 ≤ old.start.uid → IsApplied old.applied → Responds old n (asked moment tag (Copy transfer)) (Done told silent issued) new → view_at old.sessions n ≡ Some view
+        → HasCode (CopyUid v sources copies) told → AreCopiesTold old new view transfer.name issued v sources copies }
+    ensures moves { (old new : NodeState) (n moment : ℕ) (tag : List ℕ) (transfer : Transferred) (told : List OneAnswer) (silent : List Set) (issued : List Operation) (view : Seen) (v : ℕ)
+        (sources copies : List ℕ) → 1 ≤ old.start.uid → IsApplied old.applied → Responds old n (asked moment tag (Move transfer)) (Done told silent issued) new → view_at old.sessions n ≡ Some view
+        → IsIn (Tell (Moved v sources copies)) told → AreCopiesTold old new view transfer.name issued v sources copies }
 {}

@@ -5,13 +5,14 @@ use Rattle.causal_inbox.specs.Seen.{AreAscending}
 use Rattle.crdt_ops.specs.declared.op.Op.{Op}
 use Rattle.dump_lines.specs.DumpLines.{op_line, state_text}
 use Rattle.merge_laws.specs.Orders.{HaveSameElements}
+use Rattle.crdt_ops.specs.Ops.{id_of}
 
 -- A text is the dump of a replica that applied these operations: the operations, each once, ascending by replica and then by number,
 -- and what the set of them defines.
 abbrev pub IsDump : ℕ → List Op → List ℕ → Type 0
 IsDump replica applied text =
     (listed : List Op)
-    × AreAscending (λ (o : Op). o.id) listed
+    × AreAscending id_of listed
     × HaveSameElements listed applied
     × (text ≡ codes "dump " ++ decimal replica ++ 10 ∷ [] ++ flat_map op_line listed ++ state_text applied ++ codes "end" ++ 10 ∷ [])
 

@@ -98,17 +98,12 @@ fn put_answer(
 
 fn answers_to(alloc: Global, stage: &Stage, tagged: &Tagged) -> Result<Vec<Answer>, Trouble> {
     match &tagged.command {
-        Command::ListNames {
-            subscribed_only,
-            reference,
-            pattern,
-            return_subscribed,
-        } => {
+        Command::ListNames(list) => {
             let mode = ListMode {
-                subscribed_only: *subscribed_only,
-                return_subscribed: *return_subscribed,
+                subscribed_only: list.subscribed_only,
+                return_subscribed: list.return_subscribed,
             };
-            names_listed(alloc, stage, mode, reference, pattern)
+            names_listed(alloc, stage, mode, &list.reference, &list.pattern)
         }
         Command::Status { name, items } => {
             status_told(alloc, &stage.mailbox, name, items.as_slice())
@@ -123,33 +118,30 @@ fn answers_of_messages(
     tagged: &Tagged,
 ) -> Result<Vec<Answer>, Trouble> {
     match &tagged.command {
-        Command::Search {
-            by_uid,
-            options,
-            steps,
-        } => {
+        Command::Search(search) => {
             let results = found(
                 alloc,
                 mailbox,
-                *by_uid,
-                options.as_slice(),
-                steps.as_slice(),
+                search.by_uid,
+                search.options.as_slice(),
+                search.steps.as_slice(),
             )?;
-            search_answers(alloc, &tagged.tag, *by_uid, results)
+            search_answers(alloc, &tagged.tag, search.by_uid, results)
         }
-        Command::Fetch {
-            by_uid,
-            messages,
-            items,
-            changed_since,
-        } => {
+        Command::Fetch(fetch) => {
             let mode = FetchMode {
-                by_uid: *by_uid,
+                by_uid: fetch.by_uid,
                 condstore: mailbox.condstore,
                 writable: mailbox.is_writable,
-                changed_since: *changed_since,
+                changed_since: fetch.changed_since,
             };
-            fetched(alloc, mailbox, messages, items.as_slice(), mode)
+            fetched(
+                alloc,
+                mailbox,
+                &fetch.messages,
+                fetch.items.as_slice(),
+                mode,
+            )
         }
         _ => Err(Trouble::NotACase),
     }

@@ -3,6 +3,7 @@
 ghost use Rattle.std.specs.Prelude.{◌≡◌, ◌∷◌, [], IfOk};
 ghost use Rattle.causal_inbox.specs.Seen.{IsIssued};
 ghost use Rattle.crdt_ops.specs.declared.op.Op.{Op as Operation};
+ghost use Rattle.crdt_ops.specs.Ops.{clock_of, id_of};
 
 use crate::stage::Node;
 use case_text::{Trouble, Words, cut, name, replica};
@@ -31,7 +32,7 @@ fn next_id(inbox: &Node, replica: ReplicaId) -> Result<OpId, Trouble> {
 
 /// The next operation of this replica, which creates this folder.
 fn next_create(alloc: Global, inbox: &Node, id: OpId, folder: Name) -> Result<SoundOp, Trouble>
-    ensures { IfOk result (λ op. IsIssued (λ (o : Operation). o.id) (λ o. o.clock) inbox.now.seen.applied op) }
+    ensures { IfOk result (λ op. IsIssued id_of clock_of inbox.now.seen.applied op) }
 {
     let clock = inbox.clock().copy(alloc)?;
     let kind = Kind::Create { folder };
@@ -46,7 +47,7 @@ fn next_create(alloc: Global, inbox: &Node, id: OpId, folder: Name) -> Result<So
 
 /// Issues the operation, and tells it.
 fn issue(inbox: &mut Node, op: SoundOp, answer: &mut Words)
-    requires { IsIssued (λ (o : Operation). o.id) (λ o. o.clock) inbox.old.seen.applied op }
+    requires { IsIssued id_of clock_of inbox.old.seen.applied op }
 {
     answer.put_op("\n  ", &op);
     match listed(answer.alloc(), op) {
@@ -67,7 +68,7 @@ fn listed(alloc: Global, op: SoundOp) -> Result<Vec<SoundOp>, AllocError>
 }
 
 fn issue_listed(inbox: &mut Node, ops: Vec<SoundOp>, answer: &mut Words)
-    requires { (op : Operation) × (ops.items ≡ op ∷ []) × IsIssued (λ (o : Operation). o.id) (λ o. o.clock) inbox.old.seen.applied op }
+    requires { (op : Operation) × (ops.items ≡ op ∷ []) × IsIssued id_of clock_of inbox.old.seen.applied op }
 {
     if inbox.ready(answer.alloc(), &ops).is_ok() {
         inbox.issue(ops);

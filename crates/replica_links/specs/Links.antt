@@ -69,37 +69,48 @@ abbrev pub IsDrained : {S : Type 0} → (S → S → Type 0) → S → Bool → 
 IsDrained drains s true t = drains s t
 IsDrained drains s false t = s ≡ t
 
--- The sender is asked, once, for all that the replica's clock doesn't cover; not at all where there is no memory for the clock.
-abbrev pub MayAsk : {S P : Type 0} → (S → Type 0) → (S → List (ℕ × ℕ) → Type 0) → (P → ℕ → List (ℕ × ℕ) → P → Type 0) → S → P → ℕ → P → Type 0
-MayAsk lacks has asks s p from q = ((clock : List (ℕ × ℕ)) × has s clock × asks p from clock q) ⊎ (lacks s × (p ≡ q))
+-- What asking stands on: a replica lacks memory for its clock; it has this clock; another is asked for all that a clock doesn't cover.
+module _ {S P : Type 0} (lacks : S → Type 0) (has : S → List (ℕ × ℕ) → Type 0) (asks : P → ℕ → List (ℕ × ℕ) → P → Type 0) where
+  -- The sender is asked, once, for all that the replica's clock doesn't cover; not at all where there is no memory for the clock.
+  abbrev pub MayAsk : S → P → ℕ → P → Type 0
+  MayAsk s p from q = ((clock : List (ℕ × ℕ)) × has s clock × asks p from clock q) ⊎ (lacks s × (p ≡ q))
 
--- Each of these replicas is asked so, one behind the other.
-abbrev pub AreAsked : {S P : Type 0} → (S → Type 0) → (S → List (ℕ × ℕ) → Type 0) → (P → ℕ → List (ℕ × ℕ) → P → Type 0) → S → P → List ℕ → P → Type 0
-AreAsked lacks has asks s p [] q = p ≡ q
-AreAsked {S} {P} lacks has asks s p (to ∷ rest) q = (next : P) × MayAsk lacks has asks s p to next × AreAsked lacks has asks s next rest q
+  -- Each of these replicas is asked so, one behind the other.
+  abbrev pub AreAsked : S → P → List ℕ → P → Type 0
+  AreAsked s p [] q = p ≡ q
+  AreAsked s p (to ∷ rest) q = (next : P) × MayAsk s p to next × AreAsked s next rest q
 
--- It is asked where something is lacking, and only there.
-abbrev pub IsAsked : {S P : Type 0} → (S → Type 0) → (S → List (ℕ × ℕ) → Type 0) → (P → ℕ → List (ℕ × ℕ) → P → Type 0) → S → P → ℕ → Bool → P → Type 0
-IsAsked lacks has asks s p from true q = MayAsk lacks has asks s p from q
-IsAsked lacks has asks s p from false q = p ≡ q
+  -- It is asked where something is lacking, and only there.
+  abbrev pub IsAsked : S → P → ℕ → Bool → P → Type 0
+  IsAsked s p from true q = MayAsk s p from q
+  IsAsked s p from false q = p ≡ q
 
--- What becomes of a message of operations: they are handed on, each once and in their order; where one stalled, held ones are gone on with; and where one is
--- lacking the sender is asked for it.
-pub record IsTaken {S P : Type 0} (takes : S → Op → Took → S → Type 0) (drains : S → S → Type 0) (lacks : S → Type 0) (has : S → List (ℕ × ℕ) → Type 0) (asks : P → ℕ → List (ℕ × ℕ) → P → Type 0) (s : S) (p : P) (from : ℕ) (ops : List Op) (t : S) (q : P) : Type 0 where
-  pub took : Took
-  pub between : S
-  pub handed : Takes takes s ops took between
-  pub drained : IsDrained drains between took.stalled t
-  pub asked : IsAsked lacks has asks t p from took.lacking q
+  -- Where a replica asks first, each of these others is asked.
+  abbrev pub IsBegun : List ℕ → Bool → S → P → P → Type 0
+  IsBegun peers true s p q = AreAsked s p peers q
+  IsBegun peers false s p q = p ≡ q
+
+-- Beside that: a replica takes an operation; it goes on with what it holds.
+module _ {S P : Type 0} (takes : S → Op → Took → S → Type 0) (drains : S → S → Type 0) (lacks : S → Type 0) (has : S → List (ℕ × ℕ) → Type 0) (asks : P → ℕ → List (ℕ × ℕ) → P → Type 0) where
+  -- What becomes of a message of operations: they are handed on, each once and in their order; where one stalled, held ones are gone on with; and where one is
+  -- lacking the sender is asked for it.
+  pub record IsTaken (s : S) (p : P) (from : ℕ) (ops : List Op) (t : S) (q : P) : Type 0 where
+    pub took : Took
+    pub between : S
+    pub handed : Takes takes s ops took between
+    pub drained : IsDrained drains between took.stalled t
+    pub asked : IsAsked lacks has asks t p from took.lacking q
 
 -- Operations are handed to a replica, if there are any.
 abbrev pub MayHand : {P : Type 0} → (P → ℕ → List Op → P → Type 0) → P → ℕ → List Op → P → Type 0
 MayHand hands p to [] q = p ≡ q
 MayHand hands p to (op ∷ ops) q = hands p to (op ∷ ops) q
 
--- What becomes of a message that asks: the sender is handed what the replica gives for its clock, and nothing where there is no memory for it.
-abbrev pub IsAnswered : {S P : Type 0} → (S → Type 0) → (S → List (ℕ × ℕ) → List Op → Type 0) → (P → ℕ → List Op → P → Type 0) → S → P → ℕ → List (ℕ × ℕ) → P → Type 0
-IsAnswered lacks gives hands s p from clock q = ((ops : List Op) × gives s clock ops × MayHand hands p from ops q) ⊎ (lacks s × (p ≡ q))
+-- What giving stands on: a replica lacks memory for the operations; it gives these for a clock; another is handed operations.
+module _ {S P : Type 0} (lacks : S → Type 0) (gives : S → List (ℕ × ℕ) → List Op → Type 0) (hands : P → ℕ → List Op → P → Type 0) where
+  -- What becomes of a message that asks: the sender is handed what the replica gives for its clock, and nothing where there is no memory for it.
+  abbrev pub IsAnswered : S → P → ℕ → List (ℕ × ℕ) → P → Type 0
+  IsAnswered s p from clock q = ((ops : List Op) × gives s clock ops × MayHand hands p from ops q) ⊎ (lacks s × (p ≡ q))
 
 -- A replica behind its lock went on with what it holds by one call, which its pass noted; or there was no call.
 abbrev pub IsDrainedBy : PassHeld → PassHeld → Type 0
@@ -117,38 +128,28 @@ AreGiven clock ops = (applied : List Op) × IsCausal id_of clock_of applied × (
 abbrev pub MayLack : PassHeld → Type 0
 MayLack p = Unit {0}
 
--- What becomes of a letter: its operations are taken; who asks by it is answered; and behind the one that says so no more is taken.
-abbrev pub IsLetterAnswered : {S P : Type 0} → (S → Op → Took → S → Type 0) → (S → S → Type 0) → (S → Type 0) → (S → List (ℕ × ℕ) → Type 0) → (S → List (ℕ × ℕ) → List Op → Type 0) → (P → ℕ → List (ℕ × ℕ) → P → Type 0) → (P → ℕ → List Op → P → Type 0)
-    → ℕ → LinkMsg → Bool → S → P → S → P → Type 0
-IsLetterAnswered takes drains lacks has gives asks hands from (Ops ops) more s p t q = (more ≡ true) × IsTaken takes drains lacks has asks s p from ops.items t q
-IsLetterAnswered takes drains lacks has gives asks hands from (Have clock) more s p t q = (more ≡ true) × (s ≡ t) × IsAnswered lacks gives hands s p from clock q
-IsLetterAnswered takes drains lacks has gives asks hands from Stop more s p t q = (more ≡ false) × (s ≡ t) × (p ≡ q)
+-- All of these together.
+module _ {S P : Type 0} (takes : S → Op → Took → S → Type 0) (drains : S → S → Type 0) (lacks : S → Type 0) (has : S → List (ℕ × ℕ) → Type 0) (gives : S → List (ℕ × ℕ) → List Op → Type 0) (asks : P → ℕ → List (ℕ × ℕ) → P → Type 0) (hands : P → ℕ → List Op → P → Type 0) where
+  -- What becomes of a letter: its operations are taken; who asks by it is answered; and behind the one that says so no more is taken.
+  abbrev pub IsLetterAnswered : ℕ → LinkMsg → Bool → S → P → S → P → Type 0
+  IsLetterAnswered from (Ops ops) more s p t q = (more ≡ true) × IsTaken takes drains lacks has asks s p from ops.items t q
+  IsLetterAnswered from (Have clock) more s p t q = (more ≡ true) × (s ≡ t) × IsAnswered lacks gives hands s p from clock q
+  IsLetterAnswered from Stop more s p t q = (more ≡ false) × (s ≡ t) × (p ≡ q)
 
--- A turn of a link's worker: a letter is taken and answered, or these others are asked for what the replica lacks.
-abbrev pub IsTurn : {S P : Type 0} → (S → Op → Took → S → Type 0) → (S → S → Type 0) → (S → Type 0) → (S → List (ℕ × ℕ) → Type 0) → (S → List (ℕ × ℕ) → List Op → Type 0) → (P → ℕ → List (ℕ × ℕ) → P → Type 0) → (P → ℕ → List Op → P → Type 0)
-    → List ℕ → Option Letter → S → P → S → P → Type 0
-IsTurn takes drains lacks has gives asks hands peers (Some letter) s p t q = (more : Bool) × IsLetterAnswered takes drains lacks has gives asks hands letter.from letter.message more s p t q
-IsTurn takes drains lacks has gives asks hands peers None s p t q = (s ≡ t) × AreAsked lacks has asks s p peers q
+  -- A turn of a link's worker: a letter is taken and answered, or these others are asked for what the replica lacks.
+  abbrev pub IsTurn : List ℕ → Option Letter → S → P → S → P → Type 0
+  IsTurn peers (Some letter) s p t q = (more : Bool) × IsLetterAnswered letter.from letter.message more s p t q
+  IsTurn peers None s p t q = (s ≡ t) × AreAsked lacks has asks s p peers q
 
--- These turns, one behind the other.
-abbrev pub Turns : {S P : Type 0} → (S → Op → Took → S → Type 0) → (S → S → Type 0) → (S → Type 0) → (S → List (ℕ × ℕ) → Type 0) → (S → List (ℕ × ℕ) → List Op → Type 0) → (P → ℕ → List (ℕ × ℕ) → P → Type 0) → (P → ℕ → List Op → P → Type 0)
-    → List ℕ → List (Option Letter) → S → P → S → P → Type 0
-Turns takes drains lacks has gives asks hands peers [] s p t q = (s ≡ t) × (p ≡ q)
-Turns {S} {P} takes drains lacks has gives asks hands peers (turn ∷ turns) s p t q =
-    (next : S) × (sent : P) × IsTurn takes drains lacks has gives asks hands peers turn s p next sent × Turns takes drains lacks has gives asks hands peers turns next sent t q
+  -- These turns, one behind the other.
+  abbrev pub Turns : List ℕ → List (Option Letter) → S → P → S → P → Type 0
+  Turns peers [] s p t q = (s ≡ t) × (p ≡ q)
+  Turns peers (turn ∷ turns) s p t q = (next : S) × (sent : P) × IsTurn peers turn s p next sent × Turns peers turns next sent t q
 
--- Nothing is made of a replica and of its way to the others but by such turns.
-abbrev pub TakesTurns : {S P : Type 0} → (S → Op → Took → S → Type 0) → (S → S → Type 0) → (S → Type 0) → (S → List (ℕ × ℕ) → Type 0) → (S → List (ℕ × ℕ) → List Op → Type 0) → (P → ℕ → List (ℕ × ℕ) → P → Type 0) → (P → ℕ → List Op → P → Type 0)
-    → List ℕ → S → P → S → P → Type 0
-TakesTurns takes drains lacks has gives asks hands peers s p t q = (turns : List (Option Letter)) × Turns takes drains lacks has gives asks hands peers turns s p t q
+  -- Nothing is made of a replica and of its way to the others but by such turns.
+  abbrev pub TakesTurns : List ℕ → S → P → S → P → Type 0
+  TakesTurns peers s p t q = (turns : List (Option Letter)) × Turns peers turns s p t q
 
--- Where it asks first, each of these others is asked.
-abbrev pub IsBegun : {S P : Type 0} → (S → Type 0) → (S → List (ℕ × ℕ) → Type 0) → (P → ℕ → List (ℕ × ℕ) → P → Type 0) → List ℕ → Bool → S → P → P → Type 0
-IsBegun lacks has asks peers true s p q = AreAsked lacks has asks s p peers q
-IsBegun lacks has asks peers false s p q = p ≡ q
-
--- What a link's worker does: it asks the others first, where it is to; and behind that there are turns and nothing else.
-abbrev pub IsWorked : {S P : Type 0} → (S → Op → Took → S → Type 0) → (S → S → Type 0) → (S → Type 0) → (S → List (ℕ × ℕ) → Type 0) → (S → List (ℕ × ℕ) → List Op → Type 0) → (P → ℕ → List (ℕ × ℕ) → P → Type 0) → (P → ℕ → List Op → P → Type 0)
-    → List ℕ → Bool → S → P → S → P → Type 0
-IsWorked {S} {P} takes drains lacks has gives asks hands peers asks_first s p t q =
-    (begun : P) × IsBegun lacks has asks peers asks_first s p begun × TakesTurns takes drains lacks has gives asks hands peers s begun t q
+  -- What a link's worker does: it asks the others first, where it is to; and behind that there are turns and nothing else.
+  abbrev pub IsWorked : List ℕ → Bool → S → P → S → P → Type 0
+  IsWorked peers asks_first s p t q = (begun : P) × IsBegun lacks has asks peers asks_first s p begun × TakesTurns peers s begun t q

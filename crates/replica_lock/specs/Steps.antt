@@ -1,17 +1,11 @@
-use Rattle.std.specs.Prelude.{◌≡◌, ◌↔◌, ℕ, ◌<◌, ◌≤◌, IsTrue, Bool, false, [], is_some, Result, Ok, Err}
-use Rattle.causal_inbox.specs.declared.answers.DeliverFault.{DeliverFault}
-use Rattle.causal_inbox.specs.declared.answers.Delivered.{Delivered as Receipt}
-use Rattle.crdt_ops.specs.declared.op.Op.{Op}
-use Rattle.imap_node.specs.Deliveries.{Delivers, Drains, HoldsRipe, IsRefusedAt}
-use Rattle.imap_node.specs.Nodes.{Idles, NodeState, closed}
+use Rattle.std.specs.Prelude.{◌≡◌, ℕ, Bool, false, is_some}
+use Rattle.imap_node.specs.Nodes.{Idles, NodeState}
 use Rattle.imap_node.specs.Replies.{is_done}
 use Rattle.imap_node.specs.Respond.{Responds}
-use Rattle.imap_node.specs.Sessions.{IsOpen, Opens, session_at}
+use Rattle.imap_node.specs.Sessions.{IsOpen, session_at}
+pub use Rattle.imap_node.specs.Steps.{ClosesAt, DeliversAt, DrainsAt, IsAwayAt, OpensAt}
 use Rattle.imap_node.specs.declared.input.Input.{Input}
 use Rattle.imap_node.specs.declared.input.Input.TheVariants as inputs
-use Rattle.imap_node.specs.declared.sessions.Auth.{Auth}
-use Rattle.imap_node.specs.declared.sessions.OpenFault.{OpenFault}
-use Rattle.imap_node.specs.declared.sessions.OpenFault.TheVariants.{NoMemory, TooManySessions}
 use Rattle.replica_lock.specs.declared.event.BookEvent.{BookEvent}
 use Rattle.replica_lock.specs.declared.event.BookEvent.TheVariants.{Close, Command, Deliver, Drain, Line, Open, Poll}
 use Rattle.replica_lock.specs.declared.outcome.Outcome.{Outcome}
@@ -40,18 +34,6 @@ TakesInput old n input (Replied reply) new = Awaits old n input × Responds old 
 TakesInput old n input PassedOver new = (Awaits old n input → ⊥) × (new ≡ old)
 TakesInput old n input _ new = ⊥
 
--- A session is opened with the least number that isn't open, or nothing changes: too many are open only where all numbers from 1 to 1,024
--- are, and memory may be wanting.
-abbrev pub OpensAt : NodeState → Auth → Result ℕ OpenFault → NodeState → Type 0
-OpensAt old auth (Ok n) new = Opens old.sessions auth n new.sessions × (new ≡ record old { sessions = new.sessions })
-OpensAt old auth (Err TooManySessions) new = ((n : ℕ) → 0 < n → n ≤ 1024 → IsOpen old.sessions n) × (new ≡ old)
-OpensAt old auth (Err NoMemory) new = new ≡ old
-
--- An operation is taken, or refused: then nothing changes.
-abbrev pub DeliversAt : NodeState → Op → Result Receipt DeliverFault → NodeState → Type 0
-DeliversAt old op (Ok receipt) new = Delivers old op receipt.arrival new × (IsTrue receipt.stalled ↔ HoldsRipe new)
-DeliversAt old op (Err why) new = IsRefusedAt old op why × (new ≡ old)
-
 -- One event at a node: with this outcome it leads from the one state to the other.
 abbrev pub IsStep : NodeState → BookEvent → Outcome → NodeState → Type 0
 IsStep old (Open auth) (Opened answer) new = OpensAt old auth answer new
@@ -59,9 +41,9 @@ IsStep old (Command n moment tagged) outcome new = TakesInput old n (inputs.Comm
 IsStep old (Line n line) outcome new = TakesInput old n (inputs.Line line) outcome new
 IsStep old (Poll n) outcome new = TakesInput old n inputs.Poll outcome new
 IsStep old (Deliver op) (Delivered answer) new = DeliversAt old op answer new
-IsStep old Drain (Drained drained) new = Drains old drained.applied new × (IsTrue drained.stalled ↔ HoldsRipe new)
-IsStep old (Close n) Closed new = IsOpen old.sessions n × (new ≡ closed old n)
-IsStep old (Close n) PassedOver new = (IsOpen old.sessions n → ⊥) × (new ≡ old)
+IsStep old Drain (Drained drained) new = DrainsAt old drained new
+IsStep old (Close n) Closed new = ClosesAt old n new
+IsStep old (Close n) PassedOver new = IsAwayAt old n new
 IsStep old _ _ new = ⊥
 
 -- The event closes a session that is open.

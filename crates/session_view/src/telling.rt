@@ -12,7 +12,7 @@ ghost use Rattle.session_view.specs.Walks.{Stands, gone_by, left_by};
 ghost use Rattle.session_view.specs.declared.entry.SyncKind.TheVariants.{Full};
 
 use crate::changes::Note;
-use crate::entry::{Entries, Entry, SyncKind, count_of, last_uid, uid_at};
+use crate::entry::{Entries, Entry, SyncForm, SyncKind, count_of, last_uid, uid_at};
 use crate::places::count_below;
 use crate::replaying::{Silent, set_flags, take_number};
 use crate::syncing::{are_same, change_of, push_exists, push_new};
@@ -73,8 +73,7 @@ pub struct Walk {
 /// more. It looks these up in the view and in the listing, and reads what the listing has behind the view. `Err` where there is no memory.
 pub fn told_by(
     alloc: Global,
-    kind: SyncKind,
-    modseq: bool,
+    form: SyncForm,
     rows: &Rows<'_>,
     view: &Entries,
     uids: &[u32],
@@ -82,17 +81,17 @@ pub fn told_by(
     requires rising { AreRising 1 view.now.items }
     requires ascending { AreAscending 0 uids.now }
     requires covers { Covers uids.now rows.now view.now.items }
-    ensures answers { IfOk result (λ told. told.answers.items ≡ sync_answers kind modseq rows.now view.now.items) }
-    ensures patch { IfOk result (λ told. patched view.now.items told.patch.gone.items told.patch.came.items told.patch.flags.items ≡ synced kind rows.now view.now.items) }
-    ensures left { IfOk result (λ told. told.left.items ≡ left_noted kind rows.now view.now.items) }
-    ensures whole { IfOk result (λ told. told.whole ≡ true → NamesAll told.left.items rows.now (synced kind rows.now view.now.items)) }
+    ensures answers { IfOk result (λ told. told.answers.items ≡ sync_answers form.kind form.modseq rows.now view.now.items) }
+    ensures patch { IfOk result (λ told. patched view.now.items told.patch.gone.items told.patch.came.items told.patch.flags.items ≡ synced form.kind rows.now view.now.items) }
+    ensures left { IfOk result (λ told. told.left.items ≡ left_noted form.kind rows.now view.now.items) }
+    ensures whole { IfOk result (λ told. told.whole ≡ true → NamesAll told.left.items rows.now (synced form.kind rows.now view.now.items)) }
     ensures place { IfOk result (λ told. HasPlace view.now.items told.patch) }
 {
     let count = count_of(view);
     let listed = rows.count();
-    let walk = walked(alloc, kind, modseq, rows, view, uids)?;
+    let walk = walked(alloc, form, rows, view, uids)?;
     let mut came = Vec::new(alloc);
-    let last = last_staying(kind, rows, view);
+    let last = last_staying(form.kind, rows, view);
     push_new(alloc, last, rows, &mut came)?;
     let _last = last_from(last, &came);
     ended(alloc, count, listed, walk, came)
@@ -226,8 +225,7 @@ fn last_there(rows: &Rows<'_>, view: &Entries) -> u32
 /// A view that was looked through by these UIDs.
 fn walked(
     alloc: Global,
-    kind: SyncKind,
-    modseq: bool,
+    form: SyncForm,
     rows: &Rows<'_>,
     view: &Entries,
     uids: &[u32],
@@ -236,7 +234,7 @@ fn walked(
     requires count { length view.now.items < 2 ^ 32 }
     requires ascending { AreAscending 0 uids.now }
     requires covers { Covers uids.now rows.now view.now.items }
-    ensures { IfOk result (λ walk. Stands kind modseq rows.now view.now.items [] walk) }
+    ensures { IfOk result (λ walk. Stands form.kind form.modseq rows.now view.now.items [] walk) }
 {
     let mut walk = Walk {
         done: 0,
@@ -246,7 +244,7 @@ fn walked(
         left: Vec::new(alloc),
     };
     for uid in uids {
-        walk_one(alloc, kind, modseq, rows, view, *uid, &mut walk)?;
+        walk_one(alloc, form, rows, view, *uid, &mut walk)?;
     }
     Ok(walk)
 }
@@ -254,8 +252,7 @@ fn walked(
 /// Looks at the message with this UID, if the view has it among those that aren't done.
 fn walk_one(
     alloc: Global,
-    kind: SyncKind,
-    modseq: bool,
+    form: SyncForm,
     rows: &Rows<'_>,
     view: &Entries,
     uid: u32,
@@ -265,7 +262,7 @@ fn walk_one(
     requires count { length view.now.items < 2 ^ 32 }
     requires few { length walk.now.gone.items ≤ walk.now.done }
     ensures few { OnOk result (length walk.new.gone.items ≤ walk.new.done) }
-    ensures stands { OnOk result ((rest : List ℕ) → Stands kind modseq rows.now view.now.items (uid ∷ rest) walk.old → Stands kind modseq rows.now view.now.items rest walk.new) }
+    ensures stands { OnOk result ((rest : List ℕ) → Stands form.kind form.modseq rows.now view.now.items (uid ∷ rest) walk.old → Stands form.kind form.modseq rows.now view.now.items rest walk.new) }
 {
     let place = count_below(view, u64::from(uid));
     if place < walk.done {
@@ -278,7 +275,7 @@ fn walk_one(
         return Ok(());
     }
     walk.done = place;
-    take_named(alloc, kind, modseq, rows, entry, walk)
+    take_named(alloc, form, rows, entry, walk)
 }
 
 /// The message at this place, from 0.
@@ -291,8 +288,7 @@ fn entry_at(view: &Entries, place: usize) -> Option<&Entry>
 /// Takes in the next message.
 fn take_named(
     alloc: Global,
-    kind: SyncKind,
-    modseq: bool,
+    form: SyncForm,
     rows: &Rows<'_>,
     entry: &Entry,
     walk: &mut Walk,
@@ -300,24 +296,14 @@ fn take_named(
     requires few { length walk.now.gone.items ≤ walk.now.done }
     requires fits { walk.now.done + 1 < 2 ^ 32 }
     ensures few { OnOk result (length walk.new.gone.items ≤ walk.new.done) }
-    ensures stands { OnOk result ((view : List Entry) → (rest : List ℕ) → (back : List Entry) → drop walk.old.done view ≡ entry.now ∷ back → Covers rest rows.now back → Stands kind modseq rows.now view (entry.now.uid ∷ rest) walk.old → Stands kind modseq rows.now view rest walk.new) }
+    ensures stands { OnOk result ((view : List Entry) → (rest : List ℕ) → (back : List Entry) → drop walk.old.done view ≡ entry.now ∷ back → Covers rest rows.now back → Stands form.kind form.modseq rows.now view (entry.now.uid ∷ rest) walk.old → Stands form.kind form.modseq rows.now view rest walk.new) }
 {
     let number = (walk.done - walk.gone.len()) as u32 + 1;
     walk.done += 1;
     match rows.row_near((number as usize).saturating_sub(1), entry.uid) {
-        Some(row) => {
-            push_told(
-                alloc,
-                modseq,
-                number,
-                entry,
-                &row,
-                &mut walk.flags,
-                &mut walk.fetches,
-            )
-        }
+        Some(row) => push_told(alloc, form.modseq, number, entry, &row, walk),
         None => push_gone(
-            kind,
+            form.kind,
             walk.done as u32,
             entry.uid,
             &mut walk.gone,
@@ -333,21 +319,20 @@ fn push_told(
     number: u32,
     entry: &Entry,
     row: &Row<'_>,
-    flags: &mut Vec<Silent>,
-    fetches: &mut Vec<Answer>,
+    walk: &mut Walk,
 ) -> Result<(), AllocError>
-    ensures fetches { OnOk result (fetches.new.items ≡ fetches.old.items ++ change modseq number entry.now (Some (listed row.now))) }
-    ensures flags { OnOk result (flags.new.items ≡ flags.old.items ++ all_flags_told (change modseq number entry.now (Some (listed row.now)))) }
+    ensures fetches { OnOk result (walk.new.fetches.items ≡ walk.old.fetches.items ++ change modseq number entry.now (Some (listed row.now))) }
+    ensures flags { OnOk result (walk.new.flags.items ≡ walk.old.flags.items ++ all_flags_told (change modseq number entry.now (Some (listed row.now)))) }
+    ensures done { walk.new.done ≡ walk.old.done }
+    ensures gone { walk.new.gone ≡ walk.old.gone }
+    ensures left { walk.new.left ≡ walk.old.left }
 {
     if are_same(&entry.flags, row) {
         return Ok(());
     }
-    fetches.push(change_of(alloc, modseq, number, row)?)?;
-    let copy = row.versions.flags(alloc)?;
-    flags.push(Silent {
-        number,
-        flags: copy,
-    })?;
+    walk.fetches.push(change_of(alloc, modseq, number, row)?)?;
+    let flags = row.versions.flags(alloc)?;
+    walk.flags.push(Silent { number, flags })?;
     Ok(())
 }
 

@@ -4,6 +4,7 @@ use Rattle.merge_laws.specs.Orders.{AreSound, IsCausal, fold_of}
 use Rattle.crdt_ops.specs.declared.op.Op.{Op}
 use Rattle.crdt_ops.specs.Sound.{IsSound}
 use Rattle.crdt_ops.specs.Tags.{SubscriptionTag, adds, is_present, removes}
+use Rattle.crdt_ops.specs.Ops.{clock_of, id_of}
 
 -- Whether the subscription tag of a name and id is present.
 abbrev pub Subscriptions : Type 0
@@ -29,5 +30,5 @@ IsSubscribed subscriptions name = (id : OpId) × (subscriptions name id ≡ true
 -- The subscriptions were made by a causal list of sound operations.
 pub record IsMadeBy (subscriptions : Subscriptions) (ops : List Op) : Type 0 where
   pub sound : AreSound IsSound ops
-  pub causal : IsCausal (λ (o : Op). o.id) (λ o. o.clock) ops
+  pub causal : IsCausal id_of clock_of ops
   pub made : subscriptions ≡ fold_of effect_of no_subscriptions ops

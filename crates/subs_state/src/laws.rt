@@ -7,6 +7,7 @@ ghost use Rattle.crdt_ops.specs.Sound.{IsSound};
 ghost use Rattle.folder_state.specs.Contents.{Contents};
 ghost use Rattle.folder_state.specs.Contents as folders;
 ghost use Rattle.subs_state.specs.Subscriptions.{Subscriptions, effect_of, no_subscriptions, subscriptions_by};
+ghost use Rattle.crdt_ops.specs.Ops.{clock_of, id_of};
 
 use crate::subs::Subs;
 use folder_state::Folders;
@@ -14,19 +15,19 @@ use merge_laws::{Pair, same_for_all_orders};
 
 /// Any two causal lists of the same sound operations lead from one content of subscriptions to one.
 pub fn subs_for_all_orders()
-    ensures { GivesOneValue (λ (o : Operation). o.id) (λ o. o.clock) IsSound effect_of }
+    ensures { GivesOneValue id_of clock_of IsSound effect_of }
 {
     same_for_all_orders::<Subs>()
 }
 
 /// Any two causal lists of the same sound operations lead from one content of folders and subscriptions to one.
 pub fn whole_state_for_all_orders()
-    ensures { GivesOneValue {V = Contents × Subscriptions} (λ (o : Operation). o.id) (λ o. o.clock) IsSound (λ v o. (folders.effect_of v.0 o, effect_of v.1 o)) }
+    ensures { GivesOneValue {V = Contents × Subscriptions} id_of clock_of IsSound (λ v o. (folders.effect_of v.0 o, effect_of v.1 o)) }
 {
     same_for_all_orders::<Pair<Folders, Subs>>()
 }
 
 /// A causal list of sound operations leaves in empty subscriptions the present subscription tags of the set of them.
 pub fn subscriptions_follow_the_set()
-    ensures { (ops : List Operation) → AreSound IsSound ops → IsCausal (λ (o : Operation). o.id) (λ o. o.clock) ops → fold_of effect_of no_subscriptions ops ≡ subscriptions_by ops }
+    ensures { (ops : List Operation) → AreSound IsSound ops → IsCausal id_of clock_of ops → fold_of effect_of no_subscriptions ops ≡ subscriptions_by ops }
 {}

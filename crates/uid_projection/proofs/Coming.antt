@@ -174,6 +174,11 @@ pub none_exhausted : (start : Start) (list : List Op) → Exhausts start list []
 none_exhausted start list ([], o, back, e, x) = absurd cc
 none_exhausted start list (y ∷ front, o, back, e, x) = absurd cc
 
+-- one of these lacks a number behind those in front of it
+pub exhausted_at : (start : Start) (list ops : List Op) (at : ℕ) (o : Op) → take (at + 1) ops ≡ take at ops ++ o ∷ [] → IsExhausted start (list ++ take at ops) o → Exhausts start list ops
+exhausted_at start list ops at o next h =
+    (take at ops, o, drop (at + 1) ops, sym (take-append-drop (at + 1) ops) ∙ ap (λ xs. xs ++ drop (at + 1) ops) next ∙ append_assoc (take at ops) (o ∷ []) (drop (at + 1) ops), h)
+
 last_cut : (xs front back : List Op) (x o : Op) → xs ++ x ∷ [] ≡ front ++ o ∷ back → ((xs ≡ front) × (x ≡ o)) ⊎ ((rest : List Op) × (xs ≡ front ++ o ∷ rest))
 last_cut [] [] back x o e = inl (refl, cc)
 last_cut [] (y ∷ []) back x o e = absurd cc

@@ -26,8 +26,9 @@ use Rattle.uid_projection.proofs.Lasting.{about_name}
 use Rattle.uid_projection.proofs.Presence.{inbox_there, there_tags}
 use Rattle.uid_projection.proofs.Tables.{Named, chart_as, has_name, no_chart, others_at, own_chart, own_there, same_key, table_unmoved}
 use Rattle.uid_projection.proofs.Touching.{no_origin}
+use Rattle.crdt_ops.specs.Ops.{clock_of, id_of}
 
-pub both_applied : (list ops : List Op) → IsApplied list → AreSound IsSound ops → IsCausal (λ (o : Op). o.id) (λ o. o.clock) (list ++ ops) → IsApplied (list ++ ops)
+pub both_applied : (list ops : List Op) → IsApplied list → AreSound IsSound ops → IsCausal id_of clock_of (list ++ ops) → IsApplied (list ++ ops)
 both_applied list ops a s d = record {
   sound = λ o i. elim (in_parts o list ops i) [ inl t ↦ a.sound o t | inr t ↦ s o t ];
   causal = d;

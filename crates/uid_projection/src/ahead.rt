@@ -7,7 +7,7 @@ ghost use Rattle.folder_state.specs.Contents.{IsMadeBy};
 ghost use Rattle.folder_state.specs.Tables.{contents_of};
 ghost use Rattle.uid_projection.specs.declared.start.Start.{Start as First};
 ghost use Rattle.uid_projection.specs.Applied.{IsApplied};
-ghost use Rattle.uid_projection.specs.Exhaustion.{Exhausts, IsExhausted, LacksK, LacksUid};
+ghost use Rattle.uid_projection.specs.Exhaustion.{Exhausts, LacksK, LacksUid};
 ghost use Rattle.uid_projection.specs.History.{counted_all};
 ghost use Rattle.uid_projection.specs.Incarnations.{begins};
 ghost use Rattle.uid_projection.specs.Lines.{begins_line, first_uid, has_version, uidnext_of};
@@ -36,29 +36,16 @@ pub fn exhausts(
 {
     for at in 0..ops.len() {
         let op = ops[at].op();
-        if lacks(start, next_k, charts, value, &ops[..at], &ops[..at + 1], op) {
+        if lacks_uid(start, charts, value, &ops[..at], op)
+            || lacks_k(next_k, value, &ops[..at], &ops[..at + 1], op)
+        {
             return true;
         }
     }
     false
 }
 
-/// Whether the operation would need a number that a counter doesn't have, applied behind those in front.
-fn lacks(
-    start: &Start,
-    next_k: u32,
-    charts: &IndexMap<Vec<u8>, Chart>,
-    value: &Folders,
-    front: &[SoundOp],
-    through: &[SoundOp],
-    op: &Op,
-) -> bool
-    ensures { (list : List Operation) → through.now ≡ front.now ++ op.now ∷ [] → IsApplied (list ++ through.now) → IsTable start.now list next_k charts.now.entries → IsMadeBy (contents_of value.now) list → IsTrue result ↔ IsExhausted start.now (list ++ front.now) op.now }
-{
-    lacks_uid(start, charts, value, front, op) || lacks_k(next_k, value, front, through, op)
-}
-
-/// Whether it would need a UID, and none is left.
+/// Whether the operation would need a UID, applied behind those in front, and none is left.
 fn lacks_uid(
     start: &Start,
     charts: &IndexMap<Vec<u8>, Chart>,

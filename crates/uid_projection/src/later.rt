@@ -14,20 +14,19 @@ ghost use Rattle.uid_projection.specs.Applied.{IsApplied};
 ghost use Rattle.uid_projection.specs.Chart.{IsChart};
 ghost use Rattle.uid_projection.specs.declared.start.Start.{Start as First};
 ghost use Rattle.uid_projection.specs.Incarnations.{is_there};
-ghost use Rattle.uid_projection.specs.Lines.{concerns_by, first_uid, has_version};
+ghost use Rattle.uid_projection.specs.Lines.{concerns_by, has_version};
 ghost use Rattle.uid_projection.specs.Moves.{AreApart, IsNext, is_held, loses, moved, with_line};
 ghost use Rattle.uid_projection.specs.Table.{IsTable};
 
 use crate::ahead::same;
-use crate::chart::Chart;
+use crate::charts::Charts;
 use crate::moves::{added_origin, begin_line, holds, settle};
-use crate::start::{Start, first_of};
+use crate::start::first_of;
 use crate::table::chart_of;
 use crdt_ops::{Kind, Op, SoundOp};
 use entry_table::{EntryList, EntryOverlay, EntryTable};
 use folder_ahead::FolderAhead;
 use imap_types::Name;
-use indexmap::IndexMap;
 use std::alloc::{AllocError, Global};
 use tags_clocks::OpId;
 
@@ -42,23 +41,21 @@ pub struct ChartAhead<'a> {
     pub entries: EntryOverlay<'a>,
 }
 
-/// The folder's chart as it is kept, where nothing comes yet; `nothing` is lent where it has none. `Err` where there is no memory.
+/// The folder's chart as it is kept, where nothing comes yet. `Err` where there is no memory.
 pub fn kept_ahead<'a>(
     alloc: Global,
-    start: &Start,
-    charts: &'a IndexMap<Vec<u8>, Chart>,
-    nothing: &'a EntryTable,
+    charts: &'a Charts,
     folder: &Name,
 ) -> Result<ChartAhead<'a>, AllocError>
-    ensures { (list : List Operation) (k : ℕ) → IsTable start.now list k charts.now.entries → nothing.now.entries ≡ [] → IfOk result (λ c. IsChart start.now folder.now list c.uidnext c.highest c.entries.entries) }
+    ensures { (list : List Operation) (k : ℕ) → IsTable charts.now.start list k charts.now.charts.entries → charts.now.nothing.entries ≡ [] → IfOk result (λ c. IsChart charts.now.start folder.now list c.uidnext c.highest c.entries.entries) }
 {
-    match chart_of(charts, folder) {
+    match chart_of(&charts.charts, folder) {
         Some(chart) => Ok(ChartAhead {
             uidnext: chart.uidnext,
             highest: chart.highest,
             entries: chart.entries.overlay(alloc)?,
         }),
-        None => away_ahead(alloc, first_of(start, folder), nothing),
+        None => away_ahead(alloc, first_of(&charts.start, folder), &charts.nothing),
     }
 }
 
@@ -77,23 +74,22 @@ fn away_ahead<'a>(
     })
 }
 
-/// Brings the chart and the folder up to these operations, in this order; `Err`, for want of memory, leaves both of no use but to be
-/// let go. Cost: what the operations name.
+/// Brings the chart and the folder up to these operations, in this order; `charts` tell with what a chart begins. `Err`, for want of
+/// memory, leaves both of no use but to be let go. Cost: what the operations name.
 pub fn bring_through<'a>(
     alloc: Global,
     chart: &mut ChartAhead<'a>,
     ahead: &mut FolderAhead<'a>,
-    start: &Start,
-    nothing: &'a EntryTable,
+    charts: &'a Charts,
     folder: &Name,
     ops: &'a [SoundOp],
 ) -> Result<(), AllocError>
     ensures folder { folder_of ahead.new ≡ folder_of ahead.old }
     ensures ahead { OnOk result ((c : Contents) → IsAhead c ahead.old → IsAhead (after c ops.now) ahead.new) }
-    ensures shows { OnOk result ((list : List Operation) (c : Contents) → IsNextAhead start.now folder.now nothing.now.entries c list ops.now ahead.old → IsChart start.now folder.now list chart.old.uidnext chart.old.highest chart.old.entries.entries → IsChart start.now folder.now (list ++ ops.now) chart.new.uidnext chart.new.highest chart.new.entries.entries) }
+    ensures shows { OnOk result ((list : List Operation) (c : Contents) → IsNextAhead charts.now.start folder.now charts.now.nothing.entries c list ops.now ahead.old → IsChart charts.now.start folder.now list chart.old.uidnext chart.old.highest chart.old.entries.entries → IsChart charts.now.start folder.now (list ++ ops.now) chart.new.uidnext chart.new.highest chart.new.entries.entries) }
 {
     for op in ops {
-        bring_behind(alloc, chart, ahead, start, nothing, folder, op)?;
+        bring_behind(alloc, chart, ahead, charts, folder, op)?;
     }
     Ok(())
 }
@@ -103,29 +99,24 @@ fn bring_behind<'a>(
     alloc: Global,
     chart: &mut ChartAhead<'a>,
     ahead: &mut FolderAhead<'a>,
-    start: &Start,
-    nothing: &'a EntryTable,
+    charts: &'a Charts,
     folder: &Name,
     op: &'a SoundOp,
 ) -> Result<(), AllocError>
     ensures folder { folder_of ahead.new ≡ folder_of ahead.old }
     ensures ahead { OnOk result ((c : Contents) → IsAhead c ahead.old → IsAhead (effect_of c op.now) ahead.new) }
-    ensures shows { OnOk result ((list : List Operation) (c : Contents) → IsNextAhead start.now folder.now nothing.now.entries c list (op.now ∷ []) ahead.old → IsChart start.now folder.now list chart.old.uidnext chart.old.highest chart.old.entries.entries → IsChart start.now folder.now (list ++ op.now ∷ []) chart.new.uidnext chart.new.highest chart.new.entries.entries) }
+    ensures shows { OnOk result ((list : List Operation) (c : Contents) → IsNextAhead charts.now.start folder.now charts.now.nothing.entries c list (op.now ∷ []) ahead.old → IsChart charts.now.start folder.now list chart.old.uidnext chart.old.highest chart.old.entries.entries → IsChart charts.now.start folder.now (list ++ op.now ∷ []) chart.new.uidnext chart.new.highest chart.new.entries.entries) }
 {
     if !is_about(&op.op().kind, folder) {
         return ahead.step(alloc, op);
     }
     let lost = origins_lost(alloc, ahead, op.op().kind.removed())?;
     ahead.step(alloc, op)?;
-    bring_up(
-        alloc,
-        chart,
-        ahead,
-        first_of(start, folder),
-        nothing,
-        lost.as_slice(),
-        op.op(),
-    )
+    if !ahead.exists() {
+        *chart = away_ahead(alloc, first_of(&charts.start, folder), &charts.nothing)?;
+        return Ok(());
+    }
+    advance(chart, ahead, lost.as_slice(), op.op())
 }
 
 /// The origins of the message tags with these ids that are present.
@@ -159,31 +150,11 @@ fn note_lost(lost: &mut Vec<OpId>, origin: Option<OpId>) -> Result<(), AllocErro
 }
 
 /// Brings the chart up to an operation about its folder, from which these origins lose versions; the folder is as the operation
-/// leaves it, and `first` is its first UID.
-fn bring_up<'a>(
-    alloc: Global,
-    chart: &mut ChartAhead<'a>,
-    ahead: &FolderAhead<'a>,
-    first: u32,
-    nothing: &'a EntryTable,
-    lost: &[OpId],
-    op: &Op,
-) -> Result<(), AllocError>
-    ensures { OnOk result ((start : First) (list : List Operation) (c : Contents) → first ≡ first_uid start (folder_of ahead.now) → nothing.now.entries ≡ [] → AdvancesAhead c list op.now (λ g. list_any (same_id g) lost.now) ahead.now → IsChart start (folder_of ahead.now) list chart.old.uidnext chart.old.highest chart.old.entries.entries → IsChart start (folder_of ahead.now) (list ++ op.now ∷ []) chart.new.uidnext chart.new.highest chart.new.entries.entries) }
-{
-    if !ahead.exists() {
-        *chart = away_ahead(alloc, first, nothing)?;
-        return Ok(());
-    }
-    advance(alloc, chart, ahead, lost, op)
-}
-
-/// The same where the folder is there: messages whose versions change get the new mod-sequence; those without a version go, and one
-/// that comes takes the next UID. (No memory holds as many operations as a mod-sequence has numbers.)
-fn advance<'a>(
-    alloc: Global,
-    chart: &mut ChartAhead<'a>,
-    ahead: &FolderAhead<'a>,
+/// leaves it, and is there. Messages whose versions change get the new mod-sequence; those without a version go, and one that comes
+/// takes the next UID. (No memory holds as many operations as a mod-sequence has numbers.)
+fn advance(
+    chart: &mut ChartAhead<'_>,
+    ahead: &FolderAhead<'_>,
     lost: &[OpId],
     op: &Op,
 ) -> Result<(), AllocError>

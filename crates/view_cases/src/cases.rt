@@ -6,16 +6,8 @@ use case_text::{Trouble, Words};
 use imap_answers::Answer;
 use imap_types::DateTime;
 use mail_listing::Rows;
-use session_view::{BadSet, Silent, SyncKind, View, replayed};
+use session_view::{BadSet, Silent, SyncForm, SyncKind, View, replayed};
 use std::alloc::{AllocError, Global};
-
-/// A sync that a case asks for.
-#[derive(Clone, Copy)]
-struct Sync {
-    kind: SyncKind,
-    /// Whether mod-sequences are told with flags.
-    modseq: bool,
-}
 
 /// Plays the lines of a text, and tells each with what the code answers now. An error says that there is no memory.
 pub fn play(alloc: Global, text: &str) -> Result<Vec<u8>, AllocError> {
@@ -65,7 +57,7 @@ fn cut(text: &str) -> (&str, &str) {
     text.split_once(' ').unwrap_or((text, ""))
 }
 
-fn sync_in(word: &str) -> Result<Sync, Trouble> {
+fn sync_in(word: &str) -> Result<SyncForm, Trouble> {
     let (kind, modseq) = match word {
         "full" => (SyncKind::Full, false),
         "full-modseq" => (SyncKind::Full, true),
@@ -73,7 +65,7 @@ fn sync_in(word: &str) -> Result<Sync, Trouble> {
         "partial-modseq" => (SyncKind::Partial, true),
         _ => return Err(Trouble::NotACase),
     };
-    Ok(Sync { kind, modseq })
+    Ok(SyncForm { kind, modseq })
 }
 
 fn put_resolved(
@@ -112,11 +104,11 @@ fn put_sync(
     words: &mut Words,
     view: &str,
     listing: &str,
-    sync: Sync,
+    form: SyncForm,
 ) -> Result<(), Trouble> {
     let view = view_in(alloc, view)?;
     let messages = messages_in(alloc, listing)?;
-    put_listed(alloc, words, &view, &messages, sync)
+    put_listed(alloc, words, &view, &messages, form)
 }
 
 fn put_listed(
@@ -124,11 +116,11 @@ fn put_listed(
     words: &mut Words,
     view: &View,
     messages: &[Message],
-    sync: Sync,
+    form: SyncForm,
 ) -> Result<(), Trouble> {
     let date = DateTime::epoch();
     let rows = rows_of(alloc, messages, &date)?;
-    put_synced(alloc, words, view, &rows, sync)
+    put_synced(alloc, words, view, &rows, form)
 }
 
 /// What a sync answers, the view behind it, and what a replay of the answers makes of the view before it.
@@ -137,10 +129,10 @@ fn put_synced(
     words: &mut Words,
     view: &View,
     rows: &Rows<'_>,
-    sync: Sync,
+    form: SyncForm,
 ) -> Result<(), Trouble> {
     let mut after = view.copy(alloc)?;
-    let answers = after.sync(alloc, rows, sync.kind, sync.modseq)?;
+    let answers = after.sync(alloc, rows, form)?;
     put_answers(words, &answers);
     words.put(" => ");
     put_entries(words, after.entries());

@@ -7,4 +7,4 @@ mod planning;
 
 pub use change::{Change, commit};
 pub use noting::note_all;
-pub use planning::{Noted, Planned, SyncForm, plan};
+pub use planning::{Noted, Planned, plan};

@@ -16,8 +16,8 @@ use idle_feed::Feed;
 use imap_answers::Answer;
 use mail_listing::Rows;
 use session_view::{
-    Note, Silent, SyncKind, SyncOutcome, Told, ToldBehind, View, counts_tell, notes_keep_up,
-    replayed, synced,
+    Note, Silent, SyncForm, SyncKind, SyncOutcome, Told, ToldBehind, View, counts_tell,
+    notes_keep_up, replayed, synced,
 };
 use std::alloc::{AllocError, Global};
 
@@ -28,15 +28,6 @@ pub struct Planned {
     pub answers: Vec<Answer>,
     /// What that does to its view.
     pub change: Change,
-}
-
-/// How a sync is told (RFC 9051, section 7.5.1; RFC 7162, section 3.2).
-#[derive(Clone, Copy)]
-pub struct SyncForm {
-    /// Whether messages that are gone are told.
-    pub kind: SyncKind,
-    /// Whether mod-sequences are told.
-    pub modseq: bool,
 }
 
 /// What names how a view differs from its mailbox's listing.
@@ -172,14 +163,7 @@ fn in_place(
     ensures change { IfOk result (λ plan. IsChangeTo rows.now view.old.entries plan.change) }
     ensures can { IfOk result (λ plan. CanCommit view.old.entries plan.change) }
 {
-    let ToldBehind { first, told } = view.told_behind(
-        alloc,
-        rows,
-        notes,
-        first,
-        form.kind,
-        form.modseq,
-    )?;
+    let ToldBehind { first, told } = view.told_behind(alloc, rows, notes, first, form)?;
     let Told {
         answers,
         patch,

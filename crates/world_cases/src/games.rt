@@ -26,6 +26,12 @@ const MOST_IN_RUN: u32 = 10;
 #[derive(Drop)]
 struct Game {
     world: World,
+    course: Course,
+}
+
+/// How a world went so far.
+#[derive(Drop)]
+struct Course {
     watch: Watch,
     /// So many events were taken, and not passed over.
     taken: u32,
@@ -62,9 +68,11 @@ fn play(alloc: Global, number: u64, tally: &mut Tally) -> Result<(), Trouble> {
     let mut chance = Chance::new(number);
     let mut game = Game {
         world: world(alloc)?,
-        watch: Watch::new(alloc)?,
-        taken: 0,
-        wrong: None,
+        course: Course {
+            watch: Watch::new(alloc)?,
+            taken: 0,
+            wrong: None,
+        },
     };
     let mut left = EVENTS;
     for _ in 0..EVENTS {
@@ -105,16 +113,11 @@ fn go_on(
     count: u32,
     tally: &mut Tally,
 ) -> Result<Game, Trouble> {
-    let Game {
-        world,
-        watch,
-        taken,
-        wrong,
-    } = game;
+    let Game { world, course } = game;
     let mut notes = Vec::new(alloc);
     let events = made_up(alloc, chance, world.nodes(), count, &mut notes)?;
     let outcomes = run(alloc, world, events);
-    judged(alloc, &notes, outcomes, watch, taken, wrong, tally)
+    judged(alloc, &notes, outcomes, course, tally)
 }
 
 /// Events at these nodes, and what clients have to know of them.
@@ -139,12 +142,15 @@ fn judged(
     alloc: Global,
     notes: &[Note],
     outcomes: Outcomes,
-    watch: Watch,
-    taken: u32,
-    wrong: Option<&'static str>,
+    course: Course,
     tally: &mut Tally,
 ) -> Result<Game, Trouble> {
     let Outcomes { world, list, whole } = outcomes;
+    let Course {
+        watch,
+        taken,
+        wrong,
+    } = course;
     let mut watch = watch;
     let mut taken = taken;
     if !whole || list.len() != notes.len() {
@@ -161,17 +167,19 @@ fn judged(
     };
     Ok(Game {
         world,
-        watch,
-        taken,
-        wrong,
+        course: Course {
+            watch,
+            taken,
+            wrong,
+        },
     })
 }
 
 /// Settles the world, and notes whether it ends as it should.
 fn end(alloc: Global, number: u64, game: Game, tally: &mut Tally) -> Result<(), Trouble> {
     let mut nodes = game.world.into_nodes();
-    tally.has_idle_world = tally.has_idle_world || game.taken <= EVENTS / 4;
-    if let Some(how) = game.wrong {
+    tally.has_idle_world = tally.has_idle_world || game.course.taken <= EVENTS / 4;
+    if let Some(how) = game.course.wrong {
         tally.miss(number, how);
     }
     let issued = issued_by(&nodes);

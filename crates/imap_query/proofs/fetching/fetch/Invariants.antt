@@ -4,4 +4,4 @@ use Rattle.imap_query.proofs.fetching.fetch.Given as goal
 
 abbrev pub invariant-loop-shown : goal.invariant-loop-shown
 invariant-loop-shown l =
-    l.answers.items ++ fetch_answers l.items l.mode l.before l.after (drop l.shown-index l.named) ≡ fetch_answers l.items l.mode l.before l.after l.named
+    l.answers.items ++ fetch_answers l.items l.fn.mode l.before l.after (drop l.shown-index l.named) ≡ fetch_answers l.items l.fn.mode l.before l.after l.named

@@ -1,5 +1,5 @@
 use Rattle.std.proofs.Common.{◌≡◌, drop}
-use Rattle.imap_query.specs.Placing.{is_among}
+use Rattle.imap_query.specs.Patterns.{is_among}
 use Rattle.imap_query.proofs.listing.is_among.Given as goal
 
 abbrev pub invariant-loop-folder : goal.invariant-loop-folder

@@ -1,6 +1,6 @@
 use Rattle.std.proofs.Common.{◌+◌, ◌-◌, false, Some, sym, ap, ◌∙◌}
 use Rattle.std.proofs.lemmas.Result.{err_from_is_err_and}
-use Rattle.imap_read.specs.Reading.{with_elements}
+use Rattle.imap_read.specs.Reading.{with_front}
 use Rattle.imap_read.specs.ReadingAnswers.{bodies_at}
 use Rattle.imap_read.proofs.ReadingLemmas.{bodies-end, bodies-fail, bodies-more}
 use Rattle.imap_read.proofs.items.bodies.Goals as goal
@@ -17,5 +17,5 @@ returns-in_err-part c =
 
 pub loop-index-preserved : goal.loop-index-preserved
 loop-index-preserved c =
-    ap (λ f. with_elements f (bodies_at (c.args.count - (c.loop-index._index + 1)) false c.in_ok-part.tail.now)) c.in_ok-push.ensures.items
+    ap (λ f. with_front f (bodies_at (c.args.count - (c.loop-index._index + 1)) false c.in_ok-part.tail.now)) c.in_ok-push.ensures.items
     ∙ bodies-more c.loop-index._index c.args.count c.loop-index.still c.loop-index.parts.items c.loop-index.rest.now c.in-Some.behind.now _ c.in_ok-part.part c.in_ok-part.tail.now c.loop-index-test.true (sym c.in-Some.ensures) c.loop-index.invariant c.in_ok-part.ensures

@@ -1,6 +1,6 @@
 use Rattle.std.proofs.Common.{◌+◌, ◌-◌, false, Some, sym, ap, ◌∙◌}
 use Rattle.std.proofs.lemmas.Result.{err_from_is_err_and}
-use Rattle.imap_read.specs.Reading.{with_elements}
+use Rattle.imap_read.specs.Reading.{with_front}
 use Rattle.imap_read.specs.ReadingAnswers.{fields_at}
 use Rattle.imap_read.proofs.ReadingLemmas.{fields-end, fields-fail, fields-more}
 use Rattle.imap_read.proofs.items.fields.Goals as goal
@@ -17,5 +17,5 @@ returns-in_err-name c =
 
 pub loop-index-preserved : goal.loop-index-preserved
 loop-index-preserved c =
-    ap (λ f. with_elements f (fields_at (c.args.count - (c.loop-index._index + 1)) false c.in_ok-name.tail.now)) c.in_ok-push.ensures.items
+    ap (λ f. with_front f (fields_at (c.args.count - (c.loop-index._index + 1)) false c.in_ok-name.tail.now)) c.in_ok-push.ensures.items
     ∙ fields-more c.loop-index._index c.args.count c.loop-index.still c.loop-index.names.items c.loop-index.rest.now _ c.in_ok-name.name c.in_ok-name.tail.now c.loop-index-test.true (sym c.in-None.ensures) c.loop-index.invariant c.in_ok-name.ensures

@@ -1,5 +1,5 @@
 use Rattle.std.proofs.Common.{◌≡◌, ◌+◌, ◌-◌, ◌∷◌, [], ◌++◌, codes, None, Some, sym, ap, ◌∙◌}
-use Rattle.imap_read.specs.Reading.{after, run_at, runs_at, with_elements}
+use Rattle.imap_read.specs.Reading.{after, run_at, runs_at, with_front}
 use Rattle.imap_read.proofs.ReadingLemmas.{runs-end, runs-more}
 use Rattle.imap_read.proofs.scan.runs.Goals as goal
 
@@ -18,5 +18,5 @@ loop-index-preserved c =
     let found = c.loop-index.found.items in
     let items : c.push.new.self.items ≡ found ++ (run_at rest).0 ∷ [] = c.in_ok-push.ensures.items ∙ ap (λ r. found ++ r ∷ []) c.run.ensures.run in
     let some : after (codes ",") (run_at rest).1 ≡ Some c.in-Some.more.now = ap (after (codes ",")) (sym c.run.ensures.rest) ∙ sym c.in-Some.ensures in
-    ap (λ f. with_elements f (runs_at (c.args.count - (c.loop-index._index + 1)) c.in-Some.more.now)) items
+    ap (λ f. with_front f (runs_at (c.args.count - (c.loop-index._index + 1)) c.in-Some.more.now)) items
     ∙ sym (runs-more c.loop-index._index c.args.count found rest c.in-Some.more.now c.loop-index-test.true some) ∙ c.loop-index.invariant

@@ -1,6 +1,6 @@
 use Rattle.std.proofs.Common.{◌≡◌, ◌+◌, ◌-◌, false, eqb, length, ◌∷◌, [], ◌++◌, Some, sym, ap, ◌∙◌}
 use Rattle.imap_read.specs.declared.scan.Class.TheVariants.{Atom}
-use Rattle.imap_read.specs.Reading.{after, is_in, lead, span, with_elements, words_at}
+use Rattle.imap_read.specs.Reading.{after, is_in, lead, span, with_front, words_at}
 use Rattle.imap_read.proofs.ReadingLemmas.{words-more}
 use Rattle.imap_read.proofs.scan.words.Goals as goal
 
@@ -13,6 +13,6 @@ loop-index-preserved c =
     let items : c.push.new.self.items ≡ found ++ word ∷ [] = c.in_ok-push.ensures.items ∙ ap (λ w. found ++ w ∷ []) (c.in_ok-copied_from.ensures ∙ c.span.ensures.front) in
     let some : after (lead c.loop-index.still []) rest ≡ Some behind = ap (λ p. after p rest) (sym c.lead.ensures) ∙ sym c.in-Some.ensures in
     let filled : eqb (length word) 0 ≡ false = ap (λ w. eqb (length w) 0) (sym c.span.ensures.front) ∙ sym c.is_empty.ensures ∙ c.if-is_empty.false in
-    ap (λ f. with_elements f (words_at (c.args.count - (c.loop-index._index + 1)) false c.span.result.1.now)) items
-    ∙ ap (λ r. with_elements (found ++ word ∷ []) (words_at (c.args.count - (c.loop-index._index + 1)) false r)) c.span.ensures.rest
+    ap (λ f. with_front f (words_at (c.args.count - (c.loop-index._index + 1)) false c.span.result.1.now)) items
+    ∙ ap (λ r. with_front (found ++ word ∷ []) (words_at (c.args.count - (c.loop-index._index + 1)) false r)) c.span.ensures.rest
     ∙ sym (words-more c.loop-index._index c.args.count c.loop-index.still found rest behind c.loop-index-test.true some filled) ∙ c.loop-index.invariant

@@ -4,6 +4,7 @@ use Rattle.merge_laws.specs.Orders.{IsIn}
 use Rattle.mail_replay.proofs.StageLemmas.{never_issued, stands_at}
 use Rattle.mail_replay.specs.Stage.{scene_of}
 use Rattle.mail_replay.proofs.deliveries.issued_op.Goals as goal
+use Rattle.crdt_ops.specs.Ops.{id_of}
 
 pub returns-in_default-find-clause-bad : goal.returns-in_default-find-clause-bad
 returns-in_default-find-clause-bad c =
@@ -18,5 +19,5 @@ returns-clause-ok c =
       c.index.result.now,
       (search rules, stands_at _ _ _ _ c.deref.ensures.value c.in-Some.ensures.within c.index.ensures),
       subst (λ (o : Op). IsIn o c.index.result.now.issued) (sym same) found.0,
-      ap (λ (o : Op). o.id) same ∙ found.1,
+      ap id_of same ∙ found.1,
     )

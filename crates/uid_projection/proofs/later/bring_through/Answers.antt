@@ -16,7 +16,7 @@ loop-op-init c =
     record {
       folder = refl;
       ahead = λ k h. h;
-      shows = λ list k r s. subst (λ xs. IsChart c.args.start.now c.args.folder.now xs x.uidnext x.highest x.entries.entries) (sym (append-nil list)) s;
+      shows = λ list k r s. subst (λ xs. IsChart c.args.charts.now.start c.args.folder.now xs x.uidnext x.highest x.entries.entries) (sym (append-nil list)) s;
     }
 
 pub returns-in_err-bring_behind-clause-folder : goal.returns-in_err-bring_behind-clause-folder
@@ -37,14 +37,14 @@ loop-op-preserved c =
           subst (λ w. IsAhead w c.bring_behind.new.ahead) (sym (ap (after k) next ∙ fold_append effect_of k (take i ops) (o ∷ []))) (b.ahead (after k (take i ops)) (h.ahead k q));
       shows = λ list k r s.
           let at = append_assoc list (take i ops) (o ∷ []) ∙ sym (ap (λ xs. list ++ xs) next) in
-          let w : IsNextAhead c.args.start.now c.args.folder.now c.args.nothing.now.entries (after k (take i ops)) (list ++ take i ops) (o ∷ []) c.loop-op.ahead = record {
+          let w : IsNextAhead c.args.charts.now.start c.args.folder.now c.args.charts.now.nothing.entries (after k (take i ops)) (list ++ take i ops) (o ∷ []) c.loop-op.ahead = record {
             own = h.folder ∙ r.own;
             none = r.none;
             applied = subst IsApplied (sym at) (applied_take list ops (i + 1) r.applied);
             made = made_after k list (take i ops) r.made (applied_take list ops i r.applied);
             is_ahead = h.ahead k r.is_ahead;
           } in
-          subst (λ xs. IsChart c.args.start.now c.args.folder.now xs y.uidnext y.highest y.entries.entries) at (b.shows (list ++ take i ops) (after k (take i ops)) w (h.shows list k r s));
+          subst (λ xs. IsChart c.args.charts.now.start c.args.folder.now xs y.uidnext y.highest y.entries.entries) at (b.shows (list ++ take i ops) (after k (take i ops)) w (h.shows list k r s));
     }
 
 pub returns-clause-ahead : goal.returns-clause-ahead
@@ -56,4 +56,4 @@ pub returns-clause-shows : goal.returns-clause-shows
 returns-clause-shows c = λ list k r s.
     let stop = c.loop-op-test.false in
     let x = c.loop-op.chart in
-    subst (λ xs. IsChart c.args.start.now c.args.folder.now (list ++ xs) x.uidnext x.highest x.entries.entries) (take_all c.loop-op.op-index c.args.ops.now (omega (arith, stop))) (c.loop-op.invariant.shows list k r s)
+    subst (λ xs. IsChart c.args.charts.now.start c.args.folder.now (list ++ xs) x.uidnext x.highest x.entries.entries) (take_all c.loop-op.op-index c.args.ops.now (omega (arith, stop))) (c.loop-op.invariant.shows list k r s)

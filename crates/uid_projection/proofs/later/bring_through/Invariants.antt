@@ -13,7 +13,7 @@ invariant-loop-op l = record {
   ahead : (c : Contents) → IsAhead c l.fn.ahead → IsAhead (after c (take l.op-index l.ops)) l.ahead;
   shows :
       (list : List Op) (c : Contents)
-      → IsNextAhead l.start l.folder l.nothing.entries c list l.ops l.fn.ahead
-      → IsChart l.start l.folder list l.fn.chart.uidnext l.fn.chart.highest l.fn.chart.entries.entries
-      → IsChart l.start l.folder (list ++ take l.op-index l.ops) l.chart.uidnext l.chart.highest l.chart.entries.entries;
+      → IsNextAhead l.charts.start l.folder l.charts.nothing.entries c list l.ops l.fn.ahead
+      → IsChart l.charts.start l.folder list l.fn.chart.uidnext l.fn.chart.highest l.fn.chart.entries.entries
+      → IsChart l.charts.start l.folder (list ++ take l.op-index l.ops) l.chart.uidnext l.chart.highest l.chart.entries.entries;
 }

@@ -5,12 +5,13 @@ use Rattle.imap_node.specs.Nodes.{replica_received}
 use Rattle.uid_projection.specs.Exhaustion.{Exhausts}
 use Rattle.imap_node.proofs.GoingLemmas.{grown_long, grown_take, noted_as}
 use Rattle.imap_node.proofs.node.Node.drain.Goals as goal
+use Rattle.crdt_ops.specs.Ops.{clock_of, id_of}
 
 pub note_since-requires : goal.note_since-requires
 note_since-requires c =
     let old = c.self.inside.replica in
     let new = c.drain-drained.new.self in
-    let grown = releases_grow (λ (o : Op). o.id) (λ (o : Op). o.clock) Exhausts c.drain-drained.result.applied (replica_received old) (replica_received new) c.drain-drained.ensures.released in
+    let grown = releases_grow id_of clock_of Exhausts c.drain-drained.result.applied (replica_received old) (replica_received new) c.drain-drained.ensures.released in
     let e = ap (λ (ops : List Op). length ops) c.applied-count.ensures.applied in
     let l = grown_long old.applied new.applied grown in
     omega (arith, e, l)
@@ -19,8 +20,8 @@ pub invariant_of-self : goal.invariant_of-self
 invariant_of-self c =
     let old = c.self.inside.replica in
     let new = c.drain-drained.new.self in
-    let grown = releases_grow (λ (o : Op). o.id) (λ (o : Op). o.clock) Exhausts c.drain-drained.result.applied (replica_received old) (replica_received new) c.drain-drained.ensures.released in
-    let same = releases_start (λ (o : Op). o.id) (λ (o : Op). o.clock) Exhausts c.drain-drained.result.applied (replica_received old) (replica_received new) c.drain-drained.ensures.released in
+    let grown = releases_grow id_of clock_of Exhausts c.drain-drained.result.applied (replica_received old) (replica_received new) c.drain-drained.ensures.released in
+    let same = releases_start id_of clock_of Exhausts c.drain-drained.result.applied (replica_received old) (replica_received new) c.drain-drained.ensures.released in
     let front = ap (λ (ops : List Op). take (length ops) new.applied) c.applied-count.ensures.applied ∙ grown_take old.applied new.applied grown in
     c.note_since.ensures new.start
     (noted_as old.start new.start old.applied (take (length c.applied-count.result.now) new.applied) c.self.inside.sessions c.self.inside.sessions c.self.inside.feeds c.self.inside.feeds same front refl (λ n. refl) c.self.invariant)

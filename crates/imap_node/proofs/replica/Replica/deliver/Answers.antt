@@ -5,8 +5,9 @@ use Rattle.crdt_ops.specs.declared.op.Op.{Op}
 use Rattle.imap_node.specs.Nodes.{ReplicaKept, replica_received}
 use Rattle.uid_projection.specs.Exhaustion.{Exhausts}
 use Rattle.imap_node.proofs.replica.Replica.deliver.Goals as goal
+use Rattle.crdt_ops.specs.Ops.{clock_of, id_of}
 
 pub returns-clause-answer : goal.returns-clause-answer
 returns-clause-answer c =
-    subst (λ (r : ReplicaKept). MatchResult c.deliver.result (λ d. Arrives (λ (o : Op). o.id) (λ o. o.clock) Exhausts (replica_received r) c.args.op d.arrival c.deliver.new.self.seen) (λ e. Refuses (λ (o : Op). o.id) (λ o. o.clock) Exhausts (replica_received r) c.args.op e)) c.self.view_is
+    subst (λ (r : ReplicaKept). MatchResult c.deliver.result (λ d. Arrives id_of clock_of Exhausts (replica_received r) c.args.op d.arrival c.deliver.new.self.seen) (λ e. Refuses id_of clock_of Exhausts (replica_received r) c.args.op e)) c.self.view_is
     c.deliver.ensures.answer
