@@ -264,6 +264,7 @@ fn add_station(
         link,
         orders,
         address: Mutex::new(address),
+        order: Mutex::new(()),
     })?;
     Ok((letters, copies))
 }

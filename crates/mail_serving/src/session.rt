@@ -25,7 +25,7 @@ use replica_lock::{CallFault, Outcome, Pass, Shared};
 use std::alloc::Global;
 use std::rt::Clock;
 use std::sync::ledger::Ledger;
-use std::sync::{Mutex, Wait};
+use std::sync::{Mutex, MutexGuard, Wait};
 use std::time::{SystemTime, UNIX_EPOCH};
 
 /// A session whose pass stands under a lock of its own, which is taken for one call at a time.
@@ -111,6 +111,7 @@ impl<'a, L: Ledger, R: Wait + Clock, G: Gate> SessionPort<'a, L, R, G> {
         }
         let idles = matches!(&tagged.command, Command::Idle);
         let moment = moment_now(self.rt);
+        let _order = self.order_for(&tagged.command);
         match self.shared.command(self.rt, alloc, pass, moment, tagged) {
             Ok(()) => {
                 self.follow(alloc, idles, pass.last());
@@ -153,6 +154,16 @@ impl<'a, L: Ledger, R: Wait + Clock, G: Gate> SessionPort<'a, L, R, G> {
         ensures seen { IsTrue result → self.now.at.seen ≤ pass.now.seen }
     {
         self.at.session == pass.session() && self.at.seen <= pass.seen()
+    }
+
+    /// The place in the order in which the replica's operations are handed on, for a command that may issue some. Two that overtake each other cost the
+    /// replica that gets them a question, and this one a look through all that it applied.
+    fn order_for(&self, command: &Command) -> Option<MutexGuard<'_, ()>> {
+        if !may_issue(command) {
+            return None;
+        }
+        let station = self.house.stations.get(self.own)?;
+        Some(station.order.lock(self.rt))
     }
 
     /// Hands on what a command issued, and says whether the session idles behind it.
@@ -274,6 +285,25 @@ fn issued(last: Option<&Outcome>) -> &[SoundOp] {
         ) => issued.as_slice(),
         _ => &[],
     }
+}
+
+/// Whether a command may issue operations.
+fn may_issue(command: &Command) -> bool {
+    matches!(
+        command,
+        Command::Create { .. }
+            | Command::Delete { .. }
+            | Command::Subscribe { .. }
+            | Command::Unsubscribe { .. }
+            | Command::Append(_)
+            | Command::Close
+            | Command::Expunge
+            | Command::UidExpunge { .. }
+            | Command::Fetch(_)
+            | Command::Store(_)
+            | Command::Copy(_)
+            | Command::Move(_)
+    )
 }
 
 /// The moment now; the epoch where the clock can't be read.

@@ -28,6 +28,8 @@ pub struct Station {
     pub orders: Sender<CopyOrder>,
     /// Where it listens; `None` as long as it hasn't joined.
     pub address: Mutex<Option<SocketAddr>>,
+    /// Held from a command of a client until what it issued is handed on, so that the others get a replica's operations in their order.
+    pub order: Mutex<()>,
 }
 
 impl Station {

@@ -95,6 +95,7 @@ fn add_station(alloc: Global, address: Option<SocketAddr>, three: &mut Stations)
         link,
         orders,
         address: Mutex::new(address),
+        order: Mutex::new(()),
     };
     three.stations.push(station).ok()
 }
