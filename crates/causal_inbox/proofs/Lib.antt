@@ -12,3 +12,4 @@ mod Waking
 mod Numbered
 mod Growing
 mod OwnLemmas
+mod Gapless

@@ -9,6 +9,7 @@ use merge_laws::{Caused, Replicated};
 use reluctant_parts::Hesitant;
 use std::alloc::{AllocError, Global};
 use std::test::Fail;
+use tags_clocks::Clock;
 
 /// A value that no operation changes.
 #[derive(Drop)]
@@ -106,6 +107,27 @@ fn is_drained_alike(
     Ok(filing.held().len() == plain.held.len() && filing.op_list().len() == plain.applied.len())
 }
 
+/// Whether both tell the same operations since the clocks of some.
+fn are_since_alike(alloc: Global, filing: &Filing, plain: &PlainInbox) -> Result<bool, Trouble> {
+    for (at, op) in plain.applied.iter().enumerate() {
+        if at % 16 == 0 && !is_since_alike(alloc, filing, plain, op.clock())? {
+            return Ok(false);
+        }
+    }
+    Ok(true)
+}
+
+/// Whether both tell the same operations since a clock.
+fn is_since_alike(
+    alloc: Global,
+    filing: &Filing,
+    plain: &PlainInbox,
+    clock: &Clock,
+) -> Result<bool, Trouble> {
+    let since = filing.ops_since(alloc, clock)?;
+    Ok(is_applied_alike(&since, &plain.ops_since(alloc, clock)?))
+}
+
 /// Whether both answer each delivery alike, and end alike.
 fn are_answered_alike(
     alloc: Global,
@@ -118,7 +140,7 @@ fn are_answered_alike(
             return Ok(false);
         }
     }
-    Ok(are_alike(filing, plain))
+    Ok(are_alike(filing, plain) && are_since_alike(alloc, filing, plain)?)
 }
 
 /// Whether both answer this list alike, an application of which is refused where it has as many as its number says.

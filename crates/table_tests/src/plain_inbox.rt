@@ -102,6 +102,17 @@ impl PlainInbox {
         first_ripe(&self.clock, &self.held).is_some()
     }
 
+    /// Copies of the applied operations that the clock doesn't cover.
+    pub fn ops_since(&self, alloc: Global, clock: &Clock) -> Result<Vec<SoundOp>, Trouble> {
+        let mut ops = Vec::new(alloc);
+        for op in &self.applied {
+            if !clock.covers(op.id()) {
+                ops.push(op.copy(alloc)?)?;
+            }
+        }
+        Ok(ops)
+    }
+
     fn apply(&mut self, op: SoundOp) -> Result<(), Trouble> {
         let id = op.id();
         self.applied.push(op)?;

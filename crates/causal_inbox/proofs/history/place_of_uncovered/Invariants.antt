@@ -1,0 +1,10 @@
+use Rattle.std.proofs.Common.{ℕ, ◌≤◌, length, take}
+use Rattle.merge_laws.specs.Orders.{IsIn}
+use Rattle.causal_inbox.specs.Kept.{LacksNext}
+use Rattle.causal_inbox.proofs.history.place_of_uncovered.Given as goal
+
+abbrev pub invariant-loop-replica : goal.invariant-loop-replica
+invariant-loop-replica l = record {
+  within : l.first ≤ length l.ids.keys;
+  lacks : (e : ℕ × ℕ) → IsIn e (take l.replica-index l.counted) → LacksNext l.clock (take l.first l.ids.keys) e;
+}
