@@ -1,6 +1,9 @@
-//! A mailbox's entries by ascending UID, found by their origins too: as they are kept, and as operations to come would leave them.
+//! A mailbox's entries by ascending UID, found by their origins and by their mod-sequences too: as they are kept, and as operations to come
+//! would leave them.
 #![tactic(auto)]
 
+mod changed;
+mod changes;
 mod entry;
 mod index;
 mod list;

@@ -1,9 +1,12 @@
 //! Entries as operations to come would leave them.
 
 ghost use Rattle.std.specs.Prelude.{◌≡◌, ◌≤◌, IfOk, OnOk};
+ghost use Rattle.entry_table.specs.Changes.{AreNotedIn, changed_since};
 ghost use Rattle.entry_table.specs.Entries.{AreIndexed, AreRising, told, told_over};
 ghost use Rattle.entry_table.specs.Tables.{HasEdits};
 
+use crate::changed::{changed_among, changed_by_scan};
+use crate::changes::Changes;
 use crate::entry::Entry;
 use crate::list::EntryList;
 use crate::{index, search};
@@ -20,18 +23,21 @@ pub struct EntryOverlay<'a> {
     list: PatchedList<'a, Entry>,
     kept: &'a IndexMap<OpId, u32>,
     own: IndexMap<OpId, u32>,
+    kept_changes: &'a Changes,
+    own_changes: Changes,
 }
 
 impl<'a> Model for EntryOverlay<'a> {
     ghost use Rattle.indexmap.specs.IndexMap.{spare};
     ghost use Rattle.entry_table.specs.Entries.{AreIndexed, AreRising, told_over};
+    ghost use Rattle.entry_table.specs.Changes.{AreNotedIn, noted_over};
     ghost use Rattle.entry_table.specs.Tables.{Overlaid};
 
     ghost Value = { Overlaid };
 
     ghost view = { λ o. record { entries = o.list.items; places = o.list.places; ids = spare o.own } };
 
-    ghost invariant = { λ o. AreRising 1 o.list.items × AreIndexed (told_over o.own.entries o.kept.now.entries) o.list.items };
+    ghost invariant = { λ o. AreRising 1 o.list.items × AreIndexed (told_over o.own.entries o.kept.now.entries) o.list.items × AreNotedIn (noted_over o.kept_changes.now o.own_changes) o.list.items };
 }
 
 impl<'a> EntryOverlay<'a> {
@@ -40,14 +46,23 @@ impl<'a> EntryOverlay<'a> {
         alloc: Global,
         list: &'a ChunkList<Entry>,
         kept: &'a IndexMap<OpId, u32>,
+        kept_changes: &'a Changes,
     ) -> Result<EntryOverlay<'a>, AllocError>
         requires rising { AreRising 1 list.now.items }
         requires indexed { AreIndexed (told kept.now.entries) list.now.items }
+        requires noted { AreNotedIn kept_changes.now list.now.items }
         ensures { IfOk result (λ over. over.entries ≡ list.now.items) }
     {
         let list = PatchedList::new(alloc, list)?;
         let own = IndexMap::new(alloc);
-        Ok(EntryOverlay { list, kept, own })
+        let own_changes = Changes::new(alloc);
+        Ok(EntryOverlay {
+            list,
+            kept,
+            own,
+            kept_changes,
+            own_changes,
+        })
     }
 
     /// Their UIDs ascend strictly.
@@ -65,7 +80,23 @@ impl<'a> EntryOverlay<'a> {
         ensures ids { self.old.ids ≤ self.new.ids }
     {
         self.own.reserve(edits)?;
+        self.own_changes.reserve(edits)?;
         self.list.reserve(edits)
+    }
+
+    /// The entries whose mod-sequences are above this one; `Err` where there is no memory for them. Cost: the changes to greater
+    /// mod-sequences and a search for each, and where one was left out for want of room, one pass over the entries.
+    pub fn changed_since(&self, alloc: Global, modseq: u64) -> Result<Vec<Entry>, AllocError>
+        ensures { IfOk result (λ found. found.items ≡ changed_since modseq self.now.entries) }
+    {
+        if !self.kept_changes.is_whole() || !self.own_changes.is_whole() {
+            return changed_by_scan(alloc, &self.list, modseq);
+        }
+        let mut uids = Vec::new(alloc);
+        self.kept_changes.push_uids(modseq, &mut uids)?;
+        self.own_changes.push_uids(modseq, &mut uids)?;
+        uids.sort_by_key(|uid| *uid)?;
+        changed_among(alloc, &self.list, &uids, modseq)
     }
 }
 
@@ -95,14 +126,17 @@ impl<'a> EntryList for EntryOverlay<'a> {
 
     fn renew(&mut self, place: usize, modseq: u64) {
         match self.list.get(place) {
-            Some(old) => self.list.replace(
-                place,
-                Entry {
-                    origin: old.origin,
-                    uid: old.uid,
-                    modseq,
-                },
-            ),
+            Some(old) => {
+                self.list.replace(
+                    place,
+                    Entry {
+                        origin: old.origin,
+                        uid: old.uid,
+                        modseq,
+                    },
+                );
+                self.own_changes.note(modseq, old.uid);
+            }
             None => unreachable!(),
         }
     }
@@ -113,6 +147,7 @@ impl<'a> EntryList for EntryOverlay<'a> {
 
     fn put(&mut self, entry: Entry) {
         index::note(&mut self.own, &entry.origin, entry.uid);
+        self.own_changes.note(entry.modseq, entry.uid);
         self.list.push(entry);
     }
 }

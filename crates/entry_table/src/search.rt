@@ -64,7 +64,7 @@ pub fn place_with<L: Places>(list: &L, uid: u32, origin: &OpId) -> Option<usize>
 }
 
 /// The place of the first entry whose UID is no less than this one.
-fn first_from<L: Places>(list: &L, uid: u32) -> usize
+pub fn first_from<L: Places>(list: &L, uid: u32) -> usize
     ensures within { result ≤ length (L.entries list.now) }
     ensures edge { (d : Kept) → IsEdge (λ i. ltb (get_or (L.entries list.now) i d).uid uid) (length (L.entries list.now)) result }
 {

@@ -2,6 +2,7 @@
 
 ghost use Rattle.std.specs.Prelude.{◌≡◌, ◌≤◌, ◌<◌, [], IfOk, OnOk, length, set};
 
+use crate::changes::Changes;
 use crate::entry::Entry;
 use crate::list::EntryList;
 use crate::overlay::EntryOverlay;
@@ -12,24 +13,26 @@ use std::alloc::{AllocError, Global};
 use std::marker::Model;
 use tags_clocks::OpId;
 
-/// A mailbox's entries by ascending UID, with their UIDs by origin.
+/// A mailbox's entries by ascending UID, with their UIDs by origin, and by mod-sequence.
 #[derive(Drop)]
 pub struct EntryTable {
     list: ChunkList<Entry>,
     uids: IndexMap<OpId, u32>,
+    changes: Changes,
 }
 
 impl Model for EntryTable {
     ghost use Rattle.std.specs.Prelude.{min};
     ghost use Rattle.indexmap.specs.IndexMap.{spare};
     ghost use Rattle.entry_table.specs.Entries.{AreIndexed, AreRising, told};
+    ghost use Rattle.entry_table.specs.Changes.{AreNotedIn};
     ghost use Rattle.entry_table.specs.Tables.{Table};
 
     ghost Value = { Table };
 
     ghost view = { λ t. record { entries = t.list.items; room = min t.list.room (spare t.uids) } };
 
-    ghost invariant = { λ t. AreRising 1 t.list.items × AreIndexed (told t.uids.entries) t.list.items };
+    ghost invariant = { λ t. AreRising 1 t.list.items × AreIndexed (told t.uids.entries) t.list.items × AreNotedIn t.changes t.list.items };
 }
 
 impl EntryTable {
@@ -40,17 +43,20 @@ impl EntryTable {
         EntryTable {
             list: ChunkList::new(alloc),
             uids: IndexMap::new(alloc),
+            changes: Changes::new(alloc),
         }
     }
 
-    /// Room for so many edits more; `Err` where there is no memory. The entries stay, and no room is lost.
+    /// Room for so many edits more; `Err` where there is no memory. The entries stay, and no room is lost. Cost: now and then, behind about
+    /// as many edits as there are entries, a sort of all of them by mod-sequence.
     pub fn reserve(&mut self, alloc: Global, edits: usize) -> Result<(), AllocError>
         ensures entries { self.new.entries ≡ self.old.entries }
         ensures ok { OnOk result (edits ≤ self.new.room) }
         ensures room { self.old.room ≤ self.new.room }
     {
         self.uids.reserve(edits)?;
-        self.list.reserve(alloc, edits)
+        self.list.reserve(alloc, edits)?;
+        self.changes.ready(alloc, &self.list, edits)
     }
 
     /// The entries with no edits over them yet. They can be edited there and stay as they are here. `Err` where there is no
@@ -58,7 +64,7 @@ impl EntryTable {
     pub fn overlay(&self, alloc: Global) -> Result<EntryOverlay<'_>, AllocError>
         ensures { IfOk result (λ over. over.entries ≡ self.now.entries) }
     {
-        EntryOverlay::new(alloc, &self.list, &self.uids)
+        EntryOverlay::new(alloc, &self.list, &self.uids, &self.changes)
     }
 }
 
@@ -88,7 +94,10 @@ impl EntryList for EntryTable {
 
     fn renew(&mut self, place: usize, modseq: u64) {
         match self.list.get(place).copied() {
-            Some(old) => put_at(&mut self.list, place, &old.origin, old.uid, modseq),
+            Some(old) => {
+                put_at(&mut self.list, place, &old.origin, old.uid, modseq);
+                self.changes.note(modseq, old.uid);
+            }
             None => unreachable!(),
         }
     }
@@ -100,6 +109,7 @@ impl EntryList for EntryTable {
 
     fn put(&mut self, entry: Entry) {
         index::note(&mut self.uids, &entry.origin, entry.uid);
+        self.changes.note(entry.modseq, entry.uid);
         self.list.push_reserved(entry);
     }
 }

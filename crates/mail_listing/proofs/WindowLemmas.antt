@@ -11,7 +11,9 @@ use Rattle.mail_listing.specs.Telling.{row_by, rows_by}
 use Rattle.entry_table.specs.declared.entry.Entry.{Entry}
 use Rattle.mail_listing.specs.declared.mailbox.Mailbox.{Mailbox}
 use Rattle.mail_listing.specs.declared.mailbox.HeldMessage.{HeldMessage}
-use Rattle.mail_listing.specs.Windows.{IsEdge, above}
+use Rattle.mail_listing.specs.Windows.{IsEdge}
+use Rattle.entry_table.specs.Changes.{changed_since as entries_since}
+use Rattle.std.specs.Prelude.{is_some}
 use Rattle.entry_table.specs.Entries.{AreRising}
 use Rattle.std.specs.Option.{option_to_list, unwrap_or}
 
@@ -193,24 +195,27 @@ rising_left p low (row ∷ rows) h =
       | inr f ↦ rw f (rising_left p low rows (lower low (row.uid + 1) rows (omega (arith, first)) h.1))
     ]
 
--- So many rows and one more.
-pub changed_step : (modseq : ℕ) (rows : List Listed) (i : ℕ) → i < length rows → changed_since modseq (take (suc i) rows) ≡ changed_since modseq (take i rows) ++ option_to_list (above modseq (slice_get rows i))
-changed_step modseq [] i h = absurd (omega (arith, h))
-changed_step modseq (row ∷ rows) zero h =
-    elim (cases_Bool (nat_lt modseq row.modseq)) [
-      | inl t ↦ rw t refl
-      | inr f ↦ rw f refl
-    ]
-changed_step modseq (row ∷ rows) (suc i) h =
-    elim (cases_Bool (nat_lt modseq row.modseq)) [
-      | inl t ↦ rw t (ap (λ rs. row ∷ rs) (changed_step modseq rows i (omega (arith, h))))
-      | inr f ↦ rw f (changed_step modseq rows i (omega (arith, h)))
+-- Those of the entries that are left are the messages that are left.
+pub told_changed : (modseq : ℕ) (fresh : List (OpId × HeldMessage)) (mailbox : Mailbox) (es : List Entry) → rows_by fresh mailbox (entries_since modseq es) ≡ changed_since modseq (rows_by fresh mailbox es)
+told_changed modseq fresh mailbox [] = refl
+told_changed modseq fresh mailbox (e ∷ es) =
+    elim (cases_Bool (nat_lt modseq e.modseq)) [
+      | inl t ↦ rw t (ap (λ rs. row_by fresh mailbox e ∷ rs) (told_changed modseq fresh mailbox es))
+      | inr f ↦ rw f (told_changed modseq fresh mailbox es)
     ]
 
--- What a call that may fail left, where it didn't.
-pub given_ok : {A B X : Type 0} (r : Result A B) (x a b : X) → is_err r ≡ false → x ≡ (if is_ok r then a else b) → x ≡ a
-given_ok (Ok v) x a b e h = h
-given_ok (Err v) x a b e h = absurd (cc e)
+pub same_number : (a b : ℕ) → nat_eq a b ≡ true → a ≡ b
+same_number a b h = grind (arith, nat_tests)
+
+-- A message stands at a place, so it is there.
+pub near_there : (rows : List Listed) (place uid : ℕ) → AreRisingRows 1 rows → option_map (λ (row : Listed). row.uid) (slice_get rows place) ≡ Some uid → is_some (row_of uid rows) ≡ true
+near_there rows place uid h e = there (slice_get rows place) refl e
+  where
+    there : (o : Option Listed) → slice_get rows place ≡ o → option_map (λ (row : Listed). row.uid) o ≡ Some uid → is_some (row_of uid rows) ≡ true
+    there None is k = absurd (cc k)
+    there (Some row) is k =
+        let same : row.uid ≡ uid = cc k in
+        ap is_some (subst (λ u. row_of u rows ≡ Some row) same (found_at 1 rows place row h is))
 
 -- The messages of entries by ascending UID.
 pub told_rising : (low : ℕ) (fresh : List (OpId × HeldMessage)) (mailbox : Mailbox) (es : List Entry) → AreRising low es → AreRisingRows low (rows_by fresh mailbox es)

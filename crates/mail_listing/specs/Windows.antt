@@ -1,4 +1,4 @@
-use Rattle.std.specs.Prelude.{◌≡◌, ℕ, ◌-◌, ◌<◌, Bool, true, false, nat_lt, List, Option, Some, None, map, if◌then◌else◌}
+use Rattle.std.specs.Prelude.{◌≡◌, ℕ, ◌-◌, ◌<◌, Bool, true, false, List, map}
 use Rattle.mail_listing.specs.Listed.{Listed}
 use Rattle.mail_listing.specs.Listing.{held}
 use Rattle.mail_listing.specs.declared.rows.Source.{Source}
@@ -13,8 +13,3 @@ source_rows (Seen window) = window
 pub record IsEdge (test : ℕ → Bool) (count at : ℕ) : Type 0 where
   pub pass : 0 < at → test (at - 1) ≡ true
   pub fail : at < count → test at ≡ false
-
--- A message, where its mod-sequence is above this one.
-abbrev pub above : ℕ → Option Listed → Option Listed
-above modseq None = None
-above modseq (Some row) = if nat_lt modseq row.modseq then Some row else None

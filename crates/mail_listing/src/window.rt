@@ -1,8 +1,8 @@
 //! A window on what a mailbox keeps.
 
-ghost use Rattle.std.specs.Prelude.{◌≡◌, Some, length, option_map, IfOk};
+ghost use Rattle.std.specs.Prelude.{◌≡◌, ◌++◌, ◌∷◌, [], Some, length, map, option_map, IfOk, OnOk};
 ghost use Rattle.std.specs.List.{slice_get};
-ghost use Rattle.mail_listing.specs.Listing.{AreRisingRows, held, listed};
+ghost use Rattle.mail_listing.specs.Listing.{AreRisingRows, changed_since, held, listed};
 ghost use Rattle.std.specs.Option.{unwrap_or};
 ghost use Rattle.mail_listing.specs.Telling.{nothing_told, numbered, row_by, rows_by, told_by, told_in};
 
@@ -94,6 +94,52 @@ impl<'a> Window<'a> {
             None => Ok(None),
         }
     }
+
+    /// The messages whose mod-sequences are above this one, to be held; `Err` where there is no memory for them. Cost: that of
+    /// `EntryOverlay::changed_since`, and the messages that it gives.
+    pub fn changed_since(&self, alloc: Global, modseq: u64) -> Result<Vec<HeldRow<'a>>, AllocError>
+        ensures { IfOk result (λ rows. map held rows.items ≡ changed_since modseq self.now) }
+    {
+        let entries = self.entries.changed_since(alloc, modseq)?;
+        held_rows(alloc, &self.fresh, &self.mailbox, &entries)
+    }
+}
+
+/// The rows of these entries, to be held; `Err` where there is no memory for them.
+fn held_rows<'a>(
+    alloc: Global,
+    fresh: &IndexMap<OpId, HeldMessage<'a>>,
+    mailbox: &Mailbox<'a>,
+    entries: &[Entry],
+) -> Result<Vec<HeldRow<'a>>, AllocError>
+    ensures { IfOk result (λ rows. map held rows.items ≡ rows_by fresh.now.entries mailbox.now entries.now) }
+{
+    let mut rows = Vec::with_capacity(alloc, entries.len())?;
+    for entry in entries {
+        push_held(alloc, &mut rows, fresh, mailbox, entry)?;
+    }
+    Ok(rows)
+}
+
+/// Puts the row of an entry behind the others.
+fn push_held<'a>(
+    alloc: Global,
+    rows: &mut Vec<HeldRow<'a>>,
+    fresh: &IndexMap<OpId, HeldMessage<'a>>,
+    mailbox: &Mailbox<'a>,
+    entry: &Entry,
+) -> Result<(), AllocError>
+    ensures { OnOk result (map held rows.new.items ≡ map held rows.old.items ++ row_by fresh.now.entries mailbox.now entry.now ∷ []) }
+{
+    match held_for(alloc, fresh, mailbox, entry)? {
+        Some(row) => {
+            if rows.push(row).is_err() {
+                return Err(AllocError);
+            }
+        }
+        None => {}
+    }
+    Ok(())
 }
 
 /// The row of an entry.

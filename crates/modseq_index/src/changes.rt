@@ -17,7 +17,7 @@ use uid_projection::Charts;
 
 /// The messages of the folder's listing that changed since this mod-sequence: those with greater ones, by ascending UID, lent by
 /// the folders, which are those that the charts follow; `Err` where there is no memory for them (RFC 7162, section 3.1.4).
-/// Cost: one pass over the folder's messages.
+/// Cost: the changes of the folder's messages since, and a look-up of each.
 pub fn changed_since<'a>(
     charts: &'a Charts,
     alloc: Global,

@@ -1,5 +1,7 @@
-use Rattle.std.proofs.Common.{◌+◌, ◌*◌, ◌≤◌, ap, sym, subst, arith}
+use Rattle.std.proofs.Common.{◌+◌, ◌*◌, ◌≤◌, ◌++◌, ap, refl, sym, subst, arith}
+use Rattle.entry_table.specs.Changes.{AreNoted}
 use Rattle.entry_table.specs.Entries.{AreBelow, AreIndexed, AreRising, Lacks, first_of, is_id, told, told_over}
+use Rattle.entry_table.proofs.Changing.{are_noted_more, both, both_true, noted_over, noted_over_more, noted_put}
 use Rattle.entry_table.proofs.Indexing.{indexed_beside, indexed_put, is_id_same, pick_else, pick_then, rising_put}
 use Rattle.entry_table.proofs.overlay.EntryOverlayEntryList.put.Goals as goal
 
@@ -18,6 +20,13 @@ invariant_of-self c =
     let own = ap (λ t. first_of t (told kept x.origin)) (pick_then (is_id x.origin x.origin) _ _ _ (is_id_same x.origin) (c.note.ensures.told x.origin)) in (
       subst (AreRising 1) (sym c.push.ensures.items) (rising_put 1 es x c.requires.first below c.self.invariant.0),
       subst (AreIndexed h) (sym c.push.ensures.items) (indexed_put h es x beside own),
+      λ whole.
+          let kept = o.kept_changes.now in
+          let now = c.note-2.new.self in
+          let parts = both_true kept.is_whole now.is_whole whole in
+          let was = c.note-2.ensures.others parts.1 in
+          let all = c.self.invariant.2 (both kept.is_whole o.own_changes.is_whole parts.0 was.0) in
+          subst (AreNoted (kept.list ++ now.list)) (sym c.push.ensures.items) (noted_put (kept.list ++ now.list) es x (noted_over kept.list now.list x (c.note-2.ensures.own parts.1 x refl refl)) (are_noted_more (kept.list ++ o.own_changes.list) (kept.list ++ now.list) es (λ e. noted_over_more kept.list o.own_changes.list now.list e (was.1 e)) all)),
     )
 
 pub returns-clause-edits : goal.returns-clause-edits

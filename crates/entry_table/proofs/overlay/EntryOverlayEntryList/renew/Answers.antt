@@ -1,7 +1,9 @@
-use Rattle.std.proofs.Common.{ℕ, ◌≡◌, ◌∙◌, ◌+◌, ◌*◌, ◌<◌, ◌≤◌, Some, length, set, get_or, ap, sym, subst, arith}
+use Rattle.std.proofs.Common.{ℕ, ◌≡◌, ◌∙◌, ◌+◌, ◌*◌, ◌<◌, ◌≤◌, Some, length, set, get_or, ◌++◌, ap, refl, sym, subst, arith}
 use Rattle.std.proofs.lemmas.Option.{get_or_from_slice_get}
 use Rattle.entry_table.specs.declared.entry.Entry.{Entry}
+use Rattle.entry_table.specs.Changes.{AreNoted}
 use Rattle.entry_table.specs.Entries.{AreIndexed, AreRising, told_over}
+use Rattle.entry_table.proofs.Changing.{are_noted_more, both, both_true, noted_over, noted_over_more, noted_set}
 use Rattle.entry_table.proofs.Indexing.{indexed_at, indexed_set, indexed_without, none_within, rising_set}
 use Rattle.entry_table.proofs.overlay.EntryOverlayEntryList.renew.Goals as goal
 
@@ -19,6 +21,13 @@ invariant_of-self c =
     let own = subst (λ (e : Entry). f e.origin ≡ Some e.uid) here (indexed_at f es k old inside c.self.invariant.1) in (
       subst (AreRising 1) (sym c.replace.ensures.items) (rising_set 1 es k x old inside (ap (λ (e : Entry). e.uid) (sym here)) c.self.invariant.0),
       subst (AreIndexed f) (sym c.replace.ensures.items) (indexed_set f es k x inside (indexed_without f es k c.self.invariant.1) own),
+      λ whole.
+          let kept = o.kept_changes.now in
+          let now = c.note.new.self in
+          let parts = both_true kept.is_whole now.is_whole whole in
+          let was = c.note.ensures.others parts.1 in
+          let all = c.self.invariant.2 (both kept.is_whole o.own_changes.is_whole parts.0 was.0) in
+          subst (AreNoted (kept.list ++ now.list)) (sym c.replace.ensures.items) (noted_set (kept.list ++ now.list) es k x (noted_over kept.list now.list x (c.note.ensures.own parts.1 x refl refl)) (are_noted_more (kept.list ++ o.own_changes.list) (kept.list ++ now.list) es (λ e. noted_over_more kept.list o.own_changes.list now.list e (was.1 e)) all)),
     )
 
 pub unreachable-requires : goal.unreachable-requires

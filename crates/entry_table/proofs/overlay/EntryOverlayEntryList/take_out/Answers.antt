@@ -1,5 +1,7 @@
-use Rattle.std.proofs.Common.{◌+◌, ◌*◌, ◌≤◌, ap, sym, subst, arith}
+use Rattle.std.proofs.Common.{◌+◌, ◌*◌, ◌≤◌, ◌++◌, ap, sym, subst, arith}
+use Rattle.entry_table.specs.Changes.{AreNoted}
 use Rattle.entry_table.specs.Entries.{AreIndexed, AreRising, told_over}
+use Rattle.entry_table.proofs.Changing.{noted_without}
 use Rattle.entry_table.proofs.Indexing.{indexed_without, rising_without}
 use Rattle.entry_table.proofs.overlay.EntryOverlayEntryList.take_out.Goals as goal
 
@@ -9,6 +11,7 @@ invariant_of-self c =
     let f = told_over o.own.entries o.kept.now.entries in (
       subst (AreRising 1) (sym c.remove.ensures.items) (rising_without 1 o.list.items c.args.place c.self.invariant.0),
       subst (AreIndexed f) (sym c.remove.ensures.items) (indexed_without f o.list.items c.args.place c.self.invariant.1),
+      λ whole. subst (AreNoted (o.kept_changes.now.list ++ o.own_changes.list)) (sym c.remove.ensures.items) (noted_without (o.kept_changes.now.list ++ o.own_changes.list) o.list.items c.args.place (c.self.invariant.2 whole)),
     )
 
 pub returns-clause-edits : goal.returns-clause-edits

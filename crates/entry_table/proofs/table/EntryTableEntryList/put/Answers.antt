@@ -1,5 +1,7 @@
-use Rattle.std.proofs.Common.{ap, sym, subst}
+use Rattle.std.proofs.Common.{ap, refl, sym, subst}
+use Rattle.entry_table.specs.Changes.{AreNoted}
 use Rattle.entry_table.specs.Entries.{AreBelow, AreIndexed, AreRising, Lacks, is_id, told}
+use Rattle.entry_table.proofs.Changing.{are_noted_more, noted_put}
 use Rattle.entry_table.proofs.Indexing.{indexed_beside, indexed_put, is_id_same, pick_else, pick_then, rising_put}
 use Rattle.entry_table.proofs.table.EntryTableEntryList.put.Goals as goal
 
@@ -17,4 +19,8 @@ invariant_of-self c =
     let own = pick_then (is_id x.origin x.origin) _ _ _ (is_id_same x.origin) (c.note.ensures.told x.origin) in (
       subst (AreRising 1) (sym c.push_reserved.ensures.items) (rising_put 1 es x c.requires.first below c.self.invariant.0),
       subst (AreIndexed h) (sym c.push_reserved.ensures.items) (indexed_put h es x beside own),
+      λ whole.
+          let was = c.note-2.ensures.others whole in
+          let now = c.note-2.new.self.list in
+          subst (AreNoted now) (sym c.push_reserved.ensures.items) (noted_put now es x (c.note-2.ensures.own whole x refl refl) (are_noted_more t.changes.list now es was.1 (c.self.invariant.2 was.0))),
     )

@@ -1,7 +1,9 @@
-use Rattle.std.proofs.Common.{◌≡◌, ◌∙◌, ◌<◌, Some, length, get_or, ap, sym, subst}
+use Rattle.std.proofs.Common.{◌≡◌, ◌∙◌, ◌<◌, Some, length, get_or, ap, refl, sym, subst}
 use Rattle.std.proofs.lemmas.Option.{get_or_from_slice_get}
 use Rattle.entry_table.specs.declared.entry.Entry.{Entry}
+use Rattle.entry_table.specs.Changes.{AreNoted}
 use Rattle.entry_table.specs.Entries.{AreIndexed, AreRising, told}
+use Rattle.entry_table.proofs.Changing.{are_noted_more, noted_set}
 use Rattle.entry_table.proofs.Indexing.{indexed_at, indexed_set, indexed_without, rising_set}
 use Rattle.entry_table.proofs.table.EntryTableEntryList.renew.Goals as goal
 
@@ -19,4 +21,8 @@ invariant_of-self c =
     let own = subst (λ (e : Entry). f e.origin ≡ Some e.uid) here (indexed_at f es k old inside c.self.invariant.1) in (
       subst (AreRising 1) (sym c.put_at.ensures.items) (rising_set 1 es k x old inside (ap (λ (e : Entry). e.uid) (sym here)) c.self.invariant.0),
       subst (AreIndexed f) (sym c.put_at.ensures.items) (indexed_set f es k x inside (indexed_without f es k c.self.invariant.1) own),
+      λ whole.
+          let was = c.note.ensures.others whole in
+          let now = c.note.new.self.list in
+          subst (AreNoted now) (sym c.put_at.ensures.items) (noted_set now es k x (c.note.ensures.own whole x refl refl) (are_noted_more t.changes.list now es was.1 (c.self.invariant.2 was.0))),
     )

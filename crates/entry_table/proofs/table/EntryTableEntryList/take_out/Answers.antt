@@ -1,6 +1,8 @@
 use Rattle.std.proofs.Common.{◌<◌, length, remove, ap, sym, subst}
 use Rattle.entry_table.specs.declared.entry.Entry.{Entry}
+use Rattle.entry_table.specs.Changes.{AreNoted}
 use Rattle.entry_table.specs.Entries.{AreIndexed, AreRising, Lacks, is_id, told}
+use Rattle.entry_table.proofs.Changing.{noted_without}
 use Rattle.entry_table.proofs.Indexing.{indexed_beside, indexed_without, others_lack, pick_else, rising_without}
 use Rattle.entry_table.proofs.table.EntryTableEntryList.take_out.Goals as goal
 
@@ -17,4 +19,5 @@ invariant_of-self c =
     let beside = indexed_beside f h old.origin (remove es k) lacks (λ i apart. pick_else (is_id old.origin i) _ _ _ apart (c.forget.ensures.told i)) (indexed_without f es k c.self.invariant.1) in (
       subst (AreRising 1) (sym c.remove-old.ensures.items) (rising_without 1 es k c.self.invariant.0),
       subst (AreIndexed h) (sym c.remove-old.ensures.items) beside,
+      λ whole. subst (AreNoted t.changes.list) (sym c.remove-old.ensures.items) (noted_without t.changes.list es k (c.self.invariant.2 whole)),
     )
