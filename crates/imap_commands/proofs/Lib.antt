@@ -19,3 +19,4 @@ pub mod PrintSearched
 pub mod PrintCopied
 pub mod PrintSpelled
 mod StoreExamples
+pub mod SeenLemmas

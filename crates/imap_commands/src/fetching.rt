@@ -13,7 +13,7 @@ use crate::telling::{Telling, entry_at, gone_code};
 use crate::versions::old_ids;
 use crdt_ops::Kind;
 use imap_answers::Refusal;
-use imap_query::{FetchMode, Shown, fetch, is_kept, is_marked};
+use imap_query::{FetchMode, Shown, fetch, fetch_unchanged, is_kept, is_marked, set_seen};
 use imap_types::Flags;
 use mail_listing::Rows;
 use message_versions::Versions;
@@ -57,6 +57,9 @@ fn seen_stores(
     ensures { IfOk result (λ kinds. kinds.items ≡ seen_stores mailbox.now asked.now numbers.now) }
 {
     let mut kinds = Vec::new(alloc);
+    if mailbox.read_only || !set_seen(asked.items) {
+        return Ok(kinds);
+    }
     for number in numbers {
         push_seen(alloc, mailbox, asked, *number, &mut kinds)?;
     }
@@ -118,6 +121,25 @@ pub fn fetch_tells(
     let shown = shown_of(alloc, view, &numbers)?;
     let mode = mode_of(mailbox, condstore, asked);
     let own = fetch(alloc, &shown, before, after, asked.items, mode)?;
+    Ok(Telling::new(own, Vec::new(alloc), code))
+}
+
+/// The same where the command issues nothing, so that the listing after it is the one before it.
+pub fn fetch_tells_unchanged(
+    alloc: Global,
+    mailbox: &OpenMailbox<'_>,
+    condstore: bool,
+    asked: &FetchAsked<'_>,
+) -> Result<Telling, AllocError>
+    ensures { IfOk result (λ told. told ≡ fetch_tells mailbox.now mailbox.now.rows condstore asked.now) }
+{
+    let numbers = resolved(alloc, asked.by_uid, asked.messages, mailbox.view)?;
+    let rows = &mailbox.rows;
+    let view = mailbox.view.entries();
+    let code = gone_code(rows, view, &numbers);
+    let shown = shown_of(alloc, view, &numbers)?;
+    let mode = mode_of(mailbox, condstore, asked);
+    let own = fetch_unchanged(alloc, &shown, rows, asked.items, mode)?;
     Ok(Telling::new(own, Vec::new(alloc), code))
 }
 

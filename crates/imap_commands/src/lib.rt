@@ -43,7 +43,7 @@ pub use enabling::{
 };
 pub use entering::login_wants;
 pub use expunging::{close_wants, expunge_wants, uid_expunge_tells, uid_expunge_wants};
-pub use fetching::{fetch_tells, fetch_wants};
+pub use fetching::{fetch_tells, fetch_tells_unchanged, fetch_wants};
 pub use flag_sets::{
     added_flags_are_the_union, changed_flags_are_spelled, removed_flags_are_the_difference,
     replaced_flags_are_those_given,

@@ -111,9 +111,19 @@ fn are_some_gone(rows: &Rows<'_>, view: &Entries, numbers: &[u32]) -> bool
     ensures { result ≡ are_some_gone rows.now view.now.items numbers.now }
 {
     for number in numbers {
-        if message_at(rows, view, *number).is_none() {
+        if is_gone(rows, view, *number) {
             return true;
         }
     }
     false
+}
+
+/// Whether the listing lacks the view's message with this number.
+fn is_gone(rows: &Rows<'_>, view: &Entries, number: u32) -> bool
+    ensures { result ≡ is_gone (message_at rows.now view.now.items number) }
+{
+    match entry_at(view, number) {
+        Some(entry) => !rows.has_near((number as usize).saturating_sub(1), entry.uid),
+        None => true,
+    }
 }

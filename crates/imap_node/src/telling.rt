@@ -21,9 +21,9 @@ use crate::tables::is_selected;
 use crdt_ops::SoundOp;
 use imap_commands::{
     CopyAsked, FetchAsked, Landing, OpenMailbox, SearchAsked, State, StoreAsked, Telling,
-    append_tells, capability_tells, copy_tells, enable_tells, fetch_tells, idle_tells, list_tells,
-    logout_tells, move_tells, namespace_tells, search_tells, select_tells, status_tells,
-    store_tells, uid_expunge_tells,
+    append_tells, capability_tells, copy_tells, enable_tells, fetch_tells, fetch_tells_unchanged,
+    idle_tells, list_tells, logout_tells, move_tells, namespace_tells, search_tells, select_tells,
+    status_tells, store_tells, uid_expunge_tells,
 };
 use imap_query::{ListMode, Marks};
 use imap_syntax::{Command, StatusItem, Tagged};
@@ -325,6 +325,9 @@ fn tells_fetch(
         return Ok(Telling::nothing(alloc));
     };
     let mailbox = mailbox_before(alloc, replica, view, *read_only)?;
+    if ops.is_empty() {
+        return fetch_tells_unchanged(alloc, &mailbox, modseq, asked);
+    }
     let after = rows_behind(alloc, replica, ops, view)?;
     fetch_tells(alloc, &mailbox, &after, modseq, asked)
 }

@@ -7,3 +7,4 @@ pub mod CountLemmas
 pub mod HitLemmas
 pub mod KeyLemmas
 pub mod NamingLemmas
+pub mod ChangedLemmas

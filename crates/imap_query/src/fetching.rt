@@ -66,6 +66,67 @@ pub fn fetch(
     Ok(answers)
 }
 
+/// The same where the command changes nothing, so that the listing behind it is the one before it: one look at each message, and with
+/// CHANGEDSINCE at those alone that changed, which the listing finds by their mod-sequences. `Err` where there is no memory for it.
+pub fn fetch_unchanged(
+    alloc: Global,
+    named: &[Shown],
+    rows: &Rows<'_>,
+    items: &[FetchItem],
+    mode: FetchMode,
+) -> Result<Vec<Answer>, AllocError>
+    ensures { IfOk result (λ answers. answers.items ≡ fetch_answers items.now mode rows.now rows.now named.now) }
+{
+    match mode.changed_since {
+        None => fetch_in(alloc, named, rows, items, mode),
+        Some(modseq) => {
+            let _count = rows.count();
+            let changed = rows.changed_since(alloc, modseq)?;
+            fetch_in(alloc, named, &changed, items, mode)
+        }
+    }
+}
+
+/// What FETCH tells of the named messages out of one listing.
+fn fetch_in(
+    alloc: Global,
+    named: &[Shown],
+    rows: &Rows<'_>,
+    items: &[FetchItem],
+    mode: FetchMode,
+) -> Result<Vec<Answer>, AllocError>
+    ensures { IfOk result (λ answers. answers.items ≡ fetch_answers items.now mode rows.now rows.now named.now) }
+{
+    let asked = Asked { items, mode };
+    let mut answers = Vec::new(alloc);
+    for shown in named {
+        push_unchanged(alloc, rows, asked, *shown, &mut answers)?;
+    }
+    Ok(answers)
+}
+
+/// Adds what is told of one message that stays as it is.
+fn push_unchanged(
+    alloc: Global,
+    rows: &Rows<'_>,
+    asked: Asked<'_>,
+    shown: Shown,
+    answers: &mut Vec<Answer>,
+) -> Result<(), AllocError>
+    ensures { OnOk result (answers.new.items ≡ answers.old.items ++ answer_of asked.entry.items.now asked.entry.mode shown (row_of shown.uid rows.now) (row_of shown.uid rows.now)) }
+{
+    match rows.row_near(shown.place(), shown.uid) {
+        None => Ok(()),
+        Some(row) => {
+            if !is_kept(asked.mode.changed_since, &row) {
+                return Ok(());
+            }
+            let told = items_of(alloc, asked.items, asked.mode, &row, &row)?;
+            push_fetch(answers, shown.number, told)
+        }
+    }
+}
+
 /// Adds what is told of one message.
 fn push_answer(
     alloc: Global,
@@ -168,7 +229,8 @@ pub fn is_marked(items: &[FetchItem], mode: FetchMode, old: &Row<'_>) -> bool
     mode.writable && !old.versions.seen() && set_seen(items)
 }
 
-fn set_seen(items: &[FetchItem]) -> bool
+/// Whether an item sets `\Seen`: a section without PEEK (RFC 9051, section 6.4.5.1).
+pub fn set_seen(items: &[FetchItem]) -> bool
     ensures { result ≡ list_any sets_seen items.now }
 {
     for item in items {

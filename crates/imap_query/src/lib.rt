@@ -13,7 +13,7 @@ mod pattern;
 mod searching;
 mod shown;
 
-pub use fetching::{FetchMode, fetch, is_kept, is_marked};
+pub use fetching::{FetchMode, fetch, fetch_unchanged, is_kept, is_marked, set_seen};
 pub use laws::{one_key, spelled_steps_are_a_key};
 pub use listing::{ListEntry, list, one_list};
 pub use mailbox_status::{Marks, status};
