@@ -35,11 +35,14 @@ impl Outlet {
         }
     }
 
-    /// The connection's thread waits for the client from now on, or no more.
+    /// The connection's thread waits for the client from now on, or no more. Where the session doesn't idle, nobody is woken: whoever waits for that would wait on,
+    /// and be woken twice a command.
     pub fn set_reads<R: Wait>(&self, rt: &R, reads: bool) {
         let mut phase = self.phase.lock(rt);
         phase.reads = reads;
-        self.changed.notify_all();
+        if reads && phase.idles {
+            self.changed.notify_all();
+        }
     }
 
     /// The session idles from now on, or no more.
