@@ -20,7 +20,7 @@ use std::alloc::Global;
 use std::sync::Wait;
 
 /// How many octets are read at once.
-const PIECE: usize = 4_096;
+const PIECE: usize = 16_384;
 
 /// What a conversation keeps from one piece of what is read to the next.
 #[derive(Drop)]
