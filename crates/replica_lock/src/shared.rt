@@ -14,7 +14,7 @@ use crate::locked::Locked;
 use crate::pass::Pass;
 use crdt_ops::SoundOp;
 use imap_node::{Auth, SessionNo};
-use imap_syntax::{IdleLine, Tagged};
+use imap_syntax::{Command, IdleLine, Tagged};
 use imap_types::Moment;
 use merge_laws::Caused;
 use std::alloc::{AllocError, Global};
@@ -33,7 +33,7 @@ pub trait Gate {
 pub struct Shared<L: Ledger> {
     locked: Mutex<Locked<L>>,
     changed: Condvar,
-    /// Signals, of each session, that it idles and may have something to be told, or that it was closed.
+    /// Signals, of each session, that it idles and may have something to be told, that it begins to idle, or that it was closed.
     bells: Bells,
 }
 
@@ -72,7 +72,7 @@ impl<L: Ledger> Shared<L> {
         ensures unchanged { OnErr result (pass.new ≡ pass.old) }
         ensures refused { IfErr result (IsRefused pass.old.seen) }
     {
-        let closed = closed_by(&event);
+        let roused = roused_by(&event);
         let mut locked = self.locked.lock(rt);
         let before = locked.news();
         let result = locked.call(alloc, pass, event);
@@ -81,7 +81,7 @@ impl<L: Ledger> Shared<L> {
         }
         drop(locked);
         self.changed.notify_all();
-        if let Some(session) = closed {
+        if let Some(session) = roused {
             self.bells.of(session).notify_all();
         }
         result
@@ -208,7 +208,7 @@ impl<L: Ledger> Shared<L> {
     }
 
     /// Waits until an entry behind the first `seen` may have to be told to this session, and tells the journal's length then; `None` where the session is closed.
-    /// While it idles, it is woken where its own feed has notes, or missed some, and at its close, by no other entry.
+    /// It looks again where the session begins to idle; while it idles, it is woken where its own feed has notes, or missed some, and at its close, by no other entry.
     pub fn wait_news<R: Wait>(&self, rt: &R, session: SessionNo, seen: u64) -> Option<u64>
         ensures { IfSome result (λ length. seen < length) }
     {
@@ -282,10 +282,21 @@ impl<L: Ledger> Shared<L> {
     }
 }
 
-/// The session that an event closes.
-fn closed_by(event: &BookEvent) -> Option<SessionNo> {
+/// The session that an event closes, or lets idle: whoever waits for its news looks again, since what came while it didn't idle rang no bell.
+fn roused_by(event: &BookEvent) -> Option<SessionNo> {
     match event {
         BookEvent::Close { session } => Some(*session),
+        BookEvent::Command {
+            session,
+            tagged,
+            ..
+        } => {
+            if let Command::Idle = &tagged.command {
+                Some(*session)
+            } else {
+                None
+            }
+        }
         _ => None,
     }
 }

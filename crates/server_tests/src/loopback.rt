@@ -58,7 +58,7 @@ fn served<
 
 #[test]
 fn replicas_serve_over_sockets(rt: HostRuntime) {
-    let line = "imap_server --preauth --stop-after 2 1=127.0.0.1:0 2=127.0.0.1:0";
+    let line = "imap_server --preauth --stop-after 3 1=127.0.0.1:0 2=127.0.0.1:0";
     assert_eq!(rt; served(&rt, rt.alloc(), line, Visit::Two), Some(true));
 }
 

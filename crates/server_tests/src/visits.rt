@@ -14,7 +14,7 @@ use std::time::{Duration, SystemTime, UNIX_EPOCH};
 /// Who visits a server.
 #[derive(Clone, Copy)]
 pub enum Visit {
-    /// Clients of two replicas.
+    /// A client of one replica, and two of another.
     Two,
     /// Clients of two replicas, and one of a third that joins.
     Three,
@@ -100,7 +100,7 @@ fn stir(client: &mut Client) {
     client.say(b"DONE\r\n", b"i OK IDLE completed\r\n")
 }
 
-/// What the clients of two replicas do; whether each was told what it should be.
+/// What a client of one replica and two of another do; whether each was told what it should be.
 fn visit_two<R: Wait + Clock + Net<Listener = TcpListener, Stream = TcpStream>>(
     rt: &R,
     alloc: Global,
@@ -108,6 +108,7 @@ fn visit_two<R: Wait + Clock + Net<Listener = TcpListener, Stream = TcpStream>>(
 ) -> Option<bool> {
     let mut first = client_at(rt, alloc, house, 0)?;
     let mut second = client_at(rt, alloc, house, 1)?;
+    let mut third = client_at(rt, alloc, house, 1)?;
     first.say(b"a CREATE work\r\n", b"a OK CREATE completed\r\n");
     first.say(
         b"b LIST \"\" *\r\n",
@@ -121,9 +122,22 @@ fn visit_two<R: Wait + Clock + Net<Listener = TcpListener, Stream = TcpStream>>(
     second.await_text(b"* 1 EXISTS\r\n");
     store_two(&mut first, &mut second);
     stir(&mut second);
+    idle_again(&mut third, &mut second);
     leave(&mut first);
     leave(&mut second);
-    Some(first.is_served() && second.is_served())
+    leave(&mut third);
+    Some(first.is_served() && second.is_served() && third.is_served())
+}
+
+/// Appends a message where the second client doesn't idle, which is told of it as soon as it idles again.
+fn idle_again(third: &mut Client, second: &mut Client) {
+    third.say(
+        b"a APPEND INBOX {3+}\r\nghi\r\n",
+        b"a OK [APPENDUID 2 3] APPEND completed\r\n",
+    );
+    second.say(b"k IDLE\r\n", b"+ idling\r\n");
+    second.await_text(b"* 3 EXISTS\r\n");
+    second.say(b"DONE\r\n", b"k OK IDLE completed\r\n")
 }
 
 /// Stores a flag of two messages by one command of the first client; the second, which idles at another replica, is told of both.
