@@ -25,7 +25,7 @@ pub use fault::BenchFault;
 pub use laws::literals_are_passed;
 pub use program::run;
 pub use replies::{Reading, ReplyFault, Stage};
-pub use settings::{Settings, SettingsFault, read_settings};
+pub use settings::{Settings, SettingsFault, UsageFault, read_settings};
 pub use telling::settings_or_status;
 pub use times::{Summary, summarize, summary_of};
 pub use workload::Workload;

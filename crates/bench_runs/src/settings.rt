@@ -23,7 +23,7 @@ pub const MAX_CONNECTIONS: u32 = 1_000;
 pub const MAX_SECONDS: u32 = 3_600;
 
 /// What the command line asks for.
-#[derive(Clone, Copy, Debug, PartialEq, Eq)]
+#[derive(Clone, Copy)]
 pub struct Settings<'a> {
     /// The address of the server, as it was given.
     pub address: &'a str,
@@ -45,21 +45,24 @@ pub struct Settings<'a> {
     pub seconds: u32,
 }
 
-/// What is wrong with the command line; as a text, what the program prints of it.
-#[derive(Debug, Drop, thiserror::Error)]
+/// Why the command line asks for nothing.
+#[derive(Drop)]
 pub enum SettingsFault<'a> {
-    /// Its words, or it asks for help.
-    #[error("{0}")]
+    /// Its words are wrong, or ask for help, or there was no memory for them.
     Words(Error),
+    /// What is given for one of them can't be used.
+    Usage(UsageFault<'a>),
+}
+
+/// What can't be used of what is given for a word; as a text, what the program prints of it.
+#[derive(Clone, Copy, Debug, PartialEq, Eq, thiserror::Error)]
+pub enum UsageFault<'a> {
     /// This word is no workload.
     #[error("usage: no workload {0}")]
     BadWorkload(&'a str),
     /// What is given for this word has an octet that is no printable ASCII.
     #[error("usage: --{0} takes printable ASCII")]
     BadText(&'static str),
-    /// There was no memory for it.
-    #[error("no memory")]
-    NoMemory,
 }
 
 /// Reads the words of a command line, the program's name first. What it says of the server, the mailbox and the workload is what clap finds in the words; where there is
@@ -77,15 +80,19 @@ pub fn read_settings<'a>(
     };
     let settings = settings_in(&matches)?;
     if !is_plain(settings.user) {
-        return Err(SettingsFault::BadText("user"));
+        return Err(bad_text("user"));
     }
     if !is_plain(settings.pass) {
-        return Err(SettingsFault::BadText("pass"));
+        return Err(bad_text("pass"));
     }
     if !is_plain(settings.mailbox) {
-        return Err(SettingsFault::BadText("mailbox"));
+        return Err(bad_text("mailbox"));
     }
     Ok(settings)
+}
+
+fn bad_text<'a>(word: &'static str) -> SettingsFault<'a> {
+    SettingsFault::Usage(UsageFault::BadText(word))
 }
 
 /// Whether all octets are of printable ASCII, so that a quoted string may hold them (RFC 9051, section 9).
@@ -102,7 +109,7 @@ fn settings_in<'a>(matches: &ArgMatches<'a>) -> Result<Settings<'a>, SettingsFau
 {
     let workload = text_in(matches, "workload", "");
     let Some(workload) = Workload::named(workload) else {
-        return Err(SettingsFault::BadWorkload(workload));
+        return Err(SettingsFault::Usage(UsageFault::BadWorkload(workload)));
     };
     Ok(Settings {
         address: text_in(matches, "address", ""),

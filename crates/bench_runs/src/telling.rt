@@ -4,7 +4,7 @@ ghost use Rattle.std.specs.Prelude.{IfOk, map};
 ghost use Rattle.clap.specs.Words.{matches_of};
 ghost use Rattle.bench_runs.specs.Options.{Asks, IsPlainText, bench_words};
 
-use crate::settings::{Settings, SettingsFault, is_without_memory, read_settings};
+use crate::settings::{Settings, SettingsFault, UsageFault, is_without_memory, read_settings};
 use clap::Error;
 use std::convert::AsStr;
 use std::io::Eprint;
@@ -28,8 +28,7 @@ pub fn settings_or_status<'a, R: Print + Eprint + AllocGlobal>(
 fn explain<R: Print + Eprint>(rt: &R, why: SettingsFault<'_>) -> u8 {
     match why {
         SettingsFault::Words(error) => explain_words(rt, error),
-        SettingsFault::NoMemory => tell_no_memory(rt),
-        why => tell_usage(rt, why),
+        SettingsFault::Usage(why) => tell_usage(rt, why),
     }
 }
 
@@ -39,7 +38,7 @@ pub fn tell_no_memory<R: Eprint>(rt: &R) -> u8 {
     1
 }
 
-fn tell_usage<R: Eprint>(rt: &R, why: SettingsFault<'_>) -> u8 {
+fn tell_usage<R: Eprint>(rt: &R, why: UsageFault<'_>) -> u8 {
     match eprintln!(rt; "{why}") {
         Ok(()) => 2,
         Err(_) => 1,

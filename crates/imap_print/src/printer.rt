@@ -13,13 +13,16 @@ use imap_answers::{
 use imap_types::{Name, Octets};
 use std::alloc::AllocError;
 
+/// So many octets most answers take at most, so that a line's memory is asked for once.
+const USUAL_LINE: usize = 128;
+
 /// Puts an answer's text with its line end behind what is there. `Err` where there is no memory for it, and then
 /// nothing is changed.
 pub fn print(answer: &Answer, out: &mut Vec<u8>) -> Result<(), AllocError>
     ensures ok { OnOk result (out.new.items ≡ out.old.items ++ printed answer.now) }
     ensures err { OnErr result (out.new.items ≡ out.old.items) }
 {
-    let mut line = Vec::new(*out.allocator());
+    let mut line = Vec::with_capacity(*out.allocator(), USUAL_LINE)?;
     push_line(answer, &mut line)?;
     out.extend_from_slice(&line)
 }

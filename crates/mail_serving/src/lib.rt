@@ -21,7 +21,7 @@ pub use mailing::Mail;
 pub use outlet::Outlet;
 pub use program::{RunFault, open_all, run};
 pub use server_settings::{
-    Access, CommandLine, Join, Place, SettingsFault, access_of, read_settings,
+    Access, CommandLine, Join, Place, SettingsFault, UsageFault, access_of, read_settings,
 };
 pub use serving::{Beginning, Part, serve, serve_over};
 pub use session::{Position, SessionPort};

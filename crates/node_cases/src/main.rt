@@ -30,12 +30,12 @@ fn told(alloc: Global, kind: &str, cases: &str) -> Result<Vec<u8>, AllocError> {
     match kind {
         "texts" => imap_cases::play(alloc, cases),
         "operations" => replica_cases::play(alloc, cases),
-        "uids" => uid_cases::play(alloc, cases),
-        "views" => view_cases::play(alloc, cases),
+        "uids" => replica_cases::play_uids(alloc, cases),
+        "views" => query_cases::play_views(alloc, cases),
         "queries" => query_cases::play(alloc, cases),
-        "idle" => idle_cases::play(alloc),
+        "idle" => world_cases::play_idle(alloc),
         "worlds" => world_cases::play(alloc, cases),
-        "audits" => audit_cases::told(alloc, cases),
+        "audits" => mail_rows::play_audits(alloc, cases),
         "rows" => mail_rows::play(alloc, cases),
         _ => b"no such kind\n".to_vec(alloc),
     }

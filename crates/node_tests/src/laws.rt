@@ -1,5 +1,7 @@
 //! The laws can be called: each is the contract of a function that does nothing.
 
+use imap_grammar::one_reading;
+use imap_lex::{any_cuts, faults_come_first, frames_are_given, given_are_frames};
 use imap_node::{answers_are_printable, listings_are_showable};
 use node_talk::{
     commands_are_answered, faults_can_be_printed, faults_end_the_stream, one_dump,
@@ -10,6 +12,19 @@ use uid_projection::{
     numbers_are_for_good, numbers_have_bounds, rows_are_writable, store_beside_expunge,
     uids_are_apart,
 };
+
+#[test]
+fn laws_of_frames_can_be_called() {
+    any_cuts();
+    frames_are_given();
+    given_are_frames();
+    faults_come_first();
+}
+
+#[test]
+fn law_of_commands_can_be_called() {
+    one_reading();
+}
 
 #[test]
 fn laws_of_numbers_can_be_called() {

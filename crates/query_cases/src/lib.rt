@@ -1,4 +1,4 @@
-//! Plays cases of texts and of queries, and tells each with what the code answers: where all is right, what it was given.
+//! Plays cases of texts, of queries and of views, and tells each with what the code answers: where all is right, what it was given.
 //!
 //! A line sets what is asked of, or is a case, `KIND INPUT => ANSWER`. The head of the cases says which lines there are, and how inputs
 //! and answers are written.
@@ -12,5 +12,7 @@ mod messages;
 mod searches;
 mod stage;
 mod texts;
+mod views;
 
 pub use cases::play;
+pub use views::play as play_views;

@@ -1,4 +1,4 @@
-//! Plays cases of operations, clocks and inboxes, one a line, and tells each with what the code answers. What a case is stands in docs/formats.md.
+//! Plays cases of operations, clocks and inboxes, and cases of UIDs, UIDVALIDITY and mod-sequences, one a line, and tells each with what the code answers. What a case is stands in docs/formats.md.
 #![tactic(auto)]
 
 mod clocks;
@@ -14,5 +14,7 @@ mod permutations;
 mod requests;
 mod sets;
 mod stage;
+mod uids;
 
 pub use requests::play;
+pub use uids::play as play_uids;

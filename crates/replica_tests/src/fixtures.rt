@@ -22,7 +22,7 @@ pub type Mailboxes = Pair<Folders, Subs>;
 pub enum Trouble {
     /// No memory.
     NoMemory,
-    /// A line spells no sound operation.
+    /// What was spelled, or made up, is no sound operation.
     NotTheForm,
 }
 
@@ -47,7 +47,8 @@ pub fn operation(alloc: Global, line: &str) -> Result<SoundOp, Trouble> {
     }
 }
 
-fn sound(op: Op) -> Result<SoundOp, Trouble> {
+/// The same operation, if it is sound.
+pub fn sound(op: Op) -> Result<SoundOp, Trouble> {
     match check(op) {
         Ok(sound) => Ok(sound),
         Err((op, _)) => {

@@ -6,5 +6,7 @@ mod settings;
 mod telling;
 
 pub use listening::listen_at;
-pub use settings::{Access, CommandLine, Join, Place, SettingsFault, access_of, read_settings};
+pub use settings::{
+    Access, CommandLine, Join, Place, SettingsFault, UsageFault, access_of, read_settings,
+};
 pub use telling::{settings_or_status, tell_fault};

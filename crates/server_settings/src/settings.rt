@@ -100,12 +100,18 @@ fn joining_among(joins: &[Join<'_>], name: u16) -> Option<usize>
     None
 }
 
-/// What is wrong with the command line; as a text, what the program prints of it.
-#[derive(Debug, Drop, thiserror::Error)]
+/// Why the command line asks for nothing.
+#[derive(Drop)]
 pub enum SettingsFault<'a> {
-    /// Its words, or it asks for help.
-    #[error("{0}")]
+    /// Its words are wrong, or ask for help, or there was no memory for them.
     Words(Error),
+    /// What is given for one of them can't be used.
+    Usage(UsageFault<'a>),
+}
+
+/// What can't be used of what the words give; as a text, what the program prints of it.
+#[derive(Clone, Copy, Debug, PartialEq, Eq, thiserror::Error)]
+pub enum UsageFault<'a> {
     /// It names no access, or two.
     #[error("usage: give --preauth, or --user and --pass")]
     Access,
@@ -121,16 +127,6 @@ pub enum SettingsFault<'a> {
     /// There was no memory for it.
     #[error("run fault")]
     NoMemory,
-}
-
-impl<'a> From<AllocError> for SettingsFault<'a> {
-    ghost use Rattle.server_settings.specs.declared.settings.SettingsFault.TheVariants.{NoMemory};
-
-    ghost from_gives = { λ _ fault. fault ≡ NoMemory };
-
-    fn from(_none: AllocError) -> SettingsFault<'a> {
-        SettingsFault::NoMemory
-    }
 }
 
 /// Reads the words of a command line, the program's name first. Its words are judged first, then the access, then the replicas in their order, then those that are
@@ -149,16 +145,22 @@ pub fn read_settings<'a>(
         Err(error) => return Err(SettingsFault::Words(error)),
     };
     let Some(access) = access_in(&matches) else {
-        return Err(SettingsFault::Access);
+        return Err(SettingsFault::Usage(UsageFault::Access));
     };
     let stop_after = matches.get_one::<u32>("stop-after");
     let mut names = Vec::new(alloc);
-    let places = places_of(
+    let places = match places_of(
         alloc,
         &mut names,
         matches.get_strs("REPLICA").unwrap_or(&[]),
-    )?;
-    let joins = joins_of(alloc, &mut names, matches.get_strs("join").unwrap_or(&[]))?;
+    ) {
+        Ok(places) => places,
+        Err(why) => return Err(SettingsFault::Usage(why)),
+    };
+    let joins = match joins_of(alloc, &mut names, matches.get_strs("join").unwrap_or(&[])) {
+        Ok(joins) => joins,
+        Err(why) => return Err(SettingsFault::Usage(why)),
+    };
     Ok(CommandLine {
         access,
         stop_after,
@@ -263,7 +265,7 @@ fn places_of<'a>(
     alloc: Global,
     names: &mut Vec<u16>,
     texts: &[&'a str],
-) -> Result<Vec<Place<'a>>, SettingsFault<'a>>
+) -> Result<Vec<Place<'a>>, UsageFault<'a>>
     requires { names.old.items ≡ [] }
     ensures names { OnOk result (AreNames names.new.items) }
     ensures same { IfOk result (λ places. names.new.items ≡ names_of places.items) }
@@ -283,7 +285,7 @@ fn joins_of<'a>(
     alloc: Global,
     names: &mut Vec<u16>,
     texts: &[&'a str],
-) -> Result<Vec<Join<'a>>, SettingsFault<'a>>
+) -> Result<Vec<Join<'a>>, UsageFault<'a>>
     requires { AreNames names.old.items }
     ensures names { IfOk result (λ joins. AreNames (names.old.items ++ newcomers_of joins.items)) }
     ensures peers { IfOk result (λ joins. HavePeers names.old.items joins.items) }
@@ -303,26 +305,26 @@ fn add_join<'a>(
     names: &mut Vec<u16>,
     joins: &mut Vec<Join<'a>>,
     text: &'a str,
-) -> Result<(), SettingsFault<'a>>
+) -> Result<(), UsageFault<'a>>
     requires { AreNames names.old.items }
     ensures names { OnOk result (AreNames names.new.items) }
     ensures more { OnOk result ((join : Joining) × (names.new.items ≡ names.old.items ++ join.place.replica ∷ []) × (is_named join.peer names.old.items ≡ true) × (joins.new.items ≡ joins.old.items ++ join ∷ [])) }
 {
     let Some(join) = join_of(text) else {
-        return Err(SettingsFault::BadJoin(text));
+        return Err(UsageFault::BadJoin(text));
     };
     if !names.contains(&join.peer) {
-        return Err(SettingsFault::BadJoin(text));
+        return Err(UsageFault::BadJoin(text));
     }
     let replica = join.place.replica;
     match add_name(names, replica) {
         Ok(true) => {}
-        Ok(false) => return Err(SettingsFault::Twice(replica)),
-        Err(_) => return Err(SettingsFault::NoMemory),
+        Ok(false) => return Err(UsageFault::Twice(replica)),
+        Err(_) => return Err(UsageFault::NoMemory),
     }
     match joins.push(join) {
         Ok(()) => Ok(()),
-        Err(_) => Err(SettingsFault::NoMemory),
+        Err(_) => Err(UsageFault::NoMemory),
     }
 }
 
@@ -331,24 +333,24 @@ fn add_place<'a>(
     names: &mut Vec<u16>,
     places: &mut Vec<Place<'a>>,
     text: &'a str,
-) -> Result<(), SettingsFault<'a>>
+) -> Result<(), UsageFault<'a>>
     requires names { AreNames names.old.items }
     requires same { names_of places.old.items ≡ names.old.items }
     ensures names { OnOk result (AreNames names.new.items) }
     ensures same { OnOk result (names_of places.new.items ≡ names.new.items) }
 {
     let Some(place) = place_of(text) else {
-        return Err(SettingsFault::BadReplica(text));
+        return Err(UsageFault::BadReplica(text));
     };
     let replica = place.replica;
     match add_name(names, replica) {
         Ok(true) => {}
-        Ok(false) => return Err(SettingsFault::Twice(replica)),
-        Err(_) => return Err(SettingsFault::NoMemory),
+        Ok(false) => return Err(UsageFault::Twice(replica)),
+        Err(_) => return Err(UsageFault::NoMemory),
     }
     match places.push(place) {
         Ok(()) => Ok(()),
-        Err(_) => Err(SettingsFault::NoMemory),
+        Err(_) => Err(UsageFault::NoMemory),
     }
 }
 

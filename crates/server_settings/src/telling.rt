@@ -5,7 +5,7 @@ ghost use Rattle.clap.specs.Words.{matches_of};
 ghost use Rattle.server_settings.specs.Options.{NamesAccess, server_words};
 ghost use Rattle.server_settings.specs.Settings.{AreNames, HavePeers, names_of, newcomers_of};
 
-use crate::settings::{CommandLine, SettingsFault, is_without_memory, read_settings};
+use crate::settings::{CommandLine, SettingsFault, UsageFault, is_without_memory, read_settings};
 use clap::Error;
 use std::convert::AsStr;
 
@@ -29,8 +29,8 @@ pub fn settings_or_status<'a, R: Print + AllocGlobal>(
 fn explain<R: Print>(rt: &R, why: SettingsFault<'_>) -> u8 {
     match why {
         SettingsFault::Words(error) => explain_words(rt, error),
-        SettingsFault::NoMemory => tell_fault(rt),
-        why => tell_usage(rt, why),
+        SettingsFault::Usage(UsageFault::NoMemory) => tell_fault(rt),
+        SettingsFault::Usage(why) => tell_usage(rt, why),
     }
 }
 
@@ -40,7 +40,7 @@ pub fn tell_fault<R: Print>(rt: &R) -> u8 {
     1
 }
 
-fn tell_usage<R: Print>(rt: &R, why: SettingsFault<'_>) -> u8 {
+fn tell_usage<R: Print>(rt: &R, why: UsageFault<'_>) -> u8 {
     match println!(rt; "{why}") {
         Ok(()) => 2,
         Err(_) => 1,

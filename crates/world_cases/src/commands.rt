@@ -1,6 +1,6 @@
 //! Commands by chance.
 
-use case_runs::Chance;
+use crate::chance::Chance;
 use std::alloc::{AllocError, Global};
 
 /// What a command makes of its session's mailbox.

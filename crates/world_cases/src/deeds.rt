@@ -4,7 +4,7 @@ ghost use Rattle.std.specs.Prelude.{◌<◌};
 
 use crate::asked::spelled;
 use crate::commands::{Sort, command};
-use case_runs::Chance;
+use crate::chance::Chance;
 use case_text::Trouble;
 use imap_commands::Credentials;
 use imap_grammar::IdleLine;

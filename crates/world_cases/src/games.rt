@@ -6,7 +6,7 @@ use crate::asked::cut;
 use crate::deeds::{Note, deed};
 use crate::tally::Tally;
 use crate::watch::Watch;
-use case_runs::Chance;
+use crate::chance::Chance;
 use case_text::{Trouble, Words};
 use imap_node::Node;
 use node_talk::write_dump;

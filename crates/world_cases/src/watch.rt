@@ -3,7 +3,7 @@
 use crate::commands::Sort;
 use crate::deeds::{Note, REPLICAS, SESSIONS};
 use crate::tally::Tally;
-use case_runs::Client;
+use crate::client::Client;
 use imap_answers::Answer;
 use imap_node::{Node, Reply, Session, SessionNo, State};
 use session_view::{Silent, View};

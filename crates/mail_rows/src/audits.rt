@@ -1,0 +1,59 @@
+//! Inputs of the audit, case by case.
+
+use imap_types::{Escape, read_escaped};
+use mail_audit::audit;
+use std::alloc::{AllocError, Global};
+
+/// What is told of the cases of a text, each behind a line `== TITLE`; what stands before the first is left out. An error says that there is no
+/// memory.
+pub fn play_audits(alloc: Global, text: &str) -> Result<Vec<u8>, AllocError> {
+    let mut told = Vec::new(alloc);
+    for case in text.split("\n== ").skip(1) {
+        tell_case(alloc, case, &mut told)?;
+    }
+    Ok(told)
+}
+
+/// Tells a case's title, and behind it what the audit of its input says.
+fn tell_case(alloc: Global, case: &str, told: &mut Vec<u8>) -> Result<(), AllocError> {
+    let (title, lines) = case.split_once('\n').unwrap_or((case, ""));
+    told.extend_from_slice(b"== ")?;
+    told.extend_from_slice(title.as_bytes())?;
+    told.push(b'\n')?;
+    let input = input_of(alloc, lines)?;
+    let mut reader = input.as_slice();
+    let _end = audit(alloc, &mut reader, told);
+    Ok(())
+}
+
+/// The input that these lines stand for.
+fn input_of(alloc: Global, lines: &str) -> Result<Vec<u8>, AllocError> {
+    let mut input = Vec::new(alloc);
+    for line in lines.split_terminator('\n') {
+        take_line(alloc, line, &mut input)?;
+    }
+    Ok(input)
+}
+
+/// Takes a line of a case: a comment, nothing, octets in the escape, or a line of the input.
+fn take_line(alloc: Global, line: &str, input: &mut Vec<u8>) -> Result<(), AllocError> {
+    if line.is_empty() || line.starts_with('#') {
+        return Ok(());
+    }
+    match line.strip_prefix("% octets ") {
+        Some(text) => take_octets(alloc, text, input),
+        None => {
+            input.extend_from_slice(line.as_bytes())?;
+            input.push(b'\n')?;
+            Ok(())
+        }
+    }
+}
+
+/// Takes octets that are given in the escape.
+fn take_octets(alloc: Global, text: &str, input: &mut Vec<u8>) -> Result<(), AllocError> {
+    match read_escaped(alloc, Escape::Text, text.as_bytes()) {
+        Ok(octets) => input.extend_from_slice(octets.as_bytes()),
+        Err(_) => input.extend_from_slice(b"not in the escape\n"),
+    }
+}

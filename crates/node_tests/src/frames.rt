@@ -1,0 +1,25 @@
+//! What a frame hands over.
+
+use imap_lex::{Framer, Item, Limits};
+use std::alloc::Global;
+
+/// Whether a line alone is one frame, which hands over the line with its memory.
+fn is_handed_over(alloc: Global, line: &[u8]) -> bool {
+    let mut framer = Framer::new(alloc, Limits::STANDARD);
+    match framer.feed(alloc, line) {
+        Ok(mut items) => items.len() == 1 && hands_over(items.pop(), line),
+        Err(_) => false,
+    }
+}
+
+fn hands_over(item: Option<Item>, octets: &[u8]) -> bool {
+    match item {
+        Some(Item::Frame(frame)) => frame.into_bytes().as_slice() == octets,
+        _ => false,
+    }
+}
+
+#[test]
+fn frames_hand_over_their_octets(rt: HostRuntime) {
+    assert!(rt; is_handed_over(rt.alloc(), b"a NOOP\r\n"));
+}

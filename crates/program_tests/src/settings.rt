@@ -1,0 +1,253 @@
+//! The server's command lines.
+
+use server_settings::{Access, CommandLine, SettingsFault, UsageFault, access_of, read_settings};
+use std::alloc::{AllocError, Global};
+use std::test::*;
+
+/// Command lines that name who may use the server, and what each comes to.
+const ACCESSES: &[(&str, &str)] = &[
+    (
+        "imap_server 1=127.0.0.1:1",
+        "usage: give --preauth, or --user and --pass",
+    ),
+    (
+        "imap_server --preauth --user u 1=a",
+        "usage: give --preauth, or --user and --pass",
+    ),
+    (
+        "imap_server --user u 1=a",
+        "usage: give --preauth, or --user and --pass",
+    ),
+    ("imap_server --user u --pass p 1=a", "password 1 false"),
+    ("imap_server --preauth 1=a 2=b", "preauth 2 false"),
+];
+
+/// Command lines whose last word names no replica.
+const BAD_REPLICAS: &[(&str, &str)] = &[
+    ("imap_server --preauth 7=b 1", "usage: bad replica 1"),
+    ("imap_server --preauth 7=b =a", "usage: bad replica =a"),
+    ("imap_server --preauth 7=b 1=", "usage: bad replica 1="),
+    ("imap_server --preauth 7=b 0=a", "usage: bad replica 0=a"),
+    ("imap_server --preauth 7=b 01=a", "usage: bad replica 01=a"),
+    (
+        "imap_server --preauth 7=b 65536=a",
+        "usage: bad replica 65536=a",
+    ),
+    ("imap_server --preauth 7=b +1=a", "usage: bad replica +1=a"),
+    ("imap_server --preauth 7=b x=a", "usage: bad replica x=a"),
+];
+
+/// Command lines with replicas apart, and with one twice.
+const APART: &[(&str, &str)] = &[
+    ("imap_server --preauth 65535=a=b", "preauth 1 false"),
+    (
+        "imap_server --preauth 1=a 2=b 1=c",
+        "usage: replica 1 twice",
+    ),
+];
+
+/// Command lines with a bound of connections, and with words that clap refuses.
+const OTHERS: &[(&str, &str)] = &[
+    (
+        "imap_server --preauth --stop-after 4294967295 1=a",
+        "preauth 1 true",
+    ),
+    ("imap_server --preauth --stop-after 4294967296 1=a", "words"),
+    ("imap_server --preauth", "words"),
+    ("imap_server --preauth -1=a", "words"),
+];
+
+/// Command lines with a word that names no replica that can join where 1 and 2 are there.
+const BAD_JOINS: &[(&str, &str)] = &[
+    (
+        "imap_server --preauth --join 3 1=a 2=b",
+        "usage: bad join 3",
+    ),
+    (
+        "imap_server --preauth --join 3=a 1=a 2=b",
+        "usage: bad join 3=a",
+    ),
+    (
+        "imap_server --preauth --join 3=a/ 1=a 2=b",
+        "usage: bad join 3=a/",
+    ),
+    (
+        "imap_server --preauth --join 3=/1 1=a 2=b",
+        "usage: bad join 3=/1",
+    ),
+    (
+        "imap_server --preauth --join =a/1 1=a 2=b",
+        "usage: bad join =a/1",
+    ),
+    (
+        "imap_server --preauth --join 3=a/4 1=a 2=b",
+        "usage: bad join 3=a/4",
+    ),
+    (
+        "imap_server --preauth --join 3=a/3 1=a 2=b",
+        "usage: bad join 3=a/3",
+    ),
+    (
+        "imap_server --preauth --join 3=a/01 1=a 2=b",
+        "usage: bad join 3=a/01",
+    ),
+    (
+        "imap_server --preauth --join 3=a/1/ 1=a 2=b",
+        "usage: bad join 3=a/1/",
+    ),
+    (
+        "imap_server --preauth --join 03=a/1 1=a 2=b",
+        "usage: bad join 03=a/1",
+    ),
+    (
+        "imap_server --preauth --join 0=a/1 1=a 2=b",
+        "usage: bad join 0=a/1",
+    ),
+];
+
+/// Command lines with replicas that can join, with one twice, with one whose peer comes behind it, and with one beside a word that names no replica.
+const JOINS: &[(&str, &str)] = &[
+    (
+        "imap_server --preauth --join 3=a/b/2 1=a 2=b",
+        "preauth 3 false",
+    ),
+    (
+        "imap_server --preauth --join 2=a/1 1=a 2=b",
+        "usage: replica 2 twice",
+    ),
+    (
+        "imap_server --preauth --join 3=a/2 --join 4=c/3 1=a 2=b",
+        "preauth 4 false",
+    ),
+    (
+        "imap_server --preauth --join 3=a/4 --join 4=c/1 1=a 2=b",
+        "usage: bad join 3=a/4",
+    ),
+    (
+        "imap_server --preauth --join x 1=a y",
+        "usage: bad replica y",
+    ),
+];
+
+/// Whether everybody is known, the user and the password that are given, and the access that they name.
+const NAMED: &[(bool, Option<&str>, Option<&str>, Option<Access<'_>>)] = &[
+    (
+        false,
+        Some("me"),
+        Some("secret"),
+        Some(Access::Password {
+            user: "me",
+            pass: "secret",
+        }),
+    ),
+    (true, None, None, Some(Access::Preauth)),
+    (true, Some("me"), Some("secret"), None),
+    (true, None, Some("secret"), None),
+    (false, None, Some("secret"), None),
+    (false, None, None, None),
+];
+
+/// The words of a command line, cut at spaces.
+fn words_of(alloc: Global, line: &str) -> Result<Vec<String>, AllocError> {
+    let mut words = Vec::new(alloc);
+    for word in line.split(' ') {
+        words.push(String::from_str(alloc, word)?)?;
+    }
+    Ok(words)
+}
+
+/// Settings as a text.
+fn settings_told(alloc: Global, settings: &CommandLine<'_>) -> Result<String, AllocError> {
+    let access = match settings.access {
+        Access::Preauth => "preauth",
+        Access::Password { .. } => "password",
+    };
+    format!(in alloc;
+        "{access} {} {}",
+        settings.places.len() + settings.joins.len(),
+        settings.stop_after.is_some()
+    )
+}
+
+/// What the program prints of a fault, but for faults of the words, which are clap's.
+fn fault_told(alloc: Global, fault: &SettingsFault<'_>) -> Result<String, AllocError> {
+    match fault {
+        SettingsFault::Words(_) => format!(in alloc; "words"),
+        SettingsFault::Usage(why) => format!(in alloc; "{why}"),
+    }
+}
+
+/// What the settings of these words are, as a text; what the program prints where they are none.
+fn told(alloc: Global, words: &[String]) -> Result<String, AllocError> {
+    match read_settings(alloc, words) {
+        Ok(settings) => settings_told(alloc, &settings),
+        Err(fault) => fault_told(alloc, &fault),
+    }
+}
+
+/// Whether this was told.
+fn is_told(text: Result<String, AllocError>, wanted: &str) -> bool {
+    match text {
+        Ok(text) => text.as_str() == wanted,
+        Err(_) => false,
+    }
+}
+
+/// Whether a command line comes to this.
+fn comes_to(alloc: Global, line: &str, wanted: &str) -> bool {
+    match words_of(alloc, line) {
+        Ok(words) => is_told(told(alloc, &words), wanted),
+        Err(_) => false,
+    }
+}
+
+/// The place of the first command line that comes to something else.
+fn first_wrong(alloc: Global, lines: &[(&str, &str)]) -> Option<usize> {
+    lines
+        .iter()
+        .position(|line| !comes_to(alloc, line.0, line.1))
+}
+
+#[test]
+fn access_is_named_once(rt: HostRuntime) {
+    assert_eq!(rt; first_wrong(rt.alloc(), ACCESSES), None);
+}
+
+#[test]
+fn replicas_are_named_well(rt: HostRuntime) {
+    assert_eq!(rt; first_wrong(rt.alloc(), BAD_REPLICAS), None);
+}
+
+#[test]
+fn replicas_are_named_apart(rt: HostRuntime) {
+    assert_eq!(rt; first_wrong(rt.alloc(), APART), None);
+}
+
+#[test]
+fn other_words_are_refused(rt: HostRuntime) {
+    assert_eq!(rt; first_wrong(rt.alloc(), OTHERS), None);
+}
+
+#[test]
+fn joins_name_replicas_and_peers(rt: HostRuntime) {
+    assert_eq!(rt; first_wrong(rt.alloc(), BAD_JOINS), None);
+    assert_eq!(rt; first_wrong(rt.alloc(), JOINS), None);
+}
+
+/// The place of the first row of which another access, or none, is named.
+fn first_misnamed() -> Option<usize> {
+    NAMED
+        .iter()
+        .position(|row| access_of(row.0, row.1, row.2) != row.3)
+}
+
+#[test]
+fn users_and_passwords_stand_in_their_places(rt: HostRuntime) {
+    assert_eq!(rt; first_misnamed(), None);
+}
+
+#[test]
+fn want_of_memory_is_a_fault_of_the_run(rt: HostRuntime) {
+    let text = fault_told(rt.alloc(), &SettingsFault::Usage(UsageFault::NoMemory));
+    assert!(rt; is_told(text, "run fault"));
+}

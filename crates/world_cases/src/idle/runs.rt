@@ -1,0 +1,247 @@
+//! One run, and how it ends.
+
+use crate::idle::deeds::{append, deed};
+use crate::idle::scene::{Scene, command, done, give, give_text, poll, selected, session};
+use crate::idle::watch::Watch;
+use crate::chance::Chance;
+use crate::client::Client;
+use case_text::Trouble;
+use crdt_ops::SoundOp;
+use imap_node::{Answers, Node, SessionNo};
+use std::alloc::Global;
+
+/// How a run ended.
+#[derive(Clone, Copy)]
+pub struct Ending {
+    /// The view of the answers is what a session sees that selects the mailbox now.
+    pub is_right: bool,
+    /// So is the view of a client that passes over EXPUNGE.
+    pub without_expunge: bool,
+    /// So is the view of a client that passes over EXISTS.
+    pub without_exists: bool,
+    /// So is the view of a client that passes over FETCH.
+    pub without_fetch: bool,
+    /// The mailbox that was watched is gone.
+    pub has_ended: bool,
+}
+
+/// Plays the run with this number.
+pub fn played(alloc: Global, number: u64) -> Result<Ending, Trouble> {
+    let mut chance = Chance::new(number);
+    let name = if chance.is_one_in(2) { "INBOX" } else { "work" };
+    let mut scene = Scene::new(alloc)?;
+    let mut watch = Watch::new(alloc);
+    let ending = play(alloc, &mut chance, &mut scene, name, &mut watch);
+    drop(watch);
+    drop(scene);
+    ending
+}
+
+fn play(
+    alloc: Global,
+    chance: &mut Chance,
+    scene: &mut Scene,
+    name: &str,
+    watch: &mut Watch,
+) -> Result<Ending, Trouble> {
+    prepare(alloc, chance, scene, name)?;
+    begin(alloc, scene, name, watch)?;
+    let steps = chance.below(24);
+    for _ in 0..steps.saturating_add(8) {
+        step(alloc, chance, scene, name, watch)?;
+    }
+    end(alloc, scene, watch)?;
+    judged(alloc, scene, name, watch)
+}
+
+/// Makes the mailboxes, and some messages, and lets some of it come to the other replica.
+fn prepare(
+    alloc: Global,
+    chance: &mut Chance,
+    scene: &mut Scene,
+    name: &str,
+) -> Result<(), Trouble> {
+    let session = scene.hands.near;
+    give(alloc, &mut scene.near, session, "a CREATE work\r\n")?;
+    give(alloc, &mut scene.near, session, "a CREATE other\r\n")?;
+    append_some(alloc, chance, &mut scene.near, session, name)?;
+    exchange(alloc, chance, &scene.near, &mut scene.far)
+}
+
+/// Up to five messages.
+fn append_some(
+    alloc: Global,
+    chance: &mut Chance,
+    node: &mut Node,
+    session: SessionNo,
+    name: &str,
+) -> Result<(), Trouble> {
+    for _ in 0..chance.below(6) {
+        let text = append(alloc, chance, name)?;
+        give_text(alloc, node, session, text)?;
+    }
+    Ok(())
+}
+
+/// The watching session selects the mailbox, learns its messages, and idles.
+fn begin(alloc: Global, scene: &mut Scene, name: &str, watch: &mut Watch) -> Result<(), Trouble> {
+    learn_by_select(alloc, scene, name, watch)?;
+    learn(alloc, scene, watch, "b UID FETCH 1:* FLAGS\r\n")?;
+    learn(alloc, scene, watch, "c IDLE\r\n")
+}
+
+fn learn_by_select(
+    alloc: Global,
+    scene: &mut Scene,
+    name: &str,
+    watch: &mut Watch,
+) -> Result<(), Trouble> {
+    let select = format!(in alloc; "a SELECT {name}\r\n")?;
+    let done = learn(alloc, scene, watch, select.as_str());
+    drop(select);
+    done
+}
+
+/// All clients hear what the watching session is answered.
+fn learn(alloc: Global, scene: &mut Scene, watch: &mut Watch, text: &str) -> Result<(), Trouble> {
+    match command(alloc, &mut scene.near, scene.hands.watcher, text)? {
+        Some(answers) => {
+            let heard = watch.hear_all(alloc, answers.as_slice());
+            drop(answers);
+            Ok(heard?)
+        }
+        None => Err(Trouble::NotACase),
+    }
+}
+
+/// Something that the numbers choose happens.
+fn step(
+    alloc: Global,
+    chance: &mut Chance,
+    scene: &mut Scene,
+    name: &str,
+    watch: &mut Watch,
+) -> Result<(), Trouble> {
+    match chance.below(8) {
+        0 | 1 | 2 => deed(alloc, chance, &mut scene.near, scene.hands.near, name),
+        3 | 4 => deed(alloc, chance, &mut scene.far, scene.hands.far, name),
+        5 => exchange(alloc, chance, &scene.far, &mut scene.near),
+        6 => exchange(alloc, chance, &scene.near, &mut scene.far),
+        _ => listen(alloc, scene, watch),
+    }
+}
+
+fn listen(alloc: Global, scene: &mut Scene, watch: &mut Watch) -> Result<(), Trouble> {
+    let told = poll(alloc, &mut scene.near, scene.hands.watcher)?;
+    hear(alloc, watch, told)
+}
+
+fn end(alloc: Global, scene: &mut Scene, watch: &mut Watch) -> Result<(), Trouble> {
+    let told = done(alloc, &mut scene.near, scene.hands.watcher)?;
+    hear(alloc, watch, told)
+}
+
+fn hear(alloc: Global, watch: &mut Watch, told: Option<Answers>) -> Result<(), Trouble> {
+    match told {
+        Some(answers) => {
+            let heard = watch.hear(alloc, answers.as_slice());
+            drop(answers);
+            Ok(heard?)
+        }
+        None => Err(Trouble::NoMemory),
+    }
+}
+
+/// Some of what a replica applied, and the other didn't, comes to it.
+fn exchange(alloc: Global, chance: &mut Chance, from: &Node, to: &mut Node) -> Result<(), Trouble> {
+    let mut ops = from.ops_since(alloc, to.clock())?;
+    if chance.is_one_in(3) {
+        ops.reverse();
+    }
+    for op in ops {
+        if chance.is_one_in(5) {
+            drop(op);
+        } else {
+            deliver(alloc, to, op)?;
+        }
+    }
+    Ok(())
+}
+
+fn deliver(alloc: Global, node: &mut Node, op: SoundOp) -> Result<(), Trouble> {
+    match node.deliver(alloc, op) {
+        Ok(_) => Ok(()),
+        Err(_) => Err(Trouble::NotACase),
+    }
+}
+
+/// How the clients' views stand beside what a new session sees.
+fn judged(alloc: Global, scene: &mut Scene, name: &str, watch: &Watch) -> Result<Ending, Trouble> {
+    let fresh = fresh(alloc, &mut scene.near, name)?;
+    let ending = beside(alloc, watch, &fresh);
+    drop(fresh);
+    Ok(ending)
+}
+
+/// The same, where a new session sees this.
+fn beside(alloc: Global, watch: &Watch, fresh: &Client) -> Ending {
+    if fresh.validity() == watch.whole.validity() {
+        return compared(watch, fresh, false);
+    }
+    let empty = Client::new(alloc);
+    let ending = compared(watch, &empty, true);
+    drop(empty);
+    ending
+}
+
+fn compared(watch: &Watch, there: &Client, has_ended: bool) -> Ending {
+    Ending {
+        is_right: watch.whole.is_right_by(there),
+        without_expunge: watch.without_expunge.is_right_by(there),
+        without_exists: watch.without_exists.is_right_by(there),
+        without_fetch: watch.without_fetch.is_right_by(there),
+        has_ended,
+    }
+}
+
+/// What a new session sees of the mailbox, with the UIDs and flags of all its messages; nothing where it isn't there.
+fn fresh(alloc: Global, node: &mut Node, name: &str) -> Result<Client, Trouble> {
+    let session = session(node)?;
+    match selected(alloc, node, session, name)? {
+        Some(client) => told_all(alloc, node, session, client),
+        None => Ok(Client::new(alloc)),
+    }
+}
+
+/// What a client knows of the mailbox once it fetched the UIDs and flags of all its messages.
+fn told_all(
+    alloc: Global,
+    node: &mut Node,
+    session: SessionNo,
+    client: Client,
+) -> Result<Client, Trouble> {
+    let mut client = client;
+    match fetch_all(alloc, node, session, &mut client) {
+        Ok(()) => Ok(client),
+        Err(trouble) => {
+            drop(client);
+            Err(trouble)
+        }
+    }
+}
+
+fn fetch_all(
+    alloc: Global,
+    node: &mut Node,
+    session: SessionNo,
+    client: &mut Client,
+) -> Result<(), Trouble> {
+    match command(alloc, node, session, "b UID FETCH 1:* FLAGS\r\n")? {
+        Some(answers) => {
+            let taken = client.take_all(alloc, answers.as_slice());
+            drop(answers);
+            Ok(taken?)
+        }
+        None => Err(Trouble::NoMemory),
+    }
+}

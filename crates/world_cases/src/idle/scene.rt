@@ -1,0 +1,198 @@
+//! Two replicas and their sessions.
+
+use crate::client::Client;
+use case_text::Trouble;
+use imap_grammar::{IdleLine, Tagged, parse};
+use imap_node::{Answers, Auth, Node, Reply, SessionNo};
+use imap_types::Moment;
+use std::alloc::{AllocError, Global};
+use tags_clocks::ReplicaId;
+use uid_projection::Start;
+
+/// Two replicas, and their sessions.
+#[derive(Drop)]
+pub struct Scene {
+    /// Where the watching session is.
+    pub near: Node,
+    /// The other replica.
+    pub far: Node,
+    /// The sessions.
+    pub hands: Hands,
+}
+
+/// The session that watches, and one at each replica that works.
+#[derive(Clone, Copy)]
+pub struct Hands {
+    /// The session that watches, at `near`.
+    pub watcher: SessionNo,
+    /// The session at `near` that works.
+    pub near: SessionNo,
+    /// The session at `far` that works.
+    pub far: SessionNo,
+}
+
+impl Scene {
+    /// Two replicas that received nothing, with their sessions.
+    pub fn new(alloc: Global) -> Result<Scene, Trouble> {
+        let near = node(alloc, 1)?;
+        match node(alloc, 2) {
+            Ok(far) => opened(near, far),
+            Err(trouble) => {
+                drop(near);
+                Err(trouble)
+            }
+        }
+    }
+}
+
+/// Two replicas, with their sessions.
+fn opened(near: Node, far: Node) -> Result<Scene, Trouble> {
+    let mut near = near;
+    let mut far = far;
+    match open_hands(&mut near, &mut far) {
+        Ok(hands) => Ok(Scene { near, far, hands }),
+        Err(trouble) => {
+            drop(far);
+            drop(near);
+            Err(trouble)
+        }
+    }
+}
+
+fn open_hands(near: &mut Node, far: &mut Node) -> Result<Hands, Trouble> {
+    Ok(Hands {
+        watcher: session(near)?,
+        near: session(near)?,
+        far: session(far)?,
+    })
+}
+
+fn node(alloc: Global, replica: u32) -> Result<Node, Trouble> {
+    match ReplicaId::new(replica) {
+        Some(replica) => made(Node::new(
+            alloc,
+            Start {
+                replica,
+                uid: 1,
+                k: 1,
+            },
+        )),
+        None => Err(Trouble::NotACase),
+    }
+}
+
+fn made(node: Result<Node, AllocError>) -> Result<Node, Trouble> {
+    match node {
+        Ok(node) => Ok(node),
+        Err(AllocError) => Err(Trouble::NoMemory),
+    }
+}
+
+/// Opens a session, whose user is known.
+pub fn session(node: &mut Node) -> Result<SessionNo, Trouble> {
+    match node.open(Auth::Preauth) {
+        Ok(session) => Ok(session),
+        Err(_) => Err(Trouble::NoMemory),
+    }
+}
+
+/// What a session is answered; `None` where its command is refused.
+pub fn command(
+    alloc: Global,
+    node: &mut Node,
+    session: SessionNo,
+    text: &str,
+) -> Result<Option<Answers>, Trouble> {
+    if !node.is_open(session) {
+        return Err(Trouble::NotACase);
+    }
+    let tagged = spelled(alloc, text)?;
+    Ok(answers_in(node.command(alloc, session, Moment::epoch(), tagged)))
+}
+
+/// Gives a command, whatever it is answered.
+pub fn give(alloc: Global, node: &mut Node, session: SessionNo, text: &str) -> Result<(), Trouble> {
+    drop(command(alloc, node, session, text)?);
+    Ok(())
+}
+
+/// The same with a text of its own.
+pub fn give_text(
+    alloc: Global,
+    node: &mut Node,
+    session: SessionNo,
+    text: String,
+) -> Result<(), Trouble> {
+    let done = give(alloc, node, session, text.as_str());
+    drop(text);
+    done
+}
+
+fn spelled(alloc: Global, text: &str) -> Result<Tagged, Trouble> {
+    match parse(alloc, text.as_bytes()) {
+        Ok(tagged) => Ok(tagged),
+        Err(_) => Err(Trouble::NotACase),
+    }
+}
+
+fn answers_in(reply: Reply) -> Option<Answers> {
+    match reply {
+        Reply::Done { answers, .. } => Some(answers),
+        Reply::Refused { .. } => None,
+    }
+}
+
+/// What an idling session is told by a poll.
+pub fn poll(
+    alloc: Global,
+    node: &mut Node,
+    session: SessionNo,
+) -> Result<Option<Answers>, Trouble> {
+    if !node.is_open(session) {
+        return Err(Trouble::NotACase);
+    }
+    Ok(answers_in(node.poll(alloc, session)))
+}
+
+/// What an idling session is told at the end of its IDLE.
+pub fn done(
+    alloc: Global,
+    node: &mut Node,
+    session: SessionNo,
+) -> Result<Option<Answers>, Trouble> {
+    if !node.is_open(session) {
+        return Err(Trouble::NotACase);
+    }
+    Ok(answers_in(node.done(alloc, session, IdleLine::Done)))
+}
+
+/// What a session sees that selects this mailbox; nothing where it isn't there.
+pub fn selected(
+    alloc: Global,
+    node: &mut Node,
+    session: SessionNo,
+    name: &str,
+) -> Result<Option<Client>, Trouble> {
+    let select = format!(in alloc; "a SELECT {name}\r\n")?;
+    let told = command(alloc, node, session, select.as_str());
+    drop(select);
+    match told? {
+        Some(answers) => {
+            let client = heard(alloc, &answers);
+            drop(answers);
+            client
+        }
+        None => Ok(None),
+    }
+}
+
+fn heard(alloc: Global, answers: &Answers) -> Result<Option<Client>, Trouble> {
+    let mut client = Client::new(alloc);
+    match client.take_all(alloc, answers.as_slice()) {
+        Ok(()) => Ok(Some(client)),
+        Err(AllocError) => {
+            drop(client);
+            Err(Trouble::NoMemory)
+        }
+    }
+}

@@ -1,0 +1,113 @@
+//! What is told of a hundred runs.
+
+use crate::idle::runs::{Ending, played};
+use case_text::Trouble;
+use std::alloc::{AllocError, Global};
+
+/// How many hundreds of runs are played.
+const HUNDREDS: u64 = 5;
+
+/// What a hundred runs came to.
+#[derive(Drop)]
+struct Tally {
+    /// The first run that ended wrongly, or that can't be played.
+    first_wrong: Option<u64>,
+    /// A client that passes over EXPUNGE went wrong in some.
+    needs_expunge: bool,
+    /// A client that passes over EXISTS went wrong in some.
+    needs_exists: bool,
+    /// A client that passes over FETCH went wrong in some.
+    needs_fetch: bool,
+    /// In some the mailbox was gone at the end, in others not.
+    has_ended: bool,
+    has_stayed: bool,
+}
+
+/// Plays all runs, and tells what each hundred came to. An error says that there is no memory.
+pub fn play(alloc: Global) -> Result<Vec<u8>, AllocError> {
+    let mut page = Vec::new(alloc);
+    for number in 0..HUNDREDS {
+        let told = hundred(alloc, number)?;
+        page.extend_from_slice(told.as_bytes())?;
+    }
+    Ok(page)
+}
+
+/// Plays the runs of this hundred, from 0 on, and tells what they came to. An error says that there is no memory.
+fn hundred(alloc: Global, hundred: u64) -> Result<String, AllocError> {
+    let first = hundred.saturating_mul(100).saturating_add(1);
+    let mut tally = Tally {
+        first_wrong: None,
+        needs_expunge: false,
+        needs_exists: false,
+        needs_fetch: false,
+        has_ended: false,
+        has_stayed: false,
+    };
+    for run in first..first.saturating_add(100) {
+        count(alloc, &mut tally, run)?;
+    }
+    told(alloc, first, &tally)
+}
+
+fn count(alloc: Global, tally: &mut Tally, run: u64) -> Result<(), AllocError> {
+    match played(alloc, run) {
+        Ok(ending) => {
+            tally.add(run, ending);
+            Ok(())
+        }
+        Err(Trouble::NoMemory) => Err(AllocError),
+        Err(_) => {
+            tally.miss(run);
+            Ok(())
+        }
+    }
+}
+
+impl Tally {
+    fn add(&mut self, run: u64, ending: Ending) {
+        if !ending.is_right {
+            self.miss(run);
+        }
+        self.needs_expunge = self.needs_expunge || !ending.without_expunge;
+        self.needs_exists = self.needs_exists || !ending.without_exists;
+        self.needs_fetch = self.needs_fetch || !ending.without_fetch;
+        self.has_ended = self.has_ended || ending.has_ended;
+        self.has_stayed = self.has_stayed || !ending.has_ended;
+    }
+
+    fn miss(&mut self, run: u64) {
+        if self.first_wrong.is_none() {
+            self.first_wrong = Some(run);
+        }
+    }
+}
+
+fn told(alloc: Global, first: u64, tally: &Tally) -> Result<String, AllocError> {
+    let how = how_told(alloc, tally)?;
+    let told = line(alloc, first, tally, how.as_str());
+    drop(how);
+    told
+}
+
+fn how_told(alloc: Global, tally: &Tally) -> Result<String, AllocError> {
+    match tally.first_wrong {
+        None => format!(in alloc; "all end as they should"),
+        Some(run) => format!(in alloc; "run {run} does not"),
+    }
+}
+
+fn line(alloc: Global, first: u64, tally: &Tally, how: &str) -> Result<String, AllocError> {
+    let last = first.saturating_add(99);
+    let expunge = some_or_none(tally.needs_expunge);
+    let exists = some_or_none(tally.needs_exists);
+    let fetch = some_or_none(tally.needs_fetch);
+    let ended = some_or_none(tally.has_ended && tally.has_stayed);
+    format!(in alloc;
+        "runs {first} to {last}: {how}\n  without EXPUNGE {expunge} would not, without EXISTS {exists}, without FETCH {fetch}; mailboxes that ended: {ended}\n"
+    )
+}
+
+fn some_or_none(some: bool) -> &'static str {
+    if some { "some" } else { "none" }
+}

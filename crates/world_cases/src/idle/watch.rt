@@ -1,0 +1,102 @@
+//! Who listens to a session that idles.
+
+use crate::client::Client;
+use imap_answers::Answer;
+use std::alloc::{AllocError, Global};
+
+/// Clients that hear the same session: one hears all, the others pass over one kind of answers once it idles.
+#[derive(Drop)]
+pub struct Watch {
+    /// Hears all.
+    pub whole: Client,
+    /// Passes over EXPUNGE.
+    pub without_expunge: Client,
+    /// Passes over EXISTS.
+    pub without_exists: Client,
+    /// Passes over FETCH.
+    pub without_fetch: Client,
+}
+
+impl Watch {
+    /// Clients that know nothing.
+    pub fn new(alloc: Global) -> Watch {
+        Watch {
+            whole: Client::new(alloc),
+            without_expunge: Client::new(alloc),
+            without_exists: Client::new(alloc),
+            without_fetch: Client::new(alloc),
+        }
+    }
+
+    /// All hear these answers. An error says that there is no memory.
+    pub fn hear_all(&mut self, alloc: Global, answers: &[Answer]) -> Result<(), AllocError> {
+        for answer in answers {
+            self.whole.take(alloc, answer)?;
+            self.without_expunge.take(alloc, answer)?;
+            self.without_exists.take(alloc, answer)?;
+            self.without_fetch.take(alloc, answer)?;
+        }
+        Ok(())
+    }
+
+    /// Each hears of these answers what it hears. An error says that there is no memory.
+    pub fn hear(&mut self, alloc: Global, answers: &[Answer]) -> Result<(), AllocError> {
+        for answer in answers {
+            self.hear_one(alloc, answer)?;
+        }
+        Ok(())
+    }
+
+    fn hear_one(&mut self, alloc: Global, answer: &Answer) -> Result<(), AllocError> {
+        let kind = kind_of(answer);
+        self.whole.take(alloc, answer)?;
+        hear_unless(&mut self.without_expunge, alloc, answer, kind.is_expunge)?;
+        hear_unless(&mut self.without_exists, alloc, answer, kind.is_exists)?;
+        hear_unless(&mut self.without_fetch, alloc, answer, kind.is_fetch)
+    }
+}
+
+/// Which client passes over an answer.
+#[derive(Clone, Copy)]
+struct Kind {
+    is_expunge: bool,
+    is_exists: bool,
+    is_fetch: bool,
+}
+
+const OTHER: Kind = Kind {
+    is_expunge: false,
+    is_exists: false,
+    is_fetch: false,
+};
+
+fn kind_of(answer: &Answer) -> Kind {
+    match answer {
+        Answer::Expunge { .. } => Kind {
+            is_expunge: true,
+            ..OTHER
+        },
+        Answer::Exists { .. } => Kind {
+            is_exists: true,
+            ..OTHER
+        },
+        Answer::Fetch { .. } => Kind {
+            is_fetch: true,
+            ..OTHER
+        },
+        _ => OTHER,
+    }
+}
+
+fn hear_unless(
+    client: &mut Client,
+    alloc: Global,
+    answer: &Answer,
+    passes: bool,
+) -> Result<(), AllocError> {
+    if passes {
+        Ok(())
+    } else {
+        client.take(alloc, answer)
+    }
+}
