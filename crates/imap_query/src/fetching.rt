@@ -87,6 +87,14 @@ pub fn fetch_unchanged(
     }
 }
 
+/// For how many answers room is made at once: each message's, and the line that ends the command; of those that changed since, few are told.
+fn answers_at_once(named: &[Shown], mode: FetchMode) -> usize {
+    match mode.changed_since {
+        None => named.len().saturating_add(1),
+        Some(_) => 0,
+    }
+}
+
 /// What FETCH tells of the named messages out of one listing.
 fn fetch_in(
     alloc: Global,
@@ -98,7 +106,7 @@ fn fetch_in(
     ensures { IfOk result (λ answers. answers.items ≡ fetch_answers items.now mode rows.now rows.now named.now) }
 {
     let asked = Asked { items, mode };
-    let mut answers = Vec::new(alloc);
+    let mut answers = Vec::with_capacity(alloc, answers_at_once(named, mode))?;
     for shown in named {
         push_unchanged(alloc, rows, asked, *shown, &mut answers)?;
     }
