@@ -7,6 +7,7 @@ pub mod Enabling
 pub mod Entering
 pub mod Expunging
 pub mod Fetching
+pub mod Found
 pub mod Gives
 pub mod Issued
 pub mod Lawful

@@ -5,14 +5,16 @@ ghost use Rattle.std.specs.List.{slice_get};
 ghost use Rattle.std.specs.Option.{option_to_list};
 ghost use Rattle.imap_types.specs.Numbers.{AreRisingFrom};
 ghost use Rattle.mail_listing.specs.Listing.{beyond};
-ghost use Rattle.session_view.specs.Sets.{resolved};
+ghost use Rattle.imap_commands.specs.Asked.{CopyAsked as Transfer};
 ghost use Rattle.imap_commands.specs.Copying.{append_of, appends_of, copied_code, copies_in, copy_tells, copy_wants, move_tells, move_wants, moved_answers, removal_of, removals_of, sources_of};
+ghost use Rattle.imap_commands.specs.Found.{IsNamed, named_found};
 ghost use Rattle.imap_commands.specs.Gives.{Gives};
 ghost use Rattle.imap_commands.specs.Told.{gone_code, message_at};
 
 use crate::asked::{CopyAsked, Landing, OpenMailbox};
-use crate::limits::within_limits;
-use crate::named::{named, names_of, resolved, set_of, those_there};
+use crate::found::{Found, Wanted};
+use crate::limits::limited;
+use crate::named::{named, names_of, set_of, those_there};
 use crate::telling::{Telling, gone_code};
 use crate::versions::old_ids;
 use crdt_ops::Kind;
@@ -39,8 +41,9 @@ pub fn copy_wants(
     mailbox: &OpenMailbox<'_>,
     asked: &CopyAsked<'_>,
     is_there: bool,
-) -> Result<Vec<Kind>, Refusal>
-    ensures { Gives (λ kinds. kinds.items) result (copy_wants mailbox.now asked.now is_there) }
+) -> Result<Wanted, Refusal>
+    ensures gives { Gives (λ wanted. wanted.kinds.items) result (copy_wants mailbox.now asked.now is_there) }
+    ensures found { IfOk result (λ wanted. wanted.found ≡ named_found asked.now.by_uid asked.now.messages mailbox.now.view) }
 {
     let numbers = named(alloc, asked.by_uid, asked.messages, mailbox.view)?;
     if !is_there {
@@ -48,7 +51,7 @@ pub fn copy_wants(
     }
     let mut kinds = Vec::new(alloc);
     push_appends(alloc, asked.destination, mailbox, &numbers, &mut kinds)?;
-    within_limits(kinds)
+    limited(kinds, Found::new(numbers, Vec::new(alloc)))
 }
 
 /// What MOVE issues, or the first reason against it: `NoSuchMessage`, `ReadOnly`, `NoDestination`, `TooManyKeywords` (more than 32 on a
@@ -58,8 +61,9 @@ pub fn move_wants(
     mailbox: &OpenMailbox<'_>,
     asked: &CopyAsked<'_>,
     is_there: bool,
-) -> Result<Vec<Kind>, Refusal>
-    ensures { Gives (λ kinds. kinds.items) result (move_wants mailbox.now asked.now is_there) }
+) -> Result<Wanted, Refusal>
+    ensures gives { Gives (λ wanted. wanted.kinds.items) result (move_wants mailbox.now asked.now is_there) }
+    ensures found { IfOk result (λ wanted. wanted.found ≡ named_found asked.now.by_uid asked.now.messages mailbox.now.view) }
 {
     let numbers = named(alloc, asked.by_uid, asked.messages, mailbox.view)?;
     if mailbox.read_only {
@@ -71,7 +75,7 @@ pub fn move_wants(
     let mut kinds = Vec::new(alloc);
     push_appends(alloc, asked.destination, mailbox, &numbers, &mut kinds)?;
     push_removals(alloc, mailbox, &numbers, &mut kinds)?;
-    within_limits(kinds)
+    limited(kinds, Found::new(numbers, Vec::new(alloc)))
 }
 
 /// Adds the Appends of the messages with these numbers.
@@ -147,40 +151,41 @@ fn push_removal(
     Ok(())
 }
 
-/// What COPY tells, by the mailbox before it: where the copies are, and else whether some messages are gone. Of a set that can't be
-/// resolved nothing is promised. `Err` where there is no memory.
+/// What COPY tells, by the mailbox before it and what it found there: where the copies are, and else whether some messages are gone. `Err`
+/// where there is no memory.
 pub fn copy_tells(
     alloc: Global,
     mailbox: &OpenMailbox<'_>,
-    asked: &CopyAsked<'_>,
     landing: &Landing<'_>,
+    found: &Found,
 ) -> Result<Telling, AllocError>
-    ensures { IfOk result (λ told. told ≡ copy_tells mailbox.now asked.now landing.now) }
+    requires { IsNamed mailbox.now.view found.now }
+    ensures { (asked : Transfer) → found.now ≡ named_found asked.by_uid asked.messages mailbox.now.view → IfOk result (λ told. told ≡ copy_tells mailbox.now asked landing.now) }
 {
     let Copied {
         source,
         copies,
         gone,
-    } = outcome_of(alloc, mailbox, asked, landing)?;
+    } = outcome_of(alloc, mailbox, landing, found)?;
     let code = copied_code(landing.uidvalidity, source, copies, gone);
     Ok(Telling::new(Vec::new(alloc), Vec::new(alloc), code))
 }
 
-/// What MOVE tells, by the same: where the copies are, and by the code whether some messages are gone. Of a set that can't be resolved
-/// nothing is promised. `Err` where there is no memory.
+/// What MOVE tells, by the same: where the copies are, and by the code whether some messages are gone. `Err` where there is no memory.
 pub fn move_tells(
     alloc: Global,
     mailbox: &OpenMailbox<'_>,
-    asked: &CopyAsked<'_>,
     landing: &Landing<'_>,
+    found: &Found,
 ) -> Result<Telling, AllocError>
-    ensures { IfOk result (λ told. told ≡ move_tells mailbox.now asked.now landing.now) }
+    requires { IsNamed mailbox.now.view found.now }
+    ensures { (asked : Transfer) → found.now ≡ named_found asked.by_uid asked.messages mailbox.now.view → IfOk result (λ told. told ≡ move_tells mailbox.now asked landing.now) }
 {
     let Copied {
         source,
         copies,
         gone,
-    } = outcome_of(alloc, mailbox, asked, landing)?;
+    } = outcome_of(alloc, mailbox, landing, found)?;
     let own = moved_answers(alloc, landing.uidvalidity, source, copies)?;
     Ok(Telling::new(own, Vec::new(alloc), gone))
 }
@@ -189,22 +194,22 @@ pub fn move_tells(
 fn outcome_of(
     alloc: Global,
     mailbox: &OpenMailbox<'_>,
-    asked: &CopyAsked<'_>,
     landing: &Landing<'_>,
+    found: &Found,
 ) -> Result<Copied, AllocError>
-    ensures source { IfOk result (λ found. found.source ≡ sources_of mailbox.now.rows mailbox.now.view (resolved asked.now.by_uid asked.now.messages mailbox.now.view)) }
-    ensures copies { IfOk result (λ found. found.copies ≡ copies_in landing.now.uidnext landing.now.rows) }
-    ensures gone { IfOk result (λ found. found.gone ≡ gone_code mailbox.now.rows mailbox.now.view (resolved asked.now.by_uid asked.now.messages mailbox.now.view)) }
+    requires { IsNamed mailbox.now.view found.now }
+    ensures source { IfOk result (λ copied. copied.source ≡ sources_of mailbox.now.rows mailbox.now.view found.now.numbers) }
+    ensures copies { IfOk result (λ copied. copied.copies ≡ copies_in landing.now.uidnext landing.now.rows) }
+    ensures gone { IfOk result (λ copied. copied.gone ≡ gone_code mailbox.now.rows mailbox.now.view found.now.numbers) }
 {
-    let numbers = resolved(alloc, asked.by_uid, asked.messages, mailbox.view)?;
     let before = &mailbox.rows;
     let view = mailbox.view.entries();
-    let there = those_there(alloc, before, view, &numbers)?;
+    let there = those_there(alloc, before, view, found.numbers())?;
     let uids = names_of(alloc, true, view, &there)?;
     Ok(Copied {
         source: set_of(alloc, &uids)?,
         copies: copies_in(alloc, landing.uidnext, &landing.rows)?,
-        gone: gone_code(before, view, &numbers),
+        gone: gone_code(before, view, found.numbers()),
     })
 }
 

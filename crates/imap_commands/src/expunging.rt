@@ -1,14 +1,17 @@
 //! EXPUNGE, UID EXPUNGE and CLOSE (RFC 9051, sections 6.4.3, 6.4.9 and 6.4.1).
 
-ghost use Rattle.std.specs.Prelude.{◌≡◌, ◌++◌, IfOk, OnOk};
+ghost use Rattle.std.specs.Prelude.{◌≡◌, ◌++◌, List, true, IfOk, OnOk};
 ghost use Rattle.std.specs.List.{slice_get};
+ghost use Rattle.imap_types.specs.declared.sequence_set.SequenceRange.{SequenceRange};
 ghost use Rattle.mail_listing.specs.Listing.{listed};
 ghost use Rattle.imap_commands.specs.Expunging.{close_wants, expunge_at, expunge_of, expunge_wants, expunges_at, expunges_of, uid_expunge_tells, uid_expunge_wants};
+ghost use Rattle.imap_commands.specs.Found.{named_found};
 ghost use Rattle.imap_commands.specs.Gives.{Gives};
 
 use crate::asked::OpenMailbox;
-use crate::limits::within_limits;
-use crate::named::resolved;
+use crate::found::{Found, Wanted};
+use crate::limits::{limited, within_limits};
+use crate::named::named;
 use crate::telling::{Telling, gone_code};
 use crate::versions::old_ids;
 use crdt_ops::Kind;
@@ -92,15 +95,16 @@ pub fn uid_expunge_wants(
     alloc: Global,
     mailbox: &OpenMailbox<'_>,
     uids: &SequenceSet,
-) -> Result<Vec<Kind>, Refusal>
-    ensures { Gives (λ kinds. kinds.items) result (uid_expunge_wants mailbox.now uids.now) }
+) -> Result<Wanted, Refusal>
+    ensures gives { Gives (λ wanted. wanted.kinds.items) result (uid_expunge_wants mailbox.now uids.now) }
+    ensures found { IfOk result (λ wanted. wanted.found ≡ named_found true uids.now mailbox.now.view) }
 {
     if mailbox.read_only {
         return Err(Refusal::ReadOnly);
     }
-    let numbers = resolved(alloc, true, uids, mailbox.view)?;
+    let numbers = named(alloc, true, uids, mailbox.view)?;
     let kinds = expunges_at(alloc, mailbox, &numbers)?;
-    within_limits(kinds)
+    limited(kinds, Found::new(numbers, Vec::new(alloc)))
 }
 
 /// The Expunges of those messages that are marked as deleted.
@@ -120,15 +124,10 @@ fn expunges_at(
     Ok(kinds)
 }
 
-/// What UID EXPUNGE tells, by the mailbox before it: that it names messages that are gone, if it does. `Err` where there is no memory.
-pub fn uid_expunge_tells(
-    alloc: Global,
-    mailbox: &OpenMailbox<'_>,
-    uids: &SequenceSet,
-) -> Result<Telling, AllocError>
-    ensures { IfOk result (λ told. told ≡ uid_expunge_tells mailbox.now uids.now) }
+/// What UID EXPUNGE tells, by the mailbox before it and what it found there: that it names messages that are gone, if it does.
+pub fn uid_expunge_tells(alloc: Global, mailbox: &OpenMailbox<'_>, found: &Found) -> Telling
+    ensures { (uids : List SequenceRange) → found.now ≡ named_found true uids mailbox.now.view → result ≡ uid_expunge_tells mailbox.now uids }
 {
-    let numbers = resolved(alloc, true, uids, mailbox.view)?;
-    let code = gone_code(&mailbox.rows, mailbox.view.entries(), &numbers);
-    Ok(Telling::new(Vec::new(alloc), Vec::new(alloc), code))
+    let code = gone_code(&mailbox.rows, mailbox.view.entries(), found.numbers());
+    Telling::new(Vec::new(alloc), Vec::new(alloc), code)
 }

@@ -1,19 +1,24 @@
 //! FETCH and UID FETCH (RFC 9051, section 6.4.5; RFC 7162, section 3.1.4).
 
 ghost use Rattle.std.specs.Prelude.{◌≡◌, ◌++◌, false, IfOk, OnOk};
+ghost use Rattle.std.specs.Option.{option_map, unwrap_or};
+ghost use Rattle.imap_query.specs.Fetching.{fetch_answers};
 ghost use Rattle.message_versions.specs.Unions.{united};
 ghost use Rattle.imap_commands.specs.Fetching.{fetch_tells, fetch_wants, mode_of, seen_flags, seen_store, seen_stores, shown_at, shown_of};
+ghost use Rattle.imap_commands.specs.Found.{named_found};
 ghost use Rattle.imap_commands.specs.Gives.{Gives};
 ghost use Rattle.imap_commands.specs.Told.{entry_at, message_at};
 
 use crate::asked::{FetchAsked, OpenMailbox};
-use crate::limits::within_limits;
-use crate::named::{named, resolved};
+use crate::found::{Found, Wanted};
+use crate::limits::limited;
+use crate::named::named;
 use crate::telling::{Telling, entry_at, gone_code};
 use crate::versions::old_ids;
 use crdt_ops::Kind;
-use imap_answers::Refusal;
+use imap_answers::{Answer, Refusal};
 use imap_query::{FetchMode, Shown, fetch, fetch_unchanged, is_kept, is_marked, set_seen};
+use imap_syntax::FetchItem;
 use imap_types::Flags;
 use mail_listing::Rows;
 use message_versions::Versions;
@@ -27,12 +32,13 @@ pub fn fetch_wants(
     alloc: Global,
     mailbox: &OpenMailbox<'_>,
     asked: &FetchAsked<'_>,
-) -> Result<Vec<Kind>, Refusal>
-    ensures { Gives (λ kinds. kinds.items) result (fetch_wants mailbox.now asked.now) }
+) -> Result<Wanted, Refusal>
+    ensures gives { Gives (λ wanted. wanted.kinds.items) result (fetch_wants mailbox.now asked.now) }
+    ensures found { IfOk result (λ wanted. wanted.found ≡ named_found asked.now.by_uid asked.now.messages mailbox.now.view) }
 {
     let numbers = named(alloc, asked.by_uid, asked.messages, mailbox.view)?;
     let kinds = seen_stores(alloc, mailbox, asked, &numbers)?;
-    within_limits(kinds)
+    limited(kinds, Found::new(numbers, Vec::new(alloc)))
 }
 
 /// How FETCH asks, with CONDSTORE on or not.
@@ -103,44 +109,43 @@ fn seen_flags(alloc: Global, versions: &Versions<'_>) -> Result<Flags, AllocErro
     Ok(seen)
 }
 
-/// What FETCH tells, by the mailbox before it, the listing after it and whether CONDSTORE is on: what `imap_query::fetch` says of the messages named, and whether some are gone.
-/// Of a set that can't be resolved nothing is promised. `Err` where there is no memory.
+/// What FETCH tells, by the mailbox before it, what it found there, the listing after it (the one before it where none is given, as of a command that issues nothing)
+/// and whether CONDSTORE is on: what `imap_query::fetch` says of the messages named, and whether some are gone. `Err` where there is no memory.
 pub fn fetch_tells(
     alloc: Global,
     mailbox: &OpenMailbox<'_>,
-    after: &Rows<'_>,
+    after: Option<&Rows<'_>>,
     condstore: bool,
     asked: &FetchAsked<'_>,
+    found: &Found,
 ) -> Result<Telling, AllocError>
-    ensures { IfOk result (λ told. told ≡ fetch_tells mailbox.now after.now condstore asked.now) }
+    requires { found.now ≡ named_found asked.now.by_uid asked.now.messages mailbox.now.view }
+    ensures { IfOk result (λ told. told ≡ fetch_tells mailbox.now (unwrap_or (option_map (λ rows. rows.now) after.entry) mailbox.now.rows) condstore asked.now) }
 {
-    let numbers = resolved(alloc, asked.by_uid, asked.messages, mailbox.view)?;
     let before = &mailbox.rows;
     let view = mailbox.view.entries();
-    let code = gone_code(before, view, &numbers);
-    let shown = shown_of(alloc, view, &numbers)?;
+    let code = gone_code(before, view, found.numbers());
+    let shown = shown_of(alloc, view, found.numbers())?;
     let mode = mode_of(mailbox, condstore, asked);
-    let own = fetch(alloc, &shown, before, after, asked.items, mode)?;
+    let own = fetched(alloc, &shown, before, after, asked.items, mode)?;
     Ok(Telling::new(own, Vec::new(alloc), code))
 }
 
-/// The same where the command issues nothing, so that the listing after it is the one before it.
-pub fn fetch_tells_unchanged(
+/// What FETCH answers, by the listing before it and the one after it, which is the same where none is given.
+fn fetched(
     alloc: Global,
-    mailbox: &OpenMailbox<'_>,
-    condstore: bool,
-    asked: &FetchAsked<'_>,
-) -> Result<Telling, AllocError>
-    ensures { IfOk result (λ told. told ≡ fetch_tells mailbox.now mailbox.now.rows condstore asked.now) }
+    shown: &[Shown],
+    before: &Rows<'_>,
+    after: Option<&Rows<'_>>,
+    items: &[FetchItem],
+    mode: FetchMode,
+) -> Result<Vec<Answer>, AllocError>
+    ensures { IfOk result (λ answers. answers.items ≡ fetch_answers items.now mode before.now (unwrap_or (option_map (λ rows. rows.now) after.entry) before.now) shown.now) }
 {
-    let numbers = resolved(alloc, asked.by_uid, asked.messages, mailbox.view)?;
-    let rows = &mailbox.rows;
-    let view = mailbox.view.entries();
-    let code = gone_code(rows, view, &numbers);
-    let shown = shown_of(alloc, view, &numbers)?;
-    let mode = mode_of(mailbox, condstore, asked);
-    let own = fetch_unchanged(alloc, &shown, rows, asked.items, mode)?;
-    Ok(Telling::new(own, Vec::new(alloc), code))
+    match after {
+        Some(after) => fetch(alloc, shown, before, after, items, mode),
+        None => fetch_unchanged(alloc, shown, before, items, mode),
+    }
 }
 
 /// The messages with these numbers, as queries see them.

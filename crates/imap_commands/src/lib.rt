@@ -3,6 +3,7 @@
 //! For each command one function says what it wants: the operations that it issues, or the first reason that stands against it.
 //! Another says what it tells: its own answers, the flags that its session sets in silence, and the code of its tagged line. Both
 //! look at listings, views and the command's parts alone; `imap_node` finds these for them, and does all that commands have in common.
+//! Which messages a command names is looked for once: the first function gives it back, and the second takes it.
 #![tactic(auto)]
 
 mod appending;
@@ -15,6 +16,7 @@ mod entering;
 mod expunging;
 mod fetching;
 mod flag_sets;
+mod found;
 mod issued;
 mod laws;
 mod limits;
@@ -43,11 +45,12 @@ pub use enabling::{
 };
 pub use entering::login_wants;
 pub use expunging::{close_wants, expunge_wants, uid_expunge_tells, uid_expunge_wants};
-pub use fetching::{fetch_tells, fetch_tells_unchanged, fetch_wants};
+pub use fetching::{fetch_tells, fetch_wants};
 pub use flag_sets::{
     added_flags_are_the_union, changed_flags_are_spelled, removed_flags_are_the_difference,
     replaced_flags_are_those_given,
 };
+pub use found::{Found, Wanted};
 pub use issued::{
     copies_are_issuable, expunges_are_issuable, moves_are_issuable, seen_stores_are_issuable,
     stores_are_issuable,

@@ -1,10 +1,11 @@
 //! How much one operation may carry.
 
-ghost use Rattle.std.specs.Prelude.{◌≡◌};
+ghost use Rattle.std.specs.Prelude.{◌≡◌, IfOk};
 ghost use Rattle.std.specs.List.{list_any};
 ghost use Rattle.imap_commands.specs.Gives.{Gives};
 ghost use Rattle.imap_commands.specs.Limits.{has_many_keywords, has_many_versions, within_limits};
 
+use crate::found::{Found, Wanted};
 use crdt_ops::{Kind, MAX_OLD_IDS};
 use imap_answers::Refusal;
 use imap_types::MAX_KEYWORDS;
@@ -23,6 +24,17 @@ pub fn within_limits(kinds: Vec<Kind>) -> Result<Vec<Kind>, Refusal>
         return Err(Refusal::TooManyVersions);
     }
     Ok(kinds)
+}
+
+/// The same of a command that found this.
+pub fn limited(kinds: Vec<Kind>, found: Found) -> Result<Wanted, Refusal>
+    ensures gives { Gives (λ wanted. wanted.kinds.items) result (within_limits kinds.items) }
+    ensures found { IfOk result (λ wanted. wanted.found ≡ found) }
+{
+    match within_limits(kinds) {
+        Ok(kinds) => Ok(Wanted { kinds, found }),
+        Err(why) => Err(why),
+    }
 }
 
 fn have_many_keywords(kinds: &[Kind]) -> bool

@@ -31,21 +31,6 @@ pub fn named(
     }
 }
 
-/// The numbers of the messages that a set names; of a set that can't be resolved nothing is said.
-pub fn resolved(
-    alloc: Global,
-    by_uid: bool,
-    set: &SequenceSet,
-    view: &View,
-) -> Result<Vec<u32>, AllocError>
-    ensures { IfOk result (λ numbers. numbers.items ≡ resolved by_uid set.now view.now.entries) }
-{
-    match view.resolve(alloc, set, by_uid) {
-        Ok(numbers) => Ok(numbers),
-        Err(_) => Err(AllocError),
-    }
-}
-
 /// Those of the numbers whose messages are there.
 pub fn those_there(
     alloc: Global,

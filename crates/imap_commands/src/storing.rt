@@ -8,6 +8,7 @@ ghost use Rattle.mail_listing.specs.Listing.{listed};
 ghost use Rattle.message_versions.specs.Unions.{united};
 ghost use Rattle.imap_query.specs.Fetching.{where_told};
 ghost use Rattle.session_view.specs.Views.{same_flags};
+ghost use Rattle.imap_commands.specs.Found.{store_found};
 ghost use Rattle.imap_commands.specs.Gives.{Gives};
 ghost use Rattle.imap_commands.specs.Named.{names_of};
 ghost use Rattle.imap_commands.specs.Storing.{has_unlawful_keyword, is_refused, is_taken, is_unchanged, modified_code, silent_at, silents_of, store_of, store_tells, store_wants, stored_answer, stored_answers, stores_of, those_refused, those_taken};
@@ -15,8 +16,9 @@ ghost use Rattle.imap_commands.specs.Told.{entry_at, gone_code, message_at};
 
 use crate::asked::{OpenMailbox, StoreAsked};
 use crate::changing::changed;
-use crate::limits::within_limits;
-use crate::named::{named, names_of, resolved, set_of};
+use crate::found::{Found, Wanted};
+use crate::limits::limited;
+use crate::named::{named, names_of, set_of};
 use crate::telling::{Telling, entry_at, gone_code, message_at};
 use crate::versions::old_ids;
 use crdt_ops::Kind;
@@ -34,8 +36,9 @@ pub fn store_wants(
     alloc: Global,
     mailbox: &OpenMailbox<'_>,
     asked: &StoreAsked<'_>,
-) -> Result<Vec<Kind>, Refusal>
-    ensures { Gives (λ kinds. kinds.items) result (store_wants mailbox.now asked.now) }
+) -> Result<Wanted, Refusal>
+    ensures gives { Gives (λ wanted. wanted.kinds.items) result (store_wants mailbox.now asked.now) }
+    ensures found { IfOk result (λ wanted. wanted.found ≡ store_found mailbox.now asked.now) }
 {
     let numbers = named(alloc, asked.by_uid, asked.messages, mailbox.view)?;
     if mailbox.read_only {
@@ -47,7 +50,7 @@ pub fn store_wants(
     let view = mailbox.view.entries();
     let taken = those_taken(alloc, &mailbox.rows, view, asked.unchanged_since, &numbers)?;
     let kinds = stores_of(alloc, mailbox, asked, &taken)?;
-    within_limits(kinds)
+    limited(kinds, Found::new(numbers, taken))
 }
 
 fn has_unlawful_keyword(flags: &Flags) -> bool
@@ -183,26 +186,27 @@ fn are_same(flags: &Flags, others: &Flags) -> bool
     flags.same(others)
 }
 
-/// What STORE tells, by the mailbox before it, the listing after it and whether CONDSTORE is on: FETCH of each message that it takes, the flags that the session takes where it
-/// is silent, and which messages UNCHANGEDSINCE refused or that some are gone. Of a set that can't be resolved nothing is promised. `Err`
-/// where there is no memory. It looks each named message up four times at most, by binary search.
+/// What STORE tells, by the mailbox before it, what it found there, the listing after it and whether CONDSTORE is on: FETCH of each message that it takes, the flags that the
+/// session takes where it is silent, and which messages UNCHANGEDSINCE refused or that some are gone. `Err` where there is no memory. It looks each named message up three times
+/// at most, by binary search.
 pub fn store_tells(
     alloc: Global,
     mailbox: &OpenMailbox<'_>,
     after: &Rows<'_>,
     condstore: bool,
     asked: &StoreAsked<'_>,
+    found: &Found,
 ) -> Result<Telling, AllocError>
+    requires { found.now ≡ store_found mailbox.now asked.now }
     ensures { IfOk result (λ told. told ≡ store_tells mailbox.now after.now condstore asked.now) }
 {
-    let numbers = resolved(alloc, asked.by_uid, asked.messages, mailbox.view)?;
     let before = &mailbox.rows;
     let view = mailbox.view.entries();
-    let refused = those_refused(alloc, before, view, asked.unchanged_since, &numbers)?;
-    let code = store_code(alloc, before, view, asked.by_uid, &refused, &numbers)?;
-    let taken = those_taken(alloc, before, view, asked.unchanged_since, &numbers)?;
-    let own = stored_answers(alloc, after, view, condstore, asked, &taken)?;
-    let silent = silents_of(alloc, view, asked, &taken)?;
+    let numbers = found.numbers();
+    let refused = those_refused(alloc, before, view, asked.unchanged_since, numbers)?;
+    let code = store_code(alloc, before, view, asked.by_uid, &refused, numbers)?;
+    let own = stored_answers(alloc, after, view, condstore, asked, found.taken())?;
+    let silent = silents_of(alloc, view, asked, found.taken())?;
     Ok(Telling::new(own, silent, code))
 }
 

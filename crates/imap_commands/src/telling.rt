@@ -1,6 +1,6 @@
 //! What a command itself tells.
 
-ghost use Rattle.std.specs.Prelude.{◌≡◌, [], None, Some, if◌then◌else◌};
+ghost use Rattle.std.specs.Prelude.{◌≡◌, ◌-◌, [], None, Some, if◌then◌else◌};
 ghost use Rattle.std.specs.List.{list_any};
 ghost use Rattle.std.specs.Option.{option_copied, option_map};
 ghost use Rattle.imap_commands.specs.Told.{are_some_gone, entry_at, gone_code, is_gone, message_at, nothing_told, only_told};
@@ -83,7 +83,14 @@ pub fn entry_at(view: &Entries, number: u32) -> Option<&Entry>
     if number == 0 {
         return None;
     }
-    view.get(number as usize - 1)
+    view.get(place_of(number))
+}
+
+/// The place in the view of its message with this number, from 1 on.
+fn place_of(number: u32) -> usize
+    ensures { result ≡ number - 1 }
+{
+    (number as usize).saturating_sub(1)
 }
 
 /// What the listing has for the view's message with this number; `None` where it is gone. A look-up.
@@ -91,7 +98,7 @@ pub fn message_at<'a>(rows: &'a Rows<'_>, view: &Entries, number: u32) -> Option
     ensures { option_map listed result ≡ message_at rows.now view.now.items number }
 {
     match entry_at(view, number) {
-        Some(entry) => rows.row_near((number as usize).saturating_sub(1), entry.uid),
+        Some(entry) => rows.row_near(place_of(number), entry.uid),
         None => None,
     }
 }
@@ -123,7 +130,7 @@ fn is_gone(rows: &Rows<'_>, view: &Entries, number: u32) -> bool
     ensures { result ≡ is_gone (message_at rows.now view.now.items number) }
 {
     match entry_at(view, number) {
-        Some(entry) => !rows.has_near((number as usize).saturating_sub(1), entry.uid),
+        Some(entry) => !rows.has_near(place_of(number), entry.uid),
         None => true,
     }
 }

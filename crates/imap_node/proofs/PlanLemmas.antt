@@ -1,4 +1,4 @@
-use Rattle.std.proofs.Common.{◌≡◌, ◌⊎◌, inl, inr, ℕ, Bool, true, false, List, [], ◌∷◌, ◌++◌, Option, Some, None, Vec, Global, refl, sym, ap, ◌∙◌, append-nil, subst, arith, ◌+◌, IfOk, IfErr}
+use Rattle.std.proofs.Common.{◌≡◌, ◌⊎◌, inl, inr, ℕ, Bool, true, false, List, [], ◌∷◌, ◌++◌, Option, Some, None, refl, sym, ap, ◌∙◌, append-nil, subst, arith, ◌+◌, IfOk, IfErr}
 use Rattle.std.specs.Prelude.{Result, Ok, Err, MatchResult, OnErr, ◌&&◌, if◌then◌else◌}
 use Rattle.std.specs.Prelude.{length, ◌==◌}
 use Rattle.std.proofs.lemmas.Bool.{false≢true}
@@ -9,6 +9,7 @@ use Rattle.crdt_ops.specs.declared.op.Op.{Op}
 use Rattle.imap_answers.specs.declared.words.Refusal.{Refusal}
 use Rattle.imap_answers.specs.declared.words.Refusal.TheVariants.{NoMemory}
 use Rattle.imap_commands.specs.Gives.{Gives}
+use Rattle.imap_commands.specs.declared.found.Wanted.{Wanted}
 use Rattle.imap_commands.specs.declared.session.Session.{Session}
 use Rattle.imap_commands.specs.declared.session.State.{State}
 use Rattle.imap_commands.specs.declared.session.State.TheVariants.{Authenticated}
@@ -106,8 +107,8 @@ module _ (old : NodeState) (n : ℕ) (session : Session) (input : Input) (at : s
   plan_responds (Err why) h k = refused_responds why k
 
 -- what an input wants may be issued
-pub gives_can : (start : Start) (ops : List Op) (a : IsApplied ops) (stamp : List ℕ) (state : State) (input : Input) (r : Result (Vec Kind Global) Refusal) → Gives (λ kinds. kinds.items) r (wants_of start ops stamp state input) → IfOk r (λ kinds. CanIssueAll ops kinds.items)
-gives_can start ops a stamp state input (Ok given) g = input_can start ops a stamp state input given.items g
+pub gives_can : (start : Start) (ops : List Op) (a : IsApplied ops) (stamp : List ℕ) (state : State) (input : Input) (r : Result Wanted Refusal) → Gives (λ wanted. wanted.kinds.items) r (wants_of start ops stamp state input) → IfOk r (λ wanted. CanIssueAll ops wanted.kinds.items)
+gives_can start ops a stamp state input (Ok given) g = input_can start ops a stamp state input given.kinds.items g
 gives_can start ops a stamp state input (Err why) g = tt
 
 -- why an input is refused by what it wants

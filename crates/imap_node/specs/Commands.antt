@@ -17,6 +17,7 @@ use Rattle.imap_commands.specs.Enabling.{asks_condstore, enable_tells, fetch_ask
 use Rattle.imap_commands.specs.Entering.{login_wants}
 use Rattle.imap_commands.specs.Expunging.{close_wants, expunge_wants, uid_expunge_tells, uid_expunge_wants}
 use Rattle.imap_commands.specs.Fetching.{fetch_tells, fetch_wants}
+use Rattle.imap_commands.specs.Found.{Found, named_found, nothing_found, store_found}
 use Rattle.imap_commands.specs.Mailboxes.{create_wants, created_name, delete_wants, subscribe_wants, unsubscribe_wants}
 use Rattle.imap_commands.specs.Searching.{SearchTells, search_wants}
 use Rattle.imap_commands.specs.Selecting.{SelectTells, select_wants}
@@ -98,6 +99,21 @@ wants start ops stamp state (commands.Copy asked) =
     when_selected state (λ view read_only. copy_wants (mailbox_in start ops view read_only) (record { by_uid = asked.by_uid; messages = asked.messages; destination = asked.name }) (is_there asked.name ops))
 wants start ops stamp state (commands.Move asked) =
     when_selected state (λ view read_only. move_wants (mailbox_in start ops view read_only) (record { by_uid = asked.by_uid; messages = asked.messages; destination = asked.name }) (is_there asked.name ops))
+
+-- What a command finds in a mailbox that is selected, and nothing where none is.
+abbrev pub found_selected : State → (Seen → Bool → Found) → Found
+found_selected (Selected view read_only) find = find view read_only
+found_selected _ find = nothing_found
+
+-- What a command finds behind these operations, before its own: the messages that it names.
+abbrev pub found_of : Start → List Op → State → Command → Found
+found_of start ops state (commands.UidExpunge uids) = found_selected state (λ view read_only. named_found true uids view.entries)
+found_of start ops state (commands.Fetch asked) = found_selected state (λ view read_only. named_found asked.by_uid asked.messages view.entries)
+found_of start ops state (commands.Store asked) =
+    found_selected state (λ view read_only. store_found (mailbox_in start ops view read_only) (record { by_uid = asked.by_uid; messages = asked.messages; unchanged_since = asked.unchanged_since; action = asked.action; flags = asked.flags }))
+found_of start ops state (commands.Copy asked) = found_selected state (λ view read_only. named_found asked.by_uid asked.messages view.entries)
+found_of start ops state (commands.Move asked) = found_selected state (λ view read_only. named_found asked.by_uid asked.messages view.entries)
+found_of start ops state _ = nothing_found
 
 -- What a command tells of a mailbox that is selected, and nothing where none is.
 abbrev pub tells_selected : State → (Seen → Bool → Telling) → Telling

@@ -8,6 +8,7 @@ use Rattle.imap_answers.specs.declared.codes.Code.{Code}
 use Rattle.imap_answers.specs.declared.words.CommandWord.TheVariants as words
 use Rattle.imap_answers.specs.declared.words.Refusal.{Refusal}
 use Rattle.imap_answers.specs.declared.words.Refusal.TheVariants.{DoneExpected, NoMemory, NumberUsedUp}
+use Rattle.imap_commands.specs.Found.{Found, nothing_found}
 use Rattle.imap_commands.specs.Told.{Telling}
 use Rattle.imap_commands.specs.declared.session.Session.{Session}
 use Rattle.imap_commands.specs.declared.session.State.{State}
@@ -22,7 +23,7 @@ use Rattle.imap_node.specs.declared.input.Input.{Input}
 use Rattle.imap_node.specs.declared.input.Input.TheVariants as inputs
 use Rattle.imap_node.specs.declared.reply.Reply.{Reply}
 use Rattle.imap_node.specs.declared.reply.Reply.TheVariants.{Done, Refused}
-use Rattle.imap_node.specs.Commands.{Tells, is_enabling, is_idle, is_selected, is_selecting, moves_to, notice, sync_of, wants, word_of}
+use Rattle.imap_node.specs.Commands.{Tells, found_of, is_enabling, is_idle, is_selected, is_selecting, moves_to, notice, sync_of, wants, word_of}
 use Rattle.imap_node.specs.Endings.{Course, answers_of_course, ending_of}
 use Rattle.imap_node.specs.Nodes.{NodeState}
 use Rattle.imap_node.specs.Operations.{AreNext, IsUsedUp, id_of}
@@ -44,6 +45,11 @@ wants_of start ops stamp state (inputs.Command moment tagged) = wants start ops 
 wants_of start ops stamp state (inputs.Line DoneLine) = Ok []
 wants_of start ops stamp state (inputs.Line Other) = Err DoneExpected
 wants_of start ops stamp state inputs.Poll = Ok []
+
+-- What an input finds for that.
+abbrev pub found_by : Start → List Op → State → Input → Found
+found_by start ops state (inputs.Command moment tagged) = found_of start ops state tagged.command
+found_by start ops state _ = nothing_found
 
 -- ---- an input that is carried out
 

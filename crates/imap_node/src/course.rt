@@ -2,11 +2,11 @@
 
 ghost use Rattle.std.specs.Prelude.{◌≡◌, ◌++◌, ◌∷◌, [], IfOk, OnOk, Some};
 ghost use Rattle.imap_answers.specs.declared.answer.Answer.TheVariants.{Completed};
-ghost use Rattle.imap_node.specs.Commands.{highest_of, highest_told, notice, turns_on};
+ghost use Rattle.imap_node.specs.Commands.{found_of, highest_of, highest_told, notice, turns_on};
 ghost use Rattle.imap_commands.specs.declared.session.State.{State as Stands};
 ghost use Rattle.imap_node.specs.Endings.{course_from, moved_from};
 ghost use Rattle.imap_node.specs.Nodes.{IsReady};
-ghost use Rattle.imap_node.specs.Respond.{CommandTakes, TakesCourse, begun, condstore_after, idle_tail, idling_after, synced_course, tail_of, told_course};
+ghost use Rattle.imap_node.specs.Respond.{CommandTakes, TakesCourse, begun, condstore_after, found_by, idle_tail, idling_after, synced_course, tail_of, told_course};
 
 use crate::ending::moves_to;
 use crate::input::Input;
@@ -15,7 +15,7 @@ use crate::tables::{is_enabling, is_idle, is_on, is_selecting, sync_of, word_of}
 use crate::telling::tells;
 use crdt_ops::SoundOp;
 use imap_answers::{Answer, Code, CommandWord, Notice};
-use imap_commands::{Session, State, Telling};
+use imap_commands::{Found, Session, State, Telling};
 use imap_syntax::{Command, Tagged};
 use imap_types::Octets;
 use session_view::{Silent, SyncKind, View};
@@ -47,19 +47,23 @@ impl Model for Course {
     ghost view = { λ c. record { silent = c.silent.items; own = c.own.items; sync = c.sync; modseq = c.modseq; moved = c.moved; tail = c.tail.items } };
 }
 
-/// What an input comes to behind its operations.
+/// What an input comes to behind its operations, by what it found before them.
 pub fn course_of(
     alloc: Global,
     replica: &Replica,
     ops: &[SoundOp],
     session: &Session,
     input: &Input,
+    found: &Found,
 ) -> Result<Course, AllocError>
-    requires { IsReady replica.now ops.now }
+    requires ready { IsReady replica.now ops.now }
+    requires found { found.now ≡ found_by replica.now.start replica.now.applied session.now.state input.now }
     ensures { IfOk result (λ course. TakesCourse replica.now.start replica.now.applied (replica.now.applied ++ ops.now) session.now input.now (course_from session.now.state course)) }
 {
     match input {
-        Input::Command { tagged, .. } => command_course(alloc, replica, ops, session, tagged),
+        Input::Command { tagged, .. } => command_course(
+            alloc, replica, ops, session, tagged, found,
+        ),
         Input::Line { .. } => synced_course(alloc, session, idle_tail(alloc, &session.idling)?),
         Input::Poll => synced_course(alloc, session, Vec::new(alloc)),
     }
@@ -104,19 +108,21 @@ fn completed(
     Ok(tail)
 }
 
-/// What a command comes to behind its operations.
+/// What a command comes to behind its operations, by what it found before them.
 fn command_course(
     alloc: Global,
     replica: &Replica,
     ops: &[SoundOp],
     session: &Session,
     tagged: &Tagged,
+    found: &Found,
 ) -> Result<Course, AllocError>
-    requires { IsReady replica.now ops.now }
+    requires ready { IsReady replica.now ops.now }
+    requires found { found.now ≡ found_of replica.now.start replica.now.applied session.now.state tagged.now.command }
     ensures { IfOk result (λ course. CommandTakes replica.now.start replica.now.applied (replica.now.applied ++ ops.now) session.now tagged.now (course_from session.now.state course)) }
 {
     let modseq = is_on(session, &tagged.command);
-    let told = tells(alloc, replica, ops, &session.state, modseq, tagged)?;
+    let told = tells(alloc, replica, ops, &session.state, modseq, tagged, found)?;
     let moved = moves_to(alloc, replica, ops, &tagged.command)?;
     let first = notice(alloc, replica, ops, session, &tagged.command)?;
     told_course(alloc, first, told, moved, modseq, tagged)

@@ -11,7 +11,7 @@ ghost use Rattle.imap_node.specs.Nodes.{IsReady};
 ghost use Rattle.imap_node.specs.Operations.{CanIssueAll, clock_of, id_of};
 ghost use Rattle.imap_node.specs.Plans.{IsAnswered, Prepares};
 ghost use Rattle.imap_node.specs.Replays.{view_in, view_of};
-ghost use Rattle.imap_node.specs.Respond.{IsRefused, IsStamp, wants_of};
+ghost use Rattle.imap_node.specs.Respond.{IsRefused, IsStamp, found_by, wants_of};
 ghost use Rattle.imap_node.specs.Rooms.{HasRoomFor};
 ghost use Rattle.imap_node.specs.Sessions.{IsOpen, session_at};
 ghost use Rattle.session_view.specs.Seen.{Seen};
@@ -27,10 +27,10 @@ use crate::replica::Replica;
 use crate::reply::{Answers, Issued, Reply, Silents, copied_ops};
 use crate::sessions::{SessionNo, Sessions};
 use crate::wanting::wants_of;
-use crdt_ops::{Kind, SoundOp};
+use crdt_ops::SoundOp;
 use idle_feed::Feed;
 use imap_answers::{Answer, Refusal};
-use imap_commands::{Session, State};
+use imap_commands::{Found, Session, State, Wanted};
 use imap_types::DateTime;
 use mail_text::civil;
 use session_view::Silent;
@@ -164,9 +164,9 @@ fn prepare(
     ensures err { IfErr result (λ why. IsRefused replica.old.start replica.old.applied session.old.state input.now why) }
 {
     let stamp = stamp_of(input);
-    let kinds = wanted(alloc, replica, &stamp, session, input)?;
+    let Wanted { kinds, found } = wanted(alloc, replica, &stamp, session, input)?;
     let ops = readied(alloc, replica, kinds)?;
-    Ok(finished(alloc, replica, session, feed, input, ops)?)
+    Ok(finished(alloc, replica, session, feed, input, &found, ops)?)
 }
 
 /// The date-time of an input's moment.
@@ -179,31 +179,34 @@ fn stamp_of(input: &Input) -> DateTime
     }
 }
 
-/// What an input issues, all of which the replica may issue.
+/// What an input issues, all of which the replica may issue, and what it found for that.
 fn wanted(
     alloc: Global,
     replica: &Replica,
     stamp: &DateTime,
     session: &Session,
     input: &Input,
-) -> Result<Vec<Kind>, Refusal>
-    ensures gives { Gives (λ kinds. kinds.items) result (wants_of replica.now.start replica.now.applied stamp.now session.now.state input.now) }
-    ensures can { IfOk result (λ kinds. CanIssueAll replica.now.applied kinds.items) }
+) -> Result<Wanted, Refusal>
+    ensures gives { Gives (λ wanted. wanted.kinds.items) result (wants_of replica.now.start replica.now.applied stamp.now session.now.state input.now) }
+    ensures found { IfOk result (λ wanted. wanted.found ≡ found_by replica.now.start replica.now.applied session.now.state input.now) }
+    ensures can { IfOk result (λ wanted. CanIssueAll replica.now.applied wanted.kinds.items) }
 {
     let _list = replica.applied();
     wants_of(alloc, replica, stamp, &session.state, input)
 }
 
-/// What an input is answered behind its operations, with a copy of these for the other replicas, and what they change.
+/// What an input is answered behind its operations, by what it found before them, with a copy of these for the other replicas, and what they change.
 fn finished(
     alloc: Global,
     replica: &Replica,
     session: &mut Session,
     feed: &Feed,
     input: &Input,
+    found: &Found,
     ops: Vec<SoundOp>,
 ) -> Result<Prepared, AllocError>
     requires ready { IsReady replica.now ops.items }
+    requires found { found.now ≡ found_by replica.now.start replica.now.applied session.old.state input.now }
     requires noted { (view : Seen) → view_of session.old.state ≡ Some view → IsNotedFor replica.now.start replica.now.applied feed.now.pending view }
     ensures session { session.new ≡ session.old }
     ensures answered { IfOk result (λ p. IsAnswered replica.now.start replica.now.applied (replica.now.applied ++ ops.items) session.old input.now p.answered) }
@@ -214,7 +217,7 @@ fn finished(
 {
     let news = news_of(alloc, replica, &ops)?;
     let untold = Untold { feed, news: &news };
-    let answered = answers_to(alloc, replica, session, &untold, input, &ops)?;
+    let answered = answers_to(alloc, replica, session, &untold, input, found, &ops)?;
     let copies = copied_ops(alloc, &ops)?;
     Ok(Prepared {
         answered,
@@ -224,23 +227,25 @@ fn finished(
     })
 }
 
-/// What an input is answered behind its operations, and what becomes of the session.
+/// What an input is answered behind its operations, by what it found before them, and what becomes of the session.
 fn answers_to(
     alloc: Global,
     replica: &Replica,
     session: &mut Session,
     untold: &Untold<'_>,
     input: &Input,
+    found: &Found,
     ops: &[SoundOp],
 ) -> Result<Answered, AllocError>
     requires ready { IsReady replica.now ops.now }
+    requires found { found.now ≡ found_by replica.now.start replica.now.applied session.old.state input.now }
     requires noted { (view : Seen) → view_of session.old.state ≡ Some view → IsNotedFor replica.now.start replica.now.applied untold.now.pending view }
     requires news { IsNews replica.now.start replica.now.applied (replica.now.applied ++ ops.now) untold.now.news }
     ensures session { session.new ≡ session.old }
     ensures answered { IfOk result (λ a. IsAnswered replica.now.start replica.now.applied (replica.now.applied ++ ops.now) session.old input.now a) }
     ensures can { IfOk result (λ a. CanGo replica.now.start (replica.now.applied ++ ops.now) session.old.state a.going.onward) }
 {
-    let course = course_of(alloc, replica, ops, session, input)?;
+    let course = course_of(alloc, replica, ops, session, input, found)?;
     let condstore = condstore_after(session, input);
     let idling = idling_after(alloc, session, input)?;
     let Told {

@@ -1,6 +1,6 @@
 //! What each command tells: one line a command.
 
-ghost use Rattle.std.specs.Prelude.{◌≡◌, ◌++◌, IfOk};
+ghost use Rattle.std.specs.Prelude.{◌≡◌, ◌++◌, List, true, IfOk};
 ghost use Rattle.std.specs.Option.{unwrap_or};
 ghost use Rattle.crdt_ops.specs.Sets.{folders_of, subscribed_of};
 ghost use Rattle.imap_commands.specs.Asking.{ListTells, status_tells};
@@ -8,11 +8,13 @@ ghost use Rattle.imap_commands.specs.Appending.{append_tells};
 ghost use Rattle.imap_commands.specs.Copying.{copy_tells, move_tells};
 ghost use Rattle.imap_commands.specs.Expunging.{uid_expunge_tells};
 ghost use Rattle.imap_commands.specs.Fetching.{fetch_tells};
+ghost use Rattle.imap_commands.specs.Found.{named_found, store_found};
 ghost use Rattle.imap_commands.specs.Selecting.{SelectTells};
 ghost use Rattle.imap_commands.specs.Storing.{store_tells};
-ghost use Rattle.imap_node.specs.Commands.{SearchTellsSelected, Tells, is_selected, tells_selected};
+ghost use Rattle.imap_node.specs.Commands.{SearchTellsSelected, Tells, found_of, found_selected, is_selected, tells_selected};
 ghost use Rattle.imap_node.specs.Mailboxes.{landing_in, mailbox_in, marks_of, rows_for, validity_of};
 ghost use Rattle.imap_node.specs.Nodes.{IsReady};
+ghost use Rattle.imap_types.specs.declared.sequence_set.SequenceRange.{SequenceRange};
 ghost use Rattle.uid_projection.specs.Lines.{uidnext_of};
 ghost use Rattle.uid_projection.specs.Listing.{listing};
 
@@ -20,19 +22,19 @@ use crate::replica::Replica;
 use crate::tables::is_selected;
 use crdt_ops::SoundOp;
 use imap_commands::{
-    CopyAsked, FetchAsked, Landing, OpenMailbox, SearchAsked, State, StoreAsked, Telling,
-    append_tells, capability_tells, copy_tells, enable_tells, fetch_tells, fetch_tells_unchanged,
-    idle_tells, list_tells, logout_tells, move_tells, namespace_tells, search_tells, select_tells,
-    status_tells, store_tells, uid_expunge_tells,
+    CopyAsked, FetchAsked, Found, Landing, OpenMailbox, SearchAsked, State, StoreAsked, Telling,
+    append_tells, capability_tells, copy_tells, enable_tells, fetch_tells, idle_tells, list_tells,
+    logout_tells, move_tells, namespace_tells, search_tells, select_tells, status_tells,
+    store_tells, uid_expunge_tells,
 };
 use imap_query::{ListMode, Marks};
 use imap_syntax::{Command, StatusItem, Tagged};
-use imap_types::{Name, Octets, SequenceSet};
+use imap_types::{Name, Octets};
 use mail_listing::Rows;
 use session_view::View;
 use std::alloc::{AllocError, Global};
 
-/// What a command itself tells, behind the operations applied and its own.
+/// What a command itself tells, behind the operations applied and its own, by what it found before these.
 pub fn tells(
     alloc: Global,
     replica: &Replica,
@@ -40,8 +42,10 @@ pub fn tells(
     state: &State,
     modseq: bool,
     tagged: &Tagged,
+    found: &Found,
 ) -> Result<Telling, AllocError>
-    requires { IsReady replica.now ops.now }
+    requires ready { IsReady replica.now ops.now }
+    requires found { found.now ≡ found_of replica.now.start replica.now.applied state.now tagged.now.command }
     ensures { IfOk result (λ told. Tells replica.now.start replica.now.applied (replica.now.applied ++ ops.now) state.now modseq tagged.now.tag tagged.now.command told) }
 {
     let Tagged { tag, command } = tagged;
@@ -76,7 +80,7 @@ pub fn tells(
         Command::Close => Ok(Telling::nothing(alloc)),
         Command::Unselect => Ok(Telling::nothing(alloc)),
         Command::Expunge => Ok(Telling::nothing(alloc)),
-        Command::UidExpunge { uids } => tells_uid_expunge(alloc, replica, state, uids),
+        Command::UidExpunge { .. } => tells_uid_expunge(alloc, replica, state, found),
         Command::Search(search) => {
             let asked = SearchAsked {
                 by_uid: search.by_uid,
@@ -92,7 +96,7 @@ pub fn tells(
                 items: fetch.items.as_slice(),
                 changed_since: fetch.changed_since,
             };
-            tells_fetch(alloc, replica, ops, state, modseq, &asked)
+            tells_fetch(alloc, replica, ops, state, modseq, &asked, found)
         }
         Command::Store(store) => {
             let asked = StoreAsked {
@@ -102,7 +106,7 @@ pub fn tells(
                 action: store.action,
                 flags: &store.flags,
             };
-            tells_store(alloc, replica, ops, state, modseq, &asked)
+            tells_store(alloc, replica, ops, state, modseq, &asked, found)
         }
         Command::Copy(transfer) => {
             let asked = CopyAsked {
@@ -110,7 +114,7 @@ pub fn tells(
                 messages: &transfer.messages,
                 destination: &transfer.name,
             };
-            tells_copy(alloc, replica, ops, state, &asked)
+            tells_copy(alloc, replica, ops, state, &asked, found)
         }
         Command::Move(transfer) => {
             let asked = CopyAsked {
@@ -118,7 +122,7 @@ pub fn tells(
                 messages: &transfer.messages,
                 destination: &transfer.name,
             };
-            tells_move(alloc, replica, ops, state, &asked)
+            tells_move(alloc, replica, ops, state, &asked, found)
         }
     }
 }
@@ -281,15 +285,15 @@ fn tells_uid_expunge(
     alloc: Global,
     replica: &Replica,
     state: &State,
-    uids: &SequenceSet,
+    found: &Found,
 ) -> Result<Telling, AllocError>
-    ensures { IfOk result (λ told. told ≡ tells_selected state.now (λ view read_only. uid_expunge_tells (mailbox_in replica.now.start replica.now.applied view read_only) uids.now)) }
+    ensures { (uids : List SequenceRange) → found.now ≡ found_selected state.now (λ view read_only. named_found true uids view.entries) → IfOk result (λ told. told ≡ tells_selected state.now (λ view read_only. uid_expunge_tells (mailbox_in replica.now.start replica.now.applied view read_only) uids)) }
 {
     let State::Selected { view, read_only } = state else {
         return Ok(Telling::nothing(alloc));
     };
     let mailbox = mailbox_before(alloc, replica, view, *read_only)?;
-    uid_expunge_tells(alloc, &mailbox, uids)
+    Ok(uid_expunge_tells(alloc, &mailbox, found))
 }
 
 fn tells_search(
@@ -317,8 +321,10 @@ fn tells_fetch(
     state: &State,
     modseq: bool,
     asked: &FetchAsked<'_>,
+    found: &Found,
 ) -> Result<Telling, AllocError>
-    requires { IsReady replica.now ops.now }
+    requires ready { IsReady replica.now ops.now }
+    requires found { found.now ≡ found_selected state.now (λ view read_only. named_found asked.now.by_uid asked.now.messages view.entries) }
     ensures { IfOk result (λ told. told ≡ tells_selected state.now (λ view read_only. fetch_tells (mailbox_in replica.now.start replica.now.applied view read_only) (rows_for replica.now.start (replica.now.applied ++ ops.now) view) modseq asked.now)) }
 {
     let State::Selected { view, read_only } = state else {
@@ -326,10 +332,10 @@ fn tells_fetch(
     };
     let mailbox = mailbox_before(alloc, replica, view, *read_only)?;
     if ops.is_empty() {
-        return fetch_tells_unchanged(alloc, &mailbox, modseq, asked);
+        return fetch_tells(alloc, &mailbox, None, modseq, asked, found);
     }
     let after = rows_behind(alloc, replica, ops, view)?;
-    fetch_tells(alloc, &mailbox, &after, modseq, asked)
+    fetch_tells(alloc, &mailbox, Some(&after), modseq, asked, found)
 }
 
 fn tells_store(
@@ -339,8 +345,10 @@ fn tells_store(
     state: &State,
     modseq: bool,
     asked: &StoreAsked<'_>,
+    found: &Found,
 ) -> Result<Telling, AllocError>
-    requires { IsReady replica.now ops.now }
+    requires ready { IsReady replica.now ops.now }
+    requires found { found.now ≡ found_selected state.now (λ view read_only. store_found (mailbox_in replica.now.start replica.now.applied view read_only) asked.now) }
     ensures { IfOk result (λ told. told ≡ tells_selected state.now (λ view read_only. store_tells (mailbox_in replica.now.start replica.now.applied view read_only) (rows_for replica.now.start (replica.now.applied ++ ops.now) view) modseq asked.now)) }
 {
     let State::Selected { view, read_only } = state else {
@@ -348,7 +356,7 @@ fn tells_store(
     };
     let mailbox = mailbox_before(alloc, replica, view, *read_only)?;
     let after = rows_behind(alloc, replica, ops, view)?;
-    store_tells(alloc, &mailbox, &after, modseq, asked)
+    store_tells(alloc, &mailbox, &after, modseq, asked, found)
 }
 
 fn tells_copy(
@@ -357,8 +365,10 @@ fn tells_copy(
     ops: &[SoundOp],
     state: &State,
     asked: &CopyAsked<'_>,
+    found: &Found,
 ) -> Result<Telling, AllocError>
-    requires { IsReady replica.now ops.now }
+    requires ready { IsReady replica.now ops.now }
+    requires found { found.now ≡ found_selected state.now (λ view read_only. named_found asked.now.by_uid asked.now.messages view.entries) }
     ensures { IfOk result (λ told. told ≡ tells_selected state.now (λ view read_only. copy_tells (mailbox_in replica.now.start replica.now.applied view read_only) asked.now (landing_in replica.now.start replica.now.applied (replica.now.applied ++ ops.now) asked.now.destination))) }
 {
     let State::Selected { view, read_only } = state else {
@@ -366,7 +376,7 @@ fn tells_copy(
     };
     let mailbox = mailbox_before(alloc, replica, view, *read_only)?;
     let landing = landing_of(alloc, replica, ops, asked.destination)?;
-    copy_tells(alloc, &mailbox, asked, &landing)
+    copy_tells(alloc, &mailbox, &landing, found)
 }
 
 fn tells_move(
@@ -375,8 +385,10 @@ fn tells_move(
     ops: &[SoundOp],
     state: &State,
     asked: &CopyAsked<'_>,
+    found: &Found,
 ) -> Result<Telling, AllocError>
-    requires { IsReady replica.now ops.now }
+    requires ready { IsReady replica.now ops.now }
+    requires found { found.now ≡ found_selected state.now (λ view read_only. named_found asked.now.by_uid asked.now.messages view.entries) }
     ensures { IfOk result (λ told. told ≡ tells_selected state.now (λ view read_only. move_tells (mailbox_in replica.now.start replica.now.applied view read_only) asked.now (landing_in replica.now.start replica.now.applied (replica.now.applied ++ ops.now) asked.now.destination))) }
 {
     let State::Selected { view, read_only } = state else {
@@ -384,5 +396,5 @@ fn tells_move(
     };
     let mailbox = mailbox_before(alloc, replica, view, *read_only)?;
     let landing = landing_of(alloc, replica, ops, asked.destination)?;
-    move_tells(alloc, &mailbox, asked, &landing)
+    move_tells(alloc, &mailbox, &landing, found)
 }

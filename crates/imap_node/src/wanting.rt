@@ -1,22 +1,25 @@
 //! What each input wants: one line a command.
 
-ghost use Rattle.std.specs.Prelude.{◌≡◌, ◌++◌, [], Ok, Err, IfOk};
+ghost use Rattle.std.specs.Prelude.{◌≡◌, ◌++◌, List, Result, [], true, Ok, Err, IfOk};
+ghost use Rattle.imap_answers.specs.declared.words.Refusal.{Refusal as Why};
 ghost use Rattle.imap_answers.specs.declared.words.Refusal.TheVariants.{NotNow};
 ghost use Rattle.imap_commands.specs.Appending.{append_wants};
 ghost use Rattle.imap_commands.specs.Asking.{status_wants};
 ghost use Rattle.imap_commands.specs.Entering.{login_wants};
 ghost use Rattle.imap_commands.specs.Expunging.{close_wants, expunge_wants, uid_expunge_wants};
 ghost use Rattle.imap_commands.specs.Fetching.{fetch_wants};
+ghost use Rattle.imap_commands.specs.Found.{named_found, nothing_found, store_found};
 ghost use Rattle.imap_commands.specs.Gives.{Gives};
 ghost use Rattle.imap_commands.specs.Copying.{copy_wants, move_wants};
 ghost use Rattle.imap_commands.specs.Mailboxes.{create_wants, created_name, delete_wants, subscribe_wants, unsubscribe_wants};
 ghost use Rattle.imap_commands.specs.Searching.{search_wants};
 ghost use Rattle.imap_commands.specs.Selecting.{select_wants};
 ghost use Rattle.imap_commands.specs.Storing.{store_wants};
+ghost use Rattle.crdt_ops.specs.declared.kind.Kind.{Kind as Action};
 ghost use Rattle.crdt_ops.specs.Sets.{delete_set_of, subscription_tags_of};
-ghost use Rattle.imap_node.specs.Commands.{is_known, wants, when_known, when_new, when_selected};
+ghost use Rattle.imap_node.specs.Commands.{found_of, found_selected, is_known, wants, when_known, when_new, when_selected};
 ghost use Rattle.imap_node.specs.Mailboxes.{are_some, is_subscribed, mailbox_in};
-ghost use Rattle.imap_node.specs.Respond.{wants_of};
+ghost use Rattle.imap_node.specs.Respond.{found_by, wants_of};
 ghost use Rattle.uid_projection.specs.Incarnations.{is_there};
 
 use crate::input::Input;
@@ -25,63 +28,82 @@ use crate::telling::mailbox_before;
 use crdt_ops::Kind;
 use imap_answers::Refusal;
 use imap_commands::{
-    AppendAsked, CopyAsked, FetchAsked, State, StoreAsked, append_wants, close_wants, copy_wants,
-    create_wants, created_name, delete_wants, expunge_wants, fetch_wants, login_wants, move_wants,
-    search_wants, select_wants, status_wants, store_wants, subscribe_wants, uid_expunge_wants,
-    unsubscribe_wants,
+    AppendAsked, CopyAsked, FetchAsked, Found, State, StoreAsked, Wanted, append_wants,
+    close_wants, copy_wants, create_wants, created_name, delete_wants, expunge_wants, fetch_wants,
+    login_wants, move_wants, search_wants, select_wants, status_wants, store_wants,
+    subscribe_wants, uid_expunge_wants, unsubscribe_wants,
 };
 use imap_syntax::{Command, IdleLine, SearchStep};
 use imap_types::{DateTime, Flags, Name, Octets, SequenceSet, Text};
 use std::alloc::{AllocError, Global};
 use tags_clocks::OpId;
 
-/// What an input issues, or the first reason that stands against it. `stamp` is the date-time of its moment.
+/// What an input issues, and what it found for that, or the first reason that stands against it. `stamp` is the date-time of its moment.
 pub fn wants_of(
     alloc: Global,
     replica: &Replica,
     stamp: &DateTime,
     state: &State,
     input: &Input,
-) -> Result<Vec<Kind>, Refusal>
-    ensures { Gives (λ kinds. kinds.items) result (wants_of replica.now.start replica.now.applied stamp.now state.now input.now) }
+) -> Result<Wanted, Refusal>
+    ensures gives { Gives (λ wanted. wanted.kinds.items) result (wants_of replica.now.start replica.now.applied stamp.now state.now input.now) }
+    ensures found { IfOk result (λ wanted. wanted.found ≡ found_by replica.now.start replica.now.applied state.now input.now) }
 {
     match input {
         Input::Command { tagged, .. } => wants(alloc, replica, stamp, state, &tagged.command),
         Input::Line {
             line: IdleLine::Done,
-        } => Ok(Vec::new(alloc)),
+        } => only(alloc, Ok(Vec::new(alloc))),
         Input::Line {
             line: IdleLine::Other,
         } => Err(Refusal::DoneExpected),
-        Input::Poll => Ok(Vec::new(alloc)),
+        Input::Poll => only(alloc, Ok(Vec::new(alloc))),
     }
 }
 
-/// What a command issues, or the first reason that stands against it.
+/// Operations only, of an input that names no messages.
+fn only(alloc: Global, kinds: Result<Vec<Kind>, Refusal>) -> Result<Wanted, Refusal>
+    ensures gives { (want : Result (List Action) Why) → Gives (λ kinds. kinds.items) kinds want → Gives (λ wanted. wanted.kinds.items) result want }
+    ensures found { IfOk result (λ wanted. wanted.found ≡ nothing_found) }
+{
+    match kinds {
+        Ok(kinds) => Ok(Wanted {
+            kinds,
+            found: Found::nothing(alloc),
+        }),
+        Err(why) => Err(why),
+    }
+}
+
+/// What a command issues, and what it found for that, or the first reason that stands against it.
 fn wants(
     alloc: Global,
     replica: &Replica,
     stamp: &DateTime,
     state: &State,
     command: &Command,
-) -> Result<Vec<Kind>, Refusal>
-    ensures { Gives (λ kinds. kinds.items) result (wants replica.now.start replica.now.applied stamp.now state.now command.now) }
+) -> Result<Wanted, Refusal>
+    ensures gives { Gives (λ wanted. wanted.kinds.items) result (wants replica.now.start replica.now.applied stamp.now state.now command.now) }
+    ensures found { IfOk result (λ wanted. wanted.found ≡ found_of replica.now.start replica.now.applied state.now command.now) }
 {
     match command {
-        Command::Capability => Ok(Vec::new(alloc)),
-        Command::Noop => Ok(Vec::new(alloc)),
-        Command::Logout => Ok(Vec::new(alloc)),
-        Command::Login { user, password } => wants_login(alloc, state, user, password),
-        Command::Enable { .. } => known(alloc, state),
-        Command::Select { name, .. } => wants_select(alloc, replica, state, name),
-        Command::Examine { name, .. } => wants_select(alloc, replica, state, name),
-        Command::Create { name } => wants_create(alloc, replica, state, name),
-        Command::Delete { name } => wants_delete(alloc, replica, state, name),
-        Command::Subscribe { name } => wants_subscribe(alloc, replica, state, name),
-        Command::Unsubscribe { name } => wants_unsubscribe(alloc, replica, state, name),
-        Command::ListNames(_) => known(alloc, state),
-        Command::Namespace => known(alloc, state),
-        Command::Status { name, .. } => wants_status(alloc, replica, state, name),
+        Command::Capability => only(alloc, Ok(Vec::new(alloc))),
+        Command::Noop => only(alloc, Ok(Vec::new(alloc))),
+        Command::Logout => only(alloc, Ok(Vec::new(alloc))),
+        Command::Login { user, password } => only(alloc, wants_login(alloc, state, user, password)),
+        Command::Enable { .. } => only(alloc, known(alloc, state)),
+        Command::Select { name, .. } => only(alloc, wants_select(alloc, replica, state, name)),
+        Command::Examine { name, .. } => only(alloc, wants_select(alloc, replica, state, name)),
+        Command::Create { name } => only(alloc, wants_create(alloc, replica, state, name)),
+        Command::Delete { name } => only(alloc, wants_delete(alloc, replica, state, name)),
+        Command::Subscribe { name } => only(alloc, wants_subscribe(alloc, replica, state, name)),
+        Command::Unsubscribe { name } => only(
+            alloc,
+            wants_unsubscribe(alloc, replica, state, name),
+        ),
+        Command::ListNames(_) => only(alloc, known(alloc, state)),
+        Command::Namespace => only(alloc, known(alloc, state)),
+        Command::Status { name, .. } => only(alloc, wants_status(alloc, replica, state, name)),
         Command::Append(append) => {
             let asked = AppendAsked {
                 name: &append.name,
@@ -89,14 +111,14 @@ fn wants(
                 date: &append.date,
                 text: &append.text,
             };
-            wants_append(alloc, replica, stamp, state, &asked)
+            only(alloc, wants_append(alloc, replica, stamp, state, &asked))
         }
-        Command::Idle => known(alloc, state),
-        Command::Close => wants_close(alloc, replica, state),
-        Command::Unselect => selected(alloc, state),
-        Command::Expunge => wants_expunge(alloc, replica, state),
+        Command::Idle => only(alloc, known(alloc, state)),
+        Command::Close => only(alloc, wants_close(alloc, replica, state)),
+        Command::Unselect => only(alloc, selected(alloc, state)),
+        Command::Expunge => only(alloc, wants_expunge(alloc, replica, state)),
         Command::UidExpunge { uids } => wants_uid_expunge(alloc, replica, state, uids),
-        Command::Search(search) => wants_search(alloc, state, search.steps.as_slice()),
+        Command::Search(search) => only(alloc, wants_search(alloc, state, search.steps.as_slice())),
         Command::Fetch(fetch) => {
             let asked = FetchAsked {
                 by_uid: fetch.by_uid,
@@ -318,8 +340,9 @@ fn wants_uid_expunge(
     replica: &Replica,
     state: &State,
     uids: &SequenceSet,
-) -> Result<Vec<Kind>, Refusal>
-    ensures { Gives (λ kinds. kinds.items) result (when_selected state.now (λ view read_only. uid_expunge_wants (mailbox_in replica.now.start replica.now.applied view read_only) uids.now)) }
+) -> Result<Wanted, Refusal>
+    ensures gives { Gives (λ wanted. wanted.kinds.items) result (when_selected state.now (λ view read_only. uid_expunge_wants (mailbox_in replica.now.start replica.now.applied view read_only) uids.now)) }
+    ensures found { IfOk result (λ wanted. wanted.found ≡ found_selected state.now (λ view read_only. named_found true uids.now view.entries)) }
 {
     let State::Selected { view, read_only } = state else {
         return Err(Refusal::NotNow);
@@ -342,8 +365,9 @@ fn wants_fetch(
     replica: &Replica,
     state: &State,
     asked: &FetchAsked<'_>,
-) -> Result<Vec<Kind>, Refusal>
-    ensures { Gives (λ kinds. kinds.items) result (when_selected state.now (λ view read_only. fetch_wants (mailbox_in replica.now.start replica.now.applied view read_only) asked.now)) }
+) -> Result<Wanted, Refusal>
+    ensures gives { Gives (λ wanted. wanted.kinds.items) result (when_selected state.now (λ view read_only. fetch_wants (mailbox_in replica.now.start replica.now.applied view read_only) asked.now)) }
+    ensures found { IfOk result (λ wanted. wanted.found ≡ found_selected state.now (λ view read_only. named_found asked.now.by_uid asked.now.messages view.entries)) }
 {
     let State::Selected { view, read_only } = state else {
         return Err(Refusal::NotNow);
@@ -357,8 +381,9 @@ fn wants_store(
     replica: &Replica,
     state: &State,
     asked: &StoreAsked<'_>,
-) -> Result<Vec<Kind>, Refusal>
-    ensures { Gives (λ kinds. kinds.items) result (when_selected state.now (λ view read_only. store_wants (mailbox_in replica.now.start replica.now.applied view read_only) asked.now)) }
+) -> Result<Wanted, Refusal>
+    ensures gives { Gives (λ wanted. wanted.kinds.items) result (when_selected state.now (λ view read_only. store_wants (mailbox_in replica.now.start replica.now.applied view read_only) asked.now)) }
+    ensures found { IfOk result (λ wanted. wanted.found ≡ found_selected state.now (λ view read_only. store_found (mailbox_in replica.now.start replica.now.applied view read_only) asked.now)) }
 {
     let State::Selected { view, read_only } = state else {
         return Err(Refusal::NotNow);
@@ -372,8 +397,9 @@ fn wants_copy(
     replica: &Replica,
     state: &State,
     asked: &CopyAsked<'_>,
-) -> Result<Vec<Kind>, Refusal>
-    ensures { Gives (λ kinds. kinds.items) result (when_selected state.now (λ view read_only. copy_wants (mailbox_in replica.now.start replica.now.applied view read_only) asked.now (is_there asked.now.destination replica.now.applied))) }
+) -> Result<Wanted, Refusal>
+    ensures gives { Gives (λ wanted. wanted.kinds.items) result (when_selected state.now (λ view read_only. copy_wants (mailbox_in replica.now.start replica.now.applied view read_only) asked.now (is_there asked.now.destination replica.now.applied))) }
+    ensures found { IfOk result (λ wanted. wanted.found ≡ found_selected state.now (λ view read_only. named_found asked.now.by_uid asked.now.messages view.entries)) }
 {
     let State::Selected { view, read_only } = state else {
         return Err(Refusal::NotNow);
@@ -387,8 +413,9 @@ fn wants_move(
     replica: &Replica,
     state: &State,
     asked: &CopyAsked<'_>,
-) -> Result<Vec<Kind>, Refusal>
-    ensures { Gives (λ kinds. kinds.items) result (when_selected state.now (λ view read_only. move_wants (mailbox_in replica.now.start replica.now.applied view read_only) asked.now (is_there asked.now.destination replica.now.applied))) }
+) -> Result<Wanted, Refusal>
+    ensures gives { Gives (λ wanted. wanted.kinds.items) result (when_selected state.now (λ view read_only. move_wants (mailbox_in replica.now.start replica.now.applied view read_only) asked.now (is_there asked.now.destination replica.now.applied))) }
+    ensures found { IfOk result (λ wanted. wanted.found ≡ found_selected state.now (λ view read_only. named_found asked.now.by_uid asked.now.messages view.entries)) }
 {
     let State::Selected { view, read_only } = state else {
         return Err(Refusal::NotNow);

@@ -1,13 +1,18 @@
-use Rattle.std.proofs.Common.{ℕ, true, List, subst, sym, ◌∙◌}
+use Rattle.std.proofs.Common.{ℕ, true, List, ap, subst, sym, ◌∙◌}
 use Rattle.std.specs.Prelude.{not}
 use Rattle.imap_types.specs.Numbers.{AreRisingFrom}
+use Rattle.session_view.specs.Sets.{resolved}
+use Rattle.imap_commands.specs.Asked.{OpenMailbox}
+use Rattle.imap_commands.specs.Found.{Found}
 use Rattle.imap_commands.specs.Told.{is_gone, message_at}
 use Rattle.imap_commands.proofs.NamedLemmas.{chosen_rising}
 use Rattle.imap_commands.proofs.copying.outcome_of.Goals as goal
 
 pub set_of-requires : goal.set_of-requires
 set_of-requires c =
-    let asked = c.asked.inside in
-    subst (λ (uids : List ℕ). AreRisingFrom 1 uids) (sym (c.deref-3.ensures.value ∙ c.in_ok-uids.ensures {u = tt}))
-    (chosen_rising true asked.by_uid asked.messages.now (λ n. not (is_gone (message_at c.mailbox.inside.rows c.entries-view.result.now.items n))) c.mailbox.inside.view.now.entries c.entries-view.result.now.items c.deref.result.now c.deref-2.result.now
-    c.entries-view.ensures.entries c.entries-view.ensures.rising (c.deref-2.ensures.value ∙ c.in_ok-there.ensures {u = tt}) (c.deref.ensures.value ∙ c.in_ok-numbers.ensures {u = tt}))
+    let by_uid = c.requires.0 in
+    let set = c.requires.1 in
+    subst (λ (uids : List ℕ). AreRisingFrom 1 uids) (sym (c.deref-2.ensures.value ∙ c.in_ok-uids.ensures {u = tt}))
+    (chosen_rising true by_uid set (λ n. not (is_gone (message_at c.mailbox.inside.rows c.entries-view.result.now.items n))) c.mailbox.inside.view.now.entries c.entries-view.result.now.items c.numbers.result.now c.deref.result.now
+    c.entries-view.ensures.entries c.entries-view.ensures.rising (c.deref.ensures.value ∙ c.in_ok-there.ensures {u = tt})
+    (c.numbers.ensures ∙ ap (λ (f : Found). f.numbers) c.requires.2 ∙ ap (λ (m : OpenMailbox). resolved by_uid set m.view) (sym c.mailbox.view_is)))

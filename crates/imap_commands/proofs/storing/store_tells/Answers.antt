@@ -1,4 +1,5 @@
-use Rattle.std.proofs.Common.{◌∙◌}
+use Rattle.std.proofs.Common.{◌∙◌, ap, sym}
+use Rattle.imap_commands.specs.Found.{Found, store_found}
 use Rattle.imap_commands.specs.Storing.{is_refused}
 use Rattle.imap_commands.specs.Told.{message_at}
 use Rattle.imap_commands.proofs.NamedLemmas.{chosen_rising}
@@ -8,5 +9,5 @@ pub store_code-requires : goal.store_code-requires
 store_code-requires c =
     let asked = c.asked.inside in
     chosen_rising asked.by_uid asked.by_uid asked.messages.now (λ n. is_refused asked.unchanged_since (message_at c.mailbox.inside.rows c.entries-view.result.now.items n)) c.mailbox.inside.view.now.entries c.entries-view.result.now.items
-    c.deref.result.now c.deref-2.result.now c.entries-view.ensures.entries c.entries-view.ensures.rising (c.deref-2.ensures.value ∙ c.in_ok-refused.ensures {u = tt})
-    (c.deref.ensures.value ∙ c.in_ok-numbers.ensures {u = tt})
+    c.numbers-numbers.result.now c.deref.result.now c.entries-view.ensures.entries c.entries-view.ensures.rising (c.deref.ensures.value ∙ c.in_ok-refused.ensures {u = tt})
+    (c.numbers-numbers.ensures ∙ ap (λ (f : Found). f.numbers) c.requires ∙ (λ i. (store_found (sym c.mailbox.view_is i) (sym c.asked.view_is i)).numbers))

@@ -12,13 +12,3 @@ pub returns-in-Examine : goal.returns-in-Examine
 returns-in-Examine c =
     subst (λ (command : Command). IfOk c.tells_select-in-Examine.result (λ told. Tells c.args.replica.now.start c.args.replica.now.applied (c.args.replica.now.applied ++ c.args.ops.now) c.args.state.now c.args.modseq c.args.tagged.now.tag command told)) (sym c.in-Examine.is)
     c.tells_select-in-Examine.ensures
-
-pub returns-in-Copy : goal.returns-in-Copy
-returns-in-Copy c =
-    subst (λ (command : Command). IfOk c.tells_copy.result (λ told. Tells c.args.replica.now.start c.args.replica.now.applied (c.args.replica.now.applied ++ c.args.ops.now) c.args.state.now c.args.modseq c.args.tagged.now.tag command told)) (sym c.in-Copy.is)
-    c.tells_copy.ensures
-
-pub returns-in-Move : goal.returns-in-Move
-returns-in-Move c =
-    subst (λ (command : Command). IfOk c.tells_move.result (λ told. Tells c.args.replica.now.start c.args.replica.now.applied (c.args.replica.now.applied ++ c.args.ops.now) c.args.state.now c.args.modseq c.args.tagged.now.tag command told)) (sym c.in-Move.is)
-    c.tells_move.ensures

@@ -17,8 +17,8 @@ returns-then-is_empty c =
     let view = c.in-Selected.view in
     let read_only = c.in-Selected.read_only in
     let same : ops ≡ ops ++ own = sym (append-nil ops) ∙ ap (λ (more : List Op). ops ++ more) (sym (none_there own (sym c.is_empty.ensures ∙ c.if-is_empty.true))) in
-    if_ok_is c.fetch_tells_unchanged.result _ _
+    if_ok_is c.fetch_tells.result _ _
     ((λ i. fetch_tells (c.in_ok-mailbox.ensures {u = tt} i) (c.in_ok-mailbox.ensures {u = tt} i).rows c.args.modseq asked)
     ∙ ap (λ (all : List Op). fetch_tells (mailbox_in start ops view read_only) (rows_for start all view) c.args.modseq asked) same
     ∙ ap (λ (s : State). tells_selected s (λ (view : Seen) (read_only : Bool). fetch_tells (mailbox_in start ops view read_only) (rows_for start (ops ++ own) view) c.args.modseq asked)) (sym c.in-Selected.is))
-    c.fetch_tells_unchanged.ensures
+    c.fetch_tells.ensures
