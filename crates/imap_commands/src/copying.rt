@@ -34,8 +34,8 @@ struct Copied {
     gone: Option<Code>,
 }
 
-/// What COPY issues in the destination, or the first reason against it: `NoSuchMessage`, `NoDestination`, `TooManyKeywords` (more than 32
-/// on a message). `NoMemory` may come in place of any answer. The copies share the texts.
+/// What COPY issues in the destination, and the messages that it found for that, or the first reason against it: `NoSuchMessage`,
+/// `NoDestination`, `TooManyKeywords` (more than 32 on a message). `NoMemory` may come in place of any answer. The copies share the texts.
 pub fn copy_wants(
     alloc: Global,
     mailbox: &OpenMailbox<'_>,
@@ -54,7 +54,7 @@ pub fn copy_wants(
     limited(kinds, Found::new(numbers, Vec::new(alloc)))
 }
 
-/// What MOVE issues, or the first reason against it: `NoSuchMessage`, `ReadOnly`, `NoDestination`, `TooManyKeywords` (more than 32 on a
+/// What MOVE issues, and the messages that it found for that, or the first reason against it: `NoSuchMessage`, `ReadOnly`, `NoDestination`, `TooManyKeywords` (more than 32 on a
 /// message), `TooManyVersions` (more than 64 of one). `NoMemory` may come in place of any answer. It issues all copies in the destination first, then what takes the messages out of the folder. The copies share the texts.
 pub fn move_wants(
     alloc: Global,

@@ -88,7 +88,7 @@ fn push_expunge(
     Ok(())
 }
 
-/// What UID EXPUNGE issues, or the first reason against it: `ReadOnly`, `TooManyVersions` (more than 64 of a message that it takes out).
+/// What UID EXPUNGE issues, and the messages that it found for that, or the first reason against it: `ReadOnly`, `TooManyVersions` (more than 64 of a message that it takes out).
 /// `NoMemory` may come in place of any answer. It takes out those of the view's messages that the set names by UIDs and that are marked as
 /// deleted.
 pub fn uid_expunge_wants(

@@ -25,9 +25,9 @@ use message_versions::Versions;
 use session_view::Entries;
 use std::alloc::{AllocError, Global};
 
-/// What FETCH issues in the mailbox, or the first reason against it: `NoSuchMessage`, `TooManyKeywords` (more than 32 on a message that it
-/// marks), `TooManyVersions` (more than 64 of such a message). `NoMemory` may come in place of any answer. It issues Stores of `\Seen`,
-/// where it reads a section without PEEK.
+/// What FETCH issues in the mailbox, and the messages that it found for that, or the first reason against it: `NoSuchMessage`,
+/// `TooManyKeywords` (more than 32 on a message that it marks), `TooManyVersions` (more than 64 of such a message). `NoMemory` may come in
+/// place of any answer. It issues Stores of `\Seen`, where it reads a section without PEEK.
 pub fn fetch_wants(
     alloc: Global,
     mailbox: &OpenMailbox<'_>,
@@ -109,8 +109,9 @@ fn seen_flags(alloc: Global, versions: &Versions<'_>) -> Result<Flags, AllocErro
     Ok(seen)
 }
 
-/// What FETCH tells, by the mailbox before it, what it found there, the listing after it (the one before it where none is given, as of a command that issues nothing)
-/// and whether CONDSTORE is on: what `imap_query::fetch` says of the messages named, and whether some are gone. `Err` where there is no memory.
+/// What FETCH tells, by the mailbox before it, what it found there, the listing after it (where none is given, as of a command that issues nothing, the one before it)
+/// and whether CONDSTORE is on: what `imap_query::fetch` says of the messages named, and whether some are gone. `Err` where there is no memory. It looks each of them up
+/// once for the code, beside what `fetch` of `imap_query` costs, or `fetch_unchanged` where no listing is given.
 pub fn fetch_tells(
     alloc: Global,
     mailbox: &OpenMailbox<'_>,

@@ -29,9 +29,9 @@ use message_versions::Versions;
 use session_view::{Entries, Silent};
 use std::alloc::{AllocError, Global};
 
-/// What STORE issues in the mailbox, or the first reason against it: `NoSuchMessage`, `ReadOnly`, `KeywordTooLong` (a keyword that no
-/// message may bear), `TooManyKeywords` (more than 32 on a message that it changes), `TooManyVersions` (more than 64 of such a message).
-/// `NoMemory` may come in place of any answer. It looks each named message up twice, by binary search.
+/// What STORE issues in the mailbox, and the messages that it found for that, or the first reason against it: `NoSuchMessage`, `ReadOnly`,
+/// `KeywordTooLong` (a keyword that no message may bear), `TooManyKeywords` (more than 32 on a message that it changes), `TooManyVersions`
+/// (more than 64 of such a message). `NoMemory` may come in place of any answer. It looks each named message up twice, by binary search.
 pub fn store_wants(
     alloc: Global,
     mailbox: &OpenMailbox<'_>,
