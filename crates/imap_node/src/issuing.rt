@@ -127,6 +127,9 @@ fn next_ops(alloc: Global, replica: &Replica, kinds: Vec<Kind>) -> Result<Vec<So
     ensures next { IfOk result (λ ops. AreNext replica.now.start.replica replica.now.applied kinds.items ops.items) }
     ensures sound { IfOk result (λ ops. AreSound IsSound ops.items) }
 {
+    if kinds.is_empty() {
+        return Ok(Vec::new(alloc));
+    }
     let mut clock = replica.clock().copy(alloc)?;
     let mut ops = Vec::with_capacity(alloc, kinds.len())?;
     for kind in kinds {
