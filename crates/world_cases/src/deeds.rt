@@ -3,8 +3,8 @@
 ghost use Rattle.std.specs.Prelude.{◌<◌};
 
 use crate::asked::spelled;
-use crate::commands::{Sort, command};
 use crate::chance::Chance;
+use crate::commands::{Sort, command};
 use case_text::Trouble;
 use imap_commands::Credentials;
 use imap_grammar::IdleLine;

@@ -3,10 +3,10 @@
 ghost use Rattle.std.specs.Prelude.{◌≡◌, IfOk};
 
 use crate::asked::cut;
+use crate::chance::Chance;
 use crate::deeds::{Note, deed};
 use crate::tally::Tally;
 use crate::watch::Watch;
-use crate::chance::Chance;
 use case_text::{Trouble, Words};
 use imap_node::Node;
 use node_talk::write_dump;

@@ -1,9 +1,9 @@
 //! The clients of a random world.
 
+use crate::client::Client;
 use crate::commands::Sort;
 use crate::deeds::{Note, REPLICAS, SESSIONS};
 use crate::tally::Tally;
-use crate::client::Client;
 use imap_answers::Answer;
 use imap_node::{Node, Reply, Session, SessionNo, State};
 use session_view::{Silent, View};

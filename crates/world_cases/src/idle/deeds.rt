@@ -1,7 +1,7 @@
 //! What sessions do while another one idles.
 
-use crate::idle::scene::{give_text, selected};
 use crate::chance::Chance;
+use crate::idle::scene::{give_text, selected};
 use case_text::Trouble;
 use imap_node::{Node, SessionNo};
 use std::alloc::{AllocError, Global};

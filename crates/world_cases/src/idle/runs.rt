@@ -1,10 +1,10 @@
 //! One run, and how it ends.
 
+use crate::chance::Chance;
+use crate::client::Client;
 use crate::idle::deeds::{append, deed};
 use crate::idle::scene::{Scene, command, done, give, give_text, poll, selected, session};
 use crate::idle::watch::Watch;
-use crate::chance::Chance;
-use crate::client::Client;
 use case_text::Trouble;
 use crdt_ops::SoundOp;
 use imap_node::{Answers, Node, SessionNo};
