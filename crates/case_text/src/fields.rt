@@ -1,7 +1,7 @@
 //! The fields of a line.
 
 use crate::Trouble;
-use crdt_ops::{Op, OpFault, SoundOp, check, read_op};
+use crdt_ops::{OpFault, SoundOp, checked, read_op};
 use imap_types::{Escape, Name, Octets, read_escaped};
 use std::alloc::Global;
 use tags_clocks::ReplicaId;
@@ -51,18 +51,8 @@ pub fn name(alloc: Global, text: &str) -> Result<Name, Trouble> {
 /// The sound operation that a text spells.
 pub fn operation(alloc: Global, text: &str) -> Result<SoundOp, Trouble> {
     match read_op(alloc, text.as_bytes()) {
-        Ok(op) => sound(op),
+        Ok(op) => checked(op).ok_or(Trouble::NotACase),
         Err(OpFault::NotTheForm) => Err(Trouble::NotACase),
         Err(OpFault::NoMemory) => Err(Trouble::NoMemory),
-    }
-}
-
-fn sound(op: Op) -> Result<SoundOp, Trouble> {
-    match check(op) {
-        Ok(sound) => Ok(sound),
-        Err((op, _)) => {
-            drop(op);
-            Err(Trouble::NotACase)
-        }
     }
 }

@@ -26,5 +26,5 @@ pub use message::Message;
 pub use names::place_name;
 pub use op::{Op, SoundOp};
 pub use read::{one_operation, read_op};
-pub use soundness::{Unsound, check};
+pub use soundness::{Unsound, check, checked};
 pub use write::{write_clock, write_flags, write_id, write_ids, write_op};

@@ -13,7 +13,7 @@ ghost use Rattle.uid_projection.specs.Exhaustion.{Exhausts};
 
 use crate::replica::Replica;
 use causal_inbox::IssueFault;
-use crdt_ops::{Kind, Op, SoundOp, check};
+use crdt_ops::{Kind, Op, SoundOp, checked};
 use imap_answers::Refusal;
 use std::alloc::{AllocError, Global};
 use std::marker::Model;
@@ -164,8 +164,8 @@ fn next_op(
             return Err(error);
         }
     };
-    match check(Op { id, clock, kind }) {
-        Ok(op) => Ok(op),
-        Err(_) => unreachable!(),
+    match checked(Op { id, clock, kind }) {
+        Some(op) => Ok(op),
+        None => unreachable!(),
     }
 }

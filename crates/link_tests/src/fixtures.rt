@@ -1,6 +1,6 @@
 //! Replicas, sessions and commands for the tests.
 
-use crdt_ops::{Op, SoundOp, check, read_op};
+use crdt_ops::{SoundOp, checked, read_op};
 use imap_grammar::{Tagged, parse};
 use imap_node::{Auth, Node};
 use imap_types::Moment;
@@ -117,18 +117,8 @@ fn push_operations(alloc: Global, lines: &[&str], ops: &mut Vec<SoundOp>) -> boo
 /// The operation that a line spells, if it is sound.
 pub fn operation(alloc: Global, line: &str) -> Option<SoundOp> {
     match read_op(alloc, line.as_bytes()) {
-        Ok(op) => sound(op),
+        Ok(op) => checked(op),
         Err(_) => None,
-    }
-}
-
-fn sound(op: Op) -> Option<SoundOp> {
-    match check(op) {
-        Ok(sound) => Some(sound),
-        Err((op, _)) => {
-            drop(op);
-            None
-        }
     }
 }
 

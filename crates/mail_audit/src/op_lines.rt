@@ -5,7 +5,7 @@ ghost use Rattle.std.specs.declared.cmp.Ordering.TheVariants.{Less};
 ghost use Rattle.crdt_ops.specs.Order.{id_order};
 ghost use Rattle.mail_audit.specs.DumpLines.{IsLonger, StandsBehind};
 
-use crdt_ops::{Op, SoundOp, check};
+use crdt_ops::{Op, SoundOp, checked};
 use merge_laws::Caused;
 use std::alloc::{AllocError, Global};
 use tags_clocks::{Clock, OpId, ReplicaId};
@@ -40,15 +40,12 @@ impl OpLines {
             drop(op);
             return self.set_aside(&id);
         }
-        match check(op) {
-            Ok(op) => {
+        match checked(op) {
+            Some(op) => {
                 self.ops.push(op)?;
                 Ok(())
             }
-            Err((op, _)) => {
-                drop(op);
-                self.set_aside(&id)
-            }
+            None => self.set_aside(&id),
         }
     }
 

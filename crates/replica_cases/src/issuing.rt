@@ -7,7 +7,7 @@ ghost use Rattle.crdt_ops.specs.Ops.{clock_of, id_of};
 
 use crate::stage::Node;
 use case_text::{Trouble, Words, cut, name, replica};
-use crdt_ops::{Kind, Op, SoundOp, check};
+use crdt_ops::{Kind, Op, SoundOp, checked};
 use imap_types::Name;
 use std::alloc::{AllocError, Global};
 use tags_clocks::{OpId, ReplicaId};
@@ -36,13 +36,7 @@ fn next_create(alloc: Global, inbox: &Node, id: OpId, folder: Name) -> Result<So
 {
     let clock = inbox.clock().copy(alloc)?;
     let kind = Kind::Create { folder };
-    match check(Op { id, clock, kind }) {
-        Ok(op) => Ok(op),
-        Err((op, _)) => {
-            drop(op);
-            Err(Trouble::NotACase)
-        }
-    }
+    checked(Op { id, clock, kind }).ok_or(Trouble::NotACase)
 }
 
 /// Issues the operation, and tells it.

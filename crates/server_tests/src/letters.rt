@@ -1,6 +1,6 @@
 //! Letters between the replicas of a house.
 
-use crdt_ops::{SoundOp, check, read_op};
+use crdt_ops::{SoundOp, checked, read_op};
 use crossbeam_channel::{Receiver, unbounded};
 use mail_serving::{Access, House, Mail, Newcomers, Station, Stop};
 use merge_laws::Caused;
@@ -14,13 +14,7 @@ use tags_clocks::{Clock, OpId, ReplicaId};
 /// The operation that a line spells, if it is sound.
 fn operation(alloc: Global, line: &str) -> Option<SoundOp> {
     let op = read_op(alloc, line.as_bytes()).ok()?;
-    match check(op) {
-        Ok(sound) => Some(sound),
-        Err((op, _)) => {
-            drop(op);
-            None
-        }
-    }
+    checked(op)
 }
 
 /// The clock that covers the first replica's first operation.
