@@ -1,7 +1,7 @@
 //! Replicas, sessions and commands for the tests.
 
 use crdt_ops::{SoundOp, checked, read_op};
-use imap_grammar::{Tagged, parse};
+use imap_grammar::parse;
 use imap_node::{Auth, Node};
 use imap_types::Moment;
 use merge_laws::Caused;
@@ -15,11 +15,6 @@ use uid_projection::Start;
 /// The replica with this number, new, and with an empty journal.
 pub fn fresh_book(alloc: Global, number: u32) -> Option<Book> {
     book_from(alloc, number, 1)
-}
-
-/// Two new replicas, the first and the second.
-pub fn fresh_books(alloc: Global) -> Option<(Book, Book)> {
-    fresh_book(alloc, 1).zip(fresh_book(alloc, 2))
 }
 
 /// The replica with this number, new, and with this as the first UID of INBOX; `None` for 0.
@@ -56,26 +51,15 @@ pub fn say<L: Ledger, R: Wait>(
     pass: &mut Pass<L>,
     line: &[u8],
 ) -> bool {
-    match parse(alloc, line) {
-        Ok(tagged) => say_tagged(rt, alloc, shared, pass, tagged),
-        Err(_) => false,
-    }
-}
-
-fn say_tagged<L: Ledger, R: Wait>(
-    rt: &R,
-    alloc: Global,
-    shared: &Shared<L>,
-    pass: &mut Pass<L>,
-    tagged: Tagged,
-) -> bool {
     if pass.session().is_none() {
-        drop(tagged);
         return false;
     }
-    shared
-        .command(rt, alloc, pass, Moment::epoch(), tagged)
-        .is_ok()
+    match parse(alloc, line) {
+        Ok(tagged) => shared
+            .command(rt, alloc, pass, Moment::epoch(), tagged)
+            .is_ok(),
+        Err(_) => false,
+    }
 }
 
 /// Closes the pass's session.
@@ -143,4 +127,18 @@ fn push_copies(
         copies.push(op.copy(alloc)?)?;
     }
     Ok(())
+}
+
+/// The book of a replica that joins with the operations that lines spell, if it does.
+pub fn joined_book(alloc: Global, number: u32, lines: &[&str]) -> Option<Book> {
+    let ops = operations(alloc, lines)?;
+    let book = join(alloc, number, &ops);
+    drop(ops);
+    book
+}
+
+/// The book of a replica that joins with these operations, if it does.
+pub fn join(alloc: Global, number: u32, ops: &[SoundOp]) -> Option<Book> {
+    let id = ReplicaId::new(number)?;
+    Book::join(alloc, id, ops).ok()
 }

@@ -2,32 +2,24 @@
 #![tactic(auto)]
 
 #[cfg(test)]
-mod asking;
+mod caller;
+#[cfg(test)]
+mod deeds;
+#[cfg(test)]
+mod ending;
 #[cfg(test)]
 mod fixtures;
 #[cfg(test)]
-mod four;
-#[cfg(test)]
-mod gates;
-#[cfg(test)]
-mod idling;
-#[cfg(test)]
 mod joining;
-#[cfg(test)]
-mod link;
-#[cfg(test)]
-mod links;
 #[cfg(test)]
 mod losing;
 #[cfg(test)]
 mod mail;
 #[cfg(test)]
-mod playing;
-#[cfg(test)]
-mod replica;
+mod scene;
 #[cfg(test)]
 mod scripted;
 #[cfg(test)]
-mod station;
+mod threads;
 #[cfg(test)]
 mod told;

@@ -1,12 +1,19 @@
-//! Letters between replicas, over channels.
+//! Letters between two replicas, over channels, and what threads tell one another.
 
+use crate::deeds::{Deed, Sign, Step};
+use crate::fixtures::{copies, operations};
+use crate::told::{all_lines, tell_message};
 use crdt_ops::SoundOp;
 use crossbeam_channel::{Receiver, Sender, unbounded};
 use replica_links::{Gate, Letter, LinkMsg, Post};
 use std::alloc::{AllocError, Global};
 use std::sync::Wait;
-use std::sync::atomic::AtomicU64;
+use std::sync::atomic::{AtomicU64, Ordering};
+use std::thread;
 use tags_clocks::Clock;
+
+/// For so many turns other threads are let go on.
+const WHILE: u32 = 100_000;
 
 /// A gate that is open.
 #[derive(Drop)]
@@ -16,14 +23,22 @@ impl Gate for Open {
     fn pass(&mut self, _n: u64) {}
 }
 
-/// Channels to two replicas, and what their clients tell one another.
+/// Channels to two replicas, and what their callers tell.
 pub struct Lines {
     /// The way to each, by place.
-    pub links: Vec<Sender<Letter>>,
-    /// Where the letters of the first and of the second come.
-    pub inboxes: (Receiver<Letter>, Receiver<Letter>),
-    /// How many clients are through with their commands.
-    pub done: AtomicU64,
+    links: Vec<Sender<Letter>>,
+    /// Where the letters of the first come.
+    first: Receiver<Letter>,
+    /// Where the letters of the second come.
+    second: Receiver<Letter>,
+    /// Where callers tell what they saw.
+    said: Sender<String>,
+    /// What was told, line by line.
+    lines: Receiver<String>,
+    begun: AtomicU64,
+    over: AtomicU64,
+    /// Whether each message is told.
+    tells: bool,
 }
 
 // By hand, so that functions with several exits let it go as a whole.
@@ -31,56 +46,74 @@ impl Drop for Lines {
     fn drop(self) {
         let Self {
             links: _,
-            inboxes: _,
-            done: _,
+            first: _,
+            second: _,
+            said: _,
+            lines: _,
+            begun: _,
+            over: _,
+            tells: _,
         } = self;
     }
 }
 
-/// Two new channels.
-pub fn two_lines(alloc: Global) -> Result<Lines, AllocError> {
-    let mut links = Vec::new(alloc);
-    let first = one_line(alloc, &mut links)?;
-    let second = one_line(alloc, &mut links)?;
-    Ok(Lines {
-        links,
-        inboxes: (first, second),
-        done: AtomicU64::new(0),
-    })
+impl Lines {
+    /// New channels, and whether each message is told.
+    pub fn new(alloc: Global, tells: bool) -> Result<Lines, AllocError> {
+        let mut links = Vec::new(alloc);
+        let (to, first) = unbounded(alloc)?;
+        links.push(to)?;
+        let (to, second) = unbounded(alloc)?;
+        links.push(to)?;
+        let (said, lines) = unbounded(alloc)?;
+        Ok(Lines {
+            links,
+            first,
+            second,
+            said,
+            lines,
+            begun: AtomicU64::new(0),
+            over: AtomicU64::new(0),
+            tells,
+        })
+    }
+
+    /// What was told so far, line by line.
+    pub fn told<R: Wait>(&self, rt: &R, alloc: Global) -> Result<String, AllocError> {
+        all_lines(rt, alloc, &self.lines)
+    }
 }
 
-/// A new channel, whose way is put behind these.
-fn one_line(
-    alloc: Global,
-    links: &mut Vec<Sender<Letter>>,
-) -> Result<Receiver<Letter>, AllocError> {
-    let (to, from) = unbounded(alloc)?;
-    links.push(to)?;
-    Ok(from)
-}
-
-/// The way from the replica at one place to those at all places.
+/// The way from the replica at one place of two to both, and to the other callers.
 #[derive(Drop)]
 pub struct Mail<'a, R: Wait> {
     /// The handle that waits.
     pub rt: &'a R,
+    /// The allocator.
+    pub alloc: Global,
     /// The place of the sender.
     pub own: usize,
-    /// The ways, by place.
-    pub links: &'a [Sender<Letter>],
-    /// Where the sender's own letters come.
-    pub letters: &'a Receiver<Letter>,
+    /// The channels.
+    pub lines: &'a Lines,
+    /// What each caller of this replica does in a thread of its own.
+    pub threads: &'static [&'static [Deed]],
 }
 
 impl<'a, R: Wait> Mail<'a, R> {
-    /// The way from the replica at this place of two.
-    pub fn new(rt: &'a R, own: usize, lines: &'a Lines) -> Mail<'a, R> {
-        let (first, second) = &lines.inboxes;
+    /// The ways from the replica at this place, whose callers do this.
+    pub fn new(
+        rt: &'a R,
+        alloc: Global,
+        own: usize,
+        lines: &'a Lines,
+        threads: &'static [&'static [Deed]],
+    ) -> Mail<'a, R> {
         Mail {
             rt,
+            alloc,
             own,
-            links: &lines.links,
-            letters: if own == 0 { first } else { second },
+            lines,
+            threads,
         }
     }
 
@@ -88,19 +121,51 @@ impl<'a, R: Wait> Mail<'a, R> {
     pub fn again(&self) -> Mail<'a, R> {
         Mail {
             rt: self.rt,
+            alloc: self.alloc,
             own: self.own,
-            links: self.links,
-            letters: self.letters,
+            lines: self.lines,
+            threads: self.threads,
         }
     }
 
-    /// Sends a message to the replica at a place; whether there is one that takes it.
-    pub fn send(&self, to: usize, message: LinkMsg) -> bool {
+    /// The place of the other replica.
+    pub fn peer(&self) -> usize {
+        if self.own == 0 { 1 } else { 0 }
+    }
+
+    /// Where the sender's own letters come.
+    pub fn letters(&self) -> &'a Receiver<Letter> {
+        if self.own == 0 {
+            &self.lines.first
+        } else {
+            &self.lines.second
+        }
+    }
+
+    /// Tells a number, on a line that says what it is.
+    pub fn tell_number(&self, what: &str, number: u64) -> Result<bool, AllocError> {
+        let line = format!(in self.alloc; "{what} {number}\n")?;
+        Ok(self.lines.said.send(self.rt, line).is_ok())
+    }
+
+    /// Sends a message to the replica at a place, and tells it where each is told; whether there is one that takes it.
+    pub fn send(&self, to: usize, message: LinkMsg) -> Result<bool, AllocError> {
+        let told = if self.lines.tells {
+            tell_message(self.alloc, self.own, to, &message)
+        } else {
+            Ok(String::new(self.alloc))
+        };
         let letter = Letter {
             from: self.own,
             message,
         };
-        match self.links.get(to) {
+        let sent = self.put(to, letter);
+        Ok(self.lines.said.send(self.rt, told?).is_ok() && sent)
+    }
+
+    /// Puts a letter on the way to the replica at a place.
+    fn put(&self, to: usize, letter: Letter) -> bool {
+        match self.lines.links.get(to) {
             Some(link) => link.send(self.rt, letter).is_ok(),
             None => {
                 drop(letter);
@@ -108,6 +173,112 @@ impl<'a, R: Wait> Mail<'a, R> {
             }
         }
     }
+
+    /// Does what is no call of a replica.
+    pub fn signal(&self, deed: Deed) -> Result<bool, AllocError> {
+        match deed {
+            Deed::Forges(line) => match operations(self.alloc, &[line]) {
+                Some(ops) => self.send(self.peer(), LinkMsg::Ops(ops)),
+                None => Ok(false),
+            },
+            Deed::Stops(place) => self.send(place, LinkMsg::Stop),
+            Deed::Raises(sign) => {
+                self.sign(sign).fetch_add(1, Ordering::SeqCst);
+                Ok(true)
+            }
+            Deed::Awaits(sign, count) => {
+                self.await_sign(sign, count);
+                Ok(true)
+            }
+            Deed::Looks(sign) => {
+                self.tell_number("sign", self.sign(sign).load(Ordering::SeqCst))
+            }
+            Deed::GivesWay => {
+                for _ in 0..WHILE {
+                    thread::yield_now();
+                }
+                Ok(true)
+            }
+            _ => Ok(false),
+        }
+    }
+
+    /// What a sign counts.
+    pub fn sign(&self, sign: Sign) -> &'a AtomicU64 {
+        match sign {
+            Sign::Begun => &self.lines.begun,
+            Sign::Over => &self.lines.over,
+        }
+    }
+
+    /// Waits until a sign counts so many.
+    fn await_sign(&self, sign: Sign, count: u64) {
+        for _ in self.rt.forever() {
+            if self.sign(sign).load(Ordering::SeqCst) == count {
+                return;
+            }
+            thread::yield_now();
+        }
+    }
+
+    /// Takes steps of the link to this replica, one after another, and sends what comes into a channel; what no step takes stays. False where there is no
+    /// such message.
+    pub fn sift(&self, steps: &[Step], to: &Sender<Letter>) -> Result<bool, AllocError> {
+        let mut letters = Vec::new(self.alloc);
+        for _ in 0..self.letters().len() {
+            if let Ok(letter) = self.letters().try_recv(self.rt) {
+                let _ = letters.push(letter);
+            }
+        }
+        let taken = self.take_steps(steps, &mut letters, to);
+        for letter in letters {
+            let _ = self.put(self.own, letter);
+        }
+        taken
+    }
+
+    fn take_steps(
+        &self,
+        steps: &[Step],
+        letters: &mut Vec<Letter>,
+        to: &Sender<Letter>,
+    ) -> Result<bool, AllocError> {
+        for step in steps {
+            let place = step.place();
+            if place >= letters.len() {
+                return Ok(false);
+            }
+            let letter = letters.remove(place);
+            match step {
+                Step::Pass(_) => {
+                    let _ = to.send(self.rt, letter);
+                }
+                Step::Lose(_) => drop(letter),
+                Step::Twice(_) => self.send_twice(letter, to)?,
+            }
+        }
+        Ok(true)
+    }
+
+    /// Sends a message and a copy of it into a channel.
+    fn send_twice(&self, letter: Letter, to: &Sender<Letter>) -> Result<(), AllocError> {
+        let copied = copy_of(self.alloc, &letter);
+        let _ = to.send(self.rt, letter);
+        let _ = to.send(self.rt, copied?);
+        Ok(())
+    }
+}
+
+fn copy_of(alloc: Global, letter: &Letter) -> Result<Letter, AllocError> {
+    let message = match &letter.message {
+        LinkMsg::Ops(ops) => LinkMsg::Ops(copies(alloc, ops)?),
+        LinkMsg::Have(clock) => LinkMsg::Have(clock.copy(alloc)?),
+        LinkMsg::Stop => LinkMsg::Stop,
+    };
+    Ok(Letter {
+        from: letter.from,
+        message,
+    })
 }
 
 impl<'a, R: Wait> Post for Mail<'a, R> {

@@ -2,24 +2,27 @@
 
 use causal_inbox::{Arrival, DeliverFault, Delivered};
 use crdt_ops::SoundOp;
+use crossbeam_channel::Receiver;
 use merge_laws::Caused;
 use replica_links::LinkMsg;
 use replica_lock::{Book, BookEvent, Entry, Outcome};
-use std::alloc::AllocError;
+use std::alloc::{AllocError, Global};
+use std::sync::Wait;
 use tags_clocks::{Clock, OpId};
 
-/// Tells who sends a message to whom, by the names of the replicas at these places, and what it says.
+/// Who sends a message to whom, by the names of the replicas at these places, and what it says.
 pub fn tell_message(
-    text: &mut String,
+    alloc: Global,
     from: usize,
     to: usize,
     message: &LinkMsg,
-) -> Result<(), AllocError> {
+) -> Result<String, AllocError> {
     let from = from.saturating_add(1);
     let to = to.saturating_add(1);
-    write!(text, "{from} to {to}:")?;
-    tell_said(text, message)?;
-    text.push_str("\n")
+    let mut text = format!(in alloc; "{from} to {to}:")?;
+    tell_said(&mut text, message)?;
+    text.push_str("\n")?;
+    Ok(text)
 }
 
 fn tell_said(text: &mut String, message: &LinkMsg) -> Result<(), AllocError> {
@@ -62,6 +65,35 @@ pub fn tell_clock(text: &mut String, clock: &Clock) -> Result<(), AllocError> {
         write!(text, "{replica}={number}")?;
     }
     Ok(())
+}
+
+/// Whether a clock is told so.
+pub fn is_clock(alloc: Global, clock: &Clock, wanted: &str) -> bool {
+    let mut text = String::new(alloc);
+    tell_clock(&mut text, clock).is_ok() && text.as_str() == wanted
+}
+
+/// A line that tells a clock behind other words.
+pub fn with_clock(text: Result<String, AllocError>, clock: &Clock) -> Result<String, AllocError> {
+    let mut text = text?;
+    tell_clock(&mut text, clock)?;
+    text.push_str("\n")?;
+    Ok(text)
+}
+
+/// All lines that wait in a channel.
+pub fn all_lines<R: Wait>(
+    rt: &R,
+    alloc: Global,
+    lines: &Receiver<String>,
+) -> Result<String, AllocError> {
+    let mut text = String::new(alloc);
+    for _ in 0..lines.len() {
+        if let Ok(line) = lines.try_recv(rt) {
+            text.push_str(line.as_str())?;
+        }
+    }
+    Ok(text)
 }
 
 /// Tells what became of all deliveries and drains in a journal, a line each.

@@ -1,0 +1,193 @@
+//! What is left of two replicas at the end of a scene, as text.
+
+use crate::caller::Seen;
+use crate::deeds::Ending;
+use crate::told::tell_answers;
+use crdt_ops::SoundOp;
+use merge_laws::Caused;
+use replica_lock::{Book, BookEvent, Entry, FinishFault, Outcome};
+use std::alloc::{AllocError, Global};
+
+/// What is left of a replica: its book, or why it isn't handed out, and what its callers saw.
+pub struct Ended {
+    book: Result<Book, FinishFault>,
+    seen: Vec<Seen>,
+}
+
+// By hand, so that what holds it lets it go as a whole.
+impl Drop for Ended {
+    fn drop(self) {
+        let Self { book: _, seen: _ } = self;
+    }
+}
+
+impl Ended {
+    /// What is left of a replica.
+    pub fn new(book: Result<Book, FinishFault>, seen: Vec<Seen>) -> Ended {
+        Ended { book, seen }
+    }
+
+    /// The book, where it was handed out.
+    pub fn into_book(self) -> Option<Book> {
+        let Self { book, seen: _ } = self;
+        book.ok()
+    }
+
+    /// Tells how many entries the journal has, or why it isn't handed out.
+    fn tell_entries(&self, text: &mut String) -> Result<(), AllocError> {
+        match &self.book {
+            Ok(book) => {
+                let entries = book.len();
+                write!(text, "{entries} entries\n")
+            }
+            Err(FinishFault::Missing { calls, entries }) => {
+                write!(text, "{calls} calls of {entries}\n")
+            }
+            Err(FinishFault::Strange { place }) => write!(text, "strange at {place}\n"),
+        }
+    }
+}
+
+/// What was told so far, and behind it what is to be told at the end.
+pub fn tell_ending(
+    alloc: Global,
+    told: Result<String, AllocError>,
+    ending: Ending,
+    one: Ended,
+    other: Ended,
+) -> Result<String, AllocError> {
+    let ended = tell_both(alloc, ending, &one, &other);
+    drop(one);
+    drop(other);
+    let mut text = told?;
+    text.push_str(ended?.as_str())?;
+    Ok(text)
+}
+
+fn tell_both(
+    alloc: Global,
+    ending: Ending,
+    one: &Ended,
+    other: &Ended,
+) -> Result<String, AllocError> {
+    let mut text = String::new(alloc);
+    let books = match ending {
+        Ending::Entries => None,
+        _ => one.book.as_ref().ok().zip(other.book.as_ref().ok()),
+    };
+    match books {
+        Some((book, far_book)) => {
+            tell_books(alloc, &mut text, ending, (book, far_book), &one.seen)?;
+        }
+        None => {
+            one.tell_entries(&mut text)?;
+            other.tell_entries(&mut text)?;
+        }
+    }
+    Ok(text)
+}
+
+fn tell_books(
+    alloc: Global,
+    text: &mut String,
+    ending: Ending,
+    books: (&Book, &Book),
+    seen: &[Seen],
+) -> Result<(), AllocError> {
+    let (one, other) = books;
+    let agreed = if one.node().clock().same(other.node().clock()) {
+        "agreed\n"
+    } else {
+        "apart\n"
+    };
+    match ending {
+        Ending::Answers => {
+            text.push_str("at 1\n")?;
+            tell_answers(text, one)?;
+            text.push_str("at 2\n")?;
+            tell_answers(text, other)?;
+            text.push_str(agreed)
+        }
+        Ending::FirstAnswers => {
+            text.push_str(agreed)?;
+            tell_answers(text, other)
+        }
+        Ending::Common => {
+            let (applied, common) = common(one, other);
+            write!(text, "{applied} applied, {common} by both\n")
+        }
+        _ => tell_history(alloc, text, one, seen),
+    }
+}
+
+/// Whether an operation stands in a list.
+fn has(ops: &[SoundOp], op: &SoundOp) -> bool {
+    ops.iter().any(|other| other.same(op))
+}
+
+/// How many operations one applied, and how many of these the other did.
+fn common(one: &Book, other: &Book) -> (usize, usize) {
+    let ops = one.node().op_list();
+    let others = other.node().op_list();
+    (ops.len(), ops.iter().filter(|op| has(others, op)).count())
+}
+
+/// Tells how many entries a journal has, how many outcomes stand where they were seen, and how many entries are commands of those who saw them there.
+fn tell_history(
+    alloc: Global,
+    text: &mut String,
+    book: &Book,
+    seen: &[Seen],
+) -> Result<(), AllocError> {
+    let mut standing = 0usize;
+    let mut own = 0usize;
+    for seen in seen {
+        let places = &seen.places;
+        let stood = places.iter().filter(|s| stands(book, s.0, &s.1)).count();
+        standing = standing.saturating_add(stood);
+        own = own.saturating_add(own_commands(alloc, book, seen)?);
+    }
+    let entries = book.len();
+    write!(
+        text,
+        "{entries} entries, {standing} as seen, {own} own commands\n"
+    )
+}
+
+/// Whether the entry there has this outcome.
+fn stands(book: &Book, place: u64, outcome: &Outcome) -> bool {
+    match book.entry(place) {
+        Some(entry) => entry.outcome.same(outcome),
+        None => false,
+    }
+}
+
+/// How many entries that a caller saw behind its first are its own commands, each in its place and above the one before it.
+fn own_commands(alloc: Global, book: &Book, seen: &Seen) -> Result<usize, AllocError> {
+    let client = seen.number;
+    let mut own = 0usize;
+    let mut last = 0u64;
+    for number in 0..100u8 {
+        if let Some((place, _)) = seen.places.get(usize::from(number).saturating_add(1)) {
+            let tag = format!(in alloc; "c{client}n{number}")?;
+            if *place > last && has_tag(book, *place, &tag) {
+                own = own.saturating_add(1);
+            }
+            last = *place;
+        }
+    }
+    Ok(own)
+}
+
+/// Whether the entry there is the command with this tag.
+fn has_tag(book: &Book, place: u64, tag: &str) -> bool {
+    match book.entry(place) {
+        Some(
+            Entry {
+                event: BookEvent::Command { tagged, .. },
+                outcome: _,
+            },
+        ) => tagged.tag.as_bytes() == tag.as_bytes(),
+        _ => false,
+    }
+}

@@ -1,0 +1,176 @@
+//! Scenes at two replicas, and what is told of them.
+
+ghost use Rattle.std.specs.Prelude.{◌≡◌};
+
+use crate::caller::{Caller, Station, cut_callers};
+use crate::deeds::Scene;
+use crate::ending::{Ended, tell_ending};
+use crate::fixtures::{book_from, fresh_book, joined_book, operations};
+use crate::mail::{Lines, Mail};
+use replica_lock::{Book, Pass, Shared};
+use std::alloc::{AllocError, Global};
+use std::marker::Brand;
+use std::rt::Clock;
+use std::sync::Wait;
+use std::sync::ledger::{Blank, Ledger};
+use std::thread;
+use std::thread::Threads;
+
+/// Callers of a replica, each of them in a thread.
+pub type Callers<L> = Result<Vec<Caller<L>>, AllocError>;
+
+/// What callers of one replica do, each in a thread.
+fn run_all<L: Ledger + Send + Sync, R: Threads + Wait + Clock + Sync>(
+    station: &Station<'_, L, R>,
+    first: &mut Pass<L>,
+) -> Callers<L> {
+    let callers = cut_callers(station, first);
+    thread::map_vec(
+        station.mail.rt,
+        callers,
+        &|caller: Caller<L>| { caller.run(station) },
+    )
+}
+
+/// What callers of both replicas do, each in a thread.
+fn run_both<L: Ledger + Send + Sync, M: Ledger + Send + Sync, R: Threads + Wait + Clock + Sync>(
+    one: &Station<'_, L, R>,
+    other: &Station<'_, M, R>,
+    first: &mut Pass<L>,
+    far_first: &mut Pass<M>,
+) -> (Callers<L>, Callers<M>) {
+    thread::join(
+        one.mail.rt,
+        || run_all(one, first),
+        || run_all(other, far_first),
+    )
+}
+
+/// Does what happens first, and then what is done in threads.
+fn perform<'a, L: Ledger + Send + Sync, M: Ledger + Send + Sync, R: Threads + Wait + Clock + Sync>(
+    rt: &'a R,
+    alloc: Global,
+    scene: &Scene,
+    lines: &'a Lines,
+    replicas: (&'a Shared<L>, &'a Shared<M>),
+    firsts: (&mut Caller<L>, &mut Caller<M>),
+) -> (Callers<L>, Callers<M>) {
+    let (shared, far_shared) = replicas;
+    let (first, far_first) = firsts;
+    let one = Station {
+        shared,
+        mail: Mail::new(rt, alloc, 0, lines, scene.first),
+    };
+    let other = Station {
+        shared: far_shared,
+        mail: Mail::new(rt, alloc, 1, lines, scene.second),
+    };
+    for (place, deed) in scene.deeds {
+        if *place == 0 {
+            first.act(&one, *deed);
+        } else {
+            far_first.act(&other, *deed);
+        }
+    }
+    run_both(&one, &other, &mut first.pass, &mut far_first.pass)
+}
+
+/// Hands a book out for all passes, with what the callers saw.
+pub fn finished<L: Ledger>(
+    alloc: Global,
+    shared: Shared<L>,
+    first: Caller<L>,
+    callers: Callers<L>,
+) -> Ended
+    requires { L.parts ≡ 4294967295 }
+{
+    let mut passes = Vec::new(alloc);
+    let mut seen = Vec::new(alloc);
+    if let Ok(callers) = callers {
+        for caller in callers {
+            let _ = seen.push(caller.into_seen(&mut passes));
+        }
+    }
+    drop(first.into_seen(&mut passes));
+    Ended::new(shared.finish(passes), seen)
+}
+
+/// What is told of a scene at these replicas.
+fn played<L: Ledger + Send + Sync, M: Ledger + Send + Sync, R: Threads + Wait + Clock + Sync>(
+    rt: &R,
+    alloc: Global,
+    blank: Blank,
+    far_blank: Blank,
+    books: (Book, Book),
+    scene: &Scene,
+    lines: &Lines,
+) -> Result<String, AllocError>
+    requires one { (blank.name ≡ L.name) × (blank.parts ≡ L.parts) × (L.parts ≡ 4294967295) }
+    requires two { (far_blank.name ≡ M.name) × (far_blank.parts ≡ M.parts) × (M.parts ≡ 4294967295) }
+{
+    let (shared, pass) = Shared::<L>::new(blank, books.0);
+    let (far_shared, far_pass) = Shared::<M>::new(far_blank, books.1);
+    let mut first = Caller::new(alloc, pass, None, 0);
+    let mut far_first = Caller::new(alloc, far_pass, None, 0);
+    let replicas = (&shared, &far_shared);
+    let firsts = (&mut first, &mut far_first);
+    let (callers, far_callers) = perform(rt, alloc, scene, lines, replicas, firsts);
+    let one = finished(alloc, shared, first, callers);
+    let other = finished(alloc, far_shared, far_first, far_callers);
+    tell_ending(alloc, lines.told(rt, alloc), scene.ending, one, other)
+}
+
+/// What is told of a scene at these two replicas.
+pub fn told_of<R: Threads + Wait + Clock + Sync>(
+    rt: &R,
+    alloc: Global,
+    books: (Book, Book),
+    scene: &Scene,
+) -> Result<String, AllocError> {
+    let whole = 4_294_967_295;
+    let tells = scene.first.is_empty() && scene.second.is_empty();
+    match Lines::new(alloc, tells) {
+        Ok(lines) => played::<Brand, Brand, R>(
+            rt,
+            alloc,
+            Blank::new(whole),
+            Blank::new(whole),
+            books,
+            scene,
+            &lines,
+        ),
+        Err(fault) => {
+            drop(books);
+            Err(fault)
+        }
+    }
+}
+
+/// The replicas of a scene, new ones but where the second joined.
+fn books(alloc: Global, uid: u32) -> Option<(Book, Book)> {
+    let second = if uid == 0 {
+        joined_book(alloc, 2, &["1:1 - create a", "1:2 1=1 create b"])
+    } else {
+        book_from(alloc, 2, uid)
+    };
+    fresh_book(alloc, 1).zip(second)
+}
+
+/// The first scene of which something else is told than is wanted, with what is told; nothing where there is none.
+pub fn wrong_scene<R: Threads + Wait + Clock + Sync>(
+    rt: &R,
+    alloc: Global,
+    scenes: &[Scene],
+) -> Result<String, AllocError> {
+    for scene in scenes {
+        let name = scene.name;
+        let Some(books) = books(alloc, scene.uid) else {
+            return format!(in alloc; "{name}: no replicas\n");
+        };
+        let told = told_of(rt, alloc, books, scene)?;
+        if !scene.is_wanted(&told) {
+            return format!(in alloc; "{name}:\n{told}");
+        }
+    }
+    Ok(String::new(alloc))
+}
