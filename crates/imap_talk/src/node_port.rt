@@ -2,7 +2,8 @@
 
 ghost use Rattle.std.specs.Prelude.{◌≡◌, IfNone, IfSome, None, Some};
 ghost use Rattle.imap_node.specs.Sessions.{IsOpen};
-ghost use Rattle.imap_talk.specs.NodePorts.{IsAway, login_by};
+ghost use Rattle.imap_talk.specs.Asked.{Command};
+ghost use Rattle.imap_talk.specs.NodePorts.{IsAway, NodeSteps, login_by};
 
 use crate::ends::Port;
 use crate::fault::PortFault;
@@ -61,6 +62,17 @@ impl<O: Others> NodePort<O> {
         }
         Some(session)
     }
+
+    /// Gives the session, where it is open, a command behind what others do at the node.
+    fn give_command(&mut self, alloc: Global, tagged: Tagged) -> Result<Reply, PortFault>
+        ensures { NodeSteps O.comes self.old (Command tagged) result self.new }
+    {
+        let Some(session) = self.open_session() else {
+            return Err(PortFault::PassedOver);
+        };
+        let moment = self.others.come(alloc, session, &mut self.node);
+        Ok(self.node.command(alloc, session, moment, tagged))
+    }
 }
 
 fn login_by(auth: &Auth) -> Login
@@ -97,11 +109,7 @@ impl<O: Others> Port for NodePort<O> {
     }
 
     fn command(&mut self, alloc: Global, tagged: Tagged) -> Result<Reply, PortFault> {
-        let Some(session) = self.open_session() else {
-            return Err(PortFault::PassedOver);
-        };
-        let moment = self.others.come(alloc, session, &mut self.node);
-        Ok(self.node.command(alloc, session, moment, tagged))
+        self.give_command(alloc, tagged)
     }
 
     fn done(&mut self, alloc: Global, line: IdleLine) -> Result<Reply, PortFault> {
