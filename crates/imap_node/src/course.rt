@@ -122,9 +122,9 @@ fn command_course(
     ensures { IfOk result (λ course. CommandTakes replica.now.start replica.now.applied (replica.now.applied ++ ops.now) session.now tagged.now (course_from session.now.state course)) }
 {
     let modseq = is_on(session, &tagged.command);
+    let first = notice(alloc, replica, ops, session, &tagged.command)?;
     let told = tells(alloc, replica, ops, &session.state, modseq, tagged, found)?;
     let moved = moves_to(alloc, replica, ops, &tagged.command)?;
-    let first = notice(alloc, replica, ops, session, &tagged.command)?;
     told_course(alloc, first, told, moved, modseq, tagged)
 }
 
@@ -139,17 +139,44 @@ fn told_course(
 ) -> Result<Course, AllocError>
     ensures { IfOk result (λ course. (state : Stands) → course_from state course ≡ told_course first.items told (moved_from state moved) modseq tagged.now.tag tagged.now.command) }
 {
-    let Tagged { tag, command } = tagged;
     let (own, silent, code) = told.into_parts();
-    let tail = tail_of(alloc, tag, code, command)?;
-    Ok(Course {
-        silent,
-        own: joined(first, own)?,
-        sync: sync_of(command),
-        modseq,
-        moved,
-        tail,
-    })
+    match sent(alloc, first, own, code, tagged) {
+        Ok((own, tail)) => Ok(Course {
+            silent,
+            own,
+            sync: sync_of(&tagged.command),
+            modseq,
+            moved,
+            tail,
+        }),
+        Err(error) => {
+            drop(silent);
+            drop(moved);
+            Err(error)
+        }
+    }
+}
+
+/// A command's own answers behind the first ones, and its tagged line.
+fn sent(
+    alloc: Global,
+    first: Vec<Answer>,
+    own: Vec<Answer>,
+    code: Option<Code>,
+    tagged: &Tagged,
+) -> Result<(Vec<Answer>, Vec<Answer>), AllocError>
+    ensures own { IfOk result (λ s. s.0.items ≡ first.items ++ own.items) }
+    ensures tail { IfOk result (λ s. s.1.items ≡ tail_of tagged.now.tag tagged.now.command code) }
+{
+    let own = match joined(first, own) {
+        Ok(own) => own,
+        Err(error) => {
+            drop(code);
+            return Err(error);
+        }
+    };
+    let tail = tail_of(alloc, &tagged.tag, code, &tagged.command)?;
+    Ok((own, tail))
 }
 
 /// The tagged line of a command, which IDLE gets at its end.

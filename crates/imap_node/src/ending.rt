@@ -11,10 +11,12 @@ ghost use Rattle.imap_node.specs.Mailboxes.{rows_for, validity_of};
 ghost use Rattle.imap_node.specs.Nodes.{IsReady};
 ghost use Rattle.imap_node.specs.Replays.{view_of};
 ghost use Rattle.session_view.specs.Changes.{all_flags_told, shifts};
-ghost use Rattle.session_view.specs.Replay.{replayed};
+ghost use Rattle.session_view.specs.Replay.{after_silent, replayed};
 ghost use Rattle.session_view.specs.Seen.{Seen};
+ghost use Rattle.session_view.specs.Sync.{sync_answers, synced};
 ghost use Rattle.session_view.specs.Views.{AreRising};
 ghost use Rattle.std.specs.List.{list_any};
+ghost use Rattle.view_sync.specs.Noted.{CanCommit, IsChangeTo, changed};
 
 use crate::going::Onward;
 use crate::news::News;
@@ -140,8 +142,12 @@ pub fn ending(
         State::Selected { view, read_only } => {
             let rows = rows_behind(alloc, replica, ops, &view)?;
             let is_first = is_first_sight(&view, front);
-            let (answers, view) = seen(alloc, &rows, view, front)?;
+            let Ok((answers, view)) = seen(alloc, &rows, view, front) else {
+                drop(rows);
+                return Err(AllocError);
+            };
             let shows_all = is_first && view.entries().len() == rows.count() as usize;
+            drop(rows);
             Ok(Anew {
                 answers,
                 state: State::Selected { view, read_only },
@@ -212,22 +218,19 @@ pub fn ending_in_place(
     let first = flags_first(alloc, front)?;
     let Some(kind) = front.sync else {
         if first.is_empty() {
+            drop(first);
             return Ok((Vec::new(alloc), Onward::Stays { change: None }));
         }
+        drop(first);
         return made_anew(alloc, replica, ops, state, front);
     };
     match state {
         State::Selected { view, .. } => {
-            let rows = rows_behind(alloc, replica, ops, view)?;
-            let noted = Noted {
-                feed: untold.feed,
-                notes: untold.news.notes_of(view.name()),
-            };
             let form = SyncForm {
                 kind,
                 modseq: front.modseq,
             };
-            let planned = plan(alloc, view, &rows, noted, first, form)?;
+            let planned = planned_behind(alloc, replica, ops, view, untold, first, form)?;
             let Planned { answers, change } = planned;
             Ok((
                 answers,
@@ -236,8 +239,46 @@ pub fn ending_in_place(
                 },
             ))
         }
-        _ => Ok((Vec::new(alloc), Onward::Stays { change: None })),
+        _ => {
+            drop(first);
+            Ok((Vec::new(alloc), Onward::Stays { change: None }))
+        }
     }
+}
+
+/// The sync of a view behind the flags that are set first, and what it changes in the view, which stays as it was.
+fn planned_behind(
+    alloc: Global,
+    replica: &Replica,
+    ops: &[SoundOp],
+    view: &mut View,
+    untold: &Untold<'_>,
+    first: Vec<Silent>,
+    form: SyncForm,
+) -> Result<Planned, AllocError>
+    requires ready { IsReady replica.now ops.now }
+    requires noted { IsNotedFor replica.now.start replica.now.applied untold.now.pending view.old }
+    requires news { IsNews replica.now.start replica.now.applied (replica.now.applied ++ ops.now) untold.now.news }
+    ensures same { view.new ≡ view.old }
+    ensures answers { IfOk result (λ plan. plan.answers.items ≡ sync_answers form.kind form.modseq (rows_for replica.now.start (replica.now.applied ++ ops.now) view.old) (after_silent view.old.entries first.items)) }
+    ensures changed { IfOk result (λ plan. changed view.old.entries plan.change ≡ synced form.kind (rows_for replica.now.start (replica.now.applied ++ ops.now) view.old) (after_silent view.old.entries first.items)) }
+    ensures change { IfOk result (λ plan. IsChangeTo (rows_for replica.now.start (replica.now.applied ++ ops.now) view.old) view.old.entries plan.change) }
+    ensures can { IfOk result (λ plan. CanCommit view.old.entries plan.change) }
+{
+    let rows = match rows_behind(alloc, replica, ops, view) {
+        Ok(rows) => rows,
+        Err(error) => {
+            drop(first);
+            return Err(error);
+        }
+    };
+    let noted = Noted {
+        feed: untold.feed,
+        notes: untold.news.notes_of(view.name()),
+    };
+    let planned = plan(alloc, view, &rows, noted, first, form);
+    drop(rows);
+    planned
 }
 
 /// The sync, and the state then, on a copy of the state.

@@ -189,9 +189,9 @@ fn notes_behind(
     if !is_same(before, now) {
         return ended(alloc);
     }
-    let new = uids_from(alloc, rows, uidnext)?;
     let mut notes = Vec::with_capacity(alloc, touched.len())?;
     push_touched(touched, rows, &mut notes)?;
+    let new = uids_from(alloc, rows, uidnext)?;
     push_new(&new, &mut notes)?;
     Ok(notes)
 }
@@ -307,8 +307,10 @@ pub fn delivered_news(alloc: Global, replica: &Replica, ahead: Ahead) -> Result<
     let _list = replica.applied();
     let uidvalidity = replica.uidvalidity(ahead.name());
     let rows = replica.rows(alloc, ahead.name())?;
+    let folder = ahead.notes(alloc, uidvalidity, &rows)?;
+    drop(rows);
     let mut folders = Vec::with_capacity(alloc, 1)?;
-    folders.push(ahead.notes(alloc, uidvalidity, &rows)?)?;
+    folders.push_reserved(folder);
     Ok(News { folders })
 }
 

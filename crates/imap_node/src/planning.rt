@@ -215,16 +215,33 @@ fn finished(
     ensures copies { IfOk result (λ p. p.copies ≡ ops.items) }
     ensures news { IfOk result (λ p. IsNews replica.now.start replica.now.applied (replica.now.applied ++ ops.items) p.news) }
 {
-    let news = news_of(alloc, replica, &ops)?;
+    let ops = ReadyOps::new(ops);
+    let copies = shared_copies(alloc, ops.as_slice())?;
+    let news = news_of(alloc, replica, ops.as_slice())?;
     let untold = Untold { feed, news: &news };
-    let answered = answers_to(alloc, replica, session, &untold, input, found, &ops)?;
-    let copies = copied_ops(alloc, &ops)?;
+    let answered = answers_to(
+        alloc,
+        replica,
+        session,
+        &untold,
+        input,
+        found,
+        ops.as_slice(),
+    )?;
     Ok(Prepared {
         answered,
-        ops: ReadyOps::new(ops),
-        copies: Issued::new(copies)?,
+        ops,
+        copies,
         news,
     })
+}
+
+/// Equal operations, in memory that copies share.
+fn shared_copies(alloc: Global, ops: &[SoundOp]) -> Result<Issued, AllocError>
+    ensures { IfOk result (λ copies. copies ≡ ops.now) }
+{
+    let copies = copied_ops(alloc, ops)?;
+    Issued::new(copies)
 }
 
 /// What an input is answered behind its operations, by what it found before them, and what becomes of the session.
@@ -245,17 +262,17 @@ fn answers_to(
     ensures answered { IfOk result (λ a. IsAnswered replica.now.start replica.now.applied (replica.now.applied ++ ops.now) session.old input.now a) }
     ensures can { IfOk result (λ a. CanGo replica.now.start (replica.now.applied ++ ops.now) session.old.state a.going.onward) }
 {
-    let course = course_of(alloc, replica, ops, session, input, found)?;
     let condstore = condstore_after(session, input);
     let idling = idling_after(alloc, session, input)?;
+    let course = course_of(alloc, replica, ops, session, input, found)?;
     let Told {
         answers,
         silent,
         onward,
     } = followed(alloc, replica, ops, &mut session.state, untold, course)?;
     Ok(Answered {
-        answers: Answers::new(answers)?,
-        silent: Silents::new(silent)?,
+        answers,
+        silent,
         going: Going {
             onward,
             condstore,
@@ -266,8 +283,8 @@ fn answers_to(
 
 /// What an input is answered, the flags that it sets in silence, and what becomes of the state.
 struct Told {
-    answers: Vec<Answer>,
-    silent: Vec<Silent>,
+    answers: Answers,
+    silent: Silents,
     onward: Onward,
 }
 
@@ -284,8 +301,8 @@ fn followed(
     requires noted { (view : Seen) → view_of state.old ≡ Some view → IsNotedFor replica.now.start replica.now.applied untold.now.pending view }
     requires news { IsNews replica.now.start replica.now.applied (replica.now.applied ++ ops.now) untold.now.news }
     ensures same { state.new ≡ state.old }
-    ensures answers { IfOk result (λ t. t.answers.items ≡ answers_of_course replica.now.start (replica.now.applied ++ ops.now) (course_from state.old course)) }
-    ensures silent { IfOk result (λ t. t.silent.items ≡ course.silent) }
+    ensures answers { IfOk result (λ t. t.answers ≡ answers_of_course replica.now.start (replica.now.applied ++ ops.now) (course_from state.old course)) }
+    ensures silent { IfOk result (λ t. t.silent ≡ course.silent) }
     ensures onward { IfOk result (λ t. state_onward state.old t.onward ≡ (ending_of replica.now.start (replica.now.applied ++ ops.now) (course_from state.old course)).state) }
     ensures can { IfOk result (λ t. CanGo replica.now.start (replica.now.applied ++ ops.now) state.old t.onward) }
 {
@@ -305,11 +322,45 @@ fn followed(
     };
     let applied = Applied { replica, ops };
     let (answers, onward) = ended(alloc, &applied, state, untold, moved, &front)?;
-    Ok(Told {
-        answers: joined(own, joined(answers, tail)?)?,
-        silent,
-        onward,
-    })
+    match shared(own, answers, tail, silent) {
+        Ok((answers, silent)) => Ok(Told {
+            answers,
+            silent,
+            onward,
+        }),
+        Err(error) => {
+            drop(onward);
+            Err(error)
+        }
+    }
+}
+
+/// All that is sent, in order, and the flags set in silence, each in memory that copies share.
+fn shared(
+    own: Vec<Answer>,
+    synced: Vec<Answer>,
+    tail: Vec<Answer>,
+    silent: Vec<Silent>,
+) -> Result<(Answers, Silents), AllocError>
+    ensures answers { IfOk result (λ s. s.0 ≡ own.items ++ (synced.items ++ tail.items)) }
+    ensures silent { IfOk result (λ s. s.1 ≡ silent.items) }
+{
+    let answers = match all_sent(own, synced, tail) {
+        Ok(answers) => answers,
+        Err(error) => {
+            drop(silent);
+            return Err(error);
+        }
+    };
+    let silent = Silents::new(silent)?;
+    Ok((answers, silent))
+}
+
+/// All that is sent, in order.
+fn all_sent(own: Vec<Answer>, synced: Vec<Answer>, tail: Vec<Answer>) -> Result<Answers, AllocError>
+    ensures { IfOk result (λ sent. sent ≡ own.items ++ (synced.items ++ tail.items)) }
+{
+    Answers::new(joined(own, joined(synced, tail)?)?)
 }
 
 /// A replica, and the operations of an input behind those that it applied.

@@ -1,23 +1,15 @@
-use Rattle.std.proofs.Common.{◌≡◌, ◌++◌, false, Option, None, Some, sym, ap, subst, ◌∙◌, length, arith}
+use Rattle.std.proofs.Common.{◌≡◌, ◌++◌, None, Some, refl, sym, ap, subst, ◌∙◌, length, arith}
 use Rattle.std.proofs.lemmas.Bool.Decides.{nat_tests}
-use Rattle.std.specs.List.{list_any}
-use Rattle.imap_commands.specs.declared.session.State.{State}
 use Rattle.imap_node.specs.Endings.{FrontOf, ending_behind}
-use Rattle.imap_node.specs.Feeds.{IsNews, IsNotedFor, UntoldOf}
 use Rattle.imap_node.specs.Going.{state_with}
+use Rattle.imap_node.specs.Mailboxes.{rows_for}
 use Rattle.imap_node.specs.Replays.{view_of}
-use Rattle.session_view.specs.Changes.{all_flags_told, shifts}
-use Rattle.imap_node.proofs.GoingLemmas.{asked_in_place, can_in_place, none_there, shown_as_before, shown_in_place, told_in_place}
+use Rattle.session_view.specs.Changes.{all_flags_told}
+use Rattle.imap_node.proofs.GoingLemmas.{can_in_place, none_there, shown_as_before, shown_in_place, told_in_place}
 use Rattle.imap_node.proofs.ending.ending_in_place.Goals as goal
 
-pub plan-requires : goal.plan-requires
-plan-requires c =
-    let start = c.args.replica.now.start in
-    let before = c.args.replica.now.applied in
-    asked_in_place start before (before ++ c.args.ops.now) c.in-Selected.view c.untold.inside.feed.now.pending c.untold.inside.news.now c.in_ok-rows-in-Selected.rows c.notes_of.result.now c.name.result.now
-    (subst (λ (u : UntoldOf). IsNotedFor start before u.pending c.in-Selected.view) (sym c.untold.view_is) (c.requires.noted c.in-Selected.view (ap view_of c.in-Selected.is)))
-    (subst (λ (u : UntoldOf). IsNews start before (before ++ c.args.ops.now) u.news) (sym c.untold.view_is) c.requires.news)
-    (c.in_ok-rows-in-Selected.ensures {u = tt}) c.name.ensures c.notes_of.ensures
+pub planned_behind-requires-clause-noted : goal.planned_behind-requires-clause-noted
+planned_behind-requires-clause-noted c = c.requires.noted c.in-Selected.view (ap view_of c.in-Selected.is)
 
 pub returns-in_ok-planned-in-Selected-clause-answers : goal.returns-in_ok-planned-in-Selected-clause-answers
 returns-in_ok-planned-in-Selected-clause-answers c =
@@ -26,8 +18,8 @@ returns-in_ok-planned-in-Selected-clause-answers c =
     let inside = c.front.inside in
     let front : FrontOf = record { silent = inside.silent.now; own = inside.own.now; sync = inside.sync; modseq = inside.modseq } in
     subst (λ (f : FrontOf). c.in_ok-planned-in-Selected.planned.answers.items ≡ (ending_behind start after c.args.state.now f).answers) c.front.view_is
-    (told_in_place start after c.args.state.now c.in-Selected.view c.in-Selected.read_only front c.in-Some.kind c.in_ok-rows-in-Selected.rows c.in_ok-first.first.items
-    c.in-Selected.is c.in-Some.is (sym c.do_shift.ensures ∙ c.if-do_shift.false) (c.in_ok-rows-in-Selected.ensures {u = tt})
+    (told_in_place start after c.args.state.now c.in-Selected.view c.in-Selected.read_only front c.in-Some.kind (rows_for start after c.in-Selected.view) c.in_ok-first.first.items
+    c.in-Selected.is c.in-Some.is (sym c.do_shift.ensures ∙ c.if-do_shift.false) refl
     (c.in_ok-first.ensures {u = tt} ∙ ap (λ (f : FrontOf). f.silent ++ all_flags_told f.own) (sym c.front.view_is))
     c.in_ok-planned-in-Selected.planned.answers.items (c.in_ok-planned-in-Selected.ensures {u = tt}).answers)
 
@@ -38,17 +30,19 @@ returns-in_ok-planned-in-Selected-clause-state c =
     let inside = c.front.inside in
     let front : FrontOf = record { silent = inside.silent.now; own = inside.own.now; sync = inside.sync; modseq = inside.modseq } in
     subst (λ (f : FrontOf). state_with c.args.state.now (Some c.in_ok-planned-in-Selected.planned.change) ≡ (ending_behind start after c.args.state.now f).state) c.front.view_is
-    (shown_in_place start after c.args.state.now c.in-Selected.view c.in-Selected.read_only front c.in-Some.kind c.in_ok-rows-in-Selected.rows c.in_ok-first.first.items
-    c.in-Selected.is c.in-Some.is (sym c.do_shift.ensures ∙ c.if-do_shift.false) (c.in_ok-rows-in-Selected.ensures {u = tt})
+    (shown_in_place start after c.args.state.now c.in-Selected.view c.in-Selected.read_only front c.in-Some.kind (rows_for start after c.in-Selected.view) c.in_ok-first.first.items
+    c.in-Selected.is c.in-Some.is (sym c.do_shift.ensures ∙ c.if-do_shift.false) refl
     (c.in_ok-first.ensures {u = tt} ∙ ap (λ (f : FrontOf). f.silent ++ all_flags_told f.own) (sym c.front.view_is))
     c.in_ok-planned-in-Selected.planned.change (c.in_ok-planned-in-Selected.ensures {u = tt}).changed)
 
 pub returns-in_ok-planned-in-Selected-clause-can : goal.returns-in_ok-planned-in-Selected-clause-can
 returns-in_ok-planned-in-Selected-clause-can c =
+    let start = c.args.replica.now.start in
+    let after = c.args.replica.now.applied ++ c.args.ops.now in
     let inside = c.front.inside in
     let front : FrontOf = record { silent = inside.silent.now; own = inside.own.now; sync = inside.sync; modseq = inside.modseq } in
-    can_in_place c.args.replica.now.start (c.args.replica.now.applied ++ c.args.ops.now) c.args.state.now c.in-Selected.view c.in-Selected.read_only front c.in-Some.kind c.in_ok-rows-in-Selected.rows c.in_ok-first.first.items
-    c.in-Selected.is c.in-Some.is (sym c.do_shift.ensures ∙ c.if-do_shift.false) (c.in_ok-rows-in-Selected.ensures {u = tt})
+    can_in_place start after c.args.state.now c.in-Selected.view c.in-Selected.read_only front c.in-Some.kind (rows_for start after c.in-Selected.view) c.in_ok-first.first.items
+    c.in-Selected.is c.in-Some.is (sym c.do_shift.ensures ∙ c.if-do_shift.false) refl
     (c.in_ok-first.ensures {u = tt} ∙ ap (λ (f : FrontOf). f.silent ++ all_flags_told f.own) (sym c.front.view_is))
     c.in_ok-planned-in-Selected.planned.change (c.in_ok-planned-in-Selected.ensures {u = tt}).can (c.in_ok-planned-in-Selected.ensures {u = tt}).change
 

@@ -14,8 +14,8 @@ returns c = λ before op is e.
     let start = c.args.replica.now.start in
     let after = before ++ op ∷ [] in
     let name = name_of op.kind in
-    let folder = c.in_ok-notes.field-0 in
-    let done = c.in_ok-notes.ensures {u = tt} in
+    let folder = c.in_ok-folder.folder in
+    let done = c.in_ok-folder.ensures {u = tt} in
     let applied : IsApplied after = subst IsApplied e (record { sound = c.applied-list.ensures.sound; causal = c.applied-list.ensures.lawful.causal }) in
     let named = subst (λ (n : List ℕ). NamesIn start before after n folder.notes) is.name_is
     (done.notes start before (op ∷ []) applied (subst (λ (n : List ℕ). IsAheadOf start before (op ∷ []) n c.args.ahead) (sym is.name_is) is)
@@ -23,5 +23,5 @@ returns c = λ before op is e.
     let far = news_more start before (op ∷ []) name [] folder (done.name ∙ is.name_is) named in
     let all = all_news start before (op ∷ []) (folder ∷ []) applied (far.named (λ f i. absurd i))
     (λ o i. elim i [ inl q ↦ subst (λ (x : Op). is_named (folder ∷ []) (name_of x.kind) ≡ true) q far.own | inr n ↦ absurd n ]) in
-    let pushed = (c.in_ok-push.ensures {u = tt}).items ∙ ap (λ (folders : List FolderNoted). folders ++ folder ∷ []) (c.in_ok-folders.ensures {u = tt}).items in
+    let pushed = c.push_reserved.ensures.items ∙ ap (λ (folders : List FolderNoted). folders ++ folder ∷ []) (c.in_ok-folders.ensures {u = tt}).items in
     subst (λ (folders : List FolderNoted). IsNews start before c.args.replica.now.applied folders) (sym pushed) (subst (λ (ops : List Op). IsNews start before ops (folder ∷ [])) (sym e) all)

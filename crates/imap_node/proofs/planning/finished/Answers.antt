@@ -7,14 +7,12 @@ pub answers_to-requires-clause-news : goal.answers_to-requires-clause-news
 answers_to-requires-clause-news c =
     let start = c.args.replica.now.start in
     let before = c.args.replica.now.applied in
-    let lent = c.deref.ensures.value in
-    subst (λ (ops : List Op). IsNews start before (before ++ ops) c.in_ok-news.news) (lent ∙ sym c.deref-2.ensures.value)
+    subst (λ (ops : List Op). IsNews start before (before ++ ops) c.in_ok-news.news) (c.as_slice-2.ensures ∙ sym c.as_slice-3.ensures)
     (c.in_ok-news.ensures {u = tt})
 
 pub returns-clause-news : goal.returns-clause-news
 returns-clause-news c =
     let start = c.args.replica.now.start in
     let before = c.args.replica.now.applied in
-    let lent = c.deref.ensures.value in
-    subst (λ (ops : List Op). IsNews start before (before ++ ops) c.in_ok-news.news) lent
+    subst (λ (ops : List Op). IsNews start before (before ++ ops) c.in_ok-news.news) (c.as_slice-2.ensures ∙ c.new-ops.ensures)
     (c.in_ok-news.ensures {u = tt})
