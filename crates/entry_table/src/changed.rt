@@ -7,8 +7,8 @@ ghost use Rattle.entry_table.specs.Changes.{AreAmong, AreAscending, changed_sinc
 ghost use Rattle.entry_table.specs.Entries.{AreRising};
 
 use crate::entry::Entry;
+use crate::patched_list::PatchedList;
 use crate::search::first_from;
-use patched_list::PatchedList;
 use std::alloc::{AllocError, Global};
 
 /// The entries whose mod-sequences are above this one, by a pass over all.

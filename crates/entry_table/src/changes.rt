@@ -22,11 +22,20 @@ pub struct Change {
 }
 
 /// Which entry got which mod-sequence, in that order. What an entry got before its last one stays until the list is made anew.
-#[derive(Drop)]
 pub struct Changes {
     list: Vec<Change>,
     /// Whether none was left out, for want of room or of order.
     is_whole: bool,
+}
+
+// By hand, so that crates above let it go as a whole.
+impl Drop for Changes {
+    fn drop(self) {
+        let Self {
+            list: _,
+            is_whole: _,
+        } = self;
+    }
 }
 
 impl Model for Changes {

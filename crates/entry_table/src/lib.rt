@@ -8,6 +8,8 @@ mod entry;
 mod index;
 mod list;
 mod overlay;
+mod patched_list;
+mod pieces;
 mod search;
 mod table;
 

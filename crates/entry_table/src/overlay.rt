@@ -9,22 +9,34 @@ use crate::changed::{changed_among, changed_by_scan};
 use crate::changes::Changes;
 use crate::entry::Entry;
 use crate::list::EntryList;
+use crate::patched_list::PatchedList;
 use crate::{index, search};
 use chunk_list::ChunkList;
 use indexmap::IndexMap;
-use patched_list::PatchedList;
 use std::alloc::{AllocError, Global};
 use std::marker::Model;
 use tags_clocks::OpId;
 
 /// A mailbox's entries with edits over them; what keeps them stays as it is.
-#[derive(Drop)]
 pub struct EntryOverlay<'a> {
     list: PatchedList<'a, Entry>,
     kept: &'a IndexMap<OpId, u32>,
     own: IndexMap<OpId, u32>,
     kept_changes: &'a Changes,
     own_changes: Changes,
+}
+
+// By hand, so that crates above let it go as a whole.
+impl<'a> Drop for EntryOverlay<'a> {
+    fn drop(self) {
+        let Self {
+            list: _,
+            kept: _,
+            own: _,
+            kept_changes: _,
+            own_changes: _,
+        } = self;
+    }
 }
 
 impl<'a> Model for EntryOverlay<'a> {

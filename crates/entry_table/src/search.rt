@@ -6,8 +6,8 @@ ghost use Rattle.entry_table.specs.declared.entry.Entry.{Entry as Kept};
 ghost use Rattle.entry_table.specs.Entries.{AreRising, IsAt, IsEdge, LacksAt};
 
 use crate::entry::Entry;
+use crate::patched_list::PatchedList;
 use chunk_list::ChunkList;
-use patched_list::PatchedList;
 use tags_clocks::OpId;
 
 /// A list of entries that are read by their places.

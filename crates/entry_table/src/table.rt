@@ -14,11 +14,21 @@ use std::marker::Model;
 use tags_clocks::OpId;
 
 /// A mailbox's entries by ascending UID, with their UIDs by origin, and by mod-sequence.
-#[derive(Drop)]
 pub struct EntryTable {
     list: ChunkList<Entry>,
     uids: IndexMap<OpId, u32>,
     changes: Changes,
+}
+
+// By hand, so that crates above let it go as a whole.
+impl Drop for EntryTable {
+    fn drop(self) {
+        let Self {
+            list: _,
+            uids: _,
+            changes: _,
+        } = self;
+    }
 }
 
 impl Model for EntryTable {

@@ -16,11 +16,21 @@ use std::marker::Model;
 use tags_clocks::OpId;
 
 /// One folder's tags: its folder tags, the versions of its messages by origin, and the origin of each version by its id.
-#[derive(Drop)]
 pub struct Folder {
     pub(crate) tags: IndexSet<OpId>,
     pub(crate) messages: IndexMap<OpId, Vec<Version>>,
     pub(crate) origins: IndexMap<OpId, OpId>,
+}
+
+// By hand, so that crates above let it go as a whole.
+impl Drop for Folder {
+    fn drop(self) {
+        let Self {
+            tags: _,
+            messages: _,
+            origins: _,
+        } = self;
+    }
 }
 
 impl Model for Folder {

@@ -16,10 +16,19 @@ use std::marker::Model;
 use tags_clocks::OpId;
 
 /// For each folder the number of tags, and for each origin the number of versions that operations add.
-#[derive(Drop)]
 pub struct Wanted {
     tags: IndexMap<Vec<u8>, usize>,
     versions: IndexMap<OpId, usize>,
+}
+
+// By hand, so that crates above let it go as a whole.
+impl Drop for Wanted {
+    fn drop(self) {
+        let Self {
+            tags: _,
+            versions: _,
+        } = self;
+    }
 }
 
 impl Model for Wanted {

@@ -20,6 +20,7 @@ mod printable;
 mod replica;
 mod reply;
 mod sessions;
+mod shared_list;
 mod tables;
 mod telling;
 mod wanting;

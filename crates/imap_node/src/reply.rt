@@ -3,11 +3,11 @@
 ghost use Rattle.std.specs.Prelude.{◌≡◌, IfOk, IsOk, false};
 ghost use Rattle.imap_node.specs.Replies.{is_done};
 
+use crate::shared_list::SharedList;
 use crdt_ops::SoundOp;
 use imap_answers::{Answer, Refusal};
 use merge_laws::Caused;
 use session_view::Silent;
-use shared_list::SharedList;
 use std::alloc::{AllocError, Global};
 use std::marker::Model;
 

@@ -1,8 +1,27 @@
-//! Loads an IMAP server with commands, and prints how many it answers and how long they take.
+//! Measures an IMAP server: what it makes of commands, one after another, over connections of its own (RFC 9051, RFC 3501), and prints how many
+//! it answers and how long they take.
 #![tactic(auto)]
+
+mod answers;
+mod board;
+mod client;
+mod commands;
+mod fault;
+mod idling;
+mod laws;
+mod measuring;
+mod preparing;
+mod program;
+mod replies;
+mod report;
+mod settings;
+mod telling;
+mod times;
+mod working;
+mod workload;
 
 use std::process::ExitCode;
 
 fn main(rt: HostRuntime) -> ExitCode {
-    ExitCode::from(bench_runs::run(&rt))
+    ExitCode::from(program::run(&rt))
 }

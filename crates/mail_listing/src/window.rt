@@ -18,11 +18,21 @@ use tags_clocks::OpId;
 
 /// A mailbox's entries as operations to come leave them, with its messages as they are kept and those that these operations make or
 /// change. (An entry without a message shows an empty one; those who make windows know that there is none.)
-#[derive(Drop)]
 pub struct Window<'a> {
     entries: EntryOverlay<'a>,
     mailbox: Mailbox<'a>,
     fresh: IndexMap<OpId, HeldMessage<'a>>,
+}
+
+// By hand, so that crates above let it go as a whole.
+impl<'a> Drop for Window<'a> {
+    fn drop(self) {
+        let Self {
+            entries: _,
+            mailbox: _,
+            fresh: _,
+        } = self;
+    }
 }
 
 impl<'a> Model for Window<'a> {

@@ -2,6 +2,9 @@
 //! of the crate's file `stdin` says which kinds there are, docs/formats.md what their cases are.
 #![tactic(auto)]
 
+mod mail_rows;
+mod node_costs;
+
 use std::alloc::{AllocError, Global};
 use std::io::{self, Write};
 

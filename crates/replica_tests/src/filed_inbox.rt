@@ -3,10 +3,10 @@
 use crate::fixtures::Trouble;
 use crate::generated::{LISTS, generated};
 use crate::plain_inbox::PlainInbox;
+use crate::reluctant::Hesitant;
 use causal_inbox::Inbox;
 use crdt_ops::SoundOp;
 use merge_laws::{Caused, Replicated};
-use reluctant_parts::Hesitant;
 use std::alloc::{AllocError, Global};
 use std::test::Fail;
 use tags_clocks::Clock;

@@ -28,6 +28,10 @@ mod plain_mailboxes;
 #[cfg(test)]
 mod refusals;
 #[cfg(test)]
+mod refusing;
+#[cfg(test)]
+mod reluctant;
+#[cfg(test)]
 mod retries;
 #[cfg(test)]
 mod shown;

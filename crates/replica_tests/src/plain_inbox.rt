@@ -3,10 +3,10 @@
 ghost use Rattle.std.specs.Prelude.{◌<◌, ◌≤◌, length, IfSome};
 
 use crate::fixtures::Trouble;
+use crate::refusing::is_refused;
 use causal_inbox::{Arrival, DeliverFault, Delivered, Drained, find_in};
 use crdt_ops::SoundOp;
 use merge_laws::Caused;
-use reluctant_parts::is_refused;
 use std::alloc::Global;
 use tags_clocks::{Clock, OpId};
 

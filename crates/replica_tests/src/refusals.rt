@@ -4,12 +4,12 @@ ghost use Rattle.std.specs.Prelude.{◌≡◌, ◌+◌, ◌<◌, ◌≤◌, leng
 ghost use Rattle.replica_tests.specs.Counting.{first_fits};
 
 use crate::fixtures::{Trouble, operations, play_all};
+use crate::reluctant::Reluctant;
 use crate::telling::told_folders;
 use causal_inbox::{Inbox, IssueFault};
 use crdt_ops::SoundOp;
 use folder_state::Folders;
 use merge_laws::{Follower, NotReady, Replicated, Unfollowed};
-use reluctant_parts::Reluctant;
 use std::alloc::{AllocError, Global};
 use std::test::Fail;
 

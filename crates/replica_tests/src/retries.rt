@@ -1,12 +1,12 @@
 //! What is refused once is taken the second time, and all ends as with memory.
 
 use crate::fixtures::{Mailboxes, Trouble, empty, operation, play};
+use crate::reluctant::{Hesitant, Reluctant};
 use crate::telling::{lines_of, lines_of_held, told_of};
 use causal_inbox::{DeliverFault, Delivered, HeldOps, Inbox};
 use crdt_ops::SoundOp;
 use folder_state::Folders;
 use merge_laws::{Pair, Unfollowed};
-use reluctant_parts::{Hesitant, Reluctant};
 use std::alloc::{AllocError, Global};
 use std::test::Fail;
 use subs_state::Subs;

@@ -19,9 +19,15 @@ use std::alloc::{AllocError, Global};
 use tags_clocks::OpId;
 
 /// The present subscription tags of a name: their ids.
-#[derive(Drop)]
 pub struct NameTags {
     pub ids: IndexSet<OpId>,
+}
+
+// By hand, so that what owns one lets it go as a whole.
+impl Drop for NameTags {
+    fn drop(self) {
+        let Self { ids: _ } = self;
+    }
 }
 
 /// Takes out the subscription tags that the operation removes. Names stay, with their room.

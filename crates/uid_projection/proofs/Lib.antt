@@ -1,3 +1,9 @@
+pub mod IdLemmas
+pub mod ListLemmas
+pub mod FoundLemmas
+pub mod PlaceLemmas
+pub mod StepLemmas
+pub mod MailboxLemmas
 pub mod HistoryLemmas
 pub mod Steps
 pub mod Presence

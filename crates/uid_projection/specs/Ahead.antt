@@ -4,8 +4,8 @@ use Rattle.entry_table.specs.declared.entry.Entry.{Entry}
 use Rattle.crdt_ops.specs.declared.op.Op.{Op}
 use Rattle.crdt_ops.specs.Tags.{removed_ids}
 use Rattle.folder_state.specs.Contents.{Contents, IsMadeBy, effect_of, origin_in}
-use Rattle.folder_ahead.specs.Ahead.{IsAhead, folder_of}
-use Rattle.folder_ahead.specs.declared.folder.FolderAhead.{FolderAhead}
+use Rattle.uid_projection.specs.FolderAhead.{IsAhead, folder_of}
+use Rattle.uid_projection.specs.declared.folder.FolderAhead.{FolderAhead}
 use Rattle.uid_projection.specs.declared.start.Start.{Start}
 use Rattle.uid_projection.specs.Applied.{IsApplied}
 use Rattle.uid_projection.specs.Lines.{concerns_by}

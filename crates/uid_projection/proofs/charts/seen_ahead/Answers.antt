@@ -1,7 +1,7 @@
 use Rattle.std.proofs.Common.{◌∙◌, Option}
 use Rattle.tags_clocks.specs.declared.id.OpId.{OpId}
 use Rattle.mail_listing.specs.Telling.{Told, told_at}
-use Rattle.folder_ahead.specs.Ahead.{folder_of}
+use Rattle.uid_projection.specs.FolderAhead.{folder_of}
 use Rattle.uid_projection.proofs.RowLemmas.{rows_seen}
 use Rattle.uid_projection.proofs.charts.seen_ahead.Goals as goal
 

@@ -2,7 +2,7 @@ use Rattle.std.specs.List.{list_any}
 use Rattle.std.proofs.Common.{◌∙◌, ◌++◌, ◌∷◌, [], sym}
 use Rattle.crdt_ops.specs.Order.{same_id}
 use Rattle.folder_state.specs.Contents.{effect_of, origin_in}
-use Rattle.folder_ahead.specs.Ahead.{folder_of}
+use Rattle.uid_projection.specs.FolderAhead.{folder_of}
 use Rattle.uid_projection.proofs.Overlaid.{ahead_none, ahead_some, made_after, on_both, versions_in_list}
 use Rattle.uid_projection.proofs.later.advance.Goals as goal
 

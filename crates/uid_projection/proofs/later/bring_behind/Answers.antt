@@ -4,7 +4,7 @@ use Rattle.crdt_ops.specs.declared.op.Op.{Op}
 use Rattle.crdt_ops.specs.Order.{same_id}
 use Rattle.crdt_ops.specs.Tags.{removed_ids}
 use Rattle.folder_state.specs.Contents.{effect_of, origin_in}
-use Rattle.folder_ahead.specs.Ahead.{IsAhead, folder_of}
+use Rattle.uid_projection.specs.FolderAhead.{IsAhead, folder_of}
 use Rattle.uid_projection.specs.Ahead.{AdvancesAhead, IsNextAhead}
 use Rattle.uid_projection.specs.Chart.{IsChart}
 use Rattle.uid_projection.specs.Incarnations.{is_there}

@@ -2,7 +2,7 @@ use Rattle.std.proofs.Common.{◌∙◌, ◌+◌, ◌++◌, ◌∷◌, [], refl,
 use Rattle.std.proofs.lemmas.List.{take_all}
 use Rattle.folder_state.specs.Contents.{effect_of}
 use Rattle.folder_state.specs.Later.{after}
-use Rattle.folder_ahead.specs.Ahead.{IsAhead}
+use Rattle.uid_projection.specs.FolderAhead.{IsAhead}
 use Rattle.uid_projection.specs.Ahead.{IsNextAhead}
 use Rattle.uid_projection.specs.Applied.{IsApplied}
 use Rattle.uid_projection.specs.Chart.{IsChart}

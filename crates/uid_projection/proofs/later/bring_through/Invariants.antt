@@ -2,7 +2,7 @@ use Rattle.std.proofs.Common.{◌≡◌, ◌++◌, List, take}
 use Rattle.crdt_ops.specs.declared.op.Op.{Op}
 use Rattle.folder_state.specs.Contents.{Contents}
 use Rattle.folder_state.specs.Later.{after}
-use Rattle.folder_ahead.specs.Ahead.{IsAhead, folder_of}
+use Rattle.uid_projection.specs.FolderAhead.{IsAhead, folder_of}
 use Rattle.uid_projection.specs.Ahead.{IsNextAhead}
 use Rattle.uid_projection.specs.Chart.{IsChart}
 use Rattle.uid_projection.proofs.later.bring_through.Given as goal

@@ -1,4 +1,4 @@
-use Rattle.folder_ahead.specs.Ahead.{folder_of}
+use Rattle.uid_projection.specs.FolderAhead.{folder_of}
 use Rattle.uid_projection.proofs.Overlaid.{has_told}
 use Rattle.uid_projection.proofs.later.has_version.Goals as goal
 

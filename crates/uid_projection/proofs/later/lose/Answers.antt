@@ -3,7 +3,7 @@ use Rattle.std.specs.List.{list_any}
 use Rattle.std.proofs.lemmas.List.{take_all}
 use Rattle.tags_clocks.specs.declared.id.OpId.{OpId}
 use Rattle.crdt_ops.specs.Order.{same_id}
-use Rattle.folder_ahead.specs.Ahead.{folder_of}
+use Rattle.uid_projection.specs.FolderAhead.{folder_of}
 use Rattle.uid_projection.specs.Lines.{has_version}
 use Rattle.uid_projection.specs.Moves.{AreApart, moved}
 use Rattle.uid_projection.proofs.Advancing.{any_more, apart_moved, moved_alike, moved_by_one, moved_still, moved_twice}

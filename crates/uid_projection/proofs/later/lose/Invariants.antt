@@ -3,7 +3,7 @@ use Rattle.std.specs.List.{list_any}
 use Rattle.crdt_ops.specs.declared.op.Op.{Op}
 use Rattle.crdt_ops.specs.Order.{same_id}
 use Rattle.folder_state.specs.Contents.{Contents, IsMadeBy}
-use Rattle.folder_ahead.specs.Ahead.{IsAhead, folder_of}
+use Rattle.uid_projection.specs.FolderAhead.{IsAhead, folder_of}
 use Rattle.uid_projection.specs.Lines.{has_version}
 use Rattle.uid_projection.specs.Moves.{AreApart, moved}
 use Rattle.uid_projection.proofs.later.lose.Given as goal

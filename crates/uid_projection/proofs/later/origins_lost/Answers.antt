@@ -4,7 +4,7 @@ use Rattle.std.proofs.lemmas.List.{take_all}
 use Rattle.tags_clocks.specs.declared.id.OpId.{OpId}
 use Rattle.crdt_ops.specs.Order.{is_some_id, same_id}
 use Rattle.folder_state.specs.Contents.{origin_in}
-use Rattle.folder_ahead.specs.Ahead.{folder_of}
+use Rattle.uid_projection.specs.FolderAhead.{folder_of}
 use Rattle.uid_projection.specs.Moves.{loses}
 use Rattle.uid_projection.proofs.Advancing.{any_more}
 use Rattle.uid_projection.proofs.later.origins_lost.Goals as goal

@@ -3,7 +3,7 @@ use Rattle.std.specs.List.{list_any}
 use Rattle.tags_clocks.specs.declared.id.OpId.{OpId}
 use Rattle.crdt_ops.specs.Order.{same_id}
 use Rattle.folder_state.specs.Contents.{Contents, origin_in}
-use Rattle.folder_ahead.specs.Ahead.{IsAhead, folder_of}
+use Rattle.uid_projection.specs.FolderAhead.{IsAhead, folder_of}
 use Rattle.uid_projection.specs.Moves.{loses}
 use Rattle.uid_projection.proofs.later.origins_lost.Given as goal
 

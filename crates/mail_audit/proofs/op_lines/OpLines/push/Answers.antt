@@ -5,8 +5,8 @@ use Rattle.mail_audit.specs.DumpLines.{StandsBehind}
 use Rattle.mail_audit.specs.Dumps.{AreOrdered}
 use Rattle.mail_audit.proofs.op_lines.OpLines.push.Goals as goal
 
-pub returns-in_ok-push-in-Ok : goal.returns-in_ok-push-in-Ok
-returns-in_ok-push-in-Ok c =
+pub returns-in_ok-push-in-Some : goal.returns-in_ok-push-in-Some
+returns-in_ok-push-in-Some c =
     let old = c.args.self.now.ops.items in
     let items : c.push.new.self.items ≡ old ++ c.args.op ∷ [] = search rules in
     let above : StandsBehind c.deref.result.now c.args.op.id = c.is_above.ensures.0 (search rules) in

@@ -1,7 +1,7 @@
 use Rattle.std.proofs.Common.{◌≡◌, ◌∙◌, ◌++◌, ap, sym, subst}
 use Rattle.folder_state.specs.Later.{after}
 use Rattle.folder_state.specs.Tables.{contents_of}
-use Rattle.folder_ahead.specs.Ahead.{folder_of}
+use Rattle.uid_projection.specs.FolderAhead.{folder_of}
 use Rattle.uid_projection.specs.Ahead.{IsNextAhead}
 use Rattle.uid_projection.specs.Chart.{IsChart}
 use Rattle.uid_projection.specs.Listing.{listing}

@@ -1,7 +1,0 @@
-use Rattle.std.proofs.Common.{◌≡◌, ◌++◌, take}
-use Rattle.std.specs.List.{flat_map}
-use Rattle.bench_runs.specs.Commands.{escaped}
-use Rattle.bench_runs.proofs.commands.push_escaped.Given as goal
-
-abbrev pub invariant-loop-octet : goal.invariant-loop-octet
-invariant-loop-octet l = l.out.items ≡ l.initial.out.items ++ flat_map escaped (take l.octet-index l.octets)

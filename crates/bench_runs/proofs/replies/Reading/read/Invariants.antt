@@ -1,6 +1,0 @@
-use Rattle.std.proofs.Common.{◌≡◌, drop}
-use Rattle.bench_runs.specs.Replies.{heard}
-use Rattle.bench_runs.proofs.replies.Reading.read.Given as goal
-
-abbrev pub invariant-loop-at : goal.invariant-loop-at
-invariant-loop-at l = heard l.initial.self.stage l.initial.self.line.items l.octets ≡ heard l.self.stage l.self.line.items (drop l.at l.octets)

@@ -1,6 +1,0 @@
-pub mod IdLemmas
-pub mod ListLemmas
-pub mod FoundLemmas
-pub mod PlaceLemmas
-pub mod StepLemmas
-pub mod MailboxLemmas

@@ -1,0 +1,148 @@
+use Rattle.std.proofs.Common.{◌≡◌, ◌≤◌, ◌<◌, ◌+◌, ◌-◌, ◌*◌, ◌==◌, ◌∙◌, ℕ, suc, Bool, true, false, not, List, [], ◌∷◌, ◌++◌, append-nil, append_assoc, refl, rules, sym, ap, subst, arith, length, if◌then◌else◌}
+use Rattle.std.specs.Char.{is_ascii_digit}
+use Rattle.std.specs.Fmt.{decimal}
+use Rattle.std.specs.List.{list_all}
+use Rattle.std.specs.Str.{all_ascii_digits}
+use Rattle.std.proofs.lemmas.Bool.{and_parts, false≢true}
+use Rattle.std.proofs.lemmas.Bool.Decides.{nat_tests}
+use Rattle.std.proofs.lemmas.Fmt.{decimal_nonempty, digits_decimal, digits_value-decimal}
+use Rattle.std.proofs.lemmas.Str.Parse.{IsNumeralModel, numerals_by_fold}
+use Rattle.mail_bench.specs.Answers.{number_from}
+use Rattle.mail_bench.specs.Replies.{LiteralsArePassed, announced, at_literal, count_more, heard, in_line, is_ended, is_kept, longest_literal, next}
+use Rattle.mail_bench.specs.declared.replies.Stage.{Stage}
+use Rattle.mail_bench.specs.declared.replies.Stage.TheVariants.{Announced, Closed, Count, Ended, Line, Literal, Open}
+use Rattle.mail_bench.proofs.AnswerLemmas.{number_grows}
+
+-- ---- octets of a line
+
+either : (b : Bool) (s t : Stage) → is_kept s ≡ true → is_kept t ≡ true → is_kept (if b then s else t) ≡ true
+either true s t k l = k
+either false s t k l = l
+
+other : (b : Bool) (s t : Stage) → b ≡ false → is_kept t ≡ true → is_kept (if b then s else t) ≡ true
+other true s t e l = absurd (false≢true (sym e))
+other false s t e l = l
+
+is_not : (b : Bool) → not b ≡ true → b ≡ false
+is_not true e = absurd (false≢true e)
+is_not false e = refl
+
+goes_on : (octet : ℕ) → (octet == 10) ≡ false → is_kept (in_line octet) ≡ true
+goes_on octet e = either (octet == 123) Open (if octet == 10 then Ended else Line) refl (rw e refl)
+
+kept_on : (stage : Stage) (octet : ℕ) → is_kept stage ≡ true → (octet == 10) ≡ false → is_kept (next stage octet) ≡ true
+kept_on Line octet k e = goes_on octet e
+kept_on Open octet k e = either (is_ascii_digit octet) (Count (count_more 0 octet)) (in_line octet) refl (goes_on octet e)
+kept_on (Count n) octet k e =
+    either (is_ascii_digit octet) (Count (count_more n octet)) (if octet == 125 then Closed n else in_line octet) refl (either (octet == 125) (Closed n) (in_line octet) refl (goes_on octet e))
+kept_on (Closed n) octet k e = either (octet == 13) (Announced n) (in_line octet) refl (goes_on octet e)
+kept_on (Announced n) octet k e = other (octet == 10) (at_literal n) (in_line octet) e (goes_on octet e)
+kept_on (Literal n) octet k e = absurd (false≢true k)
+kept_on Ended octet k e = absurd (false≢true k)
+
+opens : (stage : Stage) → is_kept stage ≡ true → next stage 123 ≡ Open
+opens Line k = refl
+opens Open k = refl
+opens (Count n) k = refl
+opens (Closed n) k = refl
+opens (Announced n) k = refl
+opens (Literal n) k = absurd (false≢true k)
+opens Ended k = absurd (false≢true k)
+
+not_ended : (stage : Stage) → is_kept stage ≡ true → is_ended stage ≡ false
+not_ended Line k = refl
+not_ended Open k = refl
+not_ended (Count n) k = refl
+not_ended (Closed n) k = refl
+not_ended (Announced n) k = refl
+not_ended (Literal n) k = refl
+not_ended Ended k = absurd (false≢true k)
+
+one_heard : (stage : Stage) (line : List ℕ) (octet : ℕ) (rest : List ℕ) → is_kept stage ≡ true → heard stage line (octet ∷ rest) ≡ heard (next stage octet) (line ++ octet ∷ []) rest
+one_heard stage line octet rest k = rw (not_ended stage k) (rw k refl)
+
+line_heard : (text : List ℕ) (stage : Stage) (line rest : List ℕ) → is_kept stage ≡ true → list_all (λ octet. not (octet == 10)) text ≡ true
+    → (new : Stage) × (is_kept new ≡ true) × (heard stage line (text ++ rest) ≡ heard new (line ++ text) rest)
+line_heard [] stage line rest k all = (stage, k, ap (λ (l : List ℕ). heard stage l rest) (sym (append-nil line)))
+line_heard (octet ∷ text) stage line rest k all =
+    let parts = and_parts (not (octet == 10)) (list_all (λ octet. not (octet == 10)) text) all in
+    let more = line_heard text (next stage octet) (line ++ octet ∷ []) rest (kept_on stage octet k (is_not (octet == 10) parts.0)) parts.1 in
+    (more.0, more.1, one_heard stage line octet (text ++ rest) k ∙ more.2 ∙ ap (λ (l : List ℕ). heard more.0 l rest) (append_assoc line (octet ∷ []) text))
+
+-- ---- the digits of an announcement
+
+own : IsNumeralModel (λ ds. all_ascii_digits ds ≡ true) (number_from 0)
+own = numerals_by_fold _ (search rules) number_from (search rules)
+
+counted : (n digit : ℕ) (digits : List ℕ) → number_from (n * 10 + (digit - 48)) digits ≤ longest_literal → count_more n digit ≡ n * 10 + (digit - 48)
+counted n digit digits h = let g = number_grows (n * 10 + (digit - 48)) digits in omega arith
+
+count_heard : (n digit : ℕ) (line rest : List ℕ) → is_ascii_digit digit ≡ true → heard (Count n) line (digit ∷ rest) ≡ heard (Count (count_more n digit)) (line ++ digit ∷ []) rest
+count_heard n digit line rest d = rw d refl
+
+digits_heard : (digits : List ℕ) (n : ℕ) (line rest : List ℕ) → all_ascii_digits digits ≡ true → number_from n digits ≤ longest_literal
+    → heard (Count n) line (digits ++ rest) ≡ heard (Count (number_from n digits)) (line ++ digits) rest
+digits_heard [] n line rest d h = ap (λ (l : List ℕ). heard (Count n) l rest) (sym (append-nil line))
+digits_heard (digit ∷ digits) n line rest d h =
+    let p = and_parts (is_ascii_digit digit) (all_ascii_digits digits) d in
+    let m = n * 10 + (digit - 48) in
+    count_heard n digit line (digits ++ rest) p.0 ∙ ap (λ (k : ℕ). heard (Count k) (line ++ digit ∷ []) (digits ++ rest)) (counted n digit digits h)
+    ∙ digits_heard digits m (line ++ digit ∷ []) rest p.1 h ∙ ap (λ (l : List ℕ). heard (Count (number_from m digits)) l rest) (append_assoc line (digit ∷ []) digits)
+
+-- the first one stands behind `{`
+begins : (digits line rest : List ℕ) → 0 < length digits → all_ascii_digits digits ≡ true → heard Open line (digits ++ rest) ≡ heard (Count 0) line (digits ++ rest)
+begins [] line rest some d = absurd (omega arith)
+begins (digit ∷ digits) line rest some d =
+    let p = and_parts (is_ascii_digit digit) (all_ascii_digits digits) d in
+    rw p.0 refl
+
+-- ---- the literal
+
+left_none : (left : ℕ) → left ≡ 1 → at_literal (left - 1) ≡ Line
+left_none left e = subst (λ (k : ℕ). at_literal (k - 1) ≡ Line) (sym e) refl
+
+left_more : (left more : ℕ) → left ≡ suc more → 0 < more → at_literal (left - 1) ≡ Literal more
+left_more left more e some =
+    let d : left - 1 ≡ more = omega arith in
+    let f : (more == 0) ≡ false = grind (arith, nat_tests) in
+    rw d (rw f refl)
+
+passed : (literal : List ℕ) (left : ℕ) (line rest : List ℕ) → length literal ≡ left → 0 < left → heard (Literal left) line (literal ++ rest) ≡ heard Line line rest
+passed [] left line rest e some = absurd (omega arith)
+passed (octet ∷ []) left line rest e some = ap (λ (stage : Stage). heard stage line rest) (left_none left (sym e))
+passed (octet ∷ second ∷ literal) left line rest e some =
+    ap (λ (stage : Stage). heard stage line ((second ∷ literal) ++ rest)) (left_more left (suc (length literal)) (sym e) (omega arith))
+    ∙ passed (second ∷ literal) (suc (length literal)) line rest refl (omega arith)
+
+-- an announcement, from its `{` on
+announcement_heard : (literal line rest : List ℕ) → 0 < length literal → length literal ≤ longest_literal
+    → heard Open (line ++ 123 ∷ []) (decimal (length literal) ++ 125 ∷ 13 ∷ 10 ∷ rest) ≡ heard (Literal (length literal)) (line ++ announced literal) rest
+announcement_heard literal line rest some short =
+    let n = length literal in
+    let digits = decimal n in
+    let start = line ++ 123 ∷ [] in
+    let h : all_ascii_digits digits ≡ true = digits_decimal own n (omega arith) in
+    let v : number_from 0 digits ≡ n = digits_value-decimal own n (omega arith) in
+    let f : (n == 0) ≡ false = grind (arith, nat_tests) in
+    let small : number_from 0 digits ≤ longest_literal = omega arith in
+    let count = begins digits start (125 ∷ 13 ∷ 10 ∷ rest) (decimal_nonempty n (omega arith)) h ∙ digits_heard digits 0 start (125 ∷ 13 ∷ 10 ∷ rest) h small in
+    let known = count ∙ ap (λ (k : ℕ). heard (Count k) (start ++ digits) (125 ∷ 13 ∷ 10 ∷ rest)) v in
+    let last : at_literal n ≡ Literal n = rw f refl in
+    let tail = 125 ∷ 13 ∷ 10 ∷ [] in
+    let text = start ++ digits in
+    let line_is : ((text ++ 125 ∷ []) ++ 13 ∷ []) ++ 10 ∷ [] ≡ line ++ announced literal =
+    ap (λ (l : List ℕ). l ++ 10 ∷ []) (append_assoc text (125 ∷ []) (13 ∷ [])) ∙ append_assoc text (125 ∷ 13 ∷ []) (10 ∷ [])
+    ∙ append_assoc start digits tail ∙ append_assoc line (123 ∷ []) (digits ++ tail) in
+    known ∙ ap (λ (stage : Stage). heard stage (((text ++ 125 ∷ []) ++ 13 ∷ []) ++ 10 ∷ []) rest) last ∙ ap (λ (l : List ℕ). heard (Literal n) l rest) line_is
+
+-- whatever octets a literal has, the line goes on behind it
+pub literals_are_passed : LiteralsArePassed
+literals_are_passed before line literal rest some short all =
+    let n = length literal in
+    let text = before ++ line in
+    let behind = literal ++ rest in
+    let front = line_heard line Line before (announced literal ++ behind) refl all in
+    let more = decimal n ++ (125 ∷ 13 ∷ 10 ∷ behind) in
+    front.2 ∙ ap (λ (l : List ℕ). heard front.0 text (123 ∷ l)) (append_assoc (decimal n) (125 ∷ 13 ∷ 10 ∷ []) behind)
+    ∙ one_heard front.0 text 123 more front.1 ∙ ap (λ (stage : Stage). heard stage (text ++ 123 ∷ []) more) (opens front.0 front.1)
+    ∙ announcement_heard literal text behind some short ∙ passed literal n (text ++ announced literal) rest refl some

@@ -1,0 +1,20 @@
+use Rattle.std.proofs.Common.{◌≡◌, ◌≤◌, ◌<◌, ℕ, true, List, Option, None, Some, refl, sym, ◌∙◌}
+use Rattle.clap.specs.Matches.{one_text}
+use Rattle.clap.specs.Walk.{rows_of}
+use Rattle.clap.specs.declared.parser.matches.Found.{Found}
+use Rattle.clap.specs.Simple.{is_simple}
+use Rattle.clap.proofs.OnLiterals.{clap_on_literals}
+use Rattle.clap_laws.proofs.FoundLemmas.{one_found}
+use Rattle.mail_bench.specs.Options.{IsAmount, bench_words}
+
+-- the words that the program knows are ones of which clap's matches are known
+pub bench_is_simple : is_simple bench_words ≡ true
+unfolding clap_on_literals
+bench_is_simple = refl
+
+-- ---- a number that was found
+
+pub amount_found : (found : Found) (id : List ℕ) (r : Option ℕ) (usual most given number : ℕ) → ((one_text found id ≡ None) → r ≡ None) → r ≡ Some given → 0 < number → number ≤ most
+    → IsAmount (rows_of found) id usual most number
+amount_found found id r usual most given number none some low high =
+    (low, high, λ h. let k : ◌≡◌ {A = Option ℕ} None (Some given) = sym (none (one_found found id ∙ h)) ∙ some in cc)

@@ -1,0 +1,69 @@
+use Rattle.std.specs.Prelude.{ℕ, List, [], ◌∷◌, ◌++◌, codes}
+use Rattle.std.specs.Fmt.{decimal}
+use Rattle.mail_bench.specs.declared.commands.Ask.{Ask}
+use Rattle.mail_bench.specs.declared.commands.Ask.TheVariants as asks
+use Rattle.mail_bench.specs.declared.commands.Command.{Command}
+use Rattle.mail_bench.specs.declared.commands.Command.TheVariants.{Append, Login, Mailbox, Message, Plain}
+use Rattle.mail_bench.specs.declared.commands.MailboxAsk.{MailboxAsk}
+use Rattle.mail_bench.specs.declared.commands.MailboxAsk.TheVariants as mailboxes
+use Rattle.mail_bench.specs.declared.commands.MessageAsk.{MessageAsk}
+use Rattle.mail_bench.specs.declared.commands.MessageAsk.TheVariants as messages
+-- A text as a quoted string, and an octet of it (RFC 9051, section 9, `quoted`).
+pub use Rattle.imap_answers.specs.Strings.{escaped_octet as escaped, quoted_text as quoted}
+
+-- A command with no argument of its own.
+abbrev pub plain_text : Ask → List ℕ
+plain_text asks.Noop = codes "NOOP"
+plain_text asks.FetchAllFlags = codes "FETCH 1:* (FLAGS)"
+plain_text asks.SearchUnseen = codes "SEARCH UNSEEN"
+plain_text asks.SearchSubject = codes "SEARCH SUBJECT \"x\""
+plain_text asks.Idle = codes "IDLE"
+plain_text asks.Logout = codes "LOGOUT"
+
+-- One to a message: what stands in front of its number and behind it.
+abbrev pub verb_text : MessageAsk → List ℕ
+verb_text messages.FetchFlags = codes "FETCH "
+verb_text messages.FetchBody = codes "FETCH "
+verb_text messages.Flag = codes "STORE "
+verb_text messages.Unflag = codes "STORE "
+
+abbrev pub asked_text : MessageAsk → List ℕ
+asked_text messages.FetchFlags = codes " (FLAGS)"
+asked_text messages.FetchBody = codes " (BODY.PEEK[])"
+asked_text messages.Flag = codes " +FLAGS (\\Flagged)"
+asked_text messages.Unflag = codes " -FLAGS (\\Flagged)"
+
+abbrev pub counted_text : MessageAsk → ℕ → List ℕ
+counted_text ask number = verb_text ask ++ (decimal number ++ asked_text ask)
+
+-- One to a mailbox.
+abbrev pub mailbox_verb_text : MailboxAsk → List ℕ
+mailbox_verb_text mailboxes.Select = codes "SELECT "
+mailbox_verb_text mailboxes.Create = codes "CREATE "
+
+abbrev pub named_text : MailboxAsk → List ℕ → List ℕ
+named_text ask name = mailbox_verb_text ask ++ quoted name
+
+abbrev pub login_text : List ℕ → List ℕ → List ℕ
+login_text user pass = codes "LOGIN " ++ (quoted user ++ 32 ∷ quoted pass)
+
+-- The announcement of a literal, for which the server says when it may come.
+abbrev pub announced_text : ℕ → List ℕ
+announced_text octets = codes " {" ++ (decimal octets ++ 125 ∷ [])
+
+abbrev pub append_text : List ℕ → ℕ → List ℕ
+append_text name octets = codes "APPEND " ++ (quoted name ++ announced_text octets)
+
+abbrev pub command_text : Command → List ℕ
+command_text (Plain ask) = plain_text ask
+command_text (Message ask number) = counted_text ask number
+command_text (Mailbox ask name) = named_text ask name.now
+command_text (Login user pass) = login_text user.now pass.now
+command_text (Append name octets) = append_text name.now octets
+
+-- A command's tag, with the space behind it, and its line.
+abbrev pub tag_text : ℕ → List ℕ
+tag_text number = 98 ∷ (decimal number ++ 32 ∷ [])
+
+abbrev pub line_text : Command → ℕ → List ℕ
+line_text command number = tag_text number ++ (command_text command ++ codes "\r\n")

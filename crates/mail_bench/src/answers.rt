@@ -1,0 +1,153 @@
+//! What an answer's line says.
+
+ghost use Rattle.std.specs.Prelude.{◌≡◌, ◌+◌, ◌-◌, ◌*◌, ◌<◌, ◌^◌, SomeIff};
+ghost use Rattle.std.specs.Char.{is_ascii_digit};
+ghost use Rattle.std.specs.List.{list_all};
+ghost use Rattle.std.specs.Option.{option_map};
+ghost use Rattle.mail_bench.specs.Answers.{answer_of, behind, exists_in, front_of, number_from, number_of, plain_answer, status_in, status_of};
+
+use itoa::Buffer;
+
+/// How a command ended (RFC 9051, section 7.1).
+#[derive(Clone, Copy)]
+pub enum Status {
+    /// OK.
+    Done,
+    /// NO.
+    No,
+    /// BAD.
+    Bad,
+}
+
+/// What an answer says.
+#[derive(Clone, Copy)]
+pub enum Answer {
+    /// The command with the tag that is waited for ended.
+    Ended(Status),
+    /// The server waits for a literal, or idles.
+    Continue,
+    /// The mailbox has so many messages.
+    Exists(u32),
+    /// The server closes the connection.
+    Bye,
+    /// Something else that belongs to no tag.
+    Other,
+    /// None of these: of another tag, or no answer.
+    Unreadable,
+}
+
+/// What a line says to whom waits for the end of the command with this number.
+pub fn answer_of(line: &[u8], number: u64) -> Answer
+    ensures { result ≡ answer_of number line.now }
+{
+    if let Some(status) = status_in(line, number) {
+        return Answer::Ended(status);
+    }
+    if let Some(messages) = exists_in(line) {
+        return Answer::Exists(messages);
+    }
+    plain_answer(line)
+}
+
+fn plain_answer(line: &[u8]) -> Answer
+    ensures { result ≡ plain_answer line.now }
+{
+    if behind(b"* BYE", line).is_some() {
+        return Answer::Bye;
+    }
+    if behind(b"* ", line).is_some() {
+        return Answer::Other;
+    }
+    if behind(b"+", line).is_some() {
+        return Answer::Continue;
+    }
+    Answer::Unreadable
+}
+
+/// How the command with this number ended, where the line bears its tag.
+fn status_in(line: &[u8], number: u64) -> Option<Status>
+    ensures { result ≡ status_in number line.now }
+{
+    let mut buffer = Buffer::new();
+    let rest = behind(b"b", line)?;
+    let rest = behind(buffer.format(number).as_bytes(), rest)?;
+    let rest = behind(b" ", rest)?;
+    status_of(rest)
+}
+
+fn status_of(text: &[u8]) -> Option<Status>
+    ensures { result ≡ status_of text.now }
+{
+    if behind(b"OK ", text).is_some() {
+        return Some(Status::Done);
+    }
+    if behind(b"NO ", text).is_some() {
+        return Some(Status::No);
+    }
+    if behind(b"BAD ", text).is_some() {
+        return Some(Status::Bad);
+    }
+    None
+}
+
+/// How many messages the mailbox has, where the line says so (RFC 9051, section 7.4.1).
+fn exists_in(line: &[u8]) -> Option<u32>
+    ensures { result ≡ exists_in line.now }
+{
+    let rest = behind(b"* ", line)?;
+    let digits = in_front_of(b" EXISTS\r\n", rest)?;
+    number_of(digits)
+}
+
+/// What stands behind this front.
+fn behind<'a>(front: &[u8], text: &'a [u8]) -> Option<&'a [u8]>
+    ensures { option_map (λ rest. rest.now) result ≡ behind front.now text.now }
+{
+    text.strip_prefix(front)
+}
+
+/// What stands in front of this end.
+fn in_front_of<'a>(end: &[u8], text: &'a [u8]) -> Option<&'a [u8]>
+    ensures { option_map (λ rest. rest.now) result ≡ front_of end.now text.now }
+{
+    text.strip_suffix(end)
+}
+
+/// The number of at most 32 bits that digits spell.
+fn number_of(digits: &[u8]) -> Option<u32>
+    ensures { result ≡ number_of digits.now }
+{
+    if digits.is_empty() || !are_digits(digits) {
+        return None;
+    }
+    spelled(digits)
+}
+
+fn are_digits(octets: &[u8]) -> bool
+    ensures { result ≡ list_all is_ascii_digit octets.now }
+{
+    octets.iter().all(|octet| octet.is_ascii_digit())
+}
+
+/// The number that these digits spell, where it has 32 bits.
+#[tactic(auto, using(crate::proofs::AnswerLemmas::number_grows, crate::proofs::AnswerLemmas::number_next))]
+fn spelled(digits: &[u8]) -> Option<u32>
+    ensures { SomeIff result (number_from 0 digits.now < 2 ^ 32) (number_from 0 digits.now) }
+{
+    let mut number = 0u32;
+    for digit in digits {
+        match with_digit(number, *digit) {
+            Some(more) => number = more,
+            None => return None,
+        }
+    }
+    Some(number)
+}
+
+/// A number with one digit more, where it has 32 bits.
+fn with_digit(number: u32, digit: u8) -> Option<u32>
+    ensures { SomeIff result (number * 10 + (digit - 48) < 2 ^ 32) (number * 10 + (digit - 48)) }
+{
+    let tens = number.checked_mul(10)?;
+    tens.checked_add(u32::from(digit.saturating_sub(b'0')))
+}

@@ -1,0 +1,266 @@
+//! The commands that the program sends, as texts (RFC 9051, sections 6 and 9).
+
+ghost use Rattle.std.specs.Prelude.{◌≡◌, ◌++◌, IfOk, OnOk, vec_len};
+ghost use Rattle.std.specs.Fmt.{decimal};
+ghost use Rattle.std.specs.List.{flat_map};
+ghost use Rattle.mail_bench.specs.Commands.{announced_text, append_text, asked_text, command_text, counted_text, escaped, line_text, login_text, mailbox_verb_text, named_text, plain_text, quoted, tag_text, verb_text};
+
+use itoa::Buffer;
+use std::alloc::{AllocError, Global};
+
+/// The fields of each message, and the empty line behind them.
+const FIELDS: &[u8] =
+    b"From: bench@example.org\r\nTo: bench@example.org\r\nSubject: one of many\r\n\r\n";
+
+/// A line of its text.
+const TEXT: &[u8] = b"A line of sixty-four octets, which stands in a message of bench.\r\n";
+
+/// What is asked of the selected mailbox, or of none.
+#[derive(Clone, Copy)]
+pub enum Ask {
+    /// NOOP.
+    Noop,
+    /// FETCH of the flags of all messages.
+    FetchAllFlags,
+    /// SEARCH UNSEEN.
+    SearchUnseen,
+    /// SEARCH for a subject.
+    SearchSubject,
+    /// IDLE.
+    Idle,
+    /// LOGOUT.
+    Logout,
+}
+
+/// What is asked of one message, by its number in the selected mailbox.
+#[derive(Clone, Copy)]
+pub enum MessageAsk {
+    /// FETCH of its flags.
+    FetchFlags,
+    /// FETCH of its whole text.
+    FetchBody,
+    /// STORE of `\Flagged`.
+    Flag,
+    /// STORE without it.
+    Unflag,
+}
+
+/// What is asked of a mailbox, by its name.
+#[derive(Clone, Copy)]
+pub enum MailboxAsk {
+    /// SELECT.
+    Select,
+    /// CREATE.
+    Create,
+}
+
+/// A command. Texts in it are of printable ASCII.
+#[derive(Clone, Copy)]
+pub enum Command<'a> {
+    /// One with no argument of its own.
+    Plain(Ask),
+    /// One to a message.
+    Message {
+        /// What is asked.
+        ask: MessageAsk,
+        /// The message's number, from 1 on.
+        number: u32,
+    },
+    /// One to a mailbox.
+    Mailbox {
+        /// What is asked.
+        ask: MailboxAsk,
+        /// Its name.
+        name: &'a str,
+    },
+    /// LOGIN.
+    Login {
+        /// The user.
+        user: &'a str,
+        /// The password.
+        pass: &'a str,
+    },
+    /// APPEND, as far as the announcement of its message.
+    Append {
+        /// The mailbox.
+        name: &'a str,
+        /// How many octets the message has.
+        octets: usize,
+    },
+}
+
+/// Appends a command's line, with this number in its tag. `Err` where there is no memory for it.
+pub fn push_line(command: Command<'_>, number: u64, out: &mut Vec<u8>) -> Result<(), AllocError>
+    ensures { OnOk result (out.new.items ≡ out.old.items ++ line_text command.entry number) }
+{
+    push_tag(number, out)?;
+    push_command(command, out)?;
+    out.extend_from_slice(b"\r\n")
+}
+
+/// Appends a command's tag and the space behind it.
+fn push_tag(number: u64, out: &mut Vec<u8>) -> Result<(), AllocError>
+    ensures { OnOk result (out.new.items ≡ out.old.items ++ tag_text number) }
+{
+    out.push(b'b')?;
+    push_number(number, out)?;
+    out.extend_from_slice(b" ")
+}
+
+/// Appends a number in decimal digits.
+fn push_number(number: u64, out: &mut Vec<u8>) -> Result<(), AllocError>
+    ensures { OnOk result (out.new.items ≡ out.old.items ++ decimal number) }
+{
+    let mut buffer = Buffer::new();
+    out.extend_from_slice(buffer.format(number).as_bytes())
+}
+
+fn push_command(command: Command<'_>, out: &mut Vec<u8>) -> Result<(), AllocError>
+    ensures { OnOk result (out.new.items ≡ out.old.items ++ command_text command.entry) }
+{
+    match command {
+        Command::Plain(ask) => out.extend_from_slice(plain(ask)),
+        Command::Message { ask, number } => push_message(ask, number, out),
+        Command::Mailbox { ask, name } => push_mailbox(ask, name, out),
+        Command::Login { user, pass } => push_login(user, pass, out),
+        Command::Append { name, octets } => push_append(name, octets, out),
+    }
+}
+
+/// The text of a command with no argument of its own.
+fn plain(ask: Ask) -> &'static [u8]
+    ensures { result.now ≡ plain_text ask }
+{
+    match ask {
+        Ask::Noop => b"NOOP",
+        Ask::FetchAllFlags => b"FETCH 1:* (FLAGS)",
+        Ask::SearchUnseen => b"SEARCH UNSEEN",
+        Ask::SearchSubject => b"SEARCH SUBJECT \"x\"",
+        Ask::Idle => b"IDLE",
+        Ask::Logout => b"LOGOUT",
+    }
+}
+
+fn push_message(ask: MessageAsk, number: u32, out: &mut Vec<u8>) -> Result<(), AllocError>
+    ensures { OnOk result (out.new.items ≡ out.old.items ++ counted_text ask number) }
+{
+    out.extend_from_slice(verb(ask))?;
+    push_number(u64::from(number), out)?;
+    out.extend_from_slice(asked(ask))
+}
+
+/// What stands in front of a message's number.
+fn verb(ask: MessageAsk) -> &'static [u8]
+    ensures { result.now ≡ verb_text ask }
+{
+    match ask {
+        MessageAsk::FetchFlags | MessageAsk::FetchBody => b"FETCH ",
+        MessageAsk::Flag | MessageAsk::Unflag => b"STORE ",
+    }
+}
+
+/// What stands behind it.
+fn asked(ask: MessageAsk) -> &'static [u8]
+    ensures { result.now ≡ asked_text ask }
+{
+    match ask {
+        MessageAsk::FetchFlags => b" (FLAGS)",
+        MessageAsk::FetchBody => b" (BODY.PEEK[])",
+        MessageAsk::Flag => b" +FLAGS (\\Flagged)",
+        MessageAsk::Unflag => b" -FLAGS (\\Flagged)",
+    }
+}
+
+fn push_mailbox(ask: MailboxAsk, name: &str, out: &mut Vec<u8>) -> Result<(), AllocError>
+    ensures { OnOk result (out.new.items ≡ out.old.items ++ named_text ask name.now) }
+{
+    out.extend_from_slice(mailbox_verb(ask))?;
+    push_quoted(name, out)
+}
+
+/// What stands in front of a mailbox's name.
+fn mailbox_verb(ask: MailboxAsk) -> &'static [u8]
+    ensures { result.now ≡ mailbox_verb_text ask }
+{
+    match ask {
+        MailboxAsk::Select => b"SELECT ",
+        MailboxAsk::Create => b"CREATE ",
+    }
+}
+
+fn push_login(user: &str, pass: &str, out: &mut Vec<u8>) -> Result<(), AllocError>
+    ensures { OnOk result (out.new.items ≡ out.old.items ++ login_text user.now pass.now) }
+{
+    out.extend_from_slice(b"LOGIN ")?;
+    push_quoted(user, out)?;
+    out.push(b' ')?;
+    push_quoted(pass, out)
+}
+
+fn push_append(name: &str, octets: usize, out: &mut Vec<u8>) -> Result<(), AllocError>
+    ensures { OnOk result (out.new.items ≡ out.old.items ++ append_text name.now octets) }
+{
+    out.extend_from_slice(b"APPEND ")?;
+    push_quoted(name, out)?;
+    push_announcement(octets, out)
+}
+
+/// Appends the announcement of a synchronizing literal (RFC 9051, section 4.3).
+fn push_announcement(octets: usize, out: &mut Vec<u8>) -> Result<(), AllocError>
+    ensures { OnOk result (out.new.items ≡ out.old.items ++ announced_text octets) }
+{
+    let mut buffer = Buffer::new();
+    out.extend_from_slice(b" {")?;
+    out.extend_from_slice(buffer.format(octets).as_bytes())?;
+    out.push(b'}')?;
+    Ok(())
+}
+
+/// Appends a text as a quoted string.
+fn push_quoted(text: &str, out: &mut Vec<u8>) -> Result<(), AllocError>
+    ensures { OnOk result (out.new.items ≡ out.old.items ++ quoted text.now) }
+{
+    out.push(b'"')?;
+    push_escaped(text.as_bytes(), out)?;
+    out.push(b'"')?;
+    Ok(())
+}
+
+/// Appends octets with `\` in front of each `"` and `\`.
+fn push_escaped(octets: &[u8], out: &mut Vec<u8>) -> Result<(), AllocError>
+    ensures { OnOk result (out.new.items ≡ out.old.items ++ flat_map escaped octets.now) }
+{
+    for octet in octets {
+        push_octet(*octet, out)?;
+    }
+    Ok(())
+}
+
+fn push_octet(octet: u8, out: &mut Vec<u8>) -> Result<(), AllocError>
+    ensures { OnOk result (out.new.items ≡ out.old.items ++ escaped octet) }
+{
+    if octet == b'"' || octet == b'\\' {
+        out.push(b'\\')?;
+    }
+    out.push(octet)?;
+    Ok(())
+}
+
+/// A message of so many octets: fields, an empty line, and lines of text as far as there is room. `Err` where there is no memory for it.
+pub fn message(alloc: Global, octets: usize) -> Result<Vec<u8>, AllocError>
+    ensures { IfOk result (λ message. vec_len message ≡ octets) }
+{
+    let mut message = Vec::with_capacity(alloc, octets)?;
+    for at in 0..octets {
+        message.push(octet_at(at))?;
+    }
+    Ok(message)
+}
+
+/// The octet at a place of each message.
+fn octet_at(at: usize) -> u8 {
+    match FIELDS.get(at) {
+        Some(octet) => *octet,
+        None => TEXT[at % TEXT.len()],
+    }
+}

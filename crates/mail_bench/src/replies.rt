@@ -1,0 +1,205 @@
+//! The octets of a server, put together to answers. An answer is a line with literals in it (RFC 9051, sections 2.2.2 and 4.3); of a literal nothing is kept.
+
+ghost use Rattle.std.specs.Prelude.{◌≡◌, ◌⊎◌, ◌≤◌, ◌<◌, [], IfErr, IfOk, None, OnOk, Some, drop, length, true};
+ghost use Rattle.mail_bench.specs.Replies.{at_literal, count_more, heard, in_line, is_ended, is_kept, kept, next, refusal, refusal_at};
+ghost use Rattle.mail_bench.specs.declared.replies.ReplyFault.TheVariants as faults;
+ghost use Rattle.mail_bench.specs.declared.replies.Stage.TheVariants.{Line};
+
+use std::alloc::Global;
+
+/// An answer's line has at most so many octets, without its literals.
+pub const MAX_LINE: usize = 4_194_304;
+
+/// A literal has at most so many octets.
+pub const MAX_LITERAL: u64 = 1_073_741_824;
+
+/// Where in an answer an octet stands.
+#[derive(Clone, Copy)]
+pub enum Stage {
+    /// In a line.
+    Line,
+    /// Behind `{`.
+    Open,
+    /// Behind `{` and digits that spell this number.
+    Count {
+        /// The number.
+        octets: u64,
+    },
+    /// Behind the `}` that follows these.
+    Closed {
+        /// The number.
+        octets: u64,
+    },
+    /// Behind the CR that follows it.
+    Announced {
+        /// The number.
+        octets: u64,
+    },
+    /// In a literal of which so many octets are to come, one at least.
+    Literal {
+        /// How many.
+        left: u64,
+    },
+    /// Behind the answer's end.
+    Ended,
+}
+
+/// Why an answer can't be read.
+#[derive(Clone, Copy)]
+pub enum ReplyFault {
+    /// Its line is longer than `MAX_LINE`.
+    LongLine,
+    /// It has a literal longer than `MAX_LITERAL`.
+    LongLiteral,
+    /// There is no memory for its line.
+    NoMemory,
+}
+
+/// An answer as far as it was read.
+#[derive(Drop)]
+pub struct Reading {
+    /// Its line, without the octets of its literals.
+    pub line: Vec<u8>,
+    /// Where the next octet stands.
+    pub stage: Stage,
+}
+
+impl Reading {
+    /// An answer of which nothing was read.
+    pub fn new(alloc: Global) -> Reading
+        ensures { (result.line.items ≡ []) × (result.stage ≡ Line) }
+    {
+        Reading {
+            line: Vec::new(alloc),
+            stage: Stage::Line,
+        }
+    }
+}
+
+impl Reading {
+    /// Makes room for the next answer, of which nothing was read.
+    pub fn begin(&mut self)
+        ensures line { self.new.line.items ≡ [] }
+        ensures stage { self.new.stage ≡ Line }
+    {
+        self.line.clear();
+        self.stage = Stage::Line;
+    }
+
+    /// Whether the answer has ended.
+    pub fn is_ended(&self) -> bool
+        ensures { result ≡ is_ended self.now.stage }
+    {
+        matches!(self.stage, Stage::Ended)
+    }
+
+    /// Reads on until the answer has ended or all octets were read, and gives how many were.
+    #[tactic(auto, using(crate::proofs::ReplyLemmas::heard_ended, crate::proofs::ReplyLemmas::heard_next))]
+    pub fn read(&mut self, octets: &[u8]) -> Result<usize, ReplyFault>
+        ensures within { IfOk result (λ count. count ≤ length octets.now) }
+        ensures heard { IfOk result (λ count. heard self.old.stage self.old.line.items octets.now ≡ (self.new.stage, self.new.line.items, drop count octets.now)) }
+        ensures ended { IfOk result (λ count. count < length octets.now → is_ended self.new.stage ≡ true) }
+    {
+        for at in 0..octets.len() {
+            if self.is_ended() {
+                return Ok(at);
+            }
+            self.take(octets[at])?;
+        }
+        Ok(octets.len())
+    }
+
+    /// Reads one octet of an answer that hasn't ended. `LongLine` and `LongLiteral` come just where the answer is too long behind it.
+    fn take(&mut self, octet: u8) -> Result<(), ReplyFault>
+        ensures stage { OnOk result (self.new.stage ≡ next self.old.stage octet) }
+        ensures line { OnOk result (self.new.line.items ≡ kept self.old.stage self.old.line.items octet) }
+        ensures fine { OnOk result (refusal (next self.old.stage octet) (length (kept self.old.stage self.old.line.items octet)) ≡ None) }
+        ensures refused { IfErr result (λ fault. (fault ≡ faults.NoMemory) ⊎ (refusal (next self.old.stage octet) (length (kept self.old.stage self.old.line.items octet)) ≡ Some fault)) }
+    {
+        if is_kept(self.stage) && self.line.push(octet).is_err() {
+            return Err(ReplyFault::NoMemory);
+        }
+        self.stage = next(self.stage, octet);
+        match refusal(self.stage, self.line.len()) {
+            Some(fault) => Err(fault),
+            None => Ok(()),
+        }
+    }
+}
+
+/// Whether the octet at this stage is one of the line.
+fn is_kept(stage: Stage) -> bool
+    ensures { result ≡ is_kept stage }
+{
+    !matches!(stage, Stage::Literal { .. } | Stage::Ended)
+}
+
+/// Where the next octet stands behind this one.
+fn next(stage: Stage, octet: u8) -> Stage
+    ensures { result ≡ next stage octet }
+{
+    match stage {
+        Stage::Open if octet.is_ascii_digit() => Stage::Count {
+            octets: count_more(0, octet),
+        },
+        Stage::Count { octets } if octet.is_ascii_digit() => Stage::Count {
+            octets: count_more(octets, octet),
+        },
+        Stage::Count { octets } if octet == b'}' => Stage::Closed { octets },
+        Stage::Closed { octets } if octet == b'\r' => Stage::Announced { octets },
+        Stage::Announced { octets } if octet == b'\n' => at_literal(octets),
+        Stage::Literal { left } => at_literal(left.saturating_sub(1)),
+        Stage::Ended => Stage::Ended,
+        _ => in_line(octet),
+    }
+}
+
+/// Behind an octet that goes on with no announcement.
+fn in_line(octet: u8) -> Stage
+    ensures { result ≡ in_line octet }
+{
+    match octet {
+        b'{' => Stage::Open,
+        b'\n' => Stage::Ended,
+        _ => Stage::Line,
+    }
+}
+
+/// A count with one digit more.
+fn count_more(octets: u64, digit: u8) -> u64
+    ensures { result ≡ count_more octets digit }
+{
+    octets
+        .saturating_mul(10)
+        .saturating_add(u64::from(digit.saturating_sub(b'0')))
+        .min(MAX_LITERAL + 1)
+}
+
+/// Behind the announcement of a literal of so many octets, or within it, with so many to come.
+fn at_literal(octets: u64) -> Stage
+    ensures { result ≡ at_literal octets }
+{
+    match octets {
+        0 => Stage::Line,
+        left => Stage::Literal { left },
+    }
+}
+
+/// Why an answer at this stage, with a line of this length, isn't read on.
+fn refusal(stage: Stage, length: usize) -> Option<ReplyFault>
+    ensures { result ≡ refusal stage length }
+{
+    if length > MAX_LINE {
+        return Some(ReplyFault::LongLine);
+    }
+    refusal_at(stage)
+}
+
+fn refusal_at(stage: Stage) -> Option<ReplyFault>
+    ensures { result ≡ refusal_at stage }
+{
+    match stage {
+        Stage::Literal { left } if left > MAX_LITERAL => Some(ReplyFault::LongLiteral),
+        _ => None,
+    }
+}

@@ -1,0 +1,259 @@
+//! The program's command line.
+
+ghost use Rattle.std.specs.Prelude.{◌≡◌, ◌≤◌, ◌<◌, IfOk, map, true};
+ghost use Rattle.std.specs.Option.{option_map};
+ghost use Rattle.clap.specs.Words.{app_of, first_of, found_of, matches_of, rows_of};
+ghost use Rattle.clap_laws.specs.Words.{IsWord};
+ghost use Rattle.mail_bench.specs.Options.{Asks, IsAmount, IsPlainText, bench_words, counted_word, named_word, required_word, text_in, with_amounts, with_server};
+
+use crate::workload::Workload;
+use clap::builder::ValueParser;
+use clap::error::ErrorKind;
+use clap::{Arg, ArgAction, ArgMatches, Command, Error};
+use std::alloc::{AllocError, Global};
+use std::convert::AsStr;
+
+/// At most so many messages are made sure of.
+pub const MAX_MESSAGES: u32 = 1_000_000;
+
+/// At most so many connections work side by side.
+pub const MAX_CONNECTIONS: u32 = 1_000;
+
+/// At most so many seconds a workload takes.
+pub const MAX_SECONDS: u32 = 3_600;
+
+/// What the command line asks for.
+#[derive(Clone, Copy)]
+pub struct Settings<'a> {
+    /// The address of the server, as it was given.
+    pub address: &'a str,
+    /// That of a second one, at which connections idle in `idle-fan-out`.
+    pub second: Option<&'a str>,
+    /// The user, of printable ASCII.
+    pub user: &'a str,
+    /// The password, of printable ASCII.
+    pub pass: &'a str,
+    /// The mailbox in which all is done, of printable ASCII.
+    pub mailbox: &'a str,
+    /// What is measured.
+    pub workload: Workload,
+    /// So many messages the mailbox has at least, from 1 to `MAX_MESSAGES`.
+    pub messages: u32,
+    /// So many connections work side by side, from 1 to `MAX_CONNECTIONS`.
+    pub connections: u32,
+    /// So many seconds, from 1 to `MAX_SECONDS`.
+    pub seconds: u32,
+}
+
+/// Why the command line asks for nothing.
+#[derive(Drop)]
+pub enum SettingsFault<'a> {
+    /// Its words are wrong, or ask for help, or there was no memory for them.
+    Words(Error),
+    /// What is given for one of them can't be used.
+    Usage(UsageFault<'a>),
+}
+
+/// What can't be used of what is given for a word; as a text, what the program prints of it.
+#[derive(Clone, Copy, Debug, thiserror::Error)]
+pub enum UsageFault<'a> {
+    /// This word is no workload.
+    #[error("usage: no workload {0}")]
+    BadWorkload(&'a str),
+    /// What is given for this word has an octet that is no printable ASCII.
+    #[error("usage: --{0} takes printable ASCII")]
+    BadText(&'static str),
+}
+
+/// Reads the words of a command line, the program's name first. What it says of the server, the mailbox and the workload is what clap finds in the words; where there is
+/// no mailbox among them it is `bench`, and where one of the numbers is not there it is 1,000 messages, 4 connections and 2 seconds.
+pub fn read_settings<'a>(
+    alloc: Global,
+    words: &'a [String],
+) -> Result<Settings<'a>, SettingsFault<'a>>
+    ensures asked { IfOk result (λ settings. Asks (matches_of bench_words (map ⟦<String as AsStr>⟧.text words.entry.now)) settings) }
+    ensures plain { IfOk result (λ settings. IsPlainText settings.user.now × IsPlainText settings.pass.now × IsPlainText settings.mailbox.now) }
+{
+    let matches = match matched(alloc, words) {
+        Ok(matches) => matches,
+        Err(error) => return Err(SettingsFault::Words(error)),
+    };
+    let settings = settings_in(&matches)?;
+    if !is_plain(settings.user) {
+        return Err(bad_text("user"));
+    }
+    if !is_plain(settings.pass) {
+        return Err(bad_text("pass"));
+    }
+    if !is_plain(settings.mailbox) {
+        return Err(bad_text("mailbox"));
+    }
+    Ok(settings)
+}
+
+fn bad_text<'a>(word: &'static str) -> SettingsFault<'a> {
+    SettingsFault::Usage(UsageFault::BadText(word))
+}
+
+/// Whether all octets are of printable ASCII, so that a quoted string may hold them (RFC 9051, section 9).
+fn is_plain(text: &str) -> bool
+    ensures { result ≡ true → IsPlainText text.now }
+{
+    text.bytes()
+        .all(|octet| octet.is_ascii_graphic() || octet == b' ')
+}
+
+/// What was found.
+fn settings_in<'a>(matches: &ArgMatches<'a>) -> Result<Settings<'a>, SettingsFault<'a>>
+    ensures { IfOk result (λ settings. Asks (rows_of (found_of matches.now)) settings) }
+{
+    let workload = text_in(matches, "workload", "");
+    let Some(workload) = Workload::named(workload) else {
+        return Err(SettingsFault::Usage(UsageFault::BadWorkload(workload)));
+    };
+    Ok(Settings {
+        address: text_in(matches, "address", ""),
+        second: option_in(matches, "second"),
+        user: text_in(matches, "user", ""),
+        pass: text_in(matches, "pass", ""),
+        mailbox: text_in(matches, "mailbox", "bench"),
+        workload,
+        messages: amount_in(matches, "messages", 1_000, MAX_MESSAGES),
+        connections: amount_in(matches, "connections", 4, MAX_CONNECTIONS),
+        seconds: amount_in(matches, "seconds", 2, MAX_SECONDS),
+    })
+}
+
+/// The text that was found under this word, or the usual one.
+fn text_in<'a>(matches: &ArgMatches<'a>, word: &str, usual: &'a str) -> &'a str
+    ensures { result.now ≡ text_in (rows_of (found_of matches.now)) word.now usual.entry.now }
+{
+    match option_in(matches, word) {
+        Some(text) => text,
+        None => usual,
+    }
+}
+
+/// The text that was found under this word, if one was.
+fn option_in<'a>(matches: &ArgMatches<'a>, word: &str) -> Option<&'a str>
+    ensures { option_map (λ s. s.now) result ≡ first_of word.now (rows_of (found_of matches.now)) }
+{
+    matches.get_str(word)
+}
+
+/// The number from 1 on that was found under this word, or the usual one.
+fn amount_in(matches: &ArgMatches<'_>, word: &str, usual: u32, most: u32) -> u32
+    requires { (0 < usual) × (usual ≤ most) }
+    ensures { IsAmount (rows_of (found_of matches.now)) word.now usual most result }
+{
+    match matches.get_one::<u32>(word) {
+        Some(number) => number.max(1).min(most),
+        None => usual,
+    }
+}
+
+fn matched<'a>(alloc: Global, words: &'a [String]) -> Result<ArgMatches<'a>, Error>
+    ensures { IfOk result (λ matches. rows_of (found_of matches) ≡ matches_of bench_words (map ⟦<String as AsStr>⟧.text words.entry.now)) }
+{
+    let command = described(alloc)?;
+    command.try_get_matches_from(words)
+}
+
+/// The words that the program knows.
+fn described<'a>(alloc: Global) -> Result<Command<'a>, AllocError>
+    ensures { IfOk result (λ command. app_of command ≡ bench_words) }
+{
+    let command = Command::new(alloc, "mail_bench").about(ABOUT);
+    let command = with_server(alloc, command)?;
+    with_amounts(alloc, command)
+}
+
+const ABOUT: &str =
+    "Loads an IMAP server with commands and prints how many it answered, and the microseconds that they took.
+
+Each connection sends a command, waits for its end, and sends the next one, for some seconds. A line of the output names the workload, and then connections, messages,
+commands, seconds, commands a second, and of the times the least, the median, the 90th and 99th of a hundred, and the greatest.";
+
+const WORKLOADS: &str =
+    "What is measured: noop sends one NOOP after another, and noop-pipelined 64 of them in one write, whose time is that of all 64. append-1k and append-64k append messages. \
+fetch-flags fetches the flags of all messages, fetch-body the text of one, and store sets and clears a flag of one. search-unseen and search-subject search all. \
+mixed goes round through one message's flags, one body, a store, a NOOP, a search for the unseen and an APPEND of 1 KiB. login connects, logs in, logs out and closes. \
+idle-fan-out has 32 connections idle and takes the time from an APPEND's last octet until each was told of it. noop-beside-idle measures NOOPs of one connection alone, and then beside 400 that idle.";
+
+/// Adds the words that say which server is measured, and by what.
+fn with_server<'a>(alloc: Global, command: Command<'a>) -> Result<Command<'a>, AllocError>
+    ensures { IfOk result (λ more. app_of more ≡ with_server (app_of command.entry)) }
+{
+    let command = command.arg(required(
+        alloc,
+        "address",
+        "The server's address, as 127.0.0.1:1143",
+    ))?;
+    let command = command.arg(required(alloc, "user", "The user's name"))?;
+    let command = command.arg(required(alloc, "pass", "The user's password"))?;
+    let command = command.arg(required(alloc, "workload", WORKLOADS))?;
+    command.arg(named(
+        alloc,
+        "second",
+        "The address of a second server, at which the connections of idle-fan-out idle",
+    ))
+}
+
+/// Adds the words that say how much is done, and where.
+fn with_amounts<'a>(alloc: Global, command: Command<'a>) -> Result<Command<'a>, AllocError>
+    ensures { IfOk result (λ more. app_of more ≡ with_amounts (app_of command.entry)) }
+{
+    let command = command.arg(counted(
+        alloc,
+        "messages",
+        "So many messages of 1 KiB the mailbox has at least; 1000 if it isn't said",
+        1_000_000,
+    ))?;
+    let command = command.arg(counted(
+        alloc,
+        "connections",
+        "So many connections work side by side; 4 if it isn't said",
+        1_000,
+    ))?;
+    let command = command.arg(counted(
+        alloc,
+        "seconds",
+        "So many seconds it takes; 2 if it isn't said",
+        3_600,
+    ))?;
+    command.arg(named(
+        alloc,
+        "mailbox",
+        "The mailbox in which all is done, made if it isn't there; bench if it isn't said",
+    ))
+}
+
+/// A word with a value.
+fn named<'a>(alloc: Global, name: &'a str, help: &'a str) -> Arg<'a>
+    ensures { IsWord result (named_word name.entry.now) }
+{
+    Arg::new(alloc, name)
+        .long(name)
+        .action(ArgAction::Set)
+        .help(help)
+}
+
+/// One that has to be there.
+fn required<'a>(alloc: Global, name: &'a str, help: &'a str) -> Arg<'a>
+    ensures { IsWord result (required_word name.entry.now) }
+{
+    named(alloc, name, help).required(true)
+}
+
+/// One whose value is a number from 1 on.
+fn counted<'a>(alloc: Global, name: &'a str, help: &'a str, most: u64) -> Arg<'a>
+    requires { 1 ≤ most }
+    ensures { IsWord result (counted_word name.entry.now most) }
+{
+    named(alloc, name, help).value_parser(ValueParser::unsigned(1, most))
+}
+
+/// Whether the words ran out of memory.
+pub fn is_without_memory(error: &Error) -> bool {
+    error.kind() == ErrorKind::OutOfMemory
+}

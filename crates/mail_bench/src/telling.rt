@@ -1,0 +1,63 @@
+//! What the program says where its command line asks for nothing.
+
+ghost use Rattle.std.specs.Prelude.{IfOk, map};
+ghost use Rattle.clap.specs.Words.{matches_of};
+ghost use Rattle.mail_bench.specs.Options.{Asks, IsPlainText, bench_words};
+
+use crate::settings::{Settings, SettingsFault, UsageFault, is_without_memory, read_settings};
+use clap::Error;
+use std::convert::AsStr;
+use std::io::Eprint;
+
+/// Reads the words of a command line as `read_settings` does. Where they ask for nothing, it says why, or prints the help that they ask for, and gives the program's
+/// status: 0 behind help, 2 where the words are wrong, 1 where there was no memory or nothing could be printed.
+pub fn settings_or_status<'a, R: Print + Eprint + AllocGlobal>(
+    rt: &R,
+    words: &'a [String],
+) -> Result<Settings<'a>, u8>
+    ensures asked { IfOk result (λ settings. Asks (matches_of bench_words (map ⟦<String as AsStr>⟧.text words.entry.now)) settings) }
+    ensures plain { IfOk result (λ settings. IsPlainText settings.user.now × IsPlainText settings.pass.now × IsPlainText settings.mailbox.now) }
+{
+    match read_settings(rt.alloc(), words) {
+        Ok(settings) => Ok(settings),
+        Err(why) => Err(explain(rt, why)),
+    }
+}
+
+/// Prints what is wrong with the command line, or the help that it asked for.
+fn explain<R: Print + Eprint>(rt: &R, why: SettingsFault<'_>) -> u8 {
+    match why {
+        SettingsFault::Words(error) => explain_words(rt, error),
+        SettingsFault::Usage(why) => tell_usage(rt, why),
+    }
+}
+
+/// Says that there is no memory, and gives the program's status.
+pub fn tell_no_memory<R: Eprint>(rt: &R) -> u8 {
+    let _ = eprintln!(rt; "mail_bench: no memory");
+    1
+}
+
+fn tell_usage<R: Eprint>(rt: &R, why: UsageFault<'_>) -> u8 {
+    match eprintln!(rt; "{why}") {
+        Ok(()) => 2,
+        Err(_) => 1,
+    }
+}
+
+fn explain_words<R: Print + Eprint>(rt: &R, error: Error) -> u8 {
+    if is_without_memory(&error) {
+        return tell_no_memory(rt);
+    }
+    let is_help = !error.use_stderr();
+    let told = if is_help {
+        rt.print(error)
+    } else {
+        rt.eprint(error)
+    };
+    match told {
+        Ok(()) if is_help => 0,
+        Ok(()) => 2,
+        Err(_) => 1,
+    }
+}

@@ -1,0 +1,97 @@
+//! What is measured.
+
+ghost use Rattle.std.specs.Prelude.{◌≡◌, IfNone, IfSome};
+ghost use Rattle.mail_bench.specs.Workloads.{NamesNone, word_of};
+
+use std::fmt;
+
+/// What the connections of a run do, over and over.
+#[derive(Clone, Copy)]
+pub enum Workload {
+    /// NOOP, one in flight.
+    Noop,
+    /// 64 NOOPs in one write, and their 64 answers.
+    NoopPipelined,
+    /// APPEND of 1 KiB.
+    AppendSmall,
+    /// APPEND of 64 KiB.
+    AppendLarge,
+    /// FETCH of the flags of all messages.
+    FetchFlags,
+    /// FETCH of one message's body, one after another.
+    FetchBody,
+    /// STORE of `\Flagged` at one message, then its removal, one message after another.
+    Store,
+    /// SEARCH UNSEEN.
+    SearchUnseen,
+    /// SEARCH for a subject that no message has that the program appended.
+    SearchSubject,
+    /// One message's flags, one body, one STORE, NOOP, SEARCH UNSEEN and APPEND of 1 KiB, in this order.
+    Mixed,
+    /// A connection, its greeting, LOGIN and LOGOUT.
+    Login,
+    /// APPEND, until each of many connections that idle was told of it.
+    IdleFanOut,
+    /// NOOP alone, then beside many connections that idle.
+    NoopBesideIdle,
+}
+
+impl Workload {
+    /// All, in the order in which the help names them.
+    pub const ALL: [Workload; 13] = [
+        Workload::Noop,
+        Workload::NoopPipelined,
+        Workload::AppendSmall,
+        Workload::AppendLarge,
+        Workload::FetchFlags,
+        Workload::FetchBody,
+        Workload::Store,
+        Workload::SearchUnseen,
+        Workload::SearchSubject,
+        Workload::Mixed,
+        Workload::Login,
+        Workload::IdleFanOut,
+        Workload::NoopBesideIdle,
+    ];
+
+    /// Its word on the command line.
+    pub fn word(self) -> &'static str
+        ensures { result.now ≡ word_of self }
+    {
+        match self {
+            Workload::Noop => "noop",
+            Workload::NoopPipelined => "noop-pipelined",
+            Workload::AppendSmall => "append-1k",
+            Workload::AppendLarge => "append-64k",
+            Workload::FetchFlags => "fetch-flags",
+            Workload::FetchBody => "fetch-body",
+            Workload::Store => "store",
+            Workload::SearchUnseen => "search-unseen",
+            Workload::SearchSubject => "search-subject",
+            Workload::Mixed => "mixed",
+            Workload::Login => "login",
+            Workload::IdleFanOut => "idle-fan-out",
+            Workload::NoopBesideIdle => "noop-beside-idle",
+        }
+    }
+
+    /// The workload with this word; `None` just where there is none.
+    pub fn named(word: &str) -> Option<Workload>
+        ensures some { IfSome result (λ workload. word_of workload ≡ word.now) }
+        ensures none { IfNone result (NamesNone word.now) }
+    {
+        for place in 0..Workload::ALL.len() {
+            let workload = Workload::ALL[place];
+            if workload.word() == word {
+                return Some(workload);
+            }
+        }
+        None
+    }
+}
+
+impl fmt::Display for Workload {
+    fn fmt<W: fmt::Write>(&self, f: &mut fmt::Formatter<W>) -> fmt::Result {
+        f.write_str(self.word())
+    }
+}

@@ -1,0 +1,51 @@
+//! Lines that are tried one by one behind a script.
+
+use crate::mail_rows::replays::{Replayed, play_script, put_shortened};
+use case_text::Words;
+use mail_replay::ReplayEnd;
+use std::alloc::Global;
+
+/// Replays a script with this line behind it, and tells what the line prints and how it ends. Without its end it does the
+/// same; with another line behind it no less, and no more where it is bad.
+pub fn try_case(alloc: Global, script: &[u8], line: &[u8], then: &str, page: &mut Words) {
+    let before = play_script(alloc, script);
+    let open = with_line(alloc, script, line, "", "");
+    let ended = with_line(alloc, script, line, "\n", "");
+    let more = with_line(alloc, script, line, "\n", then);
+    page.put_escaped("> ", line);
+    page.put("\n");
+    tell_case(&before.printed, &ended, page);
+    ended.tell_end(page);
+    if !open.is_as(&ended) {
+        page.put("-- otherwise without its end\n");
+    }
+    if !goes_on(&ended, &more) {
+        page.put("-- otherwise with a line behind it\n");
+    }
+}
+
+fn with_line(alloc: Global, script: &[u8], line: &[u8], end: &str, then: &str) -> Replayed {
+    let mut whole = Words::new(alloc);
+    whole.put_octets(script);
+    whole.put_octets(line);
+    whole.put(end);
+    whole.put(then);
+    play_script(alloc, whole.so_far())
+}
+
+/// Tells what was printed beyond what is printed without the line.
+fn tell_case(before: &[u8], ended: &Replayed, page: &mut Words) {
+    match ended.printed.strip_prefix(before) {
+        Some(printed) => put_shortened(printed, page),
+        None => page.put("-- otherwise before the line\n"),
+    }
+}
+
+/// Whether a replay with more lines prints more where the one without them served all, and else the same.
+fn goes_on(ended: &Replayed, more: &Replayed) -> bool {
+    if ended.end == ReplayEnd::Done {
+        more.printed.starts_with(&ended.printed)
+    } else {
+        more.is_as(ended)
+    }
+}

@@ -1,0 +1,76 @@
+//! Octets that come to a session in pieces.
+
+ghost use Rattle.std.specs.Prelude.{◌<◌};
+
+use crate::mail_rows::directives::octets_of;
+use crate::mail_rows::replays::{Replayed, play_script};
+use case_text::Words;
+use std::alloc::Global;
+
+/// Sends octets, given in the escape, to a session behind a script, tells what is printed, and whether it is the same where
+/// they come in two pieces, cut at each place, and one by one.
+pub fn tell_pieces(alloc: Global, script: &[u8], session: &str, text: &str, page: &mut Words) {
+    let Some(octets) = octets_of(alloc, text) else {
+        page.put("-- not in the escape\n");
+        return;
+    };
+    let octets = octets.as_bytes();
+    let whole = in_pieces(alloc, script, session, octets, octets.len().max(1));
+    whole.tell(page);
+    if !in_pieces(alloc, script, session, octets, 1).is_as(&whole) {
+        page.put("-- otherwise octet by octet\n");
+    }
+    match first_cut(alloc, script, session, octets, &whole) {
+        None => {
+            page.put_number(
+                "-- the same octet by octet and cut at each of ",
+                octets.len() as u64,
+            );
+            page.put(" places\n");
+        }
+        Some(place) => {
+            page.put_number("-- otherwise cut at ", place as u64);
+            page.put("\n");
+        }
+    }
+}
+
+/// The first place at which octets are cut with another outcome than this.
+fn first_cut(
+    alloc: Global,
+    script: &[u8],
+    session: &str,
+    octets: &[u8],
+    whole: &Replayed,
+) -> Option<usize> {
+    for place in 0..octets.len() {
+        let mut cut = Words::new(alloc);
+        cut.put_octets(script);
+        put_send(session, &octets[..place], &mut cut);
+        put_send(session, &octets[place..], &mut cut);
+        if !play_script(alloc, cut.so_far()).is_as(whole) {
+            return Some(place);
+        }
+    }
+    None
+}
+
+/// Replays a script with octets behind it that come to a session so many at a time.
+fn in_pieces(alloc: Global, script: &[u8], session: &str, octets: &[u8], size: usize) -> Replayed
+    requires { 0 < size }
+{
+    let mut whole = Words::new(alloc);
+    whole.put_octets(script);
+    for piece in octets.chunks(size) {
+        put_send(session, piece, &mut whole);
+    }
+    play_script(alloc, whole.so_far())
+}
+
+/// Adds a line that feeds octets to a session.
+fn put_send(session: &str, octets: &[u8], script: &mut Words) {
+    script.put("send ");
+    script.put(session);
+    script.put_escaped(" ", octets);
+    script.put("\n");
+}

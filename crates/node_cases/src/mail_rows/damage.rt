@@ -1,0 +1,190 @@
+//! Scripts, and what they print, that end early or have octets replaced.
+
+ghost use Rattle.std.specs.Prelude.{◌<◌, length};
+
+use crate::mail_rows::replays::{Replayed, play_script};
+use case_text::Words;
+use mail_audit::{AuditEnd, audit};
+use mail_replay::ReplayEnd;
+use std::alloc::Global;
+
+/// The octets that take the place of others.
+const STRANGE: [u8; 5] = [0, 10, 32, 126, 255];
+
+/// Texts of more octets are damaged in rows that ask for it alone.
+const SHORT: usize = 2_000;
+
+/// Which places of texts are damaged, and how many damaged texts were replayed and audited.
+#[derive(Clone, Copy)]
+pub struct Tried {
+    /// Each place whose number this divides, over all texts.
+    every: u64,
+    places: u64,
+    replayed: u64,
+    audited: u64,
+}
+
+impl Tried {
+    /// None was. Each place whose number this divides is to be damaged; none where it is 0.
+    pub fn none(every: u64) -> Tried {
+        Tried {
+            every,
+            places: 0,
+            replayed: 0,
+            audited: 0,
+        }
+    }
+
+    /// Whether the next place is one to be damaged.
+    fn is_next(&mut self) -> bool {
+        self.places = self.places.saturating_add(1);
+        self.every != 0 && self.places % self.every == 0
+    }
+
+    /// A script was damaged at a place: cut there, and five times with another octet there.
+    fn note_replays(&mut self) {
+        self.replayed = self.replayed.saturating_add(6);
+    }
+
+    /// So was a transcript.
+    fn note_audits(&mut self) {
+        self.audited = self.audited.saturating_add(6);
+    }
+
+    /// Tells whether so many were replayed and as many audited, and else how many.
+    pub fn tell(&self, least: u64, page: &mut Words) {
+        if self.replayed >= least && self.audited >= least {
+            page.put_number("-- at least ", least);
+            page.put(" replayed and audited\n");
+        } else {
+            page.put_number("-- ", self.replayed);
+            page.put_number(" replayed, ", self.audited);
+            page.put(" audited\n");
+        }
+    }
+}
+
+/// Tells where a short script isn't replayed as it should be if it is cut or an octet is replaced, and where what it prints isn't audited
+/// then with an answer of the audit.
+pub fn tell_wrong(alloc: Global, script: &[u8], tried: &mut Tried, page: &mut Words) {
+    if script.len() <= SHORT {
+        if let Some(place) = first_wrong(alloc, script, tried) {
+            put_wrong(place, page);
+        }
+    }
+    let printed = play_script(alloc, script).printed;
+    if printed.len() <= SHORT {
+        if let Some(place) = first_unaudited(alloc, &printed, tried) {
+            page.put_number("-- not audited where damaged behind octet ", place as u64);
+            page.put("\n");
+        }
+    }
+}
+
+/// Replays a script, tells what it prints, and whether each beginning of it, and the whole with each octet replaced by 0,
+/// 10, 32, 126 and 255, prints what the lines before that place print, and then whole lines of printed ASCII, and ends with
+/// Done or BadScript.
+pub fn tell_damage(alloc: Global, script: &[u8], page: &mut Words) {
+    play_script(alloc, script).tell(page);
+    match first_wrong(alloc, script, &mut Tried::none(1)) {
+        None => {
+            page.put_number("-- damaged at each of ", script.len() as u64);
+            page.put(" octets: as it was before them\n");
+        }
+        Some(place) => put_wrong(place, page),
+    }
+}
+
+fn put_wrong(place: usize, page: &mut Words) {
+    page.put_number("-- damaged behind octet ", place as u64);
+    page.put(": otherwise before it\n");
+}
+
+fn first_wrong(alloc: Global, script: &[u8], tried: &mut Tried) -> Option<usize> {
+    let mut before = play_script(alloc, b"");
+    for place in 0..script.len() {
+        if tried.is_next() {
+            tried.note_replays();
+            if !bears_damage(alloc, script, place, &before.printed) {
+                return Some(place);
+            }
+        }
+        if script[place] == b'\n' {
+            before = play_script(alloc, &script[..place + 1]);
+        }
+    }
+    None
+}
+
+/// Whether a script that is cut at a place, or has another octet there, prints as it should.
+fn bears_damage(alloc: Global, script: &[u8], place: usize, before: &[u8]) -> bool
+    requires { place < length script.now }
+{
+    let front = &script[..place];
+    let back = &script[place + 1..];
+    is_lawful(&play_script(alloc, front), before)
+        && STRANGE.iter().all(|octet| {
+            is_lawful(
+                &play_script(alloc, with_octet(alloc, front, *octet, back).so_far()),
+                before,
+            )
+        })
+}
+
+fn with_octet(alloc: Global, front: &[u8], octet: u8, back: &[u8]) -> Words {
+    let mut text = Words::new(alloc);
+    text.put_octets(front);
+    text.put_octets(&[octet]);
+    text.put_octets(back);
+    text
+}
+
+/// Whether a replay ended with a name that a script can bring about, and printed whole lines of printed ASCII behind these.
+fn is_lawful(replay: &Replayed, before: &[u8]) -> bool {
+    let is_named = matches!(replay.end, ReplayEnd::Done | ReplayEnd::BadScript { .. });
+    is_named
+        && replay.printed.starts_with(before)
+        && (replay.printed.is_empty() || replay.printed.ends_with(b"\n"))
+        && replay
+            .printed
+            .iter()
+            .all(|octet| *octet == b'\n' || (*octet >= 32 && *octet <= 126))
+}
+
+/// The first place at which a transcript can be cut, or have another octet, so that the audit gives none of its answers.
+fn first_unaudited(alloc: Global, printed: &[u8], tried: &mut Tried) -> Option<usize> {
+    for place in 0..printed.len() {
+        if tried.is_next() {
+            tried.note_audits();
+            if !is_audited_damaged(alloc, printed, place) {
+                return Some(place);
+            }
+        }
+    }
+    None
+}
+
+fn is_audited_damaged(alloc: Global, printed: &[u8], place: usize) -> bool
+    requires { place < length printed.now }
+{
+    let front = &printed[..place];
+    let back = &printed[place + 1..];
+    is_audited(alloc, front)
+        && STRANGE.iter().all(|octet| is_audited(
+            alloc,
+            with_octet(alloc, front, *octet, back).so_far(),
+        ))
+}
+
+/// Whether an audit answers yes, or names a line of the input.
+fn is_audited(alloc: Global, input: &[u8]) -> bool {
+    let mut reader = input;
+    let mut said = Vec::new(alloc);
+    let end = audit(alloc, &mut reader, &mut said);
+    let lines = input.len() as u64;
+    match end {
+        AuditEnd::Yes => said.as_slice() == b"yes\n".as_slice(),
+        AuditEnd::No(line) | AuditEnd::Unreadable(line) => line > 0 && line <= lines,
+        _ => false,
+    }
+}

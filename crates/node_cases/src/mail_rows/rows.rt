@@ -1,0 +1,111 @@
+//! Rows, line by line.
+
+use crate::mail_rows::cases::try_case;
+use crate::mail_rows::cuts::tell_pieces;
+use crate::mail_rows::damage::{Tried, tell_damage, tell_wrong};
+use crate::mail_rows::directives::{Way, build, cut, octets_of, way_of};
+use crate::mail_rows::replays::play_script;
+use case_text::Words;
+use std::alloc::{AllocError, Global};
+
+/// Plays the rows of a text, each behind a line `== TITLE`; what stands before the first is left out. An error says that there is no memory.
+pub fn play(alloc: Global, text: &str) -> Result<Vec<u8>, AllocError> {
+    let mut page = Words::new(alloc);
+    let mut tried = Tried::none(every_of(text));
+    for row in text.split("\n== ").skip(1) {
+        play_row(alloc, row, &mut tried, &mut page);
+    }
+    page.finish()
+}
+
+/// Which places of all scripts and of what they print are damaged: the number behind `% every ` in front of the first row; 0 where there is none.
+fn every_of(text: &str) -> u64 {
+    let (head, _) = text.split_once("\n== ").unwrap_or((text, ""));
+    for line in head.lines() {
+        if let Some(number) = line.strip_prefix("% every ") {
+            return number.parse::<u64>().unwrap_or(0);
+        }
+    }
+    0
+}
+
+/// A row as far as it was read.
+#[derive(Drop)]
+struct Row<'a> {
+    script: Words,
+    way: Way<'a>,
+}
+
+fn play_row(alloc: Global, text: &str, tried: &mut Tried, page: &mut Words) {
+    let (title, lines) = cut(text, '\n');
+    page.put("== ");
+    page.put(title);
+    page.put("\n");
+    let mut row = Row {
+        script: Words::new(alloc),
+        way: Way::Whole,
+    };
+    for line in lines.split_terminator('\n') {
+        take_line(alloc, line, &mut row, page);
+    }
+    end_row(alloc, row.script.so_far(), row.way, page);
+    match row.way {
+        Way::Tried(least) => tried.tell(least, page),
+        _ => tell_wrong(alloc, row.script.so_far(), tried, page),
+    }
+}
+
+/// Takes a line of a row: a directive, a comment in front of the script, or what belongs to the script.
+fn take_line<'a>(alloc: Global, line: &'a str, row: &mut Row<'a>, page: &mut Words) {
+    if let Some(directive) = line.strip_prefix("% ") {
+        let (word, rest) = cut(directive, ' ');
+        if !obey(alloc, word, rest, row, page) {
+            page.put("-- no directive: ");
+            page.put(directive);
+            page.put("\n");
+        }
+    } else if !(line.starts_with('#') && row.script.so_far().is_empty()) {
+        take_octets(alloc, line.as_bytes(), b"\n", row, page);
+    }
+}
+
+/// Does what a directive says; whether it is one.
+fn obey<'a>(alloc: Global, word: &str, rest: &'a str, row: &mut Row<'a>, page: &mut Words) -> bool {
+    if word == "octets" {
+        let Some(octets) = octets_of(alloc, rest) else {
+            return false;
+        };
+        take_octets(alloc, octets.as_bytes(), b"", row, page);
+        return true;
+    }
+    let Some(way) = way_of(word, rest) else {
+        return build(word, rest, &mut row.script);
+    };
+    if let Way::Each(_) = way {
+        play_script(alloc, row.script.so_far()).tell(page);
+    }
+    row.way = way;
+    true
+}
+
+/// Takes a case, where the row is one of cases, else octets of the script, with their end.
+fn take_octets(alloc: Global, octets: &[u8], end: &[u8], row: &mut Row, page: &mut Words) {
+    if let Way::Each(then) = row.way {
+        try_case(alloc, row.script.so_far(), octets, then, page);
+    } else {
+        row.script.put_octets(octets);
+        row.script.put_octets(end);
+    }
+}
+
+/// Does with a row's script what is to be done with it.
+fn end_row(alloc: Global, script: &[u8], way: Way, page: &mut Words) {
+    match way {
+        Way::Whole => play_script(alloc, script).tell(page),
+        Way::Last(last) => play_script(alloc, script).tell_last(last, page),
+        Way::Count(line) => play_script(alloc, script).tell_count(line, page),
+        Way::Damage => tell_damage(alloc, script, page),
+        Way::Pieces { session, text } => tell_pieces(alloc, script, session, text, page),
+        Way::Each(_) | Way::Tried(_) => {}
+    }
+}

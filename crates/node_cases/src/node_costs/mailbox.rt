@@ -1,0 +1,203 @@
+//! Commands in a mailbox of many messages.
+
+use crate::node_costs::held::{deliver_all, time_of};
+use crate::node_costs::seat::{Seat, since};
+use crate::node_costs::spans::Spans;
+use imap_types::Name;
+use std::alloc::{AllocError, Global};
+use std::io::{self, ErrorKind};
+use std::time::Instant;
+
+/// How often each call is timed.
+const TURNS: u32 = 100;
+
+/// A command that is timed.
+struct Row {
+    /// What it is.
+    name: &'static str,
+    /// The command in front of it, untimed.
+    before: &'static str,
+    /// The command. A `#` stands for the number of a message in the middle of the mailbox, the next one each time, which is its UID, too.
+    timed: &'static str,
+}
+
+/// An APPEND to the mailbox.
+const APPEND: &str = "APPEND INBOX {2+}\r\nhi";
+
+/// The command that is timed while no mailbox is selected.
+const UNSELECTED: Row = Row {
+    name: "APPEND, none selected",
+    before: "NOOP",
+    timed: APPEND,
+};
+
+/// The commands that are timed in the selected mailbox, each behind those above.
+const ROWS: [Row; 7] = [
+    Row {
+        name: "FETCH by number, first behind SELECT",
+        before: "SELECT INBOX",
+        timed: "FETCH # FLAGS",
+    },
+    Row {
+        name: "NOOP",
+        before: "NOOP",
+        timed: "NOOP",
+    },
+    Row {
+        name: "FETCH of a body",
+        before: "NOOP",
+        timed: "FETCH # BODY.PEEK[]",
+    },
+    Row {
+        name: "FETCH of flags",
+        before: "NOOP",
+        timed: "FETCH # FLAGS",
+    },
+    Row {
+        name: "STORE of a flag",
+        before: "STORE # -FLAGS (\\Flagged)",
+        timed: "STORE # +FLAGS (\\Flagged)",
+    },
+    Row {
+        name: "COPY",
+        before: "NOOP",
+        timed: "COPY # other",
+    },
+    Row {
+        name: "UID EXPUNGE",
+        before: "UID STORE # +FLAGS (\\Deleted)",
+        timed: "UID EXPUNGE #",
+    },
+];
+
+/// Fills INBOX with so many messages and tells how long commands about one of them take, and what comes from another replica.
+pub fn times(rt: &HostRuntime, count: u32) -> io::Result<()> {
+    let mut near = Seat::new(rt.alloc(), 1)?;
+    let told = times_at(rt, &mut near, count);
+    drop(near);
+    told
+}
+
+fn times_at(rt: &HostRuntime, near: &mut Seat, count: u32) -> io::Result<()> {
+    let mut far = Seat::new(rt.alloc(), 2)?;
+    let told = tell_times(rt, near, &mut far, count);
+    drop(far);
+    told
+}
+
+fn tell_times(rt: &HostRuntime, near: &mut Seat, far: &mut Seat, count: u32) -> io::Result<()> {
+    give(rt.alloc(), near, "CREATE other", 0)?;
+    for _ in 0..count {
+        give(rt.alloc(), near, APPEND, 0)?;
+    }
+    println!(*rt; "mailbox of {count} messages")?;
+    eprintln!(*rt; "mailbox of {count} messages, in nanoseconds, least and mean")?;
+    let middle = (count / 2).max(1);
+    tell_unselected(rt, near, far, middle)?;
+    give(rt.alloc(), near, "SELECT INBOX", 0)?;
+    for row in &ROWS {
+        tell_row(rt, near, row, middle)?;
+    }
+    tell_idling(rt, near, far)
+}
+
+/// Tells of commands and of another replica's operations while no session has the mailbox selected. The other replica then has all operations, and its
+/// session the mailbox.
+fn tell_unselected(
+    rt: &HostRuntime,
+    near: &mut Seat,
+    far: &mut Seat,
+    middle: u32,
+) -> io::Result<()> {
+    tell_row(rt, near, &UNSELECTED, middle)?;
+    tell_look(rt, near, middle)?;
+    deliver_all(rt.alloc(), far, near.node.op_list())?;
+    give(rt.alloc(), far, "SELECT INBOX", 0)?;
+    tell_stores(rt, near, far, middle)
+}
+
+/// Tells how long it takes to make the mailbox's listing and look a message up in it.
+fn tell_look(rt: &HostRuntime, seat: &Seat, uid: u32) -> io::Result<()> {
+    let name = Name::inbox(rt.alloc())?;
+    let mut spans = Spans::none();
+    for _ in 0..TURNS {
+        spans.note(look_time(rt, seat, &name, uid)?);
+    }
+    spans.tell(rt, "listing made, and a message looked up")
+}
+
+fn look_time(rt: &HostRuntime, seat: &Seat, name: &Name, uid: u32) -> io::Result<u64> {
+    let start = Instant::now(rt)?;
+    if !is_listed(rt.alloc(), seat, name, uid)? {
+        return Err(io::Error::other("not listed"));
+    }
+    since(rt, start)
+}
+
+fn is_listed(alloc: Global, seat: &Seat, name: &Name, uid: u32) -> io::Result<bool> {
+    match seat.node.listing(alloc, name) {
+        Ok(rows) => Ok(rows.row_of(uid).is_some()),
+        Err(_) => Err(ErrorKind::OutOfMemory.into()),
+    }
+}
+
+/// Tells how long deliveries of the other replica's STOREs take.
+fn tell_stores(rt: &HostRuntime, near: &mut Seat, far: &mut Seat, middle: u32) -> io::Result<()> {
+    let mut spans = Spans::none();
+    for turn in 0..TURNS {
+        let number = middle.saturating_add(turn);
+        give(rt.alloc(), far, "STORE # +FLAGS (\\Flagged)", number)?;
+        spans.note(delivery_time(rt, near, far)?);
+    }
+    spans.tell(rt, "another replica's STORE delivered, none selected")
+}
+
+/// Delivers the last operation of the other replica, and tells how long that takes.
+fn delivery_time(rt: &HostRuntime, near: &mut Seat, far: &Seat) -> io::Result<u64> {
+    let made = far.node.op_list();
+    let last = made.get(made.len().saturating_sub(1)..).unwrap_or(&[]);
+    time_of(rt, near, last)
+}
+
+/// Tells how long a command takes.
+fn tell_row(rt: &HostRuntime, seat: &mut Seat, row: &Row, middle: u32) -> io::Result<()> {
+    let mut spans = Spans::none();
+    for turn in 0..TURNS {
+        let number = middle.saturating_add(turn);
+        give(rt.alloc(), seat, row.before, number)?;
+        let timed = command(rt.alloc(), row.timed, number)?;
+        spans.note(seat.time_of(rt, timed.as_str())?);
+    }
+    spans.tell(rt, row.name)
+}
+
+/// Tells how long deliveries of the other replica's APPENDs take while the session idles, and polls behind them.
+fn tell_idling(rt: &HostRuntime, near: &mut Seat, far: &mut Seat) -> io::Result<()> {
+    give(rt.alloc(), near, "IDLE", 0)?;
+    let mut deliveries = Spans::none();
+    let mut polls = Spans::none();
+    for _ in 0..TURNS {
+        give(rt.alloc(), far, APPEND, 0)?;
+        deliveries.note(delivery_time(rt, near, far)?);
+        polls.note(near.poll_time(rt)?);
+    }
+    deliveries.tell(
+        rt,
+        "another replica's APPEND delivered, while the session idles",
+    )?;
+    polls.tell(rt, "poll behind that")
+}
+
+/// Gives the command.
+fn give(alloc: Global, seat: &mut Seat, text: &str, number: u32) -> io::Result<()> {
+    let line = command(alloc, text, number)?;
+    seat.give(alloc, line.as_str())
+}
+
+/// The command with a tag and the number.
+fn command(alloc: Global, text: &str, number: u32) -> Result<String, AllocError> {
+    match text.split_once('#') {
+        Some((head, tail)) => format!(in alloc; "a {head}{number}{tail}\r\n"),
+        None => format!(in alloc; "a {text}\r\n"),
+    }
+}

@@ -1,0 +1,105 @@
+-- What changes leave of message tags, and where the tags that were put in are listed.
+use Rattle.std.proofs.Common.{◌≡◌, ◌⊎◌, inl, inr, Bool, true, false, cond, Option, None, Some, IsSome, List, refl, sym, ap, ◌∙◌, subst}
+use Rattle.std.specs.Borrow.{Bor}
+use Rattle.std.specs.Global.{Vec}
+use Rattle.std.specs.List.{list_any}
+use Rattle.std.specs.Map.{lookup}
+use Rattle.std.specs.Option.{option_map}
+use Rattle.std.proofs.lemmas.Bool.{cases_Bool, false≢true}
+use Rattle.imap_types.specs.declared.flags.Flags.{Flags}
+use Rattle.tags_clocks.specs.declared.id.OpId.{OpId}
+use Rattle.merge_laws.specs.Orders.{IsIn}
+use Rattle.crdt_ops.specs.Order.{is_some_id, same_id}
+use Rattle.crdt_ops.specs.Sets.{Body}
+use Rattle.crdt_ops.proofs.Members.{any_in, in_map}
+use Rattle.message_versions.specs.declared.version.Version.{Version}
+use Rattle.message_versions.specs.Unions.{version_ids}
+use Rattle.folder_state.specs.Kept.{Kept as Folder, body_in_folder}
+use Rattle.uid_projection.specs.declared.changes.Change.{Change}
+use Rattle.uid_projection.specs.declared.messages.MessagesAhead.{MessagesAhead}
+use Rattle.uid_projection.specs.Changes.{AreFound, Grows, HasOrigin, IsListed, IsWhole, bodies_of, body_over, borne, change_of, changed, ids_listed, is_version, kept_of, list_of, origin_of}
+use Rattle.uid_projection.proofs.IdLemmas.{own_id, same_is}
+
+abbrev Changed : Type 0
+Changed = List (OpId × Change)
+
+abbrev Lists : Type 0
+Lists = List (OpId × Vec OpId)
+
+-- one change more
+module _ (kept : Option Folder) (id : OpId) (change : Change) (old new : Changed) (is : (i : OpId) → lookup (same_id i) new ≡ cond (same_id id i) (Some change) (lookup (same_id i) old)) where
+  pub body_changed : (i : OpId) → body_over new kept i ≡ cond (same_id id i) (borne change) (body_over old kept i)
+  body_changed i = ap (λ (x : Option Change). changed (body_in_folder kept i) (option_map borne x)) (is i) ∙ step (same_id id i)
+    where
+      step : (b : Bool) → changed (body_in_folder kept i) (option_map borne (cond b (Some change) (lookup (same_id i) old))) ≡ cond b (borne change) (body_over old kept i)
+      step true = refl
+      step false = refl
+
+  here : (i : OpId) → same_id id i ≡ true → lookup (same_id i) new ≡ Some change
+  here i t = is i ∙ ap (λ b. cond b (Some change) (lookup (same_id i) old)) t
+
+  beside : (i : OpId) → same_id id i ≡ false → lookup (same_id i) new ≡ lookup (same_id i) old
+  beside i f = is i ∙ ap (λ b. cond b (Some change) (lookup (same_id i) old)) f
+
+  pub found_changed : (before after : Lists) → Grows before after
+      → (IsSome change.flags → IsListed id (lookup (same_id change.origin) after))
+      → ((o : OpId) → origin_of (body_in_folder kept id) ≡ Some o → IsSome (lookup (same_id o) after))
+      → AreFound old before kept → AreFound new after kept
+  found_changed before after grows listed touched h = record {
+    listed = λ i x e s. elim (cases_Bool (same_id id i)) [
+      | inl t ↦
+          let k : change ≡ x = (let q = sym (here i t) ∙ e in cc) in
+          subst (λ (x : Change). IsListed i (lookup (same_id x.origin) after)) k
+          (subst (λ j. IsListed j (lookup (same_id change.origin) after)) (same_is id i t) (listed (subst (λ (x : Change). IsSome x.flags) (sym k) s)))
+      | inr f ↦ grows.listed x.origin i (h.listed i x (sym (beside i f) ∙ e) s)
+    ];
+    touched = λ i o s k. elim (cases_Bool (same_id id i)) [
+      | inl t ↦ touched o (subst (λ j. origin_of (body_in_folder kept j) ≡ Some o) (sym (same_is id i t)) k)
+      | inr f ↦ grows.touched o (h.touched i o (subst IsSome (beside i f) s) k)
+    ];
+  }
+
+pub found_grown : (kept : Option Folder) (changes : Changed) (before after : Lists) → Grows before after → AreFound changes before kept → AreFound changes after kept
+found_grown kept changes before after grows h = record {
+  listed = λ i x e s. grows.listed x.origin i (h.listed i x e s);
+  touched = λ i o s k. grows.touched o (h.touched i o s k);
+}
+
+-- ---- whether an origin has a version
+
+pub version_is : (o : OpId) (x : Option OpId) → is_some_id o x ≡ true → x ≡ Some o
+version_is o None h = absurd (false≢true h)
+version_is o (Some i) h = ap (λ z. Some z) (sym (same_is o i h))
+
+pub is_version_of : (o : OpId) (x : Option OpId) → x ≡ Some o → is_some_id o x ≡ true
+is_version_of o x e = ap (is_some_id o) e ∙ own_id o
+
+pub any_version : {X : Type 0} (id : X → OpId) (bodies : OpId → Option Body) (o : OpId) (xs : List X) → list_any (λ x. is_version bodies o (id x)) xs ≡ true → HasOrigin bodies o
+any_version id bodies o xs h =
+    let w = (any_in (λ x. is_version bodies o (id x)) xs).0 h in
+    (id w.0, version_is o (origin_of (bodies (id w.0))) w.2)
+
+pub no_version : {X : Type 0} (id : X → OpId) (bodies : OpId → Option Body) (o : OpId) (xs : List X) → list_any (λ x. is_version bodies o (id x)) xs ≡ false → (x : X) → IsIn x xs → origin_of (bodies (id x)) ≡ Some o → ⊥
+no_version id bodies o xs h x t e = false≢true (sym h ∙ (any_in (λ x. is_version bodies o (id x)) xs).1 (x, t, is_version_of o (origin_of (bodies (id x))) e))
+
+pub no_version_id : (bodies : OpId → Option Body) (o : OpId) (vs : List Version) → list_any (λ v. is_version bodies o v.id) vs ≡ false → (i : OpId) → IsIn i (version_ids vs) → origin_of (bodies i) ≡ Some o → ⊥
+no_version_id bodies o vs h i t e =
+    let w = (in_map (λ (v : Version). v.id) vs i).0 t in
+    no_version (λ (v : Version). v.id) bodies o vs h w.0 w.1 (ap (λ z. origin_of (bodies z)) w.2 ∙ e)
+
+-- a version of an origin is kept and not changed, or was put in and is listed
+pub whence : (m : MessagesAhead) (o i : OpId) → IsWhole m → origin_of (bodies_of m i) ≡ Some o → (x : Option Change) → change_of m i ≡ x
+    → ((x ≡ None) × (origin_of (body_in_folder (kept_of m) i) ≡ Some o)) ⊎ ((change : Change) × (change_of m i ≡ Some change) × (origin_of (borne change) ≡ Some o) × IsIn i (ids_listed (list_of m o)))
+whence m o i whole e None x = inl (refl, ap (λ (x : Option Change). origin_of (changed (body_in_folder (kept_of m) i) (option_map borne x))) (sym x) ∙ e)
+whence m o i whole e (Some change) x =
+    let b : origin_of (borne change) ≡ Some o = ap (λ (x : Option Change). origin_of (changed (body_in_folder (kept_of m) i) (option_map borne x))) (sym x) ∙ e in
+    let p = put_parts change.flags change.origin o b in
+    inr (change, x, b, listed_in i (list_of m o) (subst (λ z. IsListed i (list_of m z)) p.1 (whole.listed i change x p.0)))
+  where
+    put_parts : (flags : Option (Bor Flags)) (a o : OpId) → origin_of (borne (record { flags = flags; origin = a })) ≡ Some o → IsSome flags × (a ≡ o)
+    put_parts None a o h = absurd cc
+    put_parts (Some f) a o h = (cc, cc)
+
+    listed_in : (i : OpId) (x : Option (Vec OpId)) → IsListed i x → IsIn i (ids_listed x)
+    listed_in i None h = absurd h
+    listed_in i (Some ids) h = h

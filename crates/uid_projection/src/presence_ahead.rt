@@ -1,0 +1,153 @@
+//! Whether a tag of the folder is there.
+
+ghost use Rattle.std.specs.Prelude.{◌≡◌, true, false, Some};
+ghost use Rattle.std.specs.List.{slice_get};
+ghost use Rattle.std.specs.Map.{lookup};
+ghost use Rattle.tags_clocks.specs.declared.id.OpId.{OpId as Id};
+ghost use Rattle.crdt_ops.specs.Order.{same_id};
+ghost use Rattle.folder_state.specs.Kept.{folder_ids};
+ghost use Rattle.uid_projection.specs.Changes.{IsKeptTag, at_key, is_put, is_tag, is_there, is_there_at, kept_of, tag_over};
+
+use crate::changes::Change;
+use crate::messages::MessagesAhead;
+use folder_state::Folder;
+use indexmap::IndexMap;
+use tags_clocks::OpId;
+
+/// Whether one of these folder tags is there.
+pub fn has_tag_put(tags: &IndexMap<OpId, bool>) -> bool
+    ensures yes { result ≡ true → (i : Id) × (is_tag (lookup (same_id i) tags.now.entries) ≡ true) }
+    ensures no { result ≡ false → (i : Id) → is_tag (lookup (same_id i) tags.now.entries) ≡ true → ⊥ }
+{
+    let mut at = tags.len();
+    while at > 0 {
+        at -= 1;
+        if is_tag_at(tags, at) {
+            return true;
+        }
+    }
+    false
+}
+
+/// Whether the folder tag at this place is there.
+fn is_tag_at(tags: &IndexMap<OpId, bool>, place: usize) -> bool
+    ensures { result ≡ at_key is_tag tags.now.entries (slice_get tags.now.entries place) }
+{
+    match tags.get_index(place) {
+        Some((id, _)) => is_tag(tags, id),
+        None => false,
+    }
+}
+
+/// Whether the folder tag with this id is there, by these changes.
+fn is_tag(tags: &IndexMap<OpId, bool>, id: &OpId) -> bool
+    ensures { result ≡ is_tag (lookup (same_id id.now) tags.now.entries) }
+{
+    match tags.get(id).copied() {
+        Some(present) => present,
+        None => false,
+    }
+}
+
+/// Whether one of these message tags is there.
+pub fn has_change_put(changes: &IndexMap<OpId, Change<'_>>) -> bool
+    ensures yes { result ≡ true → (i : Id) × (is_put (lookup (same_id i) changes.now.entries) ≡ true) }
+    ensures no { result ≡ false → (i : Id) → is_put (lookup (same_id i) changes.now.entries) ≡ true → ⊥ }
+{
+    let mut at = changes.len();
+    while at > 0 {
+        at -= 1;
+        if is_put_at(changes, at) {
+            return true;
+        }
+    }
+    false
+}
+
+/// Whether the message tag at this place is there.
+fn is_put_at(changes: &IndexMap<OpId, Change<'_>>, place: usize) -> bool
+    ensures { result ≡ at_key is_put changes.now.entries (slice_get changes.now.entries place) }
+{
+    match changes.get_index(place) {
+        Some((id, _)) => is_put(changes, id),
+        None => false,
+    }
+}
+
+/// Whether the message tag with this id is there, by these changes.
+fn is_put(changes: &IndexMap<OpId, Change<'_>>, id: &OpId) -> bool
+    ensures { result ≡ is_put (lookup (same_id id.now) changes.now.entries) }
+{
+    match changes.get(id).copied() {
+        Some(change) => change.flags.is_some(),
+        None => false,
+    }
+}
+
+/// Whether a tag that is kept is there.
+pub fn has_tag_left(tags: &IndexMap<OpId, bool>, messages: &MessagesAhead<'_>) -> bool
+    ensures yes { result ≡ true → (i : Id) × (is_there tags.now.entries messages.now i ≡ true) }
+    ensures no { result ≡ false → (i : Id) → IsKeptTag (kept_of messages.now) i → is_there tags.now.entries messages.now i ≡ true → ⊥ }
+{
+    match messages.kept {
+        Some(folder) => has_tag_left_in(tags, messages, folder),
+        None => false,
+    }
+}
+
+/// Whether a tag that this folder keeps is there.
+fn has_tag_left_in(
+    tags: &IndexMap<OpId, bool>,
+    messages: &MessagesAhead<'_>,
+    folder: &Folder,
+) -> bool
+    requires { kept_of messages.now ≡ Some folder.now }
+    ensures yes { result ≡ true → (i : Id) × (is_there tags.now.entries messages.now i ≡ true) }
+    ensures no { result ≡ false → (i : Id) → IsKeptTag (kept_of messages.now) i → is_there tags.now.entries messages.now i ≡ true → ⊥ }
+{
+    for place in 0..folder.count() {
+        if is_there_at(tags, messages, folder, place) {
+            return true;
+        }
+    }
+    false
+}
+
+/// Whether a tag with the id at this place is there.
+fn is_there_at(
+    tags: &IndexMap<OpId, bool>,
+    messages: &MessagesAhead<'_>,
+    folder: &Folder,
+    place: usize,
+) -> bool
+    requires { kept_of messages.now ≡ Some folder.now }
+    ensures { result ≡ is_there_at tags.now.entries messages.now (slice_get (folder_ids folder.now) place) }
+{
+    match folder.id_at(place) {
+        Some(id) => is_there(tags, messages, folder, &id),
+        None => false,
+    }
+}
+
+/// Whether a tag with this id is there, of either kind.
+fn is_there(
+    tags: &IndexMap<OpId, bool>,
+    messages: &MessagesAhead<'_>,
+    folder: &Folder,
+    id: &OpId,
+) -> bool
+    requires { kept_of messages.now ≡ Some folder.now }
+    ensures { result ≡ is_there tags.now.entries messages.now id.now }
+{
+    has_tag(tags, folder, id) || messages.origin_of(id).is_some()
+}
+
+/// Whether the folder tag with this id is there.
+fn has_tag(tags: &IndexMap<OpId, bool>, folder: &Folder, id: &OpId) -> bool
+    ensures { result ≡ tag_over tags.now.entries (Some folder.now) id.now }
+{
+    match tags.get(id).copied() {
+        Some(present) => present,
+        None => folder.has_tag(id),
+    }
+}
