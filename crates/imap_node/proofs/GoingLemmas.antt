@@ -37,8 +37,8 @@ use Rattle.session_view.specs.declared.entry.Entry.{Entry}
 use Rattle.session_view.specs.declared.entry.SyncKind.{SyncKind}
 use Rattle.session_view.specs.declared.replaying.Silent.{Silent}
 use Rattle.uid_projection.specs.declared.start.Start.{Start}
-use Rattle.view_sync.specs.Noted.{CanCommit, IsChangeTo, IsNoted, changed}
-use Rattle.view_sync.specs.declared.change.Change.{Change}
+use Rattle.idle_feed.specs.Noted.{CanCommit, IsChangeTo, IsNoted, changed}
+use Rattle.idle_feed.specs.declared.change.Change.{Change}
 use Rattle.imap_node.proofs.OwnLemmas.{own_replayed}
 
 -- ---- a sync in place

@@ -14,7 +14,7 @@ use Rattle.session_view.specs.declared.changes.Note.TheVariants.{Ended}
 use Rattle.uid_projection.specs.declared.start.Start.{Start}
 use Rattle.uid_projection.specs.Incarnations.{uidvalidity_of}
 use Rattle.uid_projection.specs.Listing.{listing}
-use Rattle.view_sync.specs.Noted.{IsNoted}
+use Rattle.idle_feed.specs.Noted.{IsNoted}
 
 -- A feed that isn't there has missed all.
 abbrev pub lacking : Kept

@@ -12,8 +12,8 @@ use Rattle.imap_node.specs.Replays.{view_of}
 use Rattle.session_view.specs.Seen.{Seen}
 use Rattle.session_view.specs.declared.entry.Entry.{Entry}
 use Rattle.uid_projection.specs.declared.start.Start.{Start}
-use Rattle.view_sync.specs.Noted.{CanCommit, IsChangeTo, changed}
-use Rattle.view_sync.specs.declared.change.Change.{Change}
+use Rattle.idle_feed.specs.Noted.{CanCommit, IsChangeTo, changed}
+use Rattle.idle_feed.specs.declared.change.Change.{Change}
 
 -- The messages seen behind a change, if there is one.
 abbrev pub entries_with : List Entry → Option Change → List Entry

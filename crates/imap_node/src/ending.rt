@@ -16,7 +16,7 @@ ghost use Rattle.session_view.specs.Seen.{Seen};
 ghost use Rattle.session_view.specs.Sync.{sync_answers, synced};
 ghost use Rattle.session_view.specs.Views.{AreRising};
 ghost use Rattle.std.specs.List.{list_any};
-ghost use Rattle.view_sync.specs.Noted.{CanCommit, IsChangeTo, changed};
+ghost use Rattle.idle_feed.specs.Noted.{CanCommit, IsChangeTo, changed};
 
 use crate::going::Onward;
 use crate::news::News;
@@ -24,7 +24,7 @@ use crate::replica::Replica;
 use crate::reply::copied_silents;
 use crate::telling::{rows_behind, validity_after};
 use crdt_ops::SoundOp;
-use idle_feed::Feed;
+use idle_feed::{Feed, Noted, Planned, plan};
 use imap_answers::Answer;
 use imap_commands::State;
 use imap_syntax::Command;
@@ -36,7 +36,6 @@ use session_view::{
 };
 use std::alloc::{AllocError, Global};
 use std::marker::Model;
-use view_sync::{Noted, Planned, plan};
 
 /// The state behind a command, before its answers are replayed, where it isn't the one before. It shows no messages of a mailbox that is selected anew.
 pub fn moves_to(

@@ -15,11 +15,10 @@ ghost use Rattle.uid_projection.specs.declared.start.Start.{Start as First};
 use crate::going::{Going, Onward};
 use crate::news::News;
 use crate::sessions::{SessionNo, Sessions};
-use idle_feed::{Feed, Taken};
+use idle_feed::{Change, Feed, Taken, commit, note_all};
 use imap_commands::{Session, State};
 use std::alloc::Global;
 use std::marker::Model;
-use view_sync::{Change, commit, note_all};
 
 /// What each session is still to be told, by its number. One without a feed is told by a comparison of all that it sees.
 pub struct Feeds {

@@ -1,8 +1,8 @@
 //! What becomes of a session whose input is carried out.
 
+use idle_feed::Change;
 use imap_commands::State;
 use imap_types::Octets;
-use view_sync::Change;
 
 /// What becomes of a session's state.
 #[derive(Drop)]

@@ -5,7 +5,7 @@ use Rattle.imap_node.proofs.ending.planned_behind.Goals as goal
 use Rattle.mail_listing.specs.Listed.{Listed}
 use Rattle.session_view.specs.Replay.{after_silent}
 use Rattle.session_view.specs.Sync.{sync_answers, synced}
-use Rattle.view_sync.specs.Noted.{IsChangeTo, changed}
+use Rattle.idle_feed.specs.Noted.{IsChangeTo, changed}
 
 pub plan-planned-requires : goal.plan-planned-requires
 plan-planned-requires c =

@@ -1,6 +1,6 @@
 use Rattle.std.proofs.Common.{◌≡◌, sym, subst}
 use Rattle.session_view.specs.Seen.{Seen}
-use Rattle.view_sync.specs.Noted.{IsNoted}
+use Rattle.idle_feed.specs.Noted.{IsNoted}
 use Rattle.imap_node.specs.Feeds.{IsNotedFor}
 use Rattle.imap_node.specs.Mailboxes.{rows_for}
 use Rattle.imap_node.proofs.GoingLemmas.{leaves_in, same_seen}

@@ -1,7 +1,7 @@
 use Rattle.std.proofs.Common.{◌≡◌, ◌⊎◌, inl, inr, nat_le, Bool, true, List, [], ◌∷◌, ◌++◌, length, refl, sym, ◌∙◌, append_assoc}
 use Rattle.std.proofs.lemmas.Bool.{cases_Bool, false≢true}
 use Rattle.mail_listing.specs.Listed.{Listed}
-use Rattle.view_sync.specs.Noted.{IsLeft, IsNoted}
+use Rattle.idle_feed.specs.Noted.{IsLeft, IsNoted}
 use Rattle.idle_feed.specs.Feeds.{Pending, after, came_back, nothing, one}
 use Rattle.idle_feed.specs.declared.feed.Taken.{Taken}
 use Rattle.idle_feed.specs.declared.feed.Taken.TheVariants.{Changes, Resync}

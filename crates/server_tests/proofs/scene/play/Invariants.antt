@@ -1,4 +1,4 @@
-use Rattle.crowd_tests.proofs.scene.play.Given as goal
+use Rattle.server_tests.proofs.scene.play.Given as goal
 
 abbrev pub ghosts-played-L-Ledger : goal.ghosts-played-L-Ledger
 ghosts-played-L-Ledger g a = record { name = a.blanks.0.name; parts = a.blanks.0.parts }

@@ -7,7 +7,7 @@ use Rattle.session_view.specs.Views.{entries_of, entry_of, last_uid}
 use Rattle.session_view.specs.declared.changes.Note.{Note}
 use Rattle.session_view.specs.declared.entry.Entry.{Entry}
 use Rattle.session_view.specs.declared.entry.SyncKind.{SyncKind}
-use Rattle.view_sync.proofs.planning.anew.Goals as goal
+use Rattle.idle_feed.proofs.planning.anew.Goals as goal
 
 pub returns-clause-change : goal.returns-clause-change
 returns-clause-change c = λ h.

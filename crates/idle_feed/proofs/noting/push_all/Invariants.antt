@@ -1,5 +1,5 @@
 use Rattle.std.proofs.Common.{◌≡◌, ◌⊎◌, ◌++◌, true, drop}
-use Rattle.view_sync.proofs.noting.push_all.Given as goal
+use Rattle.idle_feed.proofs.noting.push_all.Given as goal
 
 abbrev pub invariant-loop-note : goal.invariant-loop-note
 invariant-loop-note l = record {

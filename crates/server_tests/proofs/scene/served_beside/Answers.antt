@@ -5,10 +5,10 @@ use denote.Struct.Declared.{shape}
 use Rattle.std.specs.declared.sync.ledger.Ledger as ledger
 use Rattle.replica_lock.proofs.ThreadLemmas.{shared_sync}
 use Rattle.mail_serving.proofs.house.House.TheSendSync as house
-use Rattle.crowd_tests.proofs.doors.Signs.TheSendSync as signs
-use Rattle.crowd_tests.proofs.scene.Hold.TheSendSync as hold
-use Rattle.crowd_tests.specs.contracts.scene.Stage as stage
-use Rattle.crowd_tests.proofs.scene.served_beside.Goals as goal
+use Rattle.server_tests.proofs.doors.Signs.TheSendSync as signs
+use Rattle.server_tests.proofs.scene.Hold.TheSendSync as hold
+use Rattle.server_tests.specs.contracts.scene.Stage as stage
+use Rattle.server_tests.proofs.scene.served_beside.Goals as goal
 
 module _ (a : NamedLft) (L M : RattleType) (g : ledger.Ghosts L.Denot) (h : ledger.Ghosts M.Denot) where
   stage_sync : IsSend L → IsSync L → IsSend M → IsSync M → IsSync (stage.the_row a L M g h)

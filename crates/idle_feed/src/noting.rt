@@ -5,9 +5,9 @@ ghost use Rattle.mail_listing.specs.Listed.{Listed};
 ghost use Rattle.session_view.specs.Changes.{NamesAll};
 ghost use Rattle.session_view.specs.Views.{entries_of};
 ghost use Rattle.session_view.specs.declared.entry.Entry.{Entry as OneEntry};
-ghost use Rattle.view_sync.specs.Noted.{IsNoted};
+ghost use Rattle.idle_feed.specs.Noted.{IsNoted};
 
-use idle_feed::Feed;
+use crate::feed::Feed;
 use session_view::Note;
 
 /// Notes what changed in a view's mailbox; takes no memory. What lacks room is missed, and the feed says so.

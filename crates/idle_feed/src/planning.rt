@@ -9,10 +9,10 @@ ghost use Rattle.session_view.specs.Sync.{sync_answers, synced};
 ghost use Rattle.session_view.specs.Views.{entries_of};
 ghost use Rattle.session_view.specs.declared.changes.Note.TheVariants.{Ended};
 ghost use Rattle.session_view.specs.declared.entry.SyncKind.TheVariants.{Full};
-ghost use Rattle.view_sync.specs.Noted.{CanCommit, IsChangeTo, IsNoted, changed};
+ghost use Rattle.idle_feed.specs.Noted.{CanCommit, IsChangeTo, IsNoted, changed};
 
 use crate::change::Change;
-use idle_feed::Feed;
+use crate::feed::Feed;
 use imap_answers::Answer;
 use mail_listing::Rows;
 use session_view::{

@@ -2,9 +2,9 @@ use Rattle.std.proofs.Common.{List, true, ap, sym, subst, ◌∙◌}
 use Rattle.idle_feed.specs.Feeds.{Pending, after, came_back}
 use Rattle.session_view.specs.Seen.{Seen}
 use Rattle.session_view.specs.declared.entry.Entry.{Entry}
-use Rattle.view_sync.specs.Noted.{IsNoted, changed}
-use Rattle.view_sync.proofs.SyncedLemmas.{left_is_noted}
-use Rattle.view_sync.proofs.change.commit.Goals as goal
+use Rattle.idle_feed.specs.Noted.{IsNoted, changed}
+use Rattle.idle_feed.proofs.SyncedLemmas.{left_is_noted}
+use Rattle.idle_feed.proofs.change.commit.Goals as goal
 
 pub returns-clause-noted : goal.returns-clause-noted
 returns-clause-noted c = λ rows h.

@@ -4,9 +4,9 @@ ghost use Rattle.std.specs.Prelude.{◌≡◌, List};
 ghost use Rattle.idle_feed.specs.Feeds.{Pending};
 ghost use Rattle.mail_listing.specs.Listed.{Listed};
 ghost use Rattle.session_view.specs.declared.entry.Entry.{Entry as OneEntry};
-ghost use Rattle.view_sync.specs.Noted.{CanCommit, IsChangeTo, IsLeft, IsLeftBy, IsNoted, changed};
+ghost use Rattle.idle_feed.specs.Noted.{CanCommit, IsChangeTo, IsLeft, IsLeftBy, IsNoted, changed};
 
-use idle_feed::{Feed, Taken};
+use crate::feed::{Feed, Taken};
 use session_view::{Changes, Entries, Note, Patch, Silent, View};
 
 /// What a sync does to a view, with all memory that it takes.

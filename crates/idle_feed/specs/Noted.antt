@@ -1,7 +1,7 @@
 use Rattle.std.specs.Prelude.{◌≡◌, ◌⊎◌, Bool, true, List, []}
 use Rattle.mail_listing.specs.Listed.{Listed}
-use Rattle.view_sync.specs.declared.change.Change.{Change}
-use Rattle.view_sync.specs.declared.change.Change.TheVariants.{InPlace, Anew}
+use Rattle.idle_feed.specs.declared.change.Change.{Change}
+use Rattle.idle_feed.specs.declared.change.Change.TheVariants.{InPlace, Anew}
 use Rattle.idle_feed.specs.Feeds.{Pending}
 use Rattle.idle_feed.specs.declared.feed.Taken.{Taken}
 use Rattle.idle_feed.specs.declared.feed.Taken.TheVariants.{Changes, Resync}
