@@ -260,6 +260,9 @@ impl Replica {
         requires { IsReady self.now ops.now }
         ensures { result ≡ uidvalidity_of self.now.start name.now (self.now.applied ++ ops.now) }
     {
+        if ops.is_empty() {
+            return self.uidvalidity(name);
+        }
         self.charts_now()
             .uidvalidity_after(self.folders_now(), name, ops)
     }
@@ -282,7 +285,7 @@ impl Replica {
             .highest_after(self.folders_now(), name, ops)
     }
 
-    /// The listing that the mailbox has behind these operations; `Err` where there is no memory for it.
+    /// The listing that the mailbox has behind these operations; `Err` where there is no memory for it. Where there are none, it is the one before them.
     pub fn rows_after<'a>(
         &'a self,
         alloc: Global,
@@ -292,6 +295,9 @@ impl Replica {
         requires { IsReady self.now ops.now }
         ensures { IfOk result (λ rows. rows ≡ listing self.now.start name.now (self.now.applied ++ ops.now)) }
     {
+        if ops.is_empty() {
+            return self.rows(alloc, name);
+        }
         self.charts_now()
             .rows_after(alloc, self.folders_now(), name, ops)
     }
