@@ -288,7 +288,7 @@ fn part_of(item: &FetchItem) -> Part
     }
 }
 
-/// The sections that are asked, in order.
+/// The sections that are asked, in order, in no more memory than they take: a journal keeps them for good.
 fn sections(alloc: Global, row: &Row<'_>, items: &[FetchItem]) -> Result<Sections, AllocError>
     ensures { IfOk result (λ sections. sections ≡ are_sections (listed row.now).text items.now) }
 {
@@ -296,6 +296,7 @@ fn sections(alloc: Global, row: &Row<'_>, items: &[FetchItem]) -> Result<Section
     for item in items {
         push_section(alloc, row, item, &mut found)?;
     }
+    found.shrink_to_fit();
     Ok(Sections::new(found))
 }
 
