@@ -5,7 +5,7 @@ use crate::deeds::Ending;
 use crate::told::tell_answers;
 use crdt_ops::SoundOp;
 use merge_laws::Caused;
-use replica_lock::{Book, BookEvent, Entry, FinishFault, Outcome};
+use replica_lock::{Book, BookEvent, FinishFault, Lent, Outcome};
 use std::alloc::{AllocError, Global};
 
 /// What is left of a replica: its book, or why it isn't handed out, and what its callers saw.
@@ -157,7 +157,7 @@ fn tell_history(
 /// Whether the entry there has this outcome.
 fn stands(book: &Book, place: u64, outcome: &Outcome) -> bool {
     match book.entry(place) {
-        Some(entry) => entry.outcome.same(outcome),
+        Some(kept) => kept.has_outcome(outcome),
         None => false,
     }
 }
@@ -181,13 +181,15 @@ fn own_commands(alloc: Global, book: &Book, seen: &Seen) -> Result<usize, AllocE
 
 /// Whether the entry there is the command with this tag.
 fn has_tag(book: &Book, place: u64, tag: &str) -> bool {
-    match book.entry(place) {
-        Some(
-            Entry {
-                event: BookEvent::Command { tagged, .. },
-                outcome: _,
-            },
-        ) => tagged.tag.as_bytes() == tag.as_bytes(),
-        _ => false,
+    let Some(kept) = book.entry(place) else {
+        return false;
+    };
+    match kept.lent() {
+        Lent::Noop { tag: found, .. } => found.as_bytes() == tag.as_bytes(),
+        Lent::Closed { .. } => false,
+        Lent::Whole { entry } => match &entry.event {
+            BookEvent::Command { tagged, .. } => tagged.tag.as_bytes() == tag.as_bytes(),
+            _ => false,
+        },
     }
 }

@@ -5,7 +5,7 @@ use crdt_ops::SoundOp;
 use crossbeam_channel::Receiver;
 use merge_laws::Caused;
 use replica_links::LinkMsg;
-use replica_lock::{Book, BookEvent, Entry, Outcome};
+use replica_lock::{Book, BookEvent, Entry, Lent, Outcome};
 use std::alloc::{AllocError, Global};
 use std::sync::Wait;
 use tags_clocks::{Clock, OpId};
@@ -99,8 +99,10 @@ pub fn all_lines<R: Wait>(
 /// Tells what became of all deliveries and drains in a journal, a line each.
 pub fn tell_answers(text: &mut String, book: &Book) -> Result<(), AllocError> {
     for place in 0..book.len() {
-        if let Some(entry) = book.entry(place.saturating_add(1)) {
-            tell_entry(text, entry)?;
+        if let Some(kept) = book.entry(place.saturating_add(1)) {
+            if let Lent::Whole { entry } = kept.lent() {
+                tell_entry(text, entry)?;
+            }
         }
     }
     Ok(())

@@ -3,7 +3,7 @@
 ghost use Rattle.std.specs.Prelude.{◌≡◌, ◌+◌, ◌<◌, if◌then◌else◌};
 ghost use Rattle.mail_serving.specs.Totals.{has_opened, is_command, totals_of};
 
-use replica_lock::{Book, BookEvent, Entry, Outcome};
+use replica_lock::{Book, BookEvent, Kept, Lent, Outcome};
 
 /// What a replica served until it stopped.
 #[derive(Clone, Copy, Debug, PartialEq, Eq)]
@@ -25,11 +25,11 @@ pub fn totals_of(book: &Book) -> Totals
     let mut sessions = 0;
     let mut commands = 0;
     for place in 0..book.len() {
-        let Some(entry) = book.entry(place + 1) else {
+        let Some(kept) = book.entry(place + 1) else {
             unreachable!()
         };
-        sessions = counted(sessions, has_opened(entry));
-        commands = counted(commands, is_command(entry));
+        sessions = counted(sessions, has_opened(kept));
+        commands = counted(commands, is_command(kept));
     }
     Totals {
         sessions,
@@ -48,21 +48,29 @@ fn counted(count: u64, is_so: bool) -> u64
 }
 
 /// Whether a session was opened.
-fn has_opened(entry: &Entry) -> bool
-    ensures { result ≡ has_opened entry.now }
+fn has_opened(kept: &Kept) -> bool
+    ensures { result ≡ has_opened kept.now }
 {
-    match &entry.outcome {
-        Outcome::Opened { answer: Ok(_) } => true,
-        _ => false,
+    match kept.lent() {
+        Lent::Noop { .. } => false,
+        Lent::Closed { .. } => false,
+        Lent::Whole { entry } => match &entry.outcome {
+            Outcome::Opened { answer: Ok(_) } => true,
+            _ => false,
+        },
     }
 }
 
 /// Whether a command came.
-fn is_command(entry: &Entry) -> bool
-    ensures { result ≡ is_command entry.now }
+fn is_command(kept: &Kept) -> bool
+    ensures { result ≡ is_command kept.now }
 {
-    match &entry.event {
-        BookEvent::Command { .. } => true,
-        _ => false,
+    match kept.lent() {
+        Lent::Noop { .. } => true,
+        Lent::Closed { .. } => false,
+        Lent::Whole { entry } => match &entry.event {
+            BookEvent::Command { .. } => true,
+            _ => false,
+        },
     }
 }

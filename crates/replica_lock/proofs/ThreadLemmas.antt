@@ -9,7 +9,7 @@ use Rattle.std.proofs.sync.ledger.Book.TheSendSync as calls
 use Rattle.std.specs.declared.sync.ledger.Ledger as ledger
 use Rattle.imap_node.proofs.ThreadLemmas.{node_send}
 use Rattle.replica_lock.proofs.bells.Bells.TheSendSync as bells
-use Rattle.replica_lock.proofs.book.Entry.TheSendSync as entry
+use Rattle.replica_lock.proofs.kept.Kept.TheSendSync as stored
 use Rattle.replica_lock.specs.contracts.book.Book as book
 use Rattle.replica_lock.specs.contracts.book.Book.TheInside as told
 use Rattle.replica_lock.specs.contracts.locked.Locked as locked
@@ -19,7 +19,7 @@ use Rattle.replica_lock.specs.contracts.shared.Shared as shared
 pub book_send : IsSend book.the_row
 book_send = view_send told.the_row _ _ _ _
     (recorded_send (told.the_field).row _ _ (told.the_type).to_one
-    (struct_send (shape told.the_type) (node_send, (search sendable, (chunks.the_send _ entry.the_send, (search sendable, tt))))))
+    (struct_send (shape told.the_type) (node_send, (search sendable, (chunks.the_send _ stored.the_send, (search sendable, tt))))))
 
 module _ (L : RattleType) (g : ledger.Ghosts L.Denot) where
   locked_send : IsSend L → IsSend (locked.the_row L g)

@@ -1,3 +1,4 @@
+pub mod Keeping
 pub mod Steps
 pub mod Histories
 pub mod Passes

@@ -22,7 +22,7 @@ pub loop-place-preserved : goal.loop-place-preserved
 loop-place-preserved c =
     let journal = c.args.book.now.journal in
     let place = c.loop-place.place in
-    let entry = c.in-Some.entry.now in
+    let entry = c.in-Some.kept.now in
     record {
       sessions = c.counted-sessions.ensures ∙ ap (λ b. one_where b c.loop-place.sessions) c.has_opened.ensures ∙ next_tally has_opened journal place c.loop-place.sessions entry c.in-Some.ensures c.loop-place.invariant.sessions;
       commands = c.counted-commands.ensures ∙ ap (λ b. one_where b c.loop-place.commands) c.is_command.ensures ∙ next_tally is_command journal place c.loop-place.commands entry c.in-Some.ensures c.loop-place.invariant.commands;

@@ -1,0 +1,236 @@
+//! What a journal keeps of its entries.
+
+ghost use Rattle.std.specs.Prelude.{◌≡◌, ◌↔◌, ◌∷◌, [], None, IfOk, IsTrue};
+ghost use Rattle.imap_answers.specs.declared.answer.Answer.TheVariants.{Completed};
+ghost use Rattle.imap_answers.specs.declared.words.CommandWord.TheVariants as words;
+ghost use Rattle.replica_lock.specs.Keeping.{closed_entry, entry_lent, noop_done, noop_entry};
+ghost use Rattle.replica_lock.specs.declared.outcome.Outcome.TheVariants as outcomes;
+
+use crate::book::Entry;
+use crate::event::BookEvent;
+use crate::outcome::Outcome;
+use imap_answers::{Answer, CommandWord};
+use imap_node::{Reply, SessionNo};
+use imap_types::{Moment, Octets};
+use std::alloc::{AllocError, Global};
+use std::marker::Model;
+
+/// An entry as a journal keeps it. A NOOP that was told its end alone takes no more than its tag, and the end of a session no memory beside its place, so that it
+/// can't lack any.
+pub struct Kept {
+    form: Form,
+}
+
+enum Form {
+    Noop {
+        session: SessionNo,
+        moment: Moment,
+        tag: Octets,
+    },
+    Closed {
+        session: SessionNo,
+    },
+    Whole {
+        entry: Box<Entry>,
+    },
+}
+
+// By hand, so that what holds it lets it go as a whole.
+impl Drop for Form {
+    fn drop(self) {
+        match self {
+            Self::Noop {
+                session: _,
+                moment: _,
+                tag: _,
+            } => {}
+            Self::Closed { session: _ } => {}
+            Self::Whole { entry: _ } => {}
+        }
+    }
+}
+
+// By hand, so that crates above let it go as a whole.
+impl Drop for Kept {
+    fn drop(self) {
+        let Self { form: _ } = self;
+    }
+}
+
+impl Model for Kept {
+    ghost use Rattle.replica_lock.specs.Keeping.{entry_of};
+    ghost use Rattle.replica_lock.specs.declared.book.Entry.{Entry};
+
+    ghost Value = { Entry };
+
+    ghost view = { λ k. entry_of k.form };
+}
+
+/// An entry as it is read in a journal.
+#[derive(Clone, Copy)]
+pub enum Lent<'a> {
+    /// A NOOP that was told its end alone.
+    Noop {
+        /// The session.
+        session: SessionNo,
+        /// When the command came.
+        moment: Moment,
+        /// Its tag.
+        tag: &'a Octets,
+    },
+    /// A session that was closed.
+    Closed {
+        /// The session.
+        session: SessionNo,
+    },
+    /// Any entry.
+    Whole {
+        /// It.
+        entry: &'a Entry,
+    },
+}
+
+impl Kept {
+    /// A NOOP with this tag that was told its end alone.
+    pub(crate) fn noop(session: SessionNo, moment: Moment, tag: Octets) -> Kept
+        ensures { result ≡ noop_entry session moment tag }
+    {
+        Kept {
+            form: Form::Noop {
+                session,
+                moment,
+                tag,
+            },
+        }
+    }
+
+    /// A session that was closed.
+    pub(crate) fn closed(session: SessionNo) -> Kept
+        ensures { result ≡ closed_entry session }
+    {
+        Kept {
+            form: Form::Closed { session },
+        }
+    }
+
+    /// The entry.
+    pub fn lent(&self) -> Lent<'_>
+        ensures { entry_lent result ≡ self.now }
+    {
+        match &self.form {
+            Form::Noop {
+                session,
+                moment,
+                tag,
+            } => Lent::Noop {
+                session: *session,
+                moment: *moment,
+                tag,
+            },
+            Form::Closed { session } => Lent::Closed { session: *session },
+            Form::Whole { entry } => Lent::Whole { entry },
+        }
+    }
+
+    /// Whether this came of its event.
+    pub fn has_outcome(&self, outcome: &Outcome) -> bool
+        ensures { IsTrue result ↔ (self.now.outcome ≡ outcome.now) }
+    {
+        match &self.form {
+            Form::Noop { tag, .. } => is_replied_done(outcome, tag),
+            Form::Closed { .. } => Outcome::Closed.same(outcome),
+            Form::Whole { entry } => entry.outcome.same(outcome),
+        }
+    }
+}
+
+/// Whether a NOOP with this tag was told its end alone.
+fn is_replied_done(outcome: &Outcome, tag: &Octets) -> bool
+    ensures { IsTrue result ↔ (outcomes.Replied (noop_done tag.now) ≡ outcome.now) }
+{
+    match outcome {
+        Outcome::Replied { reply } => is_done(reply, tag),
+        _ => false,
+    }
+}
+
+/// Whether a reply is the end of a NOOP with this tag, and nothing else.
+pub fn is_done(reply: &Reply, tag: &Octets) -> bool
+    ensures { IsTrue result ↔ (noop_done tag.now ≡ reply.now) }
+{
+    match reply {
+        Reply::Done {
+            answers,
+            silent,
+            issued,
+        } => {
+            is_end(answers.as_slice(), tag)
+                && silent.as_slice().is_empty()
+                && issued.as_slice().is_empty()
+        }
+        Reply::Refused { .. } => false,
+    }
+}
+
+/// Whether answers are the end of a NOOP with this tag, and nothing else.
+fn is_end(answers: &[Answer], tag: &Octets) -> bool
+    ensures { IsTrue result ↔ (Completed tag.now None words.Noop ∷ [] ≡ answers.now) }
+{
+    answers.len() == 1 && completes(&answers[0], tag)
+}
+
+/// Whether an answer is the end of a NOOP with this tag.
+fn completes(answer: &Answer, tag: &Octets) -> bool
+    ensures { IsTrue result ↔ (Completed tag.now None words.Noop ≡ answer.now) }
+{
+    match answer {
+        Answer::Completed {
+            tag: told,
+            code: None,
+            command: CommandWord::Noop,
+        } => told.as_bytes() == tag.as_bytes(),
+        _ => false,
+    }
+}
+
+/// An event whose outcome is still to come, with all memory that its entry takes.
+pub struct Begun {
+    entry: Box<Entry>,
+}
+
+// By hand, so that functions with several exits let it go as a whole.
+impl Drop for Begun {
+    fn drop(self) {
+        let Self { entry: _ } = self;
+    }
+}
+
+impl Model for Begun {
+    ghost use Rattle.replica_lock.specs.declared.event.BookEvent.{BookEvent};
+
+    ghost Value = { BookEvent };
+
+    ghost view = { λ b. b.entry.value.event };
+}
+
+impl Begun {
+    /// The event; `Err` where there is no memory for its entry.
+    pub fn new(alloc: Global, event: BookEvent) -> Result<Begun, AllocError>
+        ensures { IfOk result (λ begun. begun ≡ event) }
+    {
+        let outcome = Outcome::PassedOver;
+        let entry = Box::new(alloc, Entry { event, outcome })?;
+        Ok(Begun { entry })
+    }
+
+    /// The entry, with what came of the event. It takes no memory.
+    pub fn ended(self, outcome: Outcome) -> Kept
+        ensures { result ≡ record { event = self; outcome = outcome } }
+    {
+        let Begun { mut entry } = self;
+        entry.outcome = outcome;
+        Kept {
+            form: Form::Whole { entry },
+        }
+    }
+}
