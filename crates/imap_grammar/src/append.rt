@@ -6,7 +6,7 @@ use crate::fault::ParseFault;
 use crate::flags::{collected, flag_group};
 use crate::modifier::{left_out, peeks};
 use crate::scan::space;
-use crate::text::{literal, mailbox};
+use crate::text::{literal, spaced_mailbox};
 use imap_syntax::{Append, Command};
 use imap_types::{DateTime, Flags, Text};
 use std::alloc::Global;
@@ -15,7 +15,7 @@ use std::alloc::Global;
 pub fn append(alloc: Global, octets: &[u8]) -> Result<(Command, &[u8]), ParseFault>
     ensures { Gives (λ x. (x.0, x.1.now)) result (append_at octets.now) }
 {
-    let (name, rest) = mailbox(alloc, space(octets)?)?;
+    let (name, rest) = spaced_mailbox(alloc, octets)?;
     match message(alloc, rest) {
         Err(fault) => {
             drop(name);

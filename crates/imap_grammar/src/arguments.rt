@@ -1,6 +1,6 @@
 ghost use Rattle.std.specs.Prelude.{◌≡◌};
 ghost use Rattle.imap_grammar.specs.Reading.{Gives, listed_at, named_at, parens_at, spaced};
-ghost use Rattle.imap_grammar.specs.CommandReading.{arguments_at, condstore_at, copy_at, create_at, delete_at, enable_at, examine_at, login_at, move_at, select_at, status_at, subscribe_at, uid_arguments_at, uid_at, uid_expunge_at, unsubscribe_at};
+ghost use Rattle.imap_grammar.specs.CommandReading.{arguments_at, condstore_at, copied_at, copy_at, create_at, delete_at, enable_at, examine_at, login_at, move_at, opened_at, select_at, status_at, subscribe_at, uid_arguments_at, uid_at, uid_expunge_at, unsubscribe_at};
 ghost use Rattle.imap_syntax.specs.Words.{command_word, status_items, status_word, uid_words};
 
 use crate::append::append;
@@ -11,13 +11,13 @@ use crate::listing::list;
 use crate::modifier::modifier_word;
 use crate::scan::{skip, space};
 use crate::searching::search;
-use crate::sets::set;
+use crate::sets::spaced_set;
 use crate::status::StatusItems;
 use crate::store::store;
-use crate::text::{mailbox, plain, text};
+use crate::text::{plain, spaced_mailbox, spaced_texts};
 use crate::word::named;
 use imap_syntax::{Class, Command, CommandWord, Many, StatusItem, Transfer};
-use imap_types::Octets;
+use imap_types::{Name, Octets, SequenceSet};
 use std::alloc::Global;
 
 /// What stands behind a command's word, as `specs/Commands.antt` of `imap_syntax` says of each.
@@ -61,8 +61,7 @@ pub fn arguments(
 fn login(alloc: Global, octets: &[u8]) -> Result<(Command, &[u8]), ParseFault>
     ensures { Gives (λ x. (x.0, x.1.now)) result (login_at octets.now) }
 {
-    let (user, rest) = text(alloc, Class::Astring, space(octets)?)?;
-    let (password, rest) = text(alloc, Class::Astring, space(rest)?)?;
+    let ((user, password), rest) = spaced_texts(alloc, octets)?;
     Ok((Command::Login { user, password }, rest))
 }
 
@@ -97,17 +96,24 @@ fn enable(alloc: Global, octets: &[u8]) -> Result<(Command, &[u8]), ParseFault>
 fn select(alloc: Global, octets: &[u8]) -> Result<(Command, &[u8]), ParseFault>
     ensures { Gives (λ x. (x.0, x.1.now)) result (select_at octets.now) }
 {
-    let (name, rest) = mailbox(alloc, space(octets)?)?;
-    let (condstore, rest) = condstore(rest)?;
+    let ((name, condstore), rest) = opened(alloc, octets)?;
     Ok((Command::Select { name, condstore }, rest))
 }
 
 fn examine(alloc: Global, octets: &[u8]) -> Result<(Command, &[u8]), ParseFault>
     ensures { Gives (λ x. (x.0, x.1.now)) result (examine_at octets.now) }
 {
-    let (name, rest) = mailbox(alloc, space(octets)?)?;
-    let (condstore, rest) = condstore(rest)?;
+    let ((name, condstore), rest) = opened(alloc, octets)?;
     Ok((Command::Examine { name, condstore }, rest))
+}
+
+/// The mailbox to open, and whether CONDSTORE stands behind it.
+fn opened(alloc: Global, octets: &[u8]) -> Result<((Name, bool), &[u8]), ParseFault>
+    ensures { Gives (λ x. (x.0, x.1.now)) result (opened_at octets.now) }
+{
+    let (name, rest) = spaced_mailbox(alloc, octets)?;
+    let (condstore, rest) = condstore(rest)?;
+    Ok(((name, condstore), rest))
 }
 
 /// ` (CONDSTORE)` or nothing (RFC 7162, section 3.1.8).
@@ -130,35 +136,35 @@ fn condstore(octets: &[u8]) -> Result<(bool, &[u8]), ParseFault>
 fn create(alloc: Global, octets: &[u8]) -> Result<(Command, &[u8]), ParseFault>
     ensures { Gives (λ x. (x.0, x.1.now)) result (create_at octets.now) }
 {
-    let (name, rest) = mailbox(alloc, space(octets)?)?;
+    let (name, rest) = spaced_mailbox(alloc, octets)?;
     Ok((Command::Create { name }, rest))
 }
 
 fn delete(alloc: Global, octets: &[u8]) -> Result<(Command, &[u8]), ParseFault>
     ensures { Gives (λ x. (x.0, x.1.now)) result (delete_at octets.now) }
 {
-    let (name, rest) = mailbox(alloc, space(octets)?)?;
+    let (name, rest) = spaced_mailbox(alloc, octets)?;
     Ok((Command::Delete { name }, rest))
 }
 
 fn subscribe(alloc: Global, octets: &[u8]) -> Result<(Command, &[u8]), ParseFault>
     ensures { Gives (λ x. (x.0, x.1.now)) result (subscribe_at octets.now) }
 {
-    let (name, rest) = mailbox(alloc, space(octets)?)?;
+    let (name, rest) = spaced_mailbox(alloc, octets)?;
     Ok((Command::Subscribe { name }, rest))
 }
 
 fn unsubscribe(alloc: Global, octets: &[u8]) -> Result<(Command, &[u8]), ParseFault>
     ensures { Gives (λ x. (x.0, x.1.now)) result (unsubscribe_at octets.now) }
 {
-    let (name, rest) = mailbox(alloc, space(octets)?)?;
+    let (name, rest) = spaced_mailbox(alloc, octets)?;
     Ok((Command::Unsubscribe { name }, rest))
 }
 
 fn status(alloc: Global, octets: &[u8]) -> Result<(Command, &[u8]), ParseFault>
     ensures { Gives (λ x. (x.0, x.1.now)) result (status_at octets.now) }
 {
-    let (name, rest) = mailbox(alloc, space(octets)?)?;
+    let (name, rest) = spaced_mailbox(alloc, octets)?;
     match status_items(alloc, rest) {
         Err(fault) => {
             drop(name);
@@ -184,8 +190,7 @@ fn status_items(alloc: Global, octets: &[u8]) -> Result<(Vec<StatusItem>, &[u8])
 fn copy(alloc: Global, by_uid: bool, octets: &[u8]) -> Result<(Command, &[u8]), ParseFault>
     ensures { Gives (λ x. (x.0, x.1.now)) result (copy_at by_uid octets.now) }
 {
-    let (messages, rest) = set(alloc, space(octets)?)?;
-    let (name, rest) = mailbox(alloc, space(rest)?)?;
+    let ((messages, name), rest) = copied(alloc, octets)?;
     let transfer = Transfer {
         by_uid,
         messages,
@@ -197,14 +202,22 @@ fn copy(alloc: Global, by_uid: bool, octets: &[u8]) -> Result<(Command, &[u8]), 
 fn move_messages(alloc: Global, by_uid: bool, octets: &[u8]) -> Result<(Command, &[u8]), ParseFault>
     ensures { Gives (λ x. (x.0, x.1.now)) result (move_at by_uid octets.now) }
 {
-    let (messages, rest) = set(alloc, space(octets)?)?;
-    let (name, rest) = mailbox(alloc, space(rest)?)?;
+    let ((messages, name), rest) = copied(alloc, octets)?;
     let transfer = Transfer {
         by_uid,
         messages,
         name,
     };
     Ok((Command::Move(transfer), rest))
+}
+
+/// The messages to copy or move, and the mailbox that they go to.
+fn copied(alloc: Global, octets: &[u8]) -> Result<((SequenceSet, Name), &[u8]), ParseFault>
+    ensures { Gives (λ x. (x.0, x.1.now)) result (copied_at octets.now) }
+{
+    let (messages, rest) = spaced_set(alloc, octets)?;
+    let (name, rest) = spaced_mailbox(alloc, rest)?;
+    Ok(((messages, name), rest))
 }
 
 const UID_WORDS: [CommandWord; 6] = [
@@ -251,6 +264,6 @@ fn uid_arguments(
 fn uid_expunge(alloc: Global, octets: &[u8]) -> Result<(Command, &[u8]), ParseFault>
     ensures { Gives (λ x. (x.0, x.1.now)) result (uid_expunge_at octets.now) }
 {
-    let (uids, rest) = set(alloc, space(octets)?)?;
+    let (uids, rest) = spaced_set(alloc, octets)?;
     Ok((Command::UidExpunge { uids }, rest))
 }

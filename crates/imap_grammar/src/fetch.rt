@@ -10,7 +10,7 @@ use crate::listed::{Element, listed};
 use crate::modifier::{changed_since, left_out};
 use crate::numbers::{number, nz};
 use crate::scan::{skip, space, span};
-use crate::sets::set;
+use crate::sets::spaced_set;
 use crate::text::text;
 use crate::word::{Word, find};
 use imap_syntax::{Class, Command, Fetch, FetchItem, FetchWord, Many, Partial, SectionWord};
@@ -71,7 +71,7 @@ impl Word for SectionWord {
 pub fn fetch(alloc: Global, by_uid: bool, octets: &[u8]) -> Result<(Command, &[u8]), ParseFault>
     ensures { Gives (λ x. (x.0, x.1.now)) result (fetch_at by_uid octets.now) }
 {
-    let (messages, rest) = set(alloc, space(octets)?)?;
+    let (messages, rest) = spaced_set(alloc, octets)?;
     let (items, rest) = fetched(alloc, space(rest)?)?;
     let (changed_since, rest) = changed_since(rest)?;
     let fetch = Fetch {

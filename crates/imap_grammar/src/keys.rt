@@ -1,7 +1,7 @@
 ghost use Rattle.std.specs.Prelude.{◌≡◌, ◌⊎◌, ◌++◌, ◌∷◌, [], IfOk, OnOk, option_map};
 ghost use Rattle.imap_grammar.specs.KeyReading.{below_at, keys_at, leaf_at, level_at, numbers_at, worded_at};
 ghost use Rattle.imap_syntax.specs.KeyWords.{key_word, key_words};
-ghost use Rattle.imap_grammar.specs.Reading.{Gives, named_at, next_at, number_at};
+ghost use Rattle.imap_grammar.specs.Reading.{Gives, made, named_at, next_at, number_at, spaced};
 ghost use Rattle.imap_grammar.specs.declared.fault.ParseFault.TheVariants.{BadSyntax, NotInProfile};
 ghost use Rattle.imap_syntax.specs.declared.search.KeyWord.TheVariants as key;
 ghost use Rattle.imap_syntax.specs.declared.search.SearchStep.TheVariants.{And, Or, Test};
@@ -12,8 +12,8 @@ use crate::fault::ParseFault;
 use crate::modifier::left_out;
 use crate::numbers::number;
 use crate::scan::{skip, space, span};
-use crate::sets::set;
-use crate::text::{plain, text};
+use crate::sets::{set, spaced_set};
+use crate::text::{plain, spaced_text, spaced_texts};
 use crate::word::find;
 use imap_syntax::{Class, DayOrder, KeyWord, SearchStep, SearchTest, SystemFlag, TextPlace};
 use std::alloc::{AllocError, Global};
@@ -192,21 +192,42 @@ fn worded(
 {
     match word {
         KeyWord::Not => {
-            let (mut steps, rest) = below(alloc, levels, space(octets)?)?;
+            let (mut steps, rest) = spaced_key(alloc, levels, octets)?;
             steps.push(SearchStep::Not)?;
             Ok((steps, rest))
         }
         KeyWord::Or => {
-            let (mut steps, rest) = below(alloc, levels, space(octets)?)?;
-            let (second, rest) = below(alloc, levels, space(rest)?)?;
+            let (mut steps, rest) = spaced_key(alloc, levels, octets)?;
+            let (second, rest) = spaced_key(alloc, levels, rest)?;
             or_key(&mut steps, second)?;
             Ok((steps, rest))
         }
-        _ => {
-            let (test, rest) = leaf(alloc, word, octets)?;
-            Ok((alone(alloc, test)?, rest))
-        }
+        _ => leaf_key(alloc, word, octets),
     }
+}
+
+/// A space and a key below so many levels.
+#[cycle(keys)]
+fn spaced_key(
+    alloc: Global,
+    levels: usize,
+    octets: &[u8],
+) -> Result<(Vec<SearchStep>, &[u8]), ParseFault>
+    ensures { Gives (λ x. (x.0.items, x.1.now)) result (spaced (below_at levels) octets.now) }
+{
+    below(alloc, levels, space(octets)?)
+}
+
+/// A key that holds no other.
+fn leaf_key(
+    alloc: Global,
+    word: KeyWord,
+    octets: &[u8],
+) -> Result<(Vec<SearchStep>, &[u8]), ParseFault>
+    ensures { Gives (λ x. (x.0.items, x.1.now)) result (made (λ test. Test test ∷ []) (leaf_at word) octets.now) }
+{
+    let (test, rest) = leaf(alloc, word, octets)?;
+    Ok((alone(alloc, test)?, rest))
 }
 
 fn or_key(steps: &mut Vec<SearchStep>, second: Vec<SearchStep>) -> Result<(), AllocError>
@@ -299,15 +320,14 @@ fn keyword(alloc: Global, is_set: bool, octets: &[u8]) -> Result<(SearchTest, &[
 fn held(alloc: Global, place: TextPlace, octets: &[u8]) -> Result<(SearchTest, &[u8]), ParseFault>
     ensures { Gives (λ x. (x.0, x.1.now)) result (leaf_at (key.Place place) octets.now) }
 {
-    let (text, rest) = text(alloc, Class::Astring, space(octets)?)?;
+    let (text, rest) = spaced_text(alloc, octets)?;
     Ok((SearchTest::Holds { place, text }, rest))
 }
 
 fn header(alloc: Global, octets: &[u8]) -> Result<(SearchTest, &[u8]), ParseFault>
     ensures { Gives (λ x. (x.0, x.1.now)) result (leaf_at key.Header octets.now) }
 {
-    let (name, rest) = text(alloc, Class::Astring, space(octets)?)?;
-    let (text, rest) = text(alloc, Class::Astring, space(rest)?)?;
+    let ((name, text), rest) = spaced_texts(alloc, octets)?;
     Ok((SearchTest::Header { name, text }, rest))
 }
 
@@ -321,15 +341,22 @@ fn dated(order: DayOrder, octets: &[u8]) -> Result<(SearchTest, &[u8]), ParseFau
 fn larger(octets: &[u8]) -> Result<(SearchTest, &[u8]), ParseFault>
     ensures { Gives (λ x. (x.0, x.1.now)) result (leaf_at key.Larger octets.now) }
 {
-    let (octets, rest) = number(space(octets)?, GREATEST)?;
+    let (octets, rest) = size(octets)?;
     Ok((SearchTest::Larger { octets }, rest))
 }
 
 fn smaller(octets: &[u8]) -> Result<(SearchTest, &[u8]), ParseFault>
     ensures { Gives (λ x. (x.0, x.1.now)) result (leaf_at key.Smaller octets.now) }
 {
-    let (octets, rest) = number(space(octets)?, GREATEST)?;
+    let (octets, rest) = size(octets)?;
     Ok((SearchTest::Smaller { octets }, rest))
+}
+
+/// A space and a number of octets.
+fn size(octets: &[u8]) -> Result<(u64, &[u8]), ParseFault>
+    ensures { Gives (λ x. (x.0, x.1.now)) result (spaced (number_at 9223372036854775807) octets.now) }
+{
+    number(space(octets)?, GREATEST)
 }
 
 fn since(octets: &[u8]) -> Result<(SearchTest, &[u8]), ParseFault>
@@ -342,7 +369,7 @@ fn since(octets: &[u8]) -> Result<(SearchTest, &[u8]), ParseFault>
 fn uids(alloc: Global, octets: &[u8]) -> Result<(SearchTest, &[u8]), ParseFault>
     ensures { Gives (λ x. (x.0, x.1.now)) result (leaf_at key.Uid octets.now) }
 {
-    let (uids, rest) = set(alloc, space(octets)?)?;
+    let (uids, rest) = spaced_set(alloc, octets)?;
     Ok((SearchTest::Uids { uids }, rest))
 }
 

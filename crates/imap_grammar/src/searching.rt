@@ -8,7 +8,7 @@ use crate::keys::keys;
 use crate::listed::{Element, listed};
 use crate::modifier::left_out;
 use crate::scan::{skip, space, span};
-use crate::text::text;
+use crate::text::spaced_text;
 use crate::word::find;
 use imap_syntax::{Class, Command, Many, Search, SearchOption, SearchSteps};
 use std::alloc::Global;
@@ -123,12 +123,11 @@ fn charset(alloc: Global, octets: &[u8]) -> Result<&[u8], ParseFault>
 fn charset_name(alloc: Global, octets: &[u8]) -> Result<&[u8], ParseFault>
     ensures { Gives (λ rest. rest.now) result (charset_name_at octets.now) }
 {
-    let (name, rest) = text(alloc, Class::Astring, space(octets)?)?;
+    let (name, rest) = spaced_text(alloc, octets)?;
     if !is_charset(name.as_bytes()) {
         return Err(ParseFault::NotInProfile);
     }
-    let rest = space(rest)?;
-    Ok(rest)
+    space(rest)
 }
 
 fn is_charset(name: &[u8]) -> bool

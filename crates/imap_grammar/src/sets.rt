@@ -1,9 +1,10 @@
 ghost use Rattle.std.specs.Prelude.{◌≡◌};
-ghost use Rattle.imap_grammar.specs.Reading.{Gives, bound_at, range_at, ranged_at, set_at};
+ghost use Rattle.imap_grammar.specs.Reading.{Gives, bound_at, range_at, ranged_at, set_at, spaced};
 
 use crate::fault::ParseFault;
 use crate::listed::{Element, listed};
 use crate::numbers::nz;
+use crate::scan::space;
 use imap_types::{SequenceBound, SequenceRange, SequenceSet};
 use std::alloc::Global;
 
@@ -13,6 +14,13 @@ pub fn set(alloc: Global, octets: &[u8]) -> Result<(SequenceSet, &[u8]), ParseFa
 {
     let (ranges, rest) = listed::<Ranges>(alloc, b',', octets)?;
     Ok((SequenceSet::new(ranges), rest))
+}
+
+/// A space and a sequence set.
+pub fn spaced_set(alloc: Global, octets: &[u8]) -> Result<(SequenceSet, &[u8]), ParseFault>
+    ensures { Gives (λ x. (x.0, x.1.now)) result (spaced set_at octets.now) }
+{
+    set(alloc, space(octets)?)
 }
 
 /// Reads the ranges of a set.

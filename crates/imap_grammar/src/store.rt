@@ -7,7 +7,7 @@ use crate::fault::ParseFault;
 use crate::flags::stored;
 use crate::modifier::unchanged_since;
 use crate::scan::space;
-use crate::sets::set;
+use crate::sets::spaced_set;
 use crate::word::{Word, named};
 use imap_syntax::{Command, Store, StoreAction, StoreMode};
 use imap_types::Flags;
@@ -76,7 +76,7 @@ const STORE_ACTIONS: [StoreAction; 6] = [
 pub fn store(alloc: Global, by_uid: bool, octets: &[u8]) -> Result<(Command, &[u8]), ParseFault>
     ensures { Gives (λ x. (x.0, x.1.now)) result (store_at by_uid octets.now) }
 {
-    let (messages, rest) = set(alloc, space(octets)?)?;
+    let (messages, rest) = spaced_set(alloc, octets)?;
     match change(alloc, rest) {
         Err(fault) => {
             drop(messages);

@@ -1,10 +1,11 @@
 ghost use Rattle.std.specs.Prelude.{◌≡◌, ◌<◌, ◌≤◌, ◌-◌, ◌^◌, length, min, true, false};
 ghost use Rattle.imap_syntax.specs.Strings.{is_quotable, number_of};
-ghost use Rattle.imap_grammar.specs.Reading.{Gives, literal_at, mailbox_at, octets_at, quoted_at, run_at, text_at, after_plus};
+ghost use Rattle.imap_grammar.specs.Reading.{Gives, both, literal_at, mailbox_at, octets_at, quoted_at, run_at, spaced, text_at, after_plus};
+ghost use Rattle.imap_syntax.specs.declared.class.Class.TheVariants.{Astring};
 
 use crate::fault::ParseFault;
 use crate::numbers::saturated;
-use crate::scan::{run, skip};
+use crate::scan::{run, skip, space};
 use imap_syntax::Class;
 use imap_types::{Name, Octets};
 use std::alloc::Global;
@@ -23,6 +24,22 @@ pub fn text(alloc: Global, class: Class, octets: &[u8]) -> Result<(Octets, &[u8]
     }
 }
 
+/// A space and an astring.
+pub fn spaced_text(alloc: Global, octets: &[u8]) -> Result<(Octets, &[u8]), ParseFault>
+    ensures { Gives (λ x. (x.0, x.1.now)) result (spaced (text_at Astring) octets.now) }
+{
+    text(alloc, Class::Astring, space(octets)?)
+}
+
+/// Two astrings, with a space in front of each.
+pub fn spaced_texts(alloc: Global, octets: &[u8]) -> Result<((Octets, Octets), &[u8]), ParseFault>
+    ensures { Gives (λ x. (x.0, x.1.now)) result (spaced (both (text_at Astring) (spaced (text_at Astring))) octets.now) }
+{
+    let (first, rest) = spaced_text(alloc, octets)?;
+    let (second, rest) = spaced_text(alloc, rest)?;
+    Ok(((first, second), rest))
+}
+
 /// One or more octets of a class as they stand.
 pub fn plain(alloc: Global, class: Class, octets: &[u8]) -> Result<(Octets, &[u8]), ParseFault>
     ensures { Gives (λ x. (x.0, x.1.now)) result (run_at class octets.now) }
@@ -37,6 +54,13 @@ pub fn mailbox(alloc: Global, octets: &[u8]) -> Result<(Name, &[u8]), ParseFault
 {
     let (written, rest) = text(alloc, Class::Astring, octets)?;
     Ok((Name::new(written.into_vec()).folded(), rest))
+}
+
+/// A space and a mailbox name.
+pub fn spaced_mailbox(alloc: Global, octets: &[u8]) -> Result<(Name, &[u8]), ParseFault>
+    ensures { Gives (λ x. (x.0, x.1.now)) result (spaced mailbox_at octets.now) }
+{
+    mailbox(alloc, space(octets)?)
 }
 
 /// What stands up to the closing quote, without the escapes.

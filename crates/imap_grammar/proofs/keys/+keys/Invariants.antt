@@ -8,6 +8,9 @@ decreases-below l = 5 * l.levels
 abbrev pub decreases-next_key : goal.decreases-next_key
 decreases-next_key l = 5 * l.levels + 1
 
+abbrev pub decreases-spaced_key : goal.decreases-spaced_key
+decreases-spaced_key l = 5 * l.levels + 1
+
 abbrev pub decreases-keys : goal.decreases-keys
 decreases-keys l = 5 * l.levels + 2
 
