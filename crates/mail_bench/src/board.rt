@@ -2,6 +2,7 @@
 
 use crate::fault::BenchFault;
 use crate::report::Tally;
+use crate::working::now;
 use std::alloc::Global;
 use std::rt::Clock;
 use std::sync::{Condvar, Mutex, Wait};
@@ -43,8 +44,9 @@ impl Board {
         }
     }
 
-    /// One heard of the message at this moment, or idles by now. Whether it was the last.
-    pub fn note<R: Wait>(&self, rt: &R, moment: Instant) -> Result<bool, BenchFault> {
+    /// One heard of the message now, or idles by now. Whether it was the last.
+    pub fn note_now<R: Wait + Clock>(&self, rt: &R) -> Result<bool, BenchFault> {
+        let moment = now(rt)?;
         let mut news = self.news.lock(rt);
         news.heard.push(moment)?;
         if news.heard.len() >= self.idlers {

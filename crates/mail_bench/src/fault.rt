@@ -3,60 +3,74 @@
 use crate::answers::Status;
 use crate::replies::ReplyFault;
 use std::alloc::{AllocError, AllocFailed};
-use std::io;
 use std::io::ErrorKind;
+use std::{fmt, io};
 
 /// Why a run ended before its time; as a text, what the program prints of it.
-#[derive(Clone, Copy, Debug, thiserror::Error)]
+#[derive(Clone, Copy)]
 pub enum BenchFault {
     /// No connection could be made.
-    #[error("cannot connect")]
     Connect,
     /// The server closed the connection.
-    #[error("the server closed the connection")]
     Closed,
     /// The server took leave.
-    #[error("the server said BYE")]
     Bye,
     /// A command was answered NO.
-    #[error("the server answered NO")]
     No,
     /// A command was answered BAD.
-    #[error("the server answered BAD")]
     Bad,
     /// An answer is no answer, or bears another tag.
-    #[error("the server's answer is unreadable")]
     Unreadable,
     /// An answer's line is too long.
-    #[error("the server's answer has too long a line")]
     LongLine,
     /// An answer's literal is too long.
-    #[error("the server's answer has too long a literal")]
     LongLiteral,
     /// More answers came than are read for one command.
-    #[error("the server's answers don't end")]
     Endless,
     /// Nothing came for too long.
-    #[error("the server was silent for 30 seconds")]
     Silent,
     /// A read failed.
-    #[error("a read failed")]
     Read,
     /// A write failed.
-    #[error("a write failed")]
     Write,
     /// The mailbox has fewer messages than were appended.
-    #[error("the mailbox has fewer messages than were appended")]
     Missing,
     /// The clock can't be read.
-    #[error("the clock can't be read")]
     Clock,
     /// The line can't be printed.
-    #[error("the measurement can't be printed")]
     Print,
     /// There is no memory.
-    #[error("no memory")]
     NoMemory,
+}
+
+impl BenchFault {
+    /// What the program prints of it.
+    fn text(self) -> &'static str {
+        match self {
+            BenchFault::Connect => "cannot connect",
+            BenchFault::Closed => "the server closed the connection",
+            BenchFault::Bye => "the server said BYE",
+            BenchFault::No => "the server answered NO",
+            BenchFault::Bad => "the server answered BAD",
+            BenchFault::Unreadable => "the server's answer is unreadable",
+            BenchFault::LongLine => "the server's answer has too long a line",
+            BenchFault::LongLiteral => "the server's answer has too long a literal",
+            BenchFault::Endless => "the server's answers don't end",
+            BenchFault::Silent => "the server was silent for 30 seconds",
+            BenchFault::Read => "a read failed",
+            BenchFault::Write => "a write failed",
+            BenchFault::Missing => "the mailbox has fewer messages than were appended",
+            BenchFault::Clock => "the clock can't be read",
+            BenchFault::Print => "the measurement can't be printed",
+            BenchFault::NoMemory => "no memory",
+        }
+    }
+}
+
+impl fmt::Display for BenchFault {
+    fn fmt<W: fmt::Write>(&self, f: &mut fmt::Formatter<W>) -> fmt::Result {
+        f.write_str(self.text())
+    }
 }
 
 impl From<AllocError> for BenchFault {

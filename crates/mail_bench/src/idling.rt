@@ -3,7 +3,7 @@
 use crate::board::Board;
 use crate::client::Client;
 use crate::fault::BenchFault;
-use crate::measuring::{measure, workers};
+use crate::measuring::measure;
 use crate::preparing::{logged_in, selected, selected_with};
 use crate::report::{Report, Tally};
 use crate::settings::Settings;
@@ -33,28 +33,58 @@ pub fn fan_out<R: Threads + Wait + Clock + Sync + Net<Listener = TcpListener, St
     settings: &Settings<'_>,
     plan: &Plan<'_>,
 ) -> Result<Report, BenchFault> {
+    let listeners = listeners(rt, alloc, settings, plan.messages)?;
+    let mut sender = logged_in(rt, alloc, settings, settings.address)?;
+    let limit = Duration::from_secs(u64::from(settings.seconds));
+    let (tally, took) = heard_by_all(rt, alloc, limit, plan, listeners, &mut sender)?;
+    Report::of(1, plan.messages, took, tally)
+}
+
+/// So many connections that have the mailbox selected, with so many messages.
+fn listeners<R: Clock + Net<Listener = TcpListener, Stream = TcpStream>>(
+    rt: &R,
+    alloc: Global,
+    settings: &Settings<'_>,
+    messages: u32,
+) -> Result<Vec<Client>, BenchFault> {
     let address = settings.second.unwrap_or(settings.address);
     let mut listeners = Vec::new(alloc);
     for _ in 0..LISTENERS {
-        listeners.push(selected_with(rt, alloc, settings, address, plan.messages)?)?;
+        let client = selected_with(rt, alloc, settings, address, messages)?;
+        listeners.push(client)?;
     }
-    let mut sender = logged_in(rt, alloc, settings, settings.address)?;
+    Ok(listeners)
+}
+
+/// Has one connection send for so long, and the others hear of it; what was sent, and how long it took.
+fn heard_by_all<R: Threads + Wait + Clock + Sync>(
+    rt: &R,
+    alloc: Global,
+    limit: Duration,
+    plan: &Plan<'_>,
+    listeners: Vec<Client>,
+    sender: &mut Client,
+) -> Result<(Tally, Duration), BenchFault> {
     let board = Board::new(alloc, listeners.len());
-    let limit = Duration::from_secs(u64::from(settings.seconds));
     let (sent, heard) = thread::join(
         rt,
-        || send_all(rt, alloc, limit, plan, &board, &mut sender),
+        || send_all(rt, alloc, limit, plan, &board, sender),
         || thread::map_vec(
             rt,
             listeners,
             &|client: Client| listen(rt, &board, plan.messages, client),
         ),
     );
-    for end in heard? {
+    all_ended(heard?)?;
+    sent
+}
+
+/// The first fault of those that idled, where there is one.
+fn all_ended(ends: Vec<Result<(), BenchFault>>) -> Result<(), BenchFault> {
+    for end in ends {
         end?;
     }
-    let (tally, took) = sent?;
-    Report::of(1, plan.messages, took, tally)
+    Ok(())
 }
 
 /// Sends messages for so long, and one at least, once all idle; what was sent, and how long it took.
@@ -67,18 +97,31 @@ fn send_all<R: Wait + Clock>(
     sender: &mut Client,
 ) -> Result<(Tally, Duration), BenchFault> {
     let mut tally = Tally::new(alloc);
+    let took = send_for(rt, limit, plan, board, sender, &mut tally)?;
+    Ok((tally, took))
+}
+
+/// The same, with what was sent in a tally; how long it took.
+fn send_for<R: Wait + Clock>(
+    rt: &R,
+    limit: Duration,
+    plan: &Plan<'_>,
+    board: &Board,
+    sender: &mut Client,
+    tally: &mut Tally,
+) -> Result<Duration, BenchFault> {
     board.await_all(rt)?;
     let begun = now(rt)?;
     for round in 0..MAX_ROUNDS {
         let is_last = now(rt)?.duration_since(begun) >= limit;
         board.begin(rt, is_last);
-        send_one(rt, plan, board, sender, &mut tally)?;
+        send_one(rt, plan, board, sender, tally)?;
         if is_last {
             break;
         }
     }
     let took = now(rt)?.duration_since(begun);
-    Ok((tally, took))
+    Ok(took)
 }
 
 /// Sends a message, and notes how long each took to hear of it.
@@ -119,15 +162,25 @@ fn listen_to_all<R: Wait + Clock>(
     client: &mut Client,
 ) -> Result<(), BenchFault> {
     let number = client.idle()?;
-    board.note(rt, now(rt)?)?;
+    hear_all(rt, board, messages, client)?;
+    client.done(number)?;
+    client.logout()
+}
+
+fn hear_all<R: Wait + Clock>(
+    rt: &R,
+    board: &Board,
+    messages: u32,
+    client: &mut Client,
+) -> Result<(), BenchFault> {
+    board.note_now(rt)?;
     for round in 1..MAX_ROUNDS {
         client.await_messages(messages.saturating_add(round))?;
-        if board.note(rt, now(rt)?)? {
+        if board.note_now(rt)? {
             break;
         }
     }
-    client.done(number)?;
-    client.logout()
+    Ok(())
 }
 
 /// What NOOPs of one connection come to alone, and then beside 400 connections that idle in the same mailbox.
@@ -137,16 +190,32 @@ pub fn beside_idle<R: Threads + Clock + Sync + Net<Listener = TcpListener, Strea
     settings: &Settings<'_>,
     plan: &Plan<'_>,
 ) -> Result<(Report, Report), BenchFault> {
-    let limit = Duration::from_secs(u64::from(settings.seconds));
-    let one = workers(rt, alloc, settings, 1, plan.messages)?;
-    let alone = measure(rt, alloc, limit, plan, one)?;
+    let alone = measure(rt, alloc, settings, plan, 1)?;
+    let _bystanders = bystanders(rt, alloc, settings)?;
+    let beside = measure(rt, alloc, settings, plan, 1)?;
+    Ok((alone, beside))
+}
+
+/// 400 connections that idle in the mailbox.
+fn bystanders<R: Net<Listener = TcpListener, Stream = TcpStream>>(
+    rt: &R,
+    alloc: Global,
+    settings: &Settings<'_>,
+) -> Result<Vec<Client>, BenchFault> {
     let mut bystanders = Vec::new(alloc);
     for _ in 0..BYSTANDERS {
-        let mut client = selected(rt, alloc, settings)?;
-        client.idle()?;
+        let client = bystander(rt, alloc, settings)?;
         bystanders.push(client)?;
     }
-    let one = workers(rt, alloc, settings, 1, plan.messages)?;
-    let beside = measure(rt, alloc, limit, plan, one)?;
-    Ok((alone, beside))
+    Ok(bystanders)
+}
+
+fn bystander<R: Net<Listener = TcpListener, Stream = TcpStream>>(
+    rt: &R,
+    alloc: Global,
+    settings: &Settings<'_>,
+) -> Result<Client, BenchFault> {
+    let mut client = selected(rt, alloc, settings)?;
+    client.idle()?;
+    Ok(client)
 }

@@ -11,7 +11,7 @@ use std::net::{Net, TcpListener, TcpStream};
 use std::rt::Clock;
 use std::thread;
 use std::thread::Threads;
-use std::time::Duration;
+use std::time::{Duration, Instant};
 
 /// A connection that is to work, and the place among all messages at which it begins.
 #[derive(Drop)]
@@ -23,7 +23,7 @@ pub struct Worker {
 }
 
 /// So many connections that have the mailbox selected.
-pub fn workers<R: Net<Listener = TcpListener, Stream = TcpStream>>(
+fn workers<R: Net<Listener = TcpListener, Stream = TcpStream>>(
     rt: &R,
     alloc: Global,
     settings: &Settings<'_>,
@@ -39,23 +39,23 @@ pub fn workers<R: Net<Listener = TcpListener, Stream = TcpStream>>(
     Ok(workers)
 }
 
-/// Has the connections work by a plan for so long, and gives what they came to.
-pub fn measure<R: Threads + Clock + Sync>(
+/// Has so many connections work by a plan for as long as the settings say, and gives what they came to.
+pub fn measure<R: Threads + Clock + Sync + Net<Listener = TcpListener, Stream = TcpStream>>(
     rt: &R,
     alloc: Global,
-    limit: Duration,
+    settings: &Settings<'_>,
     plan: &Plan<'_>,
-    workers: Vec<Worker>,
+    connections: u32,
 ) -> Result<Report, BenchFault> {
-    let connections = u32::try_from(workers.len()).unwrap_or(u32::MAX);
+    let limit = Duration::from_secs(u64::from(settings.seconds));
+    let workers = workers(rt, alloc, settings, connections, plan.messages)?;
     let begun = now(rt)?;
     let tallies = thread::map_vec(
         rt,
         workers,
         &|worker: Worker| work(rt, alloc, limit, plan, worker),
     )?;
-    let took = now(rt)?.duration_since(begun);
-    Report::of(connections, plan.messages, took, whole(alloc, tallies)?)
+    report_of(rt, alloc, connections, plan.messages, begun, tallies)
 }
 
 fn work<R: Clock>(
@@ -99,8 +99,21 @@ pub fn measure_visits<R: Threads + Clock + Sync + Net<Listener = TcpListener, St
             drive(rt, alloc, limit, &mut visiting)
         },
     )?;
+    report_of(rt, alloc, settings.connections, messages, begun, tallies)
+}
+
+/// What so many connections came to that began at this moment and end now.
+fn report_of<R: Clock>(
+    rt: &R,
+    alloc: Global,
+    connections: u32,
+    messages: u32,
+    begun: Instant,
+    tallies: Vec<Result<Tally, BenchFault>>,
+) -> Result<Report, BenchFault> {
     let took = now(rt)?.duration_since(begun);
-    Report::of(settings.connections, messages, took, whole(alloc, tallies)?)
+    let tally = whole(alloc, tallies)?;
+    Report::of(connections, messages, took, tally)
 }
 
 /// What all did together; the first fault where there is one.

@@ -56,18 +56,33 @@ pub fn prepare<R: Net<Listener = TcpListener, Stream = TcpStream>>(
     ensures { IfOk result (λ messages. settings.now.messages ≤ messages) }
 {
     let mut client = logged_in(rt, alloc, settings, settings.address)?;
-    open(&mut client, settings.mailbox)?;
-    let message = message(alloc, SMALL)?;
-    for _ in client.messages()..settings.messages {
-        client.append(settings.mailbox, &message)?;
-    }
-    client.select(settings.mailbox)?;
-    let messages = client.messages();
+    let messages = filled(alloc, settings, &mut client)?;
     client.logout()?;
     if messages < settings.messages {
         return Err(BenchFault::Missing);
     }
     Ok(messages)
+}
+
+/// Appends to the mailbox what it lacks, and gives how many messages it has.
+fn filled(alloc: Global, settings: &Settings<'_>, client: &mut Client) -> Result<u32, BenchFault> {
+    open(client, settings.mailbox)?;
+    let message = message(alloc, SMALL)?;
+    append_all(settings, client, &message)?;
+    client.select(settings.mailbox)?;
+    Ok(client.messages())
+}
+
+/// Appends a message as often as the mailbox lacks one.
+fn append_all(
+    settings: &Settings<'_>,
+    client: &mut Client,
+    message: &[u8],
+) -> Result<(), BenchFault> {
+    for _ in client.messages()..settings.messages {
+        client.append(settings.mailbox, message)?;
+    }
+    Ok(())
 }
 
 /// Selects a mailbox, which is made where it isn't there.

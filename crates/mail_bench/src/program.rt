@@ -2,11 +2,11 @@
 
 use crate::fault::BenchFault;
 use crate::idling::{BYSTANDERS, LISTENERS, beside_idle, fan_out};
-use crate::measuring::{measure, measure_visits, workers};
+use crate::measuring::{measure, measure_visits};
 use crate::preparing::prepare;
 use crate::report::Report;
 use crate::settings::Settings;
-use crate::telling::{settings_or_status, tell_no_memory};
+use crate::telling::{settings_or_status, tell_fault, tell_no_memory};
 use crate::times::Summary;
 use crate::working::Plan;
 use crate::workload::Workload;
@@ -16,7 +16,6 @@ use std::net::{Net, TcpListener, TcpStream};
 use std::rt::{Clock, Env};
 use std::sync::Wait;
 use std::thread::Threads;
-use std::time::Duration;
 use std::{env, io};
 
 /// Reads the command line, measures what it asks for, prints a line for each measurement, and gives the program's status: 0 where all was measured or help was asked
@@ -59,10 +58,7 @@ fn obey<
     };
     match bench(rt, rt.alloc(), &settings) {
         Ok(()) => 0,
-        Err(fault) => {
-            let _ = eprintln!(rt; "mail_bench: {fault}");
-            1
-        }
+        Err(fault) => tell_fault(rt, fault),
     }
 }
 
@@ -76,26 +72,36 @@ fn bench<
     }
     let plan = Plan::new(alloc, settings.workload, settings.mailbox, messages)?;
     match settings.workload {
-        Workload::Login => {
-            let report = measure_visits(rt, alloc, settings, messages)?;
-            tell(rt, settings.workload, 0, &report)
-        }
-        Workload::IdleFanOut => {
-            let report = fan_out(rt, alloc, settings, &plan)?;
-            tell(rt, settings.workload, LISTENERS, &report)
-        }
-        Workload::NoopBesideIdle => {
-            let (alone, beside) = beside_idle(rt, alloc, settings, &plan)?;
-            tell(rt, settings.workload, 0, &alone)?;
-            tell(rt, settings.workload, BYSTANDERS, &beside)
-        }
-        workload => {
-            let limit = Duration::from_secs(u64::from(settings.seconds));
-            let all = workers(rt, alloc, settings, settings.connections, messages)?;
-            let report = measure(rt, alloc, limit, &plan, all)?;
-            tell(rt, workload, 0, &report)
-        }
+        Workload::NoopBesideIdle => measure_beside(rt, alloc, settings, &plan),
+        workload => measure_one(rt, alloc, settings, &plan, workload),
     }
+}
+
+/// Measures what one line tells.
+fn measure_one<
+    R: Print + Threads + Wait + Clock + Sync + Net<Listener = TcpListener, Stream = TcpStream>,
+>(
+    rt: &R,
+    alloc: Global,
+    settings: &Settings<'_>,
+    plan: &Plan<'_>,
+    workload: Workload,
+) -> Result<(), BenchFault> {
+    let (idling, measured) = match workload {
+        Workload::Login => (0, measure_visits(rt, alloc, settings, plan.messages)),
+        Workload::IdleFanOut => (LISTENERS, fan_out(rt, alloc, settings, plan)),
+        _ => (0, measure(rt, alloc, settings, plan, settings.connections)),
+    };
+    tell(rt, workload, idling, &measured?)
+}
+
+/// Measures NOOPs alone, and beside connections that idle.
+fn measure_beside<
+    R: Print + Threads + Wait + Clock + Sync + Net<Listener = TcpListener, Stream = TcpStream>,
+>(rt: &R, alloc: Global, settings: &Settings<'_>, plan: &Plan<'_>) -> Result<(), BenchFault> {
+    let (alone, beside) = beside_idle(rt, alloc, settings, plan)?;
+    tell(rt, settings.workload, 0, &alone)?;
+    tell(rt, settings.workload, BYSTANDERS, &beside)
 }
 
 /// Prints the line of a measurement beside which so many connections idled.
@@ -121,9 +127,27 @@ fn tell_times<R: Print>(
     report: &Report,
     times: Summary,
 ) -> io::Result<()> {
+    tell_setting(rt, workload, idling, report)?;
+    tell_work(rt, report)?;
+    tell_summary(rt, times)
+}
+
+fn tell_setting<R: Print>(
+    rt: &R,
+    workload: Workload,
+    idling: u32,
+    report: &Report,
+) -> io::Result<()> {
     let Report {
         connections,
         messages,
+        ..
+    } = *report;
+    print!(rt; "{workload} connections={connections} idling={idling} messages={messages}")
+}
+
+fn tell_work<R: Print>(rt: &R, report: &Report) -> io::Result<()> {
+    let Report {
         commands,
         micros,
         ..
@@ -131,9 +155,10 @@ fn tell_times<R: Print>(
     let seconds = micros / 1_000_000;
     let thousandths = micros % 1_000_000 / 1_000;
     let rate = report.rate();
-    print!(rt;
-        "{workload} connections={connections} idling={idling} messages={messages} commands={commands} seconds={seconds}.{thousandths:03} per_second={rate}"
-    )?;
+    print!(rt; " commands={commands} seconds={seconds}.{thousandths:03} per_second={rate}")
+}
+
+fn tell_summary<R: Print>(rt: &R, times: Summary) -> io::Result<()> {
     let Summary {
         least,
         median,

@@ -54,14 +54,12 @@ pub enum SettingsFault<'a> {
     Usage(UsageFault<'a>),
 }
 
-/// What can't be used of what is given for a word; as a text, what the program prints of it.
-#[derive(Clone, Copy, Debug, thiserror::Error)]
+/// What can't be used of what is given for a word.
+#[derive(Clone, Copy)]
 pub enum UsageFault<'a> {
     /// This word is no workload.
-    #[error("usage: no workload {0}")]
     BadWorkload(&'a str),
     /// What is given for this word has an octet that is no printable ASCII.
-    #[error("usage: --{0} takes printable ASCII")]
     BadText(&'static str),
 }
 
@@ -78,21 +76,28 @@ pub fn read_settings<'a>(
         Ok(matches) => matches,
         Err(error) => return Err(SettingsFault::Words(error)),
     };
-    let settings = settings_in(&matches)?;
-    if !is_plain(settings.user) {
-        return Err(bad_text("user"));
+    match plain_settings_in(&matches) {
+        Ok(settings) => Ok(settings),
+        Err(why) => Err(SettingsFault::Usage(why)),
     }
-    if !is_plain(settings.pass) {
-        return Err(bad_text("pass"));
-    }
-    if !is_plain(settings.mailbox) {
-        return Err(bad_text("mailbox"));
-    }
-    Ok(settings)
 }
 
-fn bad_text<'a>(word: &'static str) -> SettingsFault<'a> {
-    SettingsFault::Usage(UsageFault::BadText(word))
+/// What was found, where its texts are plain.
+fn plain_settings_in<'a>(matches: &ArgMatches<'a>) -> Result<Settings<'a>, UsageFault<'a>>
+    ensures asked { IfOk result (λ settings. Asks (rows_of (found_of matches.now)) settings) }
+    ensures plain { IfOk result (λ settings. IsPlainText settings.user.now × IsPlainText settings.pass.now × IsPlainText settings.mailbox.now) }
+{
+    let settings = settings_in(matches)?;
+    if !is_plain(settings.user) {
+        return Err(UsageFault::BadText("user"));
+    }
+    if !is_plain(settings.pass) {
+        return Err(UsageFault::BadText("pass"));
+    }
+    if !is_plain(settings.mailbox) {
+        return Err(UsageFault::BadText("mailbox"));
+    }
+    Ok(settings)
 }
 
 /// Whether all octets are of printable ASCII, so that a quoted string may hold them (RFC 9051, section 9).
@@ -104,12 +109,12 @@ fn is_plain(text: &str) -> bool
 }
 
 /// What was found.
-fn settings_in<'a>(matches: &ArgMatches<'a>) -> Result<Settings<'a>, SettingsFault<'a>>
+fn settings_in<'a>(matches: &ArgMatches<'a>) -> Result<Settings<'a>, UsageFault<'a>>
     ensures { IfOk result (λ settings. Asks (rows_of (found_of matches.now)) settings) }
 {
     let workload = text_in(matches, "workload", "");
     let Some(workload) = Workload::named(workload) else {
-        return Err(SettingsFault::Usage(UsageFault::BadWorkload(workload)));
+        return Err(UsageFault::BadWorkload(workload));
     };
     Ok(Settings {
         address: text_in(matches, "address", ""),

@@ -4,6 +4,7 @@ ghost use Rattle.std.specs.Prelude.{IfOk, map};
 ghost use Rattle.clap.specs.Words.{matches_of};
 ghost use Rattle.mail_bench.specs.Options.{Asks, IsPlainText, bench_words};
 
+use crate::fault::BenchFault;
 use crate::settings::{Settings, SettingsFault, UsageFault, is_without_memory, read_settings};
 use clap::Error;
 use std::convert::AsStr;
@@ -38,11 +39,22 @@ pub fn tell_no_memory<R: Eprint>(rt: &R) -> u8 {
     1
 }
 
+/// Says what can't be used, and gives the program's status.
 fn tell_usage<R: Eprint>(rt: &R, why: UsageFault<'_>) -> u8 {
-    match eprintln!(rt; "{why}") {
+    let told = match why {
+        UsageFault::BadWorkload(word) => eprintln!(rt; "usage: no workload {word}"),
+        UsageFault::BadText(word) => eprintln!(rt; "usage: --{word} takes printable ASCII"),
+    };
+    match told {
         Ok(()) => 2,
         Err(_) => 1,
     }
+}
+
+/// Says that the run ended before its time, and gives the program's status.
+pub fn tell_fault<R: Eprint>(rt: &R, fault: BenchFault) -> u8 {
+    let _ = eprintln!(rt; "mail_bench: {fault}");
+    1
 }
 
 fn explain_words<R: Print + Eprint>(rt: &R, error: Error) -> u8 {
