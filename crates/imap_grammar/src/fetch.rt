@@ -67,12 +67,13 @@ impl Word for SectionWord {
     }
 }
 
-/// The arguments of FETCH (RFC 9051, section 6.4.5; RFC 7162, section 3.1.4).
+/// The arguments of FETCH (RFC 9051, section 6.4.5; RFC 7162, section 3.1.4), in no more memory than they take: a journal keeps them for good.
 pub fn fetch(alloc: Global, by_uid: bool, octets: &[u8]) -> Result<(Command, &[u8]), ParseFault>
     ensures { Gives (λ x. (x.0, x.1.now)) result (fetch_at by_uid octets.now) }
 {
     let (messages, rest) = spaced_set(alloc, octets)?;
-    let (items, rest) = fetched(alloc, space(rest)?)?;
+    let (mut items, rest) = fetched(alloc, space(rest)?)?;
+    items.shrink_to_fit();
     let (changed_since, rest) = changed_since(rest)?;
     let fetch = Fetch {
         by_uid,

@@ -8,11 +8,12 @@ use crate::scan::space;
 use imap_types::{SequenceBound, SequenceRange, SequenceSet};
 use std::alloc::Global;
 
-/// A sequence set (RFC 9051, section 9, sequence-set).
+/// A sequence set (RFC 9051, section 9, sequence-set), in no more memory than it takes: a journal keeps it for good.
 pub fn set(alloc: Global, octets: &[u8]) -> Result<(SequenceSet, &[u8]), ParseFault>
     ensures { Gives (λ x. (x.0, x.1.now)) result (set_at octets.now) }
 {
-    let (ranges, rest) = listed::<Ranges>(alloc, b',', octets)?;
+    let (mut ranges, rest) = listed::<Ranges>(alloc, b',', octets)?;
+    ranges.shrink_to_fit();
     Ok((SequenceSet::new(ranges), rest))
 }
 
