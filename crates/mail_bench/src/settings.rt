@@ -4,7 +4,7 @@ ghost use Rattle.std.specs.Prelude.{◌≡◌, ◌≤◌, ◌<◌, IfOk, map, tr
 ghost use Rattle.std.specs.Option.{option_map};
 ghost use Rattle.clap.specs.Words.{app_of, first_of, found_of, matches_of, rows_of};
 ghost use Rattle.clap_laws.specs.Words.{IsWord};
-ghost use Rattle.mail_bench.specs.Options.{Asks, IsAmount, IsPlainText, bench_words, counted_word, named_word, required_word, text_in, with_amounts, with_server};
+ghost use Rattle.mail_bench.specs.Options.{Add, Asks, IsAmount, IsPlainText, bench_words, counted_word, named_word, required_word, text_in, with_amounts, with_server};
 
 use crate::workload::Workload;
 use clap::builder::ValueParser;
@@ -168,9 +168,8 @@ fn matched<'a>(alloc: Global, words: &'a [String]) -> Result<ArgMatches<'a>, Err
 fn described<'a>(alloc: Global) -> Result<Command<'a>, AllocError>
     ensures { IfOk result (λ command. app_of command ≡ bench_words) }
 {
-    let command = Command::new(alloc, "mail_bench").about(ABOUT);
-    let command = with_server(alloc, command)?;
-    with_amounts(alloc, command)
+    let words = known_words(alloc)?;
+    Command::new(alloc, "mail_bench").about(ABOUT).args(words)
 }
 
 const ABOUT: &str =
@@ -185,52 +184,45 @@ fetch-flags fetches the flags of all messages, fetch-body the text of one, and s
 mixed goes round through one message's flags, one body, a store, a NOOP, a search for the unseen and an APPEND of 1 KiB. login connects, logs in, logs out and closes. \
 idle-fan-out has 32 connections idle and takes the time from an APPEND's last octet until each was told of it. noop-beside-idle measures NOOPs of one connection alone, and then beside 400 that idle.";
 
-/// Adds the words that say which server is measured, and by what.
-fn with_server<'a>(alloc: Global, command: Command<'a>) -> Result<Command<'a>, AllocError>
-    ensures { IfOk result (λ more. app_of more ≡ with_server (app_of command.entry)) }
+/// The words that say which server is measured, and by what; then those that say how much is done, and where.
+fn known_words<'a>(alloc: Global) -> Result<Vec<Arg<'a>>, AllocError>
+    ensures { IfOk result (λ words. Add words.items (λ app. with_amounts (with_server app))) }
 {
-    let command = command.arg(required(
-        alloc,
-        "address",
-        "The server's address, as 127.0.0.1:1143",
-    ))?;
-    let command = command.arg(required(alloc, "user", "The user's name"))?;
-    let command = command.arg(required(alloc, "pass", "The user's password"))?;
-    let command = command.arg(required(alloc, "workload", WORKLOADS))?;
-    command.arg(named(
-        alloc,
-        "second",
-        "The address of a second server, at which the connections of idle-fan-out idle",
-    ))
-}
-
-/// Adds the words that say how much is done, and where.
-fn with_amounts<'a>(alloc: Global, command: Command<'a>) -> Result<Command<'a>, AllocError>
-    ensures { IfOk result (λ more. app_of more ≡ with_amounts (app_of command.entry)) }
-{
-    let command = command.arg(counted(
-        alloc,
-        "messages",
-        "So many messages of 1 KiB the mailbox has at least; 1000 if it isn't said",
-        1_000_000,
-    ))?;
-    let command = command.arg(counted(
-        alloc,
-        "connections",
-        "So many connections work side by side; 4 if it isn't said",
-        1_000,
-    ))?;
-    let command = command.arg(counted(
-        alloc,
-        "seconds",
-        "So many seconds it takes; 2 if it isn't said",
-        3_600,
-    ))?;
-    command.arg(named(
-        alloc,
-        "mailbox",
-        "The mailbox in which all is done, made if it isn't there; bench if it isn't said",
-    ))
+    let words = vec![in alloc;
+        required(alloc, "address", "The server's address, as 127.0.0.1:1143"),
+        required(alloc, "user", "The user's name"),
+        required(alloc, "pass", "The user's password"),
+        required(alloc, "workload", WORKLOADS),
+        named(
+            alloc,
+            "second",
+            "The address of a second server, at which the connections of idle-fan-out idle",
+        ),
+        counted(
+            alloc,
+            "messages",
+            "So many messages of 1 KiB the mailbox has at least; 1000 if it isn't said",
+            1_000_000,
+        ),
+        counted(
+            alloc,
+            "connections",
+            "So many connections work side by side; 4 if it isn't said",
+            1_000,
+        ),
+        counted(
+            alloc,
+            "seconds",
+            "So many seconds it takes; 2 if it isn't said",
+            3_600,
+        ),
+        named(
+            alloc,
+            "mailbox",
+            "The mailbox in which all is done, made if it isn't there; bench if it isn't said",
+        ),
+    ]?;
+    Ok(words)
 }
 
 /// A word with a value.
