@@ -24,8 +24,20 @@ no_fuller_behind a b c h k = record {
   versions = λ o n r. k.versions o n (h.versions o n r);
 }
 
-pub places_kept : (a b : Kept) (n : ℕ) → IsNoFuller a b → HasPlaces a n → HasPlaces b n
-places_kept a b n h p = record { tags = omega (arith, h.tags, p.tags); messages = omega (arith, h.messages, p.messages); origins = omega (arith, h.origins, p.origins) }
+pub places_kept : (a b : Kept) (o : Option OpId) (n : ℕ) → IsNoFuller a b → HasPlaces a o n → HasPlaces b o n
+places_kept a b o n h p = record {
+  tags = omega (arith, h.tags, p.tags);
+  messages = λ q e. let x = p.messages q e in omega (arith, h.messages, x);
+  origins = λ q e. let x = p.origins q e in omega (arith, h.origins, x);
+}
+
+-- the room for fewer tags
+fewer_places : (k : Kept) (o : Option OpId) (m n : ℕ) → n ≤ m → HasPlaces k o m → HasPlaces k o n
+fewer_places k o m n less p = record {
+  tags = let x = p.tags in omega (arith, x, less);
+  messages = λ q e. let x = p.messages q e in omega (arith, x, less);
+  origins = λ q e. let x = p.origins q e in omega (arith, x, less);
+}
 
 -- ---- versions of one message
 
@@ -89,7 +101,7 @@ module _ (name : List ℕ) (old new : List (Vec ℕ × Kept)) (a b : Kept) (was 
       ]
 
   -- the room that is left behind a tag put in
-  pub room_left : (origin : Option OpId) (places : ℕ) → ((n : ℕ) → HasPlaces a (n + 1) → HasPlaces b n) → ((o : OpId) (n : ℕ) → HasVersionRoom a.messages o (cond (is_some_id o origin) 1 0 + n) → (is_some_id o origin ≡ true → 1 + n ≤ places) → HasVersionRoom b.messages o n) → LeavesRoom name origin places (λ n. folder_at n old) (λ n. folder_at n new)
+  pub room_left : (origin : Option OpId) (places : ℕ) → ((o : Option OpId) (n : ℕ) → HasPlaces a o (n + 1) → HasPlaces b o n) → ((o : OpId) (n : ℕ) → HasVersionRoom a.messages o (cond (is_some_id o origin) 1 0 + n) → (is_some_id o origin ≡ true → 1 + n ≤ places) → HasVersionRoom b.messages o n) → LeavesRoom name origin places (λ n. folder_at n old) (λ n. folder_at n new)
   room_left origin places room fits tags versions o None h w = tt
   room_left origin places room fits tags versions o (Some n) h w =
       elim (cases_Bool (bytes_eq n name)) [
@@ -97,13 +109,11 @@ module _ (name : List ℕ) (old new : List (Vec ℕ × Kept)) (a b : Kept) (was 
             let same : a ≡ h.0 = some_is a h.0 (sym was ∙ ap (λ g. folder_at g old) (sym (same_name n name t)) ∙ h.1) in
             let now : folder_at n new ≡ Some b = at n ∙ (λ k. cond (t k) (Some b) (folder_at n old)) in
             let one : ◌≡◌ {A = ℕ} (cond (bytes_eq n name) 1 0) 1 = ap (λ c. cond c 1 0) t in
-            let p = h.2 in
-            let places_here : HasPlaces h.0 (tags n + 1) = record { tags = let x = p.tags in omega (arith, x, one); messages = let x = p.messages in omega (arith, x, one); origins = let x = p.origins in omega (arith, x, one) } in
-            (b, now, room (tags n) (subst (λ (k : Kept). HasPlaces k (tags n + 1)) (sym same) places_here), fit origin o (subst (λ (k : Kept). HasVersionPlaces k o (wanted_by (λ i. cond (is_some_id i origin) 1 0 + versions i) o)) (sym same) h.3) w fits)
+            let places_here : HasPlaces h.0 o (tags n + 1) = fewer_places h.0 o (cond (bytes_eq n name) 1 0 + tags n) (tags n + 1) (omega (arith, one)) h.2 in
+            (b, now, room o (tags n) (subst (λ (k : Kept). HasPlaces k o (tags n + 1)) (sym same) places_here), fit origin o (subst (λ (k : Kept). HasVersionPlaces k o (wanted_by (λ i. cond (is_some_id i origin) 1 0 + versions i) o)) (sym same) h.3) w fits)
         | inr d ↦
             let now : folder_at n new ≡ Some h.0 = at n ∙ (λ k. cond (d k) (Some b) (folder_at n old)) ∙ h.1 in
-            let p = h.2 in
-            (h.0, now, record { tags = let x = p.tags in omega (arith, x); messages = let x = p.messages in omega (arith, x); origins = let x = p.origins in omega (arith, x) }, beside o h.3)
+            (h.0, now, fewer_places h.0 o (cond (bytes_eq n name) 1 0 + tags n) (tags n) (omega arith) h.2, beside o h.3)
       ]
     where
       beside : (o : Option OpId) → HasVersionPlaces h.0 o (wanted_by (λ i. cond (is_some_id i origin) 1 0 + versions i) o) → HasVersionPlaces h.0 o (wanted_by versions o)
@@ -127,16 +137,16 @@ same_lists a b o n e h = subst (λ (m : List (OpId × Vec Version)). HasVersionR
 
 pub room_less : (extra tags : List ℕ → ℕ) (more versions : OpId → ℕ) (o : Option OpId) (t : Option (List ℕ)) (folders : List ℕ → Option Kept) → HasRoomAt (λ n. extra n + tags n) (λ i. more i + versions i) o t folders → HasRoomAt tags versions o t folders
 room_less extra tags more versions o None folders h = tt
-room_less extra tags more versions o (Some n) folders h = (h.0, h.1, record { tags = let x = h.2.tags in omega (arith, x); messages = let x = h.2.messages in omega (arith, x); origins = let x = h.2.origins in omega (arith, x) }, at o h.3)
+room_less extra tags more versions o (Some n) folders h = (h.0, h.1, fewer_places h.0 o (extra n + tags n) (tags n) (omega arith) h.2, at o h.3)
   where
     at : (o : Option OpId) → HasVersionPlaces h.0 o (wanted_by (λ i. more i + versions i) o) → HasVersionPlaces h.0 o (wanted_by versions o)
     at None k = tt
     at (Some q) k = fewer h.0.messages q (more q) (versions q) k
 
-pub place_one : (name : List ℕ) (k : Kept) → HasPlaces k (cond (bytes_eq name name) 1 0 + 0) → HasPlaces k 1
-place_one name k h =
+pub place_one : (name : List ℕ) (k : Kept) (o : Option OpId) → HasPlaces k o (cond (bytes_eq name name) 1 0 + 0) → HasPlaces k o 1
+place_one name k o h =
     let one : ◌≡◌ {A = ℕ} (cond (bytes_eq name name) 1 0) 1 = ap (λ b. cond b 1 0) (own_name name) in
-    record { tags = let x = h.tags in omega (arith, x, one); messages = let x = h.messages in omega (arith, x, one); origins = let x = h.origins in omega (arith, x, one) }
+    fewer_places k o (cond (bytes_eq name name) 1 0 + 0) 1 (omega (arith, one)) h
 
 pub version_one : (id : OpId) (messages : List (OpId × Vec Version)) → HasVersionRoom messages id (cond (same_id id id) 1 0 + 0) → HasVersionRoom messages id 1
 version_one id messages h vs e =
@@ -155,7 +165,7 @@ pub room_no_fuller : (old new : List (Vec ℕ × Kept)) → AreNoFuller old new 
 room_no_fuller old new less tags versions o None h = tt
 room_no_fuller old new less tags versions o (Some n) h =
     let w = there (folder_at n old) (folder_at n new) h.0 (less n) h.1 in
-    (w.0, w.1, places_kept h.0 w.0 (tags n) w.2 h.2, fits w.0 w.2 o h.3)
+    (w.0, w.1, places_kept h.0 w.0 o (tags n) w.2 h.2, fits w.0 w.2 o h.3)
   where
     there : (x y : Option Kept) (k : Kept) → IsNoFullerIn x y → x ≡ Some k → (l : Kept) × (y ≡ Some l) × IsNoFuller k l
     there None y k m e = absurd (let z : ◌≡◌ {A = Option Kept} None (Some k) = e in cc)

@@ -147,8 +147,8 @@ room_kept old new roomier tags versions o (Some n) h =
       w.1,
       record {
         tags = let a = p.tags in let b = r.tag_room in omega (arith, a, b);
-        messages = let a = p.messages in let b = r.message_room in omega (arith, a, b);
-        origins = let a = p.origins in let b = r.origin_room in omega (arith, a, b);
+        messages = λ q e. let a = p.messages q e in let b = r.message_room in omega (arith, a, b);
+        origins = λ q e. let a = p.origins q e in let b = r.origin_room in omega (arith, a, b);
       },
       at o h.3,
     )

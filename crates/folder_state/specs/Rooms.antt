@@ -60,11 +60,12 @@ counted_at id counts = unwrap_or (lookup (same_id id) counts) 0
 
 -- ---- the room that there is
 
--- So many tags more can be put into the folder with no more memory.
-pub record HasPlaces (folder : Kept) (count : ℕ) : Type 0 where
+-- So many tags more can be put into the folder with no more memory: where there is an origin, also those of versions of messages that
+-- aren't there.
+pub record HasPlaces (folder : Kept) (origin : Option OpId) (count : ℕ) : Type 0 where
   pub tags : count ≤ folder.tag_room
-  pub messages : count ≤ folder.message_room
-  pub origins : count ≤ folder.origin_room
+  pub messages : (o : OpId) → origin ≡ Some o → count ≤ folder.message_room
+  pub origins : (o : OpId) → origin ≡ Some o → count ≤ folder.origin_room
 
 -- So many versions more fit into the message of the origin, where it is there.
 abbrev pub HasVersionRoom : List (OpId × Vec Version) → OpId → ℕ → Type 0
@@ -78,7 +79,7 @@ HasVersionPlaces folder (Some origin) count = HasVersionRoom folder.messages ori
 -- The folder is there, with room for the tags that are wanted in it, and in its message of the origin for the versions.
 abbrev pub HasRoomAt : (List ℕ → ℕ) → (OpId → ℕ) → Option OpId → Option (List ℕ) → (List ℕ → Option Kept) → Type 0
 HasRoomAt tags versions origin None folders = Unit {0}
-HasRoomAt tags versions origin (Some name) folders = (folder : Kept) × (folders name ≡ Some folder) × HasPlaces folder (tags name) × HasVersionPlaces folder origin (wanted_by versions origin)
+HasRoomAt tags versions origin (Some name) folders = (folder : Kept) × (folders name ≡ Some folder) × HasPlaces folder origin (tags name) × HasVersionPlaces folder origin (wanted_by versions origin)
 
 -- The folder of the tag that the operation adds is there, with room for what these operations add.
 abbrev pub HasRoomFor : List Op → Op → (List ℕ → Option Kept) → Type 0

@@ -107,7 +107,7 @@ pub fn keep_added(
 
 /// Puts a folder tag in, for which there is room.
 fn put_tag(by_name: &mut IndexMap<Vec<u8>, Folder>, name: &Name, id: &OpId)
-    requires { (folder : Kept) × (folder_at name.now by_name.old.entries ≡ Some folder) × HasPlaces folder 1 }
+    requires { (folder : Kept) × (folder_at name.now by_name.old.entries ≡ Some folder) × HasPlaces folder None 1 }
     ensures tags { (f : List ℕ) (i : Id) → has_tag_in (folder_at f by_name.new.entries) i ≡ (is_at f i name.now id.now || has_tag_in (folder_at f by_name.old.entries) i) }
     ensures bodies { (f : List ℕ) (i : Id) → body_in_folder (folder_at f by_name.new.entries) i ≡ body_in_folder (folder_at f by_name.old.entries) i }
     ensures room { LeavesRoom name.now None 0 (λ n. folder_at n by_name.old.entries) (λ n. folder_at n by_name.new.entries) }
@@ -126,7 +126,7 @@ fn put_message(
     version: Version,
     list: Vec<Version>,
 )
-    requires room { (folder : Kept) × (folder_at name.now by_name.old.entries ≡ Some folder) × HasPlaces folder 1 × HasVersionRoom folder.messages origin.now 1 }
+    requires room { (folder : Kept) × (folder_at name.now by_name.old.entries ≡ Some folder) × HasPlaces folder (Some origin.now) 1 × HasVersionRoom folder.messages origin.now 1 }
     requires list { (list.items ≡ []) × (1 ≤ vec_capacity list) }
     ensures tags { (f : List ℕ) (i : Id) → has_tag_in (folder_at f by_name.new.entries) i ≡ has_tag_in (folder_at f by_name.old.entries) i }
     ensures bodies { (f : List ℕ) (i : Id) → body_in_folder (folder_at f by_name.new.entries) i ≡ (if is_at f i name.now version.id then Some (record { flags = version.flags; origin = origin.now }) else body_in_folder (folder_at f by_name.old.entries) i) }
@@ -146,7 +146,7 @@ fn put_first(
     flags: Flags,
     list: Vec<Version>,
 )
-    requires room { (folder : Kept) × (folder_at name.now by_name.old.entries ≡ Some folder) × HasPlaces folder 1 × HasVersionRoom folder.messages id.now 1 }
+    requires room { (folder : Kept) × (folder_at name.now by_name.old.entries ≡ Some folder) × HasPlaces folder (Some id.now) 1 × HasVersionRoom folder.messages id.now 1 }
     requires list { (list.items ≡ []) × (1 ≤ vec_capacity list) }
     ensures tags { (f : List ℕ) (i : Id) → has_tag_in (folder_at f by_name.new.entries) i ≡ has_tag_in (folder_at f by_name.old.entries) i }
     ensures bodies { (f : List ℕ) (i : Id) → body_in_folder (folder_at f by_name.new.entries) i ≡ (if is_at f i name.now id.now then Some (record { flags = flags; origin = id.now }) else body_in_folder (folder_at f by_name.old.entries) i) }

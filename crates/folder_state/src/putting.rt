@@ -1,6 +1,6 @@
 //! Tags put into a folder.
 
-ghost use Rattle.std.specs.Prelude.{◌≡◌, ◌≤◌, ◌<◌, ◌+◌, ◌||◌, ℕ, [], true, None, Some, MatchResult, insert, length, if◌then◌else◌};
+ghost use Rattle.std.specs.Prelude.{◌≡◌, ◌≤◌, ◌<◌, ◌+◌, ◌||◌, ℕ, [], true, Option, None, Some, MatchResult, insert, length, if◌then◌else◌};
 ghost use Rattle.std.specs.List.{list_any};
 ghost use Rattle.std.specs.Map.{lookup};
 ghost use Rattle.std.specs.Vec.{vec_capacity};
@@ -19,10 +19,10 @@ use tags_clocks::OpId;
 impl Folder {
     /// Puts a folder tag in, for which there is room. Cost: a look-up.
     pub(crate) fn put_tag(&mut self, id: &OpId)
-        requires { HasPlaces self.old 1 }
+        requires { HasPlaces self.old None 1 }
         ensures tags { (i : Id) → (folder_contents self.new).tags i ≡ (same_id i id.now || (folder_contents self.old).tags i) }
         ensures messages { (self.new.messages ≡ self.old.messages) × (self.new.origins ≡ self.old.origins) }
-        ensures room { (n : ℕ) → HasPlaces self.old (n + 1) → HasPlaces self.new n }
+        ensures room { (o : Option Id) (n : ℕ) → HasPlaces self.old o (n + 1) → HasPlaces self.new o n }
     {
         if self.tags.insert(*id).is_err() {
             unreachable!();
@@ -32,12 +32,12 @@ impl Folder {
     /// Puts a message tag in, for which there is room, in place of one with its id. Where its message isn't there yet, this list, which
     /// is empty, is that of its versions. Cost: some look-ups, and a pass over the versions of the message.
     pub(crate) fn put_message(&mut self, origin: &OpId, version: Version, list: Vec<Version>)
-        requires places { HasPlaces self.old 1 }
+        requires places { HasPlaces self.old (Some origin.now) 1 }
         requires versions { HasVersionRoom self.old.messages origin.now 1 }
         requires list { (list.items ≡ []) × (1 ≤ vec_capacity list) }
         ensures bodies { (i : Id) → (folder_contents self.new).bodies i ≡ (if same_id i version.id then Some (record { flags = version.flags; origin = origin.now }) else (folder_contents self.old).bodies i) }
         ensures tags { self.new.tags ≡ self.old.tags }
-        ensures room { (n : ℕ) → HasPlaces self.old (n + 1) → HasPlaces self.new n }
+        ensures room { (o : Option Id) (n : ℕ) → HasPlaces self.old o (n + 1) → HasPlaces self.new o n }
         ensures versions { (o : Id) (n : ℕ) → HasVersionRoom self.old.messages o ((if same_id o origin.now then 1 else 0) + n) → (same_id o origin.now ≡ true → 1 + n ≤ vec_capacity list) → HasVersionRoom self.new.messages o n }
     {
         self.forget_message(&version.id);
@@ -47,12 +47,12 @@ impl Folder {
     /// Puts a message tag in, for which there is room; no other has its id.
     fn put_version(&mut self, origin: &OpId, version: Version, list: Vec<Version>)
         requires apart { lookup (same_id version.id) self.old.origins ≡ None }
-        requires places { HasPlaces self.old 1 }
+        requires places { HasPlaces self.old (Some origin.now) 1 }
         requires versions { HasVersionRoom self.old.messages origin.now 1 }
         requires list { (list.items ≡ []) × (1 ≤ vec_capacity list) }
         ensures bodies { (i : Id) → (folder_contents self.new).bodies i ≡ (if same_id i version.id then Some (record { flags = version.flags; origin = origin.now }) else (folder_contents self.old).bodies i) }
         ensures tags { self.new.tags ≡ self.old.tags }
-        ensures room { (n : ℕ) → HasPlaces self.old (n + 1) → HasPlaces self.new n }
+        ensures room { (o : Option Id) (n : ℕ) → HasPlaces self.old o (n + 1) → HasPlaces self.new o n }
         ensures versions { (o : Id) (n : ℕ) → HasVersionRoom self.old.messages o ((if same_id o origin.now then 1 else 0) + n) → (same_id o origin.now ≡ true → 1 + n ≤ vec_capacity list) → HasVersionRoom self.new.messages o n }
     {
         tell_origin(&mut self.origins, &version.id, origin);

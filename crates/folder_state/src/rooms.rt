@@ -99,26 +99,27 @@ fn reserve_in(
     versions: usize,
 ) -> Result<(), AllocError>
     ensures roomier { AreRoomier by_name.old.entries by_name.new.entries }
-    ensures ok { OnOk result ((folder : Kept) × (folder_at name.now by_name.new.entries ≡ Some folder) × HasPlaces folder tags × HasVersionPlaces folder origin.now versions) }
+    ensures ok { OnOk result ((folder : Kept) × (folder_at name.now by_name.new.entries ≡ Some folder) × HasPlaces folder origin.now tags × HasVersionPlaces folder origin.now versions) }
 {
     match by_name.get_mut(name) {
         Some(folder) => folder.reserve(tags, origin, versions),
-        None => put_folder(alloc, by_name, name, tags),
+        None => put_folder(alloc, by_name, name, tags, origin),
     }
 }
 
-/// Puts a folder in that isn't there, with room for so many tags.
+/// Puts a folder in that isn't there, with room for so many tags, and, where there is an origin, for as many messages.
 fn put_folder(
     alloc: Global,
     by_name: &mut IndexMap<Vec<u8>, Folder>,
     name: &[u8],
     tags: usize,
+    origin: &Option<OpId>,
 ) -> Result<(), AllocError>
     requires { folder_at name.now by_name.old.entries ≡ None }
     ensures roomier { AreRoomier by_name.old.entries by_name.new.entries }
-    ensures ok { OnOk result ((folder : Kept) × (folder_at name.now by_name.new.entries ≡ Some folder) × HasPlaces folder tags × (folder.messages ≡ [])) }
+    ensures ok { OnOk result ((folder : Kept) × (folder_at name.now by_name.new.entries ≡ Some folder) × HasPlaces folder origin.now tags × (folder.messages ≡ [])) }
 {
-    let folder = Folder::with_room(alloc, tags)?;
+    let folder = Folder::with_room(alloc, tags, origin)?;
     let key = name.to_vec(alloc)?;
     if by_name.insert(key, folder).is_err() {
         return Err(AllocError);
@@ -127,18 +128,18 @@ fn put_folder(
 }
 
 impl Folder {
-    /// No tags, and room for so many; `Err` where there is no memory for it.
-    fn with_room(alloc: Global, tags: usize) -> Result<Folder, AllocError>
+    /// No tags, and room for so many, and, where there is an origin, for as many messages; `Err` where there is no memory for it.
+    fn with_room(alloc: Global, tags: usize, origin: &Option<OpId>) -> Result<Folder, AllocError>
         ensures empty { IfOk result (λ folder. (folder.tags ≡ []) × (folder.messages ≡ []) × (folder.origins ≡ [])) }
-        ensures room { IfOk result (λ folder. HasPlaces folder tags) }
+        ensures room { IfOk result (λ folder. HasPlaces folder origin.now tags) }
     {
         let mut folder = Folder::new(alloc);
-        folder.reserve_tags(tags)?;
+        folder.reserve_places(tags, origin)?;
         Ok(folder)
     }
 
-    /// Makes room for so many tags, and for so many versions in the message of the origin, where it is there. An error leaves all tags as
-    /// they were.
+    /// Makes room for so many tags, and, where there is an origin, for as many messages and for so many versions in its own, if that is there. An error leaves all
+    /// tags as they were.
     fn reserve(
         &mut self,
         tags: usize,
@@ -146,24 +147,37 @@ impl Folder {
         versions: usize,
     ) -> Result<(), AllocError>
         ensures roomier { IsRoomier self.old self.new }
-        ensures ok { OnOk result (HasPlaces self.new tags × HasVersionPlaces self.new origin.now versions) }
+        ensures ok { OnOk result (HasPlaces self.new origin.now tags × HasVersionPlaces self.new origin.now versions) }
     {
-        self.reserve_tags(tags)?;
+        self.reserve_places(tags, origin)?;
         match origin {
             Some(origin) => reserve_versions(&mut self.messages, origin, versions),
             None => Ok(()),
         }
     }
 
-    /// Makes room for so many tags.
-    fn reserve_tags(&mut self, tags: usize) -> Result<(), AllocError>
+    /// Makes room for so many tags, and, where there is an origin, for as many messages.
+    fn reserve_places(&mut self, tags: usize, origin: &Option<OpId>) -> Result<(), AllocError>
         ensures same { (self.new.tags ≡ self.old.tags) × (self.new.messages ≡ self.old.messages) × (self.new.origins ≡ self.old.origins) }
         ensures grown { (self.old.tag_room ≤ self.new.tag_room) × (self.old.message_room ≤ self.new.message_room) × (self.old.origin_room ≤ self.new.origin_room) }
-        ensures ok { OnOk result (HasPlaces self.new tags) }
+        ensures ok { OnOk result (HasPlaces self.new origin.now tags) }
     {
         self.tags.reserve(tags)?;
-        self.messages.reserve(tags)?;
-        self.origins.reserve(tags)
+        match origin {
+            Some(_) => self.reserve_messages(tags),
+            None => Ok(()),
+        }
+    }
+
+    /// Makes room for so many messages.
+    fn reserve_messages(&mut self, count: usize) -> Result<(), AllocError>
+        ensures same { (self.new.tags ≡ self.old.tags) × (self.new.messages ≡ self.old.messages) × (self.new.origins ≡ self.old.origins) }
+        ensures grown { (self.old.message_room ≤ self.new.message_room) × (self.old.origin_room ≤ self.new.origin_room) }
+        ensures tag_room { self.new.tag_room ≡ self.old.tag_room }
+        ensures ok { OnOk result ((count ≤ self.new.message_room) × (count ≤ self.new.origin_room)) }
+    {
+        self.messages.reserve(count)?;
+        self.origins.reserve(count)
     }
 }
 

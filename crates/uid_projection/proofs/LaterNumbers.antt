@@ -3,6 +3,7 @@ use Rattle.std.proofs.Common.{◌≡◌, Option, None, Some, inl, inr, ℕ, ◌+
 use Rattle.std.specs.List.{list_any}
 use Rattle.std.proofs.lemmas.Bool.{cases_Bool, cases_eq, cases_lt, false≢true, or_parts}
 use Rattle.imap_types.specs.Names.{inbox}
+use Rattle.tags_clocks.specs.declared.id.OpId.{OpId}
 use Rattle.crdt_ops.specs.declared.op.Op.{Op}
 use Rattle.crdt_ops.specs.Tags.{name_of}
 use Rattle.crdt_ops.proofs.Members.{any_in}
@@ -15,6 +16,7 @@ use Rattle.uid_projection.specs.Following.{Follows, IsReadyFor}
 use Rattle.uid_projection.specs.History.{counted_all}
 use Rattle.uid_projection.specs.Incarnations.{begins, is_there, k_of}
 use Rattle.uid_projection.specs.Lines.{begins_line, concerns_by, first_uid, highest_modseq_of, uidnext_of}
+use Rattle.uid_projection.specs.Moves.{added_origin}
 use Rattle.uid_projection.specs.Table.{HasRooms, HasRoomsIn, IsRoomy, IsTable, chart_at}
 use Rattle.uid_projection.proofs.Coming.{behind}
 use Rattle.uid_projection.proofs.HistoryLemmas.{once, all-append}
@@ -159,10 +161,10 @@ highest_still folder (o ∷ ops) list n a none u l =
     omega (arith, r, e)
 
 -- where there is room, there is a chart
-charted_roomy : (n : ℕ) (folder : List ℕ) (charts : List (Vec ℕ × Chart)) → HasRooms n folder charts → (c : Chart) × (chart_at folder charts ≡ Some c) × IsRoomy n c
-charted_roomy n folder charts r = by (chart_at folder charts) refl r
+charted_roomy : (origin : Option OpId) (n : ℕ) (folder : List ℕ) (charts : List (Vec ℕ × Chart)) → HasRooms origin n folder charts → (c : Chart) × (chart_at folder charts ≡ Some c) × IsRoomy origin n c
+charted_roomy origin n folder charts r = by (chart_at folder charts) refl r
   where
-    by : (x : Option Chart) → chart_at folder charts ≡ x → HasRoomsIn n x → (c : Chart) × (chart_at folder charts ≡ Some c) × IsRoomy n c
+    by : (x : Option Chart) → chart_at folder charts ≡ x → HasRoomsIn origin n x → (c : Chart) × (chart_at folder charts ≡ Some c) × IsRoomy origin n c
     by None e h = absurd h
     by (Some c) e h = (c, e, h)
 
@@ -173,7 +175,7 @@ highest_within x list ops folder f r u =
       | inl t ↦
           let w = (any_in (λ (o : Op). concerns_by folder o.kind) ops).0 t in
           let own : folder ≡ name_of w.0.kind = about_name folder w.0.kind w.2 in
-          let roomy = charted_roomy (length ops) (name_of w.0.kind) x.charts.entries (r.rooms w.0 w.1 (subst (λ (n : List ℕ). concerns_by n w.0.kind ≡ true) own w.2)) in
+          let roomy = charted_roomy (added_origin w.0) (length ops) (name_of w.0.kind) x.charts.entries (r.rooms w.0 w.1 (subst (λ (n : List ℕ). concerns_by n w.0.kind ≡ true) own w.2)) in
           let is : roomy.0.highest ≡ highest_modseq_of folder list = (f.table.shows (name_of w.0.kind) roomy.0 roomy.1).shows.is_highest ∙ ap (λ n. highest_modseq_of n list) (sym own) in
           let least : 1 ≤ highest_modseq_of folder list = omega arith in
           let b = highest_bound folder ops list (highest_modseq_of folder list) (omega arith) least in

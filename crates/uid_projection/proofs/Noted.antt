@@ -6,6 +6,7 @@ use Rattle.std.proofs.lemmas.Slice.Eq.{bytes_eq-Decides}
 use Rattle.imap_types.specs.Names.{inbox}
 use Rattle.merge_laws.specs.Orders.{AreSound, IsCausal, fold_of}
 use Rattle.merge_laws.proofs.Lists.{in_parts}
+use Rattle.tags_clocks.specs.declared.id.OpId.{OpId}
 use Rattle.crdt_ops.specs.declared.op.Op.{Op}
 use Rattle.crdt_ops.specs.Sound.{IsSound}
 use Rattle.crdt_ops.specs.Tags.{name_of}
@@ -19,6 +20,7 @@ use Rattle.uid_projection.specs.Exhaustion.{IsExhausted}
 use Rattle.uid_projection.specs.Following.{Follows, IsReadyFor}
 use Rattle.uid_projection.specs.Incarnations.{is_there, k_of, uidvalidity_of}
 use Rattle.uid_projection.specs.Lines.{concerns_by}
+use Rattle.uid_projection.specs.Moves.{added_origin}
 use Rattle.uid_projection.specs.Readiness.{less_room}
 use Rattle.uid_projection.specs.Table.{HasRooms, IsNextOn, IsTable, IsUpTo, chart_at, origin_at}
 use Rattle.uid_projection.proofs.ChartOf.{chart_first}
@@ -53,14 +55,14 @@ next_on x value list o p e f r m =
     }
 
 -- what stays ready for the others
-pub others_ready : (x y : Charts) (list : List Op) (o : Op) (rest : List Op) → y.start ≡ x.start → ((n : ℕ) (folder : List ℕ) → HasRooms (n + 1) folder x.charts.entries → HasRooms n folder y.charts.entries) → IsReadyFor x list (o ∷ rest) → IsReadyFor y (list ++ o ∷ []) rest
+pub others_ready : (x y : Charts) (list : List Op) (o : Op) (rest : List Op) → y.start ≡ x.start → ((origin : Option OpId) (n : ℕ) (folder : List ℕ) → HasRooms origin (n + 1) folder x.charts.entries → HasRooms origin n folder y.charts.entries) → IsReadyFor x list (o ∷ rest) → IsReadyFor y (list ++ o ∷ []) rest
 others_ready x y list o rest same rooms r = record {
   applied = subst IsApplied (sym (append_assoc list (o ∷ []) rest)) r.applied;
   lasts = λ e.
       let (front, p, back, k, h) = e in
       let h2 : IsExhausted x.start (list ++ o ∷ front) p = subst (λ (xs : List Op). IsExhausted x.start xs p) (append_assoc list (o ∷ []) front) (subst (λ (s : Start). IsExhausted s ((list ++ o ∷ []) ++ front) p) same h) in
       r.lasts (o ∷ front, p, back, ap (λ xs. o ∷ xs) k, h2);
-  rooms = λ p i about. rooms (length rest) (name_of p.kind) (less_room (length rest + 1) (length (o ∷ rest)) (name_of p.kind) x.charts.entries (omega arith) (r.rooms p (inr i) about));
+  rooms = λ p i about. rooms (added_origin p) (length rest) (name_of p.kind) (less_room (added_origin p) (length rest + 1) (length (o ∷ rest)) (name_of p.kind) x.charts.entries (omega arith) (r.rooms p (inr i) about));
 }
 
 -- an operation that is about no folder

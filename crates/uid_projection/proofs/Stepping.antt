@@ -133,10 +133,10 @@ module _ (start : Start) (k : ℕ) (value : Contents) (ops : List Op) (o : Op) (
           shows = chart_as start folder ops _ _ _ _ _ _ u h (λ j. (es j).entries) r.up.shows;
           versions = subst (λ v. AreVersions folder ops (origin_at v.entries)) (sym vs) r.up.versions;
           roomy =
-              let p = r.roomy.places in let v = r.roomy.version_places in let q = r.roomy.highest in let w = r.roomy.uidnext in
+              let q = r.roomy.highest in let w = r.roomy.uidnext in
               record {
-                places = subst (λ x. 1 ≤ x.room) (sym es) p;
-                version_places = subst (λ x. 1 ≤ spare x) (sym vs) v;
+                places = λ g j. subst (λ x. 1 ≤ x.room) (sym es) (r.roomy.places g j);
+                version_places = λ g j. subst (λ x. 1 ≤ spare x) (sym vs) (r.roomy.version_places g j);
                 highest = subst (λ x. x + 1 ≤ 18446744073709551615) (sym h) q;
                 uidnext = subst (λ x. x ≤ 4294967295) (sym u) w;
               };

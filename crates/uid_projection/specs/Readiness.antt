@@ -1,23 +1,30 @@
 use Rattle.std.specs.Global.{Vec}
-use Rattle.std.specs.Prelude.{ℕ, ◌≤◌, Option, None, Some, List, [], ◌∷◌, ◌++◌, length}
+use Rattle.std.specs.Prelude.{◌≡◌, ℕ, ◌≤◌, Option, None, Some, List, [], ◌∷◌, ◌++◌, length}
 use Rattle.std.proofs.Common.{arith, ap, sym, subst, append_assoc, ◌∙◌}
 use Rattle.merge_laws.proofs.Causal.{causal_front}
 use Rattle.merge_laws.proofs.Lists.{in_front}
+use Rattle.tags_clocks.specs.declared.id.OpId.{OpId}
 use Rattle.crdt_ops.specs.declared.op.Op.{Op}
 use Rattle.crdt_ops.specs.Tags.{name_of}
 use Rattle.uid_projection.specs.declared.charts.Charts.{Charts}
 use Rattle.uid_projection.specs.declared.chart.Chart.{Chart}
 use Rattle.uid_projection.specs.Applied.{IsApplied}
 use Rattle.uid_projection.specs.Following.{IsReadyFor}
+use Rattle.uid_projection.specs.Moves.{added_origin}
 use Rattle.uid_projection.specs.Table.{HasRooms, HasRoomsIn, chart_at}
 
 -- Room for more operations is room for fewer.
-pub less_room : (m n : ℕ) (folder : List ℕ) (charts : List (Vec ℕ × Chart)) → m ≤ n → HasRooms n folder charts → HasRooms m folder charts
-less_room m n folder charts l r = fewer (chart_at folder charts) r
+pub less_room : (origin : Option OpId) (m n : ℕ) (folder : List ℕ) (charts : List (Vec ℕ × Chart)) → m ≤ n → HasRooms origin n folder charts → HasRooms origin m folder charts
+less_room origin m n folder charts l r = fewer (chart_at folder charts) r
   where
-    fewer : (c : Option Chart) → HasRoomsIn n c → HasRoomsIn m c
+    fewer : (c : Option Chart) → HasRoomsIn origin n c → HasRoomsIn origin m c
     fewer None h = h
-    fewer (Some c) h = let p = h.places in let v = h.version_places in let q = h.highest in record { places = omega (arith, p, l); version_places = omega (arith, v, l); highest = omega (arith, q, l); uidnext = h.uidnext }
+    fewer (Some c) h = record {
+      places = λ g e. let p = h.places g e in omega (arith, p, l);
+      version_places = λ g e. let v = h.version_places g e in omega (arith, v, l);
+      highest = let q = h.highest in omega (arith, q, l);
+      uidnext = h.uidnext;
+    }
 
 -- What is ready for some operations is ready for the first of them.
 pub ready_first : (x : Charts) (list : List Op) (o : Op) (os : List Op) → IsReadyFor x list (o ∷ os) → IsReadyFor x list (o ∷ [])
@@ -29,5 +36,5 @@ ready_first x list o os r = record {
         causal = causal_front (λ (p : Op). p.id) (λ p. p.clock) (list ++ o ∷ []) os whole.causal;
       };
   lasts = λ e. let (front, p, back, k, h) = e in r.lasts (front, p, back ++ os, ap (λ xs. xs ++ os) k ∙ append_assoc front (p ∷ back) os, h);
-  rooms = λ p i about. less_room 1 (length (o ∷ os)) (name_of p.kind) x.charts.entries (omega arith) (r.rooms p (in_front p (o ∷ []) os i) about);
+  rooms = λ p i about. less_room (added_origin p) 1 (length (o ∷ os)) (name_of p.kind) x.charts.entries (omega arith) (r.rooms p (in_front p (o ∷ []) os i) about);
 }

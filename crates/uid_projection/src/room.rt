@@ -1,19 +1,24 @@
 //! Room in the charts for operations that come.
 
-ghost use Rattle.std.specs.Prelude.{◌≡◌, ◌≤◌, ℕ, List, [], None, true, false, length, OnOk};
+ghost use Rattle.std.specs.Prelude.{◌≡◌, ◌≤◌, ℕ, List, [], Option, None, true, false, length, OnOk};
+ghost use Rattle.indexmap.specs.IndexMap.{spare};
+ghost use Rattle.tags_clocks.specs.declared.id.OpId.{OpId as Id};
 ghost use Rattle.merge_laws.specs.Orders.{IsIn};
 ghost use Rattle.crdt_ops.specs.declared.op.Op.{Op as Operation};
 ghost use Rattle.crdt_ops.specs.Tags.{name_of};
 ghost use Rattle.uid_projection.specs.Lines.{concerns_by};
+ghost use Rattle.uid_projection.specs.Moves.{added_origin};
 ghost use Rattle.uid_projection.specs.Table.{HasRooms, IsRoomy, IsSame, IsTable, chart_at};
 
 use crate::chart::Chart;
+use crate::moves::added_origin;
 use crate::start::{Start, first_of};
 use crdt_ops::{Kind, Op, SoundOp};
 use entry_table::EntryTable;
 use imap_types::Name;
 use indexmap::IndexMap;
 use std::alloc::{AllocError, Global};
+use tags_clocks::OpId;
 
 /// Makes room for these operations in the charts of their folders; where a folder has no chart, it gets one. An error leaves
 /// all numbers as they were.
@@ -24,7 +29,7 @@ pub fn make_rooms(
     ops: &[SoundOp],
 ) -> Result<(), AllocError>
     ensures table { (list : List Operation) (k : ℕ) → IsTable start.now list k charts.old.entries → IsTable start.now list k charts.new.entries }
-    ensures ok { OnOk result ((o : Operation) → IsIn o ops.now → concerns_by (name_of o.kind) o.kind ≡ true → HasRooms (length ops.now) (name_of o.kind) charts.new.entries) }
+    ensures ok { OnOk result ((o : Operation) → IsIn o ops.now → concerns_by (name_of o.kind) o.kind ≡ true → HasRooms (added_origin o) (length ops.now) (name_of o.kind) charts.new.entries) }
 {
     for op in ops {
         room_for(alloc, start, charts, op.op(), ops.len())?;
@@ -41,11 +46,18 @@ fn room_for(
     more: usize,
 ) -> Result<(), AllocError>
     ensures table { (list : List Operation) (k : ℕ) → IsTable start.now list k charts.old.entries → IsTable start.now list k charts.new.entries }
-    ensures rooms { (n : ℕ) (f : List ℕ) → HasRooms n f charts.old.entries → HasRooms n f charts.new.entries }
-    ensures ok { OnOk result (concerns_by (name_of op.now.kind) op.now.kind ≡ true → HasRooms more (name_of op.now.kind) charts.new.entries) }
+    ensures rooms { (g : Option Id) (n : ℕ) (f : List ℕ) → HasRooms g n f charts.old.entries → HasRooms g n f charts.new.entries }
+    ensures ok { OnOk result (concerns_by (name_of op.now.kind) op.now.kind ≡ true → HasRooms (added_origin op.now) more (name_of op.now.kind) charts.new.entries) }
 {
     if names_folder(&op.kind) {
-        make_room(alloc, start, charts, op.kind.name(), more)
+        make_room(
+            alloc,
+            start,
+            charts,
+            op.kind.name(),
+            &added_origin(op),
+            more,
+        )
     } else {
         Ok(())
     }
@@ -66,21 +78,22 @@ pub fn names_folder(kind: &Kind) -> bool
     }
 }
 
-/// Makes room for so many operations in the folder's chart.
+/// Makes room for so many operations in the folder's chart; for entries and versions where an origin is added.
 fn make_room(
     alloc: Global,
     start: &Start,
     charts: &mut IndexMap<Vec<u8>, Chart>,
     folder: &Name,
+    origin: &Option<OpId>,
     more: usize,
 ) -> Result<(), AllocError>
     ensures table { (list : List Operation) (k : ℕ) → IsTable start.now list k charts.old.entries → IsTable start.now list k charts.new.entries }
-    ensures rooms { (n : ℕ) (f : List ℕ) → HasRooms n f charts.old.entries → HasRooms n f charts.new.entries }
-    ensures ok { OnOk result (HasRooms more folder.now charts.new.entries) }
+    ensures rooms { (g : Option Id) (n : ℕ) (f : List ℕ) → HasRooms g n f charts.old.entries → HasRooms g n f charts.new.entries }
+    ensures ok { OnOk result (HasRooms origin.now more folder.now charts.new.entries) }
 {
     match charts.get_mut(folder.as_bytes()) {
-        Some(chart) => make_room_in(alloc, chart, more),
-        None => put_chart(alloc, start, charts, folder, more),
+        Some(chart) => make_room_in(alloc, chart, origin, more),
+        None => put_chart(alloc, start, charts, folder, origin, more),
     }
 }
 
@@ -90,15 +103,16 @@ fn put_chart(
     start: &Start,
     charts: &mut IndexMap<Vec<u8>, Chart>,
     folder: &Name,
+    origin: &Option<OpId>,
     more: usize,
 ) -> Result<(), AllocError>
     requires { chart_at folder.now charts.old.entries ≡ None }
     ensures table { (list : List Operation) (k : ℕ) → IsTable start.now list k charts.old.entries → IsTable start.now list k charts.new.entries }
-    ensures rooms { (n : ℕ) (f : List ℕ) → HasRooms n f charts.old.entries → HasRooms n f charts.new.entries }
-    ensures ok { OnOk result (HasRooms more folder.now charts.new.entries) }
+    ensures rooms { (g : Option Id) (n : ℕ) (f : List ℕ) → HasRooms g n f charts.old.entries → HasRooms g n f charts.new.entries }
+    ensures ok { OnOk result (HasRooms origin.now more folder.now charts.new.entries) }
 {
     let mut chart = away(alloc, first_of(start, folder));
-    make_room_in(alloc, &mut chart, more)?;
+    make_room_in(alloc, &mut chart, origin, more)?;
     let key = folder.as_bytes().to_vec(alloc)?;
     if charts.insert(key, chart).is_err() {
         return Err(AllocError);
@@ -124,15 +138,32 @@ fn away(alloc: Global, first: u32) -> Chart
     }
 }
 
-/// Makes room for so many operations in the chart. (No memory holds as many operations as a mod-sequence has numbers.)
-fn make_room_in(alloc: Global, chart: &mut Chart, more: usize) -> Result<(), AllocError>
+/// Makes room for so many operations in the chart; for entries and versions where an origin is added. (No memory holds as many operations
+/// as a mod-sequence has numbers.)
+fn make_room_in(
+    alloc: Global,
+    chart: &mut Chart,
+    origin: &Option<OpId>,
+    more: usize,
+) -> Result<(), AllocError>
     ensures same { IsSame chart.old chart.new }
-    ensures ok { OnOk result (IsRoomy more chart.new) }
+    ensures ok { OnOk result (IsRoomy origin.now more chart.new) }
 {
     let _uidnext = chart.uidnext;
     if u64::MAX - chart.highest < more as u64 {
         return Err(AllocError);
     }
+    match origin {
+        Some(_) => reserve_places(alloc, chart, more),
+        None => Ok(()),
+    }
+}
+
+/// Makes places for so many entries and versions in the chart.
+fn reserve_places(alloc: Global, chart: &mut Chart, more: usize) -> Result<(), AllocError>
+    ensures same { IsSame chart.old chart.new }
+    ensures ok { OnOk result ((more ≤ chart.new.entries.room) × (more ≤ spare chart.new.versions)) }
+{
     chart.versions.reserve(more)?;
     chart.entries.reserve(alloc, more)
 }

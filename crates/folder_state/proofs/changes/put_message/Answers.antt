@@ -19,7 +19,7 @@ pub put_message-requires-clause-places : goal.put_message-requires-clause-places
 put_message-requires-clause-places c =
     let r = c.requires.room in
     let e = same c.args.name.now c.as_bytes.result.now c.args.by_name.now.entries r.0 c.in-Some.folder.now c.as_bytes.ensures r.1 (sym (c.in-Some.ensures {u = tt}).value) in
-    subst (λ (k : Kept). HasPlaces k 1) e r.2
+    subst (λ (k : Kept). HasPlaces k (Some c.args.origin.now) 1) e r.2
 
 pub put_message-requires-clause-versions : goal.put_message-requires-clause-versions
 put_message-requires-clause-versions c =

@@ -17,7 +17,7 @@ pub put_tag-requires : goal.put_tag-requires
 put_tag-requires c =
     let r = c.requires in
     let e = same c.args.name.now c.as_bytes.result.now c.args.by_name.now.entries r.0 c.in-Some.folder.now c.as_bytes.ensures r.1 (sym (c.in-Some.ensures {u = tt}).value) in
-    subst (λ (k : Kept). HasPlaces k 1) e r.2
+    subst (λ (k : Kept). HasPlaces k None 1) e r.2
 
 pub returns-clause-tags : goal.returns-clause-tags
 returns-clause-tags c =

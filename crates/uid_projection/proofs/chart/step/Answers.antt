@@ -65,11 +65,11 @@ returns-clause-up c = λ list r.
     (subst (λ m. AreVersions m (list ++ o ∷ []) (origin_at c.advance.new.chart.versions.entries)) own (x.versions c.args.start.now list w))
 
 pub returns-clause-roomy : goal.returns-clause-roomy
-returns-clause-roomy c = λ n w.
+returns-clause-roomy c = λ g n w.
     let e = c.open.ensures in
-    c.advance.ensures.roomy n (record {
-      places = subst (λ x. n + 1 ≤ x.room) (sym e.entries) w.places;
-      version_places = subst (λ x. n + 1 ≤ spare x) (sym e.versions) w.version_places;
+    c.advance.ensures.roomy g n (record {
+      places = λ o j. subst (λ x. n + 1 ≤ x.room) (sym e.entries) (w.places o j);
+      version_places = λ o j. subst (λ x. n + 1 ≤ spare x) (sym e.versions) (w.version_places o j);
       highest = subst (λ x. x + (n + 1) ≤ 18446744073709551615) (sym e.highest) w.highest;
       uidnext = subst (λ x. x ≤ 4294967295) (sym e.uidnext) w.uidnext;
     })

@@ -2,6 +2,7 @@ use Rattle.std.proofs.Common.{◌≡◌, true, length, subst, arith}
 use Rattle.crdt_ops.specs.declared.op.Op.{Op}
 use Rattle.crdt_ops.specs.Tags.{name_of}
 use Rattle.uid_projection.specs.Lines.{concerns_by}
+use Rattle.uid_projection.specs.Moves.{added_origin}
 use Rattle.uid_projection.specs.Table.{HasRooms}
 use Rattle.uid_projection.proofs.Coming.{all_more, all_of}
 use Rattle.uid_projection.proofs.room.make_rooms.Goals as goal
@@ -14,15 +15,15 @@ loop-op-preserved c =
     let h = c.loop-op.invariant in
     let n = length c.args.ops.now in
     let new = c.room_for.new.charts.entries in
-    let P = λ (o : Op). concerns_by (name_of o.kind) o.kind ≡ true → HasRooms n (name_of o.kind) new in
+    let P = λ (o : Op). concerns_by (name_of o.kind) o.kind ≡ true → HasRooms (added_origin o) n (name_of o.kind) new in
     record {
       table = λ list k t. c.room_for.ensures.table list k (h.table list k t);
       done = all_more P c.args.ops.now c.loop-op.op-index c.op-item.result c.loop-op-test.true c.op-item.is
-          (λ o i about. c.room_for.ensures.rooms n (name_of o.kind) (h.done o i about))
+          (λ o i about. c.room_for.ensures.rooms (added_origin o) n (name_of o.kind) (h.done o i about))
           (subst P c.op.ensures.op c.in_ok-room_for.ensures.ok);
     }
 
 pub returns-clause-ok : goal.returns-clause-ok
 returns-clause-ok c =
     let stop = c.loop-op-test.false in
-    all_of (λ (o : Op). concerns_by (name_of o.kind) o.kind ≡ true → HasRooms (length c.args.ops.now) (name_of o.kind) c.loop-op.charts.entries) c.args.ops.now c.loop-op.op-index (omega (arith, stop)) c.loop-op.invariant.done
+    all_of (λ (o : Op). concerns_by (name_of o.kind) o.kind ≡ true → HasRooms (added_origin o) (length c.args.ops.now) (name_of o.kind) c.loop-op.charts.entries) c.args.ops.now c.loop-op.op-index (omega (arith, stop)) c.loop-op.invariant.done

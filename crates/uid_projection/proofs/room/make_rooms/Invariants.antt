@@ -3,11 +3,12 @@ use Rattle.merge_laws.specs.Orders.{IsIn}
 use Rattle.crdt_ops.specs.declared.op.Op.{Op}
 use Rattle.crdt_ops.specs.Tags.{name_of}
 use Rattle.uid_projection.specs.Lines.{concerns_by}
+use Rattle.uid_projection.specs.Moves.{added_origin}
 use Rattle.uid_projection.specs.Table.{HasRooms, IsTable}
 use Rattle.uid_projection.proofs.room.make_rooms.Given as goal
 
 abbrev pub invariant-loop-op : goal.invariant-loop-op
 invariant-loop-op l = record {
   table : (list : List Op) (k : ℕ) → IsTable l.start list k l.fn.charts.entries → IsTable l.start list k l.charts.entries;
-  done : (o : Op) → IsIn o (take l.op-index l.ops) → concerns_by (name_of o.kind) o.kind ≡ true → HasRooms (length l.ops) (name_of o.kind) l.charts.entries;
+  done : (o : Op) → IsIn o (take l.op-index l.ops) → concerns_by (name_of o.kind) o.kind ≡ true → HasRooms (added_origin o) (length l.ops) (name_of o.kind) l.charts.entries;
 }

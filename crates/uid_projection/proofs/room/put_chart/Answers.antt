@@ -33,5 +33,5 @@ returns-clause-ok c =
     let key = c.in_ok-key.key in
     let e : key.items ≡ c.args.folder.now = search rules in
     let says = given_ok c.insert.result (sym c.is_err.ensures.value ∙ c.if-is_err.false) c.insert.ensures.updates in
-    subst (λ m. HasRooms c.args.more m c.insert.new.self.entries) e
-    (rooms_here key.items c.args.charts.now.entries c.insert.new.self.entries c.make_room_in.new.chart says.3 says.1 c.args.more c.in_ok-make_room_in.ensures.ok)
+    subst (λ m. HasRooms c.args.origin.now c.args.more m c.insert.new.self.entries) e
+    (rooms_here key.items c.args.charts.now.entries c.insert.new.self.entries c.make_room_in.new.chart says.3 says.1 c.args.origin.now c.args.more c.in_ok-make_room_in.ensures.ok)

@@ -20,14 +20,14 @@ returns-clause-bodies c = λ i.
     ∙ (λ j. cond (same_id i c.args.version.id) (Some (carrying c.args.origin.now c.args.version.flags)) (body_at (c.self.view_is j).messages i (lookup (same_id i) (c.self.view_is j).origins)))
 
 pub returns-clause-room : goal.returns-clause-room
-returns-clause-room c = λ n h.
-    let before = subst (λ (k : Kept). HasPlaces k (n + 1)) (sym c.self.view_is) h in
+returns-clause-room c = λ o n h.
+    let before = subst (λ (k : Kept). HasPlaces k o (n + 1)) (sym c.self.view_is) h in
     let told = c.tell_origin.ensures.room in
     let put = c.put_in.ensures.room in
     record {
       tags = let a = before.tags in omega (arith, a);
-      messages = let a = before.messages in omega (arith, a, put);
-      origins = let a = before.origins in omega (arith, a, told);
+      messages = λ q e. let a = before.messages q e in omega (arith, a, put);
+      origins = λ q e. let a = before.origins q e in omega (arith, a, told);
     }
 
 pub returns-clause-versions : goal.returns-clause-versions

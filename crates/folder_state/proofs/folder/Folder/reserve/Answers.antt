@@ -9,8 +9,8 @@ invariant_of-self c = filed_roomier c.self.inside.messages.entries c.reserve_ver
 
 pub returns-in-Some-clause-roomier : goal.returns-in-Some-clause-roomier
 returns-in-Some-clause-roomier c =
-    let same = c.reserve_tags.ensures.same in
-    let grown = c.reserve_tags.ensures.grown in
+    let same = c.reserve_places.ensures.same in
+    let grown = c.reserve_places.ensures.grown in
     record {
       tags = (λ j. (c.self.view_is j).tags) ∙ same.0;
       origins = (λ j. (c.self.view_is j).origins) ∙ same.2;
@@ -25,12 +25,12 @@ returns-in-Some-clause-roomier c =
 
 pub returns-in-None-clause-roomier : goal.returns-in-None-clause-roomier
 returns-in-None-clause-roomier c =
-    let same = c.reserve_tags.ensures.same in
-    let grown = c.reserve_tags.ensures.grown in
+    let same = c.reserve_places.ensures.same in
+    let grown = c.reserve_places.ensures.grown in
     record {
       tags = same.0;
       origins = same.2;
-      versions = subst (λ m. AreRoomierLists m c.reserve_tags.new.self.messages) same.1 (roomier_lists c.reserve_tags.new.self.messages);
+      versions = subst (λ m. AreRoomierLists m c.reserve_places.new.self.messages) same.1 (roomier_lists c.reserve_places.new.self.messages);
       tag_room = grown.0;
       message_room = grown.1;
       origin_room = grown.2;

@@ -38,4 +38,4 @@ returns-else-names_folder-clause-follows c = λ list f r d m.
 
 pub returns-else-names_folder-clause-others : goal.returns-else-names_folder-clause-others
 returns-else-names_folder-clause-others c = λ list rest f r d m.
-    others_ready c.args.self.now c.args.self.now list c.args.op.now rest refl (λ n folder. less_room n (n + 1) folder c.args.self.now.charts.entries (omega arith)) r
+    others_ready c.args.self.now c.args.self.now list c.args.op.now rest refl (λ g n folder. less_room g n (n + 1) folder c.args.self.now.charts.entries (omega arith)) r
