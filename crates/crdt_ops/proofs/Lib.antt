@@ -4,6 +4,7 @@ pub mod Members
 pub mod SetLemmas
 pub mod Presence
 pub mod PartLemmas
+pub mod LoopLemmas
 pub mod ListLemmas
 pub mod FlagLemmas
 pub mod ReadLemmas

@@ -1,6 +1,8 @@
 use Rattle.std.proofs.Common.{◌++◌, ◌∷◌, [], map, take, ap, ◌∙◌, append_assoc}
 use Rattle.std.specs.List.{flat_map}
 use Rattle.crdt_ops.specs.Text.{id_text}
+use Rattle.crdt_ops.proofs.LoopLemmas.{listed_more}
+use Rattle.crdt_ops.proofs.PartLemmas.{all_taken}
 use Rattle.crdt_ops.proofs.TextLemmas.{extends_more}
 use Rattle.crdt_ops.proofs.write.push_more_ids.Goals as goal
 
@@ -14,3 +16,11 @@ returns-in_err-push_id-clause-kept c =
     extends_more before c.push_octet.new.out.items _ (listed ++ 44 ∷ [])
     (c.in_ok-push_octet.ensures.ok ∙ ap (λ xs. xs ++ 44 ∷ []) c.loop-id.invariant ∙ append_assoc before listed (44 ∷ []))
     c.push_id.ensures.kept
+
+pub loop-id-preserved : goal.loop-id-preserved
+loop-id-preserved c =
+    listed_more id_text c.args.ids.now c.loop-id.id-index c.id-item.result c.args.out.now.items c.loop-id.out.items c.push_octet.new.out.items c.push_id.new.out.items c.loop-id-test.true c.id-item.is c.loop-id.invariant
+    c.in_ok-push_octet.ensures.ok c.in_ok-push_id.ensures.ok
+
+pub returns-clause-ok : goal.returns-clause-ok
+returns-clause-ok c = c.loop-id.invariant ∙ ap (λ xs. c.args.out.now.items ++ flat_map (λ next. 44 ∷ next) (map id_text xs)) (all_taken c.args.ids.now c.loop-id.id-index c.loop-id-test.false)
