@@ -3,8 +3,7 @@
 use crate::answers::put_answer;
 use crate::frames::{DAMAGES, with_octet};
 use case_text::Words;
-use imap_print::{Answer, MailboxState, print};
-use imap_read::read;
+use imap_print::{Answer, MailboxState, print, read};
 use imap_types::Name;
 use std::alloc::{AllocError, Global};
 

@@ -100,6 +100,21 @@ wants start ops stamp state (commands.Copy asked) =
 wants start ops stamp state (commands.Move asked) =
     when_selected state (λ view read_only. move_wants (mailbox_in start ops view read_only) (record { by_uid = asked.by_uid; messages = asked.messages; destination = asked.name }) (is_there asked.name ops))
 
+-- A command that names messages of the selected mailbox, and tells what became of them.
+abbrev pub names_messages : Command → Bool
+names_messages (commands.UidExpunge uids) = true
+names_messages (commands.Fetch asked) = true
+names_messages (commands.Store asked) = true
+names_messages (commands.Copy asked) = true
+names_messages (commands.Move asked) = true
+names_messages _ = false
+
+-- A command that asks what the selected mailbox has.
+abbrev pub asks_mailbox : Command → Bool
+asks_mailbox commands.Close = true
+asks_mailbox commands.Expunge = true
+asks_mailbox command = names_messages command
+
 -- What a command finds in a mailbox that is selected, and nothing where none is.
 abbrev pub found_selected : State → (Seen → Bool → Found) → Found
 found_selected (Selected view read_only) find = find view read_only

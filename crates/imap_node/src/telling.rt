@@ -1,6 +1,6 @@
 //! What each command tells: one line a command.
 
-ghost use Rattle.std.specs.Prelude.{◌≡◌, ◌++◌, List, true, IfOk};
+ghost use Rattle.std.specs.Prelude.{◌≡◌, ◌++◌, List, true, IfOk, if◌then◌else◌};
 ghost use Rattle.std.specs.Option.{unwrap_or};
 ghost use Rattle.crdt_ops.specs.Sets.{folders_of, subscribed_of};
 ghost use Rattle.imap_commands.specs.Asking.{ListTells, status_tells};
@@ -114,7 +114,7 @@ pub fn tells(
                 messages: &transfer.messages,
                 destination: &transfer.name,
             };
-            tells_copy(alloc, replica, ops, state, &asked, found)
+            tells_transfer(alloc, replica, ops, state, false, &asked, found)
         }
         Command::Move(transfer) => {
             let asked = CopyAsked {
@@ -122,7 +122,7 @@ pub fn tells(
                 messages: &transfer.messages,
                 destination: &transfer.name,
             };
-            tells_move(alloc, replica, ops, state, &asked, found)
+            tells_transfer(alloc, replica, ops, state, true, &asked, found)
         }
     }
 }
@@ -359,42 +359,30 @@ fn tells_store(
     store_tells(alloc, &mailbox, &after, modseq, asked, found)
 }
 
-fn tells_copy(
+fn tells_transfer(
     alloc: Global,
     replica: &Replica,
     ops: &[SoundOp],
     state: &State,
+    moves: bool,
     asked: &CopyAsked<'_>,
     found: &Found,
 ) -> Result<Telling, AllocError>
     requires ready { IsReady replica.now ops.now }
     requires found { found.now ≡ found_selected state.now (λ view read_only. named_found asked.now.by_uid asked.now.messages view.entries) }
-    ensures { IfOk result (λ told. told ≡ tells_selected state.now (λ view read_only. copy_tells (mailbox_in replica.now.start replica.now.applied view read_only) asked.now (landing_in replica.now.start replica.now.applied (replica.now.applied ++ ops.now) asked.now.destination))) }
+    ensures { IfOk result (λ told. told ≡ tells_selected state.now (λ view read_only. (if moves then move_tells else copy_tells) (mailbox_in replica.now.start replica.now.applied view read_only) asked.now (landing_in replica.now.start replica.now.applied (replica.now.applied ++ ops.now) asked.now.destination))) }
 {
     let State::Selected { view, read_only } = state else {
         return Ok(Telling::nothing(alloc));
     };
     let mailbox = mailbox_before(alloc, replica, view, *read_only)?;
     let landing = landing_of(alloc, replica, ops, asked.destination)?;
-    copy_tells(alloc, &mailbox, &landing, found)
-}
-
-fn tells_move(
-    alloc: Global,
-    replica: &Replica,
-    ops: &[SoundOp],
-    state: &State,
-    asked: &CopyAsked<'_>,
-    found: &Found,
-) -> Result<Telling, AllocError>
-    requires ready { IsReady replica.now ops.now }
-    requires found { found.now ≡ found_selected state.now (λ view read_only. named_found asked.now.by_uid asked.now.messages view.entries) }
-    ensures { IfOk result (λ told. told ≡ tells_selected state.now (λ view read_only. move_tells (mailbox_in replica.now.start replica.now.applied view read_only) asked.now (landing_in replica.now.start replica.now.applied (replica.now.applied ++ ops.now) asked.now.destination))) }
-{
-    let State::Selected { view, read_only } = state else {
-        return Ok(Telling::nothing(alloc));
+    let told = if moves {
+        move_tells(alloc, &mailbox, &landing, found)
+    } else {
+        copy_tells(alloc, &mailbox, &landing, found)
     };
-    let mailbox = mailbox_before(alloc, replica, view, *read_only)?;
-    let landing = landing_of(alloc, replica, ops, asked.destination)?;
-    move_tells(alloc, &mailbox, &landing, found)
+    drop(landing);
+    drop(mailbox);
+    told
 }

@@ -1,25 +1,23 @@
 //! What each input wants: one line a command.
 
-ghost use Rattle.std.specs.Prelude.{◌≡◌, ◌++◌, List, Result, [], true, Ok, Err, IfOk};
+ghost use Rattle.std.specs.Prelude.{◌≡◌, ◌++◌, ℕ, Bool, List, Result, [], true, Ok, Err, IfOk};
 ghost use Rattle.imap_answers.specs.declared.words.Refusal.{Refusal as Why};
 ghost use Rattle.imap_answers.specs.declared.words.Refusal.TheVariants.{NotNow};
 ghost use Rattle.imap_commands.specs.Appending.{append_wants};
 ghost use Rattle.imap_commands.specs.Asking.{status_wants};
 ghost use Rattle.imap_commands.specs.Entering.{login_wants};
-ghost use Rattle.imap_commands.specs.Expunging.{close_wants, expunge_wants, uid_expunge_wants};
-ghost use Rattle.imap_commands.specs.Fetching.{fetch_wants};
-ghost use Rattle.imap_commands.specs.Found.{named_found, nothing_found, store_found};
+ghost use Rattle.imap_commands.specs.Found.{nothing_found};
 ghost use Rattle.imap_commands.specs.Gives.{Gives};
-ghost use Rattle.imap_commands.specs.Copying.{copy_wants, move_wants};
 ghost use Rattle.imap_commands.specs.Mailboxes.{create_wants, created_name, delete_wants, subscribe_wants, unsubscribe_wants};
 ghost use Rattle.imap_commands.specs.Searching.{search_wants};
 ghost use Rattle.imap_commands.specs.Selecting.{select_wants};
-ghost use Rattle.imap_commands.specs.Storing.{store_wants};
+ghost use Rattle.imap_commands.specs.declared.session.State.TheVariants.{Selected};
 ghost use Rattle.crdt_ops.specs.declared.kind.Kind.{Kind as Action};
 ghost use Rattle.crdt_ops.specs.Sets.{delete_set_of, subscription_tags_of};
-ghost use Rattle.imap_node.specs.Commands.{found_of, found_selected, is_known, wants, when_known, when_new, when_selected};
+ghost use Rattle.imap_node.specs.Commands.{asks_mailbox, found_of, is_known, wants, when_known, when_new, when_selected};
 ghost use Rattle.imap_node.specs.Mailboxes.{are_some, is_subscribed, mailbox_in};
 ghost use Rattle.imap_node.specs.Respond.{found_by, wants_of};
+ghost use Rattle.session_view.specs.Seen.{Seen};
 ghost use Rattle.uid_projection.specs.Incarnations.{is_there};
 
 use crate::input::Input;
@@ -28,7 +26,7 @@ use crate::telling::mailbox_before;
 use crdt_ops::Kind;
 use imap_answers::Refusal;
 use imap_commands::{
-    AppendAsked, CopyAsked, FetchAsked, Found, State, StoreAsked, Wanted, append_wants,
+    AppendAsked, CopyAsked, FetchAsked, Found, OpenMailbox, State, StoreAsked, Wanted, append_wants,
     close_wants, copy_wants, create_wants, created_name, delete_wants, expunge_wants, fetch_wants,
     login_wants, move_wants, search_wants, select_wants, status_wants, store_wants,
     subscribe_wants, uid_expunge_wants, unsubscribe_wants,
@@ -114,46 +112,15 @@ fn wants(
             only(alloc, wants_append(alloc, replica, stamp, state, &asked))
         }
         Command::Idle => only(alloc, known(alloc, state)),
-        Command::Close => only(alloc, wants_close(alloc, replica, state)),
+        Command::Close => wants_selected(alloc, replica, state, command),
         Command::Unselect => only(alloc, selected(alloc, state)),
-        Command::Expunge => only(alloc, wants_expunge(alloc, replica, state)),
-        Command::UidExpunge { uids } => wants_uid_expunge(alloc, replica, state, uids),
+        Command::Expunge => wants_selected(alloc, replica, state, command),
+        Command::UidExpunge { .. } => wants_selected(alloc, replica, state, command),
         Command::Search(search) => only(alloc, wants_search(alloc, state, search.steps.as_slice())),
-        Command::Fetch(fetch) => {
-            let asked = FetchAsked {
-                by_uid: fetch.by_uid,
-                messages: &fetch.messages,
-                items: fetch.items.as_slice(),
-                changed_since: fetch.changed_since,
-            };
-            wants_fetch(alloc, replica, state, &asked)
-        }
-        Command::Store(store) => {
-            let asked = StoreAsked {
-                by_uid: store.by_uid,
-                messages: &store.messages,
-                unchanged_since: store.unchanged_since,
-                action: store.action,
-                flags: &store.flags,
-            };
-            wants_store(alloc, replica, state, &asked)
-        }
-        Command::Copy(transfer) => {
-            let asked = CopyAsked {
-                by_uid: transfer.by_uid,
-                messages: &transfer.messages,
-                destination: &transfer.name,
-            };
-            wants_copy(alloc, replica, state, &asked)
-        }
-        Command::Move(transfer) => {
-            let asked = CopyAsked {
-                by_uid: transfer.by_uid,
-                messages: &transfer.messages,
-                destination: &transfer.name,
-            };
-            wants_move(alloc, replica, state, &asked)
-        }
+        Command::Fetch(_) => wants_selected(alloc, replica, state, command),
+        Command::Store(_) => wants_selected(alloc, replica, state, command),
+        Command::Copy(_) => wants_selected(alloc, replica, state, command),
+        Command::Move(_) => wants_selected(alloc, replica, state, command),
     }
 }
 
@@ -315,42 +282,6 @@ fn wants_append(
     append_wants(alloc, replica.exists(asked.name), stamp, asked)
 }
 
-fn wants_close(alloc: Global, replica: &Replica, state: &State) -> Result<Vec<Kind>, Refusal>
-    ensures { Gives (λ kinds. kinds.items) result (when_selected state.now (λ view read_only. close_wants (mailbox_in replica.now.start replica.now.applied view read_only))) }
-{
-    let State::Selected { view, read_only } = state else {
-        return Err(Refusal::NotNow);
-    };
-    let mailbox = mailbox_before(alloc, replica, view, *read_only)?;
-    close_wants(alloc, &mailbox)
-}
-
-fn wants_expunge(alloc: Global, replica: &Replica, state: &State) -> Result<Vec<Kind>, Refusal>
-    ensures { Gives (λ kinds. kinds.items) result (when_selected state.now (λ view read_only. expunge_wants (mailbox_in replica.now.start replica.now.applied view read_only))) }
-{
-    let State::Selected { view, read_only } = state else {
-        return Err(Refusal::NotNow);
-    };
-    let mailbox = mailbox_before(alloc, replica, view, *read_only)?;
-    expunge_wants(alloc, &mailbox)
-}
-
-fn wants_uid_expunge(
-    alloc: Global,
-    replica: &Replica,
-    state: &State,
-    uids: &SequenceSet,
-) -> Result<Wanted, Refusal>
-    ensures gives { Gives (λ wanted. wanted.kinds.items) result (when_selected state.now (λ view read_only. uid_expunge_wants (mailbox_in replica.now.start replica.now.applied view read_only) uids.now)) }
-    ensures found { IfOk result (λ wanted. wanted.found ≡ found_selected state.now (λ view read_only. named_found true uids.now view.entries)) }
-{
-    let State::Selected { view, read_only } = state else {
-        return Err(Refusal::NotNow);
-    };
-    let mailbox = mailbox_before(alloc, replica, view, *read_only)?;
-    uid_expunge_wants(alloc, &mailbox, uids)
-}
-
 fn wants_search(alloc: Global, state: &State, steps: &[SearchStep]) -> Result<Vec<Kind>, Refusal>
     ensures { Gives (λ kinds. kinds.items) result (when_selected state.now (λ view read_only. search_wants view.entries steps.now)) }
 {
@@ -360,66 +291,76 @@ fn wants_search(alloc: Global, state: &State, steps: &[SearchStep]) -> Result<Ve
     search_wants(alloc, view, steps)
 }
 
-fn wants_fetch(
+/// What a command issues that asks what the selected mailbox has, and what it found for that.
+fn wants_selected(
     alloc: Global,
     replica: &Replica,
     state: &State,
-    asked: &FetchAsked<'_>,
+    command: &Command,
 ) -> Result<Wanted, Refusal>
-    ensures gives { Gives (λ wanted. wanted.kinds.items) result (when_selected state.now (λ view read_only. fetch_wants (mailbox_in replica.now.start replica.now.applied view read_only) asked.now)) }
-    ensures found { IfOk result (λ wanted. wanted.found ≡ found_selected state.now (λ view read_only. named_found asked.now.by_uid asked.now.messages view.entries)) }
+    requires { asks_mailbox command.now ≡ true }
+    ensures gives { (stamp : List ℕ) → Gives (λ wanted. wanted.kinds.items) result (wants replica.now.start replica.now.applied stamp state.now command.now) }
+    ensures found { IfOk result (λ wanted. wanted.found ≡ found_of replica.now.start replica.now.applied state.now command.now) }
 {
     let State::Selected { view, read_only } = state else {
         return Err(Refusal::NotNow);
     };
     let mailbox = mailbox_before(alloc, replica, view, *read_only)?;
-    fetch_wants(alloc, &mailbox, asked)
+    let wanted = wants_of_mailbox(alloc, replica, &mailbox, command);
+    drop(mailbox);
+    wanted
 }
 
-fn wants_store(
+/// The same of this mailbox.
+fn wants_of_mailbox(
     alloc: Global,
     replica: &Replica,
-    state: &State,
-    asked: &StoreAsked<'_>,
+    mailbox: &OpenMailbox<'_>,
+    command: &Command,
 ) -> Result<Wanted, Refusal>
-    ensures gives { Gives (λ wanted. wanted.kinds.items) result (when_selected state.now (λ view read_only. store_wants (mailbox_in replica.now.start replica.now.applied view read_only) asked.now)) }
-    ensures found { IfOk result (λ wanted. wanted.found ≡ found_selected state.now (λ view read_only. store_found (mailbox_in replica.now.start replica.now.applied view read_only) asked.now)) }
+    requires { asks_mailbox command.now ≡ true }
+    ensures gives { (stamp : List ℕ) (view : Seen) (read_only : Bool) → mailbox.now ≡ mailbox_in replica.now.start replica.now.applied view read_only → Gives (λ wanted. wanted.kinds.items) result (wants replica.now.start replica.now.applied stamp (Selected view read_only) command.now) }
+    ensures found { (view : Seen) (read_only : Bool) → mailbox.now ≡ mailbox_in replica.now.start replica.now.applied view read_only → IfOk result (λ wanted. wanted.found ≡ found_of replica.now.start replica.now.applied (Selected view read_only) command.now) }
 {
-    let State::Selected { view, read_only } = state else {
-        return Err(Refusal::NotNow);
-    };
-    let mailbox = mailbox_before(alloc, replica, view, *read_only)?;
-    store_wants(alloc, &mailbox, asked)
-}
-
-fn wants_copy(
-    alloc: Global,
-    replica: &Replica,
-    state: &State,
-    asked: &CopyAsked<'_>,
-) -> Result<Wanted, Refusal>
-    ensures gives { Gives (λ wanted. wanted.kinds.items) result (when_selected state.now (λ view read_only. copy_wants (mailbox_in replica.now.start replica.now.applied view read_only) asked.now (is_there asked.now.destination replica.now.applied))) }
-    ensures found { IfOk result (λ wanted. wanted.found ≡ found_selected state.now (λ view read_only. named_found asked.now.by_uid asked.now.messages view.entries)) }
-{
-    let State::Selected { view, read_only } = state else {
-        return Err(Refusal::NotNow);
-    };
-    let mailbox = mailbox_before(alloc, replica, view, *read_only)?;
-    copy_wants(alloc, &mailbox, asked, replica.exists(asked.destination))
-}
-
-fn wants_move(
-    alloc: Global,
-    replica: &Replica,
-    state: &State,
-    asked: &CopyAsked<'_>,
-) -> Result<Wanted, Refusal>
-    ensures gives { Gives (λ wanted. wanted.kinds.items) result (when_selected state.now (λ view read_only. move_wants (mailbox_in replica.now.start replica.now.applied view read_only) asked.now (is_there asked.now.destination replica.now.applied))) }
-    ensures found { IfOk result (λ wanted. wanted.found ≡ found_selected state.now (λ view read_only. named_found asked.now.by_uid asked.now.messages view.entries)) }
-{
-    let State::Selected { view, read_only } = state else {
-        return Err(Refusal::NotNow);
-    };
-    let mailbox = mailbox_before(alloc, replica, view, *read_only)?;
-    move_wants(alloc, &mailbox, asked, replica.exists(asked.destination))
+    match command {
+        Command::Close => only(alloc, close_wants(alloc, mailbox)),
+        Command::Expunge => only(alloc, expunge_wants(alloc, mailbox)),
+        Command::UidExpunge { uids } => uid_expunge_wants(alloc, mailbox, uids),
+        Command::Fetch(fetch) => {
+            let asked = FetchAsked {
+                by_uid: fetch.by_uid,
+                messages: &fetch.messages,
+                items: fetch.items.as_slice(),
+                changed_since: fetch.changed_since,
+            };
+            fetch_wants(alloc, mailbox, &asked)
+        }
+        Command::Store(store) => {
+            let asked = StoreAsked {
+                by_uid: store.by_uid,
+                messages: &store.messages,
+                unchanged_since: store.unchanged_since,
+                action: store.action,
+                flags: &store.flags,
+            };
+            store_wants(alloc, mailbox, &asked)
+        }
+        Command::Copy(transfer) => {
+            let asked = CopyAsked {
+                by_uid: transfer.by_uid,
+                messages: &transfer.messages,
+                destination: &transfer.name,
+            };
+            copy_wants(alloc, mailbox, &asked, replica.exists(&transfer.name))
+        }
+        Command::Move(transfer) => {
+            let asked = CopyAsked {
+                by_uid: transfer.by_uid,
+                messages: &transfer.messages,
+                destination: &transfer.name,
+            };
+            move_wants(alloc, mailbox, &asked, replica.exists(&transfer.name))
+        }
+        _ => unreachable!(),
+    }
 }

@@ -1,5 +1,16 @@
-pub mod TalkLemmas
-pub mod NodeTalkLemmas
-pub mod NodeEndLemmas
-pub mod WireLemmas
+mod AmidLemmas
+pub mod ConversingLemmas
+mod DumpLemmas
+mod EndLemmas
+pub mod FaultLemmas
 pub mod MeanwhileLemmas
+pub mod NodeEndLemmas
+pub mod NodeTalkLemmas
+mod PlaceLemmas
+mod PrintableLemmas
+mod ReplyLemmas
+pub mod RequestLemmas
+pub mod StreamLemmas
+pub mod TalkLemmas
+pub mod TurnLemmas
+pub mod WireLemmas

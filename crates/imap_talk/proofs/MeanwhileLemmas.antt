@@ -12,8 +12,8 @@ use Rattle.imap_node.specs.declared.input.Input.{Input}
 use Rattle.imap_node.specs.declared.reply.Reply.{Reply}
 use Rattle.imap_node.specs.declared.reply.Reply.TheVariants.{Done, Refused}
 use Rattle.imap_node.proofs.SessionLemmas.{open_is, others_stay, session_put}
-use Rattle.node_talk.specs.Replies.{idling_at, tag_of_idling}
-use Rattle.node_talk.specs.Streams.{Meanwhile, Moves, MovesTimes, OtherMoves}
+use Rattle.imap_talk.specs.Replies.{idling_at, tag_of_idling}
+use Rattle.imap_talk.specs.Streams.{Meanwhile, Moves, MovesTimes, OtherMoves}
 use Rattle.imap_talk.specs.NodePorts.{IsHanded, LastIsHanded}
 
 -- what another session is told leaves this one

@@ -15,16 +15,16 @@ use Rattle.imap_node.specs.Nodes.{HasLoggedOut, IsGoing, NodeState, closed}
 use Rattle.imap_node.specs.Sessions.{Opens, Places, opened, session_at}
 use Rattle.imap_node.specs.declared.sessions.Auth.{Auth}
 use Rattle.imap_node.specs.declared.sessions.Auth.TheVariants.{Preauth, Password}
-use Rattle.node_talk.specs.Conversation.{turns_of}
-use Rattle.node_talk.specs.Replies.{tag_of_idling}
-use Rattle.node_talk.specs.Streams.{ConversesAmid, Meanwhile}
-use Rattle.node_talk.specs.declared.turn.Turn.{Turn}
+use Rattle.imap_talk.specs.Conversation.{turns_of}
+use Rattle.imap_talk.specs.Replies.{tag_of_idling}
+use Rattle.imap_talk.specs.Streams.{ConversesAmid, Meanwhile}
+use Rattle.imap_talk.specs.declared.turn.Turn.{Turn}
 use Rattle.imap_talk.specs.Devices.{Gave, Took}
 use Rattle.imap_talk.specs.Endings.{bye_text_of, end_of}
 use Rattle.imap_talk.specs.NodePorts.{IsAway, NodeCloses, NodeOpens, NodeSession, NodeSteps, login_by}
 use Rattle.imap_talk.specs.NodeTalks.{Came, Closes, IsWhole, Stands, TalksAtNode, each_alone, items_of, text_sent}
 use Rattle.imap_talk.specs.Requests.{Takes, texts}
-use Rattle.imap_talk.specs.Talks.{Breaks, Converses, Ends, Goes, Holds, IsCut, IsWritten, Talked}
+use Rattle.imap_talk.specs.Conversing.{Breaks, Converses, Ends, Goes, Holds, IsCut, IsWritten, Talked}
 use Rattle.imap_talk.specs.declared.ended.Ended.{Ended}
 use Rattle.imap_talk.specs.declared.ended.Ended.TheVariants.{Logout, PeerClosed, TooManySessions, Framing, ReadFailed, WriteFailed, NoMemory, Torn}
 use Rattle.imap_talk.specs.declared.fault.PortFault.{PortFault}

@@ -24,19 +24,19 @@ use Rattle.imap_node.specs.declared.input.Input.TheVariants as inputs
 use Rattle.imap_node.specs.declared.reply.Reply.{Reply}
 use Rattle.imap_node.specs.declared.reply.Reply.TheVariants.{Done, Refused}
 use Rattle.imap_node.proofs.SessionLemmas.{session_put}
-use Rattle.node_talk.specs.Conversation.{TakesBy, got, sent, sent_one, timed, turns_of}
-use Rattle.node_talk.specs.Conversation as conversations
-use Rattle.node_talk.specs.Inputs.{IsRequest}
-use Rattle.node_talk.specs.Replies.{answers_of, idling_at, is_without_memory, tag_of_idling}
-use Rattle.node_talk.specs.Streams.{ConversesAmid, Meanwhile}
-use Rattle.node_talk.specs.declared.requests.Request.{Request}
-use Rattle.node_talk.specs.declared.requests.Request.TheVariants as requests
-use Rattle.node_talk.specs.declared.turn.Turn.{Turn}
-use Rattle.node_talk.proofs.RequestLemmas.{handled, of_command}
+use Rattle.imap_talk.specs.Conversation.{TakesBy, got, sent, sent_one, timed, turns_of}
+use Rattle.imap_talk.specs.Conversation as conversations
+use Rattle.imap_talk.specs.Inputs.{IsRequest}
+use Rattle.imap_talk.specs.Replies.{answers_of, idling_at, is_without_memory, tag_of_idling}
+use Rattle.imap_talk.specs.Streams.{ConversesAmid, Meanwhile}
+use Rattle.imap_talk.specs.declared.requests.Request.{Request}
+use Rattle.imap_talk.specs.declared.requests.Request.TheVariants as requests
+use Rattle.imap_talk.specs.declared.turn.Turn.{Turn}
+use Rattle.imap_talk.proofs.RequestLemmas.{handled, of_command}
 use Rattle.imap_talk.specs.NodePorts.{NodeSession, NodeSteps, RespondsTo}
 use Rattle.imap_talk.specs.NodeTalks.{Came, Stands, each_alone, items_of, text_of_turn, text_sent}
 use Rattle.imap_talk.specs.Requests.{Handles, Takes, idling_behind, is_logout, logs_out, texts}
-use Rattle.imap_talk.specs.Talks.{Converses}
+use Rattle.imap_talk.specs.Conversing.{Converses}
 use Rattle.imap_talk.proofs.MeanwhileLemmas.{going_meanwhile, idles_meanwhile, nothing_came}
 
 -- ---- what is sent

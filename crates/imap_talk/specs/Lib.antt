@@ -1,7 +1,14 @@
 pub mod Asked
+pub mod Conversation
+pub mod Conversing
 pub mod Devices
+pub mod Dumps
 pub mod Endings
+pub mod FaultAnswers
+pub mod Inputs
 pub mod NodePorts
 pub mod NodeTalks
+pub mod Replies
 pub mod Requests
+pub mod Streams
 pub mod Talks

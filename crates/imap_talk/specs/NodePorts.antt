@@ -14,7 +14,7 @@ use Rattle.imap_node.specs.declared.input.Input.TheVariants as inputs
 use Rattle.imap_node.specs.declared.reply.Reply.{Reply}
 use Rattle.imap_node.specs.declared.sessions.Auth.{Auth}
 use Rattle.imap_node.specs.declared.sessions.Auth.TheVariants.{Preauth, Password}
-use Rattle.node_talk.specs.Streams.{Meanwhile}
+use Rattle.imap_talk.specs.Streams.{Meanwhile}
 use Rattle.imap_talk.specs.Asked.{Asked}
 use Rattle.imap_talk.specs.Asked as asked
 use Rattle.imap_talk.specs.declared.fault.PortFault.{PortFault}

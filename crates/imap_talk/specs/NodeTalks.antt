@@ -9,11 +9,11 @@ use Rattle.imap_lex.specs.declared.limits.Limits.{Limits}
 use Rattle.imap_node.specs.Nodes.{HasLoggedOut, IsGoing, NodeState, closed}
 use Rattle.imap_node.specs.Sessions.{Opens}
 use Rattle.imap_node.specs.declared.sessions.Auth.{Auth}
-use Rattle.node_talk.specs.Conversation.{timed}
-use Rattle.node_talk.specs.Replies.{idling_at}
-use Rattle.node_talk.specs.Streams.{ConversesAmid, Meanwhile, Stretch}
-use Rattle.node_talk.specs.declared.turn.Turn.{Turn}
-use Rattle.node_talk.specs.declared.turn.Turn.TheVariants.{Got, Sent}
+use Rattle.imap_talk.specs.Conversation.{timed}
+use Rattle.imap_talk.specs.Replies.{idling_at}
+use Rattle.imap_talk.specs.Streams.{ConversesAmid, Meanwhile, Stretch}
+use Rattle.imap_talk.specs.declared.turn.Turn.{Turn}
+use Rattle.imap_talk.specs.declared.turn.Turn.TheVariants.{Got, Sent}
 use Rattle.imap_talk.specs.Endings.{bye_text_of}
 use Rattle.imap_talk.specs.NodePorts.{NodeSession, login_by}
 use Rattle.imap_talk.specs.declared.ended.Ended.{Ended}

@@ -10,11 +10,11 @@ use Rattle.imap_lex.specs.declared.item.Item.{Item}
 use Rattle.imap_node.specs.Commands.{is_idle}
 pub use Rattle.imap_node.specs.Replies.{is_done}
 use Rattle.imap_node.specs.declared.reply.Reply.{Reply}
-use Rattle.node_talk.specs.Conversation.{IsFront}
-use Rattle.node_talk.specs.Inputs.{IsRequest}
-use Rattle.node_talk.specs.Replies.{answers_of, is_without_memory}
-use Rattle.node_talk.specs.declared.requests.Request.{Request}
-use Rattle.node_talk.specs.declared.requests.Request.TheVariants as requests
+use Rattle.imap_talk.specs.Conversation.{IsFront}
+use Rattle.imap_talk.specs.Inputs.{IsRequest}
+use Rattle.imap_talk.specs.Replies.{answers_of, is_without_memory}
+use Rattle.imap_talk.specs.declared.requests.Request.{Request}
+use Rattle.imap_talk.specs.declared.requests.Request.TheVariants as requests
 use Rattle.imap_talk.specs.Asked.{Asked}
 use Rattle.imap_talk.specs.Asked as asked
 use Rattle.imap_talk.specs.Endings.{end_of}

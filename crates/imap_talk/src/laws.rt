@@ -1,22 +1,92 @@
-//! What a conversation over a node's port is: a law over `specs/NodeTalks.antt`, the contract of a function that does nothing.
+//! What a conversation is, whatever the pieces in which its octets come: laws over `specs/Streams.antt`, each the contract of a
+//! function that does nothing; and that a replica has one dump (`specs/Dumps.antt`).
 
-ghost use Rattle.std.specs.Prelude.{◌≡◌, ◌++◌, ℕ, List, Bool, Some};
+ghost use Rattle.std.specs.Prelude.{◌≡◌, ℕ, List, ◌++◌, ◌∷◌, [], Some, Result, Ok, Err};
+ghost use Rattle.crdt_ops.specs.declared.op.Op.{Op as Operation};
+ghost use Rattle.imap_answers.specs.Printable.{IsPrintable};
+ghost use Rattle.imap_answers.specs.declared.answer.Answer.{Answer as OneAnswer};
+ghost use Rattle.imap_lex.specs.Frames.{AreFrames, FailsAt};
+ghost use Rattle.imap_lex.specs.Reading.{Progress as Begun, goes_on, start};
+ghost use Rattle.imap_lex.specs.declared.fault.Fault.{Fault as Why};
+ghost use Rattle.imap_lex.specs.declared.item.Item.{Item as Given};
 ghost use Rattle.imap_lex.specs.declared.limits.Limits.{Limits as Bounds};
-ghost use Rattle.imap_node.specs.declared.sessions.Auth.{Auth as KnownBy};
-ghost use Rattle.imap_talk.specs.NodePorts.{NodeCloses, NodeOpens, NodeSession, NodeSteps};
-ghost use Rattle.imap_talk.specs.NodeTalks.{IsWhole, TalksAtNode};
-ghost use Rattle.imap_talk.specs.Talks.{Talked};
-ghost use Rattle.imap_talk.specs.declared.ended.Ended.{Ended as End};
+ghost use Rattle.imap_node.specs.Nodes.{IsGoing, NodeState, closed};
+ghost use Rattle.imap_talk.specs.Conversation.{Converses, sent};
+ghost use Rattle.imap_talk.specs.Dumps.{IsDump};
+ghost use Rattle.imap_talk.specs.FaultAnswers.{IsFaultAnswer, IsLiteralAnswer};
+ghost use Rattle.imap_talk.specs.Streams.{Call, ConversesAmid, EndsBehind, IsCallBehind, IsRun, IsRunAmid, Piece, Run, Visit, cut_in, cut_with, items_in, items_of, octets_amid, octets_in, octets_with, stretches, untimed, visits_with};
+ghost use Rattle.imap_talk.specs.Talks.{EndsTalk, goodbye_of};
+ghost use Rattle.imap_talk.specs.declared.turn.TalkFaultKind.TheVariants.{Framing};
+ghost use Rattle.imap_talk.specs.declared.turn.TalkFaultKind.{TalkFaultKind as Kind};
+ghost use Rattle.imap_talk.specs.declared.turn.Turn.{Turn as OneTurn};
 
-use crate::others::Others;
+/// It doesn't matter how the octets of a connection were cut into pieces: what calls of `talk` make of them, the last of which
+/// may have ended the session by a LOGOUT, is the conversation over the items of all these octets. Each item comes at the moment of the
+/// piece that completes it.
+pub fn pieces_are_one_stream()
+    ensures going { (run : Run Piece) → IsRun run → Converses run.old run.session (cut_in run).0 run.turns run.new × (run.after ≡ (cut_in run).1) }
+    ensures last { (run : Run Piece) (call : Call) → IsRun run → IsCallBehind run call → Converses run.old run.session (cut_with run call).0 (run.turns ++ call.turns) call.new }
+    ensures items { (limits : Bounds) (state : Result Begun Why) (pieces : List Piece)
+        → untimed (items_of limits state pieces) ≡ (goes_on limits state (octets_in pieces)).0 }
+{}
 
-/// What `converse` promises over the port of a node to which others come between its calls, where the conversation ends behind all that the client sent, or
-/// behind a LOGOUT, and the source and the sink tell their octets: the octets read are answered by the node's own conversation (`node_talk`) over the items
-/// that they give, each from the node and at the moment to which it came, whatever operations of other replicas and other sessions came between; and what was
-/// written is the greeting, what the turns of that conversation send, and the BYE of the end. The session is closed then.
-pub fn nodes_converse<O: Others>()
-    ensures { (old new : NodeSession O) (limits : Bounds) (left rest before after : List ℕ) (at_end : Bool) (ended : End) → IsWhole ended
-        → Talked NodeOpens (NodeSteps O.comes) (NodeCloses O.comes) old new limits (Some left) (Some rest) at_end (Some before) (Some after) ended
-        → (auth : KnownBy) × (octets : List ℕ) × (said : List ℕ) × (old.auth ≡ Some auth) × (left ≡ octets ++ rest) × (after ≡ before ++ said)
-        × TalksAtNode old.node auth limits octets ended said new.node }
+/// A connection whose octets are these commands, lines, refused fronts and this rest, in whatever pieces they came, has the
+/// conversation over just these, each at the moment of the piece that completes it: each is answered in its order, and nothing else is.
+/// The last piece may have ended the session by a LOGOUT.
+pub fn commands_are_answered()
+    ensures going { (run : Run Piece) (items : List Given) (rest : List ℕ) → run.before ≡ Ok start → IsRun run
+        → AreFrames run.limits (octets_in run.pieces) items rest
+        → Converses run.old run.session (cut_in run).0 run.turns run.new × (untimed (cut_in run).0 ≡ items) }
+    ensures last { (run : Run Piece) (call : Call) (items : List Given) (rest : List ℕ) → run.before ≡ Ok start → IsRun run → IsCallBehind run call
+        → AreFrames run.limits (octets_with run call) items rest
+        → Converses run.old run.session (cut_with run call).0 (run.turns ++ call.turns) call.new × (untimed (cut_with run call).0 ≡ items) }
+{}
+
+/// It doesn't matter in which pieces the octets came of a connection that a fault of the framer or want of memory ends: the
+/// whole ends as its last piece does, for the same reason and with the same node, behind the turns of the pieces before it.
+/// And where the octets from the first on fail at an octet for a reason that a BYE tells, the turns are the conversation over
+/// just the items before that octet, and that BYE as the last; the session, which was going on until then, is closed.
+pub fn faults_end_the_stream()
+    ensures ends { (run : Run Piece) (call : Call) (why : Kind) → IsRun run → EndsBehind why run call
+        → EndsTalk why run.old run.session run.before (cut_with run call) (run.turns ++ call.turns) call.new }
+    ensures frames { (run : Run Piece) (call : Call) (items : List Given) (why : Why) (bye : OneAnswer) → goodbye_of why ≡ Some bye
+        → run.before ≡ Ok start → IsRun run → EndsBehind (Framing why) run call
+        → FailsAt run.limits (octets_with run call) items why
+        → (before : List OneTurn) × (last : NodeState) × Converses run.old run.session (cut_with run call).0 before last × (untimed (cut_with run call).0 ≡ items)
+        × IsGoing last run.session × (run.turns ++ call.turns ≡ before ++ sent (bye ∷ [])) × (call.new ≡ closed last run.session) }
+{}
+
+/// Operations of other replicas may come to the node between the pieces of a session's input, and other sessions be opened, send
+/// commands and lines, be polled and be closed: what calls of `talk` make of the pieces is the conversation over the items that each piece
+/// completes, answered from the node to which the piece came. All these items are those of all octets: where the octets are these
+/// commands, lines, refused fronts and this rest, they are just these. Where a fault of the framer that is told by a BYE ends the
+/// connection, the octets do end in that fault, and the turns are that conversation over the items before it, and the BYE as the
+/// last; the session, which was going on until then, is closed.
+pub fn others_come_between()
+    ensures going { (run : Run Visit) → IsRunAmid run
+        → ConversesAmid run.old run.session (stretches run.limits run.before run.pieces) run.turns run.new
+        × (run.after ≡ (goes_on run.limits run.before (octets_amid run.pieces)).1) }
+    ensures last { (run : Run Visit) (call : Call) → IsRunAmid run → IsCallBehind run call
+        → ConversesAmid run.old run.session (stretches run.limits run.before (visits_with run call)) (run.turns ++ call.turns) call.new }
+    ensures items { (limits : Bounds) (state : Result Begun Why) (visits : List Visit)
+        → items_in (stretches limits state visits) ≡ (goes_on limits state (octets_amid visits)).0 }
+    ensures frames { (limits : Bounds) (visits : List Visit) (items : List Given) (rest : List ℕ)
+        → AreFrames limits (octets_amid visits) items rest
+        → items_in (stretches limits (Ok start) visits) ≡ items }
+    ensures fault { (run : Run Visit) (call : Call) (why : Why) (bye : OneAnswer) → goodbye_of why ≡ Some bye → IsRunAmid run → EndsBehind (Framing why) run call
+        → ((goes_on run.limits run.before (octets_amid (visits_with run call))).1 ≡ Err why)
+        × ((before : List OneTurn) × (last : NodeState) × ConversesAmid run.old run.session (stretches run.limits run.before (visits_with run call)) before last
+        × IsGoing last run.session × (run.turns ++ call.turns ≡ before ++ sent (bye ∷ [])) × (call.new ≡ closed last run.session)) }
+{}
+
+/// A replica has one dump: what `write_dump` writes of it is the one text that `IsDump` admits.
+pub fn one_dump()
+    ensures { (replica : ℕ) (applied : List Operation) (text other : List ℕ) → IsDump replica applied text → IsDump replica applied other → text ≡ other }
+{}
+
+/// A frame that spells no command, and a front that is refused for its literal, are answered by an answer that can be printed, so that the
+/// reader of answers finds it again.
+pub fn faults_can_be_printed()
+    ensures faults { (frame : List ℕ) (answer : OneAnswer) → IsFaultAnswer frame answer → IsPrintable answer }
+    ensures literals { (front : List ℕ) (answer : OneAnswer) → IsLiteralAnswer front answer → IsPrintable answer }
 {}

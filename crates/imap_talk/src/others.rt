@@ -3,7 +3,7 @@
 ghost use Rattle.std.specs.Prelude.{◌≡◌, ℕ};
 ghost use Rattle.imap_node.specs.Sessions.{IsOpen};
 ghost use Rattle.imap_talk.specs.NodePorts.{IsHanded};
-ghost use Rattle.node_talk.specs.Streams.{Meanwhile};
+ghost use Rattle.imap_talk.specs.Streams.{Meanwhile};
 
 use crdt_ops::SoundOp;
 use imap_node::{Node, SessionNo};

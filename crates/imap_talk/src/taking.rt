@@ -6,10 +6,12 @@ ghost use Rattle.imap_node.specs.Commands.{is_idle};
 ghost use Rattle.imap_talk.specs.Endings.{failed_reads, failed_writes};
 ghost use Rattle.imap_talk.specs.Requests.{Fails, Handles, StopsAt, Takes, is_done, is_logout, texts};
 ghost use Rattle.imap_talk.specs.declared.ended.Ended.TheVariants.{Logout, NoMemory};
-ghost use Rattle.node_talk.specs.declared.requests.Request.TheVariants as requests;
+ghost use Rattle.imap_talk.specs.declared.requests.Request.TheVariants as requests;
 
 use crate::ended::{Ended, end_of};
 use crate::ends::Port;
+use crate::replies::is_without_memory;
+use crate::requests::{Request, request_of};
 use crate::writing::tell_reply;
 use imap_answers::Answer;
 use imap_lex::Item;
@@ -17,7 +19,6 @@ use imap_node::Reply;
 use imap_print::print;
 use imap_syntax::{Command, IdleLine, Tagged};
 use imap_types::Octets;
-use node_talk::{Request, is_without_memory, request_of};
 use std::alloc::Global;
 
 /// Takes an item of a session that idles with this tag, or doesn't: asks the port, and adds the answers. `Err` where the conversation ends at

@@ -1,237 +1,303 @@
-//! A conversation.
+//! A connection's input, piece by piece, and the turns that it makes.
 
-ghost use Rattle.std.specs.Prelude.{◌≡◌, ◌<◌, ◌+◌, ◌++◌, ◌⊎◌, ℕ, [], List, Ok, None, OnOk, IfErr, IsOk, MatchBool};
-ghost use Rattle.imap_answers.specs.Printed.{printed};
-ghost use Rattle.imap_answers.specs.declared.answer.Answer.TheVariants.{Greeting as Greets};
-ghost use Rattle.imap_lex.specs.Reading.{goes_on, start};
-ghost use Rattle.imap_talk.specs.Devices.{Gave, Said, TookSome};
-ghost use Rattle.imap_talk.specs.Endings.{IsSaid, bye_text_of, failed, failed_reads, failed_writes};
-ghost use Rattle.imap_talk.specs.Talks.{Converses, Ends, Halts, Holds, IsWritten, Leaves, Talked};
-ghost use Rattle.imap_talk.specs.declared.ended.Ended.TheVariants.{ReadFailed, WriteFailed};
+ghost use Rattle.std.specs.Prelude.{◌≡◌, ◌++◌, ◌⊎◌, ◌∷◌, [], ◌↔◌, List, Ok, Err, IsErr, IfOk, IfErr, OnOk, IsTrue};
+ghost use Rattle.std.specs.Option.{option_copied};
+ghost use Rattle.imap_answers.specs.declared.answer.Answer.{Answer as OneAnswer};
+ghost use Rattle.imap_lex.specs.Reading.{goes_on};
+ghost use Rattle.imap_lex.specs.declared.fault.Fault.{Fault as Why};
+ghost use Rattle.imap_node.specs.Nodes.{HasLoggedOut, IsGoing};
+ghost use Rattle.imap_node.specs.Sessions.{IsOpen};
+ghost use Rattle.imap_talk.specs.Conversation.{BreaksOff, Converses, StopsAt, Takes, sent, timed, timed_at, turns_of};
+ghost use Rattle.imap_talk.specs.Inputs.{Fails, Handles};
+ghost use Rattle.imap_talk.specs.Replies.{idling_at};
+ghost use Rattle.imap_talk.specs.Talks.{BreaksPoll, EndsTalk, Polls, SaysGoodbye, SaysRefused, Talks, cut_at, goodbye_of};
+ghost use Rattle.imap_talk.specs.declared.requests.Request.TheVariants.{Command as CommandRequest, Line as LineRequest};
+ghost use Rattle.imap_talk.specs.declared.turn.TalkFaultKind.TheVariants as kinds;
+ghost use Rattle.imap_talk.specs.declared.turn.Turn.{Turn as OneTurn};
 
-use crate::ended::{Ended, bye_text, end_of};
-use crate::ends::{Port, Sink, Source};
-use crate::taking::take_item;
-use crate::writing::{write_held, write_much};
-use imap_answers::Login;
-use imap_lex::{FrameFault, Framer, Item, Limits};
-use imap_types::Octets;
+use crate::replies::is_without_memory;
+use crate::requests::{Request, request_of};
+use crate::sending::{send, send_polled, send_reply, show};
+use crate::turn::{TalkFault, TalkFaultKind, Turn};
+use imap_answers::{Answer, ByeReason};
+use imap_grammar::{IdleLine, Tagged};
+use imap_lex::{Fault, FrameFault, Framer, Item};
+use imap_node::{Node, Reply, SessionNo, State};
+use imap_types::{Moment, Octets};
 use std::alloc::Global;
-use std::sync::Wait;
 
-/// How many octets are read at once.
-const PIECE: usize = 16_384;
-
-/// What a conversation keeps from one piece of what is read to the next.
-#[derive(Drop)]
-struct Talk {
-    /// Cuts what is read into items.
-    framer: Framer,
-    /// The tag of the session's IDLE, while it idles.
-    idling: Option<Octets>,
-    /// What is said, and held back until it is written.
-    text: Vec<u8>,
-}
-
-/// Holds a conversation with a mail client: opens a session, greets, answers what the client sends, in order, until the conversation
-/// ends, and closes the session. The answers to one piece of what was read are written together, behind the last of them.
+/// Takes the next octets of a connection, which came at this moment, and gives the turns that they make: the commands and lines that
+/// came, each in front of the answers to it. What stands behind a LOGOUT that was answered OK is dropped, and the session is closed.
 ///
-/// `ReadFailed` and `WriteFailed` only where the device failed in this call, `PeerClosed` only where the source told its end,
-/// `Logout` only behind a LOGOUT that was answered OK, `Framing`, `TooManySessions` and `Torn` only where the framer or the port said so. An
-/// answer for which there is no memory ends the conversation behind the whole answers before it.
-pub fn converse<R: Wait, S: Source, K: Sink, P: Port>(
-    rt: &R,
+/// An error closes the session too, and the node is that after the whole commands so far. `Framing` says which fault of the
+/// framer ends the conversation; the turns before it are given, with the BYE behind `LineTooLong`, `LiteralTooLong` and
+/// `NulByte`. Behind `Framing` the framer has failed for good: each later `feed` of it fails. `LineRefused` says that a line of IDLE was
+/// refused for want of memory; the turns before it are given, with it and a BYE. `NoMemory` says that a turn found no memory.
+pub fn talk(
     alloc: Global,
-    source: &mut S,
-    sink: &mut K,
-    port: &mut P,
-) -> Ended
-    requires source { S.failures source.old < 18446744073709551615 }
-    requires sink { K.failures sink.old < 18446744073709551615 }
-    ensures talked { Talked P.opens P.steps P.closes port.old port.new Limits.STANDARD (S.left source.old) (S.left source.new) (S.is_ended source.new) (K.taken sink.old) (K.taken sink.new) result }
-    ensures reads { ((result ≡ WriteFailed) → ⊥) → S.failures source.new ≡ S.failures source.old + failed_reads result }
-    ensures writes { K.failures sink.new ≡ K.failures sink.old + failed_writes result }
-{
-    let login = match port.open(alloc) {
-        Ok(login) => login,
-        Err(fault) => return write_last(sink, &mut Vec::new(alloc), end_of(fault)),
-    };
-    let (ended, mut text) = hold(rt, alloc, login, source, sink, port);
-    port.close(alloc);
-    write_last(sink, &mut text, ended)
-}
-
-/// Writes what is held back and the BYE that names the end, and tells how the conversation ended: `WriteFailed` where the device failed.
-fn write_last<K: Sink>(sink: &mut K, text: &mut Vec<u8>, ended: Ended) -> Ended
-    requires { failed_writes ended ≡ 0 → K.failures sink.old < 18446744073709551615 }
-    ensures written { failed_writes ended ≡ 0 → IsWritten ended (text.old.items ++ bye_text_of ended) result (K.taken sink.old) (K.taken sink.new) }
-    ensures failed { (ended ≡ WriteFailed) → (result ≡ WriteFailed) × (K.taken sink.new ≡ K.taken sink.old) }
-    ensures failures { K.failures sink.new + failed_writes ended ≡ K.failures sink.old + failed_writes result }
-{
-    if matches!(ended, Ended::WriteFailed) {
-        return ended;
-    }
-    if !write_held(sink, text) {
-        return Ended::WriteFailed;
-    }
-    if !write_bye(sink, bye_text(ended)) {
-        return Ended::WriteFailed;
-    }
-    ended
-}
-
-fn write_bye<K: Sink>(sink: &mut K, bye: &[u8]) -> bool
-    requires { K.failures sink.old < 18446744073709551615 }
-    ensures octets { TookSome result (K.taken sink.old) bye.now (K.taken sink.new) }
-    ensures failed { MatchBool result (K.failures sink.new ≡ K.failures sink.old) (K.failures sink.new ≡ K.failures sink.old + 1) }
-{
-    if bye.is_empty() {
-        return true;
-    }
-    sink.write(bye)
-}
-
-/// Greets, and answers what the client sends, until the conversation ends; tells how it ended, and what is held back then.
-fn hold<R: Wait, S: Source, K: Sink, P: Port>(
-    rt: &R,
-    alloc: Global,
-    login: Login,
-    source: &mut S,
-    sink: &mut K,
-    port: &mut P,
-) -> (Ended, Vec<u8>)
-    requires source { S.failures source.old < 18446744073709551615 }
-    requires sink { K.failures sink.old < 18446744073709551615 }
-    ensures talked { (octets : List ℕ) × (said : List ℕ) × Gave (S.left source.old) octets (S.left source.new)
-        × Holds P.steps port.old login Limits.STANDARD octets result.0 (S.is_ended source.new) said port.new
-        × IsSaid result.0 (K.taken sink.old) [] said (K.taken sink.new) result.1.items }
-    ensures reads { S.failures source.new ≡ S.failures source.old + failed_reads result.0 }
-    ensures writes { K.failures sink.new ≡ K.failures sink.old + failed_writes result.0 }
-{
-    let mut text = Vec::new(alloc);
-    let Ok(()) = text.extend_from_slice(greeting(login)) else {
-        return (Ended::NoMemory, text);
-    };
-    let mut talk = Talk {
-        framer: Framer::new(alloc, Limits::STANDARD),
-        idling: None,
-        text,
-    };
-    let ended = answer_all(rt, alloc, source, sink, port, &mut talk);
-    (ended, talk.text)
-}
-
-#[tactic(auto, unfolding(imap_answers::specs::Printed::answer_text))]
-fn greeting(login: Login) -> &'static [u8]
-    ensures { result.now ≡ printed (Greets login) }
-{
-    match login {
-        Login::Wanted => b"* OK [CAPABILITY IMAP4rev2 IDLE CONDSTORE] ready\r\n",
-        Login::Given => b"* PREAUTH [CAPABILITY IMAP4rev2 IDLE CONDSTORE] ready\r\n",
-    }
-}
-
-/// Answers what the client sends, until the conversation ends.
-fn answer_all<R: Wait, S: Source, K: Sink, P: Port>(
-    rt: &R,
-    alloc: Global,
-    source: &mut S,
-    sink: &mut K,
-    port: &mut P,
-    talk: &mut Talk,
-) -> Ended
-    requires source { S.failures source.old < 18446744073709551615 }
-    requires sink { K.failures sink.old < 18446744073709551615 }
-    requires framer { talk.old.framer ≡ record { limits = Limits.STANDARD; state = Ok start } }
-    requires idling { talk.old.idling ≡ None }
-    ensures talked { (octets : List ℕ) × (said : List ℕ) × Gave (S.left source.old) octets (S.left source.new)
-        × Ends P.steps port.old (goes_on Limits.STANDARD (Ok start) octets) result (S.is_ended source.new) said port.new
-        × IsSaid result (K.taken sink.old) talk.old.text.items said (K.taken sink.new) talk.new.text.items }
-    ensures reads { S.failures source.new ≡ S.failures source.old + failed_reads result }
-    ensures writes { K.failures sink.new ≡ K.failures sink.old + failed_writes result }
-{
-    let mut piece = [0u8; PIECE];
-    for _ in rt.forever() {
-        if !write_held(sink, &mut talk.text) {
-            return Ended::WriteFailed;
-        }
-        let Some(count) = source.read(&mut piece) else {
-            return Ended::ReadFailed;
-        };
-        if count == 0 {
-            return Ended::PeerClosed;
-        }
-        match answer_piece(alloc, talk, &piece[..count], port, sink) {
-            Ok(()) => {}
-            Err(ended) => return ended,
-        }
-    }
-    unreachable!()
-}
-
-/// Answers what a piece of what was read completes.
-fn answer_piece<K: Sink, P: Port>(
-    alloc: Global,
-    talk: &mut Talk,
+    node: &mut Node,
+    framer: &mut Framer,
+    session: SessionNo,
+    moment: Moment,
     piece: &[u8],
-    port: &mut P,
-    sink: &mut K,
-) -> Result<(), Ended>
-    requires going { IsOk talk.old.framer.state }
-    requires sink { K.failures sink.old < 18446744073709551615 }
-    ensures limits { talk.new.framer.limits ≡ talk.old.framer.limits }
-    ensures ok { OnOk result ((said : List ℕ) × Converses P.steps port.old talk.old.idling (goes_on talk.old.framer.limits talk.old.framer.state piece.now).0 said port.new talk.new.idling
-        × Said (K.taken sink.old) talk.old.text.items said (K.taken sink.new) talk.new.text.items) }
-    ensures state { OnOk result ((talk.new.framer.state ≡ (goes_on talk.old.framer.limits talk.old.framer.state piece.now).1) × IsOk talk.new.framer.state) }
-    ensures err { IfErr result (λ ended. (said : List ℕ) × Halts P.steps port.old talk.old.idling (goes_on talk.old.framer.limits talk.old.framer.state piece.now) ended said port.new
-        × IsSaid ended (K.taken sink.old) talk.old.text.items said (K.taken sink.new) talk.new.text.items) }
-    ensures devices { IfErr result (λ ended. failed_reads ended ≡ 0) }
-    ensures failures { K.failures sink.new ≡ K.failures sink.old + failed result }
+) -> Result<Vec<Turn>, TalkFault>
+    requires { IsGoing node.old.state session }
+    ensures ok { IfOk result (λ turns. Talks node.old.state session (cut_at moment (goes_on framer.old.limits framer.old.state piece.now)) turns.items node.new.state framer.new.state) }
+    ensures err { IfErr result (λ fault. EndsTalk fault.why node.old.state session framer.old.state (cut_at moment (goes_on framer.old.limits framer.old.state piece.now)) fault.turns.items node.new.state) }
+    ensures failed { IfErr result (λ fault. (why : Why) → fault.why ≡ kinds.Framing why → IsErr framer.new.state) }
+    ensures limits { framer.new.limits ≡ framer.old.limits }
 {
-    match talk.framer.feed(alloc, piece) {
-        Ok(items) => take_all(alloc, port, &mut talk.idling, &items, sink, &mut talk.text),
+    let mut turns = Vec::new(alloc);
+    match framer.feed(alloc, piece) {
+        Ok(items) => match take_all(alloc, node, session, moment, &items, &mut turns) {
+            Ok(()) => Ok(turns),
+            Err(why) => Err(TalkFault { turns, why }),
+        },
         Err(fault) => {
             let FrameFault { items, why } = fault;
-            if let Err(ended) = take_all(
-                alloc,
-                port,
-                &mut talk.idling,
-                &items,
-                sink,
-                &mut talk.text,
-            ) {
-                return Err(ended);
+            if let Err(why) = take_all(alloc, node, session, moment, &items, &mut turns) {
+                return Err(TalkFault { turns, why });
             }
-            Err(Ended::Framing(why))
+            if !is_going(node, session) {
+                return Ok(turns);
+            }
+            node.close(session);
+            let why = say_goodbye(alloc, why, &mut turns);
+            Err(TalkFault { turns, why })
         }
     }
 }
 
-/// Answers items in their order, up to one at which the conversation ends.
-fn take_all<K: Sink, P: Port>(
+/// Polls a session, which idles: gives the answers that tell it what changed (RFC 2177, section 3), as turns; none where the node refuses
+/// the poll. An error, which is `NoMemory`, closes the session: an answer found no memory; the turns before it are given.
+pub fn poll_turns(
     alloc: Global,
-    port: &mut P,
-    idling: &mut Option<Octets>,
+    node: &mut Node,
+    session: SessionNo,
+) -> Result<Vec<Turn>, TalkFault>
+    requires { IsOpen node.old.state.sessions session }
+    ensures ok { IfOk result (λ turns. Polls node.old.state session turns.items node.new.state) }
+    ensures err { IfErr result (λ fault. (fault.why ≡ kinds.NoMemory) × BreaksPoll node.old.state session fault.turns.items node.new.state) }
+{
+    let mut turns = Vec::new(alloc);
+    let reply = node.poll(alloc, session);
+    match send_polled(alloc, &mut turns, reply) {
+        Ok(()) => Ok(turns),
+        Err(_) => {
+            node.close(session);
+            Err(TalkFault {
+                turns,
+                why: TalkFaultKind::NoMemory,
+            })
+        }
+    }
+}
+
+/// Takes items in their order, up to a LOGOUT answered OK, behind which the session is closed. It is closed too where
+/// the turns break off.
+fn take_all(
+    alloc: Global,
+    node: &mut Node,
+    session: SessionNo,
+    moment: Moment,
     items: &[Item],
-    sink: &mut K,
-    text: &mut Vec<u8>,
-) -> Result<(), Ended>
-    requires { K.failures sink.old < 18446744073709551615 }
-    ensures ok { OnOk result ((said : List ℕ) × Converses P.steps port.old idling.old items.now said port.new idling.new
-        × Said (K.taken sink.old) text.old.items said (K.taken sink.new) text.new.items) }
-    ensures err { IfErr result (λ ended. (said : List ℕ) × Leaves P.steps port.old idling.old items.now ended said port.new
-        × IsSaid ended (K.taken sink.old) text.old.items said (K.taken sink.new) text.new.items) }
-    ensures devices { IfErr result (λ ended. failed_reads ended ≡ 0) }
-    ensures failures { K.failures sink.new ≡ K.failures sink.old + failed result }
+    turns: &mut Vec<Turn>,
+) -> Result<(), TalkFaultKind>
+    requires { IsGoing node.old.state session }
+    ensures ok { OnOk result ((more : List OneTurn) × (turns.new.items ≡ turns.old.items ++ more) × Converses node.old.state session (timed_at moment items.now) more node.new.state) }
+    ensures err { IfErr result (λ why. (more : List OneTurn) × (turns.new.items ≡ turns.old.items ++ more) × BreaksOff why node.old.state session (timed_at moment items.now) more node.new.state) }
 {
     for item in items {
-        match take_item(alloc, port, idling, item, text) {
-            Ok(()) => {}
-            Err(ended) => return Err(ended),
+        if let Err(why) = take_item(alloc, node, session, moment, item, turns) {
+            node.close(session);
+            return Err(why);
         }
-        if !write_much(sink, text) {
-            return Err(Ended::WriteFailed);
+        if has_logged_out(node, session) {
+            node.close(session);
+            return Ok(());
         }
     }
     Ok(())
+}
+
+/// Takes one item: shows what came of the client, and adds the answers.
+fn take_item(
+    alloc: Global,
+    node: &mut Node,
+    session: SessionNo,
+    moment: Moment,
+    item: &Item,
+    turns: &mut Vec<Turn>,
+) -> Result<(), TalkFaultKind>
+    requires { IsGoing node.old.state session }
+    ensures ok { OnOk result ((given : List OneAnswer) × Takes node.old.state session (timed moment item.now) given node.new.state × (turns.new.items ≡ turns.old.items ++ turns_of item.now given)) }
+    ensures err { IfErr result (λ why. (more : List OneTurn) × (turns.new.items ≡ turns.old.items ++ more) × StopsAt why node.old.state session (timed moment item.now) more node.new.state) }
+    ensures open { IsGoing node.new.state session ⊎ HasLoggedOut node.new.state session }
+{
+    let Ok(()) = show(alloc, turns, item) else {
+        return Err(TalkFaultKind::NoMemory);
+    };
+    let Ok(request) = request_of(alloc, tag_of_idling(node, session), item) else {
+        return Err(TalkFaultKind::NoMemory);
+    };
+    take_request(alloc, node, session, moment, request, turns)
+}
+
+/// The tag of the IDLE that the session is in.
+fn tag_of_idling(node: &Node, session: SessionNo) -> Option<&Octets>
+    ensures { option_copied result ≡ idling_at node.now.state session }
+{
+    match node.session(session) {
+        Some(session) => session.idling.as_ref(),
+        None => None,
+    }
+}
+
+/// Adds one answer; `NoMemory`, and no change, where there is no memory for it.
+fn send_one(alloc: Global, turns: &mut Vec<Turn>, answer: Answer) -> Result<(), TalkFaultKind>
+    ensures ok { OnOk result (turns.new.items ≡ turns.old.items ++ sent (answer ∷ [])) }
+    ensures err { IfErr result (λ why. (why ≡ kinds.NoMemory) × (turns.new.items ≡ turns.old.items)) }
+{
+    let sent = send(alloc, turns, &answer);
+    drop(answer);
+    match sent {
+        Ok(()) => Ok(()),
+        Err(_) => Err(TalkFaultKind::NoMemory),
+    }
+}
+
+/// Carries out what the node is asked, and adds the answers.
+fn take_request(
+    alloc: Global,
+    node: &mut Node,
+    session: SessionNo,
+    moment: Moment,
+    request: Request,
+    turns: &mut Vec<Turn>,
+) -> Result<(), TalkFaultKind>
+    requires { IsGoing node.old.state session }
+    ensures ok { OnOk result ((given : List OneAnswer) × Handles node.old.state session moment request given node.new.state × (turns.new.items ≡ turns.old.items ++ sent given)) }
+    ensures err { IfErr result (λ why. (front : List OneTurn) × (turns.new.items ≡ turns.old.items ++ front) × Fails why node.old.state session moment request front node.new.state) }
+    ensures open { IsGoing node.new.state session ⊎ HasLoggedOut node.new.state session }
+{
+    match request {
+        Request::Told(answer) => send_one(alloc, turns, answer),
+        Request::Command(tagged) => take_command(alloc, node, session, moment, tagged, turns),
+        Request::Line { tag, line } => take_line(alloc, node, session, tag, line, turns),
+    }
+}
+
+/// Carries out a command, and adds the answers.
+fn take_command(
+    alloc: Global,
+    node: &mut Node,
+    session: SessionNo,
+    moment: Moment,
+    tagged: Tagged,
+    turns: &mut Vec<Turn>,
+) -> Result<(), TalkFaultKind>
+    requires { IsGoing node.old.state session }
+    ensures ok { OnOk result ((given : List OneAnswer) × Handles node.old.state session moment (CommandRequest tagged) given node.new.state × (turns.new.items ≡ turns.old.items ++ sent given)) }
+    ensures err { IfErr result (λ why. (front : List OneTurn) × (turns.new.items ≡ turns.old.items ++ front) × Fails why node.old.state session moment (CommandRequest tagged) front node.new.state) }
+    ensures open { IsGoing node.new.state session ⊎ HasLoggedOut node.new.state session }
+{
+    // The command is given away, and the answer to a refused one bears its tag.
+    let Ok(tag) = tagged.tag.copy(alloc) else {
+        return Err(TalkFaultKind::NoMemory);
+    };
+    let reply = node.command(alloc, session, moment, tagged);
+    match send_reply(alloc, turns, tag, reply) {
+        Ok(()) => Ok(()),
+        Err(_) => Err(TalkFaultKind::NoMemory),
+    }
+}
+
+/// Takes a line of a session that idles, whose IDLE has this tag, and adds the answers; a BYE where it is refused for want of memory.
+fn take_line(
+    alloc: Global,
+    node: &mut Node,
+    session: SessionNo,
+    tag: Octets,
+    line: IdleLine,
+    turns: &mut Vec<Turn>,
+) -> Result<(), TalkFaultKind>
+    requires { IsGoing node.old.state session }
+    ensures ok { OnOk result ((given : List OneAnswer) × Handles node.old.state session 0 (LineRequest tag line) given node.new.state × (turns.new.items ≡ turns.old.items ++ sent given)) }
+    ensures err { IfErr result (λ why. (front : List OneTurn) × (turns.new.items ≡ turns.old.items ++ front) × Fails why node.old.state session 0 (LineRequest tag line) front node.new.state) }
+    ensures open { IsGoing node.new.state session ⊎ HasLoggedOut node.new.state session }
+{
+    let reply = node.done(alloc, session, line);
+    if is_without_memory(&reply) {
+        drop(reply);
+        return Err(refuse_line(alloc, turns));
+    }
+    match send_reply(alloc, turns, tag, reply) {
+        Ok(()) => Ok(()),
+        Err(_) => Err(TalkFaultKind::NoMemory),
+    }
+}
+
+/// Adds the BYE for a line of IDLE that was refused, and says how the conversation ends.
+fn refuse_line(alloc: Global, turns: &mut Vec<Turn>) -> TalkFaultKind
+    ensures { SaysRefused result turns.old.items turns.new.items }
+{
+    let bye = Answer::Bye {
+        reason: ByeReason::NoMemory,
+    };
+    match send_one(alloc, turns, bye) {
+        Ok(()) => TalkFaultKind::LineRefused,
+        Err(_) => TalkFaultKind::NoMemory,
+    }
+}
+
+/// Adds the BYE that a fault of the framer asks for, and says how the conversation ends.
+fn say_goodbye(alloc: Global, why: Fault, turns: &mut Vec<Turn>) -> TalkFaultKind
+    ensures { SaysGoodbye why result turns.old.items turns.new.items }
+{
+    let Some(answer) = goodbye(why) else {
+        return TalkFaultKind::Framing(why);
+    };
+    let sent = send(alloc, turns, &answer);
+    drop(answer);
+    match sent {
+        Ok(()) => TalkFaultKind::Framing(why),
+        Err(_) => TalkFaultKind::NoMemory,
+    }
+}
+
+/// The BYE that ends a connection for this fault of the framer; none where memory ran out, and where the framer had failed
+/// before.
+fn goodbye(why: Fault) -> Option<Answer>
+    ensures { result ≡ goodbye_of why }
+{
+    match why {
+        Fault::LineTooLong => Some(Answer::Bye {
+            reason: ByeReason::LineTooLong,
+        }),
+        Fault::LiteralTooLong => Some(Answer::Bye {
+            reason: ByeReason::LiteralTooLong,
+        }),
+        Fault::NulByte => Some(Answer::Bye {
+            reason: ByeReason::NulInText,
+        }),
+        Fault::NoMemory | Fault::Failed => None,
+    }
+}
+
+fn has_logged_out(node: &Node, session: SessionNo) -> bool
+    ensures { IsTrue result ↔ HasLoggedOut node.now.state session }
+{
+    match node.session(session) {
+        Some(session) => matches!(session.state, State::LoggedOut),
+        None => false,
+    }
+}
+
+fn is_going(node: &Node, session: SessionNo) -> bool
+    ensures { IsTrue result ↔ IsGoing node.now.state session }
+{
+    match node.session(session) {
+        Some(session) => !matches!(session.state, State::LoggedOut),
+        None => false,
+    }
 }

@@ -2,8 +2,8 @@
 
 ghost use Rattle.std.specs.Prelude.{◌≡◌, ◌++◌, ◌<◌, ◌+◌, [], false, List, OnOk, OnErr, MatchBool};
 ghost use Rattle.imap_answers.specs.declared.answer.Answer.{Answer as OneAnswer};
-ghost use Rattle.node_talk.specs.Conversation.{IsFront};
-ghost use Rattle.node_talk.specs.Replies.{answers_of, refused_answers};
+ghost use Rattle.imap_talk.specs.Conversation.{IsFront};
+ghost use Rattle.imap_talk.specs.Replies.{answers_of, refused_answers};
 ghost use Rattle.imap_talk.specs.Devices.{Said, TookSome};
 ghost use Rattle.imap_talk.specs.Requests.{texts};
 

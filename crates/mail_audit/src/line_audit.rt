@@ -86,7 +86,7 @@ impl Audit {
             text,
         } = spoken;
         imap_grammar::one_reading();
-        imap_read::one_reading();
+        imap_print::one_reading();
         let octets = with_line_end(text)?;
         if self.sessions.hear(alloc, session, speaker, &octets)? {
             Ok(None)

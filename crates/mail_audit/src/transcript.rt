@@ -15,7 +15,7 @@ use crate::running::{InProgress, Running};
 use crate::slots::Slots;
 use imap_answers::Answer;
 use imap_grammar::{Command, ParseFault, Tagged, parse};
-use imap_read::read;
+use imap_print::read;
 use mail_script::Speaker;
 use std::alloc::{AllocError, Global};
 use std::marker::Model;

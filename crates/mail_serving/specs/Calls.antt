@@ -12,7 +12,7 @@ use Rattle.imap_talk.specs.Asked.{Asked}
 use Rattle.imap_talk.specs.Asked as asked
 use Rattle.imap_talk.specs.declared.fault.PortFault.{PortFault}
 use Rattle.imap_talk.specs.declared.fault.PortFault.TheVariants.{TooManySessions}
-use Rattle.node_talk.specs.Replies.{polled_answers}
+use Rattle.imap_talk.specs.Replies.{polled_answers}
 use Rattle.replica_lock.specs.Passes.{Held, IsCalled, IsCalledIn}
 use Rattle.replica_lock.specs.declared.event.BookEvent.{BookEvent}
 use Rattle.replica_lock.specs.declared.event.BookEvent.TheVariants as events

@@ -1,7 +1,7 @@
 //! One connection.
 
 ghost use Rattle.std.specs.Prelude.{◌≡◌, ◌<◌};
-ghost use Rattle.imap_talk.specs.Talks.{Talked};
+ghost use Rattle.imap_talk.specs.Conversing.{Talked};
 ghost use Rattle.mail_serving.specs.Calls.{OpensByCall, StepsByCall};
 
 use crate::feeding::feed;

@@ -3,8 +3,8 @@ use Rattle.mail_script.specs.declared.outcome.OutcomeLine.{OutcomeLine}
 use Rattle.mail_script.specs.declared.outcome.OutcomeLine.TheVariants as lines
 use Rattle.mail_audit.specs.declared.verdict.AuditEnd.{AuditEnd}
 use Rattle.mail_audit.specs.declared.verdict.AuditEnd.TheVariants as audits
-use Rattle.mail_replay.specs.declared.ending.ReplayEnd.{ReplayEnd}
-use Rattle.mail_replay.specs.declared.ending.ReplayEnd.TheVariants.{Done, BadScript, ReadFailed, WriteFailed, NoMemory}
+use Rattle.mail_tooling.specs.declared.ending.ReplayEnd.{ReplayEnd}
+use Rattle.mail_tooling.specs.declared.ending.ReplayEnd.TheVariants.{Done, BadScript, ReadFailed, WriteFailed, NoMemory}
 
 -- The program's status: 0 where every line was served, else 3.
 abbrev pub status_of : ReplayEnd → ℕ

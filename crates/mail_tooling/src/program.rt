@@ -2,10 +2,11 @@
 
 use crate::arguments::{Request, read_words};
 use crate::auditing::{audit_file, audit_from};
-use crate::ending::tell;
+use crate::ending::ReplayEnd;
+use crate::replaying::replay;
+use crate::status::tell;
 use clap::Error;
 use clap::error::ErrorKind;
-use mail_replay::{ReplayEnd, replay};
 use std::io::{BufWriter, Read};
 use std::rt::{Env, Files};
 use std::{env, fs, io};

@@ -1,5 +1,5 @@
 //! Tests of nodes and of conversations with them: sessions that no script can open, since their user has to log in; what a node lends; and conversations over
-//! devices in memory and of std, whose reads and writes fail in turn or move one octet at a time, with a port that is made up or with a node's. And what a frame hands over, and laws that can be called.
+//! devices in memory and of std, whose reads and writes fail in turn or move one octet at a time, with a port that is made up or with a node's; what a frame hands over, and laws that can be called. And of the programs above nodes: command lines, replay and audit.
 #![tactic(auto)]
 
 #[cfg(test)]
@@ -18,6 +18,8 @@ mod login;
 mod made_up;
 #[cfg(test)]
 mod nodes;
+#[cfg(test)]
+mod programs;
 #[cfg(test)]
 mod talks;
 #[cfg(test)]

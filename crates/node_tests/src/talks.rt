@@ -4,9 +4,9 @@ ghost use Rattle.std.specs.Prelude.{IsTrue, ◌↔◌};
 ghost use Rattle.imap_node.specs.Nodes.{IsGoing};
 
 use imap_lex::{Framer, Limits};
+use imap_talk::{Auth, Credentials, Node, SessionNo, State, Turn, talk};
 use imap_types::{Moment, Name, Octets};
 use merge_laws::Caused;
-use node_talk::{Auth, Credentials, Node, SessionNo, State, Turn, talk};
 use std::alloc::Global;
 use tags_clocks::ReplicaId;
 use uid_projection::Start;

@@ -9,7 +9,7 @@ use crate::tally::Tally;
 use crate::watch::Watch;
 use case_text::{Trouble, Words};
 use imap_node::Node;
-use node_talk::write_dump;
+use imap_talk::write_dump;
 use std::alloc::{AllocError, Global};
 use tags_clocks::ReplicaId;
 use text_fields::number;

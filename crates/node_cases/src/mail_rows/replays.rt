@@ -2,7 +2,7 @@
 
 use case_text::Words;
 use mail_audit::audit;
-use mail_replay::{ReplayEnd, replay};
+use mail_tooling::{ReplayEnd, replay};
 use std::alloc::Global;
 
 /// A run of more octets of one kind than these is printed as their number.

@@ -16,3 +16,12 @@ returns-clause-news c =
     let before = c.args.replica.now.applied in
     subst (λ (ops : List Op). IsNews start before (before ++ ops) c.in_ok-news.news) (c.as_slice-2.ensures ∙ c.new-ops.ensures)
     (c.in_ok-news.ensures {u = tt})
+
+pub returns-clause-answered : goal.returns-clause-answered
+returns-clause-answered c = ?
+
+pub answers_to-requires-clause-noted : goal.answers_to-requires-clause-noted
+answers_to-requires-clause-noted c = ?
+
+pub returns-clause-can : goal.returns-clause-can
+returns-clause-can c = ?

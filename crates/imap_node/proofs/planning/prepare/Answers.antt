@@ -17,3 +17,18 @@ returns-clause-news c =
     subst (λ (start : Start). IsNews start c.args.replica.now.applied (c.args.replica.now.applied ++ prepared.ops) prepared.news) c.readied.ensures.start
     (subst (λ (ops : List Op). IsNews replica.start ops (ops ++ prepared.ops) prepared.news) c.readied.ensures.applied
     (subst (λ (ops : List Op). IsNews replica.start replica.applied (replica.applied ++ ops) prepared.news) (sym done.ops) done.news))
+
+pub returns-clause-ok : goal.returns-clause-ok
+returns-clause-ok c = ?
+
+pub returns-clause-room : goal.returns-clause-room
+returns-clause-room c = ?
+
+pub returns-clause-issued : goal.returns-clause-issued
+returns-clause-issued c = ?
+
+pub returns-in_err-ops-clause-err : goal.returns-in_err-ops-clause-err
+returns-in_err-ops-clause-err c = ?
+
+pub returns-in_err-kinds-clause-err : goal.returns-in_err-kinds-clause-err
+returns-in_err-kinds-clause-err c = ?

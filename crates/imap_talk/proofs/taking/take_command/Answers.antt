@@ -1,9 +1,9 @@
 use Rattle.std.proofs.Common.{refl, ap}
 use Rattle.imap_talk.specs.Asked as asked
 use Rattle.imap_talk.specs.Requests.{idling_behind, logs_out}
-use Rattle.node_talk.specs.declared.requests.Request.TheVariants as requests
-use Rattle.node_talk.specs.Replies.{answers_of}
-use Rattle.imap_talk.proofs.TalkLemmas.{broken, refused}
+use Rattle.imap_talk.specs.declared.requests.Request.TheVariants as requests
+use Rattle.imap_talk.specs.Replies.{answers_of}
+use Rattle.imap_talk.proofs.ConversingLemmas.{broken, refused}
 use Rattle.imap_talk.proofs.taking.take_command.Goals as goal
 
 pub returns-in-Err-clause-err : goal.returns-in-Err-clause-err

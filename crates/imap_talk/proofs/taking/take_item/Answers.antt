@@ -1,6 +1,6 @@
 use Rattle.std.proofs.Common.{ℕ, List, Option, subst}
-use Rattle.node_talk.specs.Inputs.{IsRequest}
-use Rattle.imap_talk.proofs.TalkLemmas.{item_err, item_ok}
+use Rattle.imap_talk.specs.Inputs.{IsRequest}
+use Rattle.imap_talk.proofs.ConversingLemmas.{item_err, item_ok}
 use Rattle.imap_talk.proofs.taking.take_item.Goals as goal
 
 pub returns-clause-ok : goal.returns-clause-ok

@@ -1,8 +1,8 @@
 use Rattle.std.proofs.Common.{None, false, refl, sym, ◌∙◌}
 use Rattle.imap_talk.specs.Asked as asked
-use Rattle.node_talk.specs.declared.requests.Request.TheVariants as requests
-use Rattle.node_talk.specs.Replies.{answers_of}
-use Rattle.imap_talk.proofs.TalkLemmas.{broken, line_refused, refused}
+use Rattle.imap_talk.specs.declared.requests.Request.TheVariants as requests
+use Rattle.imap_talk.specs.Replies.{answers_of}
+use Rattle.imap_talk.proofs.ConversingLemmas.{broken, line_refused, refused}
 use Rattle.imap_talk.proofs.taking.take_line.Goals as goal
 
 pub returns-in-Err-clause-err : goal.returns-in-Err-clause-err

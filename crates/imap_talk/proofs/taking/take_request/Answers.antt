@@ -2,8 +2,8 @@ use Rattle.std.proofs.Common.{◌≡◌, ◌++◌, List, OnOk, false, sym, subst
 use Rattle.std.specs.Prelude.{IfErr}
 use Rattle.imap_answers.specs.declared.answer.Answer.{Answer}
 use Rattle.imap_talk.specs.Requests.{Fails, Handles, texts}
-use Rattle.node_talk.specs.declared.requests.Request.{Request}
-use Rattle.imap_talk.proofs.TalkLemmas.{told_err, told_ok}
+use Rattle.imap_talk.specs.declared.requests.Request.{Request}
+use Rattle.imap_talk.proofs.ConversingLemmas.{told_err, told_ok}
 use Rattle.imap_talk.proofs.taking.take_request.Goals as goal
 
 pub returns-in-Told-clause-ok : goal.returns-in-Told-clause-ok

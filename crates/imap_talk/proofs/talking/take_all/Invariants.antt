@@ -1,12 +1,7 @@
-use Rattle.std.proofs.Common.{◌≡◌, ℕ, List, take}
-use Rattle.imap_talk.specs.Devices.{Said}
-use Rattle.imap_talk.specs.Talks.{Converses}
+use Rattle.std.proofs.Common.{drop}
+use Rattle.imap_talk.specs.Conversation.{timed_at}
+use Rattle.imap_talk.proofs.TurnLemmas.{Underway}
 use Rattle.imap_talk.proofs.talking.take_all.Given as goal
 
 abbrev pub invariant-loop-item : goal.invariant-loop-item
-invariant-loop-item g l =
-    record {
-      talked : (said : List ℕ) × Converses g.P.Port.steps l.initial.port l.initial.idling (take l.item-index l.items) said l.port l.idling
-          × Said (g.K.Sink.taken l.initial.sink) l.initial.text.items said (g.K.Sink.taken l.sink) l.text.items;
-      failures : g.K.Sink.failures l.sink ≡ g.K.Sink.failures l.initial.sink;
-    }
+invariant-loop-item l = Underway l.fn.node.state l.session (timed_at l.moment l.items) l.fn.turns.items l.node.state (timed_at l.moment (drop l.item-index l.items)) l.turns.items

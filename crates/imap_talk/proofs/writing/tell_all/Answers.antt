@@ -1,6 +1,6 @@
 use Rattle.std.proofs.Common.{take, drop, sym, ◌∙◌}
 use Rattle.std.proofs.lemmas.List.{take-append-drop}
-use Rattle.node_talk.proofs.TurnLemmas.{at_error}
+use Rattle.imap_talk.proofs.TurnLemmas.{at_error}
 use Rattle.imap_talk.proofs.writing.tell_all.Goals as goal
 
 pub returns-in_err-print-clause-err : goal.returns-in_err-print-clause-err

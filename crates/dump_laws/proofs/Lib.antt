@@ -1,3 +1,0 @@
-mod FitLemmas
-mod LineLemmas
-mod RightLemmas

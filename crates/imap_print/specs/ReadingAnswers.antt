@@ -1,0 +1,363 @@
+-- The reader's own steps for answers. What an answer's text is, `printed` of imap_answers says; `read` is held to that.
+use Rattle.std.specs.Prelude.{ℕ, zero, suc, ◌+◌, Bool, true, false, ◌&&◌, ◌==◌, List, [], ◌∷◌, length, codes, Option, Some, None, if◌then◌else◌}
+use Rattle.imap_types.specs.DateTimeTests.{is_date_time}
+use Rattle.imap_types.specs.Keywords.{are_keywords}
+use Rattle.imap_types.specs.declared.flags.Flags.{Flags as FlagSet}
+use Rattle.imap_types.specs.declared.section.Section.{Section}
+use Rattle.imap_types.specs.declared.section.Section.TheVariants as section
+use Rattle.imap_answers.specs.declared.answer.Answer.{Answer}
+use Rattle.imap_answers.specs.declared.answer.Answer.TheVariants as answer
+use Rattle.imap_answers.specs.declared.codes.Code.{Code}
+use Rattle.imap_answers.specs.declared.codes.Code.TheVariants as code
+use Rattle.imap_answers.specs.declared.codes.Notice.{Notice}
+use Rattle.imap_answers.specs.declared.codes.Notice.TheVariants as notice
+use Rattle.imap_answers.specs.declared.words.CommandWord.{CommandWord}
+use Rattle.imap_answers.specs.declared.fetched.FetchItems.{FetchItems}
+use Rattle.imap_answers.specs.declared.fetched.SectionData.{SectionData}
+use Rattle.imap_answers.specs.declared.mailbox.SearchResults.{SearchResults}
+use Rattle.imap_answers.specs.declared.mailbox.StatusItems.{StatusItems}
+use Rattle.imap_print.specs.declared.scan.Class.TheVariants.{Tag}
+use Rattle.imap_print.specs.Reading.{◌>>=◌, Listed, after, counted, field_at, flag_at, followed, is_in, item_at, lead, literal_at, number_from, or_else, set_at, small, span, string_at, with_front, within, word_at, words_at}
+use Rattle.imap_answers.specs.Strings.{crlf}
+use Rattle.imap_print.specs.Tables.{all_attributes, bye_reasons, commands, continuations, enabled_words, logins, refusals}
+use Rattle.imap_answers.specs.Words.{attributes_text, bye_text, command_text, continuation_text, enabled_text, greeting_text, refusal_text}
+
+-- The flags, and whether there are none.
+unfoldable pub flags_from : List ℕ → Option (Listed FlagSet)
+flags_from bytes =
+    let answered = flag_at true (codes "\\Answered") bytes in
+    let flagged = flag_at answered.1 (codes "\\Flagged") answered.2 in
+    let deleted = flag_at flagged.1 (codes "\\Deleted") flagged.2 in
+    let seen = flag_at deleted.1 (codes "\\Seen") deleted.2 in
+    let draft = flag_at seen.1 (codes "\\Draft") seen.2 in
+    words_at (length bytes + 1) draft.1 draft.2 >>= λ words.
+    (if are_keywords words.0
+    then Some (record { answered = answered.0; flagged = flagged.0; deleted = deleted.0; seen = seen.0; draft = draft.0; keywords = words.0 }, draft.1 && (length words.0 == 0), words.1)
+    else None)
+
+-- Flags in parentheses.
+unfoldable pub flags_at : List ℕ → Option (FlagSet × List ℕ)
+flags_at bytes = do
+  opened ← after (codes "(") bytes
+  flags ← flags_from opened
+  followed flags.0 (after (codes ")") flags.2)
+
+-- The flags that can be changed for good, behind the parenthesis.
+unfoldable pub permanent_from : List ℕ → Option (Option FlagSet × List ℕ)
+permanent_from bytes = do
+  flags ← flags_from bytes
+  any ← after (lead flags.1 (codes "\\*")) flags.2
+  followed (Some flags.0) (after (codes ")") any)
+
+abbrev pub permanent_or : Option (List ℕ) → List ℕ → Option (Option FlagSet × List ℕ)
+permanent_or None bytes = after (codes "(") bytes >>= permanent_from
+permanent_or (Some rest) bytes = Some (None, rest)
+
+abbrev pub permanent_at : List ℕ → Option (Option FlagSet × List ℕ)
+permanent_at bytes = permanent_or (after (codes "()") bytes) bytes
+
+-- Two sets, behind a UIDVALIDITY.
+unfoldable pub last_set_at : List ℕ → Option (List ℕ × List ℕ)
+last_set_at bytes = do
+  between ← after (codes " ") bytes
+  copies ← set_at between
+  followed copies.0 (after (codes "]") copies.1)
+
+unfoldable pub sets_at : List ℕ → Option ((List ℕ × List ℕ) × List ℕ)
+sets_at bytes = do
+  source ← set_at bytes
+  copies ← last_set_at source.1
+  Some ((source.0, copies.0), copies.1)
+
+unfoldable pub copied_at : List ℕ → Option ((ℕ × List ℕ × List ℕ) × List ℕ)
+copied_at bytes = do
+  beyond ← after (codes " ") (number_from 0 bytes).1
+  sets ← sets_at beyond
+  Some ((small (number_from 0 bytes).0, sets.0.0, sets.0.1), sets.1)
+
+-- A number and what ends its code.
+unfoldable pub coded_at : List ℕ → Option (ℕ × List ℕ)
+coded_at bytes = do
+  rest ← after (codes "]") (number_from 0 bytes).1
+  Some ((number_from 0 bytes).0, rest)
+
+-- The first of some readings whose prefix is there.
+abbrev pub behind : {A : Type 0} → Option (List ℕ) → (List ℕ → Option A) → Option A → Option A
+behind None read other = other
+behind (Some rest) read other = read rest
+
+-- The flags that can be changed for good, and what ends their code.
+unfoldable pub permanent_notice_at : List ℕ → Option (Notice × List ℕ)
+permanent_notice_at bytes = do
+  flags ← permanent_at bytes
+  followed (notice.PermanentFlags flags.0) (after (codes "]") flags.1)
+
+-- What an untagged OK tells.
+unfoldable pub notice_at : List ℕ → Option (Notice × List ℕ)
+notice_at bytes =
+    behind (after (codes "[CLOSED]") bytes) (λ rest. Some (notice.Closed, rest))
+    (behind (after (codes "[UIDVALIDITY ") bytes) (λ rest. within (λ n. notice.UidValidity (small n)) (coded_at rest))
+    (behind (after (codes "[UIDNEXT ") bytes) (λ rest. within (λ n. notice.UidNext (small n)) (coded_at rest))
+    (behind (after (codes "[HIGHESTMODSEQ ") bytes) (λ rest. within (λ n. notice.HighestModSeq n) (coded_at rest))
+    (behind (after (codes "[PERMANENTFLAGS ") bytes) (λ rest. permanent_notice_at rest)
+    (behind (after (codes "[COPYUID ") bytes) (λ rest. within (λ c. notice.CopyUid c.0 c.1 c.2) (copied_at rest)) None)))))
+
+-- A UIDVALIDITY and a UID.
+unfoldable pub appended_at : List ℕ → Option ((ℕ × ℕ) × List ℕ)
+appended_at bytes = do
+  between ← after (codes " ") (number_from 0 bytes).1
+  uid ← coded_at between
+  Some ((small (number_from 0 bytes).0, small uid.0), uid.1)
+
+-- A set and what ends its code.
+unfoldable pub modified_at : List ℕ → Option (Code × List ℕ)
+modified_at bytes = do
+  refused ← set_at bytes
+  followed (code.Modified refused.0) (after (codes "]") refused.1)
+
+-- The code of a tagged OK.
+unfoldable pub code_at : List ℕ → Option (Code × List ℕ)
+code_at bytes =
+    behind (after (codes "[READ-WRITE]") bytes) (λ rest. Some (code.ReadWrite, rest))
+    (behind (after (codes "[READ-ONLY]") bytes) (λ rest. Some (code.ReadOnly, rest))
+    (behind (after (codes "[EXPUNGEISSUED]") bytes) (λ rest. Some (code.ExpungeIssued, rest))
+    (behind (after (codes "[APPENDUID ") bytes) (λ rest. within (λ a. code.AppendUid a.0 a.1) (appended_at rest))
+    (behind (after (codes "[COPYUID ") bytes) (λ rest. within (λ c. code.CopyUid c.0 c.1 c.2) (copied_at rest))
+    (behind (after (codes "[MODIFIED ") bytes) (λ rest. modified_at rest) None)))))
+
+-- A code and the space behind it, where there is one.
+abbrev pub code_or : Option (List ℕ) → List ℕ → Option (Option Code × List ℕ)
+code_or None bytes = Some (None, bytes)
+code_or (Some _) bytes = code_at bytes >>= λ code. followed (Some code.0) (after (codes " ") code.1)
+
+abbrev pub code_before_at : List ℕ → Option (Option Code × List ℕ)
+code_before_at bytes = code_or (after (codes "[") bytes) bytes
+
+-- What STATUS tells.
+abbrev pub small_option : Option ℕ → Option ℕ
+small_option None = None
+small_option (Some n) = Some (small n)
+
+unfoldable pub status_items_at : List ℕ → StatusItems × List ℕ
+status_items_at bytes =
+    let messages = item_at true (codes "MESSAGES ") bytes in
+    let uidnext = item_at messages.1 (codes "UIDNEXT ") messages.2 in
+    let uidvalidity = item_at uidnext.1 (codes "UIDVALIDITY ") uidnext.2 in
+    let unseen = item_at uidvalidity.1 (codes "UNSEEN ") uidvalidity.2 in
+    let deleted = item_at unseen.1 (codes "DELETED ") unseen.2 in
+    let size = item_at deleted.1 (codes "SIZE ") deleted.2 in
+    let modseq = item_at size.1 (codes "HIGHESTMODSEQ ") size.2 in
+    (record { messages = small_option messages.0; uidnext = small_option uidnext.0; uidvalidity = small_option uidvalidity.0; unseen = small_option unseen.0; deleted = small_option deleted.0; size = size.0; highest_modseq = modseq.0 }, modseq.2)
+
+-- All hits of a search, where there are any.
+abbrev pub all_or : Option (List ℕ) → List ℕ → Option (List ℕ × List ℕ)
+all_or None bytes = Some ([], bytes)
+all_or (Some rest) bytes = set_at rest
+
+-- What a search found.
+unfoldable pub results_at : List ℕ → Option (SearchResults × List ℕ)
+results_at bytes =
+    let least = item_at false (codes "MIN ") bytes in
+    let greatest = item_at false (codes "MAX ") least.2 in
+    all_or (after (codes " ALL ") greatest.2) greatest.2 >>= λ all.
+    (let count = item_at false (codes "COUNT ") all.1 in
+    let modseq = item_at false (codes "MODSEQ ") count.2 in
+    Some (record { min = small_option least.0; max = small_option greatest.0; all = all.0; count = small_option count.0; modseq = modseq.0 }, modseq.2))
+
+-- A name of a header field in a list.
+abbrev pub next_field_at : Bool → List ℕ → Option (List ℕ × List ℕ)
+next_field_at is_first bytes = after (lead is_first []) bytes >>= field_at
+
+-- Names of header fields up to the parenthesis, at most so many.
+abbrev pub fields_on : Bool → Option (List ℕ) → List ℕ → (List ℕ → Option (List (List ℕ) × List ℕ)) → Option (List (List ℕ) × List ℕ)
+fields_on is_first (Some rest) bytes go = Some ([], rest)
+fields_on is_first None bytes go = next_field_at is_first bytes >>= λ name. with_front (name.0 ∷ []) (go name.1)
+
+abbrev pub fields_at : ℕ → Bool → List ℕ → Option (List (List ℕ) × List ℕ)
+fields_at zero is_first bytes = None
+fields_at (suc fuel) is_first bytes = fields_on is_first (after (codes ")") bytes) bytes (fields_at fuel false)
+
+-- A part of a message.
+unfoldable pub section_at : List ℕ → Option (Section × List ℕ)
+section_at bytes =
+    behind (after (codes "HEADER.FIELDS (") bytes) (λ rest. within (λ names. section.Fields names) (fields_at (length rest + 1) true rest))
+    (behind (after (codes "HEADER.FIELDS.NOT (") bytes) (λ rest. within (λ names. section.FieldsNot names) (fields_at (length rest + 1) true rest))
+    (behind (after (codes "HEADER") bytes) (λ rest. Some (section.Header, rest))
+    (behind (after (codes "TEXT") bytes) (λ rest. Some (section.Text, rest))
+    (Some (section.Whole, bytes)))))
+
+-- Where a partial begins.
+abbrev pub origin_or : Option (List ℕ) → List ℕ → Option (Option ℕ × List ℕ)
+origin_or None bytes = Some (None, bytes)
+origin_or (Some digits) bytes = after (codes ">") (number_from 0 digits).1 >>= λ rest. Some (Some (small (number_from 0 digits).0), rest)
+
+-- What stands behind the section of a part.
+unfoldable pub data_at : List ℕ → Option ((Option ℕ × List ℕ) × List ℕ)
+data_at bytes = do
+  beyond ← after (codes "]") bytes
+  origin ← origin_or (after (codes "<") beyond) beyond
+  between ← after (codes " ") origin.1
+  octets ← literal_at between
+  Some ((origin.0, octets.0), octets.1)
+
+-- A part with its octets, behind the bracket.
+unfoldable pub body_at : List ℕ → Option (SectionData × List ℕ)
+body_at bytes = do
+  section ← section_at bytes
+  found ← data_at section.1
+  Some (record { section = section.0; origin = found.0.0; octets = found.0.1 }, found.1)
+
+-- Parts with their octets, at most so many.
+abbrev pub bodies_on : Option (List ℕ) → List ℕ → (List ℕ → Option (List SectionData × List ℕ)) → Option (List SectionData × List ℕ)
+bodies_on None bytes go = Some ([], bytes)
+bodies_on (Some rest) bytes go = body_at rest >>= λ part. with_front (part.0 ∷ []) (go part.1)
+
+abbrev pub bodies_at : ℕ → Bool → List ℕ → Option (List SectionData × List ℕ)
+bodies_at zero is_first bytes = None
+bodies_at (suc fuel) is_first bytes = bodies_on (after (lead is_first (codes "BODY[")) bytes) bytes (bodies_at fuel false)
+
+-- The flags of a message, where they are told.
+abbrev pub flags_or : Bool → Option (List ℕ) → List ℕ → Option (Listed (Option FlagSet))
+flags_or is_first None bytes = Some (None, is_first, bytes)
+flags_or is_first (Some rest) bytes = flags_at rest >>= λ flags. Some (Some flags.0, false, flags.1)
+
+-- A date-time.
+unfoldable pub date_at : List ℕ → Option (List ℕ × List ℕ)
+date_at bytes = do
+  date ← counted 28 bytes
+  if is_date_time date.0 then Some date else None
+
+abbrev pub date_or : Bool → Option (List ℕ) → List ℕ → Option (Listed (Option (List ℕ)))
+date_or is_first None bytes = Some (None, is_first, bytes)
+date_or is_first (Some rest) bytes = date_at rest >>= λ date. Some (Some date.0, false, date.1)
+
+-- A mod-sequence in FETCH, where it is told.
+abbrev pub modseq_or : Bool → Option (List ℕ) → List ℕ → Option (Listed (Option ℕ))
+modseq_or is_first None bytes = Some (None, is_first, bytes)
+modseq_or is_first (Some digits) bytes = after (codes ")") (number_from 0 digits).1 >>= λ rest. Some (Some (number_from 0 digits).0, false, rest)
+
+-- What FETCH tells.
+unfoldable pub fetch_items_at : List ℕ → Option (FetchItems × List ℕ)
+fetch_items_at bytes =
+    let uid = item_at true (codes "UID ") bytes in
+    flags_or uid.1 (after (lead uid.1 (codes "FLAGS ")) uid.2) uid.2 >>= λ flags.
+    date_or flags.1 (after (lead flags.1 (codes "INTERNALDATE ")) flags.2) flags.2 >>= λ date.
+    (let size = item_at date.1 (codes "RFC822.SIZE ") date.2 in
+    modseq_or size.1 (after (lead size.1 (codes "MODSEQ (")) size.2) size.2 >>= λ modseq.
+    bodies_at (length modseq.2 + 1) modseq.1 modseq.2 >>= λ parts.
+    Some (record { uid = small_option uid.0; flags = flags.0; date = date.0; size = size.0; modseq = modseq.0; sections = parts.0 }, parts.1))
+
+-- A name in LIST.
+unfoldable pub list_at : List ℕ → Option (Answer × List ℕ)
+list_at bytes = do
+  attributes ← word_at (λ a. attributes_text a.state a.subscribed) all_attributes bytes
+  beyond ← after (codes " \"/\" ") attributes.1
+  name ← string_at beyond
+  Some (answer.List name.0 attributes.0.state attributes.0.subscribed, name.1)
+
+-- A mailbox in STATUS.
+unfoldable pub status_list_at : List ℕ → Option (StatusItems × List ℕ)
+status_list_at bytes = do
+  opened ← after (codes " (") bytes
+  followed (status_items_at opened).0 (after (codes ")") (status_items_at opened).1)
+
+unfoldable pub status_at : List ℕ → Option (Answer × List ℕ)
+status_at bytes = do
+  name ← string_at bytes
+  items ← status_list_at name.1
+  Some (answer.Status name.0 items.0, items.1)
+
+-- A search's hits, behind its tag.
+abbrev pub search_from : List ℕ → Bool → List ℕ → Option (Answer × List ℕ)
+search_from tag by_uid bytes = within (λ results. answer.Search tag by_uid results) (results_at bytes)
+
+unfoldable pub search_at : List ℕ → Option (Answer × List ℕ)
+search_at bytes =
+    if length (span (is_in Tag) bytes).0 == 0 then None
+    else
+    behind (after (codes "\") UID") (span (is_in Tag) bytes).1) (λ rest. search_from (span (is_in Tag) bytes).0 true rest)
+    (after (codes "\")") (span (is_in Tag) bytes).1 >>= λ rest. search_from (span (is_in Tag) bytes).0 false rest)
+
+-- A message in FETCH, behind its number.
+unfoldable pub fetch_at : ℕ → List ℕ → Option (Answer × List ℕ)
+fetch_at number bytes = do
+  items ← fetch_items_at bytes
+  followed (answer.Fetch number items.0) (after (codes ")") items.1)
+
+-- What an untagged OK tells, behind the OK.
+unfoldable pub tell_at : List ℕ → Option (Answer × List ℕ)
+tell_at bytes = do
+  notice ← notice_at bytes
+  followed (answer.Tell notice.0) (after (codes " ok") notice.1)
+
+-- An untagged answer that is one fixed text.
+unfoldable pub fixed_at : List ℕ → Option (Answer × List ℕ)
+fixed_at bytes =
+    behind (after (codes "CAPABILITY IMAP4rev2 IDLE CONDSTORE") bytes) (λ rest. Some (answer.Capability, rest))
+    (behind (after (codes "NAMESPACE ((\"\" \"/\")) NIL NIL") bytes) (λ rest. Some (answer.Namespace, rest))
+    (behind (after (codes "BAD no tag") bytes) (λ rest. Some (answer.NoTag, rest))
+    (followed answer.LiteralTooLong (after (codes "NO [LIMIT] literal too long") bytes))))
+
+-- An untagged answer that begins with a word.
+unfoldable pub worded_at : List ℕ → Option (Answer × List ℕ)
+worded_at bytes =
+    behind (after (codes "OK ") bytes) (λ rest. tell_at rest)
+    (behind (after (codes "FLAGS ") bytes) (λ rest. within (λ flags. answer.Flags flags) (flags_at rest))
+    (behind (after (codes "LIST ") bytes) (λ rest. list_at rest)
+    (behind (after (codes "STATUS ") bytes) (λ rest. status_at rest)
+    (behind (after (codes "ESEARCH (TAG \"") bytes) (λ rest. search_at rest)
+    (fixed_at bytes)))))
+
+-- An untagged answer, behind the star.
+abbrev pub numbered_at : ℕ → List ℕ → List ℕ → Option (Answer × List ℕ)
+numbered_at number rest bytes =
+    behind (after (codes " EXISTS") rest) (λ closed. Some (answer.Exists (small number), closed))
+    (behind (after (codes " EXPUNGE") rest) (λ closed. Some (answer.Expunge (small number), closed))
+    (behind (after (codes " FETCH (") rest) (λ items. fetch_at (small number) items) (worded_at bytes)))
+
+unfoldable pub untagged_at : List ℕ → Option (Answer × List ℕ)
+untagged_at bytes = numbered_at (number_from 0 bytes).0 (number_from 0 bytes).1 bytes
+
+-- An answer without a tag.
+unfoldable pub star_at : List ℕ → Option (Answer × List ℕ)
+star_at bytes =
+    or_else (within (λ login. answer.Greeting login) (word_at greeting_text logins bytes))
+    (or_else (within (λ awaited. answer.Continue awaited) (word_at continuation_text continuations bytes))
+    (or_else (within (λ extensions. answer.Enabled extensions) (word_at enabled_text enabled_words bytes))
+    (or_else (within (λ reason. answer.Bye reason) (word_at bye_text bye_reasons bytes))
+    (after (codes "* ") bytes >>= untagged_at))))
+
+-- The command that is done.
+unfoldable pub done_at : List ℕ → Option (CommandWord × List ℕ)
+done_at bytes = do
+  command ← word_at command_text commands bytes
+  followed command.0 (after (codes " completed") command.1)
+
+-- The same with the tag.
+abbrev pub tagged_done_at : List ℕ → List ℕ → Option ((List ℕ × CommandWord) × List ℕ)
+tagged_done_at tag bytes = done_at bytes >>= λ command. Some ((tag, command.0), command.1)
+
+-- The tagged line of a command that is done, behind the OK.
+unfoldable pub completed_at : List ℕ → List ℕ → Option (Answer × List ℕ)
+completed_at tag bytes = do
+  code ← code_before_at bytes
+  command ← done_at code.1
+  Some (answer.Completed tag code.0 command.0, command.1)
+
+-- A tagged line, behind its tag.
+unfoldable pub tagged_at : List ℕ → List ℕ → Option (Answer × List ℕ)
+tagged_at tag bytes = do
+  rest ← after (codes " ") bytes
+  behind (after (codes "OK ") rest) (λ more. completed_at tag more) (within (λ reason. answer.Refused tag reason) (word_at refusal_text refusals rest))
+
+-- An answer without its line end.
+unfoldable pub answer_at : List ℕ → Option (Answer × List ℕ)
+answer_at bytes =
+    if length (span (is_in Tag) bytes).0 == 0 then star_at bytes
+    else tagged_at (span (is_in Tag) bytes).0 (span (is_in Tag) bytes).1
+
+-- An answer with its line end.
+unfoldable pub line_at : List ℕ → Option (Answer × List ℕ)
+line_at bytes = do
+  found ← answer_at bytes
+  followed found.0 (after crlf found.1)

@@ -1,0 +1,32 @@
+use std::alloc::{AllocError, AllocFailed};
+
+/// Why a reader has no value.
+#[derive(Clone, Copy)]
+pub enum ReadFault {
+    /// There is no memory for it now.
+    NoMemory,
+    /// No text of such a value begins the octets.
+    NotPrinted,
+}
+
+impl From<AllocError> for ReadFault {
+    ghost use Rattle.std.specs.Prelude.{◌≡◌};
+    ghost use Rattle.imap_print.specs.declared.fault.ReadFault.TheVariants.{NoMemory};
+
+    ghost from_gives = { λ _ e. e ≡ NoMemory };
+
+    fn from(_: AllocError) -> ReadFault {
+        ReadFault::NoMemory
+    }
+}
+
+impl<T: Drop> From<AllocFailed<T>> for ReadFault {
+    ghost use Rattle.std.specs.Prelude.{◌≡◌};
+    ghost use Rattle.imap_print.specs.declared.fault.ReadFault.TheVariants.{NoMemory};
+
+    ghost from_gives = { λ _ e. e ≡ NoMemory };
+
+    fn from(_: AllocFailed<T>) -> ReadFault {
+        ReadFault::NoMemory
+    }
+}

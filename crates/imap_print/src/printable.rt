@@ -1,0 +1,382 @@
+//! Whether an answer may be sent (RFC 9051, section 9). Of what the types of the program let through, tags, keywords, names, sets,
+//! numbers from 1 on and what may not be empty have to be tested; the functions without a result say what every value of a
+//! type keeps.
+
+ghost use Rattle.std.specs.Prelude.{◌≡◌, ◌↔◌, ◌+◌, ◌-◌, ◌^◌, min, not, ◌&&◌, ◌==◌, length, map, suc, sum, IsTrue};
+ghost use Rattle.std.specs.List.{list_all};
+ghost use Rattle.imap_types.specs.DateTimes.{IsDateTime};
+ghost use Rattle.imap_types.specs.Numbers.{AreRisingFrom, greatest, numbers_in};
+ghost use Rattle.imap_answers.specs.Printable.{AreFetchItems, AreFieldNames, AreFlags, AreResults, AreStatusItems, Each, IsAtom, IsCode, IsCopied, IsFolded, IsModSeq, IsNonzero, IsNotice, IsPart, IsPrintable, IsSection, IsSet, IsSmall, IsTag, IsWide, Where, tells_of_mailbox, tells_of_message};
+ghost use Rattle.imap_print.specs.Reading.{is_in};
+
+use crate::scan::Class;
+use imap_answers::{Answer, Code, FetchItems, Notice, SearchResults, SectionData, StatusItems};
+use imap_types::{DateTime, Flags, Name, NumberSet, Octets, Run, Section, Text};
+
+/// Whether an answer may be sent.
+pub fn is_printable(answer: &Answer) -> bool
+    ensures { IsTrue result ↔ IsPrintable answer.now }
+{
+    match answer {
+        Answer::Flags { flags } => are_flags(flags),
+        Answer::Exists { count } => {
+            small_fits(*count);
+            true
+        }
+        Answer::Expunge { number } => is_nonzero(*number),
+        Answer::List { name, .. } => is_folded(name),
+        Answer::Tell { notice } => is_notice(notice),
+        Answer::Status { name, items } => is_folded(name) && are_status_items(items),
+        Answer::Search { tag, results, .. } => is_tag(tag) && are_results(results),
+        Answer::Fetch { number, items } => is_nonzero(*number) && are_fetch_items(items),
+        Answer::Completed { tag, code, .. } => is_tag(tag) && is_code_if_any(code),
+        Answer::Refused { tag, .. } => is_tag(tag),
+        _ => true,
+    }
+}
+
+fn is_notice(notice: &Notice) -> bool
+    ensures { IsTrue result ↔ IsNotice notice.now }
+{
+    match notice {
+        Notice::UidValidity { value } => is_nonzero(*value),
+        Notice::UidNext { uid } => is_nonzero(*uid),
+        Notice::PermanentFlags { flags } => are_flags_if_any(flags),
+        Notice::HighestModSeq { modseq } => is_modseq(*modseq),
+        Notice::CopyUid {
+            uidvalidity,
+            source,
+            copies,
+        } => is_copied(*uidvalidity, source, copies),
+        _ => true,
+    }
+}
+
+fn is_code_if_any(code: &Option<Code>) -> bool
+    ensures { IsTrue result ↔ Where IsCode code.now }
+{
+    match code {
+        None => true,
+        Some(code) => is_code(code),
+    }
+}
+
+fn is_code(code: &Code) -> bool
+    ensures { IsTrue result ↔ IsCode code.now }
+{
+    match code {
+        Code::AppendUid { uidvalidity, uid } => is_nonzero(*uidvalidity) && is_nonzero(*uid),
+        Code::CopyUid {
+            uidvalidity,
+            source,
+            copies,
+        } => is_copied(*uidvalidity, source, copies),
+        Code::Modified { refused } => is_set(refused),
+        _ => true,
+    }
+}
+
+/// Whether a UIDVALIDITY stands before two sets of one size that aren't empty.
+fn is_copied(uidvalidity: u32, source: &NumberSet, copies: &NumberSet) -> bool
+    ensures { IsTrue result ↔ IsCopied uidvalidity source.now copies.now }
+{
+    if !is_nonzero(uidvalidity) {
+        return false;
+    }
+    if !is_set(source) {
+        return false;
+    }
+    if !is_set(copies) {
+        return false;
+    }
+    count(source) == count(copies)
+}
+
+/// How many numbers a set has.
+fn count(set: &NumberSet) -> u64
+    ensures { result ≡ length set.now }
+{
+    set_fits(set);
+    count_in(set.runs())
+}
+
+/// How many numbers runs have, or the greatest `u64` where they are more.
+fn count_in(runs: &[Run]) -> u64
+    ensures { result ≡ min (length (numbers_in runs.now)) (2 ^ 64 - 1) }
+{
+    let mut count: u64 = 0;
+    for run in runs {
+        count = count.saturating_add(size(run));
+    }
+    count
+}
+
+/// How many numbers a run has.
+fn size(run: &Run) -> u64
+    ensures { result ≡ suc (run.now.last - run.now.first) }
+{
+    u64::from(run.last.saturating_sub(run.first)) + 1
+}
+
+fn are_status_items(items: &StatusItems) -> bool
+    ensures { IsTrue result ↔ AreStatusItems items.now }
+{
+    small_fits_if_any(items.messages);
+    small_fits_if_any(items.unseen);
+    small_fits_if_any(items.deleted);
+    wide_fits_if_any(items.size);
+    if !is_nonzero_if_any(items.uidnext) {
+        return false;
+    }
+    if !is_nonzero_if_any(items.uidvalidity) {
+        return false;
+    }
+    if !is_modseq_if_any(items.highest_modseq) {
+        return false;
+    }
+    tells_of_mailbox(items)
+}
+
+fn tells_of_mailbox(items: &StatusItems) -> bool
+    ensures { result ≡ tells_of_mailbox items.now }
+{
+    items.messages.is_some()
+        || items.uidnext.is_some()
+        || items.uidvalidity.is_some()
+        || items.unseen.is_some()
+        || items.deleted.is_some()
+        || items.size.is_some()
+        || items.highest_modseq.is_some()
+}
+
+fn are_results(results: &SearchResults) -> bool
+    ensures { IsTrue result ↔ AreResults results.now }
+{
+    set_fits(&results.all);
+    small_fits_if_any(results.count);
+    if !is_nonzero_if_any(results.min) {
+        return false;
+    }
+    if !is_nonzero_if_any(results.max) {
+        return false;
+    }
+    is_modseq_if_any(results.modseq)
+}
+
+fn are_fetch_items(items: &FetchItems) -> bool
+    ensures { IsTrue result ↔ AreFetchItems items.now }
+{
+    date_fits(&items.date);
+    wide_fits_if_any(items.size);
+    if !is_nonzero_if_any(items.uid) {
+        return false;
+    }
+    if !is_modseq_if_any(items.modseq) {
+        return false;
+    }
+    if !are_flags_if_any(&items.flags) {
+        return false;
+    }
+    if !are_parts(items.sections.parts()) {
+        return false;
+    }
+    tells_of_message(items)
+}
+
+fn tells_of_message(items: &FetchItems) -> bool
+    ensures { result ≡ tells_of_message items.now }
+{
+    items.uid.is_some()
+        || items.flags.is_some()
+        || items.date.is_some()
+        || items.size.is_some()
+        || items.modseq.is_some()
+        || !items.sections.parts().is_empty()
+}
+
+fn are_flags_if_any(flags: &Option<Flags>) -> bool
+    ensures { IsTrue result ↔ Where AreFlags flags.now }
+{
+    match flags {
+        None => true,
+        Some(flags) => are_flags(flags),
+    }
+}
+
+fn are_flags(flags: &Flags) -> bool
+    ensures { IsTrue result ↔ AreFlags flags.now }
+{
+    are_atoms(flags.keywords.as_slice())
+}
+
+fn are_atoms(words: &[Octets]) -> bool
+    ensures { IsTrue result ↔ Each IsAtom words.now }
+{
+    for word in words {
+        if !is_atom(word) {
+            return false;
+        }
+    }
+    true
+}
+
+fn is_atom(word: &Octets) -> bool
+    ensures { IsTrue result ↔ IsAtom word.now }
+{
+    is_word(Class::Atom, word.as_bytes())
+}
+
+fn is_tag(tag: &Octets) -> bool
+    ensures { IsTrue result ↔ IsTag tag.now }
+{
+    is_word(Class::Tag, tag.as_bytes())
+}
+
+/// Whether there are octets, all of a class.
+fn is_word(class: Class, word: &[u8]) -> bool
+    ensures { result ≡ (not (length word.now == 0) && list_all (is_in class) word.now) }
+{
+    !word.is_empty() && are_in(class, word)
+}
+
+fn are_in(class: Class, octets: &[u8]) -> bool
+    ensures { result ≡ list_all (is_in class) octets.now }
+{
+    for octet in octets {
+        if !class.has(*octet) {
+            return false;
+        }
+    }
+    true
+}
+
+/// INBOX in capitals, or a name that isn't INBOX in any case.
+fn is_folded(name: &Name) -> bool
+    ensures { IsTrue result ↔ IsFolded name.now }
+{
+    !name.is_inbox() || name.as_bytes() == b"INBOX".as_slice()
+}
+
+fn is_set(set: &NumberSet) -> bool
+    ensures { IsTrue result ↔ IsSet set.now }
+{
+    set_fits(set);
+    !set.is_empty()
+}
+
+/// A set rises, and its numbers have 32 bits.
+fn set_fits(set: &NumberSet)
+    ensures rising { AreRisingFrom 1 set.now }
+    ensures small { IsSmall (greatest set.now) }
+{
+    let _runs = set.runs();
+    let _greatest = set.greatest();
+}
+
+fn date_fits(date: &Option<DateTime>)
+    ensures { Where IsDateTime date.now }
+{
+    if let Some(date) = date {
+        let _octets = date.as_bytes();
+    }
+}
+
+fn are_parts(parts: &[SectionData]) -> bool
+    ensures { IsTrue result ↔ Each IsPart parts.now }
+{
+    for part in parts {
+        if !is_part(part) {
+            return false;
+        }
+    }
+    true
+}
+
+fn is_part(part: &SectionData) -> bool
+    ensures { IsTrue result ↔ IsPart part.now }
+{
+    small_fits_if_any(part.origin);
+    text_fits(&part.octets);
+    is_section(&part.section)
+}
+
+fn is_section(section: &Section) -> bool
+    ensures { IsTrue result ↔ IsSection section.now }
+{
+    match section {
+        Section::Fields { names } => are_field_names(names.names()),
+        Section::FieldsNot { names } => are_field_names(names.names()),
+        _ => true,
+    }
+}
+
+fn are_field_names(names: &[Octets]) -> bool
+    ensures { IsTrue result ↔ AreFieldNames names.now }
+{
+    names_fit(names);
+    !names.is_empty()
+}
+
+fn names_fit(names: &[Octets])
+    ensures { Each (λ name. IsWide (length name)) names.now }
+{
+    for name in names {
+        octets_fit(name);
+    }
+}
+
+fn octets_fit(octets: &Octets)
+    ensures { IsWide (length octets.now) }
+{
+    let _count = octets.as_bytes().len();
+}
+
+fn text_fits(text: &Text)
+    ensures { IsWide (length text.now) }
+{
+    let _count = text.as_bytes().len();
+}
+
+/// From 1 on.
+fn is_nonzero(number: u32) -> bool
+    ensures { IsTrue result ↔ IsNonzero number }
+{
+    number != 0
+}
+
+fn is_nonzero_if_any(number: Option<u32>) -> bool
+    ensures { IsTrue result ↔ Where IsNonzero number }
+{
+    match number {
+        None => true,
+        Some(number) => is_nonzero(number),
+    }
+}
+
+/// From 1 on.
+fn is_modseq(modseq: u64) -> bool
+    ensures { IsTrue result ↔ IsModSeq modseq }
+{
+    modseq != 0
+}
+
+fn is_modseq_if_any(modseq: Option<u64>) -> bool
+    ensures { IsTrue result ↔ Where IsModSeq modseq }
+{
+    match modseq {
+        None => true,
+        Some(modseq) => is_modseq(modseq),
+    }
+}
+
+fn small_fits(number: u32)
+    ensures { IsSmall number }
+{}
+
+fn small_fits_if_any(number: Option<u32>)
+    ensures { Where IsSmall number }
+{}
+
+fn wide_fits_if_any(number: Option<u64>)
+    ensures { Where IsWide number }
+{}

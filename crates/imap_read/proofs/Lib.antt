@@ -1,6 +1,0 @@
-pub mod ReadingLemmas
-pub mod CountLemmas
-pub mod Again
-pub mod AgainLists
-pub mod AgainItems
-pub mod AgainAnswers

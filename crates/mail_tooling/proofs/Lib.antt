@@ -1,0 +1,10 @@
+mod DumpLineLemmas
+mod ExchangeLemmas
+mod FitLemmas
+mod JoinLemmas
+mod LineLemmas
+mod PartLemmas
+mod RightLemmas
+mod StageLemmas
+mod TalkingLemmas
+mod WholeLemmas

@@ -1,0 +1,215 @@
+//! Replays from readers and to writers that fail, and what is said of how a replay ended.
+
+use mail_tooling::{MAX_READS, ReplayEnd, replay, tell};
+use std::alloc::Global;
+use std::io;
+use std::io::{ErrorKind, Read, Write};
+
+const FIRST_RUN: &str = r#"node 1
+open 1 x
+line x a1 CREATE work
+line x a2 LIST "" *
+show 1
+"#;
+
+const FIRST_RUN_PRINTS: &str = r#"x S: * PREAUTH [CAPABILITY IMAP4rev2 IDLE CONDSTORE] ready
+x C: a1 CREATE work
+x S: a1 OK CREATE completed
+x C: a2 LIST "" *
+x S: * LIST () "/" INBOX
+x S: * LIST () "/" work
+x S: a2 OK LIST completed
+dump 1
+op 1:1 - create work
+folder INBOX -
+folder work 1:1
+end
+"#;
+
+/// Gives one octet a read, and an error of this kind in place of one.
+#[derive(Drop)]
+struct Drips {
+    octets: &'static [u8],
+    before: usize,
+    fault: Option<ErrorKind>,
+}
+
+impl Read for Drips {
+    fn read(&mut self, buf: &mut [u8]) -> io::Result<usize> {
+        if self.before == 0 {
+            if let Some(kind) = self.fault.take() {
+                return Err(kind.into());
+            }
+        }
+        self.before = self.before.saturating_sub(1);
+        if self.octets.is_empty() || buf.is_empty() {
+            return Ok(0);
+        }
+        buf[0] = self.octets[0];
+        self.octets = &self.octets[1..];
+        Ok(1)
+    }
+}
+
+/// Gives empty lines without end, and counts its reads.
+#[derive(Drop)]
+struct Endless {
+    reads: u64,
+}
+
+impl Read for Endless {
+    fn read(&mut self, buf: &mut [u8]) -> io::Result<usize> {
+        self.reads = self.reads.saturating_add(1);
+        if buf.is_empty() {
+            return Ok(0);
+        }
+        buf[0] = b'\n';
+        Ok(1)
+    }
+}
+
+/// Takes one octet a write and so many in all, and may fail to flush.
+#[derive(Drop)]
+struct Narrow {
+    taken: Vec<u8>,
+    room: usize,
+    flushes: bool,
+}
+
+impl Write for Narrow {
+    fn write(&mut self, buf: &[u8]) -> io::Result<usize> {
+        if self.room == 0 {
+            return Err(ErrorKind::Other.into());
+        }
+        if buf.is_empty() {
+            return Ok(0);
+        }
+        self.taken.push(buf[0])?;
+        self.room -= 1;
+        Ok(1)
+    }
+
+    fn flush(&mut self) -> io::Result<()> {
+        if self.flushes {
+            Ok(())
+        } else {
+            Err(ErrorKind::Other.into())
+        }
+    }
+}
+
+/// A reader that fails behind so many octets of the first run, and how many lines are then printed.
+#[derive(Clone, Copy)]
+struct Failing {
+    before: usize,
+    fault: ErrorKind,
+    end: ReplayEnd,
+    lines: usize,
+}
+
+const fn row(before: usize, fault: ErrorKind, end: ReplayEnd, lines: usize) -> Failing {
+    Failing {
+        before,
+        fault,
+        end,
+        lines,
+    }
+}
+
+fn first_wrong_reader(alloc: Global) -> Option<usize> {
+    let readers = [
+        row(0, ErrorKind::Other, ReplayEnd::ReadFailed, 0),
+        row(7, ErrorKind::Other, ReplayEnd::ReadFailed, 0),
+        row(15, ErrorKind::Other, ReplayEnd::ReadFailed, 0),
+        row(16, ErrorKind::Other, ReplayEnd::ReadFailed, 1),
+        row(38, ErrorKind::Other, ReplayEnd::ReadFailed, 3),
+        row(45, ErrorKind::OutOfMemory, ReplayEnd::ReadFailed, 3),
+        row(65, ErrorKind::Other, ReplayEnd::ReadFailed, 12),
+        row(38, ErrorKind::Interrupted, ReplayEnd::Done, 12),
+    ];
+    readers.iter().position(|reader| !is_told(alloc, *reader))
+}
+
+fn is_told(alloc: Global, failing: Failing) -> bool {
+    let mut reader = Drips {
+        octets: FIRST_RUN.as_bytes(),
+        before: failing.before,
+        fault: Some(failing.fault),
+    };
+    let mut printed = Vec::new(alloc);
+    let end = replay(alloc, &mut reader, &mut printed);
+    let lines = printed.iter().filter(|octet| **octet == b'\n').count();
+    end == failing.end
+        && lines == failing.lines
+        && FIRST_RUN_PRINTS.as_bytes().starts_with(&printed)
+}
+
+#[test]
+fn tells_of_readers_that_fail(rt: HostRuntime) {
+    assert_eq!(rt; first_wrong_reader(rt.alloc()), None);
+}
+
+fn ends_at_the_limit(alloc: Global) -> bool {
+    let mut reader = Endless { reads: 0 };
+    let mut printed: Vec<u8> = Vec::new(alloc);
+    let end = replay(alloc, &mut reader, &mut printed);
+    end == ReplayEnd::ReadFailed && reader.reads == MAX_READS && printed.is_empty()
+}
+
+#[test]
+fn reads_no_more_than_its_limit(rt: HostRuntime) {
+    assert!(rt; ends_at_the_limit(rt.alloc()) && MAX_READS == 16_777_216);
+}
+
+/// How the first run ends at a writer, whether what it took is a beginning of what the run prints, and how long that is.
+fn written(alloc: Global, room: usize, flushes: bool) -> (ReplayEnd, bool, usize) {
+    let mut reader = FIRST_RUN.as_bytes();
+    let mut writer = Narrow {
+        taken: Vec::new(alloc),
+        room,
+        flushes,
+    };
+    let end = replay(alloc, &mut reader, &mut writer);
+    let begins = FIRST_RUN_PRINTS.as_bytes().starts_with(&writer.taken);
+    (end, begins, writer.taken.len())
+}
+
+/// The first number of octets for which the first run ends otherwise than it should at a writer that takes no more.
+fn first_wrong_room(alloc: Global) -> Option<usize> {
+    (0..FIRST_RUN_PRINTS.len()).find(|room| written(alloc, *room, true)
+        != (ReplayEnd::WriteFailed, true, *room))
+}
+
+#[test]
+fn tells_of_writers_that_fail(rt: HostRuntime) {
+    assert_eq!(rt; first_wrong_room(rt.alloc()), None);
+    let whole = FIRST_RUN_PRINTS.len();
+    assert_eq!(rt;
+        written(rt.alloc(), whole, true),
+        (ReplayEnd::Done, true, whole)
+    );
+    assert_eq!(rt; written(rt.alloc(), 1_000, false).0, ReplayEnd::WriteFailed);
+}
+
+fn tells(alloc: Global, end: ReplayEnd, line: &str, status: u8) -> bool {
+    let mut printed = Vec::new(alloc);
+    tell(alloc, end, &mut printed) == status && printed.as_slice() == line.as_bytes()
+}
+
+fn tells_each_end(alloc: Global) -> bool {
+    tells(alloc, ReplayEnd::Done, "", 0)
+        && tells(
+            alloc,
+            ReplayEnd::BadScript { line: 2 },
+            "bad script: line 2\n",
+            3,
+        )
+        && tells(alloc, ReplayEnd::ReadFailed, "cannot read\n", 3)
+        && tells(alloc, ReplayEnd::WriteFailed, "", 3)
+        && tells(alloc, ReplayEnd::NoMemory, "no memory\n", 3)
+}
+
+#[test]
+fn tells_the_end(rt: HostRuntime) {
+    assert!(rt; tells_each_end(rt.alloc()));
+}
