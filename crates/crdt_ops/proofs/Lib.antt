@@ -10,3 +10,4 @@ pub mod FlagLemmas
 pub mod ReadLemmas
 pub mod MeaningLemmas
 pub mod VersionLemmas
+pub mod DumpLineLemmas

@@ -1,8 +1,9 @@
 //! The operations that replicas exchange (Jungnickel, Oldenburg, Loibl, OPODIS 2017): their kinds, which of them are
-//! sound, their text, and what a set of them means.
+//! sound, their text, what a set of them means, and the lines of a dump that tell this.
 #![tactic(auto)]
 
 mod copies;
+mod dump_lines;
 mod fault;
 mod fields;
 mod flags;
@@ -18,6 +19,7 @@ mod verb;
 mod write;
 
 pub use copies::copied_ops;
+pub use dump_lines::{push_messages, push_named_line};
 pub use fault::OpFault;
 pub use ids::Ids;
 pub use kind::{Kind, MAX_OLD_IDS};

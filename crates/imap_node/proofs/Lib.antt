@@ -1,6 +1,7 @@
 pub mod NextLemmas
 pub mod CanLemmas
 pub mod PlanLemmas
+pub mod PrepareLemmas
 pub mod TellLemmas
 pub mod ShownLemmas
 pub mod ThereLemmas

@@ -12,7 +12,7 @@ use Rattle.merge_laws.proofs.Lists.{id_of_element, in_back, in_front, in_parts}
 use Rattle.merge_laws.proofs.Causal.{IsCausalAfter, causal_after, is_new}
 use Rattle.tags_clocks.specs.declared.id.OpId.{OpId}
 use Rattle.tags_clocks.specs.Clock.{IsAscendingFrom, IsClock, count_of}
-use Rattle.dump_lines.specs.DumpLines.{op_line, state_text}
+use Rattle.crdt_ops.specs.DumpLines.{op_line, state_text}
 use Rattle.imap_talk.specs.Dumps.{IsDump, op_lines_by, own_line}
 
 abbrev id_of : Op → OpId

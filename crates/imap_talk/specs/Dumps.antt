@@ -3,7 +3,7 @@ use Rattle.std.specs.Fmt.{decimal}
 use Rattle.std.specs.List.{flat_map}
 use Rattle.causal_inbox.specs.Seen.{AreAscending}
 use Rattle.crdt_ops.specs.declared.op.Op.{Op}
-use Rattle.dump_lines.specs.DumpLines.{op_line, state_text}
+use Rattle.crdt_ops.specs.DumpLines.{op_line, state_text}
 use Rattle.merge_laws.specs.Orders.{HaveSameElements}
 use Rattle.crdt_ops.specs.Ops.{id_of}
 

@@ -4,11 +4,10 @@ ghost use Rattle.std.specs.Prelude.{◌≡◌, ◌++◌, ◌∷◌, [], ℕ, Lis
 ghost use Rattle.std.specs.Fmt.{decimal};
 ghost use Rattle.std.specs.List.{flat_map};
 ghost use Rattle.crdt_ops.specs.Sets.{folders_of, subscribed_of};
-ghost use Rattle.dump_lines.specs.DumpLines.{folder_line, folder_lines, op_line, state_text, subscription_line};
+ghost use Rattle.crdt_ops.specs.DumpLines.{folder_line, folder_lines, op_line, state_text, subscription_line};
 ghost use Rattle.imap_talk.specs.Dumps.{IsDump, op_lines_by, own_line};
 
-use crdt_ops::{SoundOp, write_op};
-use dump_lines::{push_messages, push_named_line};
+use crdt_ops::{SoundOp, push_messages, push_named_line, write_op};
 use imap_node::{Node, Replica};
 use imap_types::Name;
 use itoa::Buffer;

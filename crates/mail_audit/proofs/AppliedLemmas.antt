@@ -18,7 +18,7 @@ use Rattle.subs_state.specs.Subscriptions.{Subscriptions, IsMadeBy as AreMadeBy,
 use Rattle.tags_clocks.specs.Clock.{IsCause}
 use Rattle.tags_clocks.specs.declared.id.OpId.{OpId}
 use Rattle.mail_audit.specs.DumpLines.{HoldsOnly, IsExpected, IsExpectedOf, StandsBehind}
-use Rattle.dump_lines.specs.DumpLines.{message_line, state_text}
+use Rattle.crdt_ops.specs.DumpLines.{message_line, state_text}
 use Rattle.mail_audit.specs.Dumps.{AreOrdered, HasCauses}
 use Rattle.mail_audit.specs.declared.applying.Expected.{Expected}
 use Rattle.mail_audit.specs.declared.applying.Expected.TheVariants.{Lines, Stuck}

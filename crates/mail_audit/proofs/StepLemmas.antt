@@ -13,7 +13,7 @@ use Rattle.text_fields.proofs.FieldLemmas.{cut_takes}
 use Rattle.text_fields.specs.Reading.{cut_at}
 use Rattle.mail_audit.specs.Audits.{IsNoEnd, ended_line, text_of}
 use Rattle.mail_audit.specs.DumpLines.{IsClosed, IsCompared, IsEarly, IsExpected, IsLonger, IsStep, IsStepBehind, OpsStand, PhaseStands, Takes}
-use Rattle.dump_lines.specs.DumpLines.{op_line}
+use Rattle.crdt_ops.specs.DumpLines.{op_line}
 use Rattle.mail_audit.specs.Dumps.{AreOrdered, inside_text}
 use Rattle.mail_audit.specs.declared.applying.Expected.{Expected}
 use Rattle.mail_audit.specs.declared.applying.Expected.TheVariants.{Lines, Stuck}

@@ -10,7 +10,7 @@ use Rattle.crdt_ops.specs.Sound.{IsSound}
 use Rattle.crdt_ops.specs.declared.op.Op.{Op}
 use Rattle.merge_laws.specs.Orders.{AreSound, IsCausal, IsIn}
 use Rattle.mail_audit.specs.Audits.{IsNoEnd, text_of}
-use Rattle.dump_lines.specs.DumpLines.{op_line, state_text}
+use Rattle.crdt_ops.specs.DumpLines.{op_line, state_text}
 use Rattle.mail_audit.specs.Dumps.{AreDumped, AreOrdered, HasCauses, inside_text}
 use Rattle.mail_audit.specs.declared.applying.Expected.{Expected}
 use Rattle.mail_audit.specs.declared.applying.Expected.TheVariants.{Lines, Stuck}

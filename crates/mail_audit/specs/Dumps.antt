@@ -8,7 +8,7 @@ use Rattle.crdt_ops.specs.declared.op.Op.{Op}
 use Rattle.crdt_ops.specs.Form.{IsInForm, IsReplica}
 use Rattle.crdt_ops.specs.Order.{IsAscending, id_order}
 use Rattle.crdt_ops.specs.Sound.{IsSound}
-use Rattle.dump_lines.specs.DumpLines.{op_line, state_text}
+use Rattle.crdt_ops.specs.DumpLines.{op_line, state_text}
 use Rattle.crdt_ops.specs.Ops.{id_of}
 
 -- The first line of a replica's dump.

@@ -9,9 +9,9 @@ ghost use Rattle.folder_state.specs.Contents.{IsMadeBy};
 ghost use Rattle.folder_state.specs.Tables.{contents_of};
 ghost use Rattle.subs_state.specs.Subscriptions.{IsMadeBy as AreMadeBy};
 ghost use Rattle.subs_state.specs.Table.{subscriptions_of};
-ghost use Rattle.dump_lines.specs.DumpLines.{folder_line, folder_lines, state_text, subscription_line};
+ghost use Rattle.crdt_ops.specs.DumpLines.{folder_line, folder_lines, state_text, subscription_line};
 
-use dump_lines::{push_messages, push_named_line};
+use crdt_ops::{push_messages, push_named_line};
 use folder_state::Folders;
 use imap_types::Name;
 use std::alloc::{AllocError, Global};

@@ -21,7 +21,7 @@ use Rattle.crdt_ops.specs.Text.{ids_text, name_text}
 use Rattle.crdt_ops.proofs.MeaningLemmas.{one_set_means_one}
 use Rattle.mail_script.specs.Lines.{lines_of}
 use Rattle.mail_audit.specs.Audits.{IsRight, IsRightPart, Part, Spoken, Result, Dumped, ended_line, part_text, said_by, said_in, text_of}
-use Rattle.dump_lines.specs.DumpLines.{message_line, op_line, state_text}
+use Rattle.crdt_ops.specs.DumpLines.{message_line, op_line, state_text}
 use Rattle.mail_audit.specs.Dumps.{AreOrdered, HasCauses, IsRightDump}
 use Rattle.mail_audit.specs.Transcripts.{IsExplainedTranscript}
 use Rattle.imap_talk.specs.Dumps.{IsDump}

@@ -1,6 +1,8 @@
 use Rattle.std.proofs.Common.{List, ◌++◌, sym, subst, ◌∙◌}
 use Rattle.crdt_ops.specs.declared.op.Op.{Op}
 use Rattle.imap_node.specs.Feeds.{IsNews}
+use Rattle.imap_node.specs.Going.{CanGo}
+use Rattle.imap_node.specs.Plans.{IsAnswered}
 use Rattle.imap_node.proofs.planning.finished.Goals as goal
 
 pub answers_to-requires-clause-news : goal.answers_to-requires-clause-news
@@ -17,11 +19,19 @@ returns-clause-news c =
     subst (λ (ops : List Op). IsNews start before (before ++ ops) c.in_ok-news.news) (c.as_slice-2.ensures ∙ c.new-ops.ensures)
     (c.in_ok-news.ensures {u = tt})
 
-pub returns-clause-answered : goal.returns-clause-answered
-returns-clause-answered c = ?
-
 pub answers_to-requires-clause-noted : goal.answers_to-requires-clause-noted
-answers_to-requires-clause-noted c = ?
+answers_to-requires-clause-noted c = c.requires.noted
+
+pub returns-clause-answered : goal.returns-clause-answered
+returns-clause-answered c =
+    let start = c.args.replica.now.start in
+    let before = c.args.replica.now.applied in
+    subst (λ (ops : List Op). IsAnswered start before (before ++ ops) c.args.session.now c.args.input.now c.in_ok-answered.answered) (c.as_slice-3.ensures ∙ c.new-ops.ensures)
+    (c.in_ok-answered.ensures {u = tt}).answered
 
 pub returns-clause-can : goal.returns-clause-can
-returns-clause-can c = ?
+returns-clause-can c =
+    let start = c.args.replica.now.start in
+    let before = c.args.replica.now.applied in
+    subst (λ (ops : List Op). CanGo start (before ++ ops) c.args.session.now.state c.in_ok-answered.answered.going.onward) (c.as_slice-3.ensures ∙ c.new-ops.ensures)
+    (c.in_ok-answered.ensures {u = tt}).can

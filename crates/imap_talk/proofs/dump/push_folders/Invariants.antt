@@ -1,6 +1,6 @@
 use Rattle.std.proofs.Common.{◌≡◌, ◌++◌, take}
 use Rattle.std.specs.List.{flat_map}
-use Rattle.dump_lines.specs.DumpLines.{folder_lines}
+use Rattle.crdt_ops.specs.DumpLines.{folder_lines}
 use Rattle.imap_talk.proofs.dump.push_folders.Given as goal
 
 abbrev pub invariant-loop-folder : goal.invariant-loop-folder

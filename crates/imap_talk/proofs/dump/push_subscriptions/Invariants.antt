@@ -1,6 +1,6 @@
 use Rattle.std.proofs.Common.{◌≡◌, ◌++◌, take}
 use Rattle.std.specs.List.{flat_map}
-use Rattle.dump_lines.specs.DumpLines.{subscription_line}
+use Rattle.crdt_ops.specs.DumpLines.{subscription_line}
 use Rattle.imap_talk.proofs.dump.push_subscriptions.Given as goal
 
 abbrev pub invariant-loop-name : goal.invariant-loop-name

@@ -3,7 +3,7 @@ use Rattle.std.specs.List.{flat_map}
 use Rattle.crdt_ops.specs.declared.op.Op.{Op}
 use Rattle.folder_state.specs.Contents.{IsMadeBy}
 use Rattle.folder_state.specs.Tables.{contents_of}
-use Rattle.dump_lines.specs.DumpLines.{folder_lines}
+use Rattle.crdt_ops.specs.DumpLines.{folder_lines}
 use Rattle.mail_audit.proofs.state.push_folders.Given as goal
 
 abbrev pub invariant-loop-name : goal.invariant-loop-name

@@ -1,6 +1,6 @@
 use Rattle.std.proofs.Common.{codes}
 use Rattle.crdt_ops.specs.Sets.{subscription_tags_of}
-use Rattle.dump_lines.proofs.LineLemmas.{same_ids}
+use Rattle.crdt_ops.proofs.DumpLineLemmas.{same_ids}
 use Rattle.mail_audit.proofs.state.push_subscription.Goals as goal
 
 pub returns : goal.returns

@@ -1,7 +1,7 @@
 use Rattle.std.proofs.Common.{◌≡◌, ◌+◌, ◌<◌, [], ◌∷◌, ◌++◌, length, take, ap, sym, ◌∙◌, arith}
 use Rattle.std.proofs.lemmas.List.{flat_map_more, take_more}
 use Rattle.std.specs.List.{flat_map}
-use Rattle.dump_lines.specs.DumpLines.{subscription_line}
+use Rattle.crdt_ops.specs.DumpLines.{subscription_line}
 use Rattle.mail_audit.proofs.state.push_subscriptions.Goals as goal
 
 pub loop-name-preserved : goal.loop-name-preserved

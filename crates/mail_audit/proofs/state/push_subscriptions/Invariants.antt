@@ -3,7 +3,7 @@ use Rattle.std.specs.List.{flat_map}
 use Rattle.crdt_ops.specs.declared.op.Op.{Op}
 use Rattle.subs_state.specs.Subscriptions.{IsMadeBy}
 use Rattle.subs_state.specs.Table.{subscriptions_of}
-use Rattle.dump_lines.specs.DumpLines.{subscription_line}
+use Rattle.crdt_ops.specs.DumpLines.{subscription_line}
 use Rattle.mail_audit.proofs.state.push_subscriptions.Given as goal
 
 abbrev pub invariant-loop-name : goal.invariant-loop-name

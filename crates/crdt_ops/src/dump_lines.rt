@@ -3,9 +3,11 @@
 ghost use Rattle.std.specs.Prelude.{◌≡◌, ◌++◌, ◌∷◌, [], OnOk};
 ghost use Rattle.std.specs.List.{flat_map};
 ghost use Rattle.crdt_ops.specs.Text.{letter_text};
-ghost use Rattle.dump_lines.specs.DumpLines.{body_text, dated_text, message_line, named_line};
+ghost use Rattle.crdt_ops.specs.DumpLines.{body_text, dated_text, message_line, named_line};
 
-use crdt_ops::{Ids, Message, write_flags, write_id, write_ids};
+use crate::ids::Ids;
+use crate::message::Message;
+use crate::write::{write_flags, write_id, write_ids};
 use imap_types::{Escape, Name, Text, write_escaped};
 use std::alloc::{AllocError, Global};
 
