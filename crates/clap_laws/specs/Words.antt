@@ -1,8 +1,13 @@
-use Rattle.std.specs.Prelude.{◌≡◌, false}
-use Rattle.clap.specs.Words.{Rule, rule_of}
+use Rattle.std.specs.Prelude.{◌≡◌, false, List}
+use Rattle.clap.specs.Words.{AddsArg, AddsInTurn, App, Rule, app_of, rule_of}
 use Rattle.clap.specs.declared.builder.arg.Arg.{Arg}
+use Rattle.clap.specs.declared.builder.command.Command.{Command}
 
 -- An argument with this rule, which isn't global.
 pub record IsWord (argument : Arg) (word : Rule) : Type 0 where
   pub rule : rule_of argument ≡ word
   pub own : argument.global ≡ false
+
+-- Whoever adds these arguments in turn adds the words that this function does.
+abbrev pub Add : List Arg → (App → App) → Type 0
+Add arguments more = (old new : Command) → AddsInTurn AddsArg old arguments new → app_of new ≡ more (app_of old)

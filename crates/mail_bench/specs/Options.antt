@@ -2,9 +2,7 @@ use Rattle.std.specs.Prelude.{◌≡◌, ◌≤◌, ◌<◌, ℕ, true, List, No
 use Rattle.std.specs.Borrow.{Bor}
 use Rattle.std.specs.List.{All}
 use Rattle.std.specs.Option.{option_map}
-use Rattle.clap.specs.Words.{AddsArg, AddsInTurn, App, Row, Rule, app_of, first_of, new_app, new_rule, one_of, with_rule}
-use Rattle.clap.specs.declared.builder.arg.Arg.{Arg}
-use Rattle.clap.specs.declared.builder.command.Command.{Command}
+use Rattle.clap.specs.Words.{App, Row, Rule, first_of, new_app, new_rule, one_of, with_rule}
 use Rattle.clap.specs.declared.builder.action.ArgAction.TheVariants.{Set}
 use Rattle.clap.specs.declared.builder.value_parser.ValueParser.TheVariants.{Unsigned}
 use Rattle.mail_bench.specs.Workloads.{word_of}
@@ -33,10 +31,6 @@ abbrev pub with_amounts : App → App
 with_amounts app =
     with_rule (with_rule (with_rule (with_rule app (counted_word (codes "messages") 1000000)) (counted_word (codes "connections") 1000)) (counted_word (codes "seconds") 3600))
     (named_word (codes "mailbox"))
-
--- Whoever adds these arguments in turn adds the words that this function does.
-abbrev pub Add : List Arg → (App → App) → Type 0
-Add arguments more = (old new : Command) → AddsInTurn AddsArg old arguments new → app_of new ≡ more (app_of old)
 
 -- All.
 abbrev pub bench_words : App

@@ -3,8 +3,8 @@
 ghost use Rattle.std.specs.Prelude.{◌≡◌, ◌≤◌, ◌<◌, IfOk, map, true};
 ghost use Rattle.std.specs.Option.{option_map};
 ghost use Rattle.clap.specs.Words.{app_of, first_of, found_of, matches_of, rows_of};
-ghost use Rattle.clap_laws.specs.Words.{IsWord};
-ghost use Rattle.mail_bench.specs.Options.{Add, Asks, IsAmount, IsPlainText, bench_words, counted_word, named_word, required_word, text_in, with_amounts, with_server};
+ghost use Rattle.clap_laws.specs.Words.{Add, IsWord};
+ghost use Rattle.mail_bench.specs.Options.{Asks, IsAmount, IsPlainText, bench_words, counted_word, named_word, required_word, text_in, with_amounts, with_server};
 
 use crate::workload::Workload;
 use clap::builder::ValueParser;

@@ -1,5 +1,4 @@
 pub mod NameLemmas
 pub mod PlaceLemmas
 pub mod WordLemmas
-pub mod OptionLemmas
 pub mod TextLemmas

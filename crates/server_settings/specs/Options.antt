@@ -1,4 +1,4 @@
-use Rattle.std.specs.Prelude.{◌≡◌, true, List, None, Some, codes}
+use Rattle.std.specs.Prelude.{◌≡◌, ℕ, true, List, None, Some, codes}
 use Rattle.clap.specs.Lexer.{usize_max}
 use Rattle.clap.specs.Words.{App, Row, Rule, first_of, new_app, new_rule, one_of, with_rule}
 use Rattle.clap.specs.declared.builder.action.ArgAction.TheVariants.{Append, Set, SetTrue}
@@ -11,14 +11,12 @@ use Rattle.server_settings.specs.declared.settings.Access.TheVariants.{Password,
 abbrev pub preauth_word : Rule
 preauth_word = record (new_rule (codes "preauth")) { long = Some (codes "preauth"); action = Some SetTrue }
 
-abbrev pub user_word : Rule
-user_word = record (new_rule (codes "user")) { long = Some (codes "user"); action = Some Set }
-
-abbrev pub pass_word : Rule
-pass_word = record (new_rule (codes "pass")) { long = Some (codes "pass"); action = Some Set }
+-- A word with a value.
+abbrev pub named_word : List ℕ → Rule
+named_word name = record (new_rule name) { long = Some name; action = Some Set }
 
 abbrev pub stop_word : Rule
-stop_word = record (new_rule (codes "stop-after")) { long = Some (codes "stop-after"); action = Some Set; parser = Some (Unsigned 0 4294967295) }
+stop_word = record (named_word (codes "stop-after")) { parser = Some (Unsigned 0 4294967295) }
 
 abbrev pub join_word : Rule
 join_word = record (new_rule (codes "join")) { long = Some (codes "join"); action = Some Append }
@@ -29,7 +27,7 @@ replica_word =
 
 -- Those that say which users are known.
 abbrev pub with_access_words : App → App
-with_access_words app = with_rule (with_rule (with_rule app preauth_word) user_word) pass_word
+with_access_words app = with_rule (with_rule (with_rule app preauth_word) (named_word (codes "user"))) (named_word (codes "pass"))
 
 -- Those that say which replicas there are, which join, and when the server ends.
 abbrev pub with_replica_words : App → App

@@ -2,7 +2,8 @@
 
 ghost use Rattle.std.specs.Prelude.{ℕ, ◌≡◌, ◌++◌, ◌∷◌, ◌<◌, [], false, true, IfNone, IfOk, IfSome, OnOk, Some, map, slice_get};
 ghost use Rattle.clap.specs.Words.{app_of, found_of, matches_of, rows_of};
-ghost use Rattle.server_settings.specs.Options.{NamesAccess, server_words, with_access_words, with_replica_words};
+ghost use Rattle.clap_laws.specs.Words.{Add, IsWord};
+ghost use Rattle.server_settings.specs.Options.{NamesAccess, join_word, named_word, preauth_word, replica_word, server_words, stop_word, with_access_words, with_replica_words};
 ghost use Rattle.server_settings.specs.Settings.{AreNames, HavePeers, IsJoinText, IsNameText, IsPlaceText, access_of, is_named, names_of, newcomers_of};
 ghost use Rattle.server_settings.specs.declared.settings.Join.{Join as Joining};
 ghost use Rattle.server_settings.specs.declared.settings.Place.{Place as Standing};
@@ -190,59 +191,83 @@ fn matched<'a>(alloc: Global, words: &'a [String]) -> Result<ArgMatches<'a>, Err
 fn described<'a>(alloc: Global) -> Result<Command<'a>, AllocError>
     ensures { IfOk result (λ command. app_of command ≡ server_words) }
 {
-    let command = Command::new(alloc, "imap_server").about(
-        "Serves the mail of one user over IMAP, at several replicas that take changes from each other. Mail lives as long as the program runs.",
-    );
-    let command = with_access(alloc, command)?;
-    with_replicas(alloc, command)
+    let words = known_words(alloc)?;
+    Command::new(alloc, "imap_server").about(ABOUT).args(words)
 }
 
-/// Adds the words that say which users are known.
-fn with_access<'a>(alloc: Global, command: Command<'a>) -> Result<Command<'a>, AllocError>
-    ensures { IfOk result (λ more. app_of more ≡ with_access_words (app_of command.entry)) }
+const ABOUT: &str =
+    "Serves the mail of one user over IMAP, at several replicas that take changes from each other. Mail lives as long as the program runs.";
+
+/// The words that say which users are known; then those that say which replicas there are, which join, and when the server ends.
+fn known_words<'a>(alloc: Global) -> Result<Vec<Arg<'a>>, AllocError>
+    ensures { IfOk result (λ words. Add words.items (λ app. with_replica_words (with_access_words app))) }
 {
-    let preauth = Arg::new(alloc, "preauth")
+    let words = vec![in alloc;
+        preauth(alloc),
+        named(alloc, "user", "This is the name by which the user logs in."),
+        named(
+            alloc,
+            "pass",
+            "This is the password with which the user logs in.",
+        ),
+        stop_after(alloc),
+        joining(alloc),
+        replica(alloc),
+    ]?;
+    Ok(words)
+}
+
+fn preauth<'a>(alloc: Global) -> Arg<'a>
+    ensures { IsWord result preauth_word }
+{
+    Arg::new(alloc, "preauth")
         .long("preauth")
         .action(ArgAction::SetTrue)
-        .help("Everybody is let in without a password. Give this, or --user and --pass.");
-    let command = command.arg(preauth)?;
-    let user = Arg::new(alloc, "user")
-        .long("user")
-        .action(ArgAction::Set)
-        .help("This is the name by which the user logs in.");
-    let command = command.arg(user)?;
-    let pass = Arg::new(alloc, "pass")
-        .long("pass")
-        .action(ArgAction::Set)
-        .help("This is the password with which the user logs in.");
-    command.arg(pass)
+        .help("Everybody is let in without a password. Give this, or --user and --pass.")
 }
 
-/// Adds the words that say which replicas there are, which join, and when the server ends.
-fn with_replicas<'a>(alloc: Global, command: Command<'a>) -> Result<Command<'a>, AllocError>
-    ensures { IfOk result (λ more. app_of more ≡ with_replica_words (app_of command.entry)) }
+/// A word with a value.
+fn named<'a>(alloc: Global, name: &'a str, help: &'a str) -> Arg<'a>
+    ensures { IsWord result (named_word name.entry.now) }
 {
-    let stop = Arg::new(alloc, "stop-after")
-        .long("stop-after")
+    Arg::new(alloc, name)
+        .long(name)
         .action(ArgAction::Set)
-        .value_parser(ValueParser::unsigned(0, 4_294_967_295))
-        .help("The server stops behind so many connections. Else it runs until it is ended.");
-    let command = command.arg(stop)?;
-    let joins = Arg::new(alloc, "join")
+        .help(help)
+}
+
+fn stop_after<'a>(alloc: Global) -> Arg<'a>
+    ensures { IsWord result stop_word }
+{
+    named(
+        alloc,
+        "stop-after",
+        "The server stops behind so many connections. Else it runs until it is ended.",
+    )
+    .value_parser(ValueParser::unsigned(0, 4_294_967_295))
+}
+
+fn joining<'a>(alloc: Global) -> Arg<'a>
+    ensures { IsWord result join_word }
+{
+    Arg::new(alloc, "join")
         .long("join")
         .action(ArgAction::Append)
         .help(
             "A further replica joins when the first connection has ended: its number, its address and, behind a slash, the replica whose operations it takes, as in 3=127.0.0.1:1433/1.",
-        );
-    let command = command.arg(joins)?;
-    let replicas = Arg::new(alloc, "REPLICA")
+        )
+}
+
+fn replica<'a>(alloc: Global) -> Arg<'a>
+    ensures { IsWord result replica_word }
+{
+    Arg::new(alloc, "REPLICA")
         .required(true)
         .action(ArgAction::Append)
         .num_args(1..)
         .help(
             "Each replica has a number from 1 to 65535 and an address at which it listens, as in 1=127.0.0.1:1431.",
-        );
-    command.arg(replicas)
+        )
 }
 
 /// The access that these options name: `--preauth` alone, or `--user` and `--pass` without it.

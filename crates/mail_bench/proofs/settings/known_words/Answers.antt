@@ -1,7 +1,7 @@
 use Rattle.std.proofs.Common.{List, [], ◌∷◌, codes, subst}
 use Rattle.clap.specs.Words.{AddsArg, AddsInTurn, Rule}
+use Rattle.clap_laws.proofs.WordLemmas.{AreWords, added_in_turn}
 use Rattle.mail_bench.specs.Options.{counted_word, named_word, required_word}
-use Rattle.mail_bench.proofs.WordLemmas.{AreWords, added_in_turn}
 use Rattle.mail_bench.proofs.settings.known_words.Goals as goal
 
 pub returns : goal.returns
