@@ -1,4 +1,4 @@
-//! Plays cases of IMAP texts, and tells each with what the code answers: where all is right, what it was given.
+//! Plays cases of IMAP texts, of queries and of views, and tells each with what the code answers: where all is right, what it was given.
 //!
 //! A line is a case, `KIND INPUT => ANSWER`. The head of the cases says which kinds there are, and how inputs and answers are written.
 #![tactic(auto)]
@@ -11,8 +11,10 @@ mod frames;
 mod keys;
 mod numbers;
 mod parts;
+mod queries;
 mod repeats;
 mod round_trips;
 mod streams;
 
 pub use cases::play;
+pub use queries::{play as play_queries, play_views};

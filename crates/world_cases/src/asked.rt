@@ -1,12 +1,12 @@
 //! Lines that say what happens in a world.
 
-use case_text::Trouble;
+use case_text::{Trouble, number, replica};
 use imap_grammar::{Tagged, idle_line, parse};
 use imap_node::{Auth, SessionNo};
 use imap_types::{Escape, Moment, read_escaped};
 use std::alloc::Global;
 use tags_clocks::{OpId, ReplicaId};
-use text_fields::{id, number, replica};
+use text_fields::id;
 use uid_projection::Start;
 use world_core::Event;
 
@@ -20,12 +20,10 @@ pub fn event(alloc: Global, line: &str) -> Result<Event, Trouble> {
     let (word, rest) = cut(line);
     match word {
         "open" => Ok(Event::Open {
-            at: replica_in(rest)?,
+            at: replica(rest)?,
             auth: Auth::Preauth,
         }),
-        "drain" => Ok(Event::Drain {
-            at: replica_in(rest)?,
-        }),
+        "drain" => Ok(Event::Drain { at: replica(rest)? }),
         "deliver" => delivery(rest),
         "join" => joining(rest),
         _ => said(alloc, word, rest),
@@ -35,15 +33,15 @@ pub fn event(alloc: Global, line: &str) -> Result<Event, Trouble> {
 fn joining(text: &str) -> Result<Event, Trouble> {
     let (name, peer) = cut(text);
     Ok(Event::Join {
-        name: replica_in(name)?,
-        peer: replica_in(peer)?,
+        name: replica(name)?,
+        peer: replica(peer)?,
     })
 }
 
 fn delivery(text: &str) -> Result<Event, Trouble> {
     let (at, id) = cut(text);
     Ok(Event::Deliver {
-        at: replica_in(at)?,
+        at: replica(at)?,
         id: id_in(id)?,
     })
 }
@@ -52,7 +50,7 @@ fn delivery(text: &str) -> Result<Event, Trouble> {
 fn said(alloc: Global, word: &str, text: &str) -> Result<Event, Trouble> {
     let (at, rest) = cut(text);
     let (session, text) = cut(rest);
-    let at = replica_in(at)?;
+    let at = replica(at)?;
     let session = session_in(session)?;
     match word {
         "poll" => Ok(Event::Poll { at, session }),
@@ -98,22 +96,12 @@ pub fn spelled(alloc: Global, frame: &[u8]) -> Result<Tagged, Trouble> {
     }
 }
 
-/// The replica that a number names.
-pub fn replica_in(text: &str) -> Result<ReplicaId, Trouble> {
-    replica(text.as_bytes()).ok_or(Trouble::NotACase)
-}
-
 fn id_in(text: &str) -> Result<OpId, Trouble> {
     id(text.as_bytes()).ok_or(Trouble::NotACase)
 }
 
 fn session_in(text: &str) -> Result<SessionNo, Trouble> {
-    let number = number_in(text, 1_024)?;
-    SessionNo::new(number as usize).ok_or(Trouble::NotACase)
-}
-
-fn number_in(text: &str, limit: u64) -> Result<u64, Trouble> {
-    number(text.as_bytes(), limit).ok_or(Trouble::NotACase)
+    SessionNo::new(number(text)? as usize).ok_or(Trouble::NotACase)
 }
 
 /// The replicas that a line declares: names with single spaces, each also as `R:U:K` with its first numbers.
@@ -128,7 +116,7 @@ pub fn starts(alloc: Global, text: &str) -> Result<Vec<Start>, Trouble> {
 fn start(word: &str) -> Result<Start, Trouble> {
     let Some((name, numbers)) = word.split_once(':') else {
         return Ok(Start {
-            replica: replica_in(word)?,
+            replica: replica(word)?,
             uid: 1,
             k: 1,
         });
@@ -137,13 +125,8 @@ fn start(word: &str) -> Result<Start, Trouble> {
         return Err(Trouble::NotACase);
     };
     Ok(Start {
-        replica: replica_in(name)?,
-        uid: small(uid)?,
-        k: small(k)?,
+        replica: replica(name)?,
+        uid: number(uid)?,
+        k: number(k)?,
     })
-}
-
-fn small(text: &str) -> Result<u32, Trouble> {
-    let number = number_in(text, 4_294_967_295)?;
-    u32::try_from(number).map_err(|_| Trouble::NotACase)
 }

@@ -7,12 +7,11 @@ use crate::chance::Chance;
 use crate::deeds::{Note, deed};
 use crate::tally::Tally;
 use crate::watch::Watch;
-use case_text::{Trouble, Words};
+use case_text::{Trouble, Words, long_number};
 use imap_node::Node;
 use imap_talk::write_dump;
 use std::alloc::{AllocError, Global};
 use tags_clocks::ReplicaId;
-use text_fields::number;
 use uid_projection::Start;
 use world_core::{Agreement, Event, Outcomes, World, agree, run, settle};
 
@@ -47,8 +46,8 @@ pub fn tell_random(
     page: &mut Words,
 ) -> Result<(), Trouble> {
     let (first, last) = cut(numbers);
-    let first = number_in(first)?;
-    let last = number_in(last)?;
+    let first = long_number(first)?;
+    let last = long_number(last)?;
     let mut tally = Tally::new();
     for world in first..=last {
         play(alloc, world, &mut tally)?;
@@ -57,10 +56,6 @@ pub fn tell_random(
     page.put(" =>\n");
     tally.tell(page);
     Ok(())
-}
-
-fn number_in(text: &str) -> Result<u64, Trouble> {
-    number(text.as_bytes(), 1_000_000).ok_or(Trouble::NotACase)
 }
 
 /// Plays the world with this number to its end.

@@ -1,10 +1,10 @@
 //! Worlds that are worked out line by line.
 
-use crate::asked::{cut, event, replica_in, starts};
+use crate::asked::{cut, event, starts};
 use crate::ending::{agreement, are_from_one, ended};
 use crate::games::tell_random;
 use crate::told::tell;
-use case_text::{Trouble, Words};
+use case_text::{Trouble, Words, replica};
 use imap_node::Node;
 use std::alloc::{AllocError, Global};
 use tags_clocks::ReplicaId;
@@ -168,8 +168,8 @@ fn add(
     page: &mut Words,
 ) -> Result<(), Trouble> {
     let (name, peer) = cut(names);
-    let name = replica_in(name)?;
-    let peer = replica_in(peer)?;
+    let name = replica(name)?;
+    let peer = replica(peer)?;
     let Behind::World(world) = behind else {
         return Err(Trouble::NotACase);
     };
@@ -224,8 +224,8 @@ fn tell_agreement(
     page: &mut Words,
 ) -> Result<(), Trouble> {
     let (one, other) = cut(names);
-    let one = node_of(replica_in(one)?, nodes)?;
-    let other = node_of(replica_in(other)?, nodes)?;
+    let one = node_of(replica(one)?, nodes)?;
+    let other = node_of(replica(other)?, nodes)?;
     tell_answer(asked, agreement(one, other), page);
     Ok(())
 }

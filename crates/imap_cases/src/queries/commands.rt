@@ -1,10 +1,10 @@
 //! What commands that read mailboxes answer.
 
-use crate::fields::octets;
-use crate::mailbox::Mailbox;
-use crate::messages::rows_of;
-use crate::searches::{found, named};
-use crate::stage::Stage;
+use crate::queries::fields::octets;
+use crate::queries::mailbox::Mailbox;
+use crate::queries::messages::rows_of;
+use crate::queries::searches::{found, named};
+use crate::queries::stage::Stage;
 use case_text::{Trouble, Words, cut};
 use imap_answers::{Answer, SearchResults};
 use imap_grammar::{Command, FetchItem, ParseFault, StatusItem, Tagged, parse};

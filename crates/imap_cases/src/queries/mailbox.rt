@@ -1,6 +1,6 @@
 //! The mailbox that commands look at.
 
-use crate::messages::{Message, message_in};
+use crate::queries::messages::{Message, message_in};
 use case_text::{Trouble, cut, long_number, number};
 use imap_query::{Marks, Shown};
 use std::alloc::Global;

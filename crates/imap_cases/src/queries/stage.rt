@@ -1,7 +1,7 @@
 //! What is asked of.
 
-use crate::fields::{names, octets};
-use crate::mailbox::Mailbox;
+use crate::queries::fields::{names, octets};
+use crate::queries::mailbox::Mailbox;
 use case_text::Trouble;
 use imap_types::{Escape, Name, Octets};
 use std::alloc::Global;

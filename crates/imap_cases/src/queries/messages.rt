@@ -1,6 +1,6 @@
 //! Messages, and their rows before and after a command.
 
-use crate::fields::octets;
+use crate::queries::fields::octets;
 use case_text::{Trouble, cut, long_number, number};
 use imap_types::{DATE_TIME_OCTETS, DateTime, Escape, Flags, Text};
 use mail_listing::{HeldRow, HeldVersions, Rows};

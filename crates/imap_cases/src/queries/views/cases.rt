@@ -1,7 +1,7 @@
 //! The lines of cases.
 
-use crate::views::reading::{Message, messages_in, rows_of, set_in, view_in};
-use crate::views::writing::{put_answers, put_entries, put_numbers};
+use crate::queries::views::reading::{Message, messages_in, rows_of, set_in, view_in};
+use crate::queries::views::writing::{put_answers, put_entries, put_numbers};
 use case_text::{Trouble, Words};
 use imap_answers::Answer;
 use imap_types::DateTime;

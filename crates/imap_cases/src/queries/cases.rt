@@ -1,8 +1,8 @@
 //! The lines of cases.
 
-use crate::commands::{put_command, put_matches};
-use crate::stage::Stage;
-use crate::texts::put_of_text;
+use crate::queries::commands::{put_command, put_matches};
+use crate::queries::stage::Stage;
+use crate::queries::texts::put_of_text;
 use case_text::{Trouble, Words};
 use std::alloc::{AllocError, Global};
 

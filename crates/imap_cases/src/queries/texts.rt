@@ -1,7 +1,7 @@
 //! What a text's parts are, what it holds, and date-times.
 
-use crate::fields::{all_octets, octets};
-use crate::messages::date_time;
+use crate::queries::fields::{all_octets, octets};
+use crate::queries::messages::date_time;
 use case_text::{Trouble, Words, cut, long_number, number};
 use imap_types::{Day, Escape, Moment};
 use mail_text::{

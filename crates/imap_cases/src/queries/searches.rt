@@ -4,8 +4,8 @@ ghost use Rattle.std.specs.Prelude.{◌≡◌, ◌↔◌, map, IsTrue};
 ghost use Rattle.imap_types.specs.Numbers.{AreRisingFrom};
 ghost use Rattle.imap_query.specs.Search.{name_of};
 
-use crate::mailbox::Mailbox;
-use crate::messages::rows_of;
+use crate::queries::mailbox::Mailbox;
+use crate::queries::messages::rows_of;
 use case_text::Trouble;
 use imap_answers::SearchResults;
 use imap_grammar::{SearchOption, SearchStep};

@@ -1,8 +1,7 @@
-//! Plays cases of texts, of queries and of views, and tells each with what the code answers: where all is right, what it was given.
+//! Cases of texts of messages, of queries and of views.
 //!
 //! A line sets what is asked of, or is a case, `KIND INPUT => ANSWER`. The head of the cases says which lines there are, and how inputs
 //! and answers are written.
-#![tactic(auto)]
 
 mod cases;
 mod commands;
