@@ -33,8 +33,8 @@ prepares start start' applied applied' session input stamp kinds ops prepared s 
       next = subst (λ (xs : List Op). AreNext start.replica applied kinds xs) (sym o) next;
       lasts = subst (λ (xs : List Op). Exhausts start applied xs → ⊥) (sym o) (subst (λ (b : Start). Exhausts b applied ops → ⊥) s (subst (λ (list : List Op). Exhausts start' list ops → ⊥) a follow.lasts));
       answered =
-        subst (λ (xs : List Op). IsAnswered start applied (applied ++ xs) session input prepared.answered) (sym o)
-        (subst (λ (b : Start). IsAnswered b applied (applied ++ ops) session input prepared.answered) s
-        (subst (λ (list : List Op). IsAnswered start' list (list ++ ops) session input prepared.answered) a answered));
+          subst (λ (xs : List Op). IsAnswered start applied (applied ++ xs) session input prepared.answered) (sym o)
+          (subst (λ (b : Start). IsAnswered b applied (applied ++ ops) session input prepared.answered) s
+          (subst (λ (list : List Op). IsAnswered start' list (list ++ ops) session input prepared.answered) a answered));
       copies = copies ∙ sym o;
     }

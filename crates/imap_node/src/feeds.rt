@@ -229,15 +229,18 @@ fn go(place: &mut Option<Session>, feed: &mut Feed, going: Going)
     ensures place { place.new ≡ option_map (λ s. gone_on s going) place.old }
     ensures noted { (start : First) (ops : List Operation) (s : One) → place.old ≡ Some s → LeavesNoted start ops s.state going.onward → ((view : Seen) → view_of s.state ≡ Some view → IsNotedFor start ops feed.old.pending view) → (view : Seen) → view_of (state_onward s.state going.onward) ≡ Some view → IsNotedFor start ops feed.new.pending view }
 {
-    if let Some(session) = place {
-        let Going {
-            onward,
-            condstore,
-            idling,
-        } = going;
-        go_on(&mut session.state, feed, onward);
-        session.condstore = condstore;
-        session.idling = idling;
+    match place {
+        Some(session) => {
+            let Going {
+                onward,
+                condstore,
+                idling,
+            } = going;
+            go_on(&mut session.state, feed, onward);
+            session.condstore = condstore;
+            session.idling = idling;
+        }
+        None => drop(going),
     }
 }
 

@@ -26,9 +26,9 @@ use crate::telling::mailbox_before;
 use crdt_ops::Kind;
 use imap_answers::Refusal;
 use imap_commands::{
-    AppendAsked, CopyAsked, FetchAsked, Found, OpenMailbox, State, StoreAsked, Wanted, append_wants,
-    close_wants, copy_wants, create_wants, created_name, delete_wants, expunge_wants, fetch_wants,
-    login_wants, move_wants, search_wants, select_wants, status_wants, store_wants,
+    AppendAsked, CopyAsked, FetchAsked, Found, OpenMailbox, State, StoreAsked, Wanted,
+    append_wants, close_wants, copy_wants, create_wants, created_name, delete_wants, expunge_wants,
+    fetch_wants, login_wants, move_wants, search_wants, select_wants, status_wants, store_wants,
     subscribe_wants, uid_expunge_wants, unsubscribe_wants,
 };
 use imap_syntax::{Command, IdleLine, SearchStep};

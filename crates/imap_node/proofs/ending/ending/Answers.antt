@@ -1,9 +1,24 @@
-use Rattle.std.proofs.Common.{◌≡◌, ◌++◌, true, length, sym, ◌∙◌, arith}
+use Rattle.std.proofs.Common.{◌≡◌, ◌++◌, Bool, List, [], length, refl, sym, ap, ◌∙◌, arith}
 use Rattle.std.proofs.lemmas.Bool.{false≢true}
 use Rattle.std.proofs.lemmas.Bool.Decides.{nat_tests}
+use Rattle.crdt_ops.specs.declared.op.Op.{Op}
+use Rattle.imap_answers.specs.declared.answer.Answer.{Answer}
+use Rattle.imap_commands.specs.declared.session.State.{State}
+use Rattle.imap_commands.specs.declared.session.State.TheVariants.{Selected}
+use Rattle.imap_node.specs.Endings.{FrontOf, answers_by, ending_behind, synced_by}
 use Rattle.imap_node.proofs.FirstLemmas.{all_is_shown}
+use Rattle.mail_listing.specs.Listed.{Listed}
+use Rattle.session_view.specs.Replay.{replayed}
+use Rattle.session_view.specs.Seen.{Seen}
+use Rattle.uid_projection.specs.declared.start.Start.{Start}
 use Rattle.imap_node.proofs.ending.ending.Goals.{then-is_first, else-is_first}
 use Rattle.imap_node.proofs.ending.ending.Goals as goal
+
+-- where no mailbox is selected, nothing is told and the state stays
+told_nothing : (start : Start) (after : List Op) (state : State) (front : FrontOf) (answers : List Answer) → answers ≡ [] → ((view : Seen) (read_only : Bool) → state ≡ Selected view read_only → ⊥)
+    → (answers ≡ (ending_behind start after state front).answers) × (state ≡ (ending_behind start after state front).state)
+told_nothing start after (Selected view read_only) front answers e n = absurd (n view read_only refl)
+told_nothing start after _ front answers e n = (e, refl)
 
 pub returns-after-is_first-clause-shown : goal.returns-after-is_first-clause-shown
 returns-after-is_first-clause-shown c = λ shown.
@@ -17,3 +32,30 @@ returns-after-is_first-clause-shown c = λ shown.
           all_is_shown c.args.replica.now.start (c.args.replica.now.applied ++ c.args.ops.now) rows was now c.in-Selected.read_only c.args.front.now w.count.ensures.rising (c.in_ok-rows-in-Selected.ensures {u = tt}) (c.in-Ok.ensures {u = tt}).view first counted
       | else-is_first w ↦ absurd (false≢true (sym w.if-is_first.false ∙ sym w.shows_all-is ∙ shown))
     ]
+
+pub returns-after-is_first-clause-answers : goal.returns-after-is_first-clause-answers
+returns-after-is_first-clause-answers c =
+    let start = c.args.replica.now.start in
+    let after = c.args.replica.now.applied ++ c.args.ops.now in
+    let front = c.args.front.now in
+    let view = c.in-Selected.view in
+    (c.in-Ok.ensures {u = tt}).answers
+    ∙ ap (λ (rows : List Listed). answers_by front.sync front.modseq rows (replayed rows view.entries front.silent front.own)) (c.in_ok-rows-in-Selected.ensures {u = tt})
+    ∙ ap (λ (state : State). (ending_behind start after state front).answers) (sym c.in-Selected.is)
+
+pub returns-after-is_first-clause-state : goal.returns-after-is_first-clause-state
+returns-after-is_first-clause-state c =
+    let start = c.args.replica.now.start in
+    let after = c.args.replica.now.applied ++ c.args.ops.now in
+    let front = c.args.front.now in
+    let view = c.in-Selected.view in
+    ap (λ (seen : Seen). Selected seen c.in-Selected.read_only) (c.in-Ok.ensures {u = tt}).view
+    ∙ ap (λ (rows : List Listed). Selected (record view { entries = synced_by front.sync rows (replayed rows view.entries front.silent front.own) }) c.in-Selected.read_only) (c.in_ok-rows-in-Selected.ensures {u = tt})
+    ∙ ap (λ (state : State). (ending_behind start after state front).state) (sym c.in-Selected.is)
+
+pub returns-in_default : goal.returns-in_default
+returns-in_default c =
+    let start = c.args.replica.now.start in
+    let after = c.args.replica.now.applied ++ c.args.ops.now in
+    let told = told_nothing start after c.args.state c.args.front.now c.new.result.items c.new.ensures.items c.in_default.not-Selected in
+    record { answers = told.0; state = told.1; shown = λ shown. absurd (false≢true shown) }

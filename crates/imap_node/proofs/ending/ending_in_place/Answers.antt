@@ -1,12 +1,24 @@
-use Rattle.std.proofs.Common.{◌≡◌, ◌++◌, None, Some, refl, sym, ap, subst, ◌∙◌, length, arith}
+use Rattle.std.proofs.Common.{◌≡◌, ◌++◌, Bool, List, [], None, Some, refl, sym, ap, subst, ◌∙◌, length, arith}
 use Rattle.std.proofs.lemmas.Bool.Decides.{nat_tests}
+use Rattle.crdt_ops.specs.declared.op.Op.{Op}
+use Rattle.imap_answers.specs.declared.answer.Answer.{Answer}
+use Rattle.imap_commands.specs.declared.session.State.{State}
+use Rattle.imap_commands.specs.declared.session.State.TheVariants.{Selected}
 use Rattle.imap_node.specs.Endings.{FrontOf, ending_behind}
 use Rattle.imap_node.specs.Going.{state_with}
 use Rattle.imap_node.specs.Mailboxes.{rows_for}
 use Rattle.imap_node.specs.Replays.{view_of}
 use Rattle.session_view.specs.Changes.{all_flags_told}
-use Rattle.imap_node.proofs.GoingLemmas.{can_in_place, none_there, shown_as_before, shown_in_place, told_in_place}
+use Rattle.imap_node.proofs.GoingLemmas.{can_in_place, can_stay, none_there, shown_as_before, shown_in_place, told_in_place}
+use Rattle.session_view.specs.Seen.{Seen}
+use Rattle.uid_projection.specs.declared.start.Start.{Start}
 use Rattle.imap_node.proofs.ending.ending_in_place.Goals as goal
+
+-- where no mailbox is selected, nothing is told and the state stays
+told_nothing : (start : Start) (after : List Op) (state : State) (front : FrontOf) (answers : List Answer) → answers ≡ [] → ((view : Seen) (read_only : Bool) → state ≡ Selected view read_only → ⊥)
+    → (answers ≡ (ending_behind start after state front).answers) × (state_with state None ≡ (ending_behind start after state front).state)
+told_nothing start after (Selected view read_only) front answers e n = absurd (n view read_only refl)
+told_nothing start after _ front answers e n = (e, refl)
 
 pub planned_behind-requires-clause-noted : goal.planned_behind-requires-clause-noted
 planned_behind-requires-clause-noted c = c.requires.noted c.in-Selected.view (ap view_of c.in-Selected.is)
@@ -57,3 +69,26 @@ returns-then-is_empty-clause-state c =
     subst (λ (f : FrontOf). state_with c.args.state.now None ≡ (ending_behind start after c.args.state.now f).state) c.front.view_is
     (shown_as_before start after c.args.state.now front first.items c.in_default.is (sym c.do_shift.ensures ∙ c.if-do_shift.false)
     (c.in_ok-first.ensures {u = tt} ∙ ap (λ (f : FrontOf). f.silent ++ all_flags_told f.own) (sym c.front.view_is)) (none_there first.items empty)).1
+
+pub returns-then-is_empty-clause-answers : goal.returns-then-is_empty-clause-answers
+returns-then-is_empty-clause-answers c =
+    let start = c.args.replica.now.start in
+    let after = c.args.replica.now.applied ++ c.args.ops.now in
+    let inside = c.front.inside in
+    let front : FrontOf = record { silent = inside.silent.now; own = inside.own.now; sync = inside.sync; modseq = inside.modseq } in
+    let first = c.in_ok-first.first in
+    let empty : length first.items ≡ 0 = let a = c.if-is_empty.true in let b = c.is_empty.ensures in let k = first.ok.0 in grind (arith, nat_tests) in
+    c.new.ensures.items
+    ∙ subst (λ (f : FrontOf). [] ≡ (ending_behind start after c.args.state.now f).answers) c.front.view_is
+    (shown_as_before start after c.args.state.now front first.items c.in_default.is (sym c.do_shift.ensures ∙ c.if-do_shift.false)
+    (c.in_ok-first.ensures {u = tt} ∙ ap (λ (f : FrontOf). f.silent ++ all_flags_told f.own) (sym c.front.view_is)) (none_there first.items empty)).0
+
+pub returns-then-is_empty-clause-can : goal.returns-then-is_empty-clause-can
+returns-then-is_empty-clause-can c = can_stay c.args.replica.now.start (c.args.replica.now.applied ++ c.args.ops.now) c.args.state.now
+
+pub returns-in_default-state : goal.returns-in_default-state
+returns-in_default-state c =
+    let start = c.args.replica.now.start in
+    let after = c.args.replica.now.applied ++ c.args.ops.now in
+    let told = told_nothing start after c.args.state.now c.args.front.now c.new-in_default-state.result.items c.new-in_default-state.ensures.items c.in_default-state.not-Selected in
+    record { same = refl; answers = told.0; state = told.1; can = can_stay start after c.args.state.now }

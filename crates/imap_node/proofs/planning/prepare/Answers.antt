@@ -34,12 +34,12 @@ returns-clause-issued c =
     let done = c.in_ok-finished.ensures {u = tt} in
     let before = c.args.replica.now.applied in
     subst (λ (ops : List Op). AreIssued id_of clock_of before ops) (sym done.ops)
-    (issued_next c.args.replica.now.start.replica before c.in_ok-kinds.kinds.items c.in_ok-ops.ops.items (c.in_ok-ops.ensures {u = tt}).next)
+    (issued_next c.args.replica.now.start.replica before c.in_ok-kinds.field-0.kinds.items c.in_ok-ops.ops.items (c.in_ok-ops.ensures {u = tt}).next)
 
 pub returns-clause-ok : goal.returns-clause-ok
 returns-clause-ok c =
     let done = c.in_ok-finished.ensures {u = tt} in
     let made = c.in_ok-ops.ensures {u = tt} in
     let replica = c.readied.new.replica in
-    prepares c.args.replica.now.start replica.start c.args.replica.now.applied replica.applied c.args.session.now c.args.input.now c.stamp_of-stamp.result c.in_ok-kinds.kinds.items c.in_ok-ops.ops.items c.in_ok-finished.field-0
+    prepares c.args.replica.now.start replica.start c.args.replica.now.applied replica.applied c.args.session.now c.args.input.now c.stamp_of-stamp.result c.in_ok-kinds.field-0.kinds.items c.in_ok-ops.ops.items c.in_ok-finished.field-0
     c.readied.ensures.start c.readied.ensures.applied c.stamp_of-stamp.ensures (c.in_ok-kinds.ensures {u = tt}).gives made.next made.ready.follow done.answered done.ops done.copies
