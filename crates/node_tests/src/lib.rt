@@ -1,6 +1,6 @@
-//! Tests of what is no table of cases. Of what a replica's state is made of (`state`). Of nodes, and of conversations with them: sessions that no script can open, since
-//! their user has to log in; what a node lends; and conversations over devices in memory and of std, whose reads and writes fail in turn or move one octet at a time, with a
-//! port that is made up or with a node's. Of what a frame hands over, and laws that can be called. And of the programs above nodes (`programs`).
+//! Tests of nodes, and of conversations with them: sessions that no script can open, since their user has to log in; what a node lends; and conversations over devices in
+//! memory and of std, whose reads and writes fail in turn or move one octet at a time, with a port that is made up or with a node's. Of what a frame hands over, and laws that
+//! can be called. And of the programs above nodes (`programs`).
 #![tactic(auto)]
 
 #[cfg(test)]
@@ -21,8 +21,6 @@ mod made_up;
 mod nodes;
 #[cfg(test)]
 mod programs;
-#[cfg(test)]
-mod state;
 #[cfg(test)]
 mod talks;
 #[cfg(test)]

@@ -7,12 +7,12 @@ ghost use Rattle.subs_state.specs.Subscriptions.{no_subscriptions};
 ghost use Rattle.subs_state.specs.Table.{subscriptions_of};
 ghost use Rattle.uid_projection.specs.Following.{Follows};
 
-use crate::state::drafts::NAMES;
-use crate::state::fixtures::Trouble;
-use crate::state::generated::{LISTS, generated};
-use crate::state::plain_charts::PlainReplica;
-use crate::state::plain_inbox::PlainInbox;
-use crate::state::shown::{are_ids_alike, are_messages_alike, are_names_alike, are_rows_alike};
+use crate::drafts::NAMES;
+use crate::fixtures::Trouble;
+use crate::generated::{LISTS, generated};
+use crate::plain_charts::PlainReplica;
+use crate::plain_inbox::PlainInbox;
+use crate::shown::{are_ids_alike, are_messages_alike, are_names_alike, are_rows_alike};
 use causal_inbox::Inbox;
 use crdt_ops::SoundOp;
 use folder_state::Folders;

@@ -1,8 +1,8 @@
 //! Lists of operations as replicas might have issued them, shuffled, repeated and forged.
 
-use crate::state::dice::Dice;
-use crate::state::drafts::draft;
-use crate::state::fixtures::{Trouble, sound};
+use crate::dice::Dice;
+use crate::drafts::draft;
+use crate::fixtures::{Trouble, sound};
 use crdt_ops::{Kind, Op, SoundOp};
 use imap_types::Name;
 use merge_laws::Caused;

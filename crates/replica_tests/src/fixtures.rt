@@ -6,7 +6,7 @@ ghost use Rattle.folder_state.specs.Tables.{contents_of};
 ghost use Rattle.subs_state.specs.Subscriptions.{no_subscriptions};
 ghost use Rattle.subs_state.specs.Table.{subscriptions_of};
 
-use crate::state::telling::{tell_delivered, tell_drained, tell_held_ids, tell_ids, tell_stall};
+use crate::telling::{tell_delivered, tell_drained, tell_held_ids, tell_ids, tell_stall};
 use causal_inbox::Inbox;
 use crdt_ops::{Op, OpFault, SoundOp, checked, read_op};
 use folder_state::Folders;

@@ -1,8 +1,8 @@
 //! What is refused once is taken the second time, and all ends as with memory.
 
-use crate::state::fixtures::{Mailboxes, Trouble, empty, operation, play};
-use crate::state::reluctant::{Hesitant, Reluctant};
-use crate::state::telling::{lines_of, lines_of_held, told_of};
+use crate::fixtures::{Mailboxes, Trouble, empty, operation, play};
+use crate::reluctant::{Hesitant, Reluctant};
+use crate::telling::{lines_of, lines_of_held, told_of};
 use causal_inbox::{DeliverFault, Delivered, HeldOps, Inbox};
 use crdt_ops::SoundOp;
 use folder_state::Folders;

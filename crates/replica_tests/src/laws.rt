@@ -1,6 +1,6 @@
 //! The laws can be called: each is the contract of a function that does nothing.
 
-use crate::state::fixtures::Mailboxes;
+use crate::fixtures::Mailboxes;
 use causal_inbox::{
     delivery_is_received, filed_by_least_missing_cause, issue_is_received, nothing_ripe_is_left,
     release_loses_nothing, what_is_received_is_consistent,

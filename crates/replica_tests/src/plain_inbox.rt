@@ -2,8 +2,8 @@
 
 ghost use Rattle.std.specs.Prelude.{◌<◌, ◌≤◌, length, IfSome};
 
-use crate::state::fixtures::Trouble;
-use crate::state::refusing::is_refused;
+use crate::fixtures::Trouble;
+use crate::refusing::is_refused;
 use causal_inbox::{Arrival, DeliverFault, Delivered, Drained, find_in};
 use crdt_ops::SoundOp;
 use merge_laws::Caused;

@@ -1,6 +1,6 @@
 //! Folders and subscriptions in plain lists: each answer looks through all tags.
 
-use crate::state::fixtures::Trouble;
+use crate::fixtures::Trouble;
 use crdt_ops::{Ids, Kind, Message, Op, place_name};
 use imap_types::{DateTime, Flags, Name, Text};
 use message_versions::add_flags;

@@ -1,11 +1,11 @@
 //! What an inbox does where memory or a counter is refused once: what isn't taken leaves it as it was, and what stalls goes on.
 
 ghost use Rattle.std.specs.Prelude.{◌≡◌, ◌+◌, ◌<◌, ◌≤◌, length};
-ghost use Rattle.node_tests.specs.Counting.{first_fits};
+ghost use Rattle.replica_tests.specs.Counting.{first_fits};
 
-use crate::state::fixtures::{Trouble, operations, play_all};
-use crate::state::reluctant::Reluctant;
-use crate::state::telling::told_folders;
+use crate::fixtures::{Trouble, operations, play_all};
+use crate::reluctant::Reluctant;
+use crate::telling::told_folders;
 use causal_inbox::{Inbox, IssueFault};
 use crdt_ops::SoundOp;
 use folder_state::Folders;

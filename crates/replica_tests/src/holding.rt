@@ -1,6 +1,6 @@
 //! What an inbox lends of the operations that it holds.
 
-use crate::state::fixtures::{Mailboxes, Trouble, empty, play_all};
+use crate::fixtures::{Mailboxes, Trouble, empty, play_all};
 use causal_inbox::{HeldOps, Inbox};
 use crdt_ops::SoundOp;
 use merge_laws::Unfollowed;

@@ -1,7 +1,7 @@
 //! Calls that may answer that there is no memory, once with ample memory.
 
-use crate::state::fixtures::{Mailboxes, Trouble, empty, operations};
-use crate::state::telling::told_of;
+use crate::fixtures::{Mailboxes, Trouble, empty, operations};
+use crate::telling::told_of;
 use causal_inbox::Inbox;
 use merge_laws::{Follower, NotReady, OnFirst, Replicated, Unfollowed};
 use std::alloc::{AllocError, Global};

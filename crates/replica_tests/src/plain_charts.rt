@@ -1,8 +1,8 @@
 //! UIDs, UIDVALIDITY and mod-sequences in plain lists: each operation goes over all messages of its folder.
 
-use crate::state::drafts::added_origin;
-use crate::state::fixtures::Trouble;
-use crate::state::plain_mailboxes::PlainMailboxes;
+use crate::drafts::added_origin;
+use crate::fixtures::Trouble;
+use crate::plain_mailboxes::PlainMailboxes;
 use crdt_ops::{Kind, Op};
 use imap_types::Name;
 use std::alloc::{AllocError, Global};

@@ -1,9 +1,9 @@
 //! The inbox answers as one in plain lists does.
 
-use crate::state::fixtures::Trouble;
-use crate::state::generated::{LISTS, generated};
-use crate::state::plain_inbox::PlainInbox;
-use crate::state::reluctant::Hesitant;
+use crate::fixtures::Trouble;
+use crate::generated::{LISTS, generated};
+use crate::plain_inbox::PlainInbox;
+use crate::reluctant::Hesitant;
 use causal_inbox::Inbox;
 use crdt_ops::SoundOp;
 use merge_laws::{Caused, Replicated};

@@ -1,7 +1,7 @@
 //! Whether two lists of what is told are alike.
 
-use crate::state::fixtures::Trouble;
-use crate::state::plain_charts::{PlainLine, PlainReplica};
+use crate::fixtures::Trouble;
+use crate::plain_charts::{PlainLine, PlainReplica};
 use crdt_ops::{Ids, Message};
 use imap_types::Name;
 use mail_listing::{Row, Rows};

@@ -1,7 +1,7 @@
 //! What a replica might do, that has seen some operations.
 
-use crate::state::dice::Dice;
-use crate::state::fixtures::Trouble;
+use crate::dice::Dice;
+use crate::fixtures::Trouble;
 use crdt_ops::{Ids, Kind, Op, SoundOp};
 use imap_types::{DateTime, Flags, Name, Text};
 use std::alloc::{AllocError, Global};

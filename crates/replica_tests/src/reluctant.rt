@@ -1,6 +1,6 @@
 //! Values and followers that are refused memory at one call.
 
-use crate::state::refusing::is_refused;
+use crate::refusing::is_refused;
 use merge_laws::{Follower, NotReady, Replicated};
 use std::alloc::{AllocError, Global};
 
