@@ -3,7 +3,7 @@
 use crate::Trouble;
 use crdt_ops::{OpFault, SoundOp, checked, read_op};
 use imap_types::{Escape, Name, Octets, read_escaped};
-use std::alloc::Global;
+use std::alloc::{AllocError, Global};
 use tags_clocks::ReplicaId;
 
 /// What stands in front of a line's last ` =>`; the whole of a comment, which begins with `#`.
@@ -22,14 +22,49 @@ pub fn cut(text: &str) -> Result<(&str, &str), Trouble> {
     text.split_once(' ').ok_or(Trouble::NotACase)
 }
 
+/// What stands in front of the first such mark, and what follows it; the whole, and nothing, where there is none.
+pub fn parted<'a>(text: &'a str, mark: &str) -> (&'a str, &'a str) {
+    text.split_once(mark).unwrap_or((text, ""))
+}
+
 /// A number of up to 32 bits.
 pub fn number(text: &str) -> Result<u32, Trouble> {
     text.parse::<u32>().ok().ok_or(Trouble::NotACase)
 }
 
+/// Two numbers with this mark between them.
+pub fn pair(mark: &str, text: &str) -> Result<(u32, u32), Trouble> {
+    let (first, second) = parted(text, mark);
+    Ok((number(first)?, number(second)?))
+}
+
 /// A number of up to 64 bits.
 pub fn long_number(text: &str) -> Result<u64, Trouble> {
     text.parse::<u64>().ok().ok_or(Trouble::NotACase)
+}
+
+/// What a word means by a table; `None` where it isn't in it.
+pub fn meaning<T: Copy>(table: &[(&str, T)], word: &str) -> Option<T> {
+    for (name, meaning) in table {
+        if *name == word {
+            return Some(*meaning);
+        }
+    }
+    None
+}
+
+/// The text with the octet at this place replaced.
+pub fn with_octet(
+    alloc: Global,
+    text: &[u8],
+    place: usize,
+    octet: u8,
+) -> Result<Vec<u8>, AllocError> {
+    let mut copy = text.to_vec(alloc)?;
+    if let Some(old) = copy.get_mut(place) {
+        *old = octet;
+    }
+    Ok(copy)
 }
 
 /// The replica that a number names.

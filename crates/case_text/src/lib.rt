@@ -5,6 +5,9 @@ mod fields;
 mod trouble;
 mod words;
 
-pub use fields::{asked, cut, long_number, name, number, octets, operation, replica};
+pub use fields::{
+    asked, cut, long_number, meaning, name, number, octets, operation, pair, parted, replica,
+    with_octet,
+};
 pub use trouble::Trouble;
 pub use words::Words;

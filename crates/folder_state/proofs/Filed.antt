@@ -13,8 +13,8 @@ use Rattle.merge_laws.proofs.Lists.{in_front, in_back, in_parts}
 use Rattle.crdt_ops.specs.Order.{IsAscending, id_order, placed, same_id}
 use Rattle.crdt_ops.specs.Sets.{Body}
 use Rattle.crdt_ops.proofs.Members.{any_in}
-use Rattle.message_versions.specs.declared.version.Version.{Version}
-use Rattle.message_versions.specs.Unions.{version_ids}
+use Rattle.imap_types.specs.declared.version.Version.{Version}
+use Rattle.imap_types.specs.Unions.{version_ids}
 use Rattle.folder_state.specs.Kept.{AreFiled, AreVersionsOf, HasTagIn, InFolder, IsPutIn, IsTakenOut, Kept, body_at, by_id, flags_among, folder_contents, folder_ids, has_ids, listed, versions_at, without}
 use Rattle.folder_state.proofs.Versions.{ascending_with, ascending_without, flags_own, flags_some, flags_with, flags_without, id_is, id_not, ids_with, ids_without, not_id, own_id, own_placed, placed_long}
 

@@ -7,7 +7,7 @@ use Rattle.std.specs.Str.{bytes_eq}
 use Rattle.std.proofs.lemmas.Bool.{cases_Bool, false≢true}
 use Rattle.tags_clocks.specs.declared.id.OpId.{OpId}
 use Rattle.crdt_ops.specs.Order.{is_some_id, placed, same_id}
-use Rattle.message_versions.specs.declared.version.Version.{Version}
+use Rattle.imap_types.specs.declared.version.Version.{Version}
 use Rattle.folder_state.specs.Kept.{IsTakenOut, Kept, by_id, folder_at}
 use Rattle.folder_state.specs.Rooms.{AreNoFuller, HasPlaces, HasRoomAt, HasVersionPlaces, HasVersionRoom, IsNoFuller, IsNoFullerIn, LeavesRoom, wanted_by}
 use Rattle.folder_state.proofs.Lenses.{own_name, same_name, some_is}

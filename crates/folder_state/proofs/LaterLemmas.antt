@@ -13,8 +13,8 @@ use Rattle.crdt_ops.specs.Tags.{FolderTag, MessageTag, adds, removes}
 use Rattle.crdt_ops.specs.TagLaws.{adds_own}
 use Rattle.crdt_ops.proofs.Members.{any_in, in_map}
 use Rattle.crdt_ops.proofs.VersionLemmas.{some_id}
-use Rattle.message_versions.specs.declared.version.Version.{Version}
-use Rattle.message_versions.specs.Unions.{version_ids}
+use Rattle.imap_types.specs.declared.version.Version.{Version}
+use Rattle.imap_types.specs.Unions.{version_ids}
 use Rattle.folder_state.specs.Contents.{Contents, HasTag, HasVersion, IsMadeBy, effect_of, no_contents, origin_in}
 use Rattle.folder_state.specs.Kept.{HasTagIn, Kept, body_in_folder, has_tag_in, held_in}
 use Rattle.folder_state.specs.Later.{after, alone, has_body, has_tag_after, is_brought, is_some, is_version}

@@ -9,8 +9,8 @@ use Rattle.std.proofs.lemmas.Bool.{false≢true}
 use Rattle.std.proofs.lemmas.List.{append-nil, drop_all, take_all}
 use Rattle.tags_clocks.specs.declared.id.OpId.{OpId}
 use Rattle.merge_laws.specs.Orders.{IsIn}
-use Rattle.message_versions.specs.declared.version.Version.{Version}
-use Rattle.message_versions.specs.Unions.{version_ids}
+use Rattle.imap_types.specs.declared.version.Version.{Version}
+use Rattle.imap_types.specs.Unions.{version_ids}
 use Rattle.crdt_ops.specs.Order.{IsListOf, id_order, in_order, placed}
 
 pub folded : (ids list : List OpId) (i : ℕ) → length list ≤ i → fold (λ done id. placed id_order id done) ids (drop i list) ≡ in_order id_order list → ids ≡ in_order id_order list

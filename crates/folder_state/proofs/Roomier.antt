@@ -12,8 +12,8 @@ use Rattle.tags_clocks.specs.declared.id.OpId.{OpId}
 use Rattle.merge_laws.specs.Orders.{IsIn}
 use Rattle.merge_laws.proofs.Lists.{in_parts}
 use Rattle.crdt_ops.specs.Order.{IsAscending, id_order, same_id}
-use Rattle.message_versions.specs.declared.version.Version.{Version}
-use Rattle.message_versions.specs.Unions.{version_ids}
+use Rattle.imap_types.specs.declared.version.Version.{Version}
+use Rattle.imap_types.specs.Unions.{version_ids}
 use Rattle.folder_state.specs.Kept.{AreFiled, Kept, body_at, body_in_folder, flags_among, folder_at, has_tag_in, listed, versions_at}
 use Rattle.folder_state.specs.Rooms.{AreRoomier, AreRoomierLists, HasRoomAt, HasVersionPlaces, HasVersionRoom, IsRoomier, IsRoomierIn, IsRoomierList, wanted_by}
 use Rattle.folder_state.proofs.Filed.{carrying}

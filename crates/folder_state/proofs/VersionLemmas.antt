@@ -14,8 +14,8 @@ use Rattle.crdt_ops.specs.Meanings.{IsVersion as IsVersionBySet}
 use Rattle.crdt_ops.specs.Order.{IsListOf, id_order, same_id}
 use Rattle.crdt_ops.specs.Sets.{Body, Letter, body_by, body_from, first_given, letter_of, message_of, message_with, messages_of, no_letter, origins_of, tag_flags_of, versions_of}
 use Rattle.crdt_ops.specs.Tags.{MessageTag, adds, is_present, removes}
-use Rattle.message_versions.specs.declared.version.Version.{Version}
-use Rattle.message_versions.specs.Unions.{union_of, united, version_ids}
+use Rattle.imap_types.specs.declared.version.Version.{Version}
+use Rattle.imap_types.specs.Unions.{union_of, united, version_ids}
 use Rattle.crdt_ops.proofs.Members.{any_in, in_map}
 use Rattle.crdt_ops.proofs.OrderLemmas.{id_order_same, id_order_total, one_ascending}
 use Rattle.crdt_ops.proofs.VersionLemmas.{origins_listed, versions_listed}

@@ -15,8 +15,8 @@ use Rattle.merge_laws.proofs.Lists.{in_middle}
 use Rattle.crdt_ops.specs.Order.{IsAscending, id_order, placed, same_id}
 use Rattle.crdt_ops.proofs.Members.{in_filter, in_map}
 use Rattle.crdt_ops.proofs.OrderLemmas.{ascending-placed, ascending_filtered, id_order_same, id_order_total}
-use Rattle.message_versions.specs.declared.version.Version.{Version}
-use Rattle.message_versions.specs.Unions.{version_ids}
+use Rattle.imap_types.specs.declared.version.Version.{Version}
+use Rattle.imap_types.specs.Unions.{version_ids}
 use Rattle.folder_state.specs.Kept.{by_id, flags_among, without}
 
 pub own_id : (i : OpId) → same_id i i ≡ true

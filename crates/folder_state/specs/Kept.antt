@@ -11,8 +11,8 @@ use Rattle.tags_clocks.specs.declared.id.OpId.{OpId}
 use Rattle.merge_laws.specs.Orders.{IsIn}
 use Rattle.crdt_ops.specs.Order.{IsAscending, id_order, placed, same_id}
 use Rattle.crdt_ops.specs.Sets.{Body, first_given}
-use Rattle.message_versions.specs.declared.version.Version.{Version}
-use Rattle.message_versions.specs.Unions.{version_ids}
+use Rattle.imap_types.specs.declared.version.Version.{Version}
+use Rattle.imap_types.specs.Unions.{version_ids}
 
 -- What is kept of a folder: the ids of its folder tags, the versions of each origin, the origin of each version by its id, and how
 -- many more of each can be put in with no more memory.

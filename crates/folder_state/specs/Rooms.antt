@@ -10,7 +10,7 @@ use Rattle.crdt_ops.specs.declared.kind.Kind.TheVariants.{Create, Delete, Append
 use Rattle.crdt_ops.specs.declared.op.Op.{Op}
 use Rattle.crdt_ops.specs.Order.{is_some_id, same_id}
 use Rattle.crdt_ops.specs.Sets.{body_by}
-use Rattle.message_versions.specs.declared.version.Version.{Version}
+use Rattle.imap_types.specs.declared.version.Version.{Version}
 use Rattle.folder_state.specs.Kept.{Kept, folder_at}
 
 -- The folder of the tag that an operation adds.

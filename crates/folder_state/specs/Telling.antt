@@ -3,8 +3,8 @@ use Rattle.std.specs.Global.{Vec}
 use Rattle.std.specs.Map.{lookup}
 use Rattle.std.specs.Option.{option_map, unwrap_or}
 use Rattle.tags_clocks.specs.declared.id.OpId.{OpId}
-use Rattle.message_versions.specs.declared.version.Version.{Version}
-use Rattle.message_versions.specs.Unions.{united, version_ids}
+use Rattle.imap_types.specs.declared.version.Version.{Version}
+use Rattle.imap_types.specs.Unions.{united, version_ids}
 use Rattle.crdt_ops.specs.declared.message.Message.{Message}
 use Rattle.crdt_ops.specs.Order.{same_id}
 use Rattle.crdt_ops.specs.Sets.{Letter, no_letter}

@@ -16,10 +16,9 @@ ghost use Rattle.folder_state.specs.Telling.{letter_told};
 
 use crate::folder::Folder;
 use crdt_ops::{Kind, Op};
-use imap_types::{Flags, Name};
+use imap_types::{Flags, Name, Version};
 use indexmap::IndexMap;
 use mail_listing::Letter;
-use message_versions::Version;
 use tags_clocks::OpId;
 
 /// Takes out the tags that the operation removes.

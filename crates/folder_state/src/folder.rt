@@ -9,8 +9,8 @@ ghost use Rattle.tags_clocks.specs.declared.id.OpId.{OpId as Id};
 ghost use Rattle.merge_laws.specs.Orders.{IsIn};
 ghost use Rattle.folder_state.specs.Kept.{AreFiled, AreVersionsOf, HasTagIn, folder_contents, folder_ids, has_ids, versions_at};
 
+use imap_types::Version;
 use indexmap::{IndexMap, IndexSet};
-use message_versions::Version;
 use std::alloc::{AllocError, Global};
 use std::marker::Model;
 use tags_clocks::OpId;

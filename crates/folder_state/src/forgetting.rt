@@ -9,13 +9,13 @@ ghost use Rattle.indexmap.specs.IndexMap.{spare};
 ghost use Rattle.indexmap.specs.IndexSet.{spare as spare_keys};
 ghost use Rattle.tags_clocks.specs.declared.id.OpId.{OpId as Id};
 ghost use Rattle.crdt_ops.specs.Order.{same_id};
-ghost use Rattle.message_versions.specs.declared.version.Version.{Version as Held};
+ghost use Rattle.imap_types.specs.declared.version.Version.{Version as Held};
 ghost use Rattle.folder_state.specs.Kept.{IsTakenOut, folder_contents, versions_at, without};
 ghost use Rattle.folder_state.specs.Rooms.{IsNoFuller};
 
 use crate::folder::Folder;
+use imap_types::Version;
 use indexmap::{IndexMap, IndexSet};
-use message_versions::Version;
 use tags_clocks::OpId;
 
 impl Folder {

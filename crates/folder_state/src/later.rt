@@ -6,7 +6,7 @@ ghost use Rattle.std.specs.List.{list_any, slice_get};
 ghost use Rattle.std.specs.Option.{option_copied, option_map};
 ghost use Rattle.tags_clocks.specs.declared.id.OpId.{OpId as Id};
 ghost use Rattle.merge_laws.specs.Orders.{IsIn};
-ghost use Rattle.message_versions.specs.Unions.{version_ids};
+ghost use Rattle.imap_types.specs.Unions.{version_ids};
 ghost use Rattle.crdt_ops.specs.Order.{is_some_id, same_id};
 ghost use Rattle.crdt_ops.specs.Tags.{FolderTag, MessageTag, adds, removes};
 ghost use Rattle.folder_state.specs.Contents.{Contents, origin_in};
@@ -17,8 +17,7 @@ ghost use Rattle.folder_state.specs.Rooms.{origin_by};
 
 use crate::folder::Folder;
 use crdt_ops::{Kind, Op, SoundOp};
-use imap_types::Name;
-use message_versions::Version;
+use imap_types::{Name, Version};
 use tags_clocks::OpId;
 
 /// Whether the folder has a tag of either kind.

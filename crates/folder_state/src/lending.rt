@@ -6,16 +6,15 @@ ghost use Rattle.std.specs.Option.{option_copied, option_map, unwrap_or};
 ghost use Rattle.tags_clocks.specs.declared.id.OpId.{OpId as Id};
 ghost use Rattle.crdt_ops.specs.Order.{same_id};
 ghost use Rattle.crdt_ops.specs.Sets.{no_letter};
-ghost use Rattle.message_versions.specs.Unions.{united, version_ids};
+ghost use Rattle.imap_types.specs.Unions.{united, version_ids};
 ghost use Rattle.folder_state.specs.Contents.{Contents, IsMessageOf};
 ghost use Rattle.folder_state.specs.Kept.{AreFiledIn, folder_contents};
 ghost use Rattle.folder_state.specs.Telling.{lent, letter_told};
 
 use crate::folder::Folder;
-use imap_types::{DateTime, Text};
+use imap_types::{DateTime, Text, Version, Versions};
 use indexmap::IndexMap;
 use mail_listing::Letter;
-use message_versions::{Version, Versions};
 use tags_clocks::OpId;
 
 /// A message of a folder, lent by the folders.

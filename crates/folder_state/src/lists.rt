@@ -9,14 +9,13 @@ ghost use Rattle.imap_types.specs.Ascending.{compared};
 ghost use Rattle.imap_types.specs.Names.{inbox};
 ghost use Rattle.merge_laws.specs.Orders.{IsIn};
 ghost use Rattle.crdt_ops.specs.Order.{IsAscending, IsListOf, id_order, in_order, placed};
-ghost use Rattle.message_versions.specs.Unions.{version_ids};
+ghost use Rattle.imap_types.specs.Unions.{version_ids};
 ghost use Rattle.folder_state.specs.Kept.{AreFiled, HasTagIn, IsKnown, Kept, body_in_folder, folder_contents, folder_named, has_ids, has_tag_in, held_in};
 
 use crate::folder::Folder;
 use crdt_ops::{Ids, place_name};
-use imap_types::Name;
+use imap_types::{Name, Version};
 use indexmap::IndexMap;
-use message_versions::Version;
 use std::alloc::{AllocError, Global};
 use tags_clocks::OpId;
 

@@ -7,13 +7,13 @@ ghost use Rattle.std.specs.Vec.{vec_capacity};
 ghost use Rattle.indexmap.specs.IndexMap.{spare};
 ghost use Rattle.tags_clocks.specs.declared.id.OpId.{OpId as Id};
 ghost use Rattle.crdt_ops.specs.Order.{IsAscending, id_order, placed, same_id};
-ghost use Rattle.message_versions.specs.Unions.{version_ids};
+ghost use Rattle.imap_types.specs.Unions.{version_ids};
 ghost use Rattle.folder_state.specs.Kept.{IsPutIn, by_id, folder_contents};
 ghost use Rattle.folder_state.specs.Rooms.{HasPlaces, HasVersionPlaces, HasVersionRoom};
 
 use crate::folder::Folder;
+use imap_types::Version;
 use indexmap::IndexMap;
-use message_versions::Version;
 use tags_clocks::OpId;
 
 impl Folder {

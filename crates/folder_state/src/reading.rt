@@ -13,10 +13,9 @@ ghost use Rattle.folder_state.specs.Telling.{letter_told, message_kept};
 use crate::folder::Folder;
 use crate::lists::{ids_in_order, ids_of};
 use crdt_ops::Message;
-use imap_types::{DateTime, Text};
+use imap_types::{DateTime, Text, Versions};
 use indexmap::IndexMap;
 use mail_listing::Letter;
-use message_versions::Versions;
 use std::alloc::{AllocError, Global};
 use tags_clocks::OpId;
 

@@ -1,76 +1,76 @@
 //! The lines of cases.
 
-use crate::repeats::{written_out, written_short};
-use crate::{flag_orders, frames, numbers, round_trips, streams};
-use case_text::Words;
-use imap_lex::Limits;
-use imap_types::{Escape, EscapeFault, read_escaped, write_escaped};
+use crate::queries::{Stage, is_setting, put_query, put_view};
+use crate::texts::answer_to;
+use case_text::{Words, parted};
 use std::alloc::{AllocError, Global};
 
-/// Plays the lines of a text, and tells each with what the code answers now. An error says that there is no memory.
+/// What cases are of.
+#[derive(Clone, Copy)]
+enum Subject {
+    /// IMAP texts.
+    Texts,
+    /// Queries: some lines set what is asked of.
+    Queries,
+    /// Views.
+    Views,
+}
+
+/// Plays cases of texts, and tells each with what the code answers now. An error says that there is no memory.
 pub fn play(alloc: Global, text: &str) -> Result<Vec<u8>, AllocError> {
+    played(alloc, Subject::Texts, text)
+}
+
+/// Plays cases of queries, and tells each with what the code answers now. An error says that there is no memory.
+pub fn play_queries(alloc: Global, text: &str) -> Result<Vec<u8>, AllocError> {
+    played(alloc, Subject::Queries, text)
+}
+
+/// Plays cases of views, and tells each with what the code answers now. An error says that there is no memory.
+pub fn play_views(alloc: Global, text: &str) -> Result<Vec<u8>, AllocError> {
+    played(alloc, Subject::Views, text)
+}
+
+fn played(alloc: Global, subject: Subject, text: &str) -> Result<Vec<u8>, AllocError> {
+    let mut stage = Stage::new(alloc);
     let mut page = Words::new(alloc);
     for line in text.split_terminator('\n') {
-        page.put_result(answered(alloc, line));
+        put_line(alloc, &mut page, &mut stage, subject, line);
     }
+    drop(stage);
     page.finish()
 }
 
 /// The line with its LF. In a case, `KIND INPUT => ANSWER`, the answer is what the code answers now; comments, which begin with
-/// `#`, and empty lines are as they were.
-fn answered(alloc: Global, line: &str) -> Result<Vec<u8>, AllocError> {
-    let mut words = Words::new(alloc);
+/// `#`, empty lines, and lines that set what is asked of are as they were.
+fn put_line(alloc: Global, page: &mut Words, stage: &mut Stage, subject: Subject, line: &str) {
     if line.is_empty() || line.starts_with('#') {
-        words.put(line);
+        page.put(line);
     } else {
-        let (case, _) = line.split_once(" => ").unwrap_or((line, ""));
-        put_case(alloc, &mut words, case);
+        put_told(alloc, page, stage, subject, line);
     }
-    words.put("\n");
-    words.finish()
+    page.put("\n");
 }
 
-fn put_case(alloc: Global, words: &mut Words, case: &str) {
-    let (kind, input) = case.split_once(' ').unwrap_or((case, ""));
-    words.put(case);
-    words.put(" => ");
-    words.put_result(answer_to(alloc, kind, input));
-}
-
-/// What the code answers, in the escape.
-fn answer_to(alloc: Global, kind: &str, input: &str) -> Result<Vec<u8>, AllocError> {
-    let text = written_out(alloc, input)?;
-    match read_escaped(alloc, Escape::Text, &text) {
-        Ok(octets) => answer_in_escape(alloc, kind, octets.as_bytes()),
-        Err(EscapeFault::NotEscaped) => b"not in the escape".to_vec(alloc),
-        Err(EscapeFault::NoMemory) => Err(AllocError),
+fn put_told(alloc: Global, page: &mut Words, stage: &mut Stage, subject: Subject, line: &str) {
+    let (kind, rest) = parted(line, " ");
+    if matches!(subject, Subject::Queries) && is_setting(kind) {
+        page.put(line);
+        if let Err(trouble) = stage.set(alloc, kind, rest) {
+            page.put_trouble(" => ", trouble);
+        }
+    } else {
+        put_case(alloc, page, stage, subject, line);
     }
 }
 
-fn answer_in_escape(alloc: Global, kind: &str, input: &[u8]) -> Result<Vec<u8>, AllocError> {
-    let mut words = Words::new(alloc);
-    put_answer(alloc, &mut words, kind, input);
-    escaped(alloc, &words.finish()?)
-}
-
-fn escaped(alloc: Global, octets: &[u8]) -> Result<Vec<u8>, AllocError> {
-    let mut text = Vec::new(alloc);
-    write_escaped(Escape::Text, octets, &mut text)?;
-    written_short(alloc, &text)
-}
-
-fn put_answer(alloc: Global, words: &mut Words, kind: &str, input: &[u8]) {
-    match kind {
-        "command" => frames::put_command(alloc, words, input),
-        "damaged" => frames::put_damaged(alloc, words, input),
-        "tag" => frames::put_tag(words, input),
-        "idle" => frames::put_idle(words, input),
-        "stream" => streams::put_stream(alloc, words, Limits::STANDARD, input),
-        "narrow" => streams::put_stream(alloc, words, streams::NARROW, input),
-        "answer" => round_trips::put_read(alloc, words, input),
-        "mailbox" => round_trips::put_mailbox(alloc, words, input),
-        "flags" => flag_orders::put_shown(alloc, words, input),
-        "numbers" => numbers::put_set(alloc, words, input),
-        _ => words.put("no such kind"),
+fn put_case(alloc: Global, page: &mut Words, stage: &Stage, subject: Subject, line: &str) {
+    let (case, _) = parted(line, " => ");
+    page.put_after(case, b" => ");
+    let (kind, input) = parted(case, " ");
+    match subject {
+        Subject::Texts => page.put_result(answer_to(alloc, kind, input)),
+        Subject::Queries => put_query(alloc, page, stage, kind, input),
+        Subject::Views => put_view(alloc, page, kind, input),
     }
 }

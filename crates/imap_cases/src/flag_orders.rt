@@ -1,34 +1,50 @@
 //! Flags that were set in any order, as answers show them.
 
+use crate::parts::flags_named;
+use crate::round_trips::put_printed;
 use case_text::Words;
-use imap_print::{Answer, FetchItems, Notice, Sections, print};
+use imap_print::{Answer, FetchItems, Notice, Sections};
 use imap_types::Flags;
 use std::alloc::{AllocError, Global};
+use std::str;
+
+/// Where flags are shown.
+#[derive(Clone, Copy)]
+enum Shown {
+    /// In the answer FLAGS.
+    All,
+    /// In the code PERMANENTFLAGS.
+    Permanent,
+    /// In a FETCH.
+    Fetched,
+}
 
 /// The answers FLAGS, PERMANENTFLAGS and FETCH with flags that were set in the order of these names, which have single spaces
 /// between them.
 pub fn put_shown(alloc: Global, words: &mut Words, names: &[u8]) {
-    words.put_result(shown(alloc, names));
+    match str::from_utf8(names) {
+        Ok(names) => put_all(alloc, words, names),
+        Err(_) => words.put("no names"),
+    }
 }
 
-fn shown(alloc: Global, names: &[u8]) -> Result<Vec<u8>, AllocError> {
-    let mut text = Vec::new(alloc);
-    let all = Answer::Flags {
-        flags: flags(alloc, names)?,
-    };
-    print(&all, &mut text)?;
-    drop(all);
-    let permanent = Answer::Tell {
-        notice: Notice::PermanentFlags {
-            flags: Some(flags(alloc, names)?),
+fn put_all(alloc: Global, words: &mut Words, names: &str) {
+    for shown in [Shown::All, Shown::Permanent, Shown::Fetched] {
+        match flags_named(alloc, names) {
+            Ok(flags) => put_printed(alloc, words, answer(alloc, shown, flags)),
+            Err(AllocError) => words.give_up(),
+        }
+    }
+}
+
+fn answer(alloc: Global, shown: Shown, flags: Flags) -> Answer {
+    match shown {
+        Shown::All => Answer::Flags { flags },
+        Shown::Permanent => Answer::Tell {
+            notice: Notice::PermanentFlags { flags: Some(flags) },
         },
-    };
-    print(&permanent, &mut text)?;
-    drop(permanent);
-    let fetched = fetched(alloc, flags(alloc, names)?);
-    print(&fetched, &mut text)?;
-    drop(fetched);
-    Ok(text)
+        Shown::Fetched => fetched(alloc, flags),
+    }
 }
 
 fn fetched(alloc: Global, flags: Flags) -> Answer {
@@ -43,25 +59,4 @@ fn fetched(alloc: Global, flags: Flags) -> Answer {
             sections: Sections::new(Vec::new(alloc)),
         },
     }
-}
-
-fn flags(alloc: Global, names: &[u8]) -> Result<Flags, AllocError> {
-    let mut flags = Flags::none(alloc);
-    for name in names.split(|octet| *octet == b' ') {
-        set(alloc, &mut flags, name)?;
-    }
-    Ok(flags)
-}
-
-fn set(alloc: Global, flags: &mut Flags, name: &[u8]) -> Result<(), AllocError> {
-    match name {
-        b"" => {}
-        b"\\Answered" => flags.answered = true,
-        b"\\Flagged" => flags.flagged = true,
-        b"\\Deleted" => flags.deleted = true,
-        b"\\Seen" => flags.seen = true,
-        b"\\Draft" => flags.draft = true,
-        keyword => flags.keywords.insert(alloc, keyword)?,
-    }
-    Ok(())
 }

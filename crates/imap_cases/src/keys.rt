@@ -1,9 +1,9 @@
 //! Searches as text.
 
 use crate::commands::put_set;
+use crate::parts::put_day;
 use case_text::Words;
-use imap_grammar::{DayOrder, SearchStep, SearchTest};
-use imap_types::Day;
+use imap_grammar::{SearchStep, SearchTest};
 
 /// The steps in the order in which they are worked off, each behind a space.
 pub fn put_steps(words: &mut Words, steps: &[SearchStep]) {
@@ -37,7 +37,10 @@ fn put_test(words: &mut Words, test: &SearchTest) {
             words.put_text(" header", name.as_bytes());
             words.put_text("", text.as_bytes());
         }
-        SearchTest::Dated { order, day } => put_day(words, *order, *day),
+        SearchTest::Dated { order, day } => {
+            words.put_lowered(" ", order);
+            put_day(words, "-", "/", "/", *day);
+        }
         SearchTest::Larger { octets } => words.put_number(" larger-than-", *octets),
         SearchTest::Smaller { octets } => words.put_number(" smaller-than-", *octets),
         SearchTest::ModSeq { value } => words.put_number(" modseq-", *value),
@@ -54,11 +57,4 @@ fn put_test(words: &mut Words, test: &SearchTest) {
 
 fn sign(is_set: bool) -> &'static str {
     if is_set { " +" } else { " -" }
-}
-
-fn put_day(words: &mut Words, order: DayOrder, day: Day) {
-    words.put_lowered(" ", &order);
-    words.put_number("-", day.year.into());
-    words.put_number("/", day.month.into());
-    words.put_number("/", day.day.into());
 }

@@ -6,6 +6,7 @@
 mod answers;
 mod cases;
 mod commands;
+mod damage;
 mod flag_orders;
 mod frames;
 mod keys;
@@ -15,6 +16,6 @@ mod queries;
 mod repeats;
 mod round_trips;
 mod streams;
+mod texts;
 
-pub use cases::play;
-pub use queries::{play as play_queries, play_views};
+pub use cases::{play, play_queries, play_views};

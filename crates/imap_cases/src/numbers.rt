@@ -16,27 +16,23 @@ pub fn put_numbers(words: &mut Words, word: &str, numbers: &NumberSet) {
 
 /// The runs of the set of these numbers, which ascend and have single spaces between them.
 pub fn put_set(alloc: Global, words: &mut Words, numbers: &[u8]) {
-    match set(alloc, numbers) {
-        Ok(set) => put_numbers(words, "runs", &set),
-        Err(AllocError) => words.give_up(),
+    match str::from_utf8(numbers) {
+        Ok(numbers) => match set(alloc, numbers) {
+            Ok(set) => put_numbers(words, "runs", &set),
+            Err(AllocError) => words.give_up(),
+        },
+        Err(_) => words.put("no numbers"),
     }
 }
 
-fn set(alloc: Global, numbers: &[u8]) -> Result<NumberSet, AllocError> {
+/// The set of these numbers. What are no digits is 0, which is in no set.
+fn set(alloc: Global, numbers: &str) -> Result<NumberSet, AllocError> {
     let mut set = NumberSet::new(alloc);
-    for digits in numbers.split(|octet| *octet == b' ') {
-        let number = number(digits);
+    for digits in numbers.split(' ') {
+        let number = digits.parse::<u32>().unwrap_or(0);
         if set.greatest() < number {
             set.push(number)?;
         }
     }
     Ok(set)
-}
-
-/// The number of these digits; 0, which is in no set, where they are none.
-fn number(digits: &[u8]) -> u32 {
-    match str::from_utf8(digits) {
-        Ok(digits) => digits.parse::<u32>().unwrap_or(0),
-        Err(_) => 0,
-    }
 }

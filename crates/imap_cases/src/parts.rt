@@ -1,7 +1,15 @@
 //! Parts that commands and answers have in common, as text.
 
 use case_text::Words;
-use imap_types::{Flags, Octets, Section};
+use imap_types::{Day, Flags, Octets, Section};
+use std::alloc::{AllocError, Global};
+
+/// Octets, and others behind them.
+pub fn joined(alloc: Global, front: &[u8], back: &[u8]) -> Result<Vec<u8>, AllocError> {
+    let mut whole = front.to_vec(alloc)?;
+    whole.extend_from_slice(back)?;
+    Ok(whole)
+}
 
 /// Each behind a space, between `<` and `>`.
 pub fn put_texts(words: &mut Words, texts: &[Octets]) {
@@ -34,4 +42,35 @@ pub fn put_section(words: &mut Words, section: &Section) {
             put_texts(words, names.names());
         }
     }
+}
+
+/// Sets the flag of this name.
+fn set_flag(alloc: Global, flags: &mut Flags, name: &str) -> Result<(), AllocError> {
+    match name {
+        "\\Answered" => flags.answered = true,
+        "\\Flagged" => flags.flagged = true,
+        "\\Deleted" => flags.deleted = true,
+        "\\Seen" => flags.seen = true,
+        "\\Draft" => flags.draft = true,
+        keyword => return flags.keywords.insert(alloc, keyword.as_bytes()),
+    }
+    Ok(())
+}
+
+/// Flags that were set in the order of these names, which have single spaces between them.
+pub fn flags_named(alloc: Global, names: &str) -> Result<Flags, AllocError> {
+    let mut flags = Flags::none(alloc);
+    for name in names.split(' ') {
+        if !name.is_empty() {
+            set_flag(alloc, &mut flags, name)?;
+        }
+    }
+    Ok(flags)
+}
+
+/// Year, month and day, each behind a word.
+pub fn put_day(words: &mut Words, year: &str, month: &str, day: &str, of: Day) {
+    words.put_number(year, of.year.into());
+    words.put_number(month, of.month.into());
+    words.put_number(day, of.day.into());
 }

@@ -2,7 +2,7 @@
 
 ghost use Rattle.std.specs.Prelude.{◌<◌};
 
-use case_text::Words;
+use case_text::{Words, parted};
 use std::alloc::{AllocError, Global};
 
 /// Texts that come at least so often are written short.
@@ -13,11 +13,9 @@ const LONGEST: usize = 16;
 /// The text with all that is written short written out.
 pub fn written_out(alloc: Global, text: &str) -> Result<Vec<u8>, AllocError> {
     let mut words = Words::new(alloc);
-    let mut pieces = text.split("~<");
-    if let Some(front) = pieces.next() {
-        words.put(front);
-    }
-    for piece in pieces {
+    let (front, pieces) = parted(text, "~<");
+    words.put(front);
+    for piece in pieces.split("~<") {
         put_piece(&mut words, piece);
     }
     words.finish()
@@ -25,13 +23,13 @@ pub fn written_out(alloc: Global, text: &str) -> Result<Vec<u8>, AllocError> {
 
 /// Puts what stands behind `~<`: of `COUNT TEXT~>REST` the text so often, and the rest.
 fn put_piece(words: &mut Words, piece: &str) {
-    let (group, rest) = piece.split_once("~>").unwrap_or((piece, ""));
+    let (group, rest) = parted(piece, "~>");
     put_group(words, group);
     words.put(rest);
 }
 
 fn put_group(words: &mut Words, group: &str) {
-    let (count, text) = group.split_once(' ').unwrap_or((group, ""));
+    let (count, text) = parted(group, " ");
     put_times(words, count.parse::<u32>().unwrap_or(0), text);
 }
 
@@ -78,7 +76,12 @@ fn put_short(words: &mut Words, text: &[u8], count: usize) {
 fn times(rest: &[u8], text: &[u8], length: usize) -> usize
     requires { 0 < length }
 {
-    rest.chunks(length)
-        .take_while(|piece| *piece == text)
-        .count()
+    let mut count: usize = 0;
+    for piece in rest.chunks(length) {
+        if piece != text {
+            return count;
+        }
+        count = count.saturating_add(1);
+    }
+    count
 }

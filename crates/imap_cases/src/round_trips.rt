@@ -1,71 +1,43 @@
 //! Answers read and printed.
 
 use crate::answers::put_answer;
-use crate::frames::{DAMAGES, with_octet};
+use crate::damage::{Demand, put_failing};
+use crate::parts::joined;
 use case_text::Words;
 use imap_print::{Answer, MailboxState, print, read};
 use imap_types::Name;
 use std::alloc::{AllocError, Global};
 
-/// The answer that a text is. Where the text isn't the one text of that answer, what is amiss follows.
+/// The answer that a text is. Where the text isn't the one text of that answer, what is amiss follows; and where a short text can be damaged
+/// so that it is read as an answer that is printed otherwise, the place.
 pub fn put_read(alloc: Global, words: &mut Words, text: &[u8]) {
     match read(alloc, text) {
         Ok(Some((answer, length))) => {
             put_answer(words, &answer);
-            put_amiss(alloc, words, &answer, length, text);
+            let amiss = amiss(alloc, words, &answer, length, text);
+            words.put(amiss);
             drop(answer);
         }
         Ok(None) => words.put("none"),
         Err(AllocError) => words.give_up(),
     }
-    put_damaged(alloc, words, text);
+    let word = ", misread where damaged at ";
+    put_failing(alloc, words, Demand::ReadAsPrinted, FRONTS, text, word);
 }
 
-/// Where a short text can be damaged so that it is read as an answer that is printed otherwise.
-fn put_damaged(alloc: Global, words: &mut Words, text: &[u8]) {
-    if text.len() <= FRONTS {
-        match first_misread(alloc, text) {
-            Ok(None) => {}
-            Ok(Some(place)) => words.put_number(", misread where damaged at ", place as u64),
-            Err(AllocError) => words.give_up(),
-        }
-    }
-}
-
-fn first_misread(alloc: Global, text: &[u8]) -> Result<Option<usize>, AllocError> {
-    for place in 0..text.len() {
-        if !is_read_damaged(alloc, text, place)? {
-            return Ok(Some(place));
-        }
-    }
-    Ok(None)
-}
-
-/// Whether of a text with each damage at this place nothing is read, or an answer whose text is its front.
-fn is_read_damaged(alloc: Global, text: &[u8], place: usize) -> Result<bool, AllocError> {
-    for octet in DAMAGES {
-        if !is_front_printed(alloc, &with_octet(alloc, text, place, octet)?)? {
-            return Ok(false);
-        }
-    }
-    Ok(true)
-}
-
-fn is_front_printed(alloc: Global, text: &[u8]) -> Result<bool, AllocError> {
-    match read(alloc, text)? {
-        Some((answer, length)) => {
-            let printed = printed(alloc, &answer);
+/// Whether of a text nothing is read, or an answer whose text is its front.
+pub fn is_front_printed(alloc: Global, words: &mut Words, text: &[u8]) -> bool {
+    match read(alloc, text) {
+        Ok(Some((answer, length))) => {
+            let is_printed = is_printed(alloc, words, &answer, text.get(..length));
             drop(answer);
-            Ok(text.get(..length) == Some(printed?.as_slice()))
+            is_printed
         }
-        None => Ok(true),
-    }
-}
-
-fn put_amiss(alloc: Global, words: &mut Words, answer: &Answer, length: usize, text: &[u8]) {
-    match amiss(alloc, answer, length, text) {
-        Ok(what) => words.put(what),
-        Err(AllocError) => words.give_up(),
+        Ok(None) => true,
+        Err(AllocError) => {
+            words.give_up();
+            false
+        }
     }
 }
 
@@ -73,99 +45,154 @@ fn put_amiss(alloc: Global, words: &mut Words, answer: &Answer, length: usize, t
 /// follows it, and no front of it is read. A copy is the same answer.
 fn amiss(
     alloc: Global,
+    words: &mut Words,
     answer: &Answer,
     length: usize,
     text: &[u8],
-) -> Result<&'static str, AllocError> {
+) -> &'static str {
     if length != text.len() {
-        return Ok(", and more follows");
+        ", and more follows"
+    } else if !is_printed(alloc, words, answer, Some(text)) {
+        ", printed otherwise"
+    } else if !is_copied(alloc, words, answer) {
+        ", copied otherwise"
+    } else if !is_read_before_all(alloc, words, answer, text) {
+        ", read otherwise where more follows"
+    } else if is_front_read(alloc, words, text) {
+        ", and a front is read"
+    } else {
+        ""
     }
-    if !is_printed(alloc, answer, text)? {
-        return Ok(", printed otherwise");
-    }
-    if !is_copied(alloc, answer)? {
-        return Ok(", copied otherwise");
-    }
-    if !is_read_before_all(alloc, answer, text)? {
-        return Ok(", read otherwise where more follows");
-    }
-    if is_front_read(alloc, text)? {
-        return Ok(", and a front is read");
-    }
-    Ok("")
 }
 
-fn is_printed(alloc: Global, answer: &Answer, text: &[u8]) -> Result<bool, AllocError> {
-    let mut out = b"+ idling\r\n".to_vec(alloc)?;
-    print(answer, &mut out)?;
-    Ok(out.strip_prefix(b"+ idling\r\n") == Some(text))
-}
-
-fn is_copied(alloc: Global, answer: &Answer) -> Result<bool, AllocError> {
-    let copy = answer.copy(alloc)?;
-    let is_same = copy.same(answer);
-    drop(copy);
-    Ok(is_same)
-}
-
-fn is_read_before_all(alloc: Global, answer: &Answer, text: &[u8]) -> Result<bool, AllocError> {
-    for more in [b"".as_slice(), b"\r\n", b" ok\r\n", b"1", b")\r\n", text] {
-        if !is_read_before(alloc, answer, text, more)? {
-            return Ok(false);
+/// Whether this is what is put behind what is there where the answer is printed.
+fn is_printed(alloc: Global, words: &mut Words, answer: &Answer, text: Option<&[u8]>) -> bool {
+    match printed_behind(alloc, b"+ idling\r\n", answer) {
+        Ok(out) => out.strip_prefix(b"+ idling\r\n") == text,
+        Err(AllocError) => {
+            words.give_up();
+            false
         }
     }
-    Ok(true)
+}
+
+fn is_copied(alloc: Global, words: &mut Words, answer: &Answer) -> bool {
+    match answer.copy(alloc) {
+        Ok(copy) => {
+            let is_same = copy.same(answer);
+            drop(copy);
+            is_same
+        }
+        Err(AllocError) => {
+            words.give_up();
+            false
+        }
+    }
+}
+
+fn is_read_before_all(alloc: Global, words: &mut Words, answer: &Answer, text: &[u8]) -> bool {
+    for more in [b"".as_slice(), b"\r\n", b" ok\r\n", b"1", b")\r\n", text] {
+        if !is_read_before(alloc, words, answer, text, more) {
+            return false;
+        }
+    }
+    true
 }
 
 fn is_read_before(
     alloc: Global,
+    words: &mut Words,
     answer: &Answer,
     text: &[u8],
     more: &[u8],
-) -> Result<bool, AllocError> {
-    let mut input = text.to_vec(alloc)?;
-    input.extend_from_slice(more)?;
-    match read(alloc, &input)? {
-        Some((found, length)) => {
-            let is_same = found.same(answer) && length == text.len();
-            drop(found);
-            Ok(is_same)
+) -> bool {
+    match joined(alloc, text, more) {
+        Ok(input) => is_read_of(alloc, words, answer, text.len(), &input),
+        Err(AllocError) => {
+            words.give_up();
+            false
         }
-        None => Ok(false),
+    }
+}
+
+/// Whether the answer is read of so many octets of an input.
+fn is_read_of(
+    alloc: Global,
+    words: &mut Words,
+    answer: &Answer,
+    count: usize,
+    input: &[u8],
+) -> bool {
+    match read(alloc, input) {
+        Ok(Some((found, length))) => {
+            let is_same = found.same(answer) && length == count;
+            drop(found);
+            is_same
+        }
+        Ok(None) => false,
+        Err(AllocError) => {
+            words.give_up();
+            false
+        }
     }
 }
 
 /// How many fronts of a text are read at most: the longest.
 const FRONTS: usize = 500;
 
-fn is_front_read(alloc: Global, text: &[u8]) -> Result<bool, AllocError> {
+fn is_front_read(alloc: Global, words: &mut Words, text: &[u8]) -> bool {
     for length in text.len().saturating_sub(FRONTS)..text.len() {
         let (front, _) = text.split_at(length);
-        if read(alloc, front)?.is_some() {
-            return Ok(true);
+        if is_read(alloc, words, front) {
+            return true;
         }
     }
-    Ok(false)
+    false
+}
+
+fn is_read(alloc: Global, words: &mut Words, text: &[u8]) -> bool {
+    match read(alloc, text) {
+        Ok(Some((answer, _))) => {
+            drop(answer);
+            true
+        }
+        Ok(None) => false,
+        Err(AllocError) => {
+            words.give_up();
+            false
+        }
+    }
 }
 
 /// A mailbox of this name in LIST, as it is printed.
 pub fn put_mailbox(alloc: Global, words: &mut Words, name: &[u8]) {
-    words.put_result(mailbox(alloc, name));
+    match Name::copied_from(alloc, name) {
+        Ok(name) => {
+            let state = MailboxState::There;
+            let subscribed = false;
+            put_printed(
+                alloc,
+                words,
+                Answer::List {
+                    name,
+                    state,
+                    subscribed,
+                },
+            );
+        }
+        Err(AllocError) => words.give_up(),
+    }
 }
 
-fn mailbox(alloc: Global, name: &[u8]) -> Result<Vec<u8>, AllocError> {
-    let answer = Answer::List {
-        name: Name::copied_from(alloc, name)?,
-        state: MailboxState::There,
-        subscribed: false,
-    };
-    let text = printed(alloc, &answer);
+/// An answer, as it is printed.
+pub fn put_printed(alloc: Global, words: &mut Words, answer: Answer) {
+    words.put_result(printed_behind(alloc, b"", &answer));
     drop(answer);
-    text
 }
 
-fn printed(alloc: Global, answer: &Answer) -> Result<Vec<u8>, AllocError> {
-    let mut text = Vec::new(alloc);
+/// An answer, as it is printed behind these octets.
+pub fn printed_behind(alloc: Global, front: &[u8], answer: &Answer) -> Result<Vec<u8>, AllocError> {
+    let mut text = front.to_vec(alloc)?;
     print(answer, &mut text)?;
     Ok(text)
 }

@@ -1,6 +1,6 @@
 //! How the framer cuts streams into commands.
 
-use crate::frames::{DAMAGES, with_octet};
+use crate::damage::{Demand, put_failing};
 use case_text::Words;
 use imap_lex::{FrameFault, Framer, Item, Limits};
 use std::alloc::{AllocError, Global};
@@ -24,93 +24,88 @@ pub fn put_stream(alloc: Global, words: &mut Words, limits: Limits, stream: &[u8
         Ok(given) => {
             words.put_octets(&given);
             put_other_cuts(alloc, words, limits, stream, &given);
-            put_damaged(alloc, words, limits, stream);
         }
         Err(AllocError) => words.give_up(),
     }
+    let word = ", otherwise octet by octet where damaged at ";
+    put_failing(
+        alloc,
+        words,
+        Demand::SameInPieces(limits),
+        SHORT,
+        stream,
+        word,
+    );
 }
 
 fn put_other_cuts(alloc: Global, words: &mut Words, limits: Limits, stream: &[u8], given: &[u8]) {
-    match other_size(alloc, limits, stream, given) {
-        Ok(None) => {}
-        Ok(Some(size)) => words.put_number(", otherwise in pieces of ", size as u64),
-        Err(AllocError) => words.give_up(),
-    }
-    match other_cut(alloc, limits, stream, given) {
-        Ok(None) => {}
-        Ok(Some(first)) => words.put_number(", otherwise when cut behind ", first as u64),
-        Err(AllocError) => words.give_up(),
-    }
+    let size = other_size(alloc, words, limits, stream, given);
+    words.put_optional(", otherwise in pieces of ", size);
+    let first = other_cut(alloc, words, limits, stream, given);
+    words.put_optional(", otherwise when cut behind ", first);
 }
 
-/// Where a short stream can be damaged so that it gives something else in one piece than octet by octet.
-fn put_damaged(alloc: Global, words: &mut Words, limits: Limits, stream: &[u8]) {
-    if stream.len() <= SHORT {
-        match first_torn(alloc, limits, stream) {
-            Ok(None) => {}
-            Ok(Some(place)) => {
-                words.put_number(", otherwise octet by octet where damaged at ", place as u64)
-            }
-            Err(AllocError) => words.give_up(),
+/// Whether a stream gives the same in one piece and octet by octet.
+pub fn is_same_in_pieces(alloc: Global, words: &mut Words, limits: Limits, stream: &[u8]) -> bool {
+    match in_pieces(alloc, limits, b"", stream, SHORT) {
+        Ok(whole) => gives(alloc, words, limits, b"", stream, 1, &whole),
+        Err(AllocError) => {
+            words.give_up();
+            false
         }
     }
-}
-
-fn first_torn(alloc: Global, limits: Limits, stream: &[u8]) -> Result<Option<usize>, AllocError> {
-    for place in 0..stream.len() {
-        if !is_same_damaged(alloc, limits, stream, place)? {
-            return Ok(Some(place));
-        }
-    }
-    Ok(None)
-}
-
-/// Whether a stream with each damage at this place gives the same in one piece and octet by octet.
-fn is_same_damaged(
-    alloc: Global,
-    limits: Limits,
-    stream: &[u8],
-    place: usize,
-) -> Result<bool, AllocError> {
-    for octet in DAMAGES {
-        let damaged = with_octet(alloc, stream, place, octet)?;
-        let whole = in_pieces(alloc, limits, b"", &damaged, SHORT)?;
-        if in_pieces(alloc, limits, b"", &damaged, 1)?.as_slice() != whole.as_slice() {
-            return Ok(false);
-        }
-    }
-    Ok(true)
 }
 
 /// The first size of pieces in which the stream gives something else.
 fn other_size(
     alloc: Global,
+    words: &mut Words,
     limits: Limits,
     stream: &[u8],
     given: &[u8],
-) -> Result<Option<usize>, AllocError> {
+) -> Option<u64> {
     for size in SIZES {
-        if in_pieces(alloc, limits, b"", stream, size)?.as_slice() != given {
-            return Ok(Some(size));
+        if !gives(alloc, words, limits, b"", stream, size, given) {
+            return Some(size as u64);
         }
     }
-    Ok(None)
+    None
 }
 
 /// The first place where the stream can be cut in two so that it gives something else.
 fn other_cut(
     alloc: Global,
+    words: &mut Words,
     limits: Limits,
     stream: &[u8],
     given: &[u8],
-) -> Result<Option<usize>, AllocError> {
+) -> Option<u64> {
     for first in 0..stream.len().min(SHORT) {
         let (front, back) = stream.split_at(first);
-        if in_pieces(alloc, limits, front, back, SHORT)?.as_slice() != given {
-            return Ok(Some(first));
+        if !gives(alloc, words, limits, front, back, SHORT, given) {
+            return Some(first as u64);
         }
     }
-    Ok(None)
+    None
+}
+
+/// Whether a stream gives this, its front in one piece and the rest in pieces of this size.
+fn gives(
+    alloc: Global,
+    words: &mut Words,
+    limits: Limits,
+    front: &[u8],
+    rest: &[u8],
+    size: usize,
+    given: &[u8],
+) -> bool {
+    match in_pieces(alloc, limits, front, rest, size) {
+        Ok(other) => other.as_slice() == given,
+        Err(AllocError) => {
+            words.give_up();
+            false
+        }
+    }
 }
 
 /// What a stream gives, its front in one piece and the rest in pieces of this size.

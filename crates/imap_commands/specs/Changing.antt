@@ -4,7 +4,7 @@ use Rattle.imap_syntax.specs.declared.store.StoreMode.{StoreMode}
 use Rattle.imap_syntax.specs.declared.store.StoreMode.TheVariants.{Replace, Add, Remove}
 use Rattle.imap_types.specs.Keywords.{has_keyword}
 use Rattle.imap_types.specs.declared.flags.Flags.{Flags}
-use Rattle.message_versions.specs.Unions.{with_flags}
+use Rattle.imap_types.specs.Unions.{with_flags}
 
 -- The keywords without those that are given.
 abbrev pub remaining : List (List ℕ) → List (List ℕ) → List (List ℕ)

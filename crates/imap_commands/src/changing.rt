@@ -2,11 +2,10 @@
 
 ghost use Rattle.std.specs.Prelude.{◌≡◌, IfOk};
 ghost use Rattle.imap_commands.specs.Changing.{changed_flags, remaining, removed_flags};
-ghost use Rattle.message_versions.specs.Unions.{with_flags};
+ghost use Rattle.imap_types.specs.Unions.{with_flags};
 
 use imap_syntax::StoreMode;
-use imap_types::{Flags, Keywords, Octets};
-use message_versions::add_flags;
+use imap_types::{Flags, Keywords, Octets, add_flags};
 use std::alloc::{AllocError, Global};
 
 /// What STORE makes of a message's flags, from those and the ones that are given. `Err` where there is no memory for them. Keywords are

@@ -3,7 +3,7 @@
 ghost use Rattle.std.specs.Prelude.{◌≡◌, ◌++◌, false, IfOk, OnOk};
 ghost use Rattle.std.specs.Option.{option_map, unwrap_or};
 ghost use Rattle.imap_query.specs.Fetching.{fetch_answers};
-ghost use Rattle.message_versions.specs.Unions.{united};
+ghost use Rattle.imap_types.specs.Unions.{united};
 ghost use Rattle.imap_commands.specs.Fetching.{fetch_tells, fetch_wants, mode_of, seen_flags, seen_store, seen_stores, shown_at, shown_of};
 ghost use Rattle.imap_commands.specs.Found.{named_found};
 ghost use Rattle.imap_commands.specs.Gives.{Gives};
@@ -19,9 +19,8 @@ use crdt_ops::Kind;
 use imap_answers::{Answer, Refusal};
 use imap_query::{FetchMode, Shown, fetch, fetch_unchanged, is_kept, is_marked, set_seen};
 use imap_syntax::FetchItem;
-use imap_types::Flags;
+use imap_types::{Flags, Versions};
 use mail_listing::Rows;
-use message_versions::Versions;
 use session_view::Entries;
 use std::alloc::{AllocError, Global};
 

@@ -6,7 +6,7 @@ ghost use Rattle.imap_answers.specs.declared.answer.Answer.TheVariants.{Exists a
 ghost use Rattle.imap_answers.specs.declared.codes.Notice.TheVariants.{HighestModSeq as HighestModSeqNotice, PermanentFlags as PermanentFlagsNotice, UidNext as UidNextNotice, UidValidity as UidValidityNotice};
 ghost use Rattle.imap_answers.specs.declared.mailbox.MailboxState.TheVariants.{There};
 ghost use Rattle.imap_types.specs.Keywords.{lowered, with_text};
-ghost use Rattle.message_versions.specs.Unions.{united};
+ghost use Rattle.imap_types.specs.Unions.{united};
 ghost use Rattle.imap_commands.specs.Gives.{Gives};
 ghost use Rattle.imap_commands.specs.Selecting.{AreBorne, SelectTells, access_code, flags_in_use, mailbox_answers, permanent_flags, select_tells, select_wants};
 
@@ -14,9 +14,8 @@ use crate::telling::Telling;
 use crdt_ops::Kind;
 use imap_answers::{Answer, Code, MailboxState, Notice, Refusal};
 use imap_query::Marks;
-use imap_types::{Flags, Keywords, Name, Octets};
+use imap_types::{Flags, Keywords, Name, Octets, Versions};
 use mail_listing::Rows;
-use message_versions::Versions;
 use std::alloc::{AllocError, Global};
 
 /// What SELECT and EXAMINE issue, which is nothing, or why they are refused: `NoSuchMailbox` where the mailbox isn't there

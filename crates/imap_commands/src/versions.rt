@@ -1,10 +1,10 @@
 //! What operations say of a message that may have several versions.
 
 ghost use Rattle.std.specs.Prelude.{◌≡◌, IfOk};
-ghost use Rattle.message_versions.specs.Unions.{version_ids};
+ghost use Rattle.imap_types.specs.Unions.{version_ids};
 
 use crdt_ops::Ids;
-use message_versions::{Version, Versions};
+use imap_types::{Version, Versions};
 use std::alloc::{AllocError, Global};
 use tags_clocks::OpId;
 

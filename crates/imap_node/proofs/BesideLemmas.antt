@@ -8,7 +8,7 @@ use Rattle.std.proofs.lemmas.Bool.{cases_Bool, false≢true, false_from_ne_true}
 use Rattle.std.proofs.lemmas.Slice.Eq.{bytes_eq-Decides}
 use Rattle.tags_clocks.specs.declared.id.OpId.{OpId}
 use Rattle.merge_laws.specs.Orders.{IsIn}
-use Rattle.entry_table.specs.declared.entry.Entry.{Entry as Numbered}
+use Rattle.mail_listing.specs.declared.entry.Entry.{Entry as Numbered}
 use Rattle.crdt_ops.specs.declared.op.Op.{Op}
 use Rattle.crdt_ops.specs.Sets.{Body, body_from, tag_flags_of, versions_of, message_of}
 use Rattle.crdt_ops.specs.Tags.{name_of}

@@ -8,3 +8,5 @@ pub mod Names
 pub mod Numbers
 pub mod Reading
 pub mod Sets
+pub mod Unions
+pub mod Members

@@ -1,5 +1,6 @@
 //! The values that commands, answers and operations are made of: octet strings, message texts, mailbox names, flags, date-times,
-//! moments, sets of numbers, sequence sets and sections; and the escape in which lines of text spell octets.
+//! moments, sets of numbers, sequence sets and sections; the versions of a message and the union of their flags; and the escape in which lines of text
+//! spell octets.
 //!
 //! Each type owns its octets and is seen by contracts as the list of them.
 #![tactic(auto)]
@@ -7,6 +8,7 @@
 mod date_time;
 mod day;
 mod escape;
+mod flag_tests;
 mod flags;
 mod keywords;
 mod moment;
@@ -16,6 +18,9 @@ mod octets;
 mod section;
 mod sequence_set;
 mod text;
+mod unions;
+mod version;
+mod versions;
 
 pub use date_time::{DATE_TIME_OCTETS, DateTime};
 pub use day::Day;
@@ -31,3 +36,6 @@ pub use octets::Octets;
 pub use section::{FieldNames, Section};
 pub use sequence_set::{SequenceBound, SequenceRange, SequenceSet};
 pub use text::Text;
+pub use unions::add_flags;
+pub use version::{Version, copied_versions};
+pub use versions::Versions;

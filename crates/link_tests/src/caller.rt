@@ -1,7 +1,7 @@
 //! One caller of a replica, and what it does.
 
 use crate::deeds::{Deed, HOUR, Sign, Step};
-use crate::fixtures::{close_one, copies, open_one, say};
+use crate::fixtures::{copies, open_one, say};
 use crate::mail::{Mail, Open};
 use crate::told::is_clock;
 use crdt_ops::SoundOp;
@@ -115,15 +115,6 @@ impl<L: Ledger> Caller<L> {
         }
     }
 
-    /// Copies of the operations that its replica applied.
-    pub fn ops_copy<R: Wait>(&self, station: &Station<'_, L, R>) -> Option<Vec<SoundOp>> {
-        let mail = &station.mail;
-        station
-            .shared
-            .ops_copy(mail.rt, mail.alloc, &self.pass)
-            .ok()
-    }
-
     /// Puts its passes behind others; what it saw.
     pub fn into_seen(self, passes: &mut Vec<Pass<L>>) -> Seen {
         let Self {
@@ -168,30 +159,45 @@ impl<L: Ledger> Caller<L> {
         }
     }
 
+    /// Does one thing, at its session or otherwise.
     fn do_one<R: Wait + Clock>(
         &mut self,
         station: &Station<'_, L, R>,
         deed: Deed,
     ) -> Result<bool, AllocError> {
-        let (shared, mail) = (station.shared, &station.mail);
-        let (rt, alloc) = (mail.rt, mail.alloc);
+        let (shared, rt, alloc) = (station.shared, station.mail.rt, station.mail.alloc);
         match deed {
             Deed::Opens => {
                 let opened = open_one(rt, alloc, shared, &mut self.pass);
                 Ok(self.note(opened))
             }
             Deed::Closes => {
-                let closed = close_one(rt, alloc, shared, &mut self.pass);
+                let closed = self.pass.session().is_some()
+                    && shared.close(rt, alloc, &mut self.pass).is_ok();
                 Ok(self.note(closed))
             }
             Deed::Does(line) => self.say(station, line),
             Deed::Says(line) => Ok(self.say_and_send(station, line)? > 0),
             Deed::Noops => self.say_noops(station),
             Deed::Makes => self.make(station),
-            Deed::Drains => Ok(shared.drain(rt, alloc, &mut self.pass).is_ok()),
             Deed::Feeds => Ok(self.feed(station)),
+            _ => self.do_other(station, deed),
+        }
+    }
+
+    /// Does one thing that is not done at its own session.
+    fn do_other<R: Wait + Clock>(
+        &mut self,
+        station: &Station<'_, L, R>,
+        deed: Deed,
+    ) -> Result<bool, AllocError> {
+        let (shared, mail) = (station.shared, &station.mail);
+        match deed {
+            Deed::Drains => Ok(shared.drain(mail.rt, mail.alloc, &mut self.pass).is_ok()),
             Deed::Holds(turns) => hold(station, turns),
-            Deed::AwaitsChange(seen) => { mail.tell_number("length", shared.wait_change(rt, seen)) }
+            Deed::AwaitsChange(seen) => {
+                mail.tell_number("length", shared.wait_change(mail.rt, seen))
+            }
             Deed::AwaitsClock(wanted) => Ok(comes_to(station, wanted)),
             Deed::LosesPass(opens) => Ok(self.lose_pass(station, opens)),
             Deed::Asks => self.take(station, &[], true),
@@ -355,21 +361,23 @@ impl<L: Ledger> Caller<L> {
             asks_first,
             rest: Duration::from_millis(rest),
         };
-        let mut answers = mail.again();
+        let mut answers = Mail {
+            rt: mail.rt,
+            alloc: mail.alloc,
+            own: mail.own,
+            lines: mail.lines,
+            threads: mail.threads,
+        };
         let mut taker = ReplicaTaker::new(mail.rt, mail.alloc, station.shared, pass);
         link_worker(mail.rt, &mut Open, &inbox, &mut taker, &mut answers);
         self.links.push(taker.into_pass()).is_ok()
     }
 }
 
-/// Callers for each thread at a replica, whose passes are cut from this one.
-pub fn cut_callers<L: Ledger, R: Wait>(
-    station: &Station<'_, L, R>,
-    first: &mut Pass<L>,
-) -> Vec<Caller<L>> {
-    let alloc = station.mail.alloc;
+/// So many callers, one for each thread at a replica, whose passes are cut from this one.
+pub fn cut_callers<L: Ledger>(alloc: Global, count: usize, first: &mut Pass<L>) -> Vec<Caller<L>> {
     let mut callers = Vec::new(alloc);
-    for number in 0..station.mail.threads.len() {
+    for number in 0..count {
         if let Some((pass, spare)) = first.cut().zip(first.cut()) {
             let _ = callers.push(Caller::new(alloc, pass, Some(spare), number));
         }

@@ -10,8 +10,10 @@ use std::alloc::{AllocError, Global};
 
 /// What is left of a replica: its book, or why it isn't handed out, and what its callers saw.
 pub struct Ended {
-    book: Result<Book, FinishFault>,
-    seen: Vec<Seen>,
+    /// The book that was handed out, or why there is none.
+    pub book: Result<Book, FinishFault>,
+    /// What its callers saw.
+    pub seen: Vec<Seen>,
 }
 
 // By hand, so that what holds it lets it go as a whole.
@@ -22,17 +24,6 @@ impl Drop for Ended {
 }
 
 impl Ended {
-    /// What is left of a replica.
-    pub fn new(book: Result<Book, FinishFault>, seen: Vec<Seen>) -> Ended {
-        Ended { book, seen }
-    }
-
-    /// The book, where it was handed out.
-    pub fn into_book(self) -> Option<Book> {
-        let Self { book, seen: _ } = self;
-        book.ok()
-    }
-
     /// Tells how many entries the journal has, or why it isn't handed out.
     fn tell_entries(&self, text: &mut String) -> Result<(), AllocError> {
         match &self.book {
@@ -113,7 +104,9 @@ fn tell_books(
             tell_answers(text, other)
         }
         Ending::Common => {
-            let (applied, common) = common(one, other);
+            let ops = one.node().op_list();
+            let applied = ops.len();
+            let common = common(ops, other.node().op_list());
             write!(text, "{applied} applied, {common} by both\n")
         }
         _ => tell_history(alloc, text, one, seen),
@@ -122,14 +115,23 @@ fn tell_books(
 
 /// Whether an operation stands in a list.
 fn has(ops: &[SoundOp], op: &SoundOp) -> bool {
-    ops.iter().any(|other| other.same(op))
+    for other in ops {
+        if other.same(op) {
+            return true;
+        }
+    }
+    false
 }
 
-/// How many operations one applied, and how many of these the other did.
-fn common(one: &Book, other: &Book) -> (usize, usize) {
-    let ops = one.node().op_list();
-    let others = other.node().op_list();
-    (ops.len(), ops.iter().filter(|op| has(others, op)).count())
+/// How many operations of a list stand in another.
+fn common(ops: &[SoundOp], others: &[SoundOp]) -> usize {
+    let mut common = 0usize;
+    for op in ops {
+        if has(others, op) {
+            common = common.saturating_add(1);
+        }
+    }
+    common
 }
 
 /// Tells how many entries a journal has, how many outcomes stand where they were seen, and how many entries are commands of those who saw them there.
@@ -142,9 +144,7 @@ fn tell_history(
     let mut standing = 0usize;
     let mut own = 0usize;
     for seen in seen {
-        let places = &seen.places;
-        let stood = places.iter().filter(|s| stands(book, s.0, &s.1)).count();
-        standing = standing.saturating_add(stood);
+        standing = standing.saturating_add(count_standing(book, &seen.places));
         own = own.saturating_add(own_commands(alloc, book, seen)?);
     }
     let entries = book.len();
@@ -154,12 +154,17 @@ fn tell_history(
     )
 }
 
-/// Whether the entry there has this outcome.
-fn stands(book: &Book, place: u64, outcome: &Outcome) -> bool {
-    match book.entry(place) {
-        Some(kept) => kept.has_outcome(outcome),
-        None => false,
+/// How many outcomes stand where they were seen.
+fn count_standing(book: &Book, places: &[(u64, Outcome)]) -> usize {
+    let mut standing = 0usize;
+    for (place, outcome) in places {
+        if let Some(kept) = book.entry(*place) {
+            if kept.has_outcome(outcome) {
+                standing = standing.saturating_add(1);
+            }
+        }
     }
+    standing
 }
 
 /// How many entries that a caller saw behind its first are its own commands, each in its place and above the one before it.

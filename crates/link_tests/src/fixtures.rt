@@ -12,11 +12,6 @@ use std::sync::ledger::Ledger;
 use tags_clocks::ReplicaId;
 use uid_projection::Start;
 
-/// The replica with this number, new, and with an empty journal.
-pub fn fresh_book(alloc: Global, number: u32) -> Option<Book> {
-    book_from(alloc, number, 1)
-}
-
 /// The replica with this number, new, and with this as the first UID of INBOX; `None` for 0.
 pub fn book_from(alloc: Global, number: u32, uid: u32) -> Option<Book> {
     if uid == 0 {
@@ -60,19 +55,6 @@ pub fn say<L: Ledger, R: Wait>(
             .is_ok(),
         Err(_) => false,
     }
-}
-
-/// Closes the pass's session.
-pub fn close_one<L: Ledger, R: Wait>(
-    rt: &R,
-    alloc: Global,
-    shared: &Shared<L>,
-    pass: &mut Pass<L>,
-) -> bool {
-    if pass.session().is_none() {
-        return false;
-    }
-    shared.close(rt, alloc, pass).is_ok()
 }
 
 /// The operations that lines spell, in their order; `None` where one spells none that is sound.
@@ -127,14 +109,6 @@ fn push_copies(
         copies.push(op.copy(alloc)?)?;
     }
     Ok(())
-}
-
-/// The book of a replica that joins with the operations that lines spell, if it does.
-pub fn joined_book(alloc: Global, number: u32, lines: &[&str]) -> Option<Book> {
-    let ops = operations(alloc, lines)?;
-    let book = join(alloc, number, &ops);
-    drop(ops);
-    book
 }
 
 /// The book of a replica that joins with these operations, if it does.

@@ -4,9 +4,9 @@ ghost use Rattle.std.specs.Prelude.{◌≡◌};
 
 use crate::caller::{Caller, Station};
 use crate::deeds::{Deed, Ending, Scene, Step};
-use crate::fixtures::{fresh_book, join, operations};
+use crate::fixtures::{book_from, join, operations};
 use crate::mail::{Lines, Mail};
-use crate::scene::{finished, told_of, wrong_scene};
+use crate::scene::{told_of, wrong_scene};
 use crate::told::{tell_answers, tell_id};
 use crdt_ops::SoundOp;
 use replica_lock::{Book, JoinFault, Shared};
@@ -59,40 +59,67 @@ fn tell_fault(text: &mut String, fault: JoinFault) -> Result<(), AllocError> {
     text.push_str("\n")
 }
 
-/// A replica that is to join, the operations, and what comes of it.
-type Case<'a> = (u32, &'a [&'a str], &'a str);
+/// A replica that is to join.
+struct Case {
+    /// Its name.
+    name: u32,
+    /// The operations.
+    lines: &'static [&'static str],
+    /// What comes of it.
+    wanted: &'static str,
+}
 
-const CASES: &[Case<'static>] = &[
-    (3, &[], "0 entries, 0 applied\n"),
-    (
-        3,
-        &["1:1 - create a", "2:1 1=1 create b", "1:2 1=1 delete a 1:1"],
-        "1:1 Applied 1\n2:1 Applied 1\n1:2 Applied 1\n3 entries, 3 applied\n",
-    ),
-    (
-        2,
-        &["1:1 - create a", "2:2 1=1,2=1 create c", "2:1 1=1 create b"],
-        "Own 2:1\n",
-    ),
-    (1, &["2:2 2=1 create x", "1:1 - create a"], "Own 1:1\n"),
-    (2, &["1:1 - create a", "2:1 1=1 create b"], "Own 2:1\n"),
-    (
-        3,
-        &["1:2 1=1 create b", "1:1 - create a"],
-        "NotCausal 1:2\n",
-    ),
-    (
-        3,
-        &["1:1 - create a", "2:2 2=1 create c", "1:3 1=2 create b"],
-        "NotCausal 2:2\n",
-    ),
-    (3, &["1:1 - create a", "1:1 - create a"], "NotCausal 1:1\n"),
-    (3, &["1:1 - create a", "1:1 - create b"], "NotCausal 1:1\n"),
-    (
-        3,
-        &["1:1 - create a", "2:1 3=1 create b"],
-        "NotCausal 2:1\n",
-    ),
+const CASES: &[Case] = &[
+    Case {
+        name: 3,
+        lines: &[],
+        wanted: "0 entries, 0 applied\n",
+    },
+    Case {
+        name: 3,
+        lines: &["1:1 - create a", "2:1 1=1 create b", "1:2 1=1 delete a 1:1"],
+        wanted: "1:1 Applied 1\n2:1 Applied 1\n1:2 Applied 1\n3 entries, 3 applied\n",
+    },
+    Case {
+        name: 2,
+        lines: &["1:1 - create a", "2:2 1=1,2=1 create c", "2:1 1=1 create b"],
+        wanted: "Own 2:1\n",
+    },
+    Case {
+        name: 1,
+        lines: &["2:2 2=1 create x", "1:1 - create a"],
+        wanted: "Own 1:1\n",
+    },
+    Case {
+        name: 2,
+        lines: &["1:1 - create a", "2:1 1=1 create b"],
+        wanted: "Own 2:1\n",
+    },
+    Case {
+        name: 3,
+        lines: &["1:2 1=1 create b", "1:1 - create a"],
+        wanted: "NotCausal 1:2\n",
+    },
+    Case {
+        name: 3,
+        lines: &["1:1 - create a", "2:2 2=1 create c", "1:3 1=2 create b"],
+        wanted: "NotCausal 2:2\n",
+    },
+    Case {
+        name: 3,
+        lines: &["1:1 - create a", "1:1 - create a"],
+        wanted: "NotCausal 1:1\n",
+    },
+    Case {
+        name: 3,
+        lines: &["1:1 - create a", "1:1 - create b"],
+        wanted: "NotCausal 1:1\n",
+    },
+    Case {
+        name: 3,
+        lines: &["1:1 - create a", "2:1 3=1 create b"],
+        wanted: "NotCausal 2:1\n",
+    },
 ];
 
 /// What a case comes to.
@@ -106,21 +133,22 @@ fn case_text(alloc: Global, name: u32, lines: &[&str]) -> Result<String, AllocEr
     Ok(text)
 }
 
-/// The first case that comes to something else.
-fn wrong_case(alloc: Global) -> Result<Option<usize>, AllocError> {
-    for (place, (name, lines, wanted)) in CASES.iter().enumerate() {
-        let text = case_text(alloc, *name, lines)?;
-        if text.as_str() != *wanted {
-            return Ok(Some(place));
+/// The place of the first case that comes to something else, what it should come to, and what it comes to; nothing where there is none.
+fn wrong_case(alloc: Global) -> Result<String, AllocError> {
+    for (place, case) in CASES.iter().enumerate() {
+        let text = case_text(alloc, case.name, case.lines)?;
+        if text.as_str() != case.wanted {
+            let wanted = case.wanted;
+            return format!(in alloc; "case {place}: not\n{wanted}but\n{text}");
         }
     }
-    Ok(None)
+    Ok(String::new(alloc))
 }
 
 #[test]
 fn who_joins_with_which_operations(rt: HostRuntime) -> Result<(), Fail> {
     let wrong = wrong_case(rt.alloc())?;
-    assert_eq!(rt; wrong, None);
+    assert_eq!(rt; wrong.as_str(), "");
     Ok(())
 }
 
@@ -131,22 +159,6 @@ const WORK: &[Deed] = &[
     Deed::Does("CREATE a"),
     Deed::Does("APPEND a {1}\r\nx"),
 ];
-
-/// Does the work at a replica; copies of its operations then.
-fn work<'a, L: Ledger, R: Wait + Clock>(
-    rt: &'a R,
-    alloc: Global,
-    lines: &'a Lines,
-    shared: &'a Shared<L>,
-    caller: &mut Caller<L>,
-) -> Option<Vec<SoundOp>> {
-    let station = Station {
-        shared,
-        mail: Mail::new(rt, alloc, 0, lines, &[]),
-    };
-    caller.act_all(&station, WORK);
-    caller.ops_copy(&station)
-}
 
 /// A replica that did the work, and one that joined with copies of its operations.
 fn worked<L: Ledger, R: Wait + Clock>(
@@ -160,18 +172,35 @@ fn worked<L: Ledger, R: Wait + Clock>(
 {
     let (shared, pass) = Shared::<L>::new(blank, book);
     let mut caller = Caller::new(alloc, pass, None, 0);
-    let ops = work(rt, alloc, lines, &shared, &mut caller);
-    let one = finished(alloc, shared, caller, Ok(Vec::new(alloc))).into_book();
-    let ops = ops?;
-    let other = join(alloc, 2, &ops);
-    drop(ops);
-    one.zip(other)
+    let station = Station {
+        shared: &shared,
+        mail: Mail {
+            rt,
+            alloc,
+            own: 0,
+            lines,
+            threads: &[],
+        },
+    };
+    caller.act_all(&station, WORK);
+    drop(station);
+    let other = match shared.ops_copy(rt, alloc, &caller.pass) {
+        Ok(ops) => {
+            let other = join(alloc, 2, &ops);
+            drop(ops);
+            other
+        }
+        Err(_) => None,
+    };
+    let mut passes = Vec::new(alloc);
+    drop(caller.into_seen(&mut passes));
+    shared.finish(passes).ok().zip(other)
 }
 
 /// The same at a new replica.
 fn worked_two<R: Wait + Clock>(rt: &R, alloc: Global) -> Result<Option<(Book, Book)>, AllocError> {
     let lines = Lines::new(alloc, false)?;
-    match fresh_book(alloc, 1) {
+    match book_from(alloc, 1, 1) {
         Some(book) => Ok(worked::<Brand, R>(rt, alloc, Blank::new(4_294_967_295), book, &lines)),
         None => Ok(None),
     }

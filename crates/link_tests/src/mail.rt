@@ -100,34 +100,6 @@ pub struct Mail<'a, R: Wait> {
 }
 
 impl<'a, R: Wait> Mail<'a, R> {
-    /// The ways from the replica at this place, whose callers do this.
-    pub fn new(
-        rt: &'a R,
-        alloc: Global,
-        own: usize,
-        lines: &'a Lines,
-        threads: &'static [&'static [Deed]],
-    ) -> Mail<'a, R> {
-        Mail {
-            rt,
-            alloc,
-            own,
-            lines,
-            threads,
-        }
-    }
-
-    /// The same way once more.
-    pub fn again(&self) -> Mail<'a, R> {
-        Mail {
-            rt: self.rt,
-            alloc: self.alloc,
-            own: self.own,
-            lines: self.lines,
-            threads: self.threads,
-        }
-    }
-
     /// The place of the other replica.
     pub fn peer(&self) -> usize {
         if self.own == 0 { 1 } else { 0 }

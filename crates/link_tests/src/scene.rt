@@ -5,7 +5,7 @@ ghost use Rattle.std.specs.Prelude.{◌≡◌};
 use crate::caller::{Caller, Station, cut_callers};
 use crate::deeds::Scene;
 use crate::ending::{Ended, tell_ending};
-use crate::fixtures::{book_from, fresh_book, joined_book, operations};
+use crate::fixtures::{book_from, join, operations};
 use crate::mail::{Lines, Mail};
 use replica_lock::{Book, Pass, Shared};
 use std::alloc::{AllocError, Global};
@@ -24,7 +24,7 @@ fn run_all<L: Ledger + Send + Sync, R: Threads + Wait + Clock + Sync>(
     station: &Station<'_, L, R>,
     first: &mut Pass<L>,
 ) -> Callers<L> {
-    let callers = cut_callers(station, first);
+    let callers = cut_callers(station.mail.alloc, station.mail.threads.len(), first);
     thread::map_vec(
         station.mail.rt,
         callers,
@@ -59,11 +59,23 @@ fn perform<'a, L: Ledger + Send + Sync, M: Ledger + Send + Sync, R: Threads + Wa
     let (first, far_first) = firsts;
     let one = Station {
         shared,
-        mail: Mail::new(rt, alloc, 0, lines, scene.first),
+        mail: Mail {
+            rt,
+            alloc,
+            own: 0,
+            lines,
+            threads: scene.first,
+        },
     };
     let other = Station {
         shared: far_shared,
-        mail: Mail::new(rt, alloc, 1, lines, scene.second),
+        mail: Mail {
+            rt,
+            alloc,
+            own: 1,
+            lines,
+            threads: scene.second,
+        },
     };
     for (place, deed) in scene.deeds {
         if *place == 0 {
@@ -76,7 +88,7 @@ fn perform<'a, L: Ledger + Send + Sync, M: Ledger + Send + Sync, R: Threads + Wa
 }
 
 /// Hands a book out for all passes, with what the callers saw.
-pub fn finished<L: Ledger>(
+fn finished<L: Ledger>(
     alloc: Global,
     shared: Shared<L>,
     first: Caller<L>,
@@ -92,7 +104,10 @@ pub fn finished<L: Ledger>(
         }
     }
     drop(first.into_seen(&mut passes));
-    Ended::new(shared.finish(passes), seen)
+    Ended {
+        book: shared.finish(passes),
+        seen,
+    }
 }
 
 /// What is told of a scene at these replicas.
@@ -149,11 +164,14 @@ pub fn told_of<R: Threads + Wait + Clock + Sync>(
 /// The replicas of a scene, new ones but where the second joined.
 fn books(alloc: Global, uid: u32) -> Option<(Book, Book)> {
     let second = if uid == 0 {
-        joined_book(alloc, 2, &["1:1 - create a", "1:2 1=1 create b"])
+        let ops = operations(alloc, &["1:1 - create a", "1:2 1=1 create b"])?;
+        let joined = join(alloc, 2, &ops);
+        drop(ops);
+        joined
     } else {
         book_from(alloc, 2, uid)
     };
-    fresh_book(alloc, 1).zip(second)
+    book_from(alloc, 1, 1).zip(second)
 }
 
 /// The first scene of which something else is told than is wanted, with what is told; nothing where there is none.

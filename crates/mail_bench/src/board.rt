@@ -48,7 +48,9 @@ impl Board {
     pub fn note_now<R: Wait + Clock>(&self, rt: &R) -> Result<bool, BenchFault> {
         let moment = now(rt)?;
         let mut news = self.news.lock(rt);
-        news.heard.push(moment)?;
+        if news.heard.push(moment).is_err() {
+            return Err(BenchFault::NoMemory);
+        }
         if news.heard.len() >= self.idlers {
             self.changed.notify_all();
         }

@@ -58,17 +58,25 @@ impl Drop for Client {
     }
 }
 
+/// What connects to servers. One bound of one method, in place of the many that come with `Net`.
+pub trait Dial {
+    /// Connects to this address.
+    fn dial(&self, address: &str) -> Result<TcpStream, BenchFault>;
+}
+
+impl<R: Net<Listener = TcpListener, Stream = TcpStream>> Dial for R {
+    fn dial(&self, address: &str) -> Result<TcpStream, BenchFault> {
+        match TcpStream::connect(self, address) {
+            Ok(stream) => Ok(stream),
+            Err(_) => Err(BenchFault::Connect),
+        }
+    }
+}
+
 impl Client {
     /// Connects, and waits for the greeting.
-    pub fn connect<R: Net<Listener = TcpListener, Stream = TcpStream>>(
-        rt: &R,
-        alloc: Global,
-        address: &str,
-    ) -> Result<Client, BenchFault> {
-        let Ok(stream) = TcpStream::connect(rt, address) else {
-            return Err(BenchFault::Connect);
-        };
-        let mut client = Client::over(alloc, stream)?;
+    pub fn connect<R: Dial>(rt: &R, alloc: Global, address: &str) -> Result<Client, BenchFault> {
+        let mut client = Client::over(alloc, rt.dial(address)?)?;
         client.greet()?;
         Ok(client)
     }
@@ -127,15 +135,13 @@ impl Client {
 
     /// Sends a command, and waits until it is answered OK.
     pub fn run(&mut self, command: Command<'_>) -> Result<(), BenchFault> {
-        self.begin();
-        let number = self.push(command)?;
-        self.send()?;
+        let number = self.ask(command)?;
         self.await_end(number)
     }
 
     /// Sends so many NOOPs in one write, and waits until all are answered OK.
     pub fn run_noops(&mut self, count: u64) -> Result<(), BenchFault> {
-        self.begin();
+        self.line.clear();
         let first = self.sent;
         for _ in 0..count {
             self.push(Command::Plain(Ask::Noop))?;
@@ -150,34 +156,17 @@ impl Client {
     /// Appends a message to a mailbox, as a literal for which the server says when it may come.
     pub fn append(&mut self, name: &str, message: &[u8]) -> Result<(), BenchFault> {
         let number = self.begin_append(name, message.len())?;
-        self.end_append(message)?;
-        self.await_end(number)
+        self.finish(message, number)
     }
 
     /// Announces a message, waits until it may come, and gives the number of its command.
     pub fn begin_append(&mut self, name: &str, octets: usize) -> Result<u64, BenchFault> {
-        self.begin();
-        let number = self.push(Command::Append { name, octets })?;
-        self.send()?;
-        self.await_continue(number)?;
-        Ok(number)
-    }
-
-    /// Sends the message that was announced.
-    pub fn end_append(&mut self, message: &[u8]) -> Result<(), BenchFault> {
-        self.begin();
-        self.line.extend_from_slice(message)?;
-        self.line.extend_from_slice(b"\r\n")?;
-        self.send()
+        self.announce(Command::Append { name, octets })
     }
 
     /// Begins to idle, and gives the number of its command.
     pub fn idle(&mut self) -> Result<u64, BenchFault> {
-        self.begin();
-        let number = self.push(Command::Plain(Ask::Idle))?;
-        self.send()?;
-        self.await_continue(number)?;
-        Ok(number)
+        self.announce(Command::Plain(Ask::Idle))
     }
 
     /// Waits until the server tells that the mailbox has so many messages, or more.
@@ -195,15 +184,31 @@ impl Client {
 
     /// Ends to idle.
     pub fn done(&mut self, number: u64) -> Result<(), BenchFault> {
-        self.begin();
-        self.line.extend_from_slice(b"DONE\r\n")?;
+        self.finish(b"DONE", number)
+    }
+
+    /// Sends a command of which more is to come, waits until the server asks for it, and gives the command's number.
+    fn announce(&mut self, command: Command<'_>) -> Result<u64, BenchFault> {
+        let number = self.ask(command)?;
+        self.await_continue(number)?;
+        Ok(number)
+    }
+
+    /// Sends what is to come of the command with this number, and waits until it is answered OK.
+    pub fn finish(&mut self, more: &[u8], number: u64) -> Result<(), BenchFault> {
+        self.line.clear();
+        self.line.extend_from_slice(more)?;
+        self.line.extend_from_slice(b"\r\n")?;
         self.send()?;
         self.await_end(number)
     }
 
-    /// Begins what is to be sent.
-    fn begin(&mut self) {
+    /// Sends a command, and gives its number.
+    fn ask(&mut self, command: Command<'_>) -> Result<u64, BenchFault> {
         self.line.clear();
+        let number = self.push(command)?;
+        self.send()?;
+        Ok(number)
     }
 
     /// Puts a command behind what is to be sent, and gives its number.

@@ -1,12 +1,11 @@
 //! The commands that the program sends, as texts (RFC 9051, sections 6 and 9).
 
 ghost use Rattle.std.specs.Prelude.{◌≡◌, ◌++◌, IfOk, OnOk, vec_len};
-ghost use Rattle.std.specs.Fmt.{decimal};
 ghost use Rattle.std.specs.List.{flat_map};
 ghost use Rattle.mail_bench.specs.Commands.{announced_text, append_text, asked_text, command_text, counted_text, escaped, line_text, login_text, mailbox_verb_text, named_text, plain_text, quoted, tag_text, verb_text};
 
-use itoa::Buffer;
 use std::alloc::{AllocError, Global};
+use text_fields::push_number;
 
 /// The fields of each message, and the empty line behind them.
 const FIELDS: &[u8] =
@@ -102,17 +101,9 @@ pub fn push_line(command: Command<'_>, number: u64, out: &mut Vec<u8>) -> Result
 fn push_tag(number: u64, out: &mut Vec<u8>) -> Result<(), AllocError>
     ensures { OnOk result (out.new.items ≡ out.old.items ++ tag_text number) }
 {
-    out.push(b'b')?;
+    out.extend_from_slice(b"b")?;
     push_number(number, out)?;
     out.extend_from_slice(b" ")
-}
-
-/// Appends a number in decimal digits.
-fn push_number(number: u64, out: &mut Vec<u8>) -> Result<(), AllocError>
-    ensures { OnOk result (out.new.items ≡ out.old.items ++ decimal number) }
-{
-    let mut buffer = Buffer::new();
-    out.extend_from_slice(buffer.format(number).as_bytes())
 }
 
 fn push_command(command: Command<'_>, out: &mut Vec<u8>) -> Result<(), AllocError>
@@ -193,7 +184,7 @@ fn push_login(user: &str, pass: &str, out: &mut Vec<u8>) -> Result<(), AllocErro
 {
     out.extend_from_slice(b"LOGIN ")?;
     push_quoted(user, out)?;
-    out.push(b' ')?;
+    out.extend_from_slice(b" ")?;
     push_quoted(pass, out)
 }
 
@@ -209,21 +200,18 @@ fn push_append(name: &str, octets: usize, out: &mut Vec<u8>) -> Result<(), Alloc
 fn push_announcement(octets: usize, out: &mut Vec<u8>) -> Result<(), AllocError>
     ensures { OnOk result (out.new.items ≡ out.old.items ++ announced_text octets) }
 {
-    let mut buffer = Buffer::new();
     out.extend_from_slice(b" {")?;
-    out.extend_from_slice(buffer.format(octets).as_bytes())?;
-    out.push(b'}')?;
-    Ok(())
+    push_number(octets as u64, out)?;
+    out.extend_from_slice(b"}")
 }
 
 /// Appends a text as a quoted string.
 fn push_quoted(text: &str, out: &mut Vec<u8>) -> Result<(), AllocError>
     ensures { OnOk result (out.new.items ≡ out.old.items ++ quoted text.now) }
 {
-    out.push(b'"')?;
+    out.extend_from_slice(b"\"")?;
     push_escaped(text.as_bytes(), out)?;
-    out.push(b'"')?;
-    Ok(())
+    out.extend_from_slice(b"\"")
 }
 
 /// Appends octets with `\` in front of each `"` and `\`.
@@ -240,10 +228,9 @@ fn push_octet(octet: u8, out: &mut Vec<u8>) -> Result<(), AllocError>
     ensures { OnOk result (out.new.items ≡ out.old.items ++ escaped octet) }
 {
     if octet == b'"' || octet == b'\\' {
-        out.push(b'\\')?;
+        return out.extend_from_slice(&[b'\\', octet]);
     }
-    out.push(octet)?;
-    Ok(())
+    out.extend_from_slice(&[octet])
 }
 
 /// A message of so many octets: fields, an empty line, and lines of text as far as there is room. `Err` where there is no memory for it.

@@ -1,16 +1,15 @@
 //! Connections that idle (RFC 2177): how long a message takes to all of them, and what they cost others.
 
 use crate::board::Board;
-use crate::client::Client;
+use crate::client::{Client, Dial};
 use crate::fault::BenchFault;
 use crate::measuring::measure;
 use crate::preparing::{logged_in, selected, selected_with};
 use crate::report::{Report, Tally};
 use crate::settings::Settings;
-use crate::working::{Plan, now};
+use crate::working::{Plan, now, since};
 use crate::workload::Workload;
 use std::alloc::Global;
-use std::net::{Net, TcpListener, TcpStream};
 use std::rt::Clock;
 use std::sync::Wait;
 use std::thread;
@@ -27,7 +26,7 @@ pub const BYSTANDERS: u32 = 400;
 const MAX_ROUNDS: u32 = 10_000_000;
 
 /// How long a message takes from its last octet until each of 32 connections was told of it: APPENDs one after another, each behind the answers to the last.
-pub fn fan_out<R: Threads + Wait + Clock + Sync + Net<Listener = TcpListener, Stream = TcpStream>>(
+pub fn fan_out<R: Threads + Wait + Clock + Sync + Dial>(
     rt: &R,
     alloc: Global,
     settings: &Settings<'_>,
@@ -35,13 +34,12 @@ pub fn fan_out<R: Threads + Wait + Clock + Sync + Net<Listener = TcpListener, St
 ) -> Result<Report, BenchFault> {
     let listeners = listeners(rt, alloc, settings, plan.messages)?;
     let mut sender = logged_in(rt, alloc, settings, settings.address)?;
-    let limit = Duration::from_secs(u64::from(settings.seconds));
-    let (tally, took) = heard_by_all(rt, alloc, limit, plan, listeners, &mut sender)?;
+    let (tally, took) = heard_by_all(rt, alloc, settings.seconds, plan, listeners, &mut sender)?;
     Report::of(1, plan.messages, took, tally)
 }
 
 /// So many connections that have the mailbox selected, with so many messages.
-fn listeners<R: Clock + Net<Listener = TcpListener, Stream = TcpStream>>(
+fn listeners<R: Clock + Dial>(
     rt: &R,
     alloc: Global,
     settings: &Settings<'_>,
@@ -60,7 +58,7 @@ fn listeners<R: Clock + Net<Listener = TcpListener, Stream = TcpStream>>(
 fn heard_by_all<R: Threads + Wait + Clock + Sync>(
     rt: &R,
     alloc: Global,
-    limit: Duration,
+    seconds: u32,
     plan: &Plan<'_>,
     listeners: Vec<Client>,
     sender: &mut Client,
@@ -68,7 +66,7 @@ fn heard_by_all<R: Threads + Wait + Clock + Sync>(
     let board = Board::new(alloc, listeners.len());
     let (sent, heard) = thread::join(
         rt,
-        || send_all(rt, alloc, limit, plan, &board, sender),
+        || send_all(rt, alloc, seconds, plan, &board, sender),
         || thread::map_vec(
             rt,
             listeners,
@@ -91,20 +89,20 @@ fn all_ended(ends: Vec<Result<(), BenchFault>>) -> Result<(), BenchFault> {
 fn send_all<R: Wait + Clock>(
     rt: &R,
     alloc: Global,
-    limit: Duration,
+    seconds: u32,
     plan: &Plan<'_>,
     board: &Board,
     sender: &mut Client,
 ) -> Result<(Tally, Duration), BenchFault> {
     let mut tally = Tally::new(alloc);
-    let took = send_for(rt, limit, plan, board, sender, &mut tally)?;
+    let took = send_for(rt, seconds, plan, board, sender, &mut tally)?;
     Ok((tally, took))
 }
 
 /// The same, with what was sent in a tally; how long it took.
 fn send_for<R: Wait + Clock>(
     rt: &R,
-    limit: Duration,
+    seconds: u32,
     plan: &Plan<'_>,
     board: &Board,
     sender: &mut Client,
@@ -112,16 +110,15 @@ fn send_for<R: Wait + Clock>(
 ) -> Result<Duration, BenchFault> {
     board.await_all(rt)?;
     let begun = now(rt)?;
-    for round in 0..MAX_ROUNDS {
-        let is_last = now(rt)?.duration_since(begun) >= limit;
+    for _ in 0..MAX_ROUNDS {
+        let is_last = since(rt, begun)?.as_secs() >= u64::from(seconds);
         board.begin(rt, is_last);
         send_one(rt, plan, board, sender, tally)?;
         if is_last {
             break;
         }
     }
-    let took = now(rt)?.duration_since(begun);
-    Ok(took)
+    since(rt, begun)
 }
 
 /// Sends a message, and notes how long each took to hear of it.
@@ -134,8 +131,7 @@ fn send_one<R: Wait + Clock>(
 ) -> Result<(), BenchFault> {
     let number = sender.begin_append(plan.mailbox, plan.message.len())?;
     let sent = now(rt)?;
-    sender.end_append(&plan.message)?;
-    sender.await_end(number)?;
+    sender.finish(&plan.message, number)?;
     board.await_all(rt)?;
     tally.commands = tally.commands.saturating_add(1);
     board.tell(rt, sent, tally)
@@ -162,29 +158,29 @@ fn listen_to_all<R: Wait + Clock>(
     client: &mut Client,
 ) -> Result<(), BenchFault> {
     let number = client.idle()?;
-    hear_all(rt, board, messages, client)?;
-    client.done(number)?;
+    hear_all(rt, board, messages, number, client)?;
     client.logout()
 }
 
+/// Hears of each message until the last, and ends the command with this number, by which it idles.
 fn hear_all<R: Wait + Clock>(
     rt: &R,
     board: &Board,
     messages: u32,
+    number: u64,
     client: &mut Client,
 ) -> Result<(), BenchFault> {
-    board.note_now(rt)?;
-    for round in 1..MAX_ROUNDS {
-        client.await_messages(messages.saturating_add(round))?;
+    for round in 0..MAX_ROUNDS {
         if board.note_now(rt)? {
             break;
         }
+        client.await_messages(messages.saturating_add(round + 1))?;
     }
-    Ok(())
+    client.done(number)
 }
 
 /// What NOOPs of one connection come to alone, and then beside 400 connections that idle in the same mailbox.
-pub fn beside_idle<R: Threads + Clock + Sync + Net<Listener = TcpListener, Stream = TcpStream>>(
+pub fn beside_idle<R: Threads + Clock + Sync + Dial>(
     rt: &R,
     alloc: Global,
     settings: &Settings<'_>,
@@ -197,7 +193,7 @@ pub fn beside_idle<R: Threads + Clock + Sync + Net<Listener = TcpListener, Strea
 }
 
 /// 400 connections that idle in the mailbox.
-fn bystanders<R: Net<Listener = TcpListener, Stream = TcpStream>>(
+fn bystanders<R: Dial>(
     rt: &R,
     alloc: Global,
     settings: &Settings<'_>,
@@ -210,7 +206,7 @@ fn bystanders<R: Net<Listener = TcpListener, Stream = TcpStream>>(
     Ok(bystanders)
 }
 
-fn bystander<R: Net<Listener = TcpListener, Stream = TcpStream>>(
+fn bystander<R: Dial>(
     rt: &R,
     alloc: Global,
     settings: &Settings<'_>,

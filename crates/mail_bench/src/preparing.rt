@@ -2,12 +2,11 @@
 
 ghost use Rattle.std.specs.Prelude.{◌<◌, ◌≤◌, IfOk};
 
-use crate::client::Client;
+use crate::client::{Client, Dial};
 use crate::commands::{Command, MailboxAsk, message};
 use crate::fault::BenchFault;
 use crate::settings::Settings;
 use std::alloc::Global;
-use std::net::{Net, TcpListener, TcpStream};
 use std::rt::Clock;
 use std::thread;
 use std::time::Duration;
@@ -25,7 +24,7 @@ const MAX_LOOKS: u32 = 600;
 const PAUSE: u64 = 100;
 
 /// A connection to this address that is logged in.
-pub fn logged_in<R: Net<Listener = TcpListener, Stream = TcpStream>>(
+pub fn logged_in<R: Dial>(
     rt: &R,
     alloc: Global,
     settings: &Settings<'_>,
@@ -37,7 +36,7 @@ pub fn logged_in<R: Net<Listener = TcpListener, Stream = TcpStream>>(
 }
 
 /// One that has the mailbox selected.
-pub fn selected<R: Net<Listener = TcpListener, Stream = TcpStream>>(
+pub fn selected<R: Dial>(
     rt: &R,
     alloc: Global,
     settings: &Settings<'_>,
@@ -48,11 +47,7 @@ pub fn selected<R: Net<Listener = TcpListener, Stream = TcpStream>>(
 }
 
 /// Makes sure of the mailbox and of its messages, and gives how many it has: those that were asked for, or more.
-pub fn prepare<R: Net<Listener = TcpListener, Stream = TcpStream>>(
-    rt: &R,
-    alloc: Global,
-    settings: &Settings<'_>,
-) -> Result<u32, BenchFault>
+pub fn prepare<R: Dial>(rt: &R, alloc: Global, settings: &Settings<'_>) -> Result<u32, BenchFault>
     ensures { IfOk result (λ messages. settings.now.messages ≤ messages) }
 {
     let mut client = logged_in(rt, alloc, settings, settings.address)?;
@@ -67,20 +62,20 @@ pub fn prepare<R: Net<Listener = TcpListener, Stream = TcpStream>>(
 /// Appends to the mailbox what it lacks, and gives how many messages it has.
 fn filled(alloc: Global, settings: &Settings<'_>, client: &mut Client) -> Result<u32, BenchFault> {
     open(client, settings.mailbox)?;
-    let message = message(alloc, SMALL)?;
-    append_all(settings, client, &message)?;
+    append_all(alloc, settings, client)?;
     client.select(settings.mailbox)?;
     Ok(client.messages())
 }
 
 /// Appends a message as often as the mailbox lacks one.
 fn append_all(
+    alloc: Global,
     settings: &Settings<'_>,
     client: &mut Client,
-    message: &[u8],
 ) -> Result<(), BenchFault> {
+    let message = message(alloc, SMALL)?;
     for _ in client.messages()..settings.messages {
-        client.append(settings.mailbox, message)?;
+        client.append(settings.mailbox, &message)?;
     }
     Ok(())
 }
@@ -99,7 +94,7 @@ fn open(client: &mut Client, name: &str) -> Result<(), BenchFault> {
 }
 
 /// A connection to this address that has the mailbox selected, once it has so many messages there.
-pub fn selected_with<R: Clock + Net<Listener = TcpListener, Stream = TcpStream>>(
+pub fn selected_with<R: Clock + Dial>(
     rt: &R,
     alloc: Global,
     settings: &Settings<'_>,

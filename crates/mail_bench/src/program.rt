@@ -1,18 +1,18 @@
 //! The program's way from its command line to its status.
 
+use crate::client::Dial;
 use crate::fault::BenchFault;
 use crate::idling::{BYSTANDERS, LISTENERS, beside_idle, fan_out};
 use crate::measuring::{measure, measure_visits};
 use crate::preparing::prepare;
 use crate::report::Report;
 use crate::settings::Settings;
-use crate::telling::{settings_or_status, tell_fault, tell_no_memory};
+use crate::telling::{settings_or_status, tell_fault};
 use crate::times::Summary;
 use crate::working::Plan;
 use crate::workload::Workload;
 use std::alloc::Global;
 use std::io::Eprint;
-use std::net::{Net, TcpListener, TcpStream};
 use std::rt::{Clock, Env};
 use std::sync::Wait;
 use std::thread::Threads;
@@ -20,20 +20,12 @@ use std::{env, io};
 
 /// Reads the command line, measures what it asks for, prints a line for each measurement, and gives the program's status: 0 where all was measured or help was asked
 /// for, 1 where the run ended before its time, which is told on standard error, 2 where the words ask for nothing.
-pub fn run<
-    R: Env
-        + Print
-        + Eprint
-        + AllocGlobal
-        + Threads
-        + Wait
-        + Clock
-        + Sync
-        + Net<Listener = TcpListener, Stream = TcpStream>,
->(rt: &R) -> u8 {
+pub fn run<R: Env + Print + Eprint + AllocGlobal + Threads + Wait + Clock + Sync + Dial>(
+    rt: &R,
+) -> u8 {
     match words(rt) {
         Ok(words) => obey(rt, &words),
-        Err(_) => tell_no_memory(rt),
+        Err(_) => tell_fault(rt, BenchFault::NoMemory),
     }
 }
 
@@ -42,16 +34,10 @@ fn words<R: Env + AllocGlobal>(rt: &R) -> io::Result<Vec<String>> {
     Ok(words)
 }
 
-fn obey<
-    R: Print
-        + Eprint
-        + AllocGlobal
-        + Threads
-        + Wait
-        + Clock
-        + Sync
-        + Net<Listener = TcpListener, Stream = TcpStream>,
->(rt: &R, words: &[String]) -> u8 {
+fn obey<R: Print + Eprint + AllocGlobal + Threads + Wait + Clock + Sync + Dial>(
+    rt: &R,
+    words: &[String],
+) -> u8 {
     let settings = match settings_or_status(rt, words) {
         Ok(settings) => settings,
         Err(status) => return status,
@@ -63,9 +49,11 @@ fn obey<
 }
 
 /// Makes sure of the mailbox, and measures.
-fn bench<
-    R: Print + Threads + Wait + Clock + Sync + Net<Listener = TcpListener, Stream = TcpStream>,
->(rt: &R, alloc: Global, settings: &Settings<'_>) -> Result<(), BenchFault> {
+fn bench<R: Print + Threads + Wait + Clock + Sync + Dial>(
+    rt: &R,
+    alloc: Global,
+    settings: &Settings<'_>,
+) -> Result<(), BenchFault> {
     let messages = prepare(rt, alloc, settings)?;
     if messages == 0 {
         return Err(BenchFault::Missing);
@@ -78,9 +66,7 @@ fn bench<
 }
 
 /// Measures what one line tells.
-fn measure_one<
-    R: Print + Threads + Wait + Clock + Sync + Net<Listener = TcpListener, Stream = TcpStream>,
->(
+fn measure_one<R: Print + Threads + Wait + Clock + Sync + Dial>(
     rt: &R,
     alloc: Global,
     settings: &Settings<'_>,
@@ -96,9 +82,12 @@ fn measure_one<
 }
 
 /// Measures NOOPs alone, and beside connections that idle.
-fn measure_beside<
-    R: Print + Threads + Wait + Clock + Sync + Net<Listener = TcpListener, Stream = TcpStream>,
->(rt: &R, alloc: Global, settings: &Settings<'_>, plan: &Plan<'_>) -> Result<(), BenchFault> {
+fn measure_beside<R: Print + Threads + Wait + Clock + Sync + Dial>(
+    rt: &R,
+    alloc: Global,
+    settings: &Settings<'_>,
+    plan: &Plan<'_>,
+) -> Result<(), BenchFault> {
     let (alone, beside) = beside_idle(rt, alloc, settings, plan)?;
     tell(rt, settings.workload, 0, &alone)?;
     tell(rt, settings.workload, BYSTANDERS, &beside)

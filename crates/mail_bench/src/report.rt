@@ -82,20 +82,13 @@ impl Report {
         })
     }
 
-    /// The commands a second.
+    /// The commands a second; 0 where no microsecond passed.
     pub fn rate(&self) -> u64
         ensures { result ≡ rate self.now.commands self.now.micros }
     {
-        rate(self.commands, self.micros)
+        if self.micros == 0 {
+            return 0;
+        }
+        self.commands.saturating_mul(1_000_000) / self.micros
     }
-}
-
-/// So many commands in so many microseconds, a second; 0 where no microsecond passed.
-fn rate(commands: u64, micros: u64) -> u64
-    ensures { result ≡ rate commands micros }
-{
-    if micros == 0 {
-        return 0;
-    }
-    commands.saturating_mul(1_000_000) / micros
 }

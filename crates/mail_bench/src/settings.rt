@@ -1,8 +1,8 @@
 //! The program's command line.
 
-ghost use Rattle.std.specs.Prelude.{◌≡◌, ◌≤◌, ◌<◌, IfOk, map, true};
+ghost use Rattle.std.specs.Prelude.{◌≡◌, ◌≤◌, ◌<◌, IfNone, IfOk, map, true};
 ghost use Rattle.std.specs.Option.{option_map};
-ghost use Rattle.clap.specs.Words.{app_of, first_of, found_of, matches_of, rows_of};
+ghost use Rattle.clap.specs.Words.{first_of, found_of, matches_of, rows_of};
 ghost use Rattle.clap_laws.specs.Words.{Add, IsWord};
 ghost use Rattle.mail_bench.specs.Options.{Asks, IsAmount, IsPlainText, bench_words, counted_word, named_word, required_word, text_in, with_amounts, with_server};
 
@@ -72,13 +72,12 @@ pub fn read_settings<'a>(
     ensures asked { IfOk result (λ settings. Asks (matches_of bench_words (map ⟦<String as AsStr>⟧.text words.entry.now)) settings) }
     ensures plain { IfOk result (λ settings. IsPlainText settings.user.now × IsPlainText settings.pass.now × IsPlainText settings.mailbox.now) }
 {
-    let matches = match matched(alloc, words) {
-        Ok(matches) => matches,
-        Err(error) => return Err(SettingsFault::Words(error)),
-    };
-    match plain_settings_in(&matches) {
-        Ok(settings) => Ok(settings),
-        Err(why) => Err(SettingsFault::Usage(why)),
+    match matched(alloc, words) {
+        Ok(matches) => match plain_settings_in(&matches) {
+            Ok(settings) => Ok(settings),
+            Err(why) => Err(SettingsFault::Usage(why)),
+        },
+        Err(error) => Err(SettingsFault::Words(error)),
     }
 }
 
@@ -88,16 +87,26 @@ fn plain_settings_in<'a>(matches: &ArgMatches<'a>) -> Result<Settings<'a>, Usage
     ensures plain { IfOk result (λ settings. IsPlainText settings.user.now × IsPlainText settings.pass.now × IsPlainText settings.mailbox.now) }
 {
     let settings = settings_in(matches)?;
-    if !is_plain(settings.user) {
-        return Err(UsageFault::BadText("user"));
+    match bad_text(settings.user, settings.pass, settings.mailbox) {
+        Some(word) => Err(UsageFault::BadText(word)),
+        None => Ok(settings),
     }
-    if !is_plain(settings.pass) {
-        return Err(UsageFault::BadText("pass"));
+}
+
+/// The first word whose text isn't plain, where there is one.
+fn bad_text(user: &str, pass: &str, mailbox: &str) -> Option<&'static str>
+    ensures { IfNone result (IsPlainText user.now × IsPlainText pass.now × IsPlainText mailbox.now) }
+{
+    if !is_plain(user) {
+        return Some("user");
     }
-    if !is_plain(settings.mailbox) {
-        return Err(UsageFault::BadText("mailbox"));
+    if !is_plain(pass) {
+        return Some("pass");
     }
-    Ok(settings)
+    if !is_plain(mailbox) {
+        return Some("mailbox");
+    }
+    None
 }
 
 /// Whether all octets are of printable ASCII, so that a quoted string may hold them (RFC 9051, section 9).
@@ -157,19 +166,13 @@ fn amount_in(matches: &ArgMatches<'_>, word: &str, usual: u32, most: u32) -> u32
     }
 }
 
+/// What is found in the words by those that the program knows.
 fn matched<'a>(alloc: Global, words: &'a [String]) -> Result<ArgMatches<'a>, Error>
     ensures { IfOk result (λ matches. rows_of (found_of matches) ≡ matches_of bench_words (map ⟦<String as AsStr>⟧.text words.entry.now)) }
 {
-    let command = described(alloc)?;
+    let known = known_words(alloc)?;
+    let command = Command::new(alloc, "mail_bench").about(ABOUT).args(known)?;
     command.try_get_matches_from(words)
-}
-
-/// The words that the program knows.
-fn described<'a>(alloc: Global) -> Result<Command<'a>, AllocError>
-    ensures { IfOk result (λ command. app_of command ≡ bench_words) }
-{
-    let words = known_words(alloc)?;
-    Command::new(alloc, "mail_bench").about(ABOUT).args(words)
 }
 
 const ABOUT: &str =

@@ -33,12 +33,6 @@ fn explain<R: Print + Eprint>(rt: &R, why: SettingsFault<'_>) -> u8 {
     }
 }
 
-/// Says that there is no memory, and gives the program's status.
-pub fn tell_no_memory<R: Eprint>(rt: &R) -> u8 {
-    let _ = eprintln!(rt; "mail_bench: no memory");
-    1
-}
-
 /// Says what can't be used, and gives the program's status.
 fn tell_usage<R: Eprint>(rt: &R, why: UsageFault<'_>) -> u8 {
     let told = match why {
@@ -59,7 +53,7 @@ pub fn tell_fault<R: Eprint>(rt: &R, fault: BenchFault) -> u8 {
 
 fn explain_words<R: Print + Eprint>(rt: &R, error: Error) -> u8 {
     if is_without_memory(&error) {
-        return tell_no_memory(rt);
+        return tell_fault(rt, BenchFault::NoMemory);
     }
     let is_help = !error.use_stderr();
     let told = if is_help {

@@ -2,7 +2,7 @@
 
 ghost use Rattle.std.specs.Prelude.{◌+◌, ◌%◌, ◌≡◌, ◌≤◌, ◌<◌};
 
-use crate::client::Client;
+use crate::client::{Client, Dial};
 use crate::commands::{Ask, Command, MessageAsk, message};
 use crate::fault::BenchFault;
 use crate::preparing::{LARGE, SMALL, logged_in};
@@ -10,7 +10,6 @@ use crate::report::Tally;
 use crate::settings::Settings;
 use crate::workload::Workload;
 use std::alloc::Global;
-use std::net::{Net, TcpListener, TcpStream};
 use std::rt::Clock;
 use std::time::{Duration, Instant};
 
@@ -57,8 +56,11 @@ impl<'a> Plan<'a> {
 
 /// What is done again and again.
 pub trait Work {
-    /// Does it once more, for the time with this number, and gives how many commands were answered.
-    fn turn(&mut self, number: u64) -> Result<u64, BenchFault>;
+    /// Does it once more, for the time with this number.
+    fn turn(&mut self, number: u64) -> Result<(), BenchFault>;
+
+    /// Ends it.
+    fn end(&mut self) -> Result<(), BenchFault>;
 }
 
 /// The moment now.
@@ -69,33 +71,54 @@ pub fn now<R: Clock>(rt: &R) -> Result<Instant, BenchFault> {
     }
 }
 
-/// Works for so long, and once at least, and gives what was done.
-pub fn drive<R: Clock, W: Work>(
+/// How long it is since this moment.
+pub fn since<R: Clock>(rt: &R, begun: Instant) -> Result<Duration, BenchFault> {
+    match Instant::now(rt) {
+        Ok(now) => Ok(now.duration_since(begun)),
+        Err(_) => Err(BenchFault::Clock),
+    }
+}
+
+/// Works for so many seconds, and once at least, each time by so many commands, ends the work, and gives what was done.
+pub fn worked<R: Clock, W: Work + Drop>(
     rt: &R,
     alloc: Global,
-    limit: Duration,
-    work: &mut W,
+    seconds: u32,
+    commands: u64,
+    mut work: W,
 ) -> Result<Tally, BenchFault> {
     let mut tally = Tally::new(alloc);
+    drive(rt, seconds, commands, &mut work, &mut tally)?;
+    Ok(tally)
+}
+
+/// The same, with what is done in a tally.
+fn drive<R: Clock, W: Work>(
+    rt: &R,
+    seconds: u32,
+    commands: u64,
+    work: &mut W,
+    tally: &mut Tally,
+) -> Result<(), BenchFault> {
     let begun = now(rt)?;
     let mut before = begun;
     for number in 0..u64::MAX {
-        let commands = work.turn(number)?;
+        work.turn(number)?;
         let after = now(rt)?;
         tally.note(commands, after.duration_since(before))?;
-        if after.duration_since(begun) >= limit {
+        if after.duration_since(begun).as_secs() >= u64::from(seconds) {
             break;
         }
         before = after;
     }
-    Ok(tally)
+    work.end()
 }
 
 /// The work of a connection that is kept, with the mailbox selected.
 #[derive(Drop)]
 pub struct Mailing<'a> {
     /// The connection.
-    pub client: &'a mut Client,
+    pub client: Client,
     /// What is done.
     pub plan: &'a Plan<'a>,
     /// The place among all messages at which it begins.
@@ -103,38 +126,42 @@ pub struct Mailing<'a> {
 }
 
 impl Work for Mailing<'_> {
-    fn turn(&mut self, number: u64) -> Result<u64, BenchFault> {
+    fn turn(&mut self, number: u64) -> Result<(), BenchFault> {
         match self.plan.workload {
-            Workload::NoopPipelined => {
-                self.client.run_noops(PIPELINED)?;
-                Ok(PIPELINED)
-            }
-            Workload::Mixed => {
-                self.mixed(number)?;
-                Ok(1)
-            }
-            workload => {
-                self.one(workload, number)?;
-                Ok(1)
-            }
+            Workload::NoopPipelined => self.client.run_noops(PIPELINED),
+            Workload::Mixed => self.mixed(number),
+            workload => self.one(workload, number),
         }
+    }
+
+    fn end(&mut self) -> Result<(), BenchFault> {
+        self.client.logout()
+    }
+}
+
+/// So many commands are one turn of this workload.
+pub fn commands_of(workload: Workload) -> u64 {
+    match workload {
+        Workload::NoopPipelined => PIPELINED,
+        _ => 1,
     }
 }
 
 impl Mailing<'_> {
     /// One command of a workload.
     fn one(&mut self, workload: Workload, number: u64) -> Result<(), BenchFault> {
-        match workload {
+        let ask = match workload {
             Workload::AppendSmall | Workload::AppendLarge | Workload::IdleFanOut => {
-                self.client.append(self.plan.mailbox, &self.plan.message)
+                return self.client.append(self.plan.mailbox, &self.plan.message);
             }
-            Workload::FetchFlags => self.client.run(Command::Plain(Ask::FetchAllFlags)),
-            Workload::FetchBody => self.ask(MessageAsk::FetchBody, number),
-            Workload::Store => self.ask(stored(number), number / 2),
-            Workload::SearchUnseen => self.client.run(Command::Plain(Ask::SearchUnseen)),
-            Workload::SearchSubject => self.client.run(Command::Plain(Ask::SearchSubject)),
-            _ => self.client.run(Command::Plain(Ask::Noop)),
-        }
+            Workload::FetchBody => return self.ask(MessageAsk::FetchBody, number),
+            Workload::Store => return self.ask(stored(number), number / 2),
+            Workload::FetchFlags => Ask::FetchAllFlags,
+            Workload::SearchUnseen => Ask::SearchUnseen,
+            Workload::SearchSubject => Ask::SearchSubject,
+            _ => Ask::Noop,
+        };
+        self.client.run(Command::Plain(ask))
     }
 
     /// The next command of the fixed cycle.
@@ -178,7 +205,7 @@ fn message_at(first: u32, number: u64, messages: u32) -> u32
 
 /// The work of whoever comes and goes.
 #[derive(Drop)]
-pub struct Visiting<'a, R: Net<Listener = TcpListener, Stream = TcpStream>> {
+pub struct Visiting<'a, R: Dial> {
     /// The network.
     pub rt: &'a R,
     /// The memory.
@@ -187,10 +214,13 @@ pub struct Visiting<'a, R: Net<Listener = TcpListener, Stream = TcpStream>> {
     pub settings: &'a Settings<'a>,
 }
 
-impl<R: Net<Listener = TcpListener, Stream = TcpStream>> Work for Visiting<'_, R> {
-    fn turn(&mut self, _number: u64) -> Result<u64, BenchFault> {
+impl<R: Dial> Work for Visiting<'_, R> {
+    fn turn(&mut self, _number: u64) -> Result<(), BenchFault> {
         let mut client = logged_in(self.rt, self.alloc, self.settings, self.settings.address)?;
-        client.logout()?;
-        Ok(1)
+        client.logout()
+    }
+
+    fn end(&mut self) -> Result<(), BenchFault> {
+        Ok(())
     }
 }

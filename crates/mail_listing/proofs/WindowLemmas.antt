@@ -8,13 +8,13 @@ use Rattle.tags_clocks.specs.declared.id.OpId.{OpId}
 use Rattle.mail_listing.specs.Listed.{Listed}
 use Rattle.mail_listing.specs.Listing.{AreRisingRows, beyond, changed_since, last_uid, row_of}
 use Rattle.mail_listing.specs.Telling.{row_by, rows_by}
-use Rattle.entry_table.specs.declared.entry.Entry.{Entry}
+use Rattle.mail_listing.specs.declared.entry.Entry.{Entry}
 use Rattle.mail_listing.specs.declared.mailbox.Mailbox.{Mailbox}
 use Rattle.mail_listing.specs.declared.mailbox.HeldMessage.{HeldMessage}
 use Rattle.mail_listing.specs.Windows.{IsEdge}
-use Rattle.entry_table.specs.Changes.{changed_since as entries_since}
+use Rattle.mail_listing.specs.Changes.{changed_since as entries_since}
 use Rattle.std.specs.Prelude.{is_some}
-use Rattle.entry_table.specs.Entries.{AreRising}
+use Rattle.mail_listing.specs.Entries.{AreRising}
 use Rattle.std.specs.Option.{option_to_list, unwrap_or}
 
 -- ---- what is told

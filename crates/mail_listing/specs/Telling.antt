@@ -1,14 +1,14 @@
 -- What is told of a mailbox's messages, by their origins.
-pub use Rattle.entry_table.specs.Entries.{first_of, is_id}
+pub use Rattle.mail_listing.specs.Entries.{first_of, is_id}
 use Rattle.std.specs.Prelude.{ℕ, List, [], Option, Some, None, map}
 use Rattle.std.specs.Global.{Vec}
 use Rattle.std.specs.Map.{lookup}
 use Rattle.std.specs.Option.{option_map, unwrap_or}
 use Rattle.imap_types.specs.declared.flags.Flags.{Flags}
 use Rattle.tags_clocks.specs.declared.id.OpId.{OpId}
-use Rattle.message_versions.specs.Unions.{united, version_ids}
-use Rattle.message_versions.specs.declared.version.Version.{Version}
-use Rattle.entry_table.specs.declared.entry.Entry.{Entry}
+use Rattle.imap_types.specs.Unions.{united, version_ids}
+use Rattle.imap_types.specs.declared.version.Version.{Version}
+use Rattle.mail_listing.specs.declared.entry.Entry.{Entry}
 use Rattle.mail_listing.specs.Listed.{Listed}
 use Rattle.mail_listing.specs.Listing.{epoch}
 use Rattle.mail_listing.specs.declared.mailbox.Letter.{Letter}

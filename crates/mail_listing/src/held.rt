@@ -4,8 +4,7 @@ ghost use Rattle.std.specs.Prelude.{◌≡◌, IfOk};
 ghost use Rattle.mail_listing.specs.Listing.{held, listed, versions_held};
 
 use crate::row::Row;
-use imap_types::{DateTime, Text};
-use message_versions::{Version, Versions, copied_versions};
+use imap_types::{DateTime, Text, Version, Versions, copied_versions};
 use std::alloc::{AllocError, Global};
 use tags_clocks::OpId;
 

@@ -4,11 +4,10 @@ ghost use Rattle.std.specs.Prelude.{◌≡◌, option_map};
 ghost use Rattle.mail_listing.specs.Listing.{listed};
 ghost use Rattle.mail_listing.specs.Telling.{kept_at, nothing_told, numbered, told, told_by, told_in, versions_in};
 
+use crate::entry::Entry;
 use crate::row::Row;
-use entry_table::Entry;
-use imap_types::{DateTime, Text};
+use imap_types::{DateTime, Text, Version, Versions};
 use indexmap::IndexMap;
-use message_versions::{Version, Versions};
 use tags_clocks::OpId;
 
 /// The date and text of an Append.

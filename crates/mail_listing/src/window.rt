@@ -6,12 +6,14 @@ ghost use Rattle.mail_listing.specs.Listing.{AreRisingRows, changed_since, held,
 ghost use Rattle.std.specs.Option.{unwrap_or};
 ghost use Rattle.mail_listing.specs.Telling.{nothing_told, numbered, row_by, rows_by, told_by, told_in};
 
+use crate::entry::Entry;
 use crate::held::{HeldRow, HeldVersions};
+use crate::list::EntryList;
 use crate::mailbox::{HeldMessage, Mailbox, bare_row};
+use crate::overlay::EntryOverlay;
 use crate::row::Row;
-use entry_table::{Entry, EntryList, EntryOverlay};
+use imap_types::copied_versions;
 use indexmap::IndexMap;
-use message_versions::copied_versions;
 use std::alloc::{AllocError, Global};
 use std::marker::Model;
 use tags_clocks::OpId;

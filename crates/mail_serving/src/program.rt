@@ -16,6 +16,9 @@ use std::thread::Threads;
 use std::{env, io};
 use tags_clocks::ReplicaId;
 
+/// How many octets there are in the block by which the C library's thresholds are raised: a little less than 32 MiB.
+const LARGEST_BLOCK: usize = 33_000_000;
+
 /// Why the server doesn't run; as a text, what the log says of it.
 #[derive(Debug, Drop, thiserror::Error)]
 pub enum RunFault {
@@ -114,11 +117,21 @@ fn run_as<
         + Net<Listener = TcpListener, Stream = TcpStream>,
 >(rt: &R, alloc: Global, settings: &CommandLine<'_>) -> Result<(), RunFault> {
     let (house, parts) = open_all(rt, alloc, settings)?;
+    raise_memory_thresholds(alloc);
     if settings.stop_after != Some(0) && !serve(rt, alloc, &house, parts) {
         return Err(RunFault::Unfinished);
     }
     println!(rt; "stopped")?;
     Ok(())
+}
+
+/// Takes a large block of memory and gives it back. The C library then takes blocks of up to its size from memory that it keeps, and gives memory
+/// back to the system only where there is twice as much of it (mallopt(3): both thresholds follow the largest block that was given back, up
+/// to 32 MiB). Else each FETCH of many messages pays once more for the pages of its answers. Where there is no such block, all goes on without.
+fn raise_memory_thresholds(alloc: Global) {
+    if let Ok(block) = Vec::<u8>::with_capacity(alloc, LARGEST_BLOCK) {
+        drop(block);
+    }
 }
 
 /// What is made of the replicas while their addresses are gone through.

@@ -5,9 +5,9 @@ use Rattle.std.specs.List.{flat_map, list_any}
 use Rattle.std.specs.Str.{bytes_eq}
 use Rattle.imap_types.specs.Ascending.{AreAscending}
 use Rattle.imap_types.specs.declared.flags.Flags.{Flags}
-use Rattle.message_versions.specs.Members.{holds}
-use Rattle.message_versions.specs.Unions.{union_of, with_flags}
-use Rattle.message_versions.proofs.WordLemmas.{any_folded, ascending_folded, one_ascending}
+use Rattle.imap_types.specs.Members.{holds}
+use Rattle.imap_types.specs.Unions.{union_of, with_flags}
+use Rattle.imap_types.proofs.WordLemmas.{any_folded, ascending_folded, one_ascending}
 use Rattle.node_laws.specs.Unions.{IsUnion}
 
 any_flat : (p : List ℕ → Bool) (fs : List Flags) → list_any p (flat_map (λ f. f.keywords) fs) ≡ list_any (λ f. list_any p f.keywords) fs

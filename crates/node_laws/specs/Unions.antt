@@ -2,7 +2,7 @@ use Rattle.std.specs.Prelude.{◌≡◌, List, ℕ}
 use Rattle.std.specs.List.{list_any}
 use Rattle.imap_types.specs.Ascending.{AreAscending}
 use Rattle.imap_types.specs.declared.flags.Flags.{Flags}
-use Rattle.message_versions.specs.Members.{holds}
+use Rattle.imap_types.specs.Members.{holds}
 
 -- Flags are the union of these (RFC 9051, section 2.3.2): they have each system flag that one of these has, and no other; a word is a keyword of
 -- theirs, by octets, exactly where it is one of these flags'; and their keywords ascend, so that none stands twice.

@@ -3,7 +3,7 @@
 ghost use Rattle.std.specs.Prelude.{◌≡◌, ◌∷◌, [], List};
 ghost use Rattle.imap_types.specs.Ascending.{AreAscending};
 ghost use Rattle.imap_types.specs.declared.flags.Flags.{Flags as FlagSet};
-ghost use Rattle.message_versions.specs.Unions.{union_of, with_flags};
+ghost use Rattle.imap_types.specs.Unions.{union_of, with_flags};
 ghost use Rattle.node_laws.specs.Unions.{IsUnion};
 
 /// The flags that a message with several versions shows are the union of its versions' flags, and no other flags are; and so are flags to which a STORE adds others

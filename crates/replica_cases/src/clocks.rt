@@ -1,9 +1,9 @@
 //! Ids and clocks.
 
-use crate::fields::{entry, id, id_of};
-use case_text::{Trouble, Words, cut, number, replica};
+use crate::fields::{Gathers, entry, id, id_of, take_each};
+use case_text::{Trouble, Words, pair, parted, replica};
 use std::alloc::{AllocError, Global};
-use tags_clocks::{Clock, ClockOrder, OpId, ReplicaId};
+use tags_clocks::Clock;
 
 /// What is asked of ids and clocks.
 #[derive(Clone, Copy)]
@@ -25,133 +25,125 @@ pub enum ClockWord {
 }
 
 /// Answers what is asked of ids and clocks.
-pub fn answer_clock(word: ClockWord, fields: &str, answer: &mut Words) -> Result<(), Trouble> {
+pub fn answer_clock(word: ClockWord, fields: &str, answer: &mut Words) {
+    let (first, second) = parted(fields, " ");
     match word {
-        ClockWord::Clock => tell_clock(fields, answer),
+        ClockWord::Id => tell_id(fields, answer),
         ClockWord::Push => push_all(fields, answer),
-        _ => answer_second(word, cut(fields)?, answer),
+        ClockWord::Clock => tell_raised(word, "", fields, answer),
+        _ => tell_raised(word, first, second, answer),
     }
 }
 
-fn answer_second(
-    word: ClockWord,
-    (first, second): (&str, &str),
-    answer: &mut Words,
-) -> Result<(), Trouble> {
-    match word {
-        ClockWord::Id => tell_id(number(first)?, number(second)?, answer),
-        ClockWord::Number => tell_number(replica(first)?, second, answer),
-        ClockWord::Covers => tell_covered(id(first)?, second, answer),
-        ClockWord::Compare => tell_compared(first, second, answer),
-        _ => tell_joined(first, second, answer),
+fn tell_id(fields: &str, answer: &mut Words) {
+    match pair(" ", fields) {
+        Ok((replica, number)) => match id_of(replica, number) {
+            Some(id) => answer.put_id(" ", id),
+            None => answer.put(" none"),
+        },
+        Err(trouble) => answer.put_trouble(" ", trouble),
     }
 }
 
 /// The clock after these raises, one after another.
 pub fn raised(alloc: Global, text: &str) -> Result<Clock, Trouble> {
     let mut clock = Clock::new(alloc);
-    if text == "-" {
-        return Ok(clock);
+    if text != "-" {
+        take_each(alloc, &mut clock, ',', text)?;
     }
-    match raise_all(&mut clock, text) {
-        Ok(()) => Ok(clock),
-        Err(trouble) => Err(trouble),
+    Ok(clock)
+}
+
+/// A clock takes raises.
+impl Gathers for Clock {
+    fn take(&mut self, _alloc: Global, field: &str) -> Result<(), Trouble> {
+        let (replica, number) = entry(field)?;
+        self.raise(replica, number)?;
+        Ok(())
     }
 }
 
-fn raise_all(clock: &mut Clock, text: &str) -> Result<(), Trouble> {
-    for part in text.split(',') {
-        raise(clock, part)?;
+/// Answers what is asked of the clock after these raises, and of what is named first.
+fn tell_raised(word: ClockWord, first: &str, raises: &str, answer: &mut Words) {
+    match raised(answer.alloc(), raises) {
+        Ok(clock) => tell_clock(word, first, &clock, answer),
+        Err(trouble) => answer.put_trouble(" ", trouble),
     }
-    Ok(())
 }
 
-fn raise(clock: &mut Clock, part: &str) -> Result<(), Trouble> {
-    let (replica, number) = entry(part)?;
-    clock.raise(replica, number)?;
-    Ok(())
-}
-
-fn tell_id(replica: u32, number: u32, answer: &mut Words) -> Result<(), Trouble> {
-    match id_of(replica, number) {
-        Some(id) => answer.put_id(" ", id),
-        None => answer.put(" none"),
+fn tell_clock(word: ClockWord, first: &str, clock: &Clock, answer: &mut Words) {
+    match word {
+        ClockWord::Clock => tell_copied(clock, answer),
+        ClockWord::Number => tell_number(first, clock, answer),
+        ClockWord::Covers => tell_covered(first, clock, answer),
+        _ => tell_two(word, first, clock, answer),
     }
-    Ok(())
 }
 
 /// A copy of the clock.
-fn tell_clock(text: &str, answer: &mut Words) -> Result<(), Trouble> {
-    let clock = raised(answer.alloc(), text)?;
+fn tell_copied(clock: &Clock, answer: &mut Words) {
     match clock.copy(answer.alloc()) {
-        Ok(copied) => tell_same(&clock, &copied, answer),
+        Ok(copied) => {
+            answer.put_if(!copied.same(clock), " copied");
+            answer.put_clock(" ", &copied);
+        }
         Err(AllocError) => answer.give_up(),
     }
-    Ok(())
 }
 
-fn tell_same(clock: &Clock, copied: &Clock, answer: &mut Words) {
-    answer.put_if(!copied.same(clock), " copied");
-    answer.put_clock(" ", copied);
+fn tell_number(of: &str, clock: &Clock, answer: &mut Words) {
+    match replica(of) {
+        Ok(replica) => answer.put_number(" ", u64::from(clock.get(replica))),
+        Err(trouble) => answer.put_trouble(" ", trouble),
+    }
 }
 
-fn tell_number(replica: ReplicaId, text: &str, answer: &mut Words) -> Result<(), Trouble> {
-    let clock = raised(answer.alloc(), text)?;
-    answer.put_number(" ", u64::from(clock.get(replica)));
-    Ok(())
+fn tell_covered(of: &str, clock: &Clock, answer: &mut Words) {
+    match id(of) {
+        Ok(id) => answer.put_whether(" ", clock.covers(id)),
+        Err(trouble) => answer.put_trouble(" ", trouble),
+    }
 }
 
-fn tell_covered(id: OpId, text: &str, answer: &mut Words) -> Result<(), Trouble> {
-    let clock = raised(answer.alloc(), text)?;
-    answer.put_whether(" ", clock.covers(id));
-    Ok(())
-}
-
-fn tell_compared(first: &str, second: &str, answer: &mut Words) -> Result<(), Trouble> {
-    let clock = raised(answer.alloc(), first)?;
-    compare_with(&clock, second, answer)
-}
-
-fn compare_with(first: &Clock, second: &str, answer: &mut Words) -> Result<(), Trouble> {
-    let second = raised(answer.alloc(), second)?;
-    tell_order(first, &second, answer);
-    Ok(())
+/// How the clock after these raises stands to another, or their join.
+fn tell_two(word: ClockWord, raises: &str, other: &Clock, answer: &mut Words) {
+    match raised(answer.alloc(), raises) {
+        Ok(mut clock) => {
+            if matches!(word, ClockWord::Compare) {
+                tell_order(&clock, other, answer);
+            } else {
+                tell_joined(&mut clock, other, answer);
+            }
+        }
+        Err(trouble) => answer.put_trouble(" ", trouble),
+    }
 }
 
 fn tell_order(first: &Clock, second: &Clock, answer: &mut Words) {
-    answer.put_after(" ", order_word(first.compare(second)).as_bytes());
+    answer.put_name(" ", &first.compare(second));
     answer.put_if(first.is_within(second), " within");
     answer.put_if(first.same(second), " same");
 }
 
-fn order_word(order: ClockOrder) -> &'static str {
-    match order {
-        ClockOrder::Before => "Before",
-        ClockOrder::After => "After",
-        ClockOrder::Equal => "Equal",
-        ClockOrder::Concurrent => "Concurrent",
+fn tell_joined(clock: &mut Clock, other: &Clock, answer: &mut Words) {
+    match clock.join(answer.alloc(), other) {
+        Ok(()) => answer.put_clock(" ", clock),
+        Err(AllocError) => answer.give_up(),
     }
 }
 
-fn tell_joined(first: &str, second: &str, answer: &mut Words) -> Result<(), Trouble> {
-    let mut clock = raised(answer.alloc(), first)?;
-    join_with(&mut clock, second, answer)?;
-    answer.put_clock(" ", &clock);
-    Ok(())
-}
-
-fn join_with(clock: &mut Clock, text: &str, answer: &Words) -> Result<(), Trouble> {
-    let other = raised(answer.alloc(), text)?;
-    clock.join(answer.alloc(), &other)?;
-    Ok(())
-}
-
-fn push_all(text: &str, answer: &mut Words) -> Result<(), Trouble> {
+fn push_all(text: &str, answer: &mut Words) {
     let mut clock = Clock::new(answer.alloc());
-    for part in text.split(',') {
-        push(&mut clock, part, answer)?;
+    match push_each(&mut clock, text, answer) {
+        Ok(()) => answer.put_clock(" ", &clock),
+        Err(trouble) => answer.put_trouble(" ", trouble),
     }
-    answer.put_clock(" ", &clock);
+}
+
+fn push_each(clock: &mut Clock, text: &str, answer: &mut Words) -> Result<(), Trouble> {
+    for part in text.split(',') {
+        push(clock, part, answer)?;
+    }
     Ok(())
 }
 

@@ -38,17 +38,19 @@ fn tell_folders(folders: &Folders, names: &[Name], answer: &mut Words) {
 
 fn tell_messages(folders: &Folders, name: &Name, answer: &mut Words) {
     match folders.messages(answer.alloc(), name) {
-        Ok(messages) => tell_each(folders, name, &messages, answer),
+        Ok(messages) => {
+            for message in &messages {
+                tell_message(folders, name, message, answer);
+            }
+        }
         Err(AllocError) => answer.give_up(),
     }
 }
 
-fn tell_each(folders: &Folders, name: &Name, messages: &[Message], answer: &mut Words) {
-    for message in messages {
-        tell_copied(message, answer);
-        answer.put_if(!is_lent(folders, name, message), " lent otherwise");
-        tell_versions(folders, name, message, answer);
-    }
+fn tell_message(folders: &Folders, name: &Name, message: &Message, answer: &mut Words) {
+    tell_copied(message, answer);
+    answer.put_if(!is_lent(folders, name, message), " lent otherwise");
+    tell_versions(folders, name, message, answer);
 }
 
 /// Whether the folders lend the same message.

@@ -1,8 +1,9 @@
 //! The operations that a case gives.
 
 use crate::dump::tell_state;
-use crate::stage::{Mailboxes, empty};
-use case_text::{Trouble, Words, cut, number, operation};
+use crate::fields::add_op;
+use crate::stage::empty;
+use case_text::{Trouble, Words, cut, number};
 use crdt_ops::SoundOp;
 use merge_laws::{Caused, replay};
 use std::alloc::{AllocError, Global};
@@ -29,52 +30,41 @@ impl Given {
     }
 }
 
-/// `given LINE`: adds an operation that comes first.
-pub fn add_first(alloc: Global, given: &mut Given, line: &str) -> Result<(), Trouble> {
-    add(alloc, &mut given.first, line)
-}
-
 /// `any CAUSES LINE`: adds an operation that comes in each order, and says which of those before it, counted from 1, are its
 /// causes.
 pub fn add_any(alloc: Global, given: &mut Given, fields: &str) -> Result<(), Trouble> {
     let (places, line) = cut(fields)?;
-    if places != "-" {
-        add_causes(&mut given.causes, places, given.any.len())?;
+    match add_causes(&mut given.causes, places, given.any.len()) {
+        Ok(()) => add_op(alloc, &mut given.any, line),
+        Err(trouble) => Err(trouble),
     }
-    add(alloc, &mut given.any, line)
-}
-
-fn add(alloc: Global, ops: &mut Vec<SoundOp>, line: &str) -> Result<(), Trouble> {
-    ops.reserve(1)?;
-    ops.push_reserved(operation(alloc, line)?);
-    Ok(())
 }
 
 fn add_causes(causes: &mut Vec<(usize, usize)>, places: &str, at: usize) -> Result<(), Trouble> {
-    for place in places.split(',') {
-        add_cause(causes, number(place)?, at)?;
+    if places != "-" {
+        for place in places.split(',') {
+            add_cause(causes, place, at)?;
+        }
     }
     Ok(())
 }
 
-fn add_cause(causes: &mut Vec<(usize, usize)>, place: u32, at: usize) -> Result<(), Trouble> {
-    if place == 0 {
-        return Err(Trouble::NotACase);
+fn add_cause(causes: &mut Vec<(usize, usize)>, place: &str, at: usize) -> Result<(), Trouble> {
+    match number(place)?.checked_sub(1) {
+        Some(place) => {
+            causes.push((place as usize, at))?;
+            Ok(())
+        }
+        None => Err(Trouble::NotACase),
     }
-    causes.push((place as usize - 1, at))?;
-    Ok(())
 }
 
 /// `replay`: what the operations that come first lead to, without an inbox.
 pub fn tell_replay(given: &Given, answer: &mut Words) {
-    match replayed(answer.alloc(), &given.first) {
+    match replay(answer.alloc(), empty(answer.alloc()), &given.first) {
         Ok(state) => tell_state(&state, answer),
         Err(AllocError) => answer.give_up(),
     }
-}
-
-fn replayed(alloc: Global, ops: &[SoundOp]) -> Result<Mailboxes, AllocError> {
-    replay(alloc, empty(alloc), ops)
 }
 
 /// `pairs`: how many operations come first, and whether each is the same as itself and no other; else the places, counted from

@@ -5,7 +5,7 @@ use crate::dump::{tell_ids, tell_state};
 use crate::issuing::tell_issue;
 use crate::mutations::tell_damage;
 use crate::stage::{Mailboxes, Node, deliver};
-use case_text::{Trouble, Words, name, operation};
+use case_text::{Words, name, operation};
 use causal_inbox::{Arrival, DeliverFault, Delivered, HeldOps};
 use crdt_ops::{SoundOp, copied_ops};
 use imap_types::Name;
@@ -34,33 +34,34 @@ pub enum InboxWord {
 }
 
 /// Answers what is asked of the inbox.
-pub fn answer_inbox(
-    inbox: &mut Node,
-    word: InboxWord,
-    fields: &str,
-    answer: &mut Words,
-) -> Result<(), Trouble> {
+pub fn answer_inbox(inbox: &mut Node, word: InboxWord, fields: &str, answer: &mut Words) {
     match word {
-        InboxWord::Deliver => tell_delivery(inbox, fields, answer)?,
+        InboxWord::Deliver => tell_delivery(inbox, fields, answer),
         InboxWord::Drain => tell_drain(inbox, answer),
-        InboxWord::Issue => tell_issue(inbox, fields, answer)?,
-        InboxWord::Since => tell_since(inbox, fields, answer)?,
-        InboxWord::Folder => tell_named(inbox.value(), fields, answer)?,
+        InboxWord::Issue => tell_issue(inbox, fields, answer),
+        InboxWord::Since => tell_since(inbox, fields, answer),
+        InboxWord::Folder => tell_named(inbox.value(), fields, answer),
         InboxWord::Show => tell_received(inbox.op_list(), &inbox.held(), answer),
         InboxWord::List => tell_applied(inbox.op_list(), answer),
         InboxWord::Told => tell_state(inbox.value(), answer),
     }
-    Ok(())
 }
 
-fn tell_delivery(inbox: &mut Node, line: &str, answer: &mut Words) -> Result<(), Trouble> {
-    let op = operation(answer.alloc(), line)?;
+fn tell_delivery(inbox: &mut Node, line: &str, answer: &mut Words) {
+    match operation(answer.alloc(), line) {
+        Ok(op) => {
+            tell_arrival(inbox, op, answer);
+            tell_damage(line.as_bytes(), answer);
+        }
+        Err(trouble) => answer.put_trouble(" ", trouble),
+    }
+}
+
+fn tell_arrival(inbox: &mut Node, op: SoundOp, answer: &mut Words) {
     match deliver(answer.alloc(), inbox, op) {
         Ok(delivered) => tell_delivered(delivered, answer),
         Err(fault) => tell_fault(fault, answer),
     }
-    tell_damage(line.as_bytes(), answer);
-    Ok(())
 }
 
 fn tell_drain(inbox: &mut Node, answer: &mut Words) {
@@ -131,10 +132,11 @@ fn tell_applied(ops: &[SoundOp], answer: &mut Words) {
     }
 }
 
-fn tell_since(inbox: &Node, fields: &str, answer: &mut Words) -> Result<(), Trouble> {
-    let clock = raised(answer.alloc(), fields)?;
-    tell_uncovered(inbox, &clock, answer);
-    Ok(())
+fn tell_since(inbox: &Node, fields: &str, answer: &mut Words) {
+    match raised(answer.alloc(), fields) {
+        Ok(clock) => tell_uncovered(inbox, &clock, answer),
+        Err(trouble) => answer.put_trouble(" ", trouble),
+    }
 }
 
 fn tell_uncovered(inbox: &Node, clock: &Clock, answer: &mut Words) {
@@ -147,10 +149,11 @@ fn tell_uncovered(inbox: &Node, clock: &Clock, answer: &mut Words) {
     }
 }
 
-fn tell_named(state: &Mailboxes, fields: &str, answer: &mut Words) -> Result<(), Trouble> {
-    let name = name(answer.alloc(), fields)?;
-    tell_lists(state, &name, answer);
-    Ok(())
+fn tell_named(state: &Mailboxes, fields: &str, answer: &mut Words) {
+    match name(answer.alloc(), fields) {
+        Ok(name) => tell_lists(state, &name, answer),
+        Err(trouble) => answer.put_trouble(" ", trouble),
+    }
 }
 
 fn tell_lists(state: &Mailboxes, name: &Name, answer: &mut Words) {

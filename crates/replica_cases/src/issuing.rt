@@ -6,7 +6,7 @@ ghost use Rattle.crdt_ops.specs.declared.op.Op.{Op as Operation};
 ghost use Rattle.crdt_ops.specs.Ops.{clock_of, id_of};
 
 use crate::stage::Node;
-use case_text::{Trouble, Words, cut, name, replica};
+use case_text::{Trouble, Words, name, parted, replica};
 use crdt_ops::{Kind, Op, SoundOp, checked};
 use imap_types::Name;
 use std::alloc::{AllocError, Global};
@@ -14,12 +14,20 @@ use tags_clocks::{OpId, ReplicaId};
 
 /// `issue R NAME`: the operation by which the replica, which the inbox is then taken to be of, creates the folder. It is
 /// issued behind all that was applied.
-pub fn tell_issue(inbox: &mut Node, fields: &str, answer: &mut Words) -> Result<(), Trouble> {
-    let (issuer, folder) = cut(fields)?;
+pub fn tell_issue(inbox: &mut Node, fields: &str, answer: &mut Words) {
+    match next_op(answer.alloc(), inbox, fields) {
+        Ok(op) => issue(inbox, op, answer),
+        Err(trouble) => answer.put_trouble(" ", trouble),
+    }
+}
+
+/// The operation that `R NAME` asks for.
+fn next_op(alloc: Global, inbox: &Node, fields: &str) -> Result<SoundOp, Trouble>
+    ensures { IfOk result (λ op. IsIssued id_of clock_of inbox.now.seen.applied op) }
+{
+    let (issuer, folder) = parted(fields, " ");
     let id = next_id(inbox, replica(issuer)?)?;
-    let op = next_create(answer.alloc(), inbox, id, name(answer.alloc(), folder)?)?;
-    issue(inbox, op, answer);
-    Ok(())
+    next_create(alloc, inbox, id, name(alloc, folder)?)
 }
 
 /// The id of this replica's next operation behind those that were applied.

@@ -7,6 +7,7 @@ mod fields;
 mod given;
 mod inboxes;
 mod issuing;
+mod lines;
 mod mutations;
 mod operations;
 mod orders;

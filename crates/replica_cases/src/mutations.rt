@@ -1,7 +1,7 @@
 //! Texts that are cut off or have another octet somewhere.
 
 use crate::operations::{Finding, found};
-use case_text::Words;
+use case_text::{Words, with_octet};
 use std::alloc::{AllocError, Global};
 
 /// How many texts were found to be what.
@@ -82,16 +82,8 @@ fn note_octet(alloc: Global, text: &[u8], octet: u8, findings: &mut Findings) {
 
 /// What the text is with this octet at this place.
 fn found_with(alloc: Global, text: &[u8], at: usize, octet: u8) -> Finding {
-    match replaced(alloc, text, at, octet) {
+    match with_octet(alloc, text, at, octet) {
         Ok(other) => found(alloc, &other),
         Err(AllocError) => Finding::Changed,
     }
-}
-
-fn replaced(alloc: Global, text: &[u8], at: usize, octet: u8) -> Result<Vec<u8>, AllocError> {
-    let mut other = text.to_vec(alloc)?;
-    if let Some(place) = other.get_mut(at) {
-        *place = octet;
-    }
-    Ok(other)
 }

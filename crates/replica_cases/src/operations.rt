@@ -1,6 +1,7 @@
 //! The texts of operations: what is read, which of it is sound, and how it is written again.
 
-use crdt_ops::{Op, OpFault, SoundOp, Unsound, check, read_op, write_op};
+use case_text::Words;
+use crdt_ops::{Op, OpFault, SoundOp, Unsound, check, read_op};
 use merge_laws::Caused;
 use std::alloc::{AllocError, Global};
 
@@ -17,24 +18,13 @@ pub enum Finding {
     Changed,
 }
 
-/// The word for a finding.
-pub fn finding_word(finding: Finding) -> &'static str {
+/// Tells what is found of a text.
+pub fn tell_finding(finding: Finding, answer: &mut Words) {
     match finding {
-        Finding::NotTheForm => "no operation",
-        Finding::Unsound(fault) => fault_word(fault),
-        Finding::Sound => "sound",
-        Finding::Changed => "changed",
-    }
-}
-
-fn fault_word(fault: Unsound) -> &'static str {
-    match fault {
-        Unsound::OwnClockEntry => "OwnClockEntry",
-        Unsound::UncoveredId => "UncoveredId",
-        Unsound::UnlawfulName => "UnlawfulName",
-        Unsound::UnlawfulFlags => "UnlawfulFlags",
-        Unsound::DeleteOfInbox => "DeleteOfInbox",
-        Unsound::Count => "Count",
+        Finding::NotTheForm => answer.put(" no operation"),
+        Finding::Unsound(fault) => answer.put_name(" ", &fault),
+        Finding::Sound => answer.put(" sound"),
+        Finding::Changed => answer.put(" changed"),
     }
 }
 
@@ -88,17 +78,12 @@ fn is_spelled(alloc: Global, op: &Op, text: &[u8]) -> bool {
 
 /// Whether the operation is written as this text, behind another one.
 fn is_written(alloc: Global, op: &SoundOp, text: &[u8]) -> bool {
-    match written(alloc, op) {
+    let mut words = Words::new(alloc);
+    words.put_op("front ", op);
+    match words.finish() {
         Ok(again) => again.strip_prefix(b"front ") == Some(text),
         Err(AllocError) => false,
     }
-}
-
-fn written(alloc: Global, op: &SoundOp) -> Result<Vec<u8>, AllocError> {
-    let mut text = Vec::new(alloc);
-    text.extend_from_slice(b"front ")?;
-    write_op(alloc, op, &mut text)?;
-    Ok(text)
 }
 
 /// Whether copies of the operation and of its parts are the same.

@@ -5,7 +5,7 @@ use crate::given::Given;
 use crate::permutations::{comes_early, is_causal, order, orders_of};
 use crate::stage::{Node, deliver, node};
 use case_text::{Trouble, Words};
-use causal_inbox::{Arrival, DeliverFault, Delivered};
+use causal_inbox::{Arrival, Delivered};
 use crdt_ops::SoundOp;
 use merge_laws::Caused;
 use std::alloc::{AllocError, Global};
@@ -46,15 +46,15 @@ impl Tried {
 
 /// `orders`: delivers the operations in each order, each twice in a row, and all and then all again, and in the causal orders
 /// each once; tells how many orders there are, whether all answered and ended as they must, and what they lead to.
-pub fn tell_orders(given: &Given, answer: &mut Words) -> Result<(), Trouble> {
+pub fn tell_orders(given: &Given, answer: &mut Words) {
     if given.any.len() > MOST {
-        return Err(Trouble::NotACase);
+        answer.put_trouble(" ", Trouble::NotACase);
+    } else {
+        match end_of(answer.alloc(), given) {
+            Some(end) => tell_all(given, &end, answer),
+            None => answer.give_up(),
+        }
     }
-    match end_of(answer.alloc(), given) {
-        Some(end) => tell_all(given, &end, answer),
-        None => answer.give_up(),
-    }
-    Ok(())
 }
 
 fn tell_all(given: &Given, end: &[u8], answer: &mut Words) {
@@ -79,14 +79,12 @@ fn tell_wrong(wrong: Option<usize>, count: usize, answer: &mut Words) {
 /// The places of an order, counted from 1.
 fn tell_order(number: usize, count: usize, answer: &mut Words) {
     match order(answer.alloc(), number, count) {
-        Ok(order) => tell_places(&order, answer),
+        Ok(order) => {
+            for place in &order {
+                answer.put_number(" ", (*place as u64).saturating_add(1));
+            }
+        }
         Err(AllocError) => answer.give_up(),
-    }
-}
-
-fn tell_places(order: &[usize], answer: &mut Words) {
-    for place in order {
-        answer.put_number(" ", (*place as u64).saturating_add(1));
     }
 }
 
@@ -128,20 +126,16 @@ fn deliver_all(alloc: Global, inbox: &mut Node, ops: &[SoundOp]) {
 /// Delivers a copy of the operation; `None` is a refusal, or an operation that stalls.
 fn delivered(alloc: Global, inbox: &mut Node, op: &SoundOp) -> Option<Arrival> {
     match op.copy(alloc) {
-        Ok(copied) => arrival(deliver(alloc, inbox, copied)),
+        Ok(copied) => match deliver(alloc, inbox, copied) {
+            Ok(
+                Delivered {
+                    arrival,
+                    stalled: false,
+                },
+            ) => Some(arrival),
+            _ => None,
+        },
         Err(AllocError) => None,
-    }
-}
-
-fn arrival(answer: Result<Delivered, DeliverFault>) -> Option<Arrival> {
-    match answer {
-        Ok(
-            Delivered {
-                arrival,
-                stalled: false,
-            },
-        ) => Some(arrival),
-        _ => None,
     }
 }
 
@@ -260,18 +254,12 @@ fn as_they_come(alloc: Global, inbox: &mut Node, given: &Given, order: &[usize])
 /// Whether the list is of those that come first, and then of the others in this order.
 fn are_listed(given: &Given, order: &[usize], list: &[SoundOp]) -> bool {
     for (at, op) in list.iter().enumerate() {
-        if !is_listed(given, order, at, op) {
-            return false;
+        match listed_at(given, order, at) {
+            Some(other) if op.same(other) => {}
+            _ => return false,
         }
     }
     true
-}
-
-fn is_listed(given: &Given, order: &[usize], at: usize, op: &SoundOp) -> bool {
-    match listed_at(given, order, at) {
-        Some(other) => op.same(other),
-        None => false,
-    }
 }
 
 /// The operation that must stand at this place of the list.

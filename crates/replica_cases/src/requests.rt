@@ -1,14 +1,16 @@
-//! Lines of the input: what is asked in each, and where its answer goes.
+//! What is asked in each line.
 
 use crate::clocks::{ClockWord, answer_clock};
-use crate::given::{Given, add_any, add_first, tell_pairs, tell_replay};
+use crate::fields::add_op;
+use crate::given::{Given, add_any, tell_pairs, tell_replay};
 use crate::inboxes::{InboxWord, answer_inbox};
+use crate::lines::{Plays, played};
 use crate::mutations::{of_cuts, of_octets, tell_damage, tell_findings};
-use crate::operations::{finding_word, found};
+use crate::operations::{found, tell_finding};
 use crate::orders::tell_orders;
 use crate::sets::{SetWord, answer_set};
 use crate::stage::Stage;
-use case_text::{Trouble, Words, asked, cut, octets};
+use case_text::{Trouble, Words, meaning, octets, parted};
 use imap_types::Escape;
 use std::alloc::{AllocError, Global};
 use std::mem;
@@ -40,6 +42,21 @@ enum GivenWord {
 /// What the first word of a line asks.
 #[derive(Clone, Copy)]
 enum Word {
+    /// Nothing: the line is a comment.
+    Nothing,
+    /// `==`: begins a case.
+    Begin,
+    /// `given LINE`: adds an operation that comes first.
+    First,
+    /// `any CAUSES LINE`: adds an operation that comes in each order.
+    Any,
+    /// Has an answer.
+    Asks(Asks),
+}
+
+/// What is asked.
+#[derive(Clone, Copy)]
+enum Asks {
     Text(TextWord),
     Clock(ClockWord),
     Set(SetWord),
@@ -48,146 +65,128 @@ enum Word {
 }
 
 const WORDS: &[(&str, Word)] = &[
-    ("op", Word::Text(TextWord::Op)),
-    ("octets", Word::Text(TextWord::Octets)),
-    ("cuts", Word::Text(TextWord::Cuts)),
-    ("replaced", Word::Text(TextWord::Replaced)),
-    ("id", Word::Clock(ClockWord::Id)),
-    ("clock", Word::Clock(ClockWord::Clock)),
-    ("number", Word::Clock(ClockWord::Number)),
-    ("covers", Word::Clock(ClockWord::Covers)),
-    ("compare", Word::Clock(ClockWord::Compare)),
-    ("join", Word::Clock(ClockWord::Join)),
-    ("push", Word::Clock(ClockWord::Push)),
-    ("ids", Word::Set(SetWord::Ids)),
-    ("contains", Word::Set(SetWord::Contains)),
-    ("names", Word::Set(SetWord::Names)),
-    ("deliver", Word::Inbox(InboxWord::Deliver)),
-    ("drain", Word::Inbox(InboxWord::Drain)),
-    ("issue", Word::Inbox(InboxWord::Issue)),
-    ("show", Word::Inbox(InboxWord::Show)),
-    ("list", Word::Inbox(InboxWord::List)),
-    ("since", Word::Inbox(InboxWord::Since)),
-    ("told", Word::Inbox(InboxWord::Told)),
-    ("folder", Word::Inbox(InboxWord::Folder)),
-    ("pairs", Word::Given(GivenWord::Pairs)),
-    ("replay", Word::Given(GivenWord::Replay)),
-    ("orders", Word::Given(GivenWord::Orders)),
+    ("", Word::Nothing),
+    ("#", Word::Nothing),
+    ("==", Word::Begin),
+    ("given", Word::First),
+    ("any", Word::Any),
+    ("op", Word::Asks(Asks::Text(TextWord::Op))),
+    ("octets", Word::Asks(Asks::Text(TextWord::Octets))),
+    ("cuts", Word::Asks(Asks::Text(TextWord::Cuts))),
+    ("replaced", Word::Asks(Asks::Text(TextWord::Replaced))),
+    ("id", Word::Asks(Asks::Clock(ClockWord::Id))),
+    ("clock", Word::Asks(Asks::Clock(ClockWord::Clock))),
+    ("number", Word::Asks(Asks::Clock(ClockWord::Number))),
+    ("covers", Word::Asks(Asks::Clock(ClockWord::Covers))),
+    ("compare", Word::Asks(Asks::Clock(ClockWord::Compare))),
+    ("join", Word::Asks(Asks::Clock(ClockWord::Join))),
+    ("push", Word::Asks(Asks::Clock(ClockWord::Push))),
+    ("ids", Word::Asks(Asks::Set(SetWord::Ids))),
+    ("contains", Word::Asks(Asks::Set(SetWord::Contains))),
+    ("names", Word::Asks(Asks::Set(SetWord::Names))),
+    ("deliver", Word::Asks(Asks::Inbox(InboxWord::Deliver))),
+    ("drain", Word::Asks(Asks::Inbox(InboxWord::Drain))),
+    ("issue", Word::Asks(Asks::Inbox(InboxWord::Issue))),
+    ("show", Word::Asks(Asks::Inbox(InboxWord::Show))),
+    ("list", Word::Asks(Asks::Inbox(InboxWord::List))),
+    ("since", Word::Asks(Asks::Inbox(InboxWord::Since))),
+    ("told", Word::Asks(Asks::Inbox(InboxWord::Told))),
+    ("folder", Word::Asks(Asks::Inbox(InboxWord::Folder))),
+    ("pairs", Word::Asks(Asks::Given(GivenWord::Pairs))),
+    ("replay", Word::Asks(Asks::Given(GivenWord::Replay))),
+    ("orders", Word::Asks(Asks::Given(GivenWord::Orders))),
 ];
-
-fn word_of(text: &str) -> Result<Word, Trouble> {
-    for (name, word) in WORDS {
-        if *name == text {
-            return Ok(*word);
-        }
-    }
-    Err(Trouble::NotACase)
-}
 
 /// Plays the lines of a text, and tells each with its answer in place of the one that stands there. An error says that there is no memory.
 pub fn play(alloc: Global, text: &str) -> Result<Vec<u8>, AllocError> {
-    let mut stage = Stage::new(alloc)?;
-    let mut page = Words::new(alloc);
-    for line in text.split_terminator('\n') {
-        page.put_result(serve(alloc, &mut stage, line));
+    match Stage::new(alloc) {
+        Ok(stage) => played(alloc, stage, text),
+        Err(AllocError) => Err(AllocError),
     }
-    drop(stage);
-    page.finish()
-}
-
-/// What a line makes the page tell: the line with its answer in place of the one that stands there.
-fn serve(alloc: Global, stage: &mut Stage, line: &str) -> Result<Vec<u8>, AllocError> {
-    let mut answer = Words::new(alloc);
-    if !line.starts_with("  ") {
-        serve_line(stage, line, &mut answer);
-    }
-    answer.finish()
-}
-
-fn serve_line(stage: &mut Stage, line: &str, answer: &mut Words) {
-    let asked = asked(line);
-    answer.put(asked);
-    if let Err(trouble) = obey(stage, asked, answer) {
-        answer.put_trouble(" ", trouble);
-    }
-    answer.put("\n");
 }
 
 /// Passes over a comment, begins a case, takes an operation that is given, or answers what is asked.
-fn obey(stage: &mut Stage, asked: &str, answer: &mut Words) -> Result<(), Trouble> {
-    let (word, fields) = asked.split_once(' ').unwrap_or((asked, ""));
-    match word {
-        "" | "#" => Ok(()),
-        "==" => restart(stage, answer.alloc()),
-        "given" => {
-            tell_damage(fields.as_bytes(), answer);
-            add_first(answer.alloc(), &mut stage.given, fields)
+impl Plays for Stage {
+    fn obey(&mut self, asked: &str, answer: &mut Words) {
+        let (word, fields) = parted(asked, " ");
+        match meaning(WORDS, word) {
+            Some(Word::Nothing) => {}
+            Some(Word::Begin) => restart(self, answer),
+            Some(Word::First) => take_first(&mut self.given, fields, answer),
+            Some(Word::Any) => take_any(&mut self.given, fields, answer),
+            Some(Word::Asks(asks)) => answer_asked(self, asks, fields, answer),
+            None => answer.put_trouble(" => ", Trouble::NotACase),
         }
-        "any" => add_any(answer.alloc(), &mut stage.given, fields),
-        _ => answer_word(stage, word, fields, answer),
     }
 }
 
-fn restart(stage: &mut Stage, alloc: Global) -> Result<(), Trouble> {
-    match Stage::new(alloc) {
-        Ok(fresh) => {
-            drop(mem::replace(stage, fresh));
-            Ok(())
-        }
-        Err(AllocError) => Err(Trouble::NoMemory),
+fn restart(stage: &mut Stage, answer: &mut Words) {
+    match Stage::new(answer.alloc()) {
+        Ok(fresh) => drop(mem::replace(stage, fresh)),
+        Err(AllocError) => answer.give_up(),
     }
 }
 
-fn answer_word(
-    stage: &mut Stage,
-    word: &str,
-    fields: &str,
-    answer: &mut Words,
-) -> Result<(), Trouble> {
+fn take_first(given: &mut Given, line: &str, answer: &mut Words) {
+    tell_damage(line.as_bytes(), answer);
+    if let Err(trouble) = add_op(answer.alloc(), &mut given.first, line) {
+        answer.put_trouble(" ", trouble);
+    }
+}
+
+fn take_any(given: &mut Given, fields: &str, answer: &mut Words) {
+    if let Err(trouble) = add_any(answer.alloc(), given, fields) {
+        answer.put_trouble(" ", trouble);
+    }
+}
+
+fn answer_asked(stage: &mut Stage, asks: Asks, fields: &str, answer: &mut Words) {
     answer.put(" =>");
-    match word_of(word)? {
-        Word::Text(word) => answer_text(word, fields, answer),
-        Word::Clock(word) => answer_clock(word, fields, answer),
-        Word::Set(word) => answer_set(word, fields, answer),
-        Word::Inbox(word) => answer_inbox(&mut stage.inbox, word, fields, answer),
-        Word::Given(word) => answer_given(&stage.given, word, answer),
+    match asks {
+        Asks::Text(word) => answer_text(word, fields, answer),
+        Asks::Clock(word) => answer_clock(word, fields, answer),
+        Asks::Set(word) => answer_set(word, fields, answer),
+        Asks::Inbox(word) => answer_inbox(&mut stage.inbox, word, fields, answer),
+        Asks::Given(word) => answer_given(&stage.given, word, answer),
     }
 }
 
-fn answer_text(word: TextWord, fields: &str, answer: &mut Words) -> Result<(), Trouble> {
+fn answer_text(word: TextWord, fields: &str, answer: &mut Words) {
     match word {
         TextWord::Op => tell_found(fields.as_bytes(), answer),
         TextWord::Cuts => tell_findings(of_cuts(answer.alloc(), fields.as_bytes()), answer),
-        TextWord::Octets => tell_spelled(fields, answer)?,
-        TextWord::Replaced => tell_replaced(cut(fields)?, answer)?,
+        TextWord::Octets => tell_spelled(fields, answer),
+        TextWord::Replaced => tell_replaced(fields, answer),
     }
-    Ok(())
 }
 
 fn tell_found(text: &[u8], answer: &mut Words) {
-    let finding = finding_word(found(answer.alloc(), text));
-    answer.put_after(" ", finding.as_bytes());
+    tell_finding(found(answer.alloc(), text), answer);
     tell_damage(text, answer);
 }
 
-fn tell_spelled(fields: &str, answer: &mut Words) -> Result<(), Trouble> {
-    let octets = octets(answer.alloc(), Escape::Text, fields)?;
-    tell_found(octets.as_bytes(), answer);
-    Ok(())
+fn tell_spelled(fields: &str, answer: &mut Words) {
+    match octets(answer.alloc(), Escape::Text, fields) {
+        Ok(octets) => tell_found(octets.as_bytes(), answer),
+        Err(trouble) => answer.put_trouble(" ", trouble),
+    }
 }
 
-fn tell_replaced((field, line): (&str, &str), answer: &mut Words) -> Result<(), Trouble> {
-    let octets = octets(answer.alloc(), Escape::Field, field)?;
-    let findings = of_octets(answer.alloc(), line.as_bytes(), octets.as_bytes());
-    tell_findings(findings, answer);
-    Ok(())
+fn tell_replaced(fields: &str, answer: &mut Words) {
+    let (field, line) = parted(fields, " ");
+    match octets(answer.alloc(), Escape::Field, field) {
+        Ok(octets) => {
+            let findings = of_octets(answer.alloc(), line.as_bytes(), octets.as_bytes());
+            tell_findings(findings, answer);
+        }
+        Err(trouble) => answer.put_trouble(" ", trouble),
+    }
 }
 
-fn answer_given(given: &Given, word: GivenWord, answer: &mut Words) -> Result<(), Trouble> {
+fn answer_given(given: &Given, word: GivenWord, answer: &mut Words) {
     match word {
         GivenWord::Pairs => tell_pairs(given, answer),
         GivenWord::Replay => tell_replay(given, answer),
-        GivenWord::Orders => tell_orders(given, answer)?,
+        GivenWord::Orders => tell_orders(given, answer),
     }
-    Ok(())
 }

@@ -1,11 +1,10 @@
 //! Sets of ids and ascending lists of names.
 
-use crate::fields::id;
-use case_text::{Trouble, Words, cut, name};
+use crate::fields::{Gathers, id, take_each};
+use case_text::{Trouble, Words, name, parted};
 use crdt_ops::{Ids, place_name};
 use imap_types::Name;
 use std::alloc::{AllocError, Global};
-use tags_clocks::OpId;
 
 /// What is asked of sets.
 #[derive(Clone, Copy)]
@@ -19,74 +18,68 @@ pub enum SetWord {
 }
 
 /// Answers what is asked of sets.
-pub fn answer_set(word: SetWord, fields: &str, answer: &mut Words) -> Result<(), Trouble> {
+pub fn answer_set(word: SetWord, fields: &str, answer: &mut Words) {
+    let (of, ids) = parted(fields, " ");
     match word {
-        SetWord::Ids => tell_ids(fields, answer),
-        SetWord::Contains => tell_contained(cut(fields)?, answer),
+        SetWord::Ids => tell_ids(None, fields, answer),
+        SetWord::Contains => tell_ids(Some(of), ids, answer),
         SetWord::Names => tell_placed(fields, answer),
     }
 }
 
-/// The ids, put in one after another.
-fn ids(alloc: Global, text: &str) -> Result<Ids, Trouble> {
-    let mut ids = Ids::none(alloc);
-    match insert_all(&mut ids, text) {
-        Ok(()) => Ok(ids),
-        Err(trouble) => Err(trouble),
+/// Ids are put in one after another.
+impl Gathers for Ids {
+    fn take(&mut self, _alloc: Global, field: &str) -> Result<(), Trouble> {
+        self.insert(id(field)?)?;
+        Ok(())
     }
 }
 
-fn insert_all(ids: &mut Ids, text: &str) -> Result<(), Trouble> {
-    for part in text.split(',') {
-        insert(ids, id(part)?)?;
+/// The ids, or whether this one is among them.
+fn tell_ids(of: Option<&str>, text: &str, answer: &mut Words) {
+    let mut ids = Ids::none(answer.alloc());
+    match take_each(answer.alloc(), &mut ids, ',', text) {
+        Ok(()) => match of {
+            None => tell_copied(&ids, answer),
+            Some(of) => tell_contained(of, &ids, answer),
+        },
+        Err(trouble) => answer.put_trouble(" ", trouble),
     }
-    Ok(())
-}
-
-fn insert(ids: &mut Ids, id: OpId) -> Result<(), AllocError> {
-    ids.insert(id)
 }
 
 /// A copy of the ids.
-fn tell_ids(text: &str, answer: &mut Words) -> Result<(), Trouble> {
-    let ids = ids(answer.alloc(), text)?;
+fn tell_copied(ids: &Ids, answer: &mut Words) {
     match ids.copy(answer.alloc()) {
-        Ok(copied) => tell_same(&ids, &copied, answer),
+        Ok(copied) => {
+            answer.put_if(!copied.same(ids), " copied");
+            answer.put_ids(" ", &copied);
+        }
         Err(AllocError) => answer.give_up(),
     }
-    Ok(())
 }
 
-fn tell_same(ids: &Ids, copied: &Ids, answer: &mut Words) {
-    answer.put_if(!copied.same(ids), " copied");
-    answer.put_ids(" ", copied);
-}
-
-fn tell_contained((of, text): (&str, &str), answer: &mut Words) -> Result<(), Trouble> {
-    let of = id(of)?;
-    let ids = ids(answer.alloc(), text)?;
-    answer.put_whether(" ", ids.contains(of));
-    Ok(())
-}
-
-fn tell_placed(fields: &str, answer: &mut Words) -> Result<(), Trouble> {
-    let mut names = Vec::new(answer.alloc());
-    place_all(fields, &mut names, answer.alloc())?;
-    tell_names(&names, answer);
-    Ok(())
-}
-
-fn place_all(fields: &str, names: &mut Vec<Name>, alloc: Global) -> Result<(), Trouble> {
-    for field in fields.split(' ') {
-        place(field, names, alloc)?;
+fn tell_contained(of: &str, ids: &Ids, answer: &mut Words) {
+    match id(of) {
+        Ok(of) => answer.put_whether(" ", ids.contains(of)),
+        Err(trouble) => answer.put_trouble(" ", trouble),
     }
-    Ok(())
 }
 
-fn place(field: &str, names: &mut Vec<Name>, alloc: Global) -> Result<(), Trouble> {
-    let name = name(alloc, field)?;
-    place_name(alloc, names, &name)?;
-    Ok(())
+fn tell_placed(fields: &str, answer: &mut Words) {
+    let mut names: Vec<Name> = Vec::new(answer.alloc());
+    match take_each(answer.alloc(), &mut names, ' ', fields) {
+        Ok(()) => tell_names(&names, answer),
+        Err(trouble) => answer.put_trouble(" ", trouble),
+    }
+}
+
+/// Names are put into their places.
+impl Gathers for Vec<Name> {
+    fn take(&mut self, alloc: Global, field: &str) -> Result<(), Trouble> {
+        let name = name(alloc, field)?;
+        place_name(alloc, self, &name)?;
+        Ok(())
+    }
 }
 
 fn tell_names(names: &[Name], answer: &mut Words) {

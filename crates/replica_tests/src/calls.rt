@@ -1,7 +1,7 @@
 //! Calls that may answer that there is no memory, once with ample memory.
 
 use crate::fixtures::{Mailboxes, Trouble, empty, operations};
-use crate::telling::told_of;
+use crate::telling::tell_mailboxes;
 use causal_inbox::Inbox;
 use merge_laws::{Follower, NotReady, OnFirst, Replicated, Unfollowed};
 use std::alloc::{AllocError, Global};
@@ -19,7 +19,9 @@ const LINES: &[&str] = &[
 fn prepared(alloc: Global) -> Result<Vec<u8>, Trouble> {
     let mut pair = empty(alloc);
     prepare_each(alloc, &mut pair)?;
-    Ok(told_of(alloc, &pair.first, &pair.second)?)
+    let mut text = Vec::new(alloc);
+    tell_mailboxes(alloc, &pair.first, &pair.second, &mut text)?;
+    Ok(text)
 }
 
 fn prepare_each(alloc: Global, pair: &mut Mailboxes) -> Result<(), Trouble> {
@@ -67,19 +69,15 @@ fn node(alloc: Global) -> Result<Node, AllocError> {
 fn is_ready_to_issue(alloc: Global) -> Result<bool, Trouble> {
     let mut inbox = node(alloc)?;
     let is_ready = is_ready_in(alloc, &mut inbox);
-    let is_empty = inbox.op_list().is_empty();
     drop(inbox);
-    match is_ready {
-        Ok(is_ready) => Ok(is_ready && is_empty),
-        Err(trouble) => Err(trouble),
-    }
+    is_ready
 }
 
 fn is_ready_in(alloc: Global, inbox: &mut Node) -> Result<bool, Trouble> {
     let ops = operations(alloc, &["4:1 - create d", "4:2 4=1 create e"])?;
     let answer = inbox.ready(alloc, &ops);
     drop(ops);
-    Ok(answer.is_ok())
+    Ok(answer.is_ok() && inbox.op_list().is_empty())
 }
 
 #[test]

@@ -18,9 +18,13 @@ pub fn draft(
     ops: &[SoundOp],
 ) -> Result<Kind, Trouble> {
     match dice.below(16) {
-        0 => create(alloc, dice),
+        0 => Ok(Kind::Create {
+            folder: some_name(alloc, dice)?,
+        }),
         1 => delete(alloc, dice, clock, ops),
-        2 => subscribe(alloc, dice),
+        2 => Ok(Kind::Subscribe {
+            name: some_name(alloc, dice)?,
+        }),
         3 => unsubscribe(alloc, dice, clock, ops),
         4..=7 => append(alloc, dice),
         _ => change(alloc, dice, clock, ops),
@@ -34,22 +38,12 @@ fn some_name(alloc: Global, dice: &mut Dice) -> Result<Name, AllocError> {
     }
 }
 
-fn create(alloc: Global, dice: &mut Dice) -> Result<Kind, Trouble> {
-    let folder = some_name(alloc, dice)?;
-    Ok(Kind::Create { folder })
-}
-
 /// A Delete of another folder than INBOX, which lists most of its tags.
 fn delete(alloc: Global, dice: &mut Dice, clock: &Clock, ops: &[SoundOp]) -> Result<Kind, Trouble> {
     let octets: &[u8] = if dice.below(2) == 0 { b"a" } else { b"b" };
     let folder = Name::copied_from(alloc, octets)?;
     let seen = most_seen(alloc, dice, clock, ops, &folder)?;
     Ok(Kind::Delete { folder, seen })
-}
-
-fn subscribe(alloc: Global, dice: &mut Dice) -> Result<Kind, Trouble> {
-    let name = some_name(alloc, dice)?;
-    Ok(Kind::Subscribe { name })
 }
 
 fn unsubscribe(

@@ -2,7 +2,7 @@
 
 use crate::fixtures::Trouble;
 use crate::generated::{LISTS, generated};
-use crate::plain_inbox::PlainInbox;
+use crate::plain_inbox::{PlainInbox, is_at};
 use crate::reluctant::Hesitant;
 use causal_inbox::Inbox;
 use crdt_ops::SoundOp;
@@ -48,13 +48,8 @@ fn are_alike(filing: &Filing, plain: &PlainInbox) -> bool {
 
 fn is_applied_alike(ops: &[SoundOp], others: &[SoundOp]) -> bool {
     for (at, op) in ops.iter().enumerate() {
-        match others.get(at) {
-            None => return false,
-            Some(other) => {
-                if !op.same(other) {
-                    return false;
-                }
-            }
+        if !is_at(others, at, op) {
+            return false;
         }
     }
     ops.len() == others.len()
@@ -63,13 +58,8 @@ fn is_applied_alike(ops: &[SoundOp], others: &[SoundOp]) -> bool {
 fn is_held_alike(filing: &Filing, others: &[SoundOp]) -> bool {
     let held = filing.held();
     for (at, op) in held.iter().enumerate() {
-        match others.get(at) {
-            None => return false,
-            Some(other) => {
-                if !op.same(other) {
-                    return false;
-                }
-            }
+        if !is_at(others, at, op) {
+            return false;
         }
     }
     held.len() == others.len()
@@ -80,11 +70,10 @@ fn is_answered_alike(
     alloc: Global,
     filing: &mut Filing,
     plain: &mut PlainInbox,
-    op: SoundOp,
+    op: &SoundOp,
 ) -> Result<bool, Trouble> {
-    let again = op.copy(alloc);
-    let answer = filing.deliver(alloc, op);
-    let plain_answer = plain.deliver(again?)?;
+    let answer = filing.deliver(alloc, op.copy(alloc)?);
+    let plain_answer = plain.deliver(op.copy(alloc)?)?;
     if answer != plain_answer {
         return Ok(false);
     }
@@ -125,7 +114,7 @@ fn is_since_alike(
     clock: &Clock,
 ) -> Result<bool, Trouble> {
     let since = filing.ops_since(alloc, clock)?;
-    Ok(is_applied_alike(&since, &plain.ops_since(alloc, clock)?))
+    Ok(plain.are_since(clock, &since))
 }
 
 /// Whether both answer each delivery alike, and end alike.
@@ -133,7 +122,7 @@ fn are_answered_alike(
     alloc: Global,
     filing: &mut Filing,
     plain: &mut PlainInbox,
-    ops: Vec<SoundOp>,
+    ops: &[SoundOp],
 ) -> Result<bool, Trouble> {
     for op in ops {
         if !is_answered_alike(alloc, filing, plain, op)? {
@@ -149,9 +138,10 @@ fn is_list_alike(alloc: Global, number: u32) -> Result<bool, Trouble> {
     let before = Some(number);
     let mut filing = Inbox::new(alloc, Unchanged, Hesitant { before })?;
     let mut plain = PlainInbox::new(alloc, before);
-    let alike = are_answered_alike(alloc, &mut filing, &mut plain, ops);
+    let alike = are_answered_alike(alloc, &mut filing, &mut plain, &ops);
     drop(filing);
     drop(plain);
+    drop(ops);
     alike
 }
 

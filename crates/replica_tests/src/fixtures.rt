@@ -6,11 +6,11 @@ ghost use Rattle.folder_state.specs.Tables.{contents_of};
 ghost use Rattle.subs_state.specs.Subscriptions.{no_subscriptions};
 ghost use Rattle.subs_state.specs.Table.{subscriptions_of};
 
-use crate::telling::{tell_delivered, tell_drained, tell_held_ids, tell_ids, tell_stall};
+use crate::telling::{tell_delivered, tell_drained, tell_received, tell_stall};
 use causal_inbox::Inbox;
 use crdt_ops::{Op, OpFault, SoundOp, checked, read_op};
 use folder_state::Folders;
-use merge_laws::{Follower, Pair, Replicated};
+use merge_laws::{Follower, Pair, Replicated, Unfollowed};
 use std::alloc::{AllocError, AllocFailed, Global};
 use subs_state::Subs;
 
@@ -72,6 +72,14 @@ pub fn empty(alloc: Global) -> Mailboxes
     }
 }
 
+/// An inbox over folders and subscriptions, that nobody follows.
+pub type Node = Inbox<Mailboxes, Unfollowed>;
+
+/// One that has received nothing.
+pub fn node(alloc: Global) -> Result<Node, AllocError> {
+    Inbox::new(alloc, empty(alloc), Unfollowed)
+}
+
 /// Delivers the operation of each line, or drains, asks why one stalls or shows the ids, and tells what comes of it, a line each.
 pub fn play_all<R: Replicated<Op = SoundOp>, F: Follower<R>>(
     alloc: Global,
@@ -92,31 +100,11 @@ pub fn play<R: Replicated<Op = SoundOp>, F: Follower<R>>(
     line: &str,
     text: &mut String,
 ) -> Result<(), Trouble> {
-    match line {
-        "drain" => tell_drained(text, inbox.drain(alloc))?,
-        "stall" => tell_stall(text, inbox.stall(alloc))?,
-        "show" => show(inbox, text)?,
-        _ => deliver(alloc, inbox, line, text)?,
-    }
-    Ok(())
-}
-
-fn show<R: Replicated<Op = SoundOp>, F: Follower<R>>(
-    inbox: &Inbox<R, F>,
-    text: &mut String,
-) -> Result<(), AllocError> {
-    tell_ids("applied", inbox.op_list(), text)?;
-    tell_held_ids(&inbox.held(), text)
-}
-
-fn deliver<R: Replicated<Op = SoundOp>, F: Follower<R>>(
-    alloc: Global,
-    inbox: &mut Inbox<R, F>,
-    line: &str,
-    text: &mut String,
-) -> Result<(), Trouble> {
-    let op = operation(alloc, line)?;
-    let answer = inbox.deliver(alloc, op);
-    tell_delivered(text, answer)?;
-    Ok(())
+    let told = match line {
+        "drain" => tell_drained(text, inbox.drain(alloc)),
+        "stall" => tell_stall(text, inbox.stall(alloc)),
+        "show" => tell_received(inbox.op_list(), &inbox.held(), text),
+        _ => tell_delivered(text, inbox.deliver(alloc, operation(alloc, line)?)),
+    };
+    Ok(told?)
 }

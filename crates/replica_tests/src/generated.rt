@@ -44,14 +44,15 @@ fn hear(alloc: Global, peers: &mut [Peer], at: usize, of: usize) -> Result<(), T
     Ok(())
 }
 
-/// An operation with this id behind this clock.
-fn operation(alloc: Global, id: &OpId, clock: &Clock, kind: Kind) -> Result<SoundOp, Trouble> {
-    let clock = clock.copy(alloc)?;
-    sound(Op {
+/// Adds an operation with this id behind this clock.
+fn add(ops: &mut Vec<SoundOp>, id: &OpId, clock: Clock, kind: Kind) -> Result<(), Trouble> {
+    let op = Op {
         id: *id,
         clock,
         kind,
-    })
+    };
+    ops.push(sound(op)?)?;
+    Ok(())
 }
 
 /// Issues a replica's next operation, and forges one with its id where that is asked for.
@@ -65,8 +66,9 @@ fn issue(
     let Some(id) = OpId::new(peer.replica, number) else {
         return Err(Trouble::NotTheForm);
     };
+    let clock = peer.clock.copy(alloc)?;
     let kind = draft(alloc, dice, &peer.clock, ops)?;
-    ops.push(operation(alloc, &id, &peer.clock, kind)?)?;
+    add(ops, &id, clock, kind)?;
     if dice.below(16) == 0 {
         forge(alloc, &id, &peer.clock, ops)?;
     }
@@ -76,9 +78,9 @@ fn issue(
 
 /// Another operation with this id.
 fn forge(alloc: Global, id: &OpId, clock: &Clock, ops: &mut Vec<SoundOp>) -> Result<(), Trouble> {
+    let clock = clock.copy(alloc)?;
     let folder = Name::copied_from(alloc, b"forged")?;
-    ops.push(operation(alloc, id, clock, Kind::Create { folder })?)?;
-    Ok(())
+    add(ops, id, clock, Kind::Create { folder })
 }
 
 /// Lets one of the replicas issue, which has heard of another's before as often as not.

@@ -1,18 +1,11 @@
 //! What an inbox lends of the operations that it holds.
 
-use crate::fixtures::{Mailboxes, Trouble, empty, play_all};
-use causal_inbox::{HeldOps, Inbox};
+use crate::fixtures::{Node, Trouble, node, play_all};
+use causal_inbox::HeldOps;
 use crdt_ops::SoundOp;
-use merge_laws::Unfollowed;
-use std::alloc::{AllocError, Global};
+use std::alloc::Global;
 use std::test::Fail;
 use tags_clocks::{OpId, ReplicaId};
-
-type Node = Inbox<Mailboxes, Unfollowed>;
-
-fn node(alloc: Global) -> Result<Node, AllocError> {
-    Inbox::new(alloc, empty(alloc), Unfollowed)
-}
 
 /// Two early operations, and one that is applied.
 const LINES: &[&str] = &["1:3 1=2 create c", "1:2 1=1 create b", "2:1 - create d"];
@@ -20,16 +13,15 @@ const LINES: &[&str] = &["1:3 1=2 create c", "1:2 1=1 create b", "2:1 - create d
 /// Whether the two early ones are counted and found, and no other is.
 fn holds_two(alloc: Global) -> Result<bool, Trouble> {
     let mut inbox = node(alloc)?;
-    let played = play_lines(alloc, &mut inbox);
-    let are_held = are_held(&inbox.held());
+    let are_held = are_held_in(alloc, &mut inbox);
     drop(inbox);
-    played?;
-    Ok(are_held)
+    are_held
 }
 
-fn play_lines(alloc: Global, inbox: &mut Node) -> Result<(), Trouble> {
+fn are_held_in(alloc: Global, inbox: &mut Node) -> Result<bool, Trouble> {
     let mut text = String::new(alloc);
-    play_all(alloc, inbox, LINES, &mut text)
+    play_all(alloc, inbox, LINES, &mut text)?;
+    Ok(are_held(&inbox.held()))
 }
 
 fn are_held(held: &HeldOps<'_, SoundOp>) -> bool {

@@ -45,7 +45,7 @@ impl PlainReplica {
     /// The replica of this number, that has applied nothing.
     pub fn new(alloc: Global, number: u32) -> Result<PlainReplica, AllocError> {
         let mut charts = Vec::new(alloc);
-        charts.push(chart_of(alloc, &Name::inbox(alloc)?, true)?)?;
+        charts.push(chart_of(alloc, Name::inbox(alloc)?, true))?;
         Ok(PlainReplica {
             number,
             next_k: 1,
@@ -72,7 +72,8 @@ impl PlainReplica {
         let at = match place_of(&self.charts, folder) {
             Some(at) => at,
             None => {
-                self.charts.push(chart_of(alloc, folder, false)?)?;
+                self.charts
+                    .push(chart_of(alloc, folder.copy(alloc)?, false))?;
                 self.charts.len().saturating_sub(1)
             }
         };
@@ -128,15 +129,15 @@ impl PlainReplica {
     }
 }
 
-fn chart_of(alloc: Global, folder: &Name, there: bool) -> Result<PlainChart, AllocError> {
-    Ok(PlainChart {
-        folder: folder.copy(alloc)?,
+fn chart_of(alloc: Global, folder: Name, there: bool) -> PlainChart {
+    PlainChart {
+        folder,
         there,
         k: 1,
         uidnext: 1,
         highest: 1,
         lines: Vec::new(alloc),
-    })
+    }
 }
 
 fn place_of(charts: &[PlainChart], folder: &Name) -> Option<usize> {
@@ -179,15 +180,25 @@ fn step(
 /// The messages that lose a version and the one that gets one have this mod-sequence.
 fn renew(lines: &mut [PlainLine], lost: &[OpId], added: &Option<OpId>, modseq: u64) {
     for line in lines.iter_mut() {
-        if *added == Some(line.origin) || lost.iter().any(|origin| *origin == line.origin) {
+        if *added == Some(line.origin) || lost.contains(&line.origin) {
             line.modseq = modseq;
         }
     }
 }
 
+/// Whether the message of this origin is there.
+fn has_line(lines: &[PlainLine], origin: &OpId) -> bool {
+    for line in lines {
+        if line.origin == *origin {
+            return true;
+        }
+    }
+    false
+}
+
 /// A message that isn't there yet gets the next UID.
 fn begin(chart: &mut PlainChart, origin: &OpId) -> Result<(), Trouble> {
-    if chart.lines.iter().any(|line| line.origin == *origin) {
+    if has_line(&chart.lines, origin) {
         return Ok(());
     }
     chart.lines.push(PlainLine {

@@ -102,15 +102,18 @@ impl PlainInbox {
         first_ripe(&self.clock, &self.held).is_some()
     }
 
-    /// Copies of the applied operations that the clock doesn't cover.
-    pub fn ops_since(&self, alloc: Global, clock: &Clock) -> Result<Vec<SoundOp>, Trouble> {
-        let mut ops = Vec::new(alloc);
+    /// Whether these are the applied operations that the clock doesn't cover, in their order.
+    pub fn are_since(&self, clock: &Clock, ops: &[SoundOp]) -> bool {
+        let mut at = 0usize;
         for op in &self.applied {
             if !clock.covers(op.id()) {
-                ops.push(op.copy(alloc)?)?;
+                if !is_at(ops, at, op) {
+                    return false;
+                }
+                at = at.saturating_add(1);
             }
         }
-        Ok(ops)
+        at == ops.len()
     }
 
     fn apply(&mut self, op: SoundOp) -> Result<(), Trouble> {
@@ -143,6 +146,14 @@ impl PlainInbox {
             applied: count,
             stalled: false,
         })
+    }
+}
+
+/// Whether the operation at this place is the same as this one.
+pub fn is_at(ops: &[SoundOp], at: usize, op: &SoundOp) -> bool {
+    match ops.get(at) {
+        Some(other) => other.same(op),
+        None => false,
     }
 }
 

@@ -2,14 +2,13 @@
 
 use crate::fixtures::Trouble;
 use crdt_ops::{Ids, Kind, Message, Op, place_name};
-use imap_types::{DateTime, Flags, Name, Text};
-use message_versions::add_flags;
+use imap_types::{DateTime, Flags, Name, Text, add_flags};
 use std::alloc::{AllocError, Global};
 use tags_clocks::OpId;
 
 /// A present folder tag, or subscription tag.
 #[derive(Drop)]
-struct PlainTag {
+pub struct PlainTag {
     name: Name,
     id: OpId,
 }
@@ -34,10 +33,12 @@ struct PlainLetter {
 /// Folders and subscriptions in plain lists.
 #[derive(Drop)]
 pub struct PlainMailboxes {
-    folder_tags: Vec<PlainTag>,
+    /// The present folder tags.
+    pub folder_tags: Vec<PlainTag>,
     versions: Vec<PlainVersion>,
     letters: Vec<PlainLetter>,
-    subscriptions: Vec<PlainTag>,
+    /// The present subscription tags.
+    pub subscriptions: Vec<PlainTag>,
 }
 
 impl PlainMailboxes {
@@ -95,22 +96,24 @@ impl PlainMailboxes {
     /// Whether the folder is there: INBOX, or one with a tag.
     pub fn exists(&self, folder: &Name) -> bool {
         folder.as_bytes() == b"INBOX".as_slice()
-            || self.folder_tags.iter().any(|tag| tag.name.same(folder))
-            || self
-                .versions
-                .iter()
-                .any(|version| version.folder.same(folder))
+            || has_tag(&self.folder_tags, folder)
+            || has_message(&self.versions, folder)
     }
 
     /// Whether the origin has a version in the folder.
     pub fn has_version(&self, folder: &Name, origin: &OpId) -> bool {
-        self.versions.iter().any(|version| version.origin == *origin && version.folder.same(folder))
+        for version in &self.versions {
+            if version.origin == *origin && version.folder.same(folder) {
+                return true;
+            }
+        }
+        false
     }
 
     /// The names of the folders, ascending.
     pub fn names(&self, alloc: Global) -> Result<Vec<Name>, AllocError> {
         let mut names = Vec::new(alloc);
-        place_name(alloc, &mut names, &Name::inbox(alloc)?)?;
+        names.push(Name::inbox(alloc)?)?;
         place_names(alloc, &mut names, &self.folder_tags)?;
         for version in &self.versions {
             place_name(alloc, &mut names, &version.folder)?;
@@ -123,16 +126,6 @@ impl PlainMailboxes {
         let mut names = Vec::new(alloc);
         place_names(alloc, &mut names, &self.subscriptions)?;
         Ok(names)
-    }
-
-    /// The ids of the folder's folder tags, ascending.
-    pub fn folder_tags(&self, alloc: Global, folder: &Name) -> Result<Ids, AllocError> {
-        ids_of(alloc, &self.folder_tags, folder)
-    }
-
-    /// The ids of the name's subscription tags, ascending.
-    pub fn subscription_tags(&self, alloc: Global, name: &Name) -> Result<Ids, AllocError> {
-        ids_of(alloc, &self.subscriptions, name)
     }
 
     /// The ids that a Delete of the folder lists.
@@ -150,7 +143,7 @@ impl PlainMailboxes {
     pub fn losing(&self, alloc: Global, op: &Op) -> Result<Ids, AllocError> {
         let mut origins = Ids::none(alloc);
         for version in &self.versions {
-            if version.folder.same(op.kind.name()) && lists(op.kind.removed(), version.id) {
+            if version.folder.same(op.kind.name()) && op.kind.removed().contains(&version.id) {
                 origins.insert(version.origin)?;
             }
         }
@@ -159,10 +152,10 @@ impl PlainMailboxes {
 
     /// The folder's messages, ascending by their origins.
     pub fn messages(&self, alloc: Global, folder: &Name) -> Result<Vec<Message>, AllocError> {
+        let origins = self.origins(alloc, folder)?;
         let mut messages = Vec::new(alloc);
-        for origin in self.origins(alloc, folder)?.as_slice() {
-            let message = self.message(alloc, folder, origin)?;
-            messages.push(message)?;
+        for origin in origins.as_slice() {
+            messages.push(self.message(alloc, folder, origin)?)?;
         }
         Ok(messages)
     }
@@ -212,16 +205,32 @@ impl PlainMailboxes {
     }
 }
 
-fn lists(ids: &[OpId], id: OpId) -> bool {
-    ids.iter().any(|other| *other == id)
+/// Whether one of the tags is the name's.
+fn has_tag(tags: &[PlainTag], name: &Name) -> bool {
+    for tag in tags {
+        if tag.name.same(name) {
+            return true;
+        }
+    }
+    false
+}
+
+/// Whether one of the versions is in the folder.
+fn has_message(versions: &[PlainVersion], folder: &Name) -> bool {
+    for version in versions {
+        if version.folder.same(folder) {
+            return true;
+        }
+    }
+    false
 }
 
 fn forget_tags(tags: &mut Vec<PlainTag>, name: &Name, ids: &[OpId]) {
-    tags.retain(|tag| !(tag.name.same(name) && lists(ids, tag.id)));
+    tags.retain(|tag| !(tag.name.same(name) && ids.contains(&tag.id)));
 }
 
 fn forget_versions(versions: &mut Vec<PlainVersion>, folder: &Name, ids: &[OpId]) {
-    versions.retain(|version| !(version.folder.same(folder) && lists(ids, version.id)));
+    versions.retain(|version| !(version.folder.same(folder) && ids.contains(&version.id)));
 }
 
 fn add_tag(alloc: Global, tags: &mut Vec<PlainTag>, name: &Name, id: OpId) -> Result<(), Trouble> {
@@ -268,7 +277,8 @@ fn place_names(alloc: Global, names: &mut Vec<Name>, tags: &[PlainTag]) -> Resul
     Ok(())
 }
 
-fn ids_of(alloc: Global, tags: &[PlainTag], name: &Name) -> Result<Ids, AllocError> {
+/// The ids of the name's tags, ascending.
+pub fn ids_of(alloc: Global, tags: &[PlainTag], name: &Name) -> Result<Ids, AllocError> {
     let mut ids = Ids::none(alloc);
     for tag in tags {
         if tag.name.same(name) {

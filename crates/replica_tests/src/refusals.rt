@@ -5,7 +5,7 @@ ghost use Rattle.replica_tests.specs.Counting.{first_fits};
 
 use crate::fixtures::{Trouble, operations, play_all};
 use crate::reluctant::Reluctant;
-use crate::telling::told_folders;
+use crate::telling::tell_folders;
 use causal_inbox::{Inbox, IssueFault};
 use crdt_ops::SoundOp;
 use folder_state::Folders;
@@ -65,7 +65,8 @@ fn answers_so<R: Replicated<Op = SoundOp>, F: Follower<R>>(
 
 /// Whether the folders tell these lines.
 fn tells(alloc: Global, folders: &Folders, lines: &[u8]) -> Result<bool, AllocError> {
-    let text = told_folders(alloc, folders)?;
+    let mut text = Vec::new(alloc);
+    tell_folders(alloc, folders, &mut text)?;
     Ok(text.as_slice() == lines)
 }
 
@@ -107,27 +108,20 @@ const CHAIN_TOLD: &[u8] = b"folder INBOX -\nfolder a 1:1\nfolder b 1:2\nfolder c
 
 type Refused = Inbox<Reluctant<Folders>, Unfollowed>;
 
-fn refused_behind(alloc: Global, before: u32) -> Result<Refused, AllocError> {
+/// Whether an inbox that is refused memory behind so many calls answers so, and ends as with memory.
+fn is_refused_so(alloc: Global, before: u32, answers: &str) -> Result<bool, Trouble> {
     let value = Reluctant {
         value: Folders::new(alloc),
         before: Some(before),
     };
-    Inbox::new(alloc, value, Unfollowed)
-}
-
-/// Whether an inbox that is refused memory behind so many calls answers so, and ends as with memory.
-fn is_refused_so(alloc: Global, before: u32, answers: &str) -> Result<bool, Trouble> {
-    let mut inbox = refused_behind(alloc, before)?;
+    let mut inbox = Inbox::new(alloc, value, Unfollowed)?;
     let is_so = ends_so(alloc, &mut inbox, answers);
     drop(inbox);
     is_so
 }
 
 fn ends_so(alloc: Global, inbox: &mut Refused, answers: &str) -> Result<bool, Trouble> {
-    if !answers_so(alloc, inbox, CHAIN, answers)? {
-        return Ok(false);
-    }
-    Ok(tells(alloc, &inbox.value().value, CHAIN_TOLD)?)
+    Ok(answers_so(alloc, inbox, CHAIN, answers)? && tells(alloc, &inbox.value().value, CHAIN_TOLD)?)
 }
 
 fn first_wrong_refusal(alloc: Global) -> Result<Option<usize>, Trouble> {

@@ -1,12 +1,12 @@
 //! What is refused once is taken the second time, and all ends as with memory.
 
-use crate::fixtures::{Mailboxes, Trouble, empty, operation, play};
+use crate::fixtures::{Node, Trouble, node, operation, play};
 use crate::reluctant::{Hesitant, Reluctant};
-use crate::telling::{lines_of, lines_of_held, told_of};
+use crate::telling::{is_text, tell_held_ops, tell_mailboxes, tell_ops};
 use causal_inbox::{DeliverFault, Delivered, HeldOps, Inbox};
 use crdt_ops::SoundOp;
 use folder_state::Folders;
-use merge_laws::{Pair, Unfollowed};
+use merge_laws::Pair;
 use std::alloc::{AllocError, Global};
 use std::test::Fail;
 use subs_state::Subs;
@@ -19,10 +19,11 @@ fn shown_of(
     folders: &Folders,
     subs: &Subs,
 ) -> Result<Vec<u8>, AllocError> {
-    let mut text = lines_of(alloc, applied)?;
+    let mut text = Vec::new(alloc);
+    tell_ops(alloc, applied, &mut text)?;
     text.extend_from_slice(b"held\n")?;
-    text.extend_from_slice(&lines_of_held(alloc, held)?)?;
-    text.extend_from_slice(&told_of(alloc, folders, subs)?)?;
+    tell_held_ops(alloc, held, &mut text)?;
+    tell_mailboxes(alloc, folders, subs, &mut text)?;
     Ok(text)
 }
 
@@ -130,13 +131,6 @@ fn shown_wary(alloc: Global, inbox: &Wary) -> Result<Vec<u8>, AllocError> {
     )
 }
 
-/// The answer to a line.
-fn answer_of(alloc: Global, inbox: &mut Wary, line: &str) -> Result<String, Trouble> {
-    let mut text = String::new(alloc);
-    play(alloc, inbox, line, &mut text)?;
-    Ok(text)
-}
-
 /// Delivers the line's operation, again where it was refused memory, and drains where one stalls; tells the answers, and gives
 /// whether a refusal changed nothing.
 fn retried(
@@ -146,14 +140,11 @@ fn retried(
     text: &mut String,
 ) -> Result<bool, Trouble> {
     let before = shown_wary(alloc, inbox)?;
-    let answer = answer_of(alloc, inbox, line)?;
-    text.push_str(&answer)?;
-    match answer.as_str() {
-        "NoMemory\n" => retried_after(alloc, inbox, line, &before, text),
-        answer => {
-            drain_where(alloc, inbox, answer.ends_with("stalled\n"), text)?;
-            Ok(true)
-        }
+    play(alloc, inbox, line, text)?;
+    if text.ends_with("NoMemory\n") {
+        retried_after(alloc, inbox, line, &before, text)
+    } else {
+        drained_after(alloc, inbox, text)
     }
 }
 
@@ -165,26 +156,17 @@ fn retried_after(
     before: &[u8],
     text: &mut String,
 ) -> Result<bool, Trouble> {
-    let unchanged = is_shown(alloc, inbox, before)?;
+    let unchanged = is_text(shown_wary(alloc, inbox), before)?;
     play(alloc, inbox, line, text)?;
     Ok(unchanged)
 }
 
-fn drain_where(
-    alloc: Global,
-    inbox: &mut Wary,
-    stalled: bool,
-    text: &mut String,
-) -> Result<(), Trouble> {
-    if stalled {
+/// Drains behind a delivery that stalls; nothing was refused that could have changed anything.
+fn drained_after(alloc: Global, inbox: &mut Wary, text: &mut String) -> Result<bool, Trouble> {
+    if text.ends_with("stalled\n") {
         play(alloc, inbox, "drain", text)?;
     }
-    Ok(())
-}
-
-fn is_shown(alloc: Global, inbox: &Wary, lines: &[u8]) -> Result<bool, AllocError> {
-    let text = shown_wary(alloc, inbox)?;
-    Ok(text.as_slice() == lines)
+    Ok(true)
 }
 
 /// Whether this part is refused so behind so many calls, and all ends as with memory.
@@ -200,18 +182,12 @@ fn is_refused_so(
     is_so
 }
 
+/// Whether the inbox answers the mixed lines so, no refusal changes anything, and all ends as with memory.
 fn ends_so(alloc: Global, inbox: &mut Wary, answers: &str) -> Result<bool, Trouble> {
-    if !answers_so(alloc, inbox, answers)? {
-        return Ok(false);
-    }
-    Ok(is_shown(alloc, inbox, MIXED_END.as_bytes())?)
-}
-
-/// Whether the inbox answers the mixed lines so, and no refusal changes anything.
-fn answers_so(alloc: Global, inbox: &mut Wary, answers: &str) -> Result<bool, Trouble> {
     let mut text = String::new(alloc);
     let unchanged = retry_all(alloc, inbox, &mut text)?;
-    Ok(unchanged && text.as_str() == answers)
+    let is_end = is_text(shown_wary(alloc, inbox), MIXED_END.as_bytes())?;
+    Ok(unchanged && text.as_str() == answers && is_end)
 }
 
 fn retry_all(alloc: Global, inbox: &mut Wary, text: &mut String) -> Result<bool, Trouble> {
@@ -251,8 +227,6 @@ fn each_part_is_refused_once(rt: HostRuntime) -> Result<(), Fail> {
     Ok(())
 }
 
-type Node = Inbox<Mailboxes, Unfollowed>;
-
 fn shown(alloc: Global, inbox: &Node) -> Result<Vec<u8>, AllocError> {
     let value = inbox.value();
     shown_of(
@@ -262,11 +236,6 @@ fn shown(alloc: Global, inbox: &Node) -> Result<Vec<u8>, AllocError> {
         &value.first,
         &value.second,
     )
-}
-
-fn is_end(alloc: Global, inbox: &Node, lines: &[u8]) -> Result<bool, AllocError> {
-    let text = shown(alloc, inbox)?;
-    Ok(text.as_slice() == lines)
 }
 
 fn deliver(
@@ -299,7 +268,7 @@ fn is_delivered_again(
     line: &str,
     before: &[u8],
 ) -> Result<bool, Trouble> {
-    let unchanged = is_end(alloc, inbox, before)?;
+    let unchanged = is_text(shown(alloc, inbox), before)?;
     let answer = deliver(alloc, inbox, line)?;
     Ok(unchanged && answer.is_ok())
 }
@@ -312,22 +281,18 @@ fn are_all_delivered(alloc: Global) -> Result<bool, Trouble> {
     is_so
 }
 
-fn node(alloc: Global) -> Result<Node, AllocError> {
-    Inbox::new(alloc, empty(alloc), Unfollowed)
-}
-
 fn is_each_delivered(alloc: Global, inbox: &mut Node) -> Result<bool, Trouble> {
     for line in MIXED {
         if !is_delivered_in_the_end(alloc, inbox, line)? {
             return Ok(false);
         }
     }
-    Ok(is_end(alloc, inbox, MIXED_END.as_bytes())?)
+    Ok(is_text(shown(alloc, inbox), MIXED_END.as_bytes())?)
 }
 
-/// The gate runs this with memory: each delivery is made once, and none is refused. By hand it was run with each of its 570
+/// The gate runs this with memory: each delivery is made once, and none is refused. By hand it was run with each of its
 /// allocations refused in turn, by a `malloc` that fails once. 73 of them are a delivery's, and each of these runs ended as with
-/// memory. The other 497 are the test's own, and end it with an error; a wrong answer would have stopped it at the assertion.
+/// memory. The others are the test's own, and end it with an error; a wrong answer would have stopped it at the assertion.
 #[test]
 fn deliveries_are_tried_again(rt: HostRuntime) -> Result<(), Fail> {
     assert!(rt; are_all_delivered(rt.alloc())?);

@@ -1,14 +1,20 @@
 //! Whether two lists of what is told are alike.
 
-use crate::fixtures::Trouble;
 use crate::plain_charts::{PlainLine, PlainReplica};
 use crdt_ops::{Ids, Message};
 use imap_types::Name;
 use mail_listing::{Row, Rows};
-use std::alloc::Global;
+use std::alloc::{AllocError, Global};
 
 /// Whether both are the same names in the same order.
-pub fn are_names_alike(names: &[Name], others: &[Name]) -> bool {
+pub fn are_names_alike(
+    names: Result<Vec<Name>, AllocError>,
+    others: Result<Vec<Name>, AllocError>,
+) -> Result<bool, AllocError> {
+    Ok(have_same_names(&names?, &others?))
+}
+
+fn have_same_names(names: &[Name], others: &[Name]) -> bool {
     for (at, name) in names.iter().enumerate() {
         match others.get(at) {
             None => return false,
@@ -23,12 +29,22 @@ pub fn are_names_alike(names: &[Name], others: &[Name]) -> bool {
 }
 
 /// Whether both are the same ids.
-pub fn are_ids_alike(ids: &Ids, others: &Ids) -> bool {
-    ids.same(others)
+pub fn are_ids_alike(
+    ids: Result<Ids, AllocError>,
+    others: Result<Ids, AllocError>,
+) -> Result<bool, AllocError> {
+    Ok(ids?.same(&others?))
 }
 
 /// Whether both are the same messages in the same order.
-pub fn are_messages_alike(messages: &[Message], others: &[Message]) -> bool {
+pub fn are_messages_alike(
+    messages: Result<Vec<Message>, AllocError>,
+    others: Result<Vec<Message>, AllocError>,
+) -> Result<bool, AllocError> {
+    Ok(have_same_messages(&messages?, &others?))
+}
+
+fn have_same_messages(messages: &[Message], others: &[Message]) -> bool {
     for (at, message) in messages.iter().enumerate() {
         match others.get(at) {
             None => return false,
@@ -49,12 +65,11 @@ pub fn are_rows_alike(
     plain: &PlainReplica,
     name: &Name,
     since: u64,
-) -> Result<bool, Trouble> {
+) -> Result<bool, AllocError> {
     let mut place = 0usize;
     for line in plain.lines(name) {
         if line.modseq > since {
-            let message = plain.mailboxes.message(alloc, name, &line.origin)?;
-            if !is_row_alike(alloc, rows, place, line, &message)? {
+            if !is_row_alike(alloc, rows, place, line, plain, name)? {
                 return Ok(false);
             }
             place = place.saturating_add(1);
@@ -63,19 +78,21 @@ pub fn are_rows_alike(
     Ok(rows.count() as usize == place)
 }
 
-/// Whether the row at this place is that of the message.
+/// Whether the row at this place is that of the folder's message.
 fn is_row_alike(
     alloc: Global,
     rows: &Rows<'_>,
     place: usize,
     line: &PlainLine,
-    message: &Message,
-) -> Result<bool, Trouble> {
+    plain: &PlainReplica,
+    name: &Name,
+) -> Result<bool, AllocError> {
     match rows.row_at(place) {
         None => Ok(false),
         Some(row) => {
+            let message = plain.mailboxes.message(alloc, name, &line.origin)?;
             let flags = row.versions.flags(alloc)?;
-            Ok(flags.same(&message.flags) && has_numbers(&row, line) && has_text(&row, message))
+            Ok(flags.same(&message.flags) && has_numbers(&row, line) && has_text(&row, &message))
         }
     }
 }

@@ -1,23 +1,20 @@
 //! Folders, subscriptions, UIDs and mod-sequences are told as plain lists tell them.
 
-ghost use Rattle.std.specs.Prelude.{◌≡◌, IfOk, []};
-ghost use Rattle.folder_state.specs.Contents.{no_contents};
-ghost use Rattle.folder_state.specs.Tables.{contents_of};
-ghost use Rattle.subs_state.specs.Subscriptions.{no_subscriptions};
-ghost use Rattle.subs_state.specs.Table.{subscriptions_of};
+ghost use Rattle.std.specs.Prelude.{IfOk, []};
 ghost use Rattle.uid_projection.specs.Following.{Follows};
 
 use crate::drafts::NAMES;
-use crate::fixtures::Trouble;
+use crate::fixtures::{Mailboxes, Trouble, empty};
 use crate::generated::{LISTS, generated};
 use crate::plain_charts::PlainReplica;
 use crate::plain_inbox::PlainInbox;
+use crate::plain_mailboxes::{PlainMailboxes, ids_of};
 use crate::shown::{are_ids_alike, are_messages_alike, are_names_alike, are_rows_alike};
 use causal_inbox::Inbox;
 use crdt_ops::SoundOp;
 use folder_state::Folders;
 use imap_types::Name;
-use merge_laws::{Caused, OnFirst, Pair};
+use merge_laws::{Caused, OnFirst};
 use modseq_index::changed_since;
 use std::alloc::{AllocError, Global};
 use std::test::Fail;
@@ -25,7 +22,7 @@ use subs_state::Subs;
 use tags_clocks::ReplicaId;
 use uid_projection::{Charts, Start};
 
-type Replica = Inbox<Pair<Folders, Subs>, OnFirst<Charts>>;
+type Replica = Inbox<Mailboxes, OnFirst<Charts>>;
 
 /// A replica whose counters begin at 1, that has received nothing.
 fn replica(alloc: Global, number: u32) -> Result<Replica, Trouble> {
@@ -34,17 +31,6 @@ fn replica(alloc: Global, number: u32) -> Result<Replica, Trouble> {
     };
     let follower = charts(alloc, replica)?;
     Ok(Inbox::new(alloc, empty(alloc), OnFirst { follower })?)
-}
-
-/// Folders and subscriptions, with nothing in them.
-fn empty(alloc: Global) -> Pair<Folders, Subs>
-    ensures folders { contents_of result.first ≡ no_contents }
-    ensures subs { subscriptions_of result.second ≡ no_subscriptions }
-{
-    Pair {
-        first: Folders::new(alloc),
-        second: Subs::new(alloc),
-    }
 }
 
 fn charts(alloc: Global, replica: ReplicaId) -> Result<Charts, AllocError>
@@ -58,16 +44,21 @@ fn charts(alloc: Global, replica: ReplicaId) -> Result<Charts, AllocError>
     Charts::new(alloc, start)
 }
 
-fn charts_of(replica: &Replica) -> &Charts {
-    &replica.follower().follower
+/// What a replica tells of.
+#[derive(Clone, Copy)]
+struct Told<'a> {
+    folders: &'a Folders,
+    subs: &'a Subs,
+    charts: &'a Charts,
 }
 
-fn folders_of(replica: &Replica) -> &Folders {
-    &replica.value().first
-}
-
-fn subs_of(replica: &Replica) -> &Subs {
-    &replica.value().second
+fn told_by(replica: &Replica) -> Told<'_> {
+    let value = replica.value();
+    Told {
+        folders: &value.first,
+        subs: &value.second,
+        charts: &replica.follower().follower,
+    }
 }
 
 /// The operations of a generated list in an order in which they are applied.
@@ -92,55 +83,52 @@ fn recounted(alloc: Global, number: u32, ops: &[SoundOp]) -> Result<PlainReplica
 /// Whether the names of folders and of subscriptions are alike.
 fn are_all_names_alike(
     alloc: Global,
-    replica: &Replica,
-    plain: &PlainReplica,
+    told: &Told<'_>,
+    plain: &PlainMailboxes,
 ) -> Result<bool, Trouble> {
-    let folders = folders_of(replica).names(alloc)?;
-    let subscribed = subs_of(replica).names(alloc)?;
-    let plain_folders = plain.mailboxes.names(alloc)?;
-    let plain_subscribed = plain.mailboxes.subscribed_names(alloc)?;
-    Ok(are_names_alike(&folders, &plain_folders) && are_names_alike(&subscribed, &plain_subscribed))
+    Ok(
+        are_names_alike(told.folders.names(alloc), plain.names(alloc))?
+            && are_names_alike(told.subs.names(alloc), plain.subscribed_names(alloc))?,
+    )
 }
 
 /// Whether the ids of a name's tags are alike.
 fn are_tags_alike(
     alloc: Global,
-    replica: &Replica,
-    plain: &PlainReplica,
+    told: &Told<'_>,
+    plain: &PlainMailboxes,
     name: &Name,
-) -> Result<bool, Trouble> {
-    let tags = folders_of(replica).tags(alloc, name)?;
-    let listed = folders_of(replica).delete_set(alloc, name)?;
-    let subscribed = subs_of(replica).tags(alloc, name)?;
+) -> Result<bool, AllocError> {
+    let folders = told.folders;
     Ok(
-        are_ids_alike(&tags, &plain.mailboxes.folder_tags(alloc, name)?)
-            && are_ids_alike(&listed, &plain.mailboxes.delete_set(alloc, name)?)
-            && are_ids_alike(
-                &subscribed,
-                &plain.mailboxes.subscription_tags(alloc, name)?,
-            ),
+        are_ids_alike(
+            folders.tags(alloc, name),
+            ids_of(alloc, &plain.folder_tags, name),
+        )? && are_ids_alike(
+            folders.delete_set(alloc, name),
+            plain.delete_set(alloc, name),
+        )? && are_ids_alike(
+            told.subs.tags(alloc, name),
+            ids_of(alloc, &plain.subscriptions, name),
+        )?,
     )
 }
 
 /// Whether a folder's messages are alike.
 fn are_folders_alike(
     alloc: Global,
-    replica: &Replica,
-    plain: &PlainReplica,
+    folders: &Folders,
+    plain: &PlainMailboxes,
     name: &Name,
-) -> Result<bool, Trouble> {
-    let folders = folders_of(replica);
-    let messages = folders.messages(alloc, name)?;
-    let others = plain.mailboxes.messages(alloc, name)?;
+) -> Result<bool, AllocError> {
     Ok(
-        folders.exists(name) == plain.mailboxes.exists(name)
-            && are_messages_alike(&messages, &others),
+        folders.exists(name) == plain.exists(name)
+            && are_messages_alike(folders.messages(alloc, name), plain.messages(alloc, name))?,
     )
 }
 
 /// Whether a folder's numbers are alike.
-fn are_numbers_alike(replica: &Replica, plain: &PlainReplica, name: &Name) -> bool {
-    let charts = charts_of(replica);
+fn are_numbers_alike(charts: &Charts, plain: &PlainReplica, name: &Name) -> bool {
     let (uidnext, highest) = plain.counters(name);
     charts.uidvalidity(name) == plain.uidvalidity(name)
         && charts.uidnext(name) == uidnext
@@ -150,52 +138,52 @@ fn are_numbers_alike(replica: &Replica, plain: &PlainReplica, name: &Name) -> bo
 /// Whether a folder's listing is alike.
 fn is_listing_alike(
     alloc: Global,
-    replica: &Replica,
+    told: &Told<'_>,
     plain: &PlainReplica,
     name: &Name,
-) -> Result<bool, Trouble> {
-    let rows = charts_of(replica).rows(alloc, folders_of(replica), name)?;
+) -> Result<bool, AllocError> {
+    let rows = told.charts.rows(alloc, told.folders, name)?;
     are_rows_alike(alloc, &rows, plain, name, 0)
 }
 
 /// Whether what changed in a folder since a mod-sequence is alike.
 fn are_changes_alike(
     alloc: Global,
-    replica: &Replica,
+    told: &Told<'_>,
     plain: &PlainReplica,
     name: &Name,
-) -> Result<bool, Trouble> {
+) -> Result<bool, AllocError> {
     let (_, highest) = plain.counters(name);
     let since = highest / 2;
-    let rows = changed_since(charts_of(replica), alloc, folders_of(replica), name, since)?;
+    let rows = changed_since(told.charts, alloc, told.folders, name, since)?;
     are_rows_alike(alloc, &rows, plain, name, since)
 }
 
 /// Whether all that is told of a name is alike.
 fn is_name_alike(
     alloc: Global,
-    replica: &Replica,
+    told: &Told<'_>,
     plain: &PlainReplica,
     name: &Name,
-) -> Result<bool, Trouble> {
+) -> Result<bool, AllocError> {
     Ok(
-        are_tags_alike(alloc, replica, plain, name)?
-            && are_folders_alike(alloc, replica, plain, name)?
-            && are_numbers_alike(replica, plain, name)
-            && is_listing_alike(alloc, replica, plain, name)?
-            && are_changes_alike(alloc, replica, plain, name)?,
+        are_tags_alike(alloc, told, &plain.mailboxes, name)?
+            && are_folders_alike(alloc, told.folders, &plain.mailboxes, name)?
+            && are_numbers_alike(told.charts, plain, name)
+            && is_listing_alike(alloc, told, plain, name)?
+            && are_changes_alike(alloc, told, plain, name)?,
     )
 }
 
 /// Whether a folder's numbers after these operations are alike.
 fn are_later_numbers_alike(
-    replica: &Replica,
+    told: &Told<'_>,
     later: &PlainReplica,
     name: &Name,
     ops: &[SoundOp],
 ) -> bool {
-    let charts = charts_of(replica);
-    let folders = folders_of(replica);
+    let charts = told.charts;
+    let folders = told.folders;
     let (uidnext, highest) = later.counters(name);
     charts.uidvalidity_after(folders, name, ops) == later.uidvalidity(name)
         && charts.uidnext_after(folders, name, ops) == uidnext
@@ -205,39 +193,52 @@ fn are_later_numbers_alike(
 /// Whether a folder's listing after these operations is alike.
 fn is_later_listing_alike(
     alloc: Global,
-    replica: &Replica,
+    told: &Told<'_>,
     later: &PlainReplica,
     name: &Name,
     ops: &[SoundOp],
-) -> Result<bool, Trouble> {
-    let rows = charts_of(replica).rows_after(alloc, folders_of(replica), name, ops)?;
+) -> Result<bool, AllocError> {
+    let rows = told.charts.rows_after(alloc, told.folders, name, ops)?;
     are_rows_alike(alloc, &rows, later, name, 0)
 }
 
 /// Whether all that is told of the operations in front, and of those behind them, is alike.
 fn is_moment_alike(
     alloc: Global,
-    replica: &Replica,
+    told: &Told<'_>,
     plain: &PlainReplica,
     later: &PlainReplica,
     behind: &[SoundOp],
 ) -> Result<bool, Trouble> {
     for octets in NAMES {
-        let name = Name::copied_from(alloc, octets)?;
-        if !is_name_alike(alloc, replica, plain, &name)?
-            || !are_later_numbers_alike(replica, later, &name, behind)
-            || !is_later_listing_alike(alloc, replica, later, &name, behind)?
-        {
+        if !is_name_alike_now_and_later(alloc, told, plain, later, octets, behind)? {
             return Ok(false);
         }
     }
-    are_all_names_alike(alloc, replica, plain)
+    are_all_names_alike(alloc, told, &plain.mailboxes)
+}
+
+/// Whether all that is told of the name with these octets is alike, and so behind these operations.
+fn is_name_alike_now_and_later(
+    alloc: Global,
+    told: &Told<'_>,
+    plain: &PlainReplica,
+    later: &PlainReplica,
+    octets: &[u8],
+    behind: &[SoundOp],
+) -> Result<bool, AllocError> {
+    let name = Name::copied_from(alloc, octets)?;
+    Ok(
+        is_name_alike(alloc, told, plain, &name)?
+            && are_later_numbers_alike(told, later, &name, behind)
+            && is_later_listing_alike(alloc, told, later, &name, behind)?,
+    )
 }
 
 /// Whether what is told once so many operations are applied, and of some behind them, is alike.
 fn is_cut_alike(
     alloc: Global,
-    replica: &Replica,
+    told: &Told<'_>,
     number: u32,
     ops: &[SoundOp],
     at: usize,
@@ -247,7 +248,7 @@ fn is_cut_alike(
     let plain = recounted(alloc, number, front)?;
     let (both, _) = ops.split_at(front.len().saturating_add(next.len()).min(ops.len()));
     let later = recounted(alloc, number, both)?;
-    is_moment_alike(alloc, replica, &plain, &later, next)
+    is_moment_alike(alloc, told, &plain, &later, next)
 }
 
 /// The first place of a list at which something is told differently.
@@ -283,7 +284,7 @@ fn is_place_alike(
     if count % 25 != 0 && count != ops.len() {
         return Ok(true);
     }
-    is_cut_alike(alloc, replica, number, ops, count)
+    is_cut_alike(alloc, &told_by(replica), number, ops, count)
 }
 
 /// The first list of which something is told differently, and where.

@@ -1,29 +1,36 @@
 //! Answers and states as lines.
 
 use causal_inbox::{Arrival, DeliverFault, Delivered, Drained, HeldOps, Stall};
-use crdt_ops::{Message, SoundOp, write_flags, write_id, write_ids, write_op};
+use crdt_ops::{Ids, Message, SoundOp, write_flags, write_id, write_ids, write_op};
 use folder_state::Folders;
 use imap_types::{Escape, Name, write_escaped};
 use std::alloc::{AllocError, Global};
 use std::fmt::Write;
 use subs_state::Subs;
 
+/// Whether the text is there and these lines.
+pub fn is_text(text: Result<Vec<u8>, AllocError>, lines: &[u8]) -> Result<bool, AllocError> {
+    Ok(text?.as_slice() == lines)
+}
+
 /// The lines of operations.
-pub fn lines_of(alloc: Global, ops: &[SoundOp]) -> Result<Vec<u8>, AllocError> {
-    let mut text = Vec::new(alloc);
+pub fn tell_ops(alloc: Global, ops: &[SoundOp], text: &mut Vec<u8>) -> Result<(), AllocError> {
     for op in ops {
-        write_line(alloc, op, &mut text)?;
+        write_line(alloc, op, text)?;
     }
-    Ok(text)
+    Ok(())
 }
 
 /// The lines of held operations.
-pub fn lines_of_held(alloc: Global, held: &HeldOps<'_, SoundOp>) -> Result<Vec<u8>, AllocError> {
-    let mut text = Vec::new(alloc);
+pub fn tell_held_ops(
+    alloc: Global,
+    held: &HeldOps<'_, SoundOp>,
+    text: &mut Vec<u8>,
+) -> Result<(), AllocError> {
     for op in held.iter() {
-        write_line(alloc, op, &mut text)?;
+        write_line(alloc, op, text)?;
     }
-    Ok(text)
+    Ok(())
 }
 
 fn write_line(alloc: Global, op: &SoundOp, text: &mut Vec<u8>) -> Result<(), AllocError> {
@@ -32,20 +39,27 @@ fn write_line(alloc: Global, op: &SoundOp, text: &mut Vec<u8>) -> Result<(), All
 }
 
 /// What these folders and these subscriptions tell, as the lines of a dump.
-pub fn told_of(alloc: Global, folders: &Folders, subs: &Subs) -> Result<Vec<u8>, AllocError> {
-    let mut text = told_folders(alloc, folders)?;
-    tell_subscriptions(alloc, subs, &mut text)?;
-    Ok(text)
+pub fn tell_mailboxes(
+    alloc: Global,
+    folders: &Folders,
+    subs: &Subs,
+    text: &mut Vec<u8>,
+) -> Result<(), AllocError> {
+    tell_folders(alloc, folders, text)?;
+    tell_subscriptions(alloc, subs, text)
 }
 
 /// What the folders tell, as the lines of a dump.
-pub fn told_folders(alloc: Global, folders: &Folders) -> Result<Vec<u8>, AllocError> {
-    let mut text = Vec::new(alloc);
+pub fn tell_folders(
+    alloc: Global,
+    folders: &Folders,
+    text: &mut Vec<u8>,
+) -> Result<(), AllocError> {
     let names = folders.names(alloc)?;
     for name in &names {
-        tell_folder(alloc, folders, name, &mut text)?;
+        tell_folder(alloc, folders, name, text)?;
     }
-    Ok(text)
+    Ok(())
 }
 
 fn tell_folder(
@@ -54,17 +68,24 @@ fn tell_folder(
     name: &Name,
     text: &mut Vec<u8>,
 ) -> Result<(), AllocError> {
-    tell_name(b"folder ", name, text)?;
     let ids = folders.tags(alloc, name)?;
-    write_ids(alloc, &ids, text)?;
-    text.extend_from_slice(b"\n")?;
+    tell_tags(alloc, b"folder ", name, &ids, text)?;
     tell_messages(alloc, folders, name, text)
 }
 
-fn tell_name(word: &[u8], name: &Name, text: &mut Vec<u8>) -> Result<(), AllocError> {
+/// A name and the ids of its tags behind a word, as a line.
+fn tell_tags(
+    alloc: Global,
+    word: &[u8],
+    name: &Name,
+    ids: &Ids,
+    text: &mut Vec<u8>,
+) -> Result<(), AllocError> {
     text.extend_from_slice(word)?;
     write_escaped(Escape::Field, name.as_bytes(), text)?;
-    text.extend_from_slice(b" ")
+    text.extend_from_slice(b" ")?;
+    write_ids(alloc, ids, text)?;
+    text.extend_from_slice(b"\n")
 }
 
 fn tell_messages(
@@ -112,10 +133,8 @@ fn tell_subscription(
     name: &Name,
     text: &mut Vec<u8>,
 ) -> Result<(), AllocError> {
-    tell_name(b"subscribed ", name, text)?;
     let ids = subs.tags(alloc, name)?;
-    write_ids(alloc, &ids, text)?;
-    text.extend_from_slice(b"\n")
+    tell_tags(alloc, b"subscribed ", name, &ids, text)
 }
 
 /// The answer to a drain, as a line.
@@ -160,19 +179,29 @@ fn tell_stalled(text: &mut String, stalled: bool) -> Result<(), AllocError> {
 }
 
 fn tell_fault(text: &mut String, fault: DeliverFault) -> Result<(), AllocError> {
-    match fault {
+    text.push_str(match fault {
         DeliverFault::Conflict { id } => {
-            writeln!(text, "Conflict {}:{}", id.replica.get(), id.number.get())
+            return writeln!(text, "Conflict {}:{}", id.replica.get(), id.number.get());
         }
-        DeliverFault::HeldFull => text.push_str("HeldFull\n"),
-        DeliverFault::Exhausted => text.push_str("Exhausted\n"),
-        DeliverFault::NoMemory => text.push_str("NoMemory\n"),
-    }
+        DeliverFault::HeldFull => "HeldFull\n",
+        DeliverFault::Exhausted => "Exhausted\n",
+        DeliverFault::NoMemory => "NoMemory\n",
+    })
 }
 
-/// The ids of operations behind a word, as a line.
-pub fn tell_ids(word: &str, ops: &[SoundOp], text: &mut String) -> Result<(), AllocError> {
-    text.push_str(word)?;
+/// The ids of applied operations and of held ones, a line each.
+pub fn tell_received(
+    applied: &[SoundOp],
+    held: &HeldOps<'_, SoundOp>,
+    text: &mut String,
+) -> Result<(), AllocError> {
+    tell_applied_ids(applied, text)?;
+    tell_held_ids(held, text)
+}
+
+/// The ids of applied operations, as a line.
+fn tell_applied_ids(ops: &[SoundOp], text: &mut String) -> Result<(), AllocError> {
+    text.push_str("applied")?;
     for op in ops {
         tell_id(op, text)?;
     }
@@ -180,7 +209,7 @@ pub fn tell_ids(word: &str, ops: &[SoundOp], text: &mut String) -> Result<(), Al
 }
 
 /// The ids of held operations, as a line.
-pub fn tell_held_ids(held: &HeldOps<'_, SoundOp>, text: &mut String) -> Result<(), AllocError> {
+fn tell_held_ids(held: &HeldOps<'_, SoundOp>, text: &mut String) -> Result<(), AllocError> {
     text.push_str("held")?;
     for op in held.iter() {
         tell_id(op, text)?;

@@ -96,11 +96,15 @@ fn course<R: Threads + Wait + Clock + Log + Sync + Net<Listener = TcpListener, S
 
 /// Whether these were heard, by these clients in their order.
 fn are(heard: &[Vec<u8>], wanted: &[&[u8]]) -> bool {
-    heard.len() == wanted.len()
-        && heard
-            .iter()
-            .zip(wanted)
-            .all(|(one, other)| one.as_slice() == *other)
+    if heard.len() != wanted.len() {
+        return false;
+    }
+    for at in 0..wanted.len() {
+        if heard[at].as_slice() != wanted[at] {
+            return false;
+        }
+    }
+    true
 }
 
 /// Whether the second client went on while the first waited, and both were answered.
@@ -195,7 +199,23 @@ fn each_uid_once(alloc: Global, front: &[u8], heard: &[Vec<u8>]) -> bool {
             return false;
         }
     }
-    (1..51u32).all(|uid| uids.iter().filter(|other| **other == uid).count() == 1)
+    for uid in 1..51u32 {
+        if times_of(&uids, uid) != 1 {
+            return false;
+        }
+    }
+    true
+}
+
+/// How often a UID is among these.
+fn times_of(uids: &[u32], uid: u32) -> u32 {
+    let mut times = 0u32;
+    for other in uids {
+        if *other == uid {
+            times = times.saturating_add(1);
+        }
+    }
+    times
 }
 
 /// What came of fifty clients of each replica: how many doors saw the lock held, how many clients heard all while it was, how many calls there were at

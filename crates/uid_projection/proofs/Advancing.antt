@@ -6,8 +6,8 @@ use Rattle.std.specs.Str.{bytes_eq}
 use Rattle.imap_types.specs.Names.{inbox}
 use Rattle.tags_clocks.specs.declared.id.OpId.{OpId}
 use Rattle.merge_laws.specs.Orders.{IsIn}
-use Rattle.entry_table.specs.declared.entry.Entry.{Entry}
-use Rattle.entry_table.specs.Entries.{AreBelow, Lacks}
+use Rattle.mail_listing.specs.declared.entry.Entry.{Entry}
+use Rattle.mail_listing.specs.Entries.{AreBelow, Lacks}
 use Rattle.crdt_ops.specs.declared.op.Op.{Op}
 use Rattle.crdt_ops.specs.Order.{is_some_id, same_id}
 use Rattle.crdt_ops.specs.Tags.{removed_ids}

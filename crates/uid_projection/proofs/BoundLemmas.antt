@@ -19,7 +19,7 @@ use Rattle.crdt_ops.specs.declared.op.Op.{Op}
 use Rattle.crdt_ops.specs.Form.{HasFields, HasWords, IsDated, is_word}
 use Rattle.crdt_ops.specs.Order.{same_id}
 use Rattle.crdt_ops.specs.Sets.{Body, Letter, body_by, letter_by, letter_from, letter_of, message_of, no_letter, tag_flags_of, versions_of}
-use Rattle.message_versions.proofs.WordLemmas.{ascending_folded}
+use Rattle.imap_types.proofs.WordLemmas.{ascending_folded}
 use Rattle.uid_projection.specs.declared.start.Start.{Start}
 use Rattle.uid_projection.specs.Applied.{IsApplied}
 use Rattle.uid_projection.specs.Bounds.{AreWritable, HasBounds, IsCountable, IsLasting, IsLawfulStart, IsRowWithin, IsWritableRow}

@@ -12,8 +12,8 @@ use Rattle.merge_laws.specs.Orders.{IsIn}
 use Rattle.crdt_ops.specs.Order.{is_some_id, same_id}
 use Rattle.crdt_ops.specs.Sets.{Body}
 use Rattle.crdt_ops.proofs.Members.{any_in, in_map}
-use Rattle.message_versions.specs.declared.version.Version.{Version}
-use Rattle.message_versions.specs.Unions.{version_ids}
+use Rattle.imap_types.specs.declared.version.Version.{Version}
+use Rattle.imap_types.specs.Unions.{version_ids}
 use Rattle.folder_state.specs.Kept.{Kept as Folder, body_in_folder}
 use Rattle.uid_projection.specs.declared.changes.Change.{Change}
 use Rattle.uid_projection.specs.declared.messages.MessagesAhead.{MessagesAhead}

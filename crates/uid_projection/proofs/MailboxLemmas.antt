@@ -11,8 +11,8 @@ use Rattle.crdt_ops.specs.declared.message.Message.{Message}
 use Rattle.crdt_ops.specs.Order.{same_id}
 use Rattle.crdt_ops.specs.Sets.{Body, Letter, no_letter}
 use Rattle.crdt_ops.proofs.Members.{in_map}
-use Rattle.message_versions.specs.declared.version.Version.{Version}
-use Rattle.message_versions.specs.Unions.{union_of, united, version_ids}
+use Rattle.imap_types.specs.declared.version.Version.{Version}
+use Rattle.imap_types.specs.Unions.{union_of, united, version_ids}
 use Rattle.mail_listing.specs.Listing.{epoch}
 use Rattle.mail_listing.specs.Telling.{first_of, told_by, told_in}
 use Rattle.mail_listing.specs.declared.mailbox.HeldMessage.{HeldMessage}

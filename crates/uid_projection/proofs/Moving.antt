@@ -3,8 +3,8 @@ use Rattle.std.proofs.Common.{◌≡◌, inl, inr, ℕ, Bool, zero, suc, ◌<◌
 use Rattle.std.proofs.lemmas.Bool.{cases_Bool, false≢true}
 use Rattle.std.proofs.lemmas.Bool.Decides.{nat_tests}
 use Rattle.tags_clocks.specs.declared.id.OpId.{OpId}
-use Rattle.entry_table.specs.declared.entry.Entry.{Entry}
-use Rattle.entry_table.specs.Entries.{IsAt, Lacks}
+use Rattle.mail_listing.specs.declared.entry.Entry.{Entry}
+use Rattle.mail_listing.specs.Entries.{IsAt, Lacks}
 use Rattle.crdt_ops.specs.Order.{same_id}
 use Rattle.uid_projection.specs.Moves.{AreApart, is_held, moved, renewed}
 

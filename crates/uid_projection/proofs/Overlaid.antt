@@ -2,8 +2,8 @@ use Rattle.std.specs.Result.{is_err}
 use Rattle.std.proofs.Common.{Result, Ok, Err, OnOk, OnErr, ◌≡◌, ◌↔◌, ◌⊎◌, inl, inr, ℕ, zero, suc, ◌+◌, ◌-◌, ◌<◌, ◌≤◌, Bool, true, false, cond, List, [], ◌∷◌, ◌++◌, Option, None, Some, length, get_or, refl, sym, ap, ◌∙◌, subst, arith}
 use Rattle.tags_clocks.specs.declared.id.OpId.{OpId}
 use Rattle.merge_laws.specs.Orders.{fold_of}
-use Rattle.entry_table.specs.declared.entry.Entry.{Entry}
-use Rattle.entry_table.specs.Entries.{AreBelow, AreRising}
+use Rattle.mail_listing.specs.declared.entry.Entry.{Entry}
+use Rattle.mail_listing.specs.Entries.{AreBelow, AreRising}
 use Rattle.crdt_ops.specs.declared.op.Op.{Op}
 use Rattle.crdt_ops.specs.Meanings.{IsVersion as IsVersionBySet}
 use Rattle.crdt_ops.specs.Tags.{removed_ids}

@@ -11,8 +11,8 @@ use Rattle.crdt_ops.specs.Order.{IsAscending, id_order, placed}
 use Rattle.crdt_ops.specs.Sets.{Body}
 use Rattle.crdt_ops.proofs.Members.{in_map}
 use Rattle.crdt_ops.proofs.OrderLemmas.{ascending-placed, id_order_same, id_order_total}
-use Rattle.message_versions.specs.declared.version.Version.{Version}
-use Rattle.message_versions.specs.Unions.{version_ids}
+use Rattle.imap_types.specs.declared.version.Version.{Version}
+use Rattle.imap_types.specs.Unions.{version_ids}
 use Rattle.folder_state.specs.Kept.{body_in_folder}
 use Rattle.uid_projection.specs.declared.changes.Change.{Change}
 use Rattle.uid_projection.specs.declared.messages.MessagesAhead.{MessagesAhead}

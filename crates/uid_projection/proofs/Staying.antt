@@ -5,7 +5,7 @@ use Rattle.std.proofs.lemmas.Bool.{cases_Bool, false≢true, false_from_ne_true,
 use Rattle.imap_types.specs.Names.{inbox}
 use Rattle.tags_clocks.specs.declared.id.OpId.{OpId}
 use Rattle.merge_laws.specs.Orders.{IsIn}
-use Rattle.entry_table.specs.declared.entry.Entry.{Entry}
+use Rattle.mail_listing.specs.declared.entry.Entry.{Entry}
 use Rattle.crdt_ops.specs.declared.op.Op.{Op}
 use Rattle.crdt_ops.specs.Meanings.{IsVersion}
 use Rattle.crdt_ops.specs.Order.{is_some_id, same_id}

@@ -3,7 +3,7 @@ use Rattle.std.proofs.lemmas.Bool.{cases_Bool}
 use Rattle.indexmap.specs.IndexMap.{spare}
 use Rattle.imap_types.specs.Names.{inbox}
 use Rattle.tags_clocks.specs.declared.id.OpId.{OpId}
-use Rattle.entry_table.specs.declared.entry.Entry.{Entry}
+use Rattle.mail_listing.specs.declared.entry.Entry.{Entry}
 use Rattle.crdt_ops.specs.declared.op.Op.{Op}
 use Rattle.crdt_ops.specs.Tags.{name_of, removed_ids}
 use Rattle.folder_state.specs.Contents.{Contents}

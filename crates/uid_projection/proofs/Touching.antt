@@ -16,7 +16,7 @@ use Rattle.crdt_ops.specs.TagLaws.{adds_own, delete_removes_message_tags, olds_r
 use Rattle.crdt_ops.proofs.Members.{any_in}
 use Rattle.crdt_ops.proofs.OrderLemmas.{id_order_same, id_order_total, one_ascending}
 use Rattle.crdt_ops.proofs.VersionLemmas.{some_id, versions_listed}
-use Rattle.entry_table.specs.declared.entry.Entry.{Entry}
+use Rattle.mail_listing.specs.declared.entry.Entry.{Entry}
 use Rattle.uid_projection.specs.declared.start.Start.{Start}
 use Rattle.uid_projection.specs.Applied.{IsApplied}
 use Rattle.uid_projection.specs.Chart.{AreEntries, AreVersions}

@@ -8,8 +8,8 @@ use Rattle.tags_clocks.specs.declared.id.OpId.{OpId}
 use Rattle.merge_laws.specs.Orders.{IsIn}
 use Rattle.crdt_ops.specs.Order.{IsAscending, id_order, is_some_id, same_id}
 use Rattle.crdt_ops.specs.Sets.{Body, Letter}
-use Rattle.message_versions.specs.declared.version.Version.{Version}
-use Rattle.message_versions.specs.Unions.{version_ids}
+use Rattle.imap_types.specs.declared.version.Version.{Version}
+use Rattle.imap_types.specs.Unions.{version_ids}
 use Rattle.folder_state.specs.Kept.{Kept as Folder, body_in_folder, has_tag_in}
 use Rattle.uid_projection.specs.declared.changes.Change.{Change}
 use Rattle.uid_projection.specs.declared.changes.LentLetter.{LentLetter}

@@ -2,8 +2,8 @@ use Rattle.std.specs.Prelude.{ℕ, ◌<◌, ◌≤◌, ◌^◌, Bool, true, fals
 use Rattle.std.specs.List.{filter_map, list_any}
 use Rattle.std.specs.Option.{option_map}
 use Rattle.tags_clocks.specs.declared.id.OpId.{OpId}
-use Rattle.entry_table.specs.declared.entry.Entry.{Entry}
-use Rattle.entry_table.specs.Entries.{AreBelow, Lacks}
+use Rattle.mail_listing.specs.declared.entry.Entry.{Entry}
+use Rattle.mail_listing.specs.Entries.{AreBelow, Lacks}
 use Rattle.crdt_ops.specs.declared.op.Op.{Op}
 use Rattle.crdt_ops.specs.Order.{is_some_id, same_id}
 use Rattle.crdt_ops.specs.Sets.{body_by}

@@ -1,7 +1,7 @@
 use Rattle.std.specs.Prelude.{◌≡◌, ◌⊎◌, ℕ, ◌≤◌, Bool, true, false, ◌&&◌, ◌||◌, Option, None, Some, List, ◌++◌}
 use Rattle.tags_clocks.specs.declared.id.OpId.{OpId}
 use Rattle.merge_laws.specs.Orders.{IsIn}
-use Rattle.entry_table.specs.declared.entry.Entry.{Entry}
+use Rattle.mail_listing.specs.declared.entry.Entry.{Entry}
 use Rattle.crdt_ops.specs.declared.op.Op.{Op}
 use Rattle.crdt_ops.specs.Order.{is_some_id}
 use Rattle.crdt_ops.specs.Tags.{removed_ids}

@@ -21,10 +21,9 @@ use crate::presence_ahead::{has_tag_left, has_tag_put};
 use crate::touched::touch;
 use crdt_ops::{Kind, Op, SoundOp};
 use folder_state::{Folder, Folders};
-use imap_types::{DateTime, Flags, Name, Text};
+use imap_types::{DateTime, Flags, Name, Text, Version};
 use indexmap::IndexMap;
 use mail_listing::{HeldMessage, Mailbox};
-use message_versions::Version;
 use std::alloc::{AllocError, Global};
 use tags_clocks::OpId;
 

@@ -3,7 +3,7 @@
 ghost use Rattle.std.specs.Prelude.{◌≡◌, ◌⊎◌, ◌<◌, ◌+◌, ◌-◌, ℕ, List, [], ◌∷◌, ◌++◌, true, false, ◌||◌, if◌then◌else◌, IfOk, OnOk, length, get_or};
 ghost use Rattle.std.specs.List.{list_any};
 ghost use Rattle.tags_clocks.specs.declared.id.OpId.{OpId as Id};
-ghost use Rattle.entry_table.specs.declared.entry.Entry.{Entry as Kept};
+ghost use Rattle.mail_listing.specs.declared.entry.Entry.{Entry as Kept};
 ghost use Rattle.crdt_ops.specs.declared.op.Op.{Op as Operation};
 ghost use Rattle.crdt_ops.specs.Order.{is_some_id, same_id};
 ghost use Rattle.folder_state.specs.Contents.{Contents, IsMadeBy, effect_of, origin_in};
@@ -25,8 +25,8 @@ use crate::moves::{added_origin, begin_line, holds, settle};
 use crate::start::first_of;
 use crate::table::chart_of;
 use crdt_ops::{Kind, Op, SoundOp};
-use entry_table::{EntryList, EntryOverlay, EntryTable};
 use imap_types::Name;
+use mail_listing::{EntryList, EntryOverlay, EntryTable};
 use std::alloc::{AllocError, Global};
 use tags_clocks::OpId;
 

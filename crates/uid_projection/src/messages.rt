@@ -14,9 +14,8 @@ use crate::over::{has_kept, has_listed, kept_origin, origin_of, place_kept, plac
 use crate::presence_ahead::has_change_put;
 use crate::touched::{list, touch};
 use folder_state::Folder;
-use imap_types::Flags;
+use imap_types::{Flags, Version};
 use indexmap::IndexMap;
-use message_versions::Version;
 use std::alloc::{AllocError, Global};
 use tags_clocks::OpId;
 

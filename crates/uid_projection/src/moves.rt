@@ -1,12 +1,12 @@
 //! What an operation makes of a folder's entries, as they are kept or as an overlay has them.
 
 ghost use Rattle.std.specs.Prelude.{◌≡◌, ◌<◌, ◌+◌, ℕ, [], ◌∷◌, ◌++◌, true, false, length, get_or, set, remove};
-ghost use Rattle.entry_table.specs.declared.entry.Entry.{Entry as Kept};
+ghost use Rattle.mail_listing.specs.declared.entry.Entry.{Entry as Kept};
 ghost use Rattle.uid_projection.specs.Moves.{AreApart, IsNext, added_origin, is_held, moved, renewed};
 ghost use Rattle.crdt_ops.specs.Order.{same_id};
 
 use crdt_ops::{Kind, Op};
-use entry_table::{Entry, EntryList};
+use mail_listing::{Entry, EntryList};
 use tags_clocks::OpId;
 
 /// The origin of the message tag that an operation adds, where it adds one.

@@ -6,15 +6,14 @@ ghost use Rattle.std.specs.Option.{option_map};
 ghost use Rattle.tags_clocks.specs.declared.id.OpId.{OpId as Id};
 ghost use Rattle.merge_laws.specs.Orders.{IsIn};
 ghost use Rattle.folder_state.specs.Kept.{body_in_folder};
-ghost use Rattle.message_versions.specs.declared.version.Version.{Version as Kept};
-ghost use Rattle.message_versions.specs.Unions.{version_ids};
+ghost use Rattle.imap_types.specs.declared.version.Version.{Version as Kept};
+ghost use Rattle.imap_types.specs.Unions.{version_ids};
 ghost use Rattle.uid_projection.specs.Changes.{HasOrigin, IsLeft, IsPlaced, IsPut, bodies_of, ids_listed, is_version, kept_of, origin_of};
 
 use crate::messages::MessagesAhead;
 use crate::versions_ahead::place;
 use folder_state::Folder;
-use imap_types::Flags;
-use message_versions::Version;
+use imap_types::{Flags, Version};
 use std::alloc::{AllocError, Global};
 use tags_clocks::OpId;
 

@@ -14,9 +14,9 @@ use crate::chart::Chart;
 use crate::moves::added_origin;
 use crate::start::{Start, first_of};
 use crdt_ops::{Kind, Op, SoundOp};
-use entry_table::EntryTable;
 use imap_types::Name;
 use indexmap::IndexMap;
+use mail_listing::EntryTable;
 use std::alloc::{AllocError, Global};
 use tags_clocks::OpId;
 

@@ -21,9 +21,8 @@ use crate::moves::added_origin;
 use crate::origins::origin_at;
 use crate::table::chart_of;
 use crdt_ops::{Op, SoundOp};
-use entry_table::{EntryList, EntryTable};
 use imap_types::Name;
-use mail_listing::Rows;
+use mail_listing::{EntryList, EntryTable, Rows};
 use std::alloc::{AllocError, Global};
 use tags_clocks::OpId;
 

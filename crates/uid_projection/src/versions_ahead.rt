@@ -4,7 +4,7 @@ ghost use Rattle.std.specs.Prelude.{◌≡◌, ◌≤◌, OnOk, MatchResult, ins
 ghost use Rattle.crdt_ops.specs.Order.{placed};
 ghost use Rattle.uid_projection.specs.Changes.{by_id};
 
-use message_versions::Version;
+use imap_types::Version;
 use std::alloc::AllocError;
 
 /// Puts a version in its place; where its id is there, all stays.

@@ -1,249 +1,227 @@
 //! What commands that read mailboxes answer.
 
+use crate::parts::joined;
 use crate::queries::fields::octets;
 use crate::queries::mailbox::Mailbox;
 use crate::queries::messages::rows_of;
-use crate::queries::searches::{found, named};
+use crate::queries::searches::{are_rising, is_in_range, named};
 use crate::queries::stage::Stage;
-use case_text::{Trouble, Words, cut};
+use crate::round_trips::printed_behind;
+use case_text::{Trouble, Words};
 use imap_answers::{Answer, SearchResults};
-use imap_grammar::{Command, FetchItem, ParseFault, StatusItem, Tagged, parse};
-use imap_print::print;
-use imap_query::{FetchMode, ListMode, Shown, fetch, list_names, matches, status};
-use imap_types::{Escape, Name, Octets, SequenceSet};
+use imap_grammar::{Command, Fetch, ListNames, ParseFault, Search, StatusItem, Tagged, parse};
+use imap_query::{FetchMode, ListMode, Shown, fetch, list_names, search, status};
+use imap_types::{Escape, Name, Octets};
 use mail_listing::Rows;
 use std::alloc::{AllocError, Global};
 
 /// The answers to the command that a line spells, its tagged one left out.
-pub fn put_command(
-    alloc: Global,
-    words: &mut Words,
-    stage: &Stage,
-    line: &str,
-) -> Result<(), Trouble> {
-    let tagged = tagged(alloc, line)?;
-    let done = put_answers_to(alloc, words, stage, &tagged);
-    drop(tagged);
-    done
-}
-
-fn tagged(alloc: Global, line: &str) -> Result<Tagged, Trouble> {
-    let frame = frame(alloc, line)?;
-    spelled(parse(alloc, &frame))
-}
-
-fn spelled(parsed: Result<Tagged, ParseFault>) -> Result<Tagged, Trouble> {
-    match parsed {
-        Ok(tagged) => Ok(tagged),
-        Err(ParseFault::NoMemory) => Err(Trouble::NoMemory),
-        Err(_) => Err(Trouble::NotACase),
+pub fn put_command(alloc: Global, words: &mut Words, stage: &Stage, line: &str) {
+    match octets(alloc, Escape::Text, line) {
+        Ok(line) => put_line(alloc, words, stage, line.as_bytes()),
+        Err(trouble) => words.put_trouble("", trouble),
     }
 }
 
-/// `PATTERN NAME`.
-pub fn put_matches(alloc: Global, words: &mut Words, input: &str) -> Result<(), Trouble> {
-    let (pattern, name) = cut(input)?;
-    let pattern = octets(alloc, Escape::Field, pattern)?;
-    let matched = is_matched(alloc, pattern.as_bytes(), name);
-    drop(pattern);
-    words.put_whether("", matched?);
-    Ok(())
-}
-
-fn is_matched(alloc: Global, pattern: &[u8], name: &str) -> Result<bool, Trouble> {
-    let name = octets(alloc, Escape::Field, name)?;
-    Ok(matches(alloc, pattern, name.as_bytes())?)
-}
-
-fn frame(alloc: Global, line: &str) -> Result<Vec<u8>, Trouble> {
-    let mut frame = octets(alloc, Escape::Text, line)?.into_vec();
-    frame.extend_from_slice(b"\r\n")?;
-    Ok(frame)
-}
-
-fn put_answers_to(
-    alloc: Global,
-    words: &mut Words,
-    stage: &Stage,
-    tagged: &Tagged,
-) -> Result<(), Trouble> {
-    let answers = answers_to(alloc, stage, tagged)?;
-    let done = put_answers(alloc, words, &answers);
-    drop(answers);
-    Ok(done?)
-}
-
-/// Each answer without its line end, ` | ` between them, `nothing` where there are none.
-fn put_answers(alloc: Global, words: &mut Words, answers: &[Answer]) -> Result<(), AllocError> {
-    let mut mark = "";
-    for answer in answers {
-        put_answer(alloc, words, mark, answer)?;
-        mark = " | ";
+fn put_line(alloc: Global, words: &mut Words, stage: &Stage, line: &[u8]) {
+    match joined(alloc, line, b"\r\n") {
+        Ok(frame) => put_frame(alloc, words, stage, &frame),
+        Err(AllocError) => words.give_up(),
     }
-    words.put_if(answers.is_empty(), "nothing");
-    Ok(())
 }
 
-fn put_answer(
-    alloc: Global,
-    words: &mut Words,
-    mark: &str,
-    answer: &Answer,
-) -> Result<(), AllocError> {
-    let mut text = Vec::new(alloc);
-    print(answer, &mut text)?;
-    words.put_escaped(mark, text.strip_suffix(b"\r\n".as_slice()).unwrap_or(&text));
-    Ok(())
+fn put_frame(alloc: Global, words: &mut Words, stage: &Stage, frame: &[u8]) {
+    match parse(alloc, frame) {
+        Ok(tagged) => {
+            put_tagged(alloc, words, stage, &tagged);
+            drop(tagged);
+        }
+        Err(ParseFault::NoMemory) => words.give_up(),
+        Err(_) => words.put_trouble("", Trouble::NotACase),
+    }
 }
 
-fn answers_to(alloc: Global, stage: &Stage, tagged: &Tagged) -> Result<Vec<Answer>, Trouble> {
+fn put_tagged(alloc: Global, words: &mut Words, stage: &Stage, tagged: &Tagged) {
     match &tagged.command {
-        Command::ListNames(list) => {
-            let mode = ListMode {
-                subscribed_only: list.subscribed_only,
-                return_subscribed: list.return_subscribed,
-            };
-            names_listed(alloc, stage, mode, &list.reference, &list.pattern)
-        }
-        Command::Status { name, items } => {
-            status_told(alloc, &stage.mailbox, name, items.as_slice())
-        }
-        _ => answers_of_messages(alloc, &stage.mailbox, tagged),
+        Command::ListNames(list) => put_names(alloc, words, stage, list),
+        _ => put_of_mailbox(alloc, words, &stage.mailbox, tagged),
     }
 }
 
-fn answers_of_messages(
-    alloc: Global,
-    mailbox: &Mailbox,
-    tagged: &Tagged,
-) -> Result<Vec<Answer>, Trouble> {
-    match &tagged.command {
-        Command::Search(search) => {
-            let results = found(
-                alloc,
-                mailbox,
-                search.by_uid,
-                search.options.as_slice(),
-                search.steps.as_slice(),
-            )?;
-            search_answers(alloc, &tagged.tag, search.by_uid, results)
-        }
-        Command::Fetch(fetch) => {
-            let mode = FetchMode {
-                by_uid: fetch.by_uid,
-                condstore: mailbox.condstore,
-                writable: mailbox.is_writable,
-                changed_since: fetch.changed_since,
-            };
-            fetched(
-                alloc,
-                mailbox,
-                &fetch.messages,
-                fetch.items.as_slice(),
-                mode,
-            )
-        }
-        _ => Err(Trouble::NotACase),
-    }
-}
-
-fn names_listed(
-    alloc: Global,
-    stage: &Stage,
-    mode: ListMode,
-    reference: &Octets,
-    pattern: &Octets,
-) -> Result<Vec<Answer>, Trouble> {
-    Ok(list_names(
+fn put_names(alloc: Global, words: &mut Words, stage: &Stage, list: &ListNames) {
+    let mode = ListMode {
+        subscribed_only: list.subscribed_only,
+        return_subscribed: list.return_subscribed,
+    };
+    let answers = list_names(
         alloc,
-        reference.as_bytes(),
-        pattern.as_bytes(),
+        list.reference.as_bytes(),
+        list.pattern.as_bytes(),
         mode,
         &stage.folders,
         &stage.subscriptions,
-    )?)
+    );
+    put_answers(alloc, words, answers);
 }
 
-fn status_told(
+fn put_of_mailbox(alloc: Global, words: &mut Words, mailbox: &Mailbox, tagged: &Tagged) {
+    match rows_of(alloc, &mailbox.messages, false) {
+        Ok(rows) => {
+            put_of_rows(alloc, words, mailbox, &rows, tagged);
+            drop(rows);
+        }
+        Err(trouble) => words.put_trouble("", trouble),
+    }
+}
+
+fn put_of_rows(
     alloc: Global,
+    words: &mut Words,
     mailbox: &Mailbox,
+    rows: &Rows<'_>,
+    tagged: &Tagged,
+) {
+    match &tagged.command {
+        Command::Status { name, items } => {
+            put_status(alloc, words, mailbox, rows, name, items.as_slice());
+        }
+        Command::Search(search) => put_search(alloc, words, mailbox, rows, &tagged.tag, search),
+        Command::Fetch(fetch) => put_fetch(alloc, words, mailbox, rows, fetch),
+        _ => words.put_trouble("", Trouble::NotACase),
+    }
+}
+
+fn put_status(
+    alloc: Global,
+    words: &mut Words,
+    mailbox: &Mailbox,
+    rows: &Rows<'_>,
     name: &Name,
     items: &[StatusItem],
-) -> Result<Vec<Answer>, Trouble> {
-    let rows = rows_of(alloc, &mailbox.messages, false)?;
-    let items = status(&rows, items, mailbox.marks);
-    drop(rows);
-    let name = name.copy(alloc)?;
-    alone(alloc, Answer::Status { name, items })
+) {
+    let items = status(rows, items, mailbox.marks);
+    match name.copy(alloc) {
+        Ok(name) => put_alone(alloc, words, Answer::Status { name, items }),
+        Err(AllocError) => words.give_up(),
+    }
 }
 
-/// The list of this answer.
-fn alone(alloc: Global, answer: Answer) -> Result<Vec<Answer>, Trouble> {
-    let Ok(mut answers) = Vec::with_capacity(alloc, 1) else {
-        drop(answer);
-        return Err(Trouble::NoMemory);
-    };
-    answers.push_reserved(answer);
-    Ok(answers)
-}
-
-fn search_answers(
+fn put_search(
     alloc: Global,
+    words: &mut Words,
+    mailbox: &Mailbox,
+    rows: &Rows<'_>,
+    tag: &Octets,
+    asked: &Search,
+) {
+    let by_uid = asked.by_uid;
+    if !are_rising(by_uid, &mailbox.view) {
+        words.put_trouble("", Trouble::NotACase);
+        return;
+    }
+    let steps = asked.steps.as_slice();
+    let options = asked.options.as_slice();
+    match search(alloc, &mailbox.view, rows, by_uid, steps, options) {
+        Ok(results) => put_results(alloc, words, tag, by_uid, results),
+        Err(AllocError) => words.give_up(),
+    }
+}
+
+fn put_results(
+    alloc: Global,
+    words: &mut Words,
     tag: &Octets,
     by_uid: bool,
     results: SearchResults,
-) -> Result<Vec<Answer>, Trouble> {
-    let Ok(tag) = tag.copy(alloc) else {
-        drop(results);
-        return Err(Trouble::NoMemory);
-    };
-    alone(
-        alloc,
-        Answer::Search {
-            tag,
-            by_uid,
-            results,
-        },
-    )
+) {
+    match tag.copy(alloc) {
+        Ok(tag) => put_alone(
+            alloc,
+            words,
+            Answer::Search {
+                tag,
+                by_uid,
+                results,
+            },
+        ),
+        Err(AllocError) => {
+            drop(results);
+            words.give_up();
+        }
+    }
 }
 
-fn fetched(
+fn put_fetch(
     alloc: Global,
+    words: &mut Words,
     mailbox: &Mailbox,
-    messages: &SequenceSet,
-    items: &[FetchItem],
-    mode: FetchMode,
-) -> Result<Vec<Answer>, Trouble> {
-    let named = named(alloc, &mailbox.view, messages.ranges(), mode.by_uid)?;
-    let told = fetched_before(alloc, mailbox, &named, items, mode);
-    drop(named);
-    told
+    before: &Rows<'_>,
+    asked: &Fetch,
+) {
+    let set = asked.messages.ranges();
+    if !is_in_range(&mailbox.view, set, asked.by_uid) {
+        words.put_trouble("", Trouble::OutOfRange);
+        return;
+    }
+    match named(alloc, &mailbox.view, set, asked.by_uid) {
+        Ok(named) => put_fetched(alloc, words, mailbox, &named, before, asked),
+        Err(AllocError) => words.give_up(),
+    }
 }
 
 /// What a FETCH of these messages tells, by how they stood before the command, and how they stand after it.
-fn fetched_before(
+fn put_fetched(
     alloc: Global,
-    mailbox: &Mailbox,
-    named: &[Shown],
-    items: &[FetchItem],
-    mode: FetchMode,
-) -> Result<Vec<Answer>, Trouble> {
-    let before = rows_of(alloc, &mailbox.messages, false)?;
-    let told = fetched_after(alloc, mailbox, named, &before, items, mode);
-    drop(before);
-    told
-}
-
-fn fetched_after(
-    alloc: Global,
+    words: &mut Words,
     mailbox: &Mailbox,
     named: &[Shown],
     before: &Rows<'_>,
-    items: &[FetchItem],
-    mode: FetchMode,
-) -> Result<Vec<Answer>, Trouble> {
-    let after = rows_of(alloc, &mailbox.messages, true)?;
-    let told = fetch(alloc, named, before, &after, items, mode);
-    drop(after);
-    Ok(told?)
+    asked: &Fetch,
+) {
+    let mode = FetchMode {
+        by_uid: asked.by_uid,
+        condstore: mailbox.condstore,
+        writable: mailbox.is_writable,
+        changed_since: asked.changed_since,
+    };
+    match rows_of(alloc, &mailbox.messages, true) {
+        Ok(after) => {
+            let answers = fetch(alloc, named, before, &after, asked.items.as_slice(), mode);
+            drop(after);
+            put_answers(alloc, words, answers);
+        }
+        Err(trouble) => words.put_trouble("", trouble),
+    }
+}
+
+fn put_answers(alloc: Global, words: &mut Words, answers: Result<Vec<Answer>, AllocError>) {
+    match answers {
+        Ok(answers) => {
+            put_each(alloc, words, &answers);
+            drop(answers);
+        }
+        Err(AllocError) => words.give_up(),
+    }
+}
+
+/// Each answer without its line end, ` | ` between them, `nothing` where there are none.
+fn put_each(alloc: Global, words: &mut Words, answers: &[Answer]) {
+    let mut mark = "";
+    for answer in answers {
+        put_one(alloc, words, mark, answer);
+        mark = " | ";
+    }
+    words.put_if(answers.is_empty(), "nothing");
+}
+
+fn put_alone(alloc: Global, words: &mut Words, answer: Answer) {
+    put_one(alloc, words, "", &answer);
+    drop(answer);
+}
+
+fn put_one(alloc: Global, words: &mut Words, mark: &str, answer: &Answer) {
+    match printed_behind(alloc, b"", answer) {
+        Ok(text) => words.put_escaped(mark, text.strip_suffix(b"\r\n".as_slice()).unwrap_or(&text)),
+        Err(AllocError) => words.give_up(),
+    }
 }

@@ -1,7 +1,8 @@
 //! The mailbox that commands look at.
 
+use crate::queries::fields::{Gathers, add, gathered, set};
 use crate::queries::messages::{Message, message_in};
-use case_text::{Trouble, cut, long_number, number};
+use case_text::{Trouble, long_number, meaning, number, parted};
 use imap_query::{Marks, Shown};
 use std::alloc::Global;
 
@@ -17,6 +18,14 @@ pub struct Mailbox {
     /// Whether mod-sequences are told with flags.
     pub condstore: bool,
 }
+
+/// How mailboxes are selected: whether they can be written, and whether mod-sequences are told with flags.
+const MODES: &[(&str, (bool, bool))] = &[
+    ("read-write", (true, false)),
+    ("read-write condstore", (true, true)),
+    ("read-only", (false, false)),
+    ("read-only condstore", (false, true)),
+];
 
 impl Mailbox {
     /// No messages, in a read-write mailbox.
@@ -34,66 +43,46 @@ impl Mailbox {
         }
     }
 
-    /// Sets what a line says; `false` where it is a line that sets nothing.
-    pub fn set(&mut self, alloc: Global, kind: &str, rest: &str) -> Result<bool, Trouble> {
+    /// Sets what a line says.
+    pub fn set(&mut self, alloc: Global, kind: &str, rest: &str) -> Result<(), Trouble> {
         match kind {
-            "message" => self.add(alloc, rest)?,
-            "after" => self.set_after(alloc, rest)?,
-            "view" => self.set_view(alloc, rest)?,
-            "marks" => self.set_marks(rest)?,
-            "mode" => self.set_mode(rest)?,
-            _ => return Ok(false),
+            "message" => add(&mut self.messages, message_in(alloc, rest)),
+            "after" => self.set_after(alloc, rest),
+            "view" => set(&mut self.view, gathered(alloc, Vec::new(alloc), ',', rest)),
+            "marks" => set(&mut self.marks, marks(rest)),
+            _ => self.set_mode(rest),
         }
-        Ok(true)
-    }
-
-    fn add(&mut self, alloc: Global, text: &str) -> Result<(), Trouble> {
-        self.messages.push(message_in(alloc, text)?)?;
-        Ok(())
     }
 
     /// `UID MODSEQ FLAGS`: how the message with this UID stands after a command.
     fn set_after(&mut self, alloc: Global, text: &str) -> Result<(), Trouble> {
-        let (uid, rest) = cut(text)?;
+        let (uid, standing) = parted(text, " ");
         let uid = number(uid)?;
-        let place = self.messages.iter().position(|message| message.uid == uid);
-        match self.messages.get_mut(place.unwrap_or(usize::MAX)) {
-            Some(message) => message.set_after(alloc, rest),
-            None => Err(Trouble::NotACase),
+        for message in &mut self.messages {
+            if message.uid == uid {
+                return message.set_after(alloc, standing);
+            }
         }
-    }
-
-    fn set_view(&mut self, alloc: Global, text: &str) -> Result<(), Trouble> {
-        self.view = view(alloc, text)?;
-        Ok(())
-    }
-
-    fn set_marks(&mut self, text: &str) -> Result<(), Trouble> {
-        self.marks = marks(text)?;
-        Ok(())
+        Err(Trouble::NotACase)
     }
 
     /// `read-write` or `read-only`, and behind it `condstore` or nothing.
     fn set_mode(&mut self, text: &str) -> Result<(), Trouble> {
-        let (access, extension) = text.split_once(' ').unwrap_or((text, ""));
-        self.is_writable = is_first(access, "read-write", "read-only")?;
-        self.condstore = is_first(extension, "condstore", "")?;
-        Ok(())
+        match meaning(MODES, text) {
+            Some((is_writable, condstore)) => {
+                self.is_writable = is_writable;
+                self.condstore = condstore;
+                Ok(())
+            }
+            None => Err(Trouble::NotACase),
+        }
     }
-}
-
-/// Whether a word is the first of two, of which it is one.
-fn is_first(word: &str, first: &str, second: &str) -> Result<bool, Trouble> {
-    if word != first && word != second {
-        return Err(Trouble::NotACase);
-    }
-    Ok(word == first)
 }
 
 /// `UIDVALIDITY UIDNEXT HIGHESTMODSEQ`.
 fn marks(text: &str) -> Result<Marks, Trouble> {
-    let (uidvalidity, rest) = cut(text)?;
-    let (uidnext, highest_modseq) = cut(rest)?;
+    let (uidvalidity, rest) = parted(text, " ");
+    let (uidnext, highest_modseq) = parted(rest, " ");
     Ok(Marks {
         uidvalidity: number(uidvalidity)?,
         uidnext: number(uidnext)?,
@@ -101,24 +90,16 @@ fn marks(text: &str) -> Result<Marks, Trouble> {
     })
 }
 
-/// The messages of these UIDs, none where `-` stands.
-fn view(alloc: Global, text: &str) -> Result<Vec<Shown>, Trouble> {
-    let mut view = Vec::new(alloc);
-    show_all(text, &mut view)?;
-    Ok(view)
-}
-
-fn show_all(text: &str, view: &mut Vec<Shown>) -> Result<(), Trouble> {
-    if text == "-" {
-        return Ok(());
-    }
-    let mut last = 0u32;
-    for uid in text.split(',') {
-        last = last.saturating_add(1);
-        view.push(Shown {
-            number: last,
+/// The messages of UIDs, numbered from 1.
+impl Gathers for Vec<Shown> {
+    fn take(&mut self, _alloc: Global, uid: &str) -> Result<(), Trouble> {
+        let shown = Shown {
+            number: u32::try_from(self.len())
+                .unwrap_or(u32::MAX)
+                .saturating_add(1),
             uid: number(uid)?,
-        })?;
+        };
+        self.push(shown)?;
+        Ok(())
     }
-    Ok(())
 }

@@ -1,10 +1,13 @@
 //! Messages, and their rows before and after a command.
 
+ghost use Rattle.std.specs.Prelude.{◌≡◌};
+ghost use Rattle.mail_listing.specs.Listing.{held};
+
+use crate::parts::flags_named;
 use crate::queries::fields::octets;
-use case_text::{Trouble, cut, long_number, number};
-use imap_types::{DATE_TIME_OCTETS, DateTime, Escape, Flags, Text};
+use case_text::{Trouble, long_number, number, parted};
+use imap_types::{DATE_TIME_OCTETS, DateTime, Escape, Flags, Text, Version, Versions};
 use mail_listing::{HeldRow, HeldVersions, Rows};
-use message_versions::{Version, Versions};
 use std::alloc::Global;
 use tags_clocks::{OpId, ReplicaId};
 
@@ -12,7 +15,8 @@ use tags_clocks::{OpId, ReplicaId};
 #[derive(Drop)]
 pub struct Standing {
     modseq: u64,
-    versions: Vec<Version>,
+    /// Its one version, under some id.
+    versions: [Version; 1],
 }
 
 /// A message of the mailbox.
@@ -23,14 +27,30 @@ pub struct Message {
     /// How it stands after a command, where that changes it.
     after: Option<Standing>,
     date: DateTime,
-    text: Text,
+    text: Option<Text>,
 }
 
 impl Message {
+    /// A message that no command changes.
+    pub fn new(uid: u32, before: Standing, date: DateTime, text: Option<Text>) -> Message {
+        Message {
+            uid,
+            before,
+            after: None,
+            date,
+            text,
+        }
+    }
+
     /// `MODSEQ FLAGS`: how it stands after a command.
     pub fn set_after(&mut self, alloc: Global, text: &str) -> Result<(), Trouble> {
-        self.after = Some(standing_in(alloc, text)?);
-        Ok(())
+        match standing_in(alloc, text) {
+            Ok(standing) => {
+                self.after = Some(standing);
+                Ok(())
+            }
+            Err(trouble) => Err(trouble),
+        }
     }
 
     fn stands(&self, is_after: bool) -> &Standing {
@@ -39,24 +59,35 @@ impl Message {
             None => &self.before,
         }
     }
+
+    /// Its row, as it is after a command or before it.
+    fn row(&self, is_after: bool) -> HeldRow<'_>
+        ensures { (held result).uid ≡ self.now.uid }
+    {
+        let standing = self.stands(is_after);
+        HeldRow {
+            uid: self.uid,
+            modseq: standing.modseq,
+            origin: standing.versions[0].id,
+            versions: HeldVersions::Lent(Versions::new(&standing.versions)),
+            date: Some(&self.date),
+            text: self.text.as_ref(),
+        }
+    }
 }
 
-/// `UID MODSEQ FLAGS DATE TEXT`.
+/// `UID MODSEQ FLAGS "DATE" TEXT`.
 pub fn message_in(alloc: Global, text: &str) -> Result<Message, Trouble> {
-    let (uid, rest) = cut(text)?;
-    let (front, back) = rest.split_once(" \"").ok_or(Trouble::NotACase)?;
-    let (date, text) = back.split_once("\" ").ok_or(Trouble::NotACase)?;
+    let (uid, rest) = parted(text, " ");
+    let (standing, rest) = parted(rest, " \"");
+    let (date, text) = parted(rest, "\" ");
     let uid = number(uid)?;
     let date = date_time(date.as_bytes())?;
     let text = text_in(alloc, text)?;
-    let before = standing_in(alloc, front)?;
-    Ok(Message {
-        uid,
-        before,
-        after: None,
-        date,
-        text,
-    })
+    match standing_in(alloc, standing) {
+        Ok(before) => Ok(Message::new(uid, before, date, Some(text))),
+        Err(trouble) => Err(trouble),
+    }
 }
 
 fn text_in(alloc: Global, text: &str) -> Result<Text, Trouble> {
@@ -66,50 +97,43 @@ fn text_in(alloc: Global, text: &str) -> Result<Text, Trouble> {
 
 /// `MODSEQ FLAGS`.
 fn standing_in(alloc: Global, text: &str) -> Result<Standing, Trouble> {
-    let (modseq, flags) = cut(text)?;
-    Ok(Standing {
-        modseq: long_number(modseq)?,
-        versions: version_of(alloc, flags_in(alloc, flags)?)?,
-    })
+    let (modseq, flags) = parted(text, " ");
+    let modseq = long_number(modseq)?;
+    match flags_in(alloc, flags) {
+        Ok(flags) => standing_with(modseq, flags),
+        Err(trouble) => Err(trouble),
+    }
 }
 
-/// The one version of a message with these flags, under some id.
-fn version_of(alloc: Global, flags: Flags) -> Result<Vec<Version>, Trouble> {
-    let mut versions = Vec::new(alloc);
-    if let Some(id) = some_id() {
-        versions.push(Version { id, flags })?;
+/// How a message with these flags stands.
+pub fn standing_with(modseq: u64, flags: Flags) -> Result<Standing, Trouble> {
+    match some_id() {
+        Some(id) => Ok(Standing {
+            modseq,
+            versions: [Version { id, flags }],
+        }),
+        None => {
+            drop(flags);
+            Err(Trouble::NotACase)
+        }
     }
-    Ok(versions)
+}
+
+fn some_id() -> Option<OpId> {
+    OpId::new(ReplicaId::new(1)?, 1)
 }
 
 /// `()`, or flags with spaces between them in parentheses.
 fn flags_in(alloc: Global, text: &str) -> Result<Flags, Trouble> {
-    let mut flags = Flags::none(alloc);
-    if text != "()" {
-        set_flags(alloc, text, &mut flags)?;
+    match within(text) {
+        Some(names) => Ok(flags_named(alloc, names)?),
+        None => Err(Trouble::NotACase),
     }
-    Ok(flags)
 }
 
-fn set_flags(alloc: Global, text: &str, flags: &mut Flags) -> Result<(), Trouble> {
-    let inner = text.strip_prefix('(').ok_or(Trouble::NotACase)?;
-    let inner = inner.strip_suffix(')').ok_or(Trouble::NotACase)?;
-    for flag in inner.split(' ') {
-        set_flag(alloc, flag, flags)?;
-    }
-    Ok(())
-}
-
-fn set_flag(alloc: Global, flag: &str, flags: &mut Flags) -> Result<(), Trouble> {
-    match flag {
-        "\\Answered" => flags.answered = true,
-        "\\Flagged" => flags.flagged = true,
-        "\\Deleted" => flags.deleted = true,
-        "\\Seen" => flags.seen = true,
-        "\\Draft" => flags.draft = true,
-        keyword => flags.keywords.insert(alloc, keyword.as_bytes())?,
-    }
-    Ok(())
+/// What stands between parentheses.
+fn within(text: &str) -> Option<&str> {
+    text.strip_prefix('(')?.strip_suffix(')')
 }
 
 /// The date-time between whose quotes these octets stand.
@@ -122,7 +146,7 @@ pub fn date_time(octets: &[u8]) -> Result<DateTime, Trouble> {
     DateTime::new(quoted).ok_or(Trouble::NotACase)
 }
 
-/// The rows of these messages, as they are after a command or before it.
+/// The rows of these messages, whose UIDs ascend, as they are after a command or before it.
 pub fn rows_of<'a>(
     alloc: Global,
     messages: &'a [Message],
@@ -131,33 +155,16 @@ pub fn rows_of<'a>(
     let mut rows = Vec::new(alloc);
     let mut low = 1;
     for message in messages {
-        let Some(row) = row_of(message, is_after) else {
-            return Err(Trouble::NotACase);
-        };
-        if u64::from(row.uid) < low {
+        if u64::from(message.uid) < low {
+            drop(rows);
             return Err(Trouble::NotACase);
         }
-        low = u64::from(row.uid) + 1;
-        if rows.push(row).is_err() {
+        if rows.reserve(1).is_err() {
+            drop(rows);
             return Err(Trouble::NoMemory);
         }
+        low = u64::from(message.uid) + 1;
+        rows.push_reserved(message.row(is_after));
     }
     Ok(Rows::from_ascending(rows))
-}
-
-/// The row of a message, under some id.
-fn row_of<'a>(message: &'a Message, is_after: bool) -> Option<HeldRow<'a>> {
-    let standing = message.stands(is_after);
-    Some(HeldRow {
-        uid: message.uid,
-        modseq: standing.modseq,
-        origin: some_id()?,
-        versions: HeldVersions::Lent(Versions::new(&standing.versions)),
-        date: Some(&message.date),
-        text: Some(&message.text),
-    })
-}
-
-fn some_id() -> Option<OpId> {
-    OpId::new(ReplicaId::new(1)?, 1)
 }

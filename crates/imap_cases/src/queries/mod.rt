@@ -1,8 +1,6 @@
 //! Cases of texts of messages, of queries and of views.
-//!
-//! A line sets what is asked of, or is a case, `KIND INPUT => ANSWER`. The head of the cases says which lines there are, and how inputs
-//! and answers are written.
 
+mod asked;
 mod cases;
 mod commands;
 mod fields;
@@ -13,5 +11,6 @@ mod stage;
 mod texts;
 mod views;
 
-pub use cases::play;
-pub use views::play as play_views;
+pub use cases::put_query;
+pub use stage::{Stage, is_setting};
+pub use views::put_view;

@@ -1,32 +1,40 @@
-//! What SEARCH finds, and the messages that a set names.
+//! The messages that a set names.
 
 ghost use Rattle.std.specs.Prelude.{◌≡◌, ◌↔◌, map, IsTrue};
 ghost use Rattle.imap_types.specs.Numbers.{AreRisingFrom};
 ghost use Rattle.imap_query.specs.Search.{name_of};
 
-use crate::queries::mailbox::Mailbox;
-use crate::queries::messages::rows_of;
-use case_text::Trouble;
-use imap_answers::SearchResults;
-use imap_grammar::{SearchOption, SearchStep};
-use imap_query::{Shown, search};
+use imap_query::Shown;
 use imap_types::{SequenceBound, SequenceRange};
-use std::alloc::Global;
+use std::alloc::{AllocError, Global};
 
-/// The messages of a view that a set of numbers, or of UIDs, names. A number that no message has is out of range.
+/// The greatest number, or UID, of a view; 0 where it shows nothing.
+fn top_of(view: &[Shown], by_uid: bool) -> u32 {
+    match view.last() {
+        Some(last) => name_of(by_uid, *last),
+        None => 0,
+    }
+}
+
+/// Whether each number of a set of numbers is that of a message of the view. UIDs may be those of none.
+pub fn is_in_range(view: &[Shown], set: &[SequenceRange], by_uid: bool) -> bool {
+    let top = top_of(view, by_uid);
+    for range in set {
+        if !by_uid && !is_within(top, range) {
+            return false;
+        }
+    }
+    true
+}
+
+/// The messages of a view that a set of numbers, or of UIDs, names.
 pub fn named(
     alloc: Global,
     view: &[Shown],
     set: &[SequenceRange],
     by_uid: bool,
-) -> Result<Vec<Shown>, Trouble> {
-    let top = match view.last() {
-        Some(last) => name_of(by_uid, *last),
-        None => 0,
-    };
-    if !by_uid && !set.iter().all(|range| is_within(top, range)) {
-        return Err(Trouble::OutOfRange);
-    }
+) -> Result<Vec<Shown>, AllocError> {
+    let top = top_of(view, by_uid);
     let mut named = Vec::new(alloc);
     for message in view {
         if is_named(top, set, name_of(by_uid, *message)) {
@@ -43,7 +51,12 @@ fn is_within(top: u32, range: &SequenceRange) -> bool {
 }
 
 fn is_named(top: u32, set: &[SequenceRange], name: u32) -> bool {
-    set.iter().any(|range| lies_between(top, range, name))
+    for range in set {
+        if lies_between(top, range, name) {
+            return true;
+        }
+    }
+    false
 }
 
 fn lies_between(top: u32, range: &SequenceRange, name: u32) -> bool {
@@ -59,25 +72,8 @@ fn bound_of(top: u32, bound: SequenceBound) -> u32 {
     }
 }
 
-/// What a SEARCH finds in the mailbox.
-pub fn found(
-    alloc: Global,
-    mailbox: &Mailbox,
-    by_uid: bool,
-    options: &[SearchOption],
-    steps: &[SearchStep],
-) -> Result<SearchResults, Trouble> {
-    if !are_rising(by_uid, &mailbox.view) {
-        return Err(Trouble::NotACase);
-    }
-    let rows = rows_of(alloc, &mailbox.messages, false)?;
-    let found = search(alloc, &mailbox.view, &rows, by_uid, steps, options);
-    drop(rows);
-    Ok(found?)
-}
-
 /// Whether the numbers, or the UIDs, of these messages ascend from 1 on.
-fn are_rising(by_uid: bool, shown: &[Shown]) -> bool
+pub fn are_rising(by_uid: bool, shown: &[Shown]) -> bool
     ensures { IsTrue result ↔ AreRisingFrom 1 (map (name_of by_uid) shown.now) }
 {
     let mut low = 1;

@@ -1,6 +1,6 @@
 //! What is asked of.
 
-use crate::queries::fields::{names, octets};
+use crate::queries::fields::{gathered, octets, set};
 use crate::queries::mailbox::Mailbox;
 use case_text::Trouble;
 use imap_types::{Escape, Name, Octets};
@@ -15,6 +15,29 @@ pub struct Stage {
     pub subscriptions: Vec<Name>,
 }
 
+/// The first words of the lines that set what is asked of.
+const SETTINGS: &[&str] = &[
+    "text",
+    "mailbox",
+    "folders",
+    "subscriptions",
+    "message",
+    "after",
+    "view",
+    "marks",
+    "mode",
+];
+
+/// Whether a line with this first word sets what is asked of.
+pub fn is_setting(kind: &str) -> bool {
+    for setting in SETTINGS {
+        if *setting == kind {
+            return true;
+        }
+    }
+    false
+}
+
 impl Stage {
     /// Nothing of each.
     pub fn new(alloc: Global) -> Stage {
@@ -26,25 +49,18 @@ impl Stage {
         }
     }
 
-    /// Sets what a line says; `false` where it is a line that sets nothing.
-    pub fn set(&mut self, alloc: Global, kind: &str, rest: &str) -> Result<bool, Trouble> {
+    /// Sets what a line says.
+    pub fn set(&mut self, alloc: Global, kind: &str, rest: &str) -> Result<(), Trouble> {
         match kind {
-            "text" => self.set_text(alloc, rest)?,
-            "mailbox" => self.mailbox = Mailbox::new(alloc),
-            "folders" => set_names(alloc, rest, &mut self.folders)?,
-            "subscriptions" => set_names(alloc, rest, &mut self.subscriptions)?,
-            _ => return self.mailbox.set(alloc, kind, rest),
+            "text" => set(&mut self.text, octets(alloc, Escape::Text, rest)),
+            "mailbox" => set(&mut self.mailbox, Ok(Mailbox::new(alloc))),
+            "folders" => set_names(alloc, rest, &mut self.folders),
+            "subscriptions" => set_names(alloc, rest, &mut self.subscriptions),
+            _ => self.mailbox.set(alloc, kind, rest),
         }
-        Ok(true)
-    }
-
-    fn set_text(&mut self, alloc: Global, text: &str) -> Result<(), Trouble> {
-        self.text = octets(alloc, Escape::Text, text)?;
-        Ok(())
     }
 }
 
 fn set_names(alloc: Global, text: &str, to: &mut Vec<Name>) -> Result<(), Trouble> {
-    *to = names(alloc, text)?;
-    Ok(())
+    set(to, gathered(alloc, Vec::new(alloc), ' ', text))
 }

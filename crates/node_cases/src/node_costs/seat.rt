@@ -34,16 +34,25 @@ impl Seat {
         }
     }
 
-    /// Gives the command.
+    /// Gives the command; an error where the node refuses it.
     pub fn give(&mut self, alloc: Global, text: &str) -> io::Result<()> {
+        match self.is_done(alloc, text) {
+            Ok(true) => Ok(()),
+            Ok(false) => Err(io::Error::other("not taken")),
+            Err(fault) => Err(fault),
+        }
+    }
+
+    /// Gives the command, and tells whether the node did what it asks.
+    pub fn is_done(&mut self, alloc: Global, text: &str) -> io::Result<bool> {
         if !self.node.is_open(self.session) {
             return Err(io::Error::other("not taken"));
         }
         let tagged = spelled(alloc, text)?;
-        taken(
-            self.node
-                .command(alloc, self.session, Moment::epoch(), tagged),
-        )
+        let reply = self
+            .node
+            .command(alloc, self.session, Moment::epoch(), tagged);
+        Ok(did(reply))
     }
 
     /// The nanoseconds that the command takes.
@@ -102,11 +111,20 @@ fn seated(node: Node) -> io::Result<Seat> {
     }
 }
 
-/// Whether a node did it.
+/// An error where a node refused it.
 fn taken(reply: Reply) -> io::Result<()> {
+    if did(reply) {
+        Ok(())
+    } else {
+        Err(io::Error::other("not taken"))
+    }
+}
+
+/// Whether a node did what was asked.
+fn did(reply: Reply) -> bool {
     match reply {
-        Reply::Done { .. } => Ok(()),
-        Reply::Refused { .. } => Err(io::Error::other("not taken")),
+        Reply::Done { .. } => true,
+        Reply::Refused { .. } => false,
     }
 }
 

@@ -1,111 +1,123 @@
-//! Lines of the input: what is asked in each, and where its answer goes.
+//! What is asked in each line.
 
-use crate::uids::stage::{Node, Stage, deliver, make_ready, usual};
-use crate::uids::tables::{tell_after, tell_changed, tell_folder, tell_row_of};
-use case_text::{Trouble, Words, asked, cut, number, operation, replica};
-use causal_inbox::{Arrival, DeliverFault, Delivered, IssueFault};
+ghost use Rattle.std.specs.Prelude.{◌≤◌, IfOk};
+
+use crate::fields::add_op;
+use crate::lines::{Plays, played};
+use crate::uids::stage::{Node, Stage, deliver, make_ready};
+use crate::uids::tables::{Asked, tell_of};
+use case_text::{Trouble, Words, meaning, operation, pair, parted, replica};
+use causal_inbox::{Arrival, DeliverFault, Delivered};
+use crdt_ops::SoundOp;
 use std::alloc::{AllocError, Global};
 use std::mem;
-use tags_clocks::ReplicaId;
 use uid_projection::Start;
+
+/// What the first word of a line asks.
+#[derive(Clone, Copy)]
+enum Word {
+    /// Nothing: the line is a comment or a title.
+    Nothing,
+    /// `node R U K`: begins a case.
+    Begin,
+    /// `apply LINE`: delivers an operation.
+    Apply,
+    /// `next LINE`: adds an operation that comes next, behind the others.
+    Next,
+    /// `ready`: whether each of the operations that come next has the numbers that it needs.
+    Ready,
+    /// Asks of a folder.
+    Of(Asked),
+}
+
+const WORDS: &[(&str, Word)] = &[
+    ("", Word::Nothing),
+    ("#", Word::Nothing),
+    ("==", Word::Nothing),
+    ("node", Word::Begin),
+    ("apply", Word::Apply),
+    ("next", Word::Next),
+    ("ready", Word::Ready),
+    ("folder", Word::Of(Asked::Folder)),
+    ("after", Word::Of(Asked::After)),
+    ("row", Word::Of(Asked::Row)),
+    ("changed", Word::Of(Asked::Changed)),
+];
 
 /// Plays the lines of a text, and tells each with its answer in place of the one that stands there. An error says that there is no memory.
 pub fn play(alloc: Global, text: &str) -> Result<Vec<u8>, AllocError> {
-    let Some(replica) = ReplicaId::new(1) else {
-        return Ok(Vec::new(alloc));
-    };
-    let mut stage = Stage::new(alloc, usual(replica))?;
-    let mut page = Words::new(alloc);
-    for line in text.split_terminator('\n') {
-        page.put_result(serve(alloc, &mut stage, line));
+    match start("1 1 1") {
+        Ok(start) => play_from(alloc, start, text),
+        Err(_) => Ok(Vec::new(alloc)),
     }
-    drop(stage);
-    page.finish()
 }
 
-/// What a line makes the page tell: the line with its answer in place of the one that stands there.
-fn serve(alloc: Global, stage: &mut Stage, line: &str) -> Result<Vec<u8>, AllocError> {
-    let mut answer = Words::new(alloc);
-    if !line.starts_with("  ") {
-        serve_line(stage, line, &mut answer);
+fn play_from(alloc: Global, start: Start, text: &str) -> Result<Vec<u8>, AllocError>
+    requires { 1 ≤ start.uid }
+{
+    match Stage::new(alloc, start) {
+        Ok(stage) => played(alloc, stage, text),
+        Err(AllocError) => Err(AllocError),
     }
-    answer.finish()
-}
-
-fn serve_line(stage: &mut Stage, line: &str, answer: &mut Words) {
-    let asked = asked(line);
-    answer.put(asked);
-    if let Err(trouble) = obey(stage, asked, answer) {
-        answer.put_trouble(" ", trouble);
-    }
-    answer.put("\n");
 }
 
 /// Passes over comments and titles, begins a case, takes an operation, or answers what is asked.
-fn obey(stage: &mut Stage, asked: &str, answer: &mut Words) -> Result<(), Trouble> {
-    let (word, fields) = asked.split_once(' ').unwrap_or((asked, ""));
-    match word {
-        "" | "#" | "==" => Ok(()),
-        "node" => restart(stage, answer.alloc(), fields),
-        "apply" => apply(&mut stage.inbox, fields, answer),
-        "next" => add(stage, fields, answer.alloc()),
-        _ => answer_word(stage, word, fields, answer),
-    }
-}
-
-fn answer_word(
-    stage: &mut Stage,
-    word: &str,
-    fields: &str,
-    answer: &mut Words,
-) -> Result<(), Trouble> {
-    answer.put(" =>");
-    match word {
-        "ready" => {
-            tell_ready(stage, answer);
-            Ok(())
+impl Plays for Stage {
+    fn obey(&mut self, asked: &str, answer: &mut Words) {
+        let (word, fields) = parted(asked, " ");
+        match meaning(WORDS, word) {
+            Some(Word::Nothing) => {}
+            Some(Word::Begin) => begin(self, fields, answer),
+            Some(Word::Apply) => apply(&mut self.inbox, fields, answer),
+            Some(Word::Next) => take_next(self, fields, answer),
+            Some(Word::Ready) => tell_ready(self, answer),
+            Some(Word::Of(asked)) => tell_of(self, asked, fields, answer),
+            None => answer.put_trouble(" => ", Trouble::NotACase),
         }
-        "folder" => tell_folder(&stage.inbox, fields, answer),
-        "after" => tell_after(stage, fields, answer),
-        "row" => tell_row_of(&stage.inbox, fields, answer),
-        "changed" => tell_changed(&stage.inbox, fields, answer),
-        _ => Err(Trouble::NotACase),
     }
 }
 
 /// `node R U K`: begins a case: replica R has received nothing, INBOX's first UID is U, and K the first k.
-fn restart(stage: &mut Stage, alloc: Global, fields: &str) -> Result<(), Trouble> {
-    let start = start(fields)?;
-    if start.uid == 0 {
-        return Err(Trouble::NotACase);
-    }
-    match Stage::new(alloc, start) {
-        Ok(fresh) => {
-            drop(mem::replace(stage, fresh));
-            Ok(())
-        }
-        Err(AllocError) => Err(Trouble::NoMemory),
+fn begin(stage: &mut Stage, fields: &str, answer: &mut Words) {
+    match start(fields) {
+        Ok(start) => restart(stage, start, answer),
+        Err(trouble) => answer.put_trouble(" ", trouble),
     }
 }
 
-fn start(fields: &str) -> Result<Start, Trouble> {
-    let (own, counters) = cut(fields)?;
-    let (uid, k) = cut(counters)?;
-    Ok(Start {
-        replica: replica(own)?,
-        uid: number(uid)?,
-        k: number(k)?,
-    })
+fn restart(stage: &mut Stage, start: Start, answer: &mut Words)
+    requires { 1 ≤ start.uid }
+{
+    match Stage::new(answer.alloc(), start) {
+        Ok(fresh) => drop(mem::replace(stage, fresh)),
+        Err(AllocError) => answer.give_up(),
+    }
+}
+
+fn start(fields: &str) -> Result<Start, Trouble>
+    ensures { IfOk result (λ start. 1 ≤ start.uid) }
+{
+    let (own, counters) = parted(fields, " ");
+    let replica = replica(own)?;
+    match pair(" ", counters)? {
+        (0, _) => Err(Trouble::NotACase),
+        (uid, k) => Ok(Start { replica, uid, k }),
+    }
 }
 
 /// `apply LINE`: delivers an operation; answers where that doesn't apply it alone.
-fn apply(inbox: &mut Node, line: &str, answer: &mut Words) -> Result<(), Trouble> {
-    let op = operation(answer.alloc(), line)?;
+fn apply(inbox: &mut Node, line: &str, answer: &mut Words) {
+    match operation(answer.alloc(), line) {
+        Ok(op) => tell_delivery(inbox, op, answer),
+        Err(trouble) => answer.put_trouble(" ", trouble),
+    }
+}
+
+fn tell_delivery(inbox: &mut Node, op: SoundOp, answer: &mut Words) {
     match deliver(answer.alloc(), inbox, op) {
         Ok(delivered) => tell_arrival(delivered, answer),
         Err(fault) => tell_fault(fault, answer),
     }
-    Ok(())
 }
 
 fn tell_arrival(delivered: Delivered, answer: &mut Words) {
@@ -118,26 +130,23 @@ fn tell_arrival(delivered: Delivered, answer: &mut Words) {
 }
 
 fn tell_fault(fault: DeliverFault, answer: &mut Words) {
-    answer.put(match fault {
-        DeliverFault::Conflict { .. } => " => Conflict",
-        DeliverFault::HeldFull => " => HeldFull",
-        DeliverFault::Exhausted => " => Exhausted",
-        DeliverFault::NoMemory => " => NoMemory",
-    });
+    match fault {
+        DeliverFault::Conflict { .. } => answer.put(" => Conflict"),
+        other => answer.put_name(" => ", &other),
+    }
 }
 
 /// `next LINE`: adds an operation that comes next, behind the others.
-fn add(stage: &mut Stage, line: &str, alloc: Global) -> Result<(), Trouble> {
-    stage.next.reserve(1)?;
-    stage.next.push_reserved(operation(alloc, line)?);
-    Ok(())
+fn take_next(stage: &mut Stage, line: &str, answer: &mut Words) {
+    if let Err(trouble) = add_op(answer.alloc(), &mut stage.next, line) {
+        answer.put_trouble(" ", trouble);
+    }
 }
 
 /// `ready`: whether each of the operations that come next has the numbers that it needs.
 fn tell_ready(stage: &mut Stage, answer: &mut Words) {
     match make_ready(answer.alloc(), &mut stage.inbox, &stage.next) {
-        Ok(()) => answer.put(" yes"),
-        Err(IssueFault::Exhausted) => answer.put(" Exhausted"),
-        Err(IssueFault::NoMemory) => answer.put(" NoMemory"),
+        Ok(()) => answer.put(" => yes"),
+        Err(fault) => answer.put_name(" => ", &fault),
     }
 }

@@ -1,26 +1,20 @@
 //! What a case works on.
 
 ghost use Rattle.std.specs.Prelude.{◌≡◌, ◌≤◌, IfOk};
-ghost use Rattle.folder_state.specs.Contents.{IsMadeBy, no_contents};
+ghost use Rattle.folder_state.specs.Contents.{IsMadeBy};
 ghost use Rattle.folder_state.specs.Tables.{contents_of};
-ghost use Rattle.subs_state.specs.Subscriptions.{no_subscriptions};
-ghost use Rattle.subs_state.specs.Table.{subscriptions_of};
 ghost use Rattle.uid_projection.specs.Following.{Follows};
 ghost use Rattle.uid_projection.specs.Listing.{listing};
 
+use crate::stage::{Mailboxes, empty};
 use causal_inbox::{DeliverFault, Delivered, Inbox, IssueFault};
 use crdt_ops::SoundOp;
 use folder_state::Folders;
 use imap_types::Name;
 use mail_listing::Rows;
-use merge_laws::{OnFirst, Pair};
+use merge_laws::OnFirst;
 use std::alloc::{AllocError, Global};
-use subs_state::Subs;
-use tags_clocks::ReplicaId;
 use uid_projection::{Charts, Start};
-
-/// Folders and subscriptions.
-pub type Mailboxes = Pair<Folders, Subs>;
 
 /// A replica's inbox, whose charts follow its folders.
 pub type Node = Inbox<Mailboxes, OnFirst<Charts>>;
@@ -46,28 +40,6 @@ impl Stage {
             }),
             Err(AllocError) => Err(AllocError),
         }
-    }
-}
-
-/// The counters of this replica, from 1 on.
-pub fn usual(replica: ReplicaId) -> Start
-    ensures { result ≡ record { replica = replica; uid = 1; k = 1 } }
-{
-    Start {
-        replica,
-        uid: 1,
-        k: 1,
-    }
-}
-
-/// Folders and subscriptions, with nothing in them.
-fn empty(alloc: Global) -> Mailboxes
-    ensures folders { contents_of result.first ≡ no_contents }
-    ensures subs { subscriptions_of result.second ≡ no_subscriptions }
-{
-    Pair {
-        first: Folders::new(alloc),
-        second: Subs::new(alloc),
     }
 }
 

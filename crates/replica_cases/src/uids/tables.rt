@@ -1,18 +1,69 @@
 //! What the charts tell of a folder.
 
 use crate::uids::stage::{Node, Stage, charts, folders, listing};
-use case_text::{Trouble, Words, cut, long_number, name, number};
+use case_text::{Words, long_number, name, number, parted};
 use imap_types::Name;
 use mail_listing::{Row, Rows};
 use modseq_index::{changed_since, highest};
 use std::alloc::AllocError;
 
-/// `folder NAME`: the folder's UIDVALIDITY, UIDNEXT and HIGHESTMODSEQ, and its messages.
-pub fn tell_folder(inbox: &Node, fields: &str, answer: &mut Words) -> Result<(), Trouble> {
-    let name = name(answer.alloc(), fields)?;
-    tell_numbers_now(inbox, &name, answer);
-    tell_listing(inbox, &name, answer);
-    Ok(())
+/// What is asked of a folder.
+#[derive(Clone, Copy)]
+pub enum Asked {
+    /// `folder NAME`: its UIDVALIDITY, UIDNEXT and HIGHESTMODSEQ, and its messages.
+    Folder,
+    /// `after NAME`: the same, as the operations that come next would leave them.
+    After,
+    /// `row NAME UID`: the message with the UID, and when it was received.
+    Row,
+    /// `changed NAME MODSEQ`: the messages that changed since the mod-sequence.
+    Changed,
+}
+
+/// Answers what is asked of the folder that is named.
+pub fn tell_of(stage: &Stage, asked: Asked, fields: &str, answer: &mut Words) {
+    answer.put(" =>");
+    let (folder, number) = match asked {
+        Asked::Folder | Asked::After => (fields, ""),
+        Asked::Row | Asked::Changed => parted(fields, " "),
+    };
+    match name(answer.alloc(), folder) {
+        Ok(name) => tell_asked(stage, asked, &name, number, answer),
+        Err(trouble) => answer.put_trouble(" ", trouble),
+    }
+}
+
+fn tell_asked(stage: &Stage, asked: Asked, name: &Name, number: &str, answer: &mut Words) {
+    match asked {
+        Asked::Folder => tell_folder(&stage.inbox, name, answer),
+        Asked::After => tell_after(stage, name, answer),
+        Asked::Row => tell_row_of(&stage.inbox, name, number, answer),
+        Asked::Changed => tell_changed(&stage.inbox, name, number, answer),
+    }
+}
+
+fn tell_folder(inbox: &Node, name: &Name, answer: &mut Words) {
+    tell_numbers_now(inbox, name, answer);
+    tell_listing(listing(answer.alloc(), inbox, name), answer);
+}
+
+fn tell_after(stage: &Stage, name: &Name, answer: &mut Words) {
+    tell_numbers_after(stage, name, answer);
+    tell_listing_after(stage, name, answer);
+}
+
+fn tell_row_of(inbox: &Node, name: &Name, uid: &str, answer: &mut Words) {
+    match number(uid) {
+        Ok(uid) => tell_row_with(inbox, name, uid, answer),
+        Err(trouble) => answer.put_trouble(" ", trouble),
+    }
+}
+
+fn tell_changed(inbox: &Node, name: &Name, modseq: &str, answer: &mut Words) {
+    match long_number(modseq) {
+        Ok(modseq) => tell_changes(inbox, name, modseq, answer),
+        Err(trouble) => answer.put_trouble(" ", trouble),
+    }
 }
 
 fn tell_numbers_now(inbox: &Node, name: &Name, answer: &mut Words) {
@@ -25,19 +76,14 @@ fn tell_numbers_now(inbox: &Node, name: &Name, answer: &mut Words) {
     );
 }
 
-fn tell_listing(inbox: &Node, name: &Name, answer: &mut Words) {
-    match listing(answer.alloc(), inbox, name) {
-        Ok(rows) => tell_rows(&rows, answer),
+fn tell_listing(listing: Result<Rows<'_>, AllocError>, answer: &mut Words) {
+    match listing {
+        Ok(rows) => {
+            tell_rows(&rows, answer);
+            drop(rows);
+        }
         Err(AllocError) => answer.give_up(),
     }
-}
-
-/// `after NAME`: the same, as the operations that come next would leave them.
-pub fn tell_after(stage: &Stage, fields: &str, answer: &mut Words) -> Result<(), Trouble> {
-    let name = name(answer.alloc(), fields)?;
-    tell_numbers_after(stage, &name, answer);
-    tell_listing_after(stage, &name, answer);
-    Ok(())
 }
 
 fn tell_numbers_after(stage: &Stage, name: &Name, answer: &mut Words) {
@@ -53,18 +99,8 @@ fn tell_numbers_after(stage: &Stage, name: &Name, answer: &mut Words) {
 
 fn tell_listing_after(stage: &Stage, name: &Name, answer: &mut Words) {
     let folders = folders(&stage.inbox);
-    match charts(&stage.inbox).rows_after(answer.alloc(), folders, name, &stage.next) {
-        Ok(rows) => tell_rows(&rows, answer),
-        Err(AllocError) => answer.give_up(),
-    }
-}
-
-/// `row NAME UID`: the message with the UID, and when it was received.
-pub fn tell_row_of(inbox: &Node, fields: &str, answer: &mut Words) -> Result<(), Trouble> {
-    let (folder, uid) = cut(fields)?;
-    let name = name(answer.alloc(), folder)?;
-    tell_row_with(inbox, &name, number(uid)?, answer);
-    Ok(())
+    let listing = charts(&stage.inbox).rows_after(answer.alloc(), folders, name, &stage.next);
+    tell_listing(listing, answer);
 }
 
 fn tell_row_with(inbox: &Node, name: &Name, uid: u32, answer: &mut Words) {
@@ -80,19 +116,10 @@ fn tell_dated(row: &Row<'_>, answer: &mut Words) {
     tell_row(row, answer);
 }
 
-/// `changed NAME MODSEQ`: the messages that changed since the mod-sequence.
-pub fn tell_changed(inbox: &Node, fields: &str, answer: &mut Words) -> Result<(), Trouble> {
-    let (folder, modseq) = cut(fields)?;
-    let name = name(answer.alloc(), folder)?;
-    tell_changes(inbox, &name, long_number(modseq)?, answer);
-    Ok(())
-}
-
 fn tell_changes(inbox: &Node, name: &Name, modseq: u64, answer: &mut Words) {
-    match changed_since(charts(inbox), answer.alloc(), folders(inbox), name, modseq) {
-        Ok(rows) => tell_rows(&rows, answer),
-        Err(AllocError) => answer.give_up(),
-    }
+    let charts = charts(inbox);
+    let changed = changed_since(charts, answer.alloc(), folders(inbox), name, modseq);
+    tell_listing(changed, answer);
 }
 
 fn tell_numbers(uidvalidity: Option<u32>, uidnext: u32, highest: u64, answer: &mut Words) {

@@ -1,7 +1,7 @@
 use Rattle.std.proofs.Common.{rules, not}
 use Rattle.std.proofs.lemmas.Fn.{filter_same}
 use Rattle.crdt_ops.specs.Order.{same_id}
-use Rattle.message_versions.specs.declared.version.Version.{Version}
+use Rattle.imap_types.specs.declared.version.Version.{Version}
 use Rattle.folder_state.proofs.forgetting.forget_version.Goals as goal
 
 pub returns-clause-items : goal.returns-clause-items

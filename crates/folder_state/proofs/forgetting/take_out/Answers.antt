@@ -1,6 +1,6 @@
 use Rattle.std.proofs.Common.{◌≡◌, Option, None, Some, ap, sym, ◌∙◌}
 use Rattle.std.specs.Global.{Vec}
-use Rattle.message_versions.specs.declared.version.Version.{Version}
+use Rattle.imap_types.specs.declared.version.Version.{Version}
 use Rattle.folder_state.specs.Kept.{listed}
 use Rattle.folder_state.proofs.Lenses.{same_turned}
 use Rattle.folder_state.proofs.forgetting.take_out.Goals as goal

@@ -3,7 +3,7 @@ use Rattle.std.specs.Global.{Vec}
 use Rattle.std.specs.Map.{lookup}
 use Rattle.std.specs.Vec.{vec_capacity}
 use Rattle.std.proofs.lemmas.Bool.{false≢true}
-use Rattle.message_versions.specs.declared.version.Version.{Version}
+use Rattle.imap_types.specs.declared.version.Version.{Version}
 use Rattle.crdt_ops.specs.Order.{same_id}
 use Rattle.folder_state.specs.Kept.{listed, versions_at, without}
 use Rattle.folder_state.proofs.Filed.{none_left, some_left}

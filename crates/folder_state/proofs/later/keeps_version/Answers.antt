@@ -3,7 +3,7 @@ use Rattle.std.specs.Option.{option_copied, option_map}
 use Rattle.tags_clocks.specs.declared.id.OpId.{OpId}
 use Rattle.merge_laws.specs.Orders.{IsIn}
 use Rattle.crdt_ops.specs.Sets.{Body}
-use Rattle.message_versions.specs.Unions.{version_ids}
+use Rattle.imap_types.specs.Unions.{version_ids}
 use Rattle.folder_state.specs.Kept.{Kept, body_in_folder, versions_in}
 use Rattle.folder_state.proofs.Filed.{versions_by}
 use Rattle.folder_state.proofs.later.keeps_version.Goals as goal

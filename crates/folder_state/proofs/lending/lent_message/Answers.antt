@@ -1,7 +1,7 @@
 use Rattle.std.proofs.Common.{◌∙◌, ap, sym}
 use Rattle.std.specs.Option.{option_copied, option_map}
 use Rattle.crdt_ops.specs.Sets.{Body}
-use Rattle.message_versions.specs.Unions.{united, version_ids}
+use Rattle.imap_types.specs.Unions.{united, version_ids}
 use Rattle.folder_state.specs.Kept.{folder_contents}
 use Rattle.folder_state.specs.Telling.{lent, letter_told}
 use Rattle.folder_state.proofs.VersionLemmas.{some_lent}

@@ -1,5 +1,5 @@
 use Rattle.std.proofs.Common.{◌≡◌, ◌++◌, drop}
-use Rattle.message_versions.specs.Unions.{version_ids}
+use Rattle.imap_types.specs.Unions.{version_ids}
 use Rattle.folder_state.proofs.lists.ids_of.Given as goal
 
 abbrev pub invariant-loop-version : goal.invariant-loop-version

@@ -1,6 +1,6 @@
 use Rattle.std.proofs.Common.{◌∙◌, ap, sym, subst}
 use Rattle.crdt_ops.specs.Order.{IsAscending, id_order}
-use Rattle.message_versions.specs.Unions.{united, version_ids}
+use Rattle.imap_types.specs.Unions.{united, version_ids}
 use Rattle.folder_state.proofs.reading.message.Goals as goal
 
 pub ids_of-requires : goal.ids_of-requires

@@ -1,6 +1,6 @@
 use Rattle.std.proofs.Common.{◌++◌, List, drop}
 use Rattle.std.specs.Global.{Vec}
-use Rattle.message_versions.specs.declared.version.Version.{Version}
+use Rattle.imap_types.specs.declared.version.Version.{Version}
 use Rattle.folder_state.specs.Rooms.{HaveLists}
 use Rattle.folder_state.proofs.rooms.empty_lists.Given as goal
 

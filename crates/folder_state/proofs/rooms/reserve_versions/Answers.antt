@@ -4,7 +4,7 @@ use Rattle.std.specs.Map.{lookup}
 use Rattle.std.specs.Vec.{vec_capacity}
 use Rattle.indexmap.specs.IndexMap.{spare}
 use Rattle.crdt_ops.specs.Order.{same_id}
-use Rattle.message_versions.specs.declared.version.Version.{Version}
+use Rattle.imap_types.specs.declared.version.Version.{Version}
 use Rattle.folder_state.specs.Rooms.{AreRoomierLists}
 use Rattle.folder_state.proofs.Counting.{on_ok_by}
 use Rattle.folder_state.proofs.Lenses.{same_turned, some_is}

@@ -1,143 +1,148 @@
-//! The lines of cases.
+//! What a view answers.
 
-use crate::queries::views::reading::{Message, messages_in, rows_of, set_in, view_in};
+use crate::queries::messages::{Message, rows_of};
+use crate::queries::views::reading::{messages_in, set_in, view_in};
 use crate::queries::views::writing::{put_answers, put_entries, put_numbers};
-use case_text::{Trouble, Words};
+use case_text::{Trouble, Words, meaning, parted};
 use imap_answers::Answer;
-use imap_types::DateTime;
 use mail_listing::Rows;
-use session_view::{BadSet, Silent, SyncForm, SyncKind, View, replayed};
+use session_view::{BadSet, SyncForm, SyncKind, View, replayed};
 use std::alloc::{AllocError, Global};
 
-/// Plays the lines of a text, and tells each with what the code answers now. An error says that there is no memory.
-pub fn play(alloc: Global, text: &str) -> Result<Vec<u8>, AllocError> {
-    let mut page = Words::new(alloc);
-    for line in text.split_terminator('\n') {
-        page.put_result(answered(alloc, line));
+/// The words for syncs.
+const FORMS: &[(&str, SyncForm)] = &[
+    (
+        "full",
+        SyncForm {
+            kind: SyncKind::Full,
+            modseq: false,
+        },
+    ),
+    (
+        "full-modseq",
+        SyncForm {
+            kind: SyncKind::Full,
+            modseq: true,
+        },
+    ),
+    (
+        "partial",
+        SyncForm {
+            kind: SyncKind::Partial,
+            modseq: false,
+        },
+    ),
+    (
+        "partial-modseq",
+        SyncForm {
+            kind: SyncKind::Partial,
+            modseq: true,
+        },
+    ),
+];
+
+/// `WHICH VIEW OTHER`: what the code answers.
+pub fn put_view(alloc: Global, words: &mut Words, kind: &str, input: &str) {
+    let (which, rest) = parted(input, " ");
+    let (view, other) = parted(rest, " ");
+    match view_in(alloc, view) {
+        Ok(view) => {
+            put_of_view(alloc, words, &view, kind, which, other);
+            drop(view);
+        }
+        Err(trouble) => words.put_trouble("", trouble),
     }
-    page.finish()
 }
 
-/// The line with its LF. In a case, `KIND INPUT => ANSWER`, the answer is what the code answers now; comments, which begin with
-/// `#`, and empty lines are as they were.
-fn answered(alloc: Global, line: &str) -> Result<Vec<u8>, AllocError> {
-    let mut words = Words::new(alloc);
-    if line.is_empty() || line.starts_with('#') {
-        words.put(line);
-    } else {
-        put_case(alloc, &mut words, line);
-    }
-    words.put("\n");
-    words.finish()
-}
-
-fn put_case(alloc: Global, words: &mut Words, line: &str) {
-    let (case, _) = line.split_once(" => ").unwrap_or((line, ""));
-    words.put(case);
-    words.put(" => ");
-    if let Err(trouble) = put_answer(alloc, words, case) {
-        words.put_trouble("", trouble);
-    }
-}
-
-/// `KIND WHICH VIEW OTHER`.
-fn put_answer(alloc: Global, words: &mut Words, case: &str) -> Result<(), Trouble> {
-    let (kind, input) = cut(case);
-    let (which, rest) = cut(input);
-    let (view, other) = cut(rest);
-    match kind {
-        "resolve" => put_resolved(alloc, words, view, other, which == "uid"),
-        "sync" => put_sync(alloc, words, view, other, sync_in(which)?),
-        _ => Err(Trouble::NotACase),
-    }
-}
-
-/// The first field, and what follows behind a space.
-fn cut(text: &str) -> (&str, &str) {
-    text.split_once(' ').unwrap_or((text, ""))
-}
-
-fn sync_in(word: &str) -> Result<SyncForm, Trouble> {
-    let (kind, modseq) = match word {
-        "full" => (SyncKind::Full, false),
-        "full-modseq" => (SyncKind::Full, true),
-        "partial" => (SyncKind::Partial, false),
-        "partial-modseq" => (SyncKind::Partial, true),
-        _ => return Err(Trouble::NotACase),
-    };
-    Ok(SyncForm { kind, modseq })
-}
-
-fn put_resolved(
-    alloc: Global,
-    words: &mut Words,
-    view: &str,
-    set: &str,
-    by_uid: bool,
-) -> Result<(), Trouble> {
-    let view = view_in(alloc, view)?;
-    let done = put_resolved_in(alloc, words, &view, set, by_uid);
-    drop(view);
-    done
-}
-
-fn put_resolved_in(
+fn put_of_view(
     alloc: Global,
     words: &mut Words,
     view: &View,
-    set: &str,
-    by_uid: bool,
-) -> Result<(), Trouble> {
-    let set = set_in(alloc, set)?;
-    match view.resolve(alloc, &set, by_uid) {
-        Ok(numbers) => {
-            put_numbers(words, &numbers);
-            Ok(())
-        }
-        Err(BadSet::OutOfRange) => Err(Trouble::OutOfRange),
-        Err(BadSet::NoMemory) => Err(Trouble::NoMemory),
+    kind: &str,
+    which: &str,
+    other: &str,
+) {
+    match kind {
+        "resolve" => put_resolved(alloc, words, view, other, which == "uid"),
+        "sync" => put_sync(alloc, words, view, other, meaning(FORMS, which)),
+        _ => words.put_trouble("", Trouble::NotACase),
     }
 }
 
-fn put_sync(
-    alloc: Global,
-    words: &mut Words,
-    view: &str,
-    listing: &str,
-    form: SyncForm,
-) -> Result<(), Trouble> {
-    let view = view_in(alloc, view)?;
-    let messages = messages_in(alloc, listing)?;
-    put_listed(alloc, words, &view, &messages, form)
+fn put_resolved(alloc: Global, words: &mut Words, view: &View, set: &str, by_uid: bool) {
+    match set_in(alloc, set) {
+        Ok(set) => put_named(words, view.resolve(alloc, &set, by_uid)),
+        Err(trouble) => words.put_trouble("", trouble),
+    }
 }
 
-fn put_listed(
+fn put_named(words: &mut Words, numbers: Result<Vec<u32>, BadSet>) {
+    match numbers {
+        Ok(numbers) => put_numbers(words, &numbers),
+        Err(BadSet::OutOfRange) => words.put_trouble("", Trouble::OutOfRange),
+        Err(BadSet::NoMemory) => words.give_up(),
+    }
+}
+
+fn put_sync(alloc: Global, words: &mut Words, view: &View, listing: &str, form: Option<SyncForm>) {
+    match form {
+        Some(form) => put_listed(alloc, words, view, listing, form),
+        None => words.put_trouble("", Trouble::NotACase),
+    }
+}
+
+fn put_listed(alloc: Global, words: &mut Words, view: &View, listing: &str, form: SyncForm) {
+    match messages_in(alloc, listing) {
+        Ok(messages) => put_of_messages(alloc, words, view, &messages, form),
+        Err(trouble) => words.put_trouble("", trouble),
+    }
+}
+
+fn put_of_messages(
     alloc: Global,
     words: &mut Words,
     view: &View,
     messages: &[Message],
     form: SyncForm,
-) -> Result<(), Trouble> {
-    let date = DateTime::epoch();
-    let rows = rows_of(alloc, messages, &date)?;
-    put_synced(alloc, words, view, &rows, form)
+) {
+    match rows_of(alloc, messages, false) {
+        Ok(rows) => {
+            put_synced(alloc, words, view, &rows, form);
+            drop(rows);
+        }
+        Err(trouble) => words.put_trouble("", trouble),
+    }
 }
 
 /// What a sync answers, the view behind it, and what a replay of the answers makes of the view before it.
-fn put_synced(
+fn put_synced(alloc: Global, words: &mut Words, view: &View, rows: &Rows<'_>, form: SyncForm) {
+    match view.copy(alloc) {
+        Ok(mut after) => {
+            put_after(alloc, words, view, &mut after, rows, form);
+            drop(after);
+        }
+        Err(AllocError) => words.give_up(),
+    }
+}
+
+fn put_after(
     alloc: Global,
     words: &mut Words,
     view: &View,
+    after: &mut View,
     rows: &Rows<'_>,
     form: SyncForm,
-) -> Result<(), Trouble> {
-    let mut after = view.copy(alloc)?;
-    let answers = after.sync(alloc, rows, form)?;
-    put_answers(words, &answers);
-    words.put(" => ");
-    put_entries(words, after.entries());
-    drop(after);
-    put_replayed(alloc, words, view, rows, &answers)
+) {
+    match after.sync(alloc, rows, form) {
+        Ok(answers) => {
+            put_answers(words, &answers);
+            words.put(" => ");
+            put_entries(words, after.entries());
+            put_replayed(alloc, words, view, rows, &answers);
+            drop(answers);
+        }
+        Err(AllocError) => words.give_up(),
+    }
 }
 
 fn put_replayed(
@@ -146,10 +151,13 @@ fn put_replayed(
     view: &View,
     rows: &Rows<'_>,
     answers: &[Answer],
-) -> Result<(), Trouble> {
-    let silents: Vec<Silent> = Vec::new(alloc);
-    let replayed = replayed(alloc, rows, view.entries(), &silents, answers)?;
-    words.put(" => ");
-    put_entries(words, &replayed);
-    Ok(())
+) {
+    match replayed(alloc, rows, view.entries(), &[], answers) {
+        Ok(replayed) => {
+            words.put(" => ");
+            put_entries(words, &replayed);
+            drop(replayed);
+        }
+        Err(AllocError) => words.give_up(),
+    }
 }

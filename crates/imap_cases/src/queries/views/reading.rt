@@ -1,25 +1,19 @@
 //! Views, listings and sets, from text.
 
+use crate::queries::fields::{Gathers, add, gathered, take_each};
+use crate::queries::messages::{Message, standing_with};
 use case_text::{Trouble, long_number, number};
 use chunk_list::ChunkList;
 use imap_types::{DateTime, Flags, Name, SequenceBound, SequenceRange, SequenceSet};
-use mail_listing::{HeldRow, HeldVersions, Rows};
-use message_versions::{Version, Versions};
 use session_view::{Entries, Entry, View, are_rising};
 use std::alloc::Global;
-use tags_clocks::{OpId, ReplicaId};
-
-/// A message of a listing.
-#[derive(Drop)]
-pub struct Message {
-    uid: u32,
-    modseq: u64,
-    versions: Vec<Version>,
-}
 
 /// A view of INBOX, whose UIDs ascend.
 pub fn view_in(alloc: Global, text: &str) -> Result<View, Trouble> {
-    view_of(alloc, entries_in(alloc, text)?)
+    match gathered(alloc, ChunkList::new(alloc), ',', text) {
+        Ok(entries) => view_of(alloc, entries),
+        Err(trouble) => Err(trouble),
+    }
 }
 
 fn view_of(alloc: Global, entries: Entries) -> Result<View, Trouble> {
@@ -34,20 +28,11 @@ fn view_of(alloc: Global, entries: Entries) -> Result<View, Trouble> {
     Ok(View::new(name, 1, entries))
 }
 
-fn entries_in(alloc: Global, text: &str) -> Result<Entries, Trouble> {
-    let mut entries = ChunkList::new(alloc);
-    push_entries(alloc, text, &mut entries)?;
-    Ok(entries)
-}
-
-fn push_entries(alloc: Global, text: &str, entries: &mut Entries) -> Result<(), Trouble> {
-    if text == "-" {
-        return Ok(());
+impl Gathers for Entries {
+    fn take(&mut self, alloc: Global, field: &str) -> Result<(), Trouble> {
+        self.push(alloc, entry_in(alloc, field)?)?;
+        Ok(())
     }
-    for part in text.split(',') {
-        entries.push(alloc, entry_in(alloc, part)?)?;
-    }
-    Ok(())
 }
 
 /// `UID/FLAGS`, or `UID` alone where there are none.
@@ -59,20 +44,14 @@ fn entry_in(alloc: Global, text: &str) -> Result<Entry, Trouble> {
     })
 }
 
+/// A letter for each flag, none where `-` stands.
 fn flags_in(alloc: Global, text: &str) -> Result<Flags, Trouble> {
     let mut flags = Flags::none(alloc);
-    set_flags(alloc, text, &mut flags)?;
+    let letters = if text == "-" { "" } else { text };
+    for letter in letters.as_bytes() {
+        set_flag(alloc, *letter, &mut flags)?;
+    }
     Ok(flags)
-}
-
-fn set_flags(alloc: Global, text: &str, flags: &mut Flags) -> Result<(), Trouble> {
-    if text == "-" {
-        return Ok(());
-    }
-    for letter in text.as_bytes() {
-        set_flag(alloc, *letter, flags)?;
-    }
-    Ok(())
 }
 
 /// Sets the flag of this letter.
@@ -91,19 +70,13 @@ fn set_flag(alloc: Global, letter: u8, flags: &mut Flags) -> Result<(), Trouble>
 
 /// The messages of a listing, in their order.
 pub fn messages_in(alloc: Global, text: &str) -> Result<Vec<Message>, Trouble> {
-    let mut messages = Vec::new(alloc);
-    push_messages(alloc, text, &mut messages)?;
-    Ok(messages)
+    gathered(alloc, Vec::new(alloc), ',', text)
 }
 
-fn push_messages(alloc: Global, text: &str, messages: &mut Vec<Message>) -> Result<(), Trouble> {
-    if text == "-" {
-        return Ok(());
+impl Gathers for Vec<Message> {
+    fn take(&mut self, alloc: Global, field: &str) -> Result<(), Trouble> {
+        add(self, message_in(alloc, field))
     }
-    for part in text.split(',') {
-        messages.push(message_in(alloc, part)?)?;
-    }
-    Ok(())
 }
 
 /// `UID/FLAGS@MODSEQ`.
@@ -111,73 +84,23 @@ fn message_in(alloc: Global, text: &str) -> Result<Message, Trouble> {
     let (front, modseq) = text.split_once('@').unwrap_or((text, "1"));
     let modseq = long_number(modseq)?;
     let Entry { uid, flags } = entry_in(alloc, front)?;
-    Ok(Message {
-        uid,
-        modseq,
-        versions: version_of(alloc, flags)?,
-    })
-}
-
-/// The one version of a message with these flags, under some id.
-fn version_of(alloc: Global, flags: Flags) -> Result<Vec<Version>, Trouble> {
-    let mut versions = Vec::new(alloc);
-    if let Some(id) = some_id() {
-        versions.push(Version { id, flags })?;
-    }
-    Ok(versions)
-}
-
-/// The rows of these messages, whose UIDs ascend.
-pub fn rows_of<'a>(
-    alloc: Global,
-    messages: &'a [Message],
-    date: &'a DateTime,
-) -> Result<Rows<'a>, Trouble> {
-    let mut rows = Vec::new(alloc);
-    let mut low = 1;
-    for message in messages {
-        let Some(row) = row_of(message, date) else {
-            return Err(Trouble::NotACase);
-        };
-        if u64::from(row.uid) < low {
-            return Err(Trouble::NotACase);
-        }
-        low = u64::from(row.uid) + 1;
-        if rows.push(row).is_err() {
-            return Err(Trouble::NoMemory);
-        }
-    }
-    Ok(Rows::from_ascending(rows))
-}
-
-/// The row of a message, under some id.
-fn row_of<'a>(message: &'a Message, date: &'a DateTime) -> Option<HeldRow<'a>> {
-    Some(HeldRow {
-        uid: message.uid,
-        modseq: message.modseq,
-        origin: some_id()?,
-        versions: HeldVersions::Lent(Versions::new(&message.versions)),
-        date: Some(date),
-        text: None,
-    })
-}
-
-fn some_id() -> Option<OpId> {
-    OpId::new(ReplicaId::new(1)?, 1)
+    let before = standing_with(modseq, flags)?;
+    Ok(Message::new(uid, before, DateTime::epoch(), None))
 }
 
 /// A set as a command spells it.
 pub fn set_in(alloc: Global, text: &str) -> Result<SequenceSet, Trouble> {
     let mut ranges = Vec::new(alloc);
-    push_ranges(text, &mut ranges)?;
-    Ok(SequenceSet::new(ranges))
+    match take_each(alloc, &mut ranges, ',', text) {
+        Ok(()) => Ok(SequenceSet::new(ranges)),
+        Err(trouble) => Err(trouble),
+    }
 }
 
-fn push_ranges(text: &str, ranges: &mut Vec<SequenceRange>) -> Result<(), Trouble> {
-    for part in text.split(',') {
-        ranges.push(range_in(part)?)?;
+impl Gathers for Vec<SequenceRange> {
+    fn take(&mut self, _alloc: Global, field: &str) -> Result<(), Trouble> {
+        add(self, range_in(field))
     }
-    Ok(())
 }
 
 fn range_in(text: &str) -> Result<SequenceRange, Trouble> {
@@ -190,7 +113,11 @@ fn range_in(text: &str) -> Result<SequenceRange, Trouble> {
 
 fn bound_in(text: &str) -> Result<SequenceBound, Trouble> {
     if text == "*" {
-        return Ok(SequenceBound::Greatest);
+        Ok(SequenceBound::Greatest)
+    } else {
+        match number(text) {
+            Ok(number) => Ok(SequenceBound::Number(number)),
+            Err(trouble) => Err(trouble),
+        }
     }
-    Ok(SequenceBound::Number(number(text)?))
 }

@@ -1,6 +1,6 @@
 use Rattle.std.proofs.Common.{take}
 use Rattle.merge_laws.specs.Orders.{IsIn}
-use Rattle.message_versions.specs.Unions.{version_ids}
+use Rattle.imap_types.specs.Unions.{version_ids}
 use Rattle.uid_projection.specs.Changes.{IsLeft, IsPlaced, bodies_of}
 use Rattle.uid_projection.proofs.over.place_left.Given as goal
 

@@ -1,5 +1,5 @@
 use Rattle.std.proofs.Common.{◌≡◌, true, false, ltb, ◌-◌, ◌<◌, ◌≤◌, length, get_or}
-use Rattle.entry_table.specs.declared.entry.Entry.{Entry}
+use Rattle.mail_listing.specs.declared.entry.Entry.{Entry}
 use Rattle.uid_projection.proofs.rows.first_from.Given as goal
 
 abbrev pub invariant-loop-low : goal.invariant-loop-low

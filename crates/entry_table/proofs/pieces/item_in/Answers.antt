@@ -1,9 +1,0 @@
-use Rattle.std.proofs.Common.{◌≡◌, ◌∙◌}
-use Rattle.entry_table.proofs.Editing.{got_kept, got_own}
-use Rattle.entry_table.proofs.pieces.item_in.Goals as goal
-
-pub returns-in-Kept : goal.returns-in-Kept
-returns-in-Kept g c = c.kept_item.ensures ∙ got_kept c.args.base.now.items c.args.pieces.now c.args.index c.piece_at-at.result c.index-pieces-at.result c.in-Kept.from c.requires.pieces c.piece_at-at.ensures c.index-pieces-at.is c.in-Kept.is
-
-pub returns-in-Own : goal.returns-in-Own
-returns-in-Own g c = got_own c.args.base.now.items c.args.pieces.now c.args.index c.piece_at-at.result c.index-pieces-at.result c.in-Own.item c.requires.pieces c.piece_at-at.ensures c.index-pieces-at.is c.in-Own.is

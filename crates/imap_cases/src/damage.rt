@@ -1,0 +1,78 @@
+//! Texts that are damaged.
+
+use crate::frames::is_answered;
+use crate::round_trips::is_front_printed;
+use crate::streams::is_same_in_pieces;
+use case_text::{Words, with_octet};
+use imap_lex::Limits;
+use std::alloc::{AllocError, Global};
+
+/// What must hold of a text wherever it is damaged.
+#[derive(Clone, Copy)]
+pub enum Demand {
+    /// It is a frame that is answered, and so is what stands in front of the place.
+    Answered,
+    /// It is a stream that gives the same in one piece and octet by octet.
+    SameInPieces(Limits),
+    /// Nothing is read of it, or an answer whose text is its front.
+    ReadAsPrinted,
+}
+
+/// Octets that damage a text.
+const DAMAGES: [u8; 5] = [0, 10, 32, 126, 255];
+
+/// Puts a word and the first place where a text of at most so many octets can be damaged so that it isn't as is demanded, if there is one.
+pub fn put_failing(
+    alloc: Global,
+    words: &mut Words,
+    demand: Demand,
+    longest: usize,
+    text: &[u8],
+    word: &str,
+) {
+    if text.len() <= longest {
+        let place = first_failing(alloc, words, demand, text);
+        words.put_optional(word, place);
+    }
+}
+
+/// The first place where a text can be damaged so that it isn't as is demanded.
+pub fn first_failing(alloc: Global, words: &mut Words, demand: Demand, text: &[u8]) -> Option<u64> {
+    for place in 0..text.len() {
+        let (front, _) = text.split_at(place);
+        if !holds_cut(alloc, demand, front) || !holds_at(alloc, words, demand, text, place) {
+            return Some(place as u64);
+        }
+    }
+    None
+}
+
+fn holds_cut(alloc: Global, demand: Demand, front: &[u8]) -> bool {
+    match demand {
+        Demand::Answered => is_answered(alloc, front),
+        _ => true,
+    }
+}
+
+/// Whether a text with each damage at this place is as is demanded.
+fn holds_at(alloc: Global, words: &mut Words, demand: Demand, text: &[u8], place: usize) -> bool {
+    for octet in DAMAGES {
+        match with_octet(alloc, text, place, octet) {
+            Ok(damaged) => {
+                if !holds(alloc, words, demand, &damaged) {
+                    return false;
+                }
+            }
+            Err(AllocError) => words.give_up(),
+        }
+    }
+    true
+}
+
+fn holds(alloc: Global, words: &mut Words, demand: Demand, text: &[u8]) -> bool {
+    match demand {
+        Demand::Answered => is_answered(alloc, text),
+        Demand::SameInPieces(limits) => is_same_in_pieces(alloc, words, limits, text),
+        Demand::ReadAsPrinted => is_front_printed(alloc, words, text),
+    }
+}

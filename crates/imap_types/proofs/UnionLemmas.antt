@@ -1,0 +1,119 @@
+use Rattle.std.proofs.Common.{◌≡◌, inl, inr, ℕ, ◌+◌, add-one, ◌<◌, Bool, true, false, ◌||◌, List, [], ◌∷◌, ◌++◌, length, get_or, take, map, refl, sym, ap, ◌∙◌}
+use Rattle.std.proofs.Math.Seq.{take-suc}
+use Rattle.std.proofs.lemmas.Bool.{and_parts, and_from, false≢true, or_cases, or_left, or_right}
+use Rattle.std.proofs.lemmas.Grind.{flat_map-append}
+use Rattle.std.proofs.lemmas.List.{append-nil, map-append}
+use Rattle.std.proofs.lemmas.List.Folds.{flat_map-map, list_any-append}
+use Rattle.std.proofs.lemmas.List.Sums.{fold-append}
+use Rattle.std.specs.List.{flat_map, fold, list_all, list_any}
+use Rattle.std.specs.Str.{bytes_eq}
+use Rattle.imap_types.specs.Ascending.{AreAscending}
+use Rattle.imap_types.specs.Keywords.{with_text}
+use Rattle.imap_types.specs.declared.flags.Flags.{Flags}
+use Rattle.imap_types.specs.Members.{are_within, holds}
+use Rattle.imap_types.specs.Unions.{union_of, united, with_flags}
+use Rattle.imap_types.specs.declared.version.Version.{Version}
+use Rattle.imap_types.proofs.WordLemmas.{all_by, all_held, any_folded, ascending_folded, one_ascending}
+
+-- ---- one version more
+
+or-false : (b : Bool) → (b || false) ≡ b
+or-false true = refl
+or-false false = refl
+
+any_last : (p : Flags → Bool) (fs : List Flags) (f : Flags) → list_any p (fs ++ f ∷ []) ≡ (list_any p fs || p f)
+any_last p fs f = list_any-append p fs (f ∷ []) ∙ ap (λ (b : Bool). list_any p fs || b) (or-false (p f))
+
+pub union_more : (fs : List Flags) (f : Flags) → union_of (fs ++ f ∷ []) ≡ with_flags (union_of fs) f
+union_more fs f =
+    λ j. record {
+      answered = any_last (λ (f : Flags). f.answered) fs f j;
+      flagged = any_last (λ (f : Flags). f.flagged) fs f j;
+      deleted = any_last (λ (f : Flags). f.deleted) fs f j;
+      seen = any_last (λ (f : Flags). f.seen) fs f j;
+      draft = any_last (λ (f : Flags). f.draft) fs f j;
+      keywords = (
+          ap (fold (λ done word. with_text word done) []) (flat_map-append (λ (f : Flags). f.keywords) fs (f ∷ []) ∙ ap (λ words. flat_map (λ (f : Flags). f.keywords) fs ++ words) (append-nil f.keywords))
+          ∙ fold-append (λ done word. with_text word done) [] (flat_map (λ (f : Flags). f.keywords) fs) f.keywords
+          ) j;
+    }
+
+pub united_more : (vs : List Version) (old new : Flags) (i : ℕ) (v : Version) → i < length vs → v ≡ get_or vs i v → old ≡ united (take i vs) → new ≡ with_flags old v.flags → new ≡ united (take (i + 1) vs)
+united_more vs old new i v l e o n =
+    let flags : Version → Flags = λ v. v.flags in
+    n ∙ (λ j. with_flags (o j) (flags (e j))) ∙ sym (union_more (map flags (take i vs)) (flags (get_or vs i v)))
+    ∙ ap union_of (sym (map-append flags (take i vs) (get_or vs i v ∷ [])) ∙ ap (map flags) (sym (take-suc vs i v l) ∙ ap (λ j. take j vs) (sym (add-one i))))
+
+-- ---- what one of the versions has
+
+pub any_mapped : (p : Flags → Bool) (vs : List Version) → list_any p (map (λ v. v.flags) vs) ≡ list_any (λ v. p v.flags) vs
+any_mapped p [] = refl
+any_mapped p (v ∷ vs) = ap (λ (b : Bool). p v.flags || b) (any_mapped p vs)
+
+any_flat : (p : List ℕ → Bool) (vs : List Version) → list_any p (flat_map (λ f. f.keywords) (map (λ v. v.flags) vs)) ≡ list_any (λ v. list_any p v.flags.keywords) vs
+any_flat p [] = refl
+any_flat p (v ∷ vs) =
+    list_any-append p v.flags.keywords (flat_map (λ (f : Flags). f.keywords) (map (λ (v : Version). v.flags) vs))
+    ∙ ap (λ (b : Bool). list_any p v.flags.keywords || b) (any_flat p vs)
+
+-- a keyword of the union is one of a version's
+pub any_united : (p : List ℕ → Bool) (vs : List Version) → list_any p (united vs).keywords ≡ list_any (λ (v : Version). list_any p v.flags.keywords) vs
+any_united p vs = any_folded p [] (flat_map (λ (f : Flags). f.keywords) (map (λ (v : Version). v.flags) vs)) ∙ any_flat p vs
+
+ascending_united : (vs : List Version) → AreAscending (united vs).keywords
+ascending_united vs = ascending_folded [] (flat_map (λ (f : Flags). f.keywords) (map (λ (v : Version). v.flags) vs)) tt
+
+-- ---- the tests by which keywords are those of the union
+
+-- whether a version has the word
+abbrev pub one_holds : List Version → List ℕ → Bool
+one_holds vs z = list_any (λ v. holds v.flags.keywords z) vs
+
+-- whether each version's keywords are among these
+abbrev pub all_within : List Version → List (List ℕ) → Bool
+all_within vs words = list_all (λ v. are_within v.flags.keywords words) vs
+
+within_each : (vs : List Version) (words : List (List ℕ)) (z : List ℕ) → all_within vs words ≡ true → one_holds vs z ≡ true → holds words z ≡ true
+within_each [] words z h i = absurd (false≢true i)
+within_each (v ∷ vs) words z h i =
+    let both = and_parts (are_within v.flags.keywords words) (all_within vs words) h in
+    elim (or_cases (holds v.flags.keywords z) (one_holds vs z) i) [
+      | inl e ↦ all_held (holds words) v.flags.keywords z both.0 e
+      | inr t ↦ within_each vs words z both.1 t
+    ]
+
+each_within : (vs : List Version) (words : List (List ℕ)) → ((z : List ℕ) → one_holds vs z ≡ true → holds words z ≡ true) → all_within vs words ≡ true
+each_within [] words f = refl
+each_within (v ∷ vs) words f =
+    and_from (are_within v.flags.keywords words) (all_within vs words)
+    (all_by (holds words) v.flags.keywords (λ z i. f z (or_left (holds v.flags.keywords z) (one_holds vs z) i)))
+    (each_within vs words (λ z i. f z (or_right (holds v.flags.keywords z) (one_holds vs z) i)))
+
+-- where both tests say so, they are the union's
+pub same_from_tests : (vs : List Version) (words : List (List ℕ)) → AreAscending words → all_within vs words ≡ true → list_all (one_holds vs) words ≡ true → (united vs).keywords ≡ words
+same_from_tests vs words a h k =
+    one_ascending (united vs).keywords words (ascending_united vs) a
+    (λ z i. within_each vs words z h (sym (any_united (bytes_eq z) vs) ∙ i))
+    (λ z i. any_united (bytes_eq z) vs ∙ all_held (one_holds vs) words z k i)
+
+-- and both say so of the union's
+pub tests_from_same : (vs : List Version) (words : List (List ℕ)) → (united vs).keywords ≡ words → (all_within vs words ≡ true) × (list_all (one_holds vs) words ≡ true)
+tests_from_same vs words e = (
+  each_within vs words (λ z i. sym (ap (λ ws. holds ws z) e) ∙ any_united (bytes_eq z) vs ∙ i),
+  all_by (one_holds vs) words (λ z i. sym (any_united (bytes_eq z) vs) ∙ ap (λ ws. holds ws z) e ∙ i),
+)
+
+-- ---- the union put to other keywords
+
+-- the keywords of all versions, one after another, put to ascending ones are the union put to them
+pub united_added : (vs : List Version) (old : List (List ℕ)) → AreAscending old
+    → fold (λ done word. with_text word done) old (flat_map (λ v. v.flags.keywords) vs) ≡ fold (λ done word. with_text word done) old (united vs).keywords
+united_added vs old a =
+    let words = flat_map (λ (v : Version). v.flags.keywords) vs in
+    let same : flat_map (λ (f : Flags). f.keywords) (map (λ (v : Version). v.flags) vs) ≡ words = flat_map-map (λ (f : Flags). f.keywords) (λ (v : Version). v.flags) vs in
+    let both : (p : List ℕ → Bool) → list_any p (fold (λ done word. with_text word done) old words) ≡ list_any p (fold (λ done word. with_text word done) old (united vs).keywords) =
+    λ p. any_folded p old words ∙ ap (λ ws. list_any p old || list_any p ws) (sym same)
+    ∙ sym (any_folded p old (united vs).keywords ∙ ap (λ (b : Bool). list_any p old || b) (any_folded p [] (flat_map (λ (f : Flags). f.keywords) (map (λ (v : Version). v.flags) vs)))) in
+    one_ascending _ _ (ascending_folded old words a) (ascending_folded old (united vs).keywords a)
+    (λ z i. sym (both (bytes_eq z)) ∙ i)
+    (λ z i. both (bytes_eq z) ∙ i)

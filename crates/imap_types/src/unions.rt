@@ -1,0 +1,97 @@
+//! The flags of several versions together.
+
+ghost use Rattle.std.specs.Prelude.{◌≡◌, ◌↔◌, IsTrue, OnOk};
+ghost use Rattle.std.specs.List.{fold, flat_map, list_all, list_any};
+ghost use Rattle.imap_types.specs.Keywords.{with_text};
+ghost use Rattle.imap_types.specs.Members.{are_within, holds};
+ghost use Rattle.imap_types.specs.Unions.{united, with_flags};
+
+use crate::flags::Flags;
+use crate::keywords::Keywords;
+use crate::octets::Octets;
+use crate::version::Version;
+use std::alloc::{AllocError, Global};
+
+/// Puts the other flags to these; `Err` where there is no memory for a keyword.
+pub fn add_flags(alloc: Global, union: &mut Flags, more: &Flags) -> Result<(), AllocError>
+    ensures { OnOk result (union.new ≡ with_flags union.old more.now) }
+{
+    add_keywords(alloc, &mut union.keywords, &more.keywords)?;
+    union.answered = union.answered || more.answered;
+    union.flagged = union.flagged || more.flagged;
+    union.deleted = union.deleted || more.deleted;
+    union.seen = union.seen || more.seen;
+    union.draft = union.draft || more.draft;
+    Ok(())
+}
+
+/// Puts the other keywords to these.
+fn add_keywords(alloc: Global, union: &mut Keywords, more: &Keywords) -> Result<(), AllocError>
+    ensures { OnOk result (union.new ≡ fold (λ done word. with_text word done) union.old more.now) }
+{
+    for word in more.as_slice() {
+        union.insert(alloc, word.as_bytes())?;
+    }
+    Ok(())
+}
+
+/// Puts the keywords of each of the versions to these.
+pub fn add_version_keywords(
+    alloc: Global,
+    union: &mut Keywords,
+    versions: &[Version],
+) -> Result<(), AllocError>
+    ensures { OnOk result (union.new ≡ fold (λ done word. with_text word done) union.old (flat_map (λ version. version.flags.keywords) versions.now)) }
+{
+    for version in versions {
+        add_keywords(alloc, union, &version.flags.keywords)?;
+    }
+    Ok(())
+}
+
+/// Whether these are just the keywords of the versions together.
+pub fn have_keywords(versions: &[Version], keywords: &Keywords) -> bool
+    ensures { IsTrue result ↔ ((united versions.now).keywords ≡ keywords.now) }
+{
+    let words = keywords.as_slice();
+    have_all_within(versions, words) && have_each(versions, words)
+}
+
+/// Whether each keyword of a version is one of these.
+fn have_all_within(versions: &[Version], words: &[Octets]) -> bool
+    ensures { result ≡ list_all (λ version. are_within version.flags.keywords words.now) versions.now }
+{
+    versions.iter().all(|version| are_within(version.flags.keywords.as_slice(), words))
+}
+
+/// Whether each of these keywords is one of a version's.
+fn have_each(versions: &[Version], words: &[Octets]) -> bool
+    ensures { result ≡ list_all (λ word. list_any (λ version. holds version.flags.keywords word) versions.now) words.now }
+{
+    words.iter().all(|word| have(versions, word))
+}
+
+/// Whether a version has this keyword.
+fn have(versions: &[Version], word: &Octets) -> bool
+    ensures { result ≡ list_any (λ version. holds version.flags.keywords word.now) versions.now }
+{
+    versions
+        .iter()
+        .any(|version| holds(version.flags.keywords.as_slice(), word))
+}
+
+/// Whether each of the words is one of the others.
+fn are_within(words: &[Octets], others: &[Octets]) -> bool
+    ensures { result ≡ are_within words.now others.now }
+{
+    words.iter().all(|word| holds(others, word))
+}
+
+/// Whether the word is one of these, octet by octet.
+fn holds(words: &[Octets], word: &Octets) -> bool
+    ensures { result ≡ holds words.now word.now }
+{
+    words
+        .iter()
+        .any(|other| word.as_bytes() == other.as_bytes())
+}

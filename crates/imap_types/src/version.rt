@@ -1,0 +1,45 @@
+//! One version of a message.
+
+ghost use Rattle.std.specs.Prelude.{◌≡◌, IfOk};
+
+use crate::flags::Flags;
+use std::alloc::{AllocError, Global};
+use tags_clocks::OpId;
+
+/// A version of a message: a message tag that is present, with the flags that it carries.
+pub struct Version {
+    /// The tag's id, which is that of the operation that added it.
+    pub id: OpId,
+    /// The flags that it carries.
+    pub flags: Flags,
+}
+
+// By hand, so that crates above let it go as a whole.
+impl Drop for Version {
+    fn drop(self) {
+        let Self { id: _, flags: _ } = self;
+    }
+}
+
+impl Version {
+    /// An equal one; `Err` where there is no memory for it.
+    pub fn copy(&self, alloc: Global) -> Result<Version, AllocError>
+        ensures { IfOk result (λ copied. copied ≡ self.now) }
+    {
+        Ok(Version {
+            id: self.id,
+            flags: self.flags.copy(alloc)?,
+        })
+    }
+}
+
+/// Copies of the versions, in their order; `Err` where there is no memory for them.
+pub fn copied_versions(alloc: Global, versions: &[Version]) -> Result<Vec<Version>, AllocError>
+    ensures { IfOk result (λ copies. copies.items ≡ versions.now) }
+{
+    let mut copies = Vec::with_capacity(alloc, versions.len())?;
+    for version in versions {
+        copies.push(version.copy(alloc)?)?;
+    }
+    Ok(copies)
+}

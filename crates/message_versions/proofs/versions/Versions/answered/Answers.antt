@@ -1,6 +1,0 @@
-use Rattle.std.proofs.Common.{◌∙◌, sym}
-use Rattle.message_versions.proofs.UnionLemmas.{any_mapped}
-use Rattle.message_versions.proofs.versions.Versions.answered.Goals as goal
-
-pub returns : goal.returns
-returns c = c.one_is_answered.ensures ∙ sym (any_mapped (λ flags. flags.answered) c.args.self.now.list.now)

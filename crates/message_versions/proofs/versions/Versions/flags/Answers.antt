@@ -1,7 +1,0 @@
-use Rattle.message_versions.proofs.UnionLemmas.{united_more}
-use Rattle.message_versions.proofs.versions.Versions.flags.Goals as goal
-
-pub loop-version-preserved : goal.loop-version-preserved
-loop-version-preserved c =
-    united_more c.args.self.now.list.now c.loop-version.union c.add_flags.new.union c.loop-version.version-index c.version-item.result
-    c.loop-version-test.true c.version-item.is c.loop-version.invariant c.in_ok-add_flags.ensures

@@ -1,6 +1,0 @@
-use Rattle.std.proofs.Common.{◌≡◌, take}
-use Rattle.message_versions.specs.Unions.{united}
-use Rattle.message_versions.proofs.versions.Versions.flags.Given as goal
-
-abbrev pub invariant-loop-version : goal.invariant-loop-version
-invariant-loop-version l = l.union ≡ united (take l.version-index l.version-items)

@@ -1,2 +1,0 @@
-pub mod Unions
-pub mod Members
