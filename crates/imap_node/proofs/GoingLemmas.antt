@@ -1,7 +1,7 @@
 -- What becomes of sessions that go on, and what they are still to be told then.
 use Rattle.std.specs.List.{list_any}
 use Rattle.std.specs.Option.{option_map}
-use Rattle.std.proofs.Common.{◌≡◌, inl, inr, ℕ, zero, suc, ◌<◌, ◌≤◌, ◌+◌, ◌-◌, Bool, true, false, List, [], ◌∷◌, ◌++◌, length, get_or, set, take, drop, Option, Some, None, refl, sym, ap, ◌∙◌, subst, arith}
+use Rattle.std.proofs.Common.{◌≡◌, ◌⊎◌, inl, inr, ℕ, zero, suc, ◌<◌, ◌≤◌, ◌+◌, ◌-◌, Bool, true, false, List, [], ◌∷◌, ◌++◌, length, get_or, set, take, drop, Option, Some, None, refl, sym, ap, ◌∙◌, subst, arith}
 use Rattle.std.specs.Prelude.{nat_eq, nat_lt, slice_index_or, slice_set}
 use Rattle.std.proofs.lemmas.Bool.{cases_Bool, false≢true}
 use Rattle.std.proofs.lemmas.Bool.Decides.{nat_tests}
@@ -17,7 +17,7 @@ use Rattle.imap_node.specs.declared.going.Going.{Going}
 use Rattle.imap_node.specs.declared.going.Onward.{Onward}
 use Rattle.imap_node.specs.declared.going.Onward.TheVariants.{Moves, Stays}
 use Rattle.imap_node.specs.Endings.{FrontOf, answers_by, ending_behind, synced_by}
-use Rattle.imap_node.specs.Feeds.{AreAllNoted, FolderNoted, IsBehindNews, IsNews, IsNotedFor, lacking, notes_in, pending_at}
+use Rattle.imap_node.specs.Feeds.{AreAllNoted, FolderNoted, IsBehindNews, IsNews, IsNotedFor, IsSettled, UntoldOf, lacking, notes_in, pending_at}
 use Rattle.imap_node.specs.Going.{CanChange, CanGo, ChangeLeaves, LeavesNoted, gone_on, state_onward, state_with}
 use Rattle.imap_node.specs.Mailboxes.{rows_for}
 use Rattle.imap_node.specs.Replays.{view_at, view_in, view_of}
@@ -27,11 +27,13 @@ use Rattle.imap_node.specs.declared.planning.Next.TheVariants.{Goes}
 use Rattle.imap_node.specs.Plans.{CanStep}
 use Rattle.imap_node.proofs.SessionLemmas.{others_stay, session_put}
 use Rattle.mail_listing.specs.Listed.{Listed}
+use Rattle.session_view.proofs.CurrentLemmas.{nothing_sent, view_stays}
+use Rattle.session_view.proofs.KeepLemmas.{comes}
 use Rattle.session_view.specs.Changes.{NamesAll, all_flags_told, shifts}
 use Rattle.session_view.specs.Replay.{after_silent, replayed}
 use Rattle.session_view.specs.Seen.{Seen}
 use Rattle.session_view.specs.Sync.{sync_answers, synced}
-use Rattle.session_view.specs.Views.{entries_of}
+use Rattle.session_view.specs.Views.{AreRising, entries_of}
 use Rattle.session_view.specs.declared.changes.Note.{Note}
 use Rattle.session_view.specs.declared.entry.Entry.{Entry}
 use Rattle.session_view.specs.declared.entry.SyncKind.{SyncKind}
@@ -44,9 +46,10 @@ use Rattle.imap_node.proofs.OwnLemmas.{own_replayed}
 -- ---- a sync in place
 
 module _ (start : Start) (after : List Op) (state : State) (view : Seen) (read_only : Bool) (front : FrontOf) (kind : SyncKind) (rows : List Listed) (first : List Silent)
-    (is : state ≡ Selected view read_only) (k : front.sync ≡ Some kind) (stays : list_any shifts front.own ≡ false) (r : rows ≡ rows_for start after view) (f : first ≡ front.silent ++ all_flags_told front.own) where
+    (is : state ≡ Selected view read_only) (k : front.sync ≡ Some kind) (stays : list_any shifts front.own ≡ false) (r : rows ≡ rows_for start after view)
+    (f : after_silent view.entries first ≡ after_silent view.entries (front.silent ++ all_flags_told front.own)) where
   seen_first : after_silent view.entries first ≡ replayed (rows_for start after view) view.entries front.silent front.own
-  seen_first = ap (after_silent view.entries) f ∙ sym (own_replayed (rows_for start after view) view.entries front.silent front.own stays)
+  seen_first = f ∙ sym (own_replayed (rows_for start after view) view.entries front.silent front.own stays)
 
   pub told_in_place : (answers : List Answer) → answers ≡ sync_answers kind front.modseq rows (after_silent view.entries first) → answers ≡ (ending_behind start after state front).answers
   told_in_place answers e =
@@ -255,17 +258,53 @@ module _ (old new : List Op) (g : HasGrown old new) where
   pub grown_take : take (length old) new ≡ old
   grown_take = ap (take (length old)) g.1 ∙ take_at old g.0 (length old) refl
 
--- ---- an input without a sync that tells no flags
+-- ---- nothing is to be told
 
-pub shown_as_before : (start : Start) (after : List Op) (state : State) (front : FrontOf) (first : List Silent) → front.sync ≡ None → list_any shifts front.own ≡ false → first ≡ front.silent ++ all_flags_told front.own → first ≡ []
+-- what is noted of a view's mailbox where nothing is: the view shows it
+pub settled_shows : (start : Start) (before after : List Op) (view : Seen) (untold : UntoldOf) → IsNotedFor start before untold.pending view → IsNews start before after untold.news → IsSettled untold view
+    → NamesAll [] (rows_for start after view) view.entries
+settled_shows start before after view untold noted news settled =
+    elim noted [
+      | inl missed ↦ absurd (false≢true (sym settled.found ∙ missed))
+      | inr named ↦
+          comes [] [] (rows_for start before view) (rows_for start after view) view.entries
+          (subst (λ (notes : List Note). NamesAll notes (rows_for start before view) view.entries) settled.told named)
+          (subst (λ (notes : List Note). NamesAll notes (rows_for start after view) (entries_of (rows_for start before view))) settled.unchanged (news view.name view.uidvalidity))
+    ]
+
+module _ (start : Start) (after : List Op) (view : Seen) (read_only : Bool) (front : FrontOf) (stays : list_any shifts front.own ≡ false)
+    (f : view.entries ≡ after_silent view.entries (front.silent ++ all_flags_told front.own)) where
+  seen_same : view.entries ≡ replayed (rows_for start after view) view.entries front.silent front.own
+  seen_same = f ∙ sym (own_replayed (rows_for start after view) view.entries front.silent front.own stays)
+
+  -- by no sync, or one of what the view shows already
+  pub nothing_by : (sync : Option SyncKind) → (sync ≡ None) ⊎ (AreRising 1 view.entries × NamesAll [] (rows_for start after view) view.entries)
+      → ([] ≡ answers_by sync front.modseq (rows_for start after view) view.entries) × (view.entries ≡ synced_by sync (rows_for start after view) view.entries)
+  nothing_by None h = (refl, refl)
+  nothing_by (Some kind) (inl n) = let no : ◌≡◌ {A = Option SyncKind} (Some kind) None = n in cc
+  nothing_by (Some kind) (inr h) =
+      let rows = rows_for start after view in
+      (sym (nothing_sent kind front.modseq rows view.entries h.0 h.1), sym (view_stays kind rows view.entries h.0 h.1))
+
+  pub shown_so : (front.sync ≡ None) ⊎ (AreRising 1 view.entries × NamesAll [] (rows_for start after view) view.entries)
+      → ([] ≡ (ending_behind start after (Selected view read_only) front).answers) × (Selected view read_only ≡ (ending_behind start after (Selected view read_only) front).state)
+  shown_so h =
+      let rows = rows_for start after view in
+      let by = nothing_by front.sync h in (
+        by.0 ∙ ap (answers_by front.sync front.modseq rows) seen_same,
+        ap (λ (es : List Entry). Selected (record view { entries = es }) read_only) (by.1 ∙ ap (synced_by front.sync rows) seen_same),
+      )
+
+-- where no flags are to be set, and nothing is synced or nothing is noted, nothing is told and the state stays
+pub shown_as_before : (start : Start) (before after : List Op) (state : State) (untold : UntoldOf) (front : FrontOf) (first : List Silent) → list_any shifts front.own ≡ false
+    → ((view : Seen) → view_of state ≡ Some view → after_silent view.entries first ≡ after_silent view.entries (front.silent ++ all_flags_told front.own)) → first ≡ []
+    → ((view : Seen) → view_of state ≡ Some view → IsNotedFor start before untold.pending view) → IsNews start before after untold.news
+    → (front.sync ≡ None) ⊎ ((view : Seen) → view_of state ≡ Some view → IsSettled untold view)
     → ([] ≡ (ending_behind start after state front).answers) × (state_with state None ≡ (ending_behind start after state front).state)
-shown_as_before start after (Selected view read_only) front first n stays f e =
-    let rows = rows_for start after view in
-    let same : view.entries ≡ replayed rows view.entries front.silent front.own = ap (after_silent view.entries) (sym e ∙ f) ∙ sym (own_replayed rows view.entries front.silent front.own stays) in (
-      ap (λ (s : Option SyncKind). answers_by s front.modseq rows (replayed rows view.entries front.silent front.own)) (sym n),
-      ap (λ (es : List Entry). Selected (record view { entries = es }) read_only) (same ∙ ap (λ (s : Option SyncKind). synced_by s rows (replayed rows view.entries front.silent front.own)) (sym n)),
-    )
-shown_as_before start after _ front first n stays f e = (refl, refl)
+shown_as_before start before after (Selected view read_only) untold front first stays f e noted news h =
+    shown_so start after view read_only front stays (ap (after_silent view.entries) (sym e) ∙ f view refl)
+    (elim h [ inl n ↦ inl n | inr settled ↦ inr ((settled view refl).rising, settled_shows start before after view untold (noted view refl) news (settled view refl)) ])
+shown_as_before start before after _ untold front first stays f e noted news h = (refl, refl)
 
 pub can_stay : (start : Start) (after : List Op) (state : State) → CanGo start after state (Stays None)
 can_stay start after (Selected view read_only) = record { make = tt; leaves = tt }

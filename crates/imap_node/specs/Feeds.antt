@@ -1,5 +1,5 @@
 use Rattle.std.specs.List.{list_any}
-use Rattle.std.specs.Prelude.{◌≡◌, ℕ, ◌-◌, Bool, List, [], ◌∷◌, ◌++◌, slice_index_or, bytes_eq, Option, Some, None, if◌then◌else◌}
+use Rattle.std.specs.Prelude.{◌≡◌, ℕ, ◌-◌, Bool, false, List, [], ◌∷◌, ◌++◌, slice_index_or, bytes_eq, Option, Some, None, if◌then◌else◌}
 use Rattle.crdt_ops.specs.declared.op.Op.{Op}
 use Rattle.idle_feed.specs.Feeds.{Kept, Pending, some_missed}
 use Rattle.imap_node.specs.Mailboxes.{rows_for}
@@ -8,7 +8,7 @@ use Rattle.imap_node.specs.Replays.{view_at, view_in}
 use Rattle.imap_node.specs.Sessions.{Places}
 use Rattle.session_view.specs.Changes.{NamesAll, flags_at}
 use Rattle.session_view.specs.Seen.{Seen, rows_under}
-use Rattle.session_view.specs.Views.{entries_of}
+use Rattle.session_view.specs.Views.{AreRising, entries_of}
 use Rattle.session_view.specs.declared.changes.Note.{Note}
 use Rattle.session_view.specs.declared.changes.Note.TheVariants.{Ended}
 use Rattle.uid_projection.specs.declared.start.Start.{Start}
@@ -66,6 +66,13 @@ pub record IsBehindNews (news : List FolderNoted) (place : Option Session) (old 
 pub record UntoldOf : Type 0 where
   pub pending : Pending
   pub news : List FolderNoted
+
+-- Nothing is noted of a view's mailbox, neither still to be told nor changed by the operations; the view's UIDs ascend, as any view's do.
+pub record IsSettled (untold : UntoldOf) (view : Seen) : Type 0 where
+  pub rising : AreRising 1 view.entries
+  pub found : untold.pending.missed ≡ false
+  pub told : untold.pending.notes ≡ []
+  pub unchanged : notes_in untold.news view.name ≡ []
 
 -- Whether the mailbox of this name is among these.
 abbrev pub is_named : List FolderNoted → List ℕ → Bool

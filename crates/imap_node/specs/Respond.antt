@@ -14,6 +14,7 @@ use Rattle.imap_commands.specs.declared.session.Session.{Session}
 use Rattle.imap_commands.specs.declared.session.State.{State}
 use Rattle.imap_commands.specs.declared.session.State.TheVariants.{Authenticated}
 use Rattle.imap_syntax.specs.declared.command.Command.{Command}
+use Rattle.imap_syntax.specs.declared.command.Command.TheVariants as commands
 use Rattle.imap_syntax.specs.declared.command.Tagged.{Tagged}
 use Rattle.imap_syntax.specs.declared.idle.IdleLine.TheVariants.{Done as DoneLine, Other}
 use Rattle.mail_text.specs.Civil.{IsCivil}
@@ -33,9 +34,14 @@ use Rattle.uid_projection.specs.Exhaustion.{Exhausts}
 
 -- ---- what an input wants
 
--- The date-time of an input's moment; only a command has one.
+-- The date-time that a command writes down: APPEND that of its moment, and no other one.
+abbrev pub IsStampFor : Command → ℕ → List ℕ → Type 0
+IsStampFor (commands.Append append) moment stamp = IsCivil moment stamp
+IsStampFor command moment stamp = Unit {0}
+
+-- The date-time that an input writes down.
 abbrev pub IsStamp : Input → List ℕ → Type 0
-IsStamp (inputs.Command moment tagged) stamp = IsCivil moment stamp
+IsStamp (inputs.Command moment tagged) stamp = IsStampFor tagged.command moment stamp
 IsStamp (inputs.Line line) stamp = Unit {0}
 IsStamp inputs.Poll stamp = Unit {0}
 

@@ -199,6 +199,14 @@ fn tail_of(
 pub fn joined(answers: Vec<Answer>, others: Vec<Answer>) -> Result<Vec<Answer>, AllocError>
     ensures { IfOk result (λ all. all.items ≡ answers.items ++ others.items) }
 {
+    if others.is_empty() {
+        drop(others);
+        return Ok(answers);
+    }
+    if answers.is_empty() {
+        drop(answers);
+        return Ok(others);
+    }
     let mut all = answers;
     let mut others = others;
     all.append(&mut others)?;

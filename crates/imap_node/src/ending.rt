@@ -1,11 +1,11 @@
 //! What stands behind an input's own answers: the sync, and what the session sees then.
 
-ghost use Rattle.std.specs.Prelude.{◌≡◌, ◌++◌, true, [], IfOk, Some};
+ghost use Rattle.std.specs.Prelude.{◌≡◌, ◌⊎◌, ◌++◌, true, [], IfOk, None, Some};
 ghost use Rattle.imap_commands.specs.declared.session.State.{State as Stands};
 ghost use Rattle.imap_commands.specs.declared.session.State.TheVariants.{Selected};
 ghost use Rattle.imap_node.specs.Commands.{moves_to};
 ghost use Rattle.imap_node.specs.Endings.{IsFirstSight, alters, answers_by, ending_behind, moved_from, synced_by};
-ghost use Rattle.imap_node.specs.Feeds.{IsNews, IsNotedFor};
+ghost use Rattle.imap_node.specs.Feeds.{IsNews, IsNotedFor, IsSettled};
 ghost use Rattle.imap_node.specs.Going.{CanGo, ShowsAll, state_onward};
 ghost use Rattle.imap_node.specs.Mailboxes.{rows_for, validity_of};
 ghost use Rattle.imap_node.specs.Nodes.{IsReady};
@@ -21,7 +21,6 @@ ghost use Rattle.idle_feed.specs.Noted.{CanCommit, IsChangeTo, changed};
 use crate::going::Onward;
 use crate::news::News;
 use crate::replica::Replica;
-use crate::reply::copied_silents;
 use crate::telling::{rows_behind, validity_after};
 use crdt_ops::SoundOp;
 use idle_feed::{Feed, Noted, Planned, plan};
@@ -31,8 +30,7 @@ use imap_syntax::Command;
 use imap_types::Name;
 use mail_listing::Rows;
 use session_view::{
-    Entries, Silent, SyncForm, SyncKind, SyncOutcome, View, do_shift, push_flags_told, replayed,
-    synced,
+    Entries, Silent, SyncForm, SyncKind, SyncOutcome, View, do_shift, replayed, synced,
 };
 use std::alloc::{AllocError, Global};
 use std::marker::Model;
@@ -214,12 +212,12 @@ pub fn ending_in_place(
     if do_shift(front.own) {
         return made_anew(alloc, replica, ops, state, front);
     }
-    let first = flags_first(alloc, front)?;
+    let first = flags_first(alloc, state, front)?;
+    if first.is_empty() && is_settled(state, untold, front.sync) {
+        drop(first);
+        return Ok((Vec::new(alloc), Onward::Stays { change: None }));
+    }
     let Some(kind) = front.sync else {
-        if first.is_empty() {
-            drop(first);
-            return Ok((Vec::new(alloc), Onward::Stays { change: None }));
-        }
         drop(first);
         return made_anew(alloc, replica, ops, state, front);
     };
@@ -302,13 +300,36 @@ fn made_anew(
     Ok((answers, Onward::Moves { state, shows_all }))
 }
 
-/// The flags that are set in front of a sync: in silence, and by the answers that tell them.
-fn flags_first(alloc: Global, front: &Front<'_>) -> Result<Vec<Silent>, AllocError>
-    ensures { IfOk result (λ first. first.items ≡ front.now.silent ++ all_flags_told front.now.own) }
+/// The flags that are set in front of a sync: in silence, and by the answers that tell them, but for those that the messages of the view have already.
+fn flags_first(alloc: Global, state: &State, front: &Front<'_>) -> Result<Vec<Silent>, AllocError>
+    ensures { IfOk result (λ first. (view : Seen) → view_of state.now ≡ Some view → after_silent view.entries first.items ≡ after_silent view.entries (front.now.silent ++ all_flags_told front.now.own)) }
 {
-    let mut first = copied_silents(alloc, front.silent)?;
-    push_flags_told(alloc, front.own, &mut first)?;
-    Ok(first)
+    match state {
+        State::Selected { view, .. } => view.flags_first(alloc, front.silent, front.own),
+        _ => Ok(Vec::new(alloc)),
+    }
+}
+
+/// Whether a sync has nothing to tell: there is none, or nothing is noted of the mailbox that is selected, if one is, neither missed nor still to be told, nor
+/// changed by the operations.
+fn is_settled(state: &State, untold: &Untold<'_>, sync: Option<SyncKind>) -> bool
+    ensures { result ≡ true → (sync ≡ None) ⊎ ((view : Seen) → view_of state.now ≡ Some view → IsSettled untold.now view) }
+{
+    match (sync, state) {
+        (Some(_), State::Selected { view, .. }) => shows_all(view, untold),
+        _ => true,
+    }
+}
+
+/// Whether nothing is noted of a view's mailbox.
+fn shows_all(view: &View, untold: &Untold<'_>) -> bool
+    ensures { result ≡ true → IsSettled untold.now view.now }
+{
+    let _entries = view.entries();
+    let Some(notes) = untold.feed.notes() else {
+        return false;
+    };
+    notes.is_empty() && untold.news.notes_of(view.name()).is_empty()
 }
 
 /// What the sync sends behind what stands in front of it, and what a view shows then.

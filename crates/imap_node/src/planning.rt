@@ -11,7 +11,7 @@ ghost use Rattle.imap_node.specs.Nodes.{IsReady};
 ghost use Rattle.imap_node.specs.Operations.{CanIssueAll, clock_of, id_of};
 ghost use Rattle.imap_node.specs.Plans.{IsAnswered, Prepares};
 ghost use Rattle.imap_node.specs.Replays.{view_in, view_of};
-ghost use Rattle.imap_node.specs.Respond.{IsRefused, IsStamp, found_by, wants_of};
+ghost use Rattle.imap_node.specs.Respond.{IsRefused, IsStamp, IsStampFor, found_by, wants_of};
 ghost use Rattle.imap_node.specs.Rooms.{HasRoomFor};
 ghost use Rattle.imap_node.specs.Sessions.{IsOpen, session_at};
 ghost use Rattle.session_view.specs.Seen.{Seen};
@@ -31,7 +31,8 @@ use crdt_ops::SoundOp;
 use idle_feed::Feed;
 use imap_answers::{Answer, Refusal};
 use imap_commands::{Found, Session, State, Wanted};
-use imap_types::DateTime;
+use imap_syntax::Command;
+use imap_types::{DateTime, Moment};
 use mail_text::civil;
 use session_view::Silent;
 use std::alloc::{AllocError, Global};
@@ -169,12 +170,22 @@ fn prepare(
     Ok(finished(alloc, replica, session, feed, input, &found, ops)?)
 }
 
-/// The date-time of an input's moment.
+/// The date-time that an input writes down.
 fn stamp_of(input: &Input) -> DateTime
     ensures { IsStamp input.now result }
 {
     match input {
-        Input::Command { moment, .. } => civil(*moment),
+        Input::Command { moment, tagged } => stamp_for(&tagged.command, *moment),
+        _ => DateTime::epoch(),
+    }
+}
+
+/// The date-time that a command writes down which came at this moment: none but APPEND does.
+fn stamp_for(command: &Command, moment: Moment) -> DateTime
+    ensures { IsStampFor command.now moment result }
+{
+    match command {
+        Command::Append(_) => civil(moment),
         _ => DateTime::epoch(),
     }
 }

@@ -201,20 +201,6 @@ impl Reply {
     }
 }
 
-/// Equal flags, in their order; `Err` where there is no memory for them.
-pub fn copied_silents(alloc: Global, silents: &[Silent]) -> Result<Vec<Silent>, AllocError>
-    ensures { IfOk result (λ copies. copies.items ≡ silents.now) }
-{
-    let mut copies = Vec::with_capacity(alloc, silents.len())?;
-    for silent in silents {
-        copies.push(Silent {
-            number: silent.number,
-            flags: silent.flags.copy(alloc)?,
-        })?;
-    }
-    Ok(copies)
-}
-
 /// Equal operations, in their order.
 pub fn copied_ops(alloc: Global, ops: &[SoundOp]) -> Result<Vec<SoundOp>, AllocError>
     ensures { IfOk result (λ copies. copies.items ≡ ops.now) }

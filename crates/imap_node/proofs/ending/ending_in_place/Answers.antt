@@ -9,6 +9,7 @@ use Rattle.imap_node.specs.Going.{state_with}
 use Rattle.imap_node.specs.Mailboxes.{rows_for}
 use Rattle.imap_node.specs.Replays.{view_of}
 use Rattle.session_view.specs.Changes.{all_flags_told}
+use Rattle.session_view.specs.Replay.{after_silent}
 use Rattle.imap_node.proofs.GoingLemmas.{can_in_place, can_stay, none_there, shown_as_before, shown_in_place, told_in_place}
 use Rattle.session_view.specs.Seen.{Seen}
 use Rattle.uid_projection.specs.declared.start.Start.{Start}
@@ -32,7 +33,7 @@ returns-in_ok-planned-in-Selected-clause-answers c =
     subst (λ (f : FrontOf). c.in_ok-planned-in-Selected.planned.answers.items ≡ (ending_behind start after c.args.state.now f).answers) c.front.view_is
     (told_in_place start after c.args.state.now c.in-Selected.view c.in-Selected.read_only front c.in-Some.kind (rows_for start after c.in-Selected.view) c.in_ok-first.first.items
     c.in-Selected.is c.in-Some.is (sym c.do_shift.ensures ∙ c.if-do_shift.false) refl
-    (c.in_ok-first.ensures {u = tt} ∙ ap (λ (f : FrontOf). f.silent ++ all_flags_told f.own) (sym c.front.view_is))
+    (c.in_ok-first.ensures {u = tt} c.in-Selected.view (ap view_of c.in-Selected.is) ∙ ap (λ (f : FrontOf). after_silent c.in-Selected.view.entries (f.silent ++ all_flags_told f.own)) (sym c.front.view_is))
     c.in_ok-planned-in-Selected.planned.answers.items (c.in_ok-planned-in-Selected.ensures {u = tt}).answers)
 
 pub returns-in_ok-planned-in-Selected-clause-state : goal.returns-in_ok-planned-in-Selected-clause-state
@@ -44,7 +45,7 @@ returns-in_ok-planned-in-Selected-clause-state c =
     subst (λ (f : FrontOf). state_with c.args.state.now (Some c.in_ok-planned-in-Selected.planned.change) ≡ (ending_behind start after c.args.state.now f).state) c.front.view_is
     (shown_in_place start after c.args.state.now c.in-Selected.view c.in-Selected.read_only front c.in-Some.kind (rows_for start after c.in-Selected.view) c.in_ok-first.first.items
     c.in-Selected.is c.in-Some.is (sym c.do_shift.ensures ∙ c.if-do_shift.false) refl
-    (c.in_ok-first.ensures {u = tt} ∙ ap (λ (f : FrontOf). f.silent ++ all_flags_told f.own) (sym c.front.view_is))
+    (c.in_ok-first.ensures {u = tt} c.in-Selected.view (ap view_of c.in-Selected.is) ∙ ap (λ (f : FrontOf). after_silent c.in-Selected.view.entries (f.silent ++ all_flags_told f.own)) (sym c.front.view_is))
     c.in_ok-planned-in-Selected.planned.change (c.in_ok-planned-in-Selected.ensures {u = tt}).changed)
 
 pub returns-in_ok-planned-in-Selected-clause-can : goal.returns-in_ok-planned-in-Selected-clause-can
@@ -55,36 +56,37 @@ returns-in_ok-planned-in-Selected-clause-can c =
     let front : FrontOf = record { silent = inside.silent.now; own = inside.own.now; sync = inside.sync; modseq = inside.modseq } in
     can_in_place start after c.args.state.now c.in-Selected.view c.in-Selected.read_only front c.in-Some.kind (rows_for start after c.in-Selected.view) c.in_ok-first.first.items
     c.in-Selected.is c.in-Some.is (sym c.do_shift.ensures ∙ c.if-do_shift.false) refl
-    (c.in_ok-first.ensures {u = tt} ∙ ap (λ (f : FrontOf). f.silent ++ all_flags_told f.own) (sym c.front.view_is))
+    (c.in_ok-first.ensures {u = tt} c.in-Selected.view (ap view_of c.in-Selected.is) ∙ ap (λ (f : FrontOf). after_silent c.in-Selected.view.entries (f.silent ++ all_flags_told f.own)) (sym c.front.view_is))
     c.in_ok-planned-in-Selected.planned.change (c.in_ok-planned-in-Selected.ensures {u = tt}).can (c.in_ok-planned-in-Selected.ensures {u = tt}).change
 
-pub returns-then-is_empty-clause-state : goal.returns-then-is_empty-clause-state
-returns-then-is_empty-clause-state c =
+pub returns-then-is_settled-clause-answers : goal.returns-then-is_settled-clause-answers
+returns-then-is_settled-clause-answers c =
     let start = c.args.replica.now.start in
-    let after = c.args.replica.now.applied ++ c.args.ops.now in
-    let inside = c.front.inside in
-    let front : FrontOf = record { silent = inside.silent.now; own = inside.own.now; sync = inside.sync; modseq = inside.modseq } in
-    let first = c.in_ok-first.first in
-    let empty : length first.items ≡ 0 = let a = c.if-is_empty.true in let b = c.is_empty.ensures in let k = first.ok.0 in grind (arith, nat_tests) in
-    subst (λ (f : FrontOf). state_with c.args.state.now None ≡ (ending_behind start after c.args.state.now f).state) c.front.view_is
-    (shown_as_before start after c.args.state.now front first.items c.in_default.is (sym c.do_shift.ensures ∙ c.if-do_shift.false)
-    (c.in_ok-first.ensures {u = tt} ∙ ap (λ (f : FrontOf). f.silent ++ all_flags_told f.own) (sym c.front.view_is)) (none_there first.items empty)).1
-
-pub returns-then-is_empty-clause-answers : goal.returns-then-is_empty-clause-answers
-returns-then-is_empty-clause-answers c =
-    let start = c.args.replica.now.start in
-    let after = c.args.replica.now.applied ++ c.args.ops.now in
+    let before = c.args.replica.now.applied in
+    let after = before ++ c.args.ops.now in
     let inside = c.front.inside in
     let front : FrontOf = record { silent = inside.silent.now; own = inside.own.now; sync = inside.sync; modseq = inside.modseq } in
     let first = c.in_ok-first.first in
     let empty : length first.items ≡ 0 = let a = c.if-is_empty.true in let b = c.is_empty.ensures in let k = first.ok.0 in grind (arith, nat_tests) in
     c.new.ensures.items
     ∙ subst (λ (f : FrontOf). [] ≡ (ending_behind start after c.args.state.now f).answers) c.front.view_is
-    (shown_as_before start after c.args.state.now front first.items c.in_default.is (sym c.do_shift.ensures ∙ c.if-do_shift.false)
-    (c.in_ok-first.ensures {u = tt} ∙ ap (λ (f : FrontOf). f.silent ++ all_flags_told f.own) (sym c.front.view_is)) (none_there first.items empty)).0
+    (shown_as_before start before after c.args.state.now c.args.untold.now front first.items (sym c.do_shift.ensures ∙ c.if-do_shift.false)
+    (λ view is. c.in_ok-first.ensures {u = tt} view is ∙ ap (λ (f : FrontOf). after_silent view.entries (f.silent ++ all_flags_told f.own)) (sym c.front.view_is)) (none_there first.items empty) c.requires.noted c.requires.news
+    (c.is_settled.ensures c.if-is_settled.true)).0
 
-pub returns-then-is_empty-clause-can : goal.returns-then-is_empty-clause-can
-returns-then-is_empty-clause-can c = can_stay c.args.replica.now.start (c.args.replica.now.applied ++ c.args.ops.now) c.args.state.now
+pub returns-then-is_settled-clause-state : goal.returns-then-is_settled-clause-state
+returns-then-is_settled-clause-state c =
+    let start = c.args.replica.now.start in
+    let before = c.args.replica.now.applied in
+    let after = before ++ c.args.ops.now in
+    let inside = c.front.inside in
+    let front : FrontOf = record { silent = inside.silent.now; own = inside.own.now; sync = inside.sync; modseq = inside.modseq } in
+    let first = c.in_ok-first.first in
+    let empty : length first.items ≡ 0 = let a = c.if-is_empty.true in let b = c.is_empty.ensures in let k = first.ok.0 in grind (arith, nat_tests) in
+    subst (λ (f : FrontOf). state_with c.args.state.now None ≡ (ending_behind start after c.args.state.now f).state) c.front.view_is
+    (shown_as_before start before after c.args.state.now c.args.untold.now front first.items (sym c.do_shift.ensures ∙ c.if-do_shift.false)
+    (λ view is. c.in_ok-first.ensures {u = tt} view is ∙ ap (λ (f : FrontOf). after_silent view.entries (f.silent ++ all_flags_told f.own)) (sym c.front.view_is)) (none_there first.items empty) c.requires.noted c.requires.news
+    (c.is_settled.ensures c.if-is_settled.true)).1
 
 pub returns-in_default-state : goal.returns-in_default-state
 returns-in_default-state c =
