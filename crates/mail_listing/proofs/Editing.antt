@@ -96,6 +96,14 @@ got_own b ps index at p x h place is source =
     let none : index - p.start ≡ 0 = omega (arith, inside, one) in
     sym (ap (λ k. slice_get (piece_items b p) k) none ∙ ap (λ s. slice_get (source_items b p.len s) 0) source) ∙ ap (λ q. slice_get (piece_items b q) (index - q.start)) is ∙ got_in b ps index at p h place
 
+-- The place in a list of an item that is kept of it.
+pub held_place : {T : Type 0} (b : List T) (ps : List (Piece T)) (index at : ℕ) (p : Piece T) (from : ℕ) → ArePieces b 0 ps → StandsIn ps index at → p ≡ get_or ps at p → p.source ≡ Kept from → from + (index - p.start) < length b
+held_place b ps index at p from h place is source =
+    let whole : IsPiece b (length (items_of b (take at ps))) p = subst (λ q. IsPiece b (length (items_of b (take at ps))) q) (sym is) (piece_is b ps at p place.within h) in
+    let inside : index - p.start < p.len = subst (λ q. index - q.start < q.len) (sym is) (let low = place.start p in let end = place.end p in omega (arith, low, end)) in
+    let many : length (take p.len (drop from b)) ≡ p.len = ap (λ s. length (source_items b p.len s)) (sym source) ∙ whole.many in
+    omega (arith, inside, kept_within b from p.len whole.some many)
+
 -- One piece has become two.
 module _ {T : Type 0} (b : List T) (ps : List (Piece T)) (at : ℕ) (p x y : Piece T) (h : ArePieces b 0 ps) (inside : at < length ps) (is : p ≡ get_or ps at p) (both : piece_items b x ++ piece_items b y ≡ piece_items b p) where
   pub two_items : items_of b (take at ps ++ x ∷ y ∷ drop (suc at) ps) ≡ items_of b ps

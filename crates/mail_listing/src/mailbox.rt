@@ -1,6 +1,6 @@
 //! A folder's messages, lent by what keeps them.
 
-ghost use Rattle.std.specs.Prelude.{◌≡◌, option_map};
+ghost use Rattle.std.specs.Prelude.{◌≡◌, Some, IfSome, option_map};
 ghost use Rattle.mail_listing.specs.Listing.{listed};
 ghost use Rattle.mail_listing.specs.Telling.{kept_at, nothing_told, numbered, told, told_by, told_in, versions_in};
 
@@ -47,16 +47,13 @@ pub struct HeldMessage<'a> {
 }
 
 impl<'a> Mailbox<'a> {
-    /// The row of an entry, where its message is kept. Cost: two look-ups.
+    /// The row of an entry, where its message is kept. Cost: two look-ups, by place where the messages stand in the tables as
+    /// their UIDs count them, else by hash.
     pub fn row(&self, entry: &Entry) -> Option<Row<'a>>
         ensures { option_map listed result ≡ option_map (numbered entry.now) (told_in self.now entry.now.origin) }
     {
-        match versions_in(self.messages, &entry.origin) {
-            Some(versions) => Some(with_letter(
-                entry,
-                versions,
-                letter_at(self.letters, &entry.origin),
-            )),
+        match versions_in(self.messages, entry) {
+            Some(versions) => Some(with_letter(entry, versions, found(self.letters, entry))),
             None => None,
         }
     }
@@ -92,36 +89,52 @@ pub(crate) fn bare_row(entry: &Entry) -> Row<'static>
     }
 }
 
-/// The versions of this origin, where it has any.
+/// The versions of the message of an entry, where it has any.
 fn versions_in<'a>(
     messages: Option<&'a IndexMap<OpId, Vec<Version>>>,
-    origin: &OpId,
+    entry: &Entry,
 ) -> Option<Versions<'a>>
-    ensures { option_map (λ versions. versions.list.now) result ≡ versions_in (option_map (λ messages. messages.now.entries) messages.entry) origin.now }
+    ensures { option_map (λ versions. versions.list.now) result ≡ versions_in (option_map (λ messages. messages.now.entries) messages.entry) entry.now.origin }
 {
     match messages {
-        Some(messages) => versions_at(messages, origin),
+        Some(messages) => versions_at(messages, entry),
         None => None,
     }
 }
 
 fn versions_at<'a>(
     messages: &'a IndexMap<OpId, Vec<Version>>,
-    origin: &OpId,
+    entry: &Entry,
 ) -> Option<Versions<'a>>
-    ensures { option_map (λ versions. versions.list.now) result ≡ option_map (λ versions. versions.items) (kept_at origin.now messages.now.entries) }
+    ensures { option_map (λ versions. versions.list.now) result ≡ option_map (λ versions. versions.items) (kept_at entry.now.origin messages.now.entries) }
 {
-    match messages.get(origin) {
+    match found(messages, entry) {
         Some(versions) => Some(Versions::new(versions)),
         None => None,
     }
 }
 
-/// The date and text of this Append, where it was applied.
-fn letter_at<'a>(letters: &'a IndexMap<OpId, Letter>, id: &OpId) -> Option<&'a Letter>
-    ensures { option_map (λ letter. letter.now) result ≡ kept_at id.now letters.now.entries }
+/// What a table has under the origin of an entry: one look where it stands in the table as its UID counts it, as most do while
+/// all that the table has came into this mailbox and little was taken out; else a look-up by hash.
+fn found<'a, V>(table: &'a IndexMap<OpId, V>, entry: &Entry) -> Option<&'a V>
+    ensures { option_map (λ value. value.now) result ≡ kept_at entry.now.origin table.now.entries }
 {
-    letters.get(id)
+    match found_near(table, entry) {
+        Some(value) => Some(value),
+        None => table.get(&entry.origin),
+    }
+}
+
+/// The same, where it stands behind as many others as there are UIDs below its own.
+fn found_near<'a, V>(table: &'a IndexMap<OpId, V>, entry: &Entry) -> Option<&'a V>
+    ensures { IfSome result (λ value. kept_at entry.now.origin table.now.entries ≡ Some value.now) }
+{
+    let (origin, value) = table.get_index((entry.uid as usize).saturating_sub(1))?;
+    if *origin == entry.origin {
+        Some(value)
+    } else {
+        None
+    }
 }
 
 /// The row of an entry with these versions, and the date and text of this Append.

@@ -56,14 +56,12 @@ pub fn item_in<T: Copy + Drop>(base: &ChunkList<T>, pieces: &[Piece<T>], index: 
     }
 }
 
-/// The item of a list so many places behind this one, where there is one.
+/// The item of a list so many places behind this one.
 fn kept_item<T: Copy + Drop>(base: &ChunkList<T>, from: usize, more: usize) -> Option<T>
+    requires { from + more < length base.now.items }
     ensures { result ≡ slice_get (drop from base.now.items) more }
 {
-    let len = base.len();
-    if len <= from || len - from <= more {
-        return None;
-    }
+    let _len = base.len();
     base.get(from + more).copied()
 }
 

@@ -4,7 +4,7 @@ ghost use Rattle.std.specs.Prelude.{◌≡◌, ◌++◌, ◌∷◌, [], Some, le
 ghost use Rattle.std.specs.List.{slice_get};
 ghost use Rattle.mail_listing.specs.Listing.{AreRisingRows, changed_since, held, listed};
 ghost use Rattle.std.specs.Option.{unwrap_or};
-ghost use Rattle.mail_listing.specs.Telling.{nothing_told, numbered, row_by, rows_by, told_by, told_in};
+ghost use Rattle.mail_listing.specs.Telling.{kept_at, nothing_told, numbered, row_by, rows_by, told_by, told_in};
 
 use crate::entry::Entry;
 use crate::held::{HeldRow, HeldVersions};
@@ -162,10 +162,24 @@ fn row_for<'r>(
 ) -> Row<'r>
     ensures { listed result ≡ row_by fresh.now.entries mailbox.now entry.now }
 {
-    match fresh.get(&entry.origin) {
+    match fresh_at(fresh, &entry.origin) {
         Some(message) => message.row(entry),
         None => row_kept(mailbox, entry),
     }
+}
+
+/// The message of this origin as operations to come leave it, where they make or change it. Cost: none where they change nothing,
+/// else a look-up.
+fn fresh_at<'r, 'a>(
+    fresh: &'r IndexMap<OpId, HeldMessage<'a>>,
+    origin: &OpId,
+) -> Option<&'r HeldMessage<'a>>
+    ensures { option_map (λ message. message.now) result ≡ kept_at origin.now fresh.now.entries }
+{
+    if fresh.is_empty() {
+        return None;
+    }
+    fresh.get(origin)
 }
 
 /// The row of an entry, as the mailbox tells it.
@@ -187,7 +201,7 @@ fn held_for<'a>(
 ) -> Result<Option<HeldRow<'a>>, AllocError>
     ensures { IfOk result (λ row. option_map held row ≡ Some (row_by fresh.now.entries mailbox.now entry.now)) }
 {
-    match fresh.get(&entry.origin) {
+    match fresh_at(fresh, &entry.origin) {
         Some(message) => held_over(alloc, entry, message),
         None => Ok(Some(held_kept(row_kept(mailbox, entry)))),
     }

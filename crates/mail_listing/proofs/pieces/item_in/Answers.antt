@@ -1,6 +1,9 @@
-use Rattle.std.proofs.Common.{◌≡◌, ◌∙◌}
-use Rattle.mail_listing.proofs.Editing.{got_kept, got_own}
+use Rattle.std.proofs.Common.{◌∙◌}
+use Rattle.mail_listing.proofs.Editing.{got_kept, got_own, held_place}
 use Rattle.mail_listing.proofs.pieces.item_in.Goals as goal
+
+pub kept_item-requires : goal.kept_item-requires
+kept_item-requires g c = held_place c.args.base.now.items c.args.pieces.now c.args.index c.piece_at-at.result c.index-pieces-at.result c.in-Kept.from c.requires.pieces c.piece_at-at.ensures c.index-pieces-at.is c.in-Kept.is
 
 pub returns-in-Kept : goal.returns-in-Kept
 returns-in-Kept g c = c.kept_item.ensures ∙ got_kept c.args.base.now.items c.args.pieces.now c.args.index c.piece_at-at.result c.index-pieces-at.result c.in-Kept.from c.requires.pieces c.piece_at-at.ensures c.index-pieces-at.is c.in-Kept.is
