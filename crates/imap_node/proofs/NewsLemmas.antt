@@ -2,7 +2,7 @@
 use Rattle.std.specs.List.{list_any}
 use Rattle.std.specs.Option.{option_map}
 use Rattle.std.proofs.Common.{◌≡◌, ◌⊎◌, inl, inr, ℕ, ◌<◌, ◌≤◌, ◌+◌, Bool, true, false, List, [], ◌∷◌, ◌++◌, length, drop, get_or, Option, Some, None, refl, sym, ap, ◌∙◌, subst, arith}
-use Rattle.std.specs.Prelude.{bytes_eq, nat_eq, if◌then◌else◌}
+use Rattle.std.specs.Prelude.{bytes_eq, nat_eq, nat_lt, if◌then◌else◌}
 use Rattle.std.proofs.lemmas.Bool.{cases_Bool, false≢true}
 use Rattle.std.proofs.lemmas.Bool.Decides.{nat_tests}
 use Rattle.std.proofs.lemmas.List.{drop_all, drop_more}
@@ -19,7 +19,7 @@ use Rattle.session_view.specs.Changes.{flags_at, is_told, names}
 use Rattle.session_view.specs.Seen.{rows_under}
 use Rattle.session_view.specs.Views.{entries_of}
 use Rattle.session_view.specs.declared.changes.Note.{Note}
-use Rattle.session_view.specs.declared.changes.Note.TheVariants.{New}
+use Rattle.session_view.specs.declared.changes.Note.TheVariants.{Changed, New}
 use Rattle.uid_projection.specs.declared.start.Start.{Start}
 use Rattle.uid_projection.specs.Applied.{IsApplied}
 use Rattle.uid_projection.specs.Incarnations.{uidvalidity_of}
@@ -42,8 +42,8 @@ any_last : {X : Type 0} (p : X → Bool) (xs : List X) (y : X) → p y ≡ true 
 any_last p [] y h = rw h refl
 any_last p (x ∷ xs) y h = elim (cases_Bool (p x)) [ inl t ↦ rw t refl | inr f ↦ rw f (any_last p xs y h) ]
 
-pub names_new : (uid : ℕ) → names uid (New uid) ≡ true
-names_new uid = grind (arith, nat_tests)
+pub names_changed : (uid : ℕ) → names uid (Changed uid) ≡ true
+names_changed uid = grind (arith, nat_tests)
 
 pub more_told : (notes : List Note) (note : Note) (uids : List ℕ) (i d : ℕ) → i < length uids → names (get_or uids i d) note ≡ true → (uid : ℕ) → (is_told notes uid ≡ true) ⊎ IsIn uid (drop i uids)
     → (is_told (notes ++ note ∷ []) uid ≡ true) ⊎ IsIn uid (drop (i + 1) uids)
@@ -73,13 +73,9 @@ under_same v n (Some m) before after uid e h = ap (λ (k : Option ℕ). flags_at
     either true = flags_of uid before ∙ ap (option_map (λ (r : Listed). r.flags)) (sym h) ∙ sym (flags_of uid after)
     either false = refl
 
-row_is : (o : Option Listed) → (o ≡ None) ⊎ ((row : Listed) × (o ≡ Some row))
-row_is None = inl refl
-row_is (Some row) = inr (row, refl)
-
-pub names_in : (start : Start) (before ops : List Op) (name : List ℕ) (ahead : AheadOf) (now : Option ℕ) (rows : List Listed) (notes : List Note) → IsApplied (before ++ ops) → IsAheadOf start before ops name ahead
-    → now ≡ uidvalidity_of start name (before ++ ops) → rows ≡ listing start name (before ++ ops) → TellsOf ahead.uidvalidity now ahead.uidnext ahead.touched rows notes → NamesIn start before (before ++ ops) name notes
-names_in start before ops name ahead now rows notes a is u r tells v uid =
+pub names_in : (start : Start) (before ops : List Op) (name : List ℕ) (ahead : AheadOf) (now : Option ℕ) (uidnext : ℕ) (notes : List Note) → IsApplied (before ++ ops) → IsAheadOf start before ops name ahead
+    → now ≡ uidvalidity_of start name (before ++ ops) → uidnext ≡ uidnext_of start name (before ++ ops) → TellsOf ahead.uidvalidity now ahead.uidnext uidnext ahead.touched notes → NamesIn start before (before ++ ops) name notes
+names_in start before ops name ahead now uidnext notes a is u n tells v uid =
     elim tells [
       | inr all ↦ inr (all uid)
       | inl some ↦
@@ -89,14 +85,28 @@ names_in start before ops name ahead now rows notes a is u r tells v uid =
             | inl i ↦ inr (some.1 uid i)
             | inr t ↦ elim t [
               | inr e ↦ inl (stays e)
-              | inl l ↦ elim (row_is (row_of uid (listing start name (before ++ ops)))) [
-                | inr row ↦ inr (some.2 uid row.0 l (ap (row_of uid) r ∙ row.1))
-                | inl none ↦
-                    let m : uidnext_of start name before ≤ uid = subst (λ (n : ℕ). n ≤ uid) is.uidnext l in
-                    inl (stays (none ∙ sym (ends_at_uidnext start name before uid (applied_front before ops a) m)))
+              | inl l ↦ elim (cases_Bool (nat_lt uid uidnext)) [
+                | inl below ↦ inr (some.2 uid l (grind (arith, nat_tests)))
+                | inr beyond ↦
+                    let m : uidnext_of start name before ≤ uid = subst (λ (k : ℕ). k ≤ uid) is.uidnext l in
+                    let behind : uidnext_of start name (before ++ ops) ≤ uid = subst (λ (k : ℕ). k ≤ uid) n (grind (arith, nat_tests)) in
+                    inl (stays (ends_at_uidnext start name (before ++ ops) uid a behind ∙ sym (ends_at_uidnext start name before uid (applied_front before ops a) m)))
               ]
             ]
           ]
+    ]
+
+-- one UID more
+pub new_told : (notes : List Note) (first at uid : ℕ) → (is_told notes uid ≡ true) ⊎ ((at ≤ uid) × (uid < first)) → (is_told (notes ++ New at ∷ []) uid ≡ true) ⊎ ((at + 1 ≤ uid) × (uid < first))
+new_told notes first at uid h =
+    elim h [
+      | inl t ↦ inl (any_append (names uid) notes (New at ∷ []) t)
+      | inr w ↦ elim (cases_Bool (nat_eq at uid)) [
+        | inl t ↦ inl (any_last (names uid) notes (New at) t)
+        | inr f ↦
+            let l = w.0 in
+            inr (grind (arith, nat_tests), w.1)
+      ]
     ]
 
 -- ---- all mailboxes

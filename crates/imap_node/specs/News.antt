@@ -1,7 +1,5 @@
-use Rattle.std.specs.Prelude.{◌≡◌, ◌⊎◌, ℕ, ◌≤◌, true, List, ◌++◌, Option, Some}
+use Rattle.std.specs.Prelude.{◌≡◌, ◌⊎◌, ℕ, ◌≤◌, ◌<◌, true, List, ◌++◌, Option}
 use Rattle.crdt_ops.specs.declared.op.Op.{Op}
-use Rattle.mail_listing.specs.Listed.{Listed}
-use Rattle.mail_listing.specs.Listing.{row_of}
 use Rattle.merge_laws.specs.Orders.{IsIn}
 use Rattle.imap_node.specs.Feeds.{FolderNoted, NamesIn, is_named}
 use Rattle.session_view.specs.Changes.{is_told}
@@ -27,10 +25,10 @@ pub record IsAheadOf (start : Start) (before ops : List Op) (name : List ℕ) (a
   pub uidnext : ahead.uidnext ≡ uidnext_of start name before
   pub stay : IsApplied (before ++ ops) → uidvalidity_of start name (before ++ ops) ≡ uidvalidity_of start name before → StayBut ahead.touched ahead.uidnext (listing start name before) (listing start name (before ++ ops))
 
--- The notes tell of each of these UIDs, and of each message from this UID on, where both UIDVALIDITIES are one; else of all.
-abbrev pub TellsOf : Option ℕ → Option ℕ → ℕ → List ℕ → List Listed → List Note → Type 0
-TellsOf before now uidnext touched rows notes =
-    (((before ≡ now) × ((uid : ℕ) → IsIn uid touched → is_told notes uid ≡ true) × ((uid : ℕ) (row : Listed) → uidnext ≤ uid → row_of uid rows ≡ Some row → is_told notes uid ≡ true))
+-- The notes tell of each of these UIDs, and of each from the one UIDNEXT to the other, where both UIDVALIDITIES are one; else of all.
+abbrev pub TellsOf : Option ℕ → Option ℕ → ℕ → ℕ → List ℕ → List Note → Type 0
+TellsOf before now first uidnext touched notes =
+    (((before ≡ now) × ((uid : ℕ) → IsIn uid touched → is_told notes uid ≡ true) × ((uid : ℕ) → first ≤ uid → uid < uidnext → is_told notes uid ≡ true))
     ⊎ ((uid : ℕ) → is_told notes uid ≡ true))
 
 -- Each mailbox among these has notes that name what the operations change in it.

@@ -1,17 +1,15 @@
 //! What operations changed in mailboxes.
 
-ghost use Rattle.std.specs.Prelude.{◌≡◌, ◌⊎◌, ◌≤◌, ◌++◌, ◌∷◌, ℕ, List, [], Some, true, IfOk, OnOk};
+ghost use Rattle.std.specs.Prelude.{◌≡◌, ◌⊎◌, ◌≤◌, ◌<◌, ◌++◌, ◌∷◌, ℕ, List, [], true, IfOk, OnOk};
 ghost use Rattle.crdt_ops.specs.declared.op.Op.{Op as Operation};
 ghost use Rattle.crdt_ops.specs.Tags.{name_of};
 ghost use Rattle.imap_node.specs.Feeds.{IsNews, NamesIn, is_named, notes_in, with_ended};
 ghost use Rattle.imap_node.specs.News.{AreNewsSoFar, IsAheadOf, TellsOf};
 ghost use Rattle.imap_node.specs.Nodes.{IsReady};
-ghost use Rattle.mail_listing.specs.Listed.{Listed};
-ghost use Rattle.mail_listing.specs.Listing.{row_of};
 ghost use Rattle.merge_laws.specs.Orders.{IsIn};
-ghost use Rattle.session_view.specs.Changes.{is_told, names};
+ghost use Rattle.session_view.specs.Changes.{is_told};
 ghost use Rattle.uid_projection.specs.Incarnations.{uidvalidity_of};
-ghost use Rattle.uid_projection.specs.Listing.{listing};
+ghost use Rattle.uid_projection.specs.Lines.{uidnext_of};
 ghost use Rattle.session_view.specs.declared.changes.Note.TheVariants.{Ended};
 ghost use Rattle.uid_projection.specs.Applied.{IsApplied};
 ghost use Rattle.uid_projection.specs.declared.start.Start.{Start as First};
@@ -19,11 +17,9 @@ ghost use Rattle.uid_projection.specs.declared.start.Start.{Start as First};
 use crate::replica::Replica;
 use crdt_ops::{Kind, SoundOp};
 use imap_types::Name;
-use mail_listing::Rows;
 use session_view::Note;
 use std::alloc::{AllocError, Global};
 use std::marker::Model;
-use uid_projection::uids_from;
 
 /// What operations changed in one mailbox.
 #[derive(Drop)]
@@ -152,47 +148,47 @@ impl Ahead {
         &self.name
     }
 
-    /// What the operations changed in the mailbox, whose UIDVALIDITY and listing are these behind them; `Err` where there is no memory for it. Cost: what they
+    /// What the operations changed in the mailbox, whose UIDVALIDITY and UIDNEXT are these behind them; `Err` where there is no memory for it. Cost: what they
     /// changed.
     pub fn notes(
         self,
         alloc: Global,
         uidvalidity: Option<u32>,
-        rows: &Rows<'_>,
+        uidnext: u32,
     ) -> Result<FolderNotes, AllocError>
         ensures name { IfOk result (λ folder. folder.name ≡ self.name) }
-        ensures notes { (start : First) (before ops : List Operation) → IsApplied (before ++ ops) → IsAheadOf start before ops self.name self → uidvalidity ≡ uidvalidity_of start self.name (before ++ ops) → rows.now ≡ listing start self.name (before ++ ops)
+        ensures notes { (start : First) (before ops : List Operation) → IsApplied (before ++ ops) → IsAheadOf start before ops self.name self → uidvalidity ≡ uidvalidity_of start self.name (before ++ ops) → uidnext ≡ uidnext_of start self.name (before ++ ops)
             → IfOk result (λ folder. NamesIn start before (before ++ ops) self.name folder.notes) }
     {
         let Self {
             name,
             uidvalidity: before,
-            uidnext,
+            uidnext: first,
             touched,
         } = self;
-        let notes = notes_behind(alloc, before, uidvalidity, uidnext, &touched, rows)?;
+        let notes = notes_behind(alloc, before, uidvalidity, first, uidnext, &touched)?;
         Ok(FolderNotes { name, notes })
     }
 }
 
-/// Notes of what may differ in a mailbox: all, where its UIDVALIDITY changed or there was none; else the messages with these UIDs, and those from this UID on.
+/// Notes of what may differ in a mailbox: all, where its UIDVALIDITY changed or there was none; else the messages with these UIDs, and those from the one
+/// UIDNEXT to the other.
 fn notes_behind(
     alloc: Global,
     before: Option<u32>,
     now: Option<u32>,
+    first: u32,
     uidnext: u32,
     touched: &[u32],
-    rows: &Rows<'_>,
 ) -> Result<Vec<Note>, AllocError>
-    ensures { IfOk result (λ notes. TellsOf before now uidnext touched.now rows.now notes.items) }
+    ensures { IfOk result (λ notes. TellsOf before now first uidnext touched.now notes.items) }
 {
     if !is_same(before, now) {
         return ended(alloc);
     }
     let mut notes = Vec::with_capacity(alloc, touched.len())?;
-    push_touched(touched, rows, &mut notes)?;
-    let new = uids_from(alloc, rows, uidnext)?;
-    push_new(&new, &mut notes)?;
+    push_touched(touched, &mut notes)?;
+    push_new(first, uidnext, &mut notes)?;
     Ok(notes)
 }
 
@@ -215,31 +211,22 @@ fn ended(alloc: Global) -> Result<Vec<Note>, AllocError>
     Ok(notes)
 }
 
-/// Notes the messages with these UIDs as changed, or gone.
-fn push_touched(uids: &[u32], rows: &Rows<'_>, notes: &mut Vec<Note>) -> Result<(), AllocError>
+/// Notes the messages with these UIDs as changed.
+fn push_touched(uids: &[u32], notes: &mut Vec<Note>) -> Result<(), AllocError>
     ensures { OnOk result ((uid : ℕ) → ((is_told notes.old.items uid ≡ true) ⊎ IsIn uid uids.now) → is_told notes.new.items uid ≡ true) }
 {
     for uid in uids {
-        notes.push(touched_note(*uid, rows))?;
+        notes.push(Note::Changed { uid: *uid })?;
     }
     Ok(())
 }
 
-fn touched_note(uid: u32, rows: &Rows<'_>) -> Note
-    ensures { names uid result ≡ true }
+/// Notes the messages with the UIDs from the first one up to another as new.
+fn push_new(first: u32, end: u32, notes: &mut Vec<Note>) -> Result<(), AllocError>
+    ensures { OnOk result ((uid : ℕ) → ((is_told notes.old.items uid ≡ true) ⊎ ((first ≤ uid) × (uid < end))) → is_told notes.new.items uid ≡ true) }
 {
-    match rows.row_of(uid) {
-        Some(_) => Note::Changed { uid },
-        None => Note::Gone { uid },
-    }
-}
-
-/// Notes the messages with these UIDs as new.
-fn push_new(uids: &[u32], notes: &mut Vec<Note>) -> Result<(), AllocError>
-    ensures { OnOk result ((uid : ℕ) → ((is_told notes.old.items uid ≡ true) ⊎ IsIn uid uids.now) → is_told notes.new.items uid ≡ true) }
-{
-    for uid in uids {
-        notes.push(Note::New { uid: *uid })?;
+    for uid in first..end {
+        notes.push(Note::New { uid })?;
     }
     Ok(())
 }
@@ -287,8 +274,11 @@ fn folder_news(
     ensures notes { IfOk result (λ folder. NamesIn replica.now.start replica.now.applied (replica.now.applied ++ ops.now) name.now folder.notes) }
 {
     let ahead = Ahead::of(alloc, replica, name, ops)?;
-    let rows = replica.rows_after(alloc, name, ops)?;
-    ahead.notes(alloc, replica.uidvalidity_after(name, ops), &rows)
+    ahead.notes(
+        alloc,
+        replica.uidvalidity_after(name, ops),
+        replica.uidnext_after(name, ops),
+    )
 }
 
 /// What is known of the mailbox that an operation names before it; `Err` where there is no memory for it.
@@ -306,9 +296,8 @@ pub fn delivered_news(alloc: Global, replica: &Replica, ahead: Ahead) -> Result<
 {
     let _list = replica.applied();
     let uidvalidity = replica.uidvalidity(ahead.name());
-    let rows = replica.rows(alloc, ahead.name())?;
-    let folder = ahead.notes(alloc, uidvalidity, &rows)?;
-    drop(rows);
+    let uidnext = replica.uidnext(ahead.name());
+    let folder = ahead.notes(alloc, uidvalidity, uidnext)?;
     let mut folders = Vec::with_capacity(alloc, 1)?;
     folders.push_reserved(folder);
     Ok(News { folders })

@@ -16,7 +16,7 @@ use Rattle.mail_listing.specs.Listed.{Listed}
 use Rattle.mail_listing.specs.Listing.{AreRisingRows, beyond, row_of}
 use Rattle.uid_projection.specs.Lines.{concerns_by}
 use Rattle.uid_projection.specs.Moves.{AreApart, added_origin, loses}
-use Rattle.uid_projection.specs.Touched.{AddsUids, AreUidsFrom, names}
+use Rattle.uid_projection.specs.Touched.{AddsUids, names}
 use Rattle.uid_projection.proofs.Moving.{same_own, same_true}
 
 -- ---- the row with a UID
@@ -61,75 +61,6 @@ row_none uid (x ∷ rows) h =
       | inl t ↦ absurd (h x (inl refl) (eqb-true x.uid uid t))
       | inr f ↦ rw f (row_none uid rows (λ y i. h y (inr i)))
     ]
-
--- ---- UIDs from a first one on
-
-rising_least : (low : ℕ) (rows : List Listed) → AreRisingRows low rows → (r : Listed) → IsIn r rows → low ≤ r.uid
-rising_least low [] h r i = absurd i
-rising_least low (x ∷ rows) h r i =
-    let first : low ≤ x.uid = h.0 in
-    elim i [
-      | inl e ↦ subst (λ (y : Listed). low ≤ y.uid) e first
-      | inr j ↦ let l = rising_least (x.uid + 1) rows h.1 r j in omega (arith, first, l)
-    ]
-
-rising_one : (low : ℕ) (rows : List Listed) → AreRisingRows low rows → (a b : Listed) → IsIn a rows → IsIn b rows → a.uid ≡ b.uid → a ≡ b
-rising_one low [] h a b i j e = absurd i
-rising_one low (x ∷ rows) h a b i j e =
-    elim i [
-      | inl p ↦ elim j [
-        | inl q ↦ sym p ∙ q
-        | inr q ↦ let l = rising_least (x.uid + 1) rows h.1 b q in let u = ap (λ (y : Listed). y.uid) p in absurd (omega (arith, l, u, e))
-      ]
-      | inr p ↦ elim j [
-        | inl q ↦ let l = rising_least (x.uid + 1) rows h.1 a p in let u = ap (λ (y : Listed). y.uid) q in absurd (omega (arith, l, u, e))
-        | inr q ↦ rising_one (x.uid + 1) rows h.1 a b p q e
-      ]
-    ]
-
-lt_true : (a b : ℕ) → a < b → nat_lt a b ≡ true
-lt_true a b l = grind (arith, nat_tests)
-
-true_lt : (a b : ℕ) → nat_lt a b ≡ true → a < b
-true_lt a b t = grind (arith, nat_tests)
-
--- the UIDs of the rows beyond the number below the first
-pub uids_told : (first : ℕ) (rows : List Listed) → AreRisingRows 1 rows → (uids : List ℕ) → uids ≡ map (λ (row : Listed). row.uid) (beyond (first - 1) rows) → AreUidsFrom first rows uids
-uids_told first rows h uids is = record {
-  all = λ uid row l e.
-      let w = row_found uid rows row e in
-      let least = rising_least 1 rows h row w.0 in
-      let u = w.1 in
-      let b : first - 1 < row.uid = omega (arith, least, u, l) in
-      let i : IsIn row (beyond (first - 1) rows) = (in_filter (λ (x : Listed). nat_lt (first - 1) x.uid) rows row).1 (w.0, lt_true (first - 1) row.uid b) in
-      subst (IsIn uid) (sym is) ((in_map (λ (x : Listed). x.uid) (beyond (first - 1) rows) uid).1 (row, i, u));
-  only = λ uid i.
-      let m = (in_map (λ (x : Listed). x.uid) (beyond (first - 1) rows) uid).0 (subst (IsIn uid) is i) in
-      let w = (in_filter (λ (x : Listed). nat_lt (first - 1) x.uid) rows m.0).0 m.1 in
-      let b = true_lt (first - 1) m.0.uid w.1 in
-      let u = m.2 in (
-        omega (arith, b, u),
-        (m.0, row_here uid rows m.0 w.0 u (λ x j e. rising_one 1 rows h x m.0 j w.0 (e ∙ sym u))),
-      );
-}
-
--- ---- UIDs of a slice of rows, one by one
-
-abbrev uids_of : List Listed → List ℕ
-uids_of rows = map (λ (row : Listed). row.uid) rows
-
-uids_from : (rows : List Listed) (k : ℕ) → uids_of (drop k rows) ≡ uids_of (option_to_list (slice_get rows k)) ++ uids_of (drop (k + 1) rows)
-uids_from [] zero = refl
-uids_from [] (suc k) = let e : suc k + 1 ≡ suc (k + 1) = omega arith in rw e refl
-uids_from (row ∷ rows) zero = refl
-uids_from (row ∷ rows) (suc k) = let e : suc k + 1 ≡ suc (k + 1) = omega arith in rw e (uids_from rows k)
-
-pub uids_more : (rows : List Listed) (k : ℕ) (old new total : List ℕ) → new ≡ old ++ uids_of (option_to_list (slice_get rows k)) → old ++ uids_of (drop k rows) ≡ total → new ++ uids_of (drop (k + 1) rows) ≡ total
-uids_more rows k old new total n t =
-    ap (λ us. us ++ uids_of (drop (k + 1) rows)) n
-    ∙ append_assoc old (uids_of (option_to_list (slice_get rows k))) (uids_of (drop (k + 1) rows))
-    ∙ ap (λ us. old ++ us) (sym (uids_from rows k))
-    ∙ t
 
 -- ---- UIDs of entries that are named
 

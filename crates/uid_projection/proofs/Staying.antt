@@ -23,7 +23,7 @@ use Rattle.uid_projection.specs.Incarnations.{is_there, k_of, uidvalidity_of}
 use Rattle.uid_projection.specs.Lines.{begins_line_of, changes_versions, concerns_by, has_version, modseq_of, origin_added, same_ids, uid_of, uidnext_of}
 use Rattle.uid_projection.specs.Listing.{listed_of, listing, numbered}
 use Rattle.uid_projection.specs.Moves.{added_origin, loses}
-use Rattle.uid_projection.specs.Touched.{AddsUids, AreUidsFrom, EndsAtUidnext, StayBut, names}
+use Rattle.uid_projection.specs.Touched.{AddsUids, EndsAtUidnext, StayBut, names}
 use Rattle.uid_projection.proofs.Advancing.{apart_chart}
 use Rattle.uid_projection.proofs.ChartSteps.{none_there}
 use Rattle.uid_projection.proofs.Keeping.{flags_later, keeps, keeps_first, uids_apart}
@@ -192,17 +192,3 @@ module _ (start : Start) (folder : List ℕ) (list ops : List Op) (a : IsApplied
 pub ends_at_uidnext : (start : Start) → EndsAtUidnext start
 ends_at_uidnext start folder list uid a l =
     row_none uid (listing start folder list) (λ x i e. let b = (uids_apart start folder list x x a i i).0 in omega (arith, b, e, l))
-
--- what was touched and what came are all that differs
-pub all_named : (uids more : List ℕ) (uidnext : ℕ) (before behind : List Listed) → StayBut uids uidnext before behind → ((uid : ℕ) → uidnext ≤ uid → row_of uid before ≡ None) → AreUidsFrom uidnext behind more → (uid : ℕ) → (IsIn uid uids ⊎ IsIn uid more) ⊎ (row_of uid behind ≡ row_of uid before)
-all_named uids more uidnext before behind s none from uid =
-    elim (s uid) [
-      | inl i ↦ inl (inl i)
-      | inr t ↦ elim t [
-        | inl l ↦ elim (row_cases (row_of uid behind)) [
-          | inl n ↦ inr (n ∙ sym (none uid l))
-          | inr r ↦ inl (inr (from.all uid r.0 l r.1))
-        ]
-        | inr e ↦ inr e
-      ]
-    ]

@@ -20,13 +20,6 @@ use Rattle.uid_projection.specs.Moves.{AreApart, added_origin, loses}
 abbrev pub StayBut : List ℕ → ℕ → List Listed → List Listed → Type 0
 StayBut uids uidnext before behind = (uid : ℕ) → IsIn uid uids ⊎ ((uidnext ≤ uid) ⊎ (row_of uid behind ≡ row_of uid before))
 
--- These are the UIDs of the listing from the first on.
-pub record AreUidsFrom (first : ℕ) (rows : List Listed) (uids : List ℕ) : Type 0 where
-  -- a message with such a UID is named
-  pub all : (uid : ℕ) (row : Listed) → first ≤ uid → row_of uid rows ≡ Some row → IsIn uid uids
-  -- and nothing else is
-  pub only : (uid : ℕ) → IsIn uid uids → (first ≤ uid) × ((row : Listed) × (row_of uid rows ≡ Some row))
-
 -- No operation of the list is about the folder.
 abbrev pub AreElsewhere : List ℕ → List Op → Type 0
 AreElsewhere folder ops = (op : Op) → IsIn op ops → concerns_by folder op.kind ≡ false

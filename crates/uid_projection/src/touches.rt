@@ -1,6 +1,6 @@
-//! Which messages of a folder operations to come touch, by their UIDs, and which UIDs are new.
+//! Which messages of a folder operations to come touch, by their UIDs.
 
-ghost use Rattle.std.specs.Prelude.{◌≡◌, ◌++◌, List, [], Some, IfOk, OnOk, map, drop};
+ghost use Rattle.std.specs.Prelude.{◌≡◌, ◌++◌, List, [], Some, IfOk, OnOk, map};
 ghost use Rattle.std.specs.List.{list_any, slice_get};
 ghost use Rattle.std.specs.Option.{option_to_list};
 ghost use Rattle.crdt_ops.specs.declared.op.Op.{Op as Operation};
@@ -12,7 +12,7 @@ ghost use Rattle.uid_projection.specs.Lines.{uidnext_of};
 ghost use Rattle.uid_projection.specs.Listing.{listing};
 ghost use Rattle.uid_projection.specs.Moves.{loses};
 ghost use Rattle.uid_projection.specs.Table.{origin_at};
-ghost use Rattle.uid_projection.specs.Touched.{AddsUids, AreUidsFrom, StayBut, names};
+ghost use Rattle.uid_projection.specs.Touched.{AddsUids, StayBut, names};
 
 use crate::chart::Chart;
 use crate::charts::Charts;
@@ -22,7 +22,7 @@ use crate::origins::origin_at;
 use crate::table::chart_of;
 use crdt_ops::{Op, SoundOp};
 use imap_types::Name;
-use mail_listing::{EntryList, EntryTable, Rows};
+use mail_listing::{EntryList, EntryTable};
 use std::alloc::{AllocError, Global};
 use tags_clocks::OpId;
 
@@ -43,16 +43,6 @@ impl Charts {
             None => Ok(Vec::new(alloc)),
         }
     }
-}
-
-/// The UIDs of the listing from the first on; `Err` where there is no memory for them. Cost: a binary search, and the UIDs
-/// that it gives.
-pub fn uids_from(alloc: Global, rows: &Rows<'_>, first: u32) -> Result<Vec<u32>, AllocError>
-    ensures { IfOk result (λ uids. AreUidsFrom first rows.now uids.items) }
-{
-    let _count = rows.count();
-    let uids = uids_behind(alloc, rows.place_beyond(first.saturating_sub(1)), rows)?;
-    Ok(uids)
 }
 
 /// The UIDs of the messages that operations about the folder name.
@@ -122,27 +112,6 @@ fn push_at(uids: &mut Vec<u32>, entries: &EntryTable, place: usize) -> Result<()
 {
     if let Some(entry) = entries.get(place) {
         uids.push(entry.uid)?;
-    }
-    Ok(())
-}
-
-/// The UIDs of the messages from this place on.
-fn uids_behind(alloc: Global, start: usize, rows: &Rows<'_>) -> Result<Vec<u32>, AllocError>
-    ensures { IfOk result (λ uids. uids.items ≡ map (λ row. row.uid) (drop start rows.now)) }
-{
-    let mut uids = Vec::new(alloc);
-    for place in start..rows.count() as usize {
-        push_uid(rows, place, &mut uids)?;
-    }
-    Ok(uids)
-}
-
-/// Puts the UID of the message at this place behind the others.
-fn push_uid(rows: &Rows<'_>, place: usize, uids: &mut Vec<u32>) -> Result<(), AllocError>
-    ensures { OnOk result (uids.new.items ≡ uids.old.items ++ map (λ row. row.uid) (option_to_list (slice_get rows.now place))) }
-{
-    if let Some(row) = rows.row_at(place) {
-        uids.push(row.uid)?;
     }
     Ok(())
 }

@@ -5,7 +5,7 @@ use Rattle.imap_node.specs.Feeds.{FolderNoted, IsNews, NamesIn, is_named}
 use Rattle.imap_node.specs.News.{IsAheadOf}
 use Rattle.uid_projection.specs.Applied.{IsApplied}
 use Rattle.uid_projection.specs.Incarnations.{uidvalidity_of}
-use Rattle.uid_projection.specs.Listing.{listing}
+use Rattle.uid_projection.specs.Lines.{uidnext_of}
 use Rattle.imap_node.proofs.NewsLemmas.{all_news, news_more}
 use Rattle.imap_node.proofs.news.delivered_news.Goals as goal
 
@@ -19,7 +19,7 @@ returns c = λ before op is e.
     let applied : IsApplied after = subst IsApplied e (record { sound = c.applied-list.ensures.sound; causal = c.applied-list.ensures.lawful.causal }) in
     let named = subst (λ (n : List ℕ). NamesIn start before after n folder.notes) is.name_is
     (done.notes start before (op ∷ []) applied (subst (λ (n : List ℕ). IsAheadOf start before (op ∷ []) n c.args.ahead) (sym is.name_is) is)
-    (c.uidvalidity-uidvalidity.ensures ∙ (λ i. uidvalidity_of start (c.name.ensures i) (e i))) (c.in_ok-rows.ensures {u = tt} ∙ (λ i. listing start (c.name-2.ensures i) (e i)))) in
+    (c.uidvalidity-uidvalidity.ensures ∙ (λ i. uidvalidity_of start (c.name.ensures i) (e i))) (c.uidnext-uidnext.ensures ∙ (λ i. uidnext_of start (c.name-2.ensures i) (e i)))) in
     let far = news_more start before (op ∷ []) name [] folder (done.name ∙ is.name_is) named in
     let all = all_news start before (op ∷ []) (folder ∷ []) applied (far.named (λ f i. absurd i))
     (λ o i. elim i [ inl q ↦ subst (λ (x : Op). is_named (folder ∷ []) (name_of x.kind) ≡ true) q far.own | inr n ↦ absurd n ]) in

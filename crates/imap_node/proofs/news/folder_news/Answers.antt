@@ -2,7 +2,7 @@ use Rattle.std.proofs.Common.{◌≡◌, ℕ, List, ◌++◌, IfOk, sym, subst, 
 use Rattle.imap_node.specs.Feeds.{NamesIn}
 use Rattle.imap_node.specs.News.{IsAheadOf}
 use Rattle.uid_projection.specs.Incarnations.{uidvalidity_of}
-use Rattle.uid_projection.specs.Listing.{listing}
+use Rattle.uid_projection.specs.Lines.{uidnext_of}
 use Rattle.imap_node.proofs.news.folder_news.Goals as goal
 
 pub returns-clause-notes : goal.returns-clause-notes
@@ -14,4 +14,4 @@ returns-clause-notes c =
     let is = c.in_ok-ahead.ensures {u = tt} in
     subst (λ (name : List ℕ). IfOk c.notes.result (λ folder. NamesIn start before (before ++ ops) name folder.notes)) is.name_is
     (c.notes.ensures.notes start before ops c.requires.follow.causal (subst (λ (name : List ℕ). IsAheadOf start before ops name ahead) (sym is.name_is) is)
-    (c.uidvalidity_after.ensures ∙ ap (λ (name : List ℕ). uidvalidity_of start name (before ++ ops)) (sym is.name_is)) (c.in_ok-rows.ensures {u = tt} ∙ ap (λ (name : List ℕ). listing start name (before ++ ops)) (sym is.name_is)))
+    (c.uidvalidity_after.ensures ∙ ap (λ (name : List ℕ). uidvalidity_of start name (before ++ ops)) (sym is.name_is)) (c.uidnext_after.ensures ∙ ap (λ (name : List ℕ). uidnext_of start name (before ++ ops)) (sym is.name_is)))

@@ -1,5 +1,4 @@
-use Rattle.std.proofs.Common.{inl, inr, ℕ, List, sym, subst}
-use Rattle.merge_laws.specs.Orders.{IsIn}
+use Rattle.std.proofs.Common.{inl, inr}
 use Rattle.imap_node.proofs.news.notes_behind.Goals as goal
 
 pub returns : goal.returns
@@ -9,5 +8,5 @@ returns c =
     inl (
       c.is_same.ensures c.if-not-is_same.false,
       λ uid i. new uid (inl (touched uid (inr i))),
-      λ uid row l r. new uid (inr (subst (IsIn uid) (sym c.deref.ensures.value) ((c.in_ok-new.ensures {u = tt}).all uid row l r))),
+      λ uid l m. new uid (inr (l, m)),
     )

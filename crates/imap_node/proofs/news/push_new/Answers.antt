@@ -1,15 +1,17 @@
-use Rattle.std.proofs.Common.{◌≡◌, ◌⊎◌, ◌+◌, List, true, drop, get_or, sym, subst}
-use Rattle.merge_laws.specs.Orders.{IsIn}
+use Rattle.std.proofs.Common.{◌≡◌, ◌⊎◌, ◌+◌, ◌≤◌, ◌<◌, List, true, inl, inr, arith, sym, subst}
 use Rattle.session_view.specs.Changes.{is_told}
 use Rattle.session_view.specs.declared.changes.Note.{Note}
-use Rattle.session_view.specs.declared.changes.Note.TheVariants.{New}
-use Rattle.imap_node.proofs.NewsLemmas.{more_told, names_new, told_all}
+use Rattle.imap_node.proofs.NewsLemmas.{new_told}
 use Rattle.imap_node.proofs.news.push_new.Goals as goal
 
 pub loop-uid-preserved : goal.loop-uid-preserved
 loop-uid-preserved c = λ uid h.
-    subst (λ (notes : List Note). (is_told notes uid ≡ true) ⊎ IsIn uid (drop (c.loop-uid.uid-index + 1) c.args.uids.now)) (sym (c.in_ok-push.ensures {u = tt}).items)
-    (more_told c.loop-uid.notes.items (New (get_or c.args.uids.now c.loop-uid.uid-index 0)) c.args.uids.now c.loop-uid.uid-index 0 c.loop-uid-test.true (names_new (get_or c.args.uids.now c.loop-uid.uid-index 0)) uid (c.loop-uid.invariant uid h))
+    subst (λ (notes : List Note). (is_told notes uid ≡ true) ⊎ ((c.loop-uid.uid + 1 ≤ uid) × (uid < c.args.end))) (sym (c.in_ok-push.ensures {u = tt}).items)
+    (new_told c.loop-uid.notes.items c.args.end c.loop-uid.uid uid (c.loop-uid.invariant uid h))
 
 pub returns : goal.returns
-returns c = λ uid h. told_all c.loop-uid.notes.items c.args.uids.now c.loop-uid.uid-index uid c.loop-uid-test.false (c.loop-uid.invariant uid h)
+returns c = λ uid h.
+    elim (c.loop-uid.invariant uid h) [
+      | inl t ↦ t
+      | inr w ↦ let l = w.0 in let m = w.1 in let f = c.loop-uid-test.false in absurd (omega (arith, l, m, f))
+    ]

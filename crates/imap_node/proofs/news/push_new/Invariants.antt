@@ -1,7 +1,7 @@
-use Rattle.std.proofs.Common.{◌≡◌, ◌⊎◌, ℕ, true, drop}
-use Rattle.merge_laws.specs.Orders.{IsIn}
+use Rattle.std.proofs.Common.{◌≡◌, ◌⊎◌, ◌≤◌, ◌<◌, ℕ, true}
 use Rattle.session_view.specs.Changes.{is_told}
 use Rattle.imap_node.proofs.news.push_new.Given as goal
 
 abbrev pub invariant-loop-uid : goal.invariant-loop-uid
-invariant-loop-uid l = (uid : ℕ) → (is_told l.fn.notes.items uid ≡ true) ⊎ IsIn uid l.uids → (is_told l.notes.items uid ≡ true) ⊎ IsIn uid (drop l.uid-index l.uids)
+invariant-loop-uid l =
+    (u : ℕ) → ((is_told l.fn.notes.items u ≡ true) ⊎ ((l.first ≤ u) × (u < l.end))) → (is_told l.notes.items u ≡ true) ⊎ ((l.uid ≤ u) × (u < l.end))

@@ -4,8 +4,8 @@ use Rattle.imap_node.proofs.NewsLemmas.{names_in}
 use Rattle.imap_node.proofs.news.Ahead.notes.Goals as goal
 
 pub returns-clause-notes : goal.returns-clause-notes
-returns-clause-notes c = λ start before ops a is u r.
+returns-clause-notes c = λ start before ops a is u n.
     let inside = c.self.inside in
     let notes = c.in_ok-notes.notes.items in
-    let tells = subst (λ (touched : List ℕ). TellsOf inside.uidvalidity c.args.uidvalidity inside.uidnext touched c.args.rows.now notes) c.deref.ensures.value (c.in_ok-notes.ensures {u = tt}) in
-    names_in start before ops c.args.self.name c.args.self c.args.uidvalidity c.args.rows.now notes a is u r (subst (λ (ahead : AheadOf). TellsOf ahead.uidvalidity c.args.uidvalidity ahead.uidnext ahead.touched c.args.rows.now notes) c.self.view_is tells)
+    let tells = subst (λ (touched : List ℕ). TellsOf inside.uidvalidity c.args.uidvalidity inside.uidnext c.args.uidnext touched notes) c.deref.ensures.value (c.in_ok-notes.ensures {u = tt}) in
+    names_in start before ops c.args.self.name c.args.self c.args.uidvalidity c.args.uidnext notes a is u n (subst (λ (ahead : AheadOf). TellsOf ahead.uidvalidity c.args.uidvalidity ahead.uidnext c.args.uidnext ahead.touched notes) c.self.view_is tells)
