@@ -16,7 +16,7 @@ use Rattle.imap_commands.specs.declared.session.State.TheVariants.{Selected}
 use Rattle.imap_node.specs.declared.going.Going.{Going}
 use Rattle.imap_node.specs.declared.going.Onward.{Onward}
 use Rattle.imap_node.specs.declared.going.Onward.TheVariants.{Moves, Stays}
-use Rattle.imap_node.specs.Endings.{FrontOf, answers_by, ending_behind, synced_by}
+use Rattle.imap_node.specs.Endings.{FrontOf, IsMadeFor, answers_by, ending_behind, synced_by}
 use Rattle.imap_node.specs.Feeds.{AreAllNoted, FolderNoted, IsBehindNews, IsNews, IsNotedFor, IsSettled, UntoldOf, lacking, notes_in, pending_at}
 use Rattle.imap_node.specs.Going.{CanChange, CanGo, ChangeLeaves, LeavesNoted, gone_on, state_onward, state_with}
 use Rattle.imap_node.specs.Mailboxes.{rows_for}
@@ -68,6 +68,11 @@ module _ (start : Start) (after : List Op) (state : State) (view : Seen) (read_o
   pub can_in_place : (change : Change) → CanCommit view.entries change → IsChangeTo rows view.entries change → CanGo start after state (Stays (Some change))
   can_in_place change c l =
       subst (λ (s : State). CanGo start after s (Stays (Some change))) (sym is) (record { make = c; leaves = subst (λ (rs : List Listed). IsChangeTo rs view.entries change) r l })
+
+-- a listing that was made for a state
+pub made_for : (start : Start) (ops : List Op) (state : State) (view : Seen) (read_only : Bool) (made : Option (List Listed)) (rows : List Listed) → state ≡ Selected view read_only → made ≡ Some rows → IsMadeFor start ops state made → rows ≡ rows_for start ops view
+made_for start ops state view read_only made rows is e h =
+    subst (λ (m : Option (List Listed)). IsMadeFor start ops (Selected view read_only) m) e (subst (λ (s : State). IsMadeFor start ops s made) is h)
 
 -- what the sync of a view asks
 pub asked_in_place : (start : Start) (before after : List Op) (view : Seen) (pending : Pending) (news : List FolderNoted) (rows : List Listed) (notes : List Note) (name : List ℕ) → IsNotedFor start before pending view → IsNews start before after news

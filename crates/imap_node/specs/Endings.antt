@@ -91,3 +91,8 @@ pub record IsFirstSight (entries : List Entry) (front : FrontOf) : Type 0 where
   pub unsynced : front.sync ≡ None
   pub silent : front.silent ≡ []
   pub own : list_any alters front.own ≡ false
+
+-- The listing that was made for a state, if one was, is what its mailbox has behind these operations.
+abbrev pub IsMadeFor : Start → List Op → State → Option (List Listed) → Type 0
+IsMadeFor start ops (Selected view read_only) (Some rows) = rows ≡ rows_for start ops view
+IsMadeFor start ops state made = Unit {0}

@@ -4,7 +4,8 @@ ghost use Rattle.std.specs.Prelude.{◌≡◌, ◌++◌, ◌∷◌, [], IfOk, On
 ghost use Rattle.imap_answers.specs.declared.answer.Answer.TheVariants.{Completed};
 ghost use Rattle.imap_node.specs.Commands.{found_of, highest_of, highest_told, notice, turns_on};
 ghost use Rattle.imap_commands.specs.declared.session.State.{State as Stands};
-ghost use Rattle.imap_node.specs.Endings.{course_from, moved_from};
+ghost use Rattle.imap_node.specs.Endings.{IsMadeFor, course_from, moved_from};
+ghost use Rattle.std.specs.Option.{option_map};
 ghost use Rattle.imap_node.specs.Nodes.{IsReady};
 ghost use Rattle.imap_node.specs.Respond.{CommandTakes, TakesCourse, begun, condstore_after, found_by, idle_tail, idling_after, synced_course, tail_of, told_course};
 
@@ -18,6 +19,7 @@ use imap_answers::{Answer, Code, CommandWord, Notice};
 use imap_commands::{Found, Session, State, Telling};
 use imap_syntax::{Command, Tagged};
 use imap_types::Octets;
+use mail_listing::Rows;
 use session_view::{Silent, SyncKind, View};
 use std::alloc::{AllocError, Global};
 use std::marker::Model;
@@ -52,17 +54,19 @@ pub fn course_of(
     alloc: Global,
     replica: &Replica,
     ops: &[SoundOp],
+    made: Option<&Rows<'_>>,
     session: &Session,
     input: &Input,
     found: &Found,
 ) -> Result<Course, AllocError>
     requires ready { IsReady replica.now ops.now }
+    requires made { IsMadeFor replica.now.start (replica.now.applied ++ ops.now) session.now.state (option_map (λ rows. rows.now) made) }
     requires found { found.now ≡ found_by replica.now.start replica.now.applied session.now.state input.now }
     ensures { IfOk result (λ course. TakesCourse replica.now.start replica.now.applied (replica.now.applied ++ ops.now) session.now input.now (course_from session.now.state course)) }
 {
     match input {
         Input::Command { tagged, .. } => command_course(
-            alloc, replica, ops, session, tagged, found,
+            alloc, replica, ops, made, session, tagged, found,
         ),
         Input::Line { .. } => synced_course(alloc, session, idle_tail(alloc, &session.idling)?),
         Input::Poll => synced_course(alloc, session, Vec::new(alloc)),
@@ -113,17 +117,28 @@ fn command_course(
     alloc: Global,
     replica: &Replica,
     ops: &[SoundOp],
+    made: Option<&Rows<'_>>,
     session: &Session,
     tagged: &Tagged,
     found: &Found,
 ) -> Result<Course, AllocError>
     requires ready { IsReady replica.now ops.now }
+    requires made { IsMadeFor replica.now.start (replica.now.applied ++ ops.now) session.now.state (option_map (λ rows. rows.now) made) }
     requires found { found.now ≡ found_of replica.now.start replica.now.applied session.now.state tagged.now.command }
     ensures { IfOk result (λ course. CommandTakes replica.now.start replica.now.applied (replica.now.applied ++ ops.now) session.now tagged.now (course_from session.now.state course)) }
 {
     let modseq = is_on(session, &tagged.command);
     let first = notice(alloc, replica, ops, session, &tagged.command)?;
-    let told = tells(alloc, replica, ops, &session.state, modseq, tagged, found)?;
+    let told = tells(
+        alloc,
+        replica,
+        ops,
+        made,
+        &session.state,
+        modseq,
+        tagged,
+        found,
+    )?;
     let moved = moves_to(alloc, replica, ops, &tagged.command)?;
     told_course(alloc, first, told, moved, modseq, tagged)
 }

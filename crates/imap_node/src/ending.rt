@@ -1,10 +1,12 @@
 //! What stands behind an input's own answers: the sync, and what the session sees then.
 
-ghost use Rattle.std.specs.Prelude.{◌≡◌, ◌⊎◌, ◌++◌, true, [], IfOk, None, Some};
+ghost use Rattle.std.specs.Prelude.{◌≡◌, ◌⊎◌, ◌++◌, List, true, [], IfOk, None, Some};
 ghost use Rattle.imap_commands.specs.declared.session.State.{State as Stands};
 ghost use Rattle.imap_commands.specs.declared.session.State.TheVariants.{Selected};
 ghost use Rattle.imap_node.specs.Commands.{moves_to};
-ghost use Rattle.imap_node.specs.Endings.{IsFirstSight, alters, answers_by, ending_behind, moved_from, synced_by};
+ghost use Rattle.mail_listing.specs.Listed.{Listed};
+ghost use Rattle.std.specs.Option.{option_map};
+ghost use Rattle.imap_node.specs.Endings.{IsFirstSight, IsMadeFor, alters, answers_by, ending_behind, moved_from, synced_by};
 ghost use Rattle.imap_node.specs.Feeds.{IsNews, IsNotedFor, IsSettled};
 ghost use Rattle.imap_node.specs.Going.{CanGo, ShowsAll, state_onward};
 ghost use Rattle.imap_node.specs.Mailboxes.{rows_for, validity_of};
@@ -197,11 +199,13 @@ pub fn ending_in_place(
     alloc: Global,
     replica: &Replica,
     ops: &[SoundOp],
+    made: Option<&Rows<'_>>,
     state: &mut State,
     untold: &Untold<'_>,
     front: &Front<'_>,
 ) -> Result<(Vec<Answer>, Onward), AllocError>
     requires ready { IsReady replica.now ops.now }
+    requires made { IsMadeFor replica.now.start (replica.now.applied ++ ops.now) state.old (option_map (λ rows. rows.now) made) }
     requires noted { (view : Seen) → view_of state.old ≡ Some view → IsNotedFor replica.now.start replica.now.applied untold.now.pending view }
     requires news { IsNews replica.now.start replica.now.applied (replica.now.applied ++ ops.now) untold.now.news }
     ensures same { state.new ≡ state.old }
@@ -227,7 +231,7 @@ pub fn ending_in_place(
                 kind,
                 modseq: front.modseq,
             };
-            let planned = planned_behind(alloc, replica, ops, view, untold, first, form)?;
+            let planned = planned_behind(alloc, replica, ops, made, view, untold, first, form)?;
             let Planned { answers, change } = planned;
             Ok((
                 answers,
@@ -248,12 +252,14 @@ fn planned_behind(
     alloc: Global,
     replica: &Replica,
     ops: &[SoundOp],
+    made: Option<&Rows<'_>>,
     view: &mut View,
     untold: &Untold<'_>,
     first: Vec<Silent>,
     form: SyncForm,
 ) -> Result<Planned, AllocError>
     requires ready { IsReady replica.now ops.now }
+    requires made { (rows : List Listed) → option_map (λ rows. rows.now) made ≡ Some rows → rows ≡ rows_for replica.now.start (replica.now.applied ++ ops.now) view.old }
     requires noted { IsNotedFor replica.now.start replica.now.applied untold.now.pending view.old }
     requires news { IsNews replica.now.start replica.now.applied (replica.now.applied ++ ops.now) untold.now.news }
     ensures same { view.new ≡ view.old }
@@ -262,6 +268,9 @@ fn planned_behind(
     ensures change { IfOk result (λ plan. IsChangeTo (rows_for replica.now.start (replica.now.applied ++ ops.now) view.old) view.old.entries plan.change) }
     ensures can { IfOk result (λ plan. CanCommit view.old.entries plan.change) }
 {
+    if let Some(rows) = made {
+        return planned_over(alloc, replica, ops, rows, view, untold, first, form);
+    }
     let rows = match rows_behind(alloc, replica, ops, view) {
         Ok(rows) => rows,
         Err(error) => {
@@ -269,13 +278,36 @@ fn planned_behind(
             return Err(error);
         }
     };
+    let planned = planned_over(alloc, replica, ops, &rows, view, untold, first, form);
+    drop(rows);
+    planned
+}
+
+/// The same over what the view's mailbox has behind the operations.
+fn planned_over(
+    alloc: Global,
+    replica: &Replica,
+    ops: &[SoundOp],
+    rows: &Rows<'_>,
+    view: &mut View,
+    untold: &Untold<'_>,
+    first: Vec<Silent>,
+    form: SyncForm,
+) -> Result<Planned, AllocError>
+    requires rows { rows.now ≡ rows_for replica.now.start (replica.now.applied ++ ops.now) view.old }
+    requires noted { IsNotedFor replica.now.start replica.now.applied untold.now.pending view.old }
+    requires news { IsNews replica.now.start replica.now.applied (replica.now.applied ++ ops.now) untold.now.news }
+    ensures same { view.new ≡ view.old }
+    ensures answers { IfOk result (λ plan. plan.answers.items ≡ sync_answers form.kind form.modseq (rows_for replica.now.start (replica.now.applied ++ ops.now) view.old) (after_silent view.old.entries first.items)) }
+    ensures changed { IfOk result (λ plan. changed view.old.entries plan.change ≡ synced form.kind (rows_for replica.now.start (replica.now.applied ++ ops.now) view.old) (after_silent view.old.entries first.items)) }
+    ensures change { IfOk result (λ plan. IsChangeTo (rows_for replica.now.start (replica.now.applied ++ ops.now) view.old) view.old.entries plan.change) }
+    ensures can { IfOk result (λ plan. CanCommit view.old.entries plan.change) }
+{
     let noted = Noted {
         feed: untold.feed,
         notes: untold.news.notes_of(view.name()),
     };
-    let planned = plan(alloc, view, &rows, noted, first, form);
-    drop(rows);
-    planned
+    plan(alloc, view, rows, noted, first, form)
 }
 
 /// The sync, and the state then, on a copy of the state.

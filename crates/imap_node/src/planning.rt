@@ -4,7 +4,8 @@ ghost use Rattle.std.specs.Prelude.{◌≡◌, ◌++◌, IfOk, IfErr, IsSome, So
 ghost use Rattle.causal_inbox.specs.Seen.{AreIssued};
 ghost use Rattle.imap_commands.specs.Gives.{Gives};
 ghost use Rattle.imap_commands.specs.declared.session.Session.{Session as One};
-ghost use Rattle.imap_node.specs.Endings.{answers_of_course, course_from, ending_behind, ending_of, moved_from};
+ghost use Rattle.std.specs.Option.{option_map};
+ghost use Rattle.imap_node.specs.Endings.{IsMadeFor, answers_of_course, course_from, ending_behind, ending_of, moved_from};
 ghost use Rattle.imap_node.specs.Feeds.{AreAllNoted, IsNews, IsNotedFor};
 ghost use Rattle.imap_node.specs.Going.{CanGo, state_onward};
 ghost use Rattle.imap_node.specs.Nodes.{IsReady};
@@ -26,6 +27,7 @@ use crate::news::{News, news_of};
 use crate::replica::Replica;
 use crate::reply::{Answers, Issued, Reply, Silents, copied_ops};
 use crate::sessions::{SessionNo, Sessions};
+use crate::telling::rows_behind;
 use crate::wanting::wants_of;
 use crdt_ops::SoundOp;
 use idle_feed::Feed;
@@ -33,6 +35,7 @@ use imap_answers::{Answer, Refusal};
 use imap_commands::{Found, Session, State, Wanted};
 use imap_syntax::Command;
 use imap_types::{DateTime, Moment};
+use mail_listing::Rows;
 use mail_text::civil;
 use session_view::Silent;
 use std::alloc::{AllocError, Global};
@@ -275,12 +278,21 @@ fn answers_to(
 {
     let condstore = condstore_after(session, input);
     let idling = idling_after(alloc, session, input)?;
-    let course = course_of(alloc, replica, ops, session, input, found)?;
+    let made = listing_behind(alloc, replica, ops, &session.state, untold.news)?;
+    let course = course_of(alloc, replica, ops, made.as_ref(), session, input, found)?;
     let Told {
         answers,
         silent,
         onward,
-    } = followed(alloc, replica, ops, &mut session.state, untold, course)?;
+    } = followed(
+        alloc,
+        replica,
+        ops,
+        made.as_ref(),
+        &mut session.state,
+        untold,
+        course,
+    )?;
     Ok(Answered {
         answers,
         silent,
@@ -290,6 +302,28 @@ fn answers_to(
             idling,
         },
     })
+}
+
+/// What the mailbox that is selected has behind the operations, made once for all that looks at it; none where none is, or the operations change nothing in it.
+fn listing_behind<'a>(
+    alloc: Global,
+    replica: &'a Replica,
+    ops: &'a [SoundOp],
+    state: &State,
+    news: &News,
+) -> Result<Option<Rows<'a>>, AllocError>
+    requires { IsReady replica.now ops.now }
+    ensures { IfOk result (λ made. IsMadeFor replica.now.start (replica.now.applied ++ ops.now) state.now made) }
+{
+    match state {
+        State::Selected { view, .. } => {
+            if news.notes_of(view.name()).is_empty() {
+                return Ok(None);
+            }
+            Ok(Some(rows_behind(alloc, replica, ops, view)?))
+        }
+        _ => Ok(None),
+    }
 }
 
 /// What an input is answered, the flags that it sets in silence, and what becomes of the state.
@@ -304,11 +338,13 @@ fn followed(
     alloc: Global,
     replica: &Replica,
     ops: &[SoundOp],
+    made: Option<&Rows<'_>>,
     state: &mut State,
     untold: &Untold<'_>,
     course: Course,
 ) -> Result<Told, AllocError>
     requires ready { IsReady replica.now ops.now }
+    requires made { IsMadeFor replica.now.start (replica.now.applied ++ ops.now) state.old (option_map (λ rows. rows.now) made) }
     requires noted { (view : Seen) → view_of state.old ≡ Some view → IsNotedFor replica.now.start replica.now.applied untold.now.pending view }
     requires news { IsNews replica.now.start replica.now.applied (replica.now.applied ++ ops.now) untold.now.news }
     ensures same { state.new ≡ state.old }
@@ -332,7 +368,7 @@ fn followed(
         modseq,
     };
     let applied = Applied { replica, ops };
-    let (answers, onward) = ended(alloc, &applied, state, untold, moved, &front)?;
+    let (answers, onward) = ended(alloc, &applied, made, state, untold, moved, &front)?;
     match shared(own, answers, tail, silent) {
         Ok((answers, silent)) => Ok(Told {
             answers,
@@ -385,12 +421,14 @@ struct Applied<'a> {
 fn ended(
     alloc: Global,
     applied: &Applied<'_>,
+    made: Option<&Rows<'_>>,
     state: &mut State,
     untold: &Untold<'_>,
     moved: Option<State>,
     front: &Front<'_>,
 ) -> Result<(Vec<Answer>, Onward), AllocError>
     requires ready { IsReady applied.now.replica.now applied.now.ops.now }
+    requires made { IsMadeFor applied.now.replica.now.start (applied.now.replica.now.applied ++ applied.now.ops.now) state.old (option_map (λ rows. rows.now) made) }
     requires noted { (view : Seen) → view_of state.old ≡ Some view → IsNotedFor applied.now.replica.now.start applied.now.replica.now.applied untold.now.pending view }
     requires news { IsNews applied.now.replica.now.start applied.now.replica.now.applied (applied.now.replica.now.applied ++ applied.now.ops.now) untold.now.news }
     ensures same { state.new ≡ state.old }
@@ -407,6 +445,14 @@ fn ended(
             } = ending(alloc, applied.replica, applied.ops, next, front)?;
             Ok((answers, Onward::Moves { state, shows_all }))
         }
-        None => ending_in_place(alloc, applied.replica, applied.ops, state, untold, front),
+        None => ending_in_place(
+            alloc,
+            applied.replica,
+            applied.ops,
+            made,
+            state,
+            untold,
+            front,
+        ),
     }
 }

@@ -1,7 +1,7 @@
 //! What each command tells: one line a command.
 
 ghost use Rattle.std.specs.Prelude.{◌≡◌, ◌++◌, List, true, IfOk, if◌then◌else◌};
-ghost use Rattle.std.specs.Option.{unwrap_or};
+ghost use Rattle.std.specs.Option.{option_map, unwrap_or};
 ghost use Rattle.crdt_ops.specs.Sets.{folders_of, subscribed_of};
 ghost use Rattle.imap_commands.specs.Asking.{ListTells, status_tells};
 ghost use Rattle.imap_commands.specs.Appending.{append_tells};
@@ -12,6 +12,7 @@ ghost use Rattle.imap_commands.specs.Found.{named_found, store_found};
 ghost use Rattle.imap_commands.specs.Selecting.{SelectTells};
 ghost use Rattle.imap_commands.specs.Storing.{store_tells};
 ghost use Rattle.imap_node.specs.Commands.{SearchTellsSelected, Tells, found_of, found_selected, is_selected, tells_selected};
+ghost use Rattle.imap_node.specs.Endings.{IsMadeFor};
 ghost use Rattle.imap_node.specs.Mailboxes.{landing_in, mailbox_in, marks_of, rows_for, validity_of};
 ghost use Rattle.imap_node.specs.Nodes.{IsReady};
 ghost use Rattle.imap_types.specs.declared.sequence_set.SequenceRange.{SequenceRange};
@@ -34,17 +35,19 @@ use mail_listing::Rows;
 use session_view::View;
 use std::alloc::{AllocError, Global};
 
-/// What a command itself tells, behind the operations applied and its own, by what it found before these.
+/// What a command itself tells, behind the operations applied and its own, by what it found before these and the listing behind them, where that was made.
 pub fn tells(
     alloc: Global,
     replica: &Replica,
     ops: &[SoundOp],
+    made: Option<&Rows<'_>>,
     state: &State,
     modseq: bool,
     tagged: &Tagged,
     found: &Found,
 ) -> Result<Telling, AllocError>
     requires ready { IsReady replica.now ops.now }
+    requires made { IsMadeFor replica.now.start (replica.now.applied ++ ops.now) state.now (option_map (λ rows. rows.now) made) }
     requires found { found.now ≡ found_of replica.now.start replica.now.applied state.now tagged.now.command }
     ensures { IfOk result (λ told. Tells replica.now.start replica.now.applied (replica.now.applied ++ ops.now) state.now modseq tagged.now.tag tagged.now.command told) }
 {
@@ -96,7 +99,7 @@ pub fn tells(
                 items: fetch.items.as_slice(),
                 changed_since: fetch.changed_since,
             };
-            tells_fetch(alloc, replica, ops, state, modseq, &asked, found)
+            tells_fetch(alloc, replica, ops, made, state, modseq, &asked, found)
         }
         Command::Store(store) => {
             let asked = StoreAsked {
@@ -106,7 +109,7 @@ pub fn tells(
                 action: store.action,
                 flags: &store.flags,
             };
-            tells_store(alloc, replica, ops, state, modseq, &asked, found)
+            tells_store(alloc, replica, ops, made, state, modseq, &asked, found)
         }
         Command::Copy(transfer) => {
             let asked = CopyAsked {
@@ -318,12 +321,14 @@ fn tells_fetch(
     alloc: Global,
     replica: &Replica,
     ops: &[SoundOp],
+    made: Option<&Rows<'_>>,
     state: &State,
     modseq: bool,
     asked: &FetchAsked<'_>,
     found: &Found,
 ) -> Result<Telling, AllocError>
     requires ready { IsReady replica.now ops.now }
+    requires made { IsMadeFor replica.now.start (replica.now.applied ++ ops.now) state.now (option_map (λ rows. rows.now) made) }
     requires found { found.now ≡ found_selected state.now (λ view read_only. named_found asked.now.by_uid asked.now.messages view.entries) }
     ensures { IfOk result (λ told. told ≡ tells_selected state.now (λ view read_only. fetch_tells (mailbox_in replica.now.start replica.now.applied view read_only) (rows_for replica.now.start (replica.now.applied ++ ops.now) view) modseq asked.now)) }
 {
@@ -334,6 +339,9 @@ fn tells_fetch(
     if ops.is_empty() {
         return fetch_tells(alloc, &mailbox, None, modseq, asked, found);
     }
+    if let Some(after) = made {
+        return fetch_tells(alloc, &mailbox, Some(after), modseq, asked, found);
+    }
     let after = rows_behind(alloc, replica, ops, view)?;
     fetch_tells(alloc, &mailbox, Some(&after), modseq, asked, found)
 }
@@ -342,12 +350,14 @@ fn tells_store(
     alloc: Global,
     replica: &Replica,
     ops: &[SoundOp],
+    made: Option<&Rows<'_>>,
     state: &State,
     modseq: bool,
     asked: &StoreAsked<'_>,
     found: &Found,
 ) -> Result<Telling, AllocError>
     requires ready { IsReady replica.now ops.now }
+    requires made { IsMadeFor replica.now.start (replica.now.applied ++ ops.now) state.now (option_map (λ rows. rows.now) made) }
     requires found { found.now ≡ found_selected state.now (λ view read_only. store_found (mailbox_in replica.now.start replica.now.applied view read_only) asked.now) }
     ensures { IfOk result (λ told. told ≡ tells_selected state.now (λ view read_only. store_tells (mailbox_in replica.now.start replica.now.applied view read_only) (rows_for replica.now.start (replica.now.applied ++ ops.now) view) modseq asked.now)) }
 {
@@ -355,6 +365,9 @@ fn tells_store(
         return Ok(Telling::nothing(alloc));
     };
     let mailbox = mailbox_before(alloc, replica, view, *read_only)?;
+    if let Some(after) = made {
+        return store_tells(alloc, &mailbox, after, modseq, asked, found);
+    }
     let after = rows_behind(alloc, replica, ops, view)?;
     store_tells(alloc, &mailbox, &after, modseq, asked, found)
 }

@@ -10,7 +10,7 @@ use Rattle.imap_node.specs.Mailboxes.{rows_for}
 use Rattle.imap_node.specs.Replays.{view_of}
 use Rattle.session_view.specs.Changes.{all_flags_told}
 use Rattle.session_view.specs.Replay.{after_silent}
-use Rattle.imap_node.proofs.GoingLemmas.{can_in_place, can_stay, none_there, shown_as_before, shown_in_place, told_in_place}
+use Rattle.imap_node.proofs.GoingLemmas.{made_for, can_in_place, can_stay, none_there, shown_as_before, shown_in_place, told_in_place}
 use Rattle.session_view.specs.Seen.{Seen}
 use Rattle.uid_projection.specs.declared.start.Start.{Start}
 use Rattle.imap_node.proofs.ending.ending_in_place.Goals as goal
@@ -20,6 +20,10 @@ told_nothing : (start : Start) (after : List Op) (state : State) (front : FrontO
     → (answers ≡ (ending_behind start after state front).answers) × (state_with state None ≡ (ending_behind start after state front).state)
 told_nothing start after (Selected view read_only) front answers e n = absurd (n view read_only refl)
 told_nothing start after _ front answers e n = (e, refl)
+
+pub planned_behind-requires-clause-made : goal.planned_behind-requires-clause-made
+planned_behind-requires-clause-made c = λ rows e.
+    made_for c.args.replica.now.start (c.args.replica.now.applied ++ c.args.ops.now) c.args.state.now c.in-Selected.view c.in-Selected.read_only _ rows c.in-Selected.is e c.requires.made
 
 pub planned_behind-requires-clause-noted : goal.planned_behind-requires-clause-noted
 planned_behind-requires-clause-noted c = c.requires.noted c.in-Selected.view (ap view_of c.in-Selected.is)
