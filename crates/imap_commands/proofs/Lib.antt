@@ -20,3 +20,4 @@ pub mod PrintCopied
 pub mod PrintSpelled
 mod StoreExamples
 pub mod SeenLemmas
+pub mod GoneLemmas

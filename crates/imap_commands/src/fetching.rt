@@ -1,13 +1,13 @@
 //! FETCH and UID FETCH (RFC 9051, section 6.4.5; RFC 7162, section 3.1.4).
 
-ghost use Rattle.std.specs.Prelude.{◌≡◌, ◌++◌, false, IfOk, OnOk};
+ghost use Rattle.std.specs.Prelude.{◌≡◌, ◌++◌, false, length, IfOk, OnOk};
 ghost use Rattle.std.specs.Option.{option_map, unwrap_or};
 ghost use Rattle.imap_query.specs.Fetching.{fetch_answers};
 ghost use Rattle.imap_types.specs.Unions.{united};
 ghost use Rattle.imap_commands.specs.Fetching.{fetch_tells, fetch_wants, mode_of, seen_flags, seen_store, seen_stores, shown_at, shown_of};
 ghost use Rattle.imap_commands.specs.Found.{named_found};
 ghost use Rattle.imap_commands.specs.Gives.{Gives};
-ghost use Rattle.imap_commands.specs.Told.{entry_at, message_at};
+ghost use Rattle.imap_commands.specs.Told.{are_some_gone, entry_at, gone_code, message_at};
 
 use crate::asked::{FetchAsked, OpenMailbox};
 use crate::found::{Found, Wanted};
@@ -16,7 +16,7 @@ use crate::named::named;
 use crate::telling::{Telling, entry_at, gone_code};
 use crate::versions::old_ids;
 use crdt_ops::Kind;
-use imap_answers::{Answer, Refusal};
+use imap_answers::{Answer, Code, Refusal};
 use imap_query::{FetchMode, Shown, fetch, fetch_unchanged, is_kept, is_marked, set_seen};
 use imap_syntax::FetchItem;
 use imap_types::{Flags, Versions};
@@ -109,8 +109,8 @@ fn seen_flags(alloc: Global, versions: &Versions<'_>) -> Result<Flags, AllocErro
 }
 
 /// What FETCH tells, by the mailbox before it, what it found there, the listing after it (where none is given, as of a command that issues nothing, the one before it)
-/// and whether CONDSTORE is on: what `imap_query::fetch` says of the messages named, and whether some are gone. `Err` where there is no memory. It looks each of them up
-/// once for the code, beside what `fetch` of `imap_query` costs, or `fetch_unchanged` where no listing is given.
+/// and whether CONDSTORE is on: what `imap_query::fetch` says of the messages named, and whether some are gone. `Err` where there is no memory. It costs what `fetch` of
+/// `imap_query` does, or `fetch_unchanged` where no listing is given, and where some have no answer, a look at each for the code.
 pub fn fetch_tells(
     alloc: Global,
     mailbox: &OpenMailbox<'_>,
@@ -124,11 +124,23 @@ pub fn fetch_tells(
 {
     let before = &mailbox.rows;
     let view = mailbox.view.entries();
-    let code = gone_code(before, view, found.numbers());
-    let shown = shown_of(alloc, view, found.numbers())?;
+    let numbers = found.numbers();
+    let shown = shown_of(alloc, view, numbers)?;
     let mode = mode_of(mailbox, condstore, asked);
     let own = fetched(alloc, &shown, before, after, asked.items, mode)?;
+    let code = code_beside(&own, before, view, numbers);
     Ok(Telling::new(own, Vec::new(alloc), code))
+}
+
+/// The code beside these answers: where each of the messages has one, none is gone.
+fn code_beside(told: &[Answer], rows: &Rows<'_>, view: &Entries, numbers: &[u32]) -> Option<Code>
+    requires { length told.now ≡ length numbers.now → are_some_gone rows.now view.now.items numbers.now ≡ false }
+    ensures { result ≡ gone_code rows.now view.now.items numbers.now }
+{
+    if told.len() == numbers.len() {
+        return None;
+    }
+    gone_code(rows, view, numbers)
 }
 
 /// What FETCH answers, by the listing before it and the one after it, which is the same where none is given.

@@ -5,3 +5,4 @@ pub mod Again
 pub mod AgainLists
 pub mod AgainItems
 pub mod AgainAnswers
+pub mod LineLemmas

@@ -133,7 +133,7 @@ fn push_flags_item(
         None => Ok(is_first),
         Some(flags) => {
             push_space(is_first, out)?;
-            push_flags(b"FLAGS ", flags, out)?;
+            push_flags(b"FLAGS (", flags, b")", out)?;
             Ok(false)
         }
     }

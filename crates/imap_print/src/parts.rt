@@ -2,8 +2,9 @@
 //! beginning of it.
 
 ghost use Rattle.std.specs.Prelude.{◌≡◌, ◌++◌, codes, decimal, map, OnOk};
+ghost use Rattle.imap_types.specs.Flags.{flag_texts};
 ghost use Rattle.imap_print.specs.Appending.{Appends};
-ghost use Rattle.imap_answers.specs.Printed.{all_text, appended_text, body_text, code_before, code_text, copied_text, flags_text, notice_text, origin_text, permanent_text, results_text, section_text, sets_text};
+ghost use Rattle.imap_answers.specs.Printed.{all_text, appended_text, body_text, code_before, code_text, copied_text, notice_text, origin_text, permanent_text, results_text, section_text, sets_text};
 ghost use Rattle.imap_answers.specs.Strings.{field_text, separated, set_text};
 
 use crate::lists::{push_flag_texts, push_flags_and_any, wide};
@@ -15,20 +16,19 @@ use imap_answers::{Code, Notice, SearchResults, SectionData};
 use imap_types::{DateTime, FieldNames, Flags, NumberSet, Octets, Section};
 use std::alloc::AllocError;
 
-/// A label, and flags in parentheses (RFC 9051, section 9, flag-list).
-pub fn push_flags(label: &[u8], flags: &Flags, out: &mut Vec<u8>) -> Result<(), AllocError>
-    ensures { OnOk result (Appends out.old.items out.new.items (label.now ++ flags_text flags.now)) }
+/// Flags with spaces between them, between two texts, of which the first ends in a parenthesis and the second begins with one
+/// (RFC 9051, section 9, flag-list).
+pub fn push_flags(
+    front: &[u8],
+    flags: &Flags,
+    end: &[u8],
+    out: &mut Vec<u8>,
+) -> Result<(), AllocError>
+    ensures { OnOk result (Appends out.old.items out.new.items (front.now ++ separated 32 (flag_texts flags.now) ++ end.now)) }
 {
-    push_text(label, out)?;
-    push_flag_list(flags, out)
-}
-
-fn push_flag_list(flags: &Flags, out: &mut Vec<u8>) -> Result<(), AllocError>
-    ensures { OnOk result (Appends out.old.items out.new.items (flags_text flags.now)) }
-{
-    push_text(b"(", out)?;
+    push_text(front, out)?;
     let _ = push_flag_texts(flags, out)?;
-    push_text(b")", out)
+    push_text(end, out)
 }
 
 fn push_permanent(flags: &Option<Flags>, out: &mut Vec<u8>) -> Result<(), AllocError>

@@ -1,5 +1,7 @@
-ghost use Rattle.std.specs.Prelude.{◌≡◌, ◌++◌, codes, decimal, OnErr, OnOk};
+ghost use Rattle.std.specs.Prelude.{◌≡◌, ◌++◌, codes, decimal, IfSome, OnErr, OnOk};
 ghost use Rattle.imap_print.specs.Appending.{Appends};
+ghost use Rattle.imap_print.specs.Lines.{flags_line, only_flags};
+ghost use Rattle.imap_answers.specs.declared.answer.Answer.TheVariants.{Fetch};
 ghost use Rattle.imap_answers.specs.Words.{refusal_text};
 ghost use Rattle.imap_answers.specs.Printed.{answer_text, completed_text, fetch_text, list_text, notice_text, printed, search_text, status_text, uid_mark};
 
@@ -10,7 +12,7 @@ use imap_answers::{
     Answer, Code, CommandWord, FetchItems, MailboxState, Notice, Refusal, SearchResults,
     StatusItems,
 };
-use imap_types::{Name, Octets};
+use imap_types::{Flags, Name, Octets};
 use std::alloc::AllocError;
 
 /// So many octets most answers take at most, so that a line's memory is asked for once.
@@ -30,6 +32,57 @@ pub fn print(answer: &Answer, out: &mut Vec<u8>) -> Result<(), AllocError>
 fn push_line(answer: &Answer, out: &mut Vec<u8>) -> Result<(), AllocError>
     ensures { OnOk result (Appends out.old.items out.new.items (printed answer.now)) }
 {
+    match flags_alone(answer) {
+        Some((number, flags)) => {
+            push_flags_line(number, flags, out)?;
+            Ok(())
+        }
+        None => push_any_line(answer, out),
+    }
+}
+
+/// The number and the flags, where FETCH tells nothing else of a message: the usual line.
+fn flags_alone(answer: &Answer) -> Option<(u32, &Flags)>
+    ensures { IfSome result (λ told. answer.now ≡ Fetch told.0 (only_flags told.1.now)) }
+{
+    match answer {
+        Answer::Fetch { number, items } => match only_flags(items) {
+            Some(flags) => Some((*number, flags)),
+            None => None,
+        },
+        _ => None,
+    }
+}
+
+fn only_flags(items: &FetchItems) -> Option<&Flags>
+    ensures { IfSome result (λ flags. items.now ≡ only_flags flags.now) }
+{
+    let FetchItems {
+        uid,
+        flags,
+        date,
+        size,
+        modseq,
+        sections,
+    } = items;
+    match (uid, flags, date, size, modseq, sections.parts()) {
+        (None, Some(flags), None, None, None, []) => Some(flags),
+        _ => None,
+    }
+}
+
+/// The usual line, by few texts.
+fn push_flags_line(number: u32, flags: &Flags, out: &mut Vec<u8>) -> Result<(), AllocError>
+    ensures { OnOk result (Appends out.old.items out.new.items (flags_line number flags.now)) }
+{
+    push_label(b"* ", u64::from(number), out)?;
+    push_flags(b" FETCH (FLAGS (", flags, b"))\r\n", out)?;
+    Ok(())
+}
+
+fn push_any_line(answer: &Answer, out: &mut Vec<u8>) -> Result<(), AllocError>
+    ensures { OnOk result (Appends out.old.items out.new.items (printed answer.now)) }
+{
     push_answer(answer, out)?;
     push_text(b"\r\n", out)
 }
@@ -44,7 +97,7 @@ fn push_answer(answer: &Answer, out: &mut Vec<u8>) -> Result<(), AllocError>
         Answer::Capability => push_text(b"* CAPABILITY IMAP4rev2 IDLE CONDSTORE", out),
         Answer::Enabled { extensions } => push_text(extensions.text(), out),
         Answer::Namespace => push_text(b"* NAMESPACE ((\"\" \"/\")) NIL NIL", out),
-        Answer::Flags { flags } => push_flags(b"* FLAGS ", flags, out),
+        Answer::Flags { flags } => push_flags(b"* FLAGS (", flags, b")", out),
         Answer::Exists { count } => push_numbered(*count, b" EXISTS", out),
         Answer::Expunge { number } => push_numbered(*number, b" EXPUNGE", out),
         Answer::List {

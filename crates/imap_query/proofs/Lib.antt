@@ -8,3 +8,4 @@ pub mod HitLemmas
 pub mod KeyLemmas
 pub mod NamingLemmas
 pub mod ChangedLemmas
+pub mod SectionLemmas

@@ -16,6 +16,7 @@ use Rattle.mail_text.specs.Parts.{body_of, header_of, partial_of}
 use Rattle.imap_query.specs.declared.fetching.FetchMode.{FetchMode}
 use Rattle.imap_query.specs.declared.fetching.Part.{Part}
 use Rattle.imap_query.specs.declared.fetching.Part.TheVariants as part
+use Rattle.imap_query.specs.declared.fetching.Parts.{Parts}
 use Rattle.imap_query.specs.declared.shown.Shown.{Shown}
 
 -- What an item asks.
@@ -48,6 +49,18 @@ sets_seen item.InternalDate = false
 sets_seen item.Size = false
 sets_seen item.ModSeq = false
 sets_seen (item.Body peek section partial) = not peek
+
+-- Which parts are asked, and whether `\Seen` is set.
+abbrev pub parts_of : List FetchItem → Parts
+parts_of items = record {
+  uid = asks part.Uid items;
+  flags = asks part.Flags items;
+  date = asks part.Date items;
+  size = asks part.Size items;
+  modseq = asks part.ModSeq items;
+  sections = asks part.Section items;
+  seen = list_any sets_seen items;
+}
 
 -- Whether FETCH sets `\Seen` on a message that was so before.
 abbrev pub is_marked : List FetchItem → FetchMode → Listed → Bool

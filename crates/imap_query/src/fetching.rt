@@ -1,7 +1,7 @@
 ghost use Rattle.std.specs.Prelude.{◌≡◌, ◌||◌, ◌++◌, ◌∷◌, [], true, false, IfOk, OnOk};
 ghost use Rattle.imap_answers.specs.declared.answer.Answer.TheVariants.{Fetch};
 ghost use Rattle.std.specs.List.{list_any};
-ghost use Rattle.imap_query.specs.Fetching.{answer_of, are_sections, asks, cut, fetch_answers, is_kept, is_marked, items_of, origin_of, part_of, section_of, section_part, sets_seen, tells_flags, tells_modseq, where_told};
+ghost use Rattle.imap_query.specs.Fetching.{answer_of, are_sections, asks, cut, fetch_answers, is_kept, is_marked, items_of, origin_of, part_of, parts_of, section_of, section_part, sets_seen, tells_flags, tells_modseq, where_told};
 ghost use Rattle.imap_query.specs.declared.fetching.Part.TheVariants as part;
 ghost use Rattle.mail_listing.specs.Listing.{listed, row_of};
 ghost use Rattle.mail_text.specs.Fields.{fields_of};
@@ -32,6 +32,21 @@ pub struct FetchMode {
 struct Asked<'a> {
     items: &'a [FetchItem],
     mode: FetchMode,
+    /// What the items ask, found out once for all messages.
+    parts: Parts,
+}
+
+/// Which parts the items of a FETCH ask.
+#[derive(Clone, Copy, Debug, PartialEq, Eq)]
+struct Parts {
+    uid: bool,
+    flags: bool,
+    date: bool,
+    size: bool,
+    modseq: bool,
+    sections: bool,
+    /// Whether one of them sets `\Seen`.
+    seen: bool,
 }
 
 /// What FETCH asks, but for the sections.
@@ -58,7 +73,7 @@ pub fn fetch(
 ) -> Result<Vec<Answer>, AllocError>
     ensures { IfOk result (λ answers. answers.items ≡ fetch_answers items.now mode before.now after.now named.now) }
 {
-    let asked = Asked { items, mode };
+    let asked = asked_of(items, mode);
     let mut answers = Vec::new(alloc);
     for shown in named {
         push_answer(alloc, before, after, asked, *shown, &mut answers)?;
@@ -105,12 +120,36 @@ fn fetch_in(
 ) -> Result<Vec<Answer>, AllocError>
     ensures { IfOk result (λ answers. answers.items ≡ fetch_answers items.now mode rows.now rows.now named.now) }
 {
-    let asked = Asked { items, mode };
+    let asked = asked_of(items, mode);
     let mut answers = Vec::with_capacity(alloc, answers_at_once(named, mode))?;
     for shown in named {
         push_unchanged(alloc, rows, asked, *shown, &mut answers)?;
     }
     Ok(answers)
+}
+
+/// These items and this mode, with the parts that the items ask.
+fn asked_of(items: &[FetchItem], mode: FetchMode) -> Asked<'_>
+    ensures items { result.items.now ≡ items.now }
+    ensures mode { result.mode ≡ mode }
+    ensures parts { result.parts ≡ parts_of items.now }
+{
+    let parts = parts_of(items);
+    Asked { items, mode, parts }
+}
+
+fn parts_of(items: &[FetchItem]) -> Parts
+    ensures { result ≡ parts_of items.now }
+{
+    Parts {
+        uid: asks(items, Part::Uid),
+        flags: asks(items, Part::Flags),
+        date: asks(items, Part::Date),
+        size: asks(items, Part::Size),
+        modseq: asks(items, Part::ModSeq),
+        sections: asks(items, Part::Section),
+        seen: set_seen(items),
+    }
 }
 
 /// Adds what is told of one message that stays as it is.
@@ -121,6 +160,7 @@ fn push_unchanged(
     shown: Shown,
     answers: &mut Vec<Answer>,
 ) -> Result<(), AllocError>
+    requires { asked.parts ≡ parts_of asked.items.now }
     ensures { OnOk result (answers.new.items ≡ answers.old.items ++ answer_of asked.entry.items.now asked.entry.mode shown (row_of shown.uid rows.now) (row_of shown.uid rows.now)) }
 {
     match rows.row_near(shown.place(), shown.uid) {
@@ -129,7 +169,7 @@ fn push_unchanged(
             if !is_kept(asked.mode.changed_since, &row) {
                 return Ok(());
             }
-            let told = items_of(alloc, asked.items, asked.mode, &row, &row)?;
+            let told = items_of(alloc, asked, &row, &row)?;
             push_fetch(answers, shown.number, told)
         }
     }
@@ -144,6 +184,7 @@ fn push_answer(
     shown: Shown,
     answers: &mut Vec<Answer>,
 ) -> Result<(), AllocError>
+    requires { asked.parts ≡ parts_of asked.items.now }
     ensures { OnOk result (answers.new.items ≡ answers.old.items ++ answer_of asked.entry.items.now asked.entry.mode shown (row_of shown.uid before.now) (row_of shown.uid after.now)) }
 {
     match before.row_near(shown.place(), shown.uid) {
@@ -154,17 +195,19 @@ fn push_answer(
                 if !is_kept(asked.mode.changed_since, &old) {
                     return Ok(());
                 }
-                let told = items_of(alloc, asked.items, asked.mode, &old, &row)?;
+                let told = items_of(alloc, asked, &old, &row)?;
                 push_fetch(answers, shown.number, told)
             }
         },
     }
 }
 
+/// Adds an answer, behind room for it, so that it isn't handed back.
 fn push_fetch(answers: &mut Vec<Answer>, number: u32, items: FetchItems) -> Result<(), AllocError>
     ensures { OnOk result (answers.new.items ≡ answers.old.items ++ Fetch number items ∷ []) }
 {
-    answers.push(Answer::Fetch { number, items })?;
+    answers.reserve(1)?;
+    answers.push_reserved(Answer::Fetch { number, items });
     Ok(())
 }
 
@@ -181,36 +224,37 @@ pub fn is_kept(changed_since: Option<u64>, old: &Row<'_>) -> bool
 /// What is told of a message that was `old` and is `row`.
 fn items_of(
     alloc: Global,
-    items: &[FetchItem],
-    mode: FetchMode,
+    asked: Asked<'_>,
     old: &Row<'_>,
     row: &Row<'_>,
 ) -> Result<FetchItems, AllocError>
-    ensures { IfOk result (λ told. told ≡ items_of items.now mode (listed old.now) (listed row.now)) }
+    requires { asked.parts ≡ parts_of asked.items.now }
+    ensures { IfOk result (λ told. told ≡ items_of asked.entry.items.now asked.entry.mode (listed old.now) (listed row.now)) }
 {
-    let sections = sections(alloc, row, items)?;
-    let tells_flags = tells_flags(items, mode, old);
+    let sections = sections_where(alloc, asked, row)?;
+    let tells_flags = tells_flags(asked, old);
     let flags = flags_where(alloc, tells_flags, row)?;
     Ok(FetchItems {
-        uid: tells_uid(items, mode).then_some(row.uid),
+        uid: tells_uid(asked).then_some(row.uid),
         flags,
-        date: date_where(asks(items, Part::Date), &row.shown_date()),
-        size: asks(items, Part::Size).then_some(row.shown_text().len() as u64),
-        modseq: tells_modseq(items, mode, tells_flags).then_some(row.modseq),
+        date: date_where(asked.parts.date, row),
+        size: asked.parts.size.then_some(row.shown_text().len() as u64),
+        modseq: tells_modseq(asked, tells_flags).then_some(row.modseq),
         sections,
     })
 }
 
-fn tells_uid(items: &[FetchItem], mode: FetchMode) -> bool
-    ensures { result ≡ (mode.by_uid || asks part.Uid items.now) }
+fn tells_uid(asked: Asked<'_>) -> bool
+    requires { asked.parts ≡ parts_of asked.items.now }
+    ensures { result ≡ (asked.entry.mode.by_uid || asks part.Uid asked.entry.items.now) }
 {
-    mode.by_uid || asks(items, Part::Uid)
+    asked.mode.by_uid || asked.parts.uid
 }
 
-fn date_where(told: bool, date: &DateTime) -> Option<DateTime>
-    ensures { result ≡ where_told told date.now }
+fn date_where(told: bool, row: &Row<'_>) -> Option<DateTime>
+    ensures { result ≡ where_told told (listed row.now).date }
 {
-    if told { Some(date.copy()) } else { None }
+    if told { Some(row.shown_date()) } else { None }
 }
 
 fn flags_where(alloc: Global, told: bool, row: &Row<'_>) -> Result<Option<Flags>, AllocError>
@@ -223,10 +267,19 @@ fn flags_where(alloc: Global, told: bool, row: &Row<'_>) -> Result<Option<Flags>
 }
 
 /// Whether flags are told: where they are asked, or where reading a section sets `\Seen`.
-fn tells_flags(items: &[FetchItem], mode: FetchMode, old: &Row<'_>) -> bool
-    ensures { result ≡ tells_flags items.now mode (listed old.now) }
+fn tells_flags(asked: Asked<'_>, old: &Row<'_>) -> bool
+    requires { asked.parts ≡ parts_of asked.items.now }
+    ensures { result ≡ tells_flags asked.entry.items.now asked.entry.mode (listed old.now) }
 {
-    asks(items, Part::Flags) || is_marked(items, mode, old)
+    asked.parts.flags || marks(asked, old)
+}
+
+/// The same as `is_marked`.
+fn marks(asked: Asked<'_>, old: &Row<'_>) -> bool
+    requires { asked.parts ≡ parts_of asked.items.now }
+    ensures { result ≡ is_marked asked.entry.items.now asked.entry.mode (listed old.now) }
+{
+    asked.mode.writable && asked.parts.seen && !old.versions.seen()
 }
 
 /// Whether reading a section sets `\Seen` on this message: in a read-write mailbox, if it lacks it and an item asks without PEEK
@@ -258,10 +311,13 @@ fn sets_seen(item: &FetchItem) -> bool
     }
 }
 
-fn tells_modseq(items: &[FetchItem], mode: FetchMode, tells_flags: bool) -> bool
-    ensures { result ≡ tells_modseq items.now mode tells_flags }
+fn tells_modseq(asked: Asked<'_>, tells_flags: bool) -> bool
+    requires { asked.parts ≡ parts_of asked.items.now }
+    ensures { result ≡ tells_modseq asked.entry.items.now asked.entry.mode tells_flags }
 {
-    asks(items, Part::ModSeq) || mode.changed_since.is_some() || (mode.condstore && tells_flags)
+    asked.parts.modseq
+        || asked.mode.changed_since.is_some()
+        || (asked.mode.condstore && tells_flags)
 }
 
 fn asks(items: &[FetchItem], part: Part) -> bool
@@ -286,6 +342,17 @@ fn part_of(item: &FetchItem) -> Part
         FetchItem::ModSeq => Part::ModSeq,
         FetchItem::Body { .. } => Part::Section,
     }
+}
+
+/// The sections, where some are asked.
+fn sections_where(alloc: Global, asked: Asked<'_>, row: &Row<'_>) -> Result<Sections, AllocError>
+    requires { asked.parts ≡ parts_of asked.items.now }
+    ensures { IfOk result (λ sections. sections ≡ are_sections (listed row.now).text asked.entry.items.now) }
+{
+    if !asked.parts.sections {
+        return Ok(Sections::new(Vec::new(alloc)));
+    }
+    sections(alloc, row, asked.items)
 }
 
 /// The sections that are asked, in order, in no more memory than they take: a journal keeps them for good.
