@@ -1,7 +1,7 @@
 use Rattle.std.proofs.Common.{◌≡◌, Bool, List, [], ◌∷◌, ◌++◌, ap, sym, ◌∙◌, refl, append_assoc, ℕ, zero, suc, ◌≤◌, length, drop, reverse, false, arith}
 use Rattle.std.proofs.lemmas.List.{reverse-append}
 use Rattle.imap_syntax.specs.declared.search.SearchStep.{SearchStep}
-use Rattle.imap_syntax.specs.declared.search.SearchStep.TheVariants.{Not, Or, And}
+use Rattle.imap_syntax.specs.declared.search.SearchStep.TheVariants.{Test, Not, Or, And}
 use Rattle.imap_syntax.specs.declared.search.SearchTest.{SearchTest}
 use Rattle.imap_query.specs.Keys.{Key, Asks, Lacks, Either, Both, hits, steps_of}
 use Rattle.imap_query.specs.Runs.{run, built}
@@ -70,6 +70,13 @@ results-are holds key steps n items l i e = ap (λ xs. run holds xs (reverse ite
 first_result : Bool → List Bool → Bool
 first_result other [] = other
 first_result other (b ∷ bs) = b
+
+-- steps that are one test alone
+pub test_alone : (holds : SearchTest → Bool) (key : Key) (steps : List SearchStep) (test : SearchTest) → steps ≡ Test test ∷ [] → steps ≡ steps_of key → holds test ≡ hits holds key
+unfolding first_result
+test_alone holds key steps test t e =
+    let ran : run holds (Test test ∷ []) [] ≡ hits holds key ∷ [] = ap (λ xs. run holds xs []) (sym t ∙ e) ∙ run-all holds key in
+    ap (first_result false) ran
 
 pub last_result : (holds : SearchTest → Bool) (key : Key) (steps : List SearchStep) (n : ℕ) (items rest : List Bool) (last : Bool) → length steps ≤ n → run holds (drop n steps) (reverse items) ≡ run holds steps [] → items ≡ rest ++ last ∷ [] → steps ≡ steps_of key → last ≡ hits holds key
 unfolding first_result

@@ -1,6 +1,7 @@
 //! Whether a message hits what SEARCH asks (RFC 9051, section 6.4.4).
 
-ghost use Rattle.std.specs.Prelude.{◌≡◌, reverse, IfOk, OnOk};
+ghost use Rattle.std.specs.Prelude.{◌≡◌, ◌∷◌, [], reverse, IfOk, IfSome, OnOk};
+ghost use Rattle.imap_syntax.specs.declared.search.SearchStep.TheVariants.{Test};
 ghost use Rattle.imap_query.specs.Keys.{Key, hits, steps_of};
 ghost use Rattle.imap_query.specs.Runs.{after_step};
 ghost use Rattle.imap_query.specs.Tests.{bound_of, holds_in, is_dated, is_so, range_names, rank, set_names};
@@ -24,6 +25,10 @@ pub(crate) fn hits(
 ) -> Result<bool, AllocError>
     ensures { IfOk result (λ is. (key : Key) → steps.now ≡ steps_of key → is ≡ hits (is_so last shown (listed row.now)) key) }
 {
+    // Most keys are one test, which needs no list of results.
+    if let Some(test) = one_test(steps) {
+        return is_so(alloc, last, shown, row, test);
+    }
     let mut results: Vec<bool> = Vec::new(alloc);
     for step in steps {
         take_step(alloc, last, shown, row, step, &mut results)?;
@@ -31,6 +36,19 @@ pub(crate) fn hits(
     match results.pop() {
         Some(result) => Ok(result),
         None => Ok(false),
+    }
+}
+
+/// The test, where the steps are one alone.
+fn one_test(steps: &[SearchStep]) -> Option<&SearchTest>
+    ensures { IfSome result (λ test. steps.now ≡ Test test.now ∷ []) }
+{
+    if steps.len() != 1 {
+        return None;
+    }
+    match &steps[0] {
+        SearchStep::Test(test) => Some(test),
+        _ => None,
     }
 }
 
