@@ -192,6 +192,7 @@ fn has_tag(book: &Book, place: u64, tag: &str) -> bool {
     match kept.lent() {
         Lent::Noop { tag: found, .. } => found.as_bytes() == tag.as_bytes(),
         Lent::Closed { .. } => false,
+        Lent::Told { told } => told.tagged.tag.as_bytes() == tag.as_bytes(),
         Lent::Whole { entry } => match &entry.event {
             BookEvent::Command { tagged, .. } => tagged.tag.as_bytes() == tag.as_bytes(),
             _ => false,

@@ -54,6 +54,7 @@ fn has_opened(kept: &Kept) -> bool
     match kept.lent() {
         Lent::Noop { .. } => false,
         Lent::Closed { .. } => false,
+        Lent::Told { .. } => false,
         Lent::Whole { entry } => match &entry.outcome {
             Outcome::Opened { answer: Ok(_) } => true,
             _ => false,
@@ -68,6 +69,7 @@ fn is_command(kept: &Kept) -> bool
     match kept.lent() {
         Lent::Noop { .. } => true,
         Lent::Closed { .. } => false,
+        Lent::Told { .. } => true,
         Lent::Whole { entry } => match &entry.event {
             BookEvent::Command { .. } => true,
             _ => false,

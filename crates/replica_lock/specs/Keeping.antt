@@ -4,6 +4,7 @@ use Rattle.imap_answers.specs.declared.words.CommandWord.TheVariants as words
 use Rattle.imap_node.specs.declared.reply.Reply.{Reply}
 use Rattle.imap_node.specs.declared.reply.Reply.TheVariants.{Done}
 use Rattle.imap_syntax.specs.declared.command.Command.TheVariants as commands
+use Rattle.replica_lock.specs.Telling.{told_entry}
 use Rattle.replica_lock.specs.declared.book.Entry.{Entry}
 use Rattle.replica_lock.specs.declared.event.BookEvent.TheVariants.{Close, Command}
 use Rattle.replica_lock.specs.declared.kept.Form.{Form}
@@ -28,9 +29,11 @@ closed_entry session = record { event = Close session; outcome = Closed }
 abbrev pub entry_of : Form → Entry
 entry_of (forms.Noop session moment tag) = noop_entry session moment tag
 entry_of (forms.Closed session) = closed_entry session
+entry_of (forms.Told told) = told_entry told.value
 entry_of (forms.Whole entry) = entry.value
 
 abbrev pub entry_lent : Lent → Entry
 entry_lent (lent.Noop session moment tag) = noop_entry session moment tag.now
 entry_lent (lent.Closed session) = closed_entry session
+entry_lent (lent.Told told) = told_entry told.now
 entry_lent (lent.Whole entry) = entry.now

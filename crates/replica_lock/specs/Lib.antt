@@ -1,3 +1,4 @@
+pub mod Telling
 pub mod Keeping
 pub mod Steps
 pub mod Histories

@@ -4,19 +4,21 @@ ghost use Rattle.std.specs.Prelude.{◌≡◌, ◌↔◌, ◌∷◌, [], None, I
 ghost use Rattle.imap_answers.specs.declared.answer.Answer.TheVariants.{Completed};
 ghost use Rattle.imap_answers.specs.declared.words.CommandWord.TheVariants as words;
 ghost use Rattle.replica_lock.specs.Keeping.{closed_entry, entry_lent, noop_done, noop_entry};
+ghost use Rattle.replica_lock.specs.Telling.{told_entry};
 ghost use Rattle.replica_lock.specs.declared.outcome.Outcome.TheVariants as outcomes;
 
 use crate::book::Entry;
 use crate::event::BookEvent;
 use crate::outcome::Outcome;
+use crate::told::{Told, completes};
 use imap_answers::{Answer, CommandWord};
 use imap_node::{Reply, SessionNo};
 use imap_types::{Moment, Octets};
 use std::alloc::{AllocError, Global};
 use std::marker::Model;
 
-/// An entry as a journal keeps it. A NOOP that was told its end alone takes no more than its tag, and the end of a session no memory beside its place, so that it
-/// can't lack any.
+/// An entry as a journal keeps it. A NOOP that was told its end alone takes no more than its tag, a command that was told FETCH answers alone a few words for
+/// each, and the end of a session no memory beside its place, so that it can't lack any.
 pub struct Kept {
     form: Form,
 }
@@ -29,6 +31,9 @@ enum Form {
     },
     Closed {
         session: SessionNo,
+    },
+    Told {
+        told: Box<Told>,
     },
     Whole {
         entry: Box<Entry>,
@@ -45,6 +50,7 @@ impl Drop for Form {
                 tag: _,
             } => {}
             Self::Closed { session: _ } => {}
+            Self::Told { told: _ } => {}
             Self::Whole { entry: _ } => {}
         }
     }
@@ -83,6 +89,11 @@ pub enum Lent<'a> {
         /// The session.
         session: SessionNo,
     },
+    /// A command that was told FETCH answers alone, each in few words, and its end.
+    Told {
+        /// It.
+        told: &'a Told,
+    },
     /// Any entry.
     Whole {
         /// It.
@@ -113,6 +124,15 @@ impl Kept {
         }
     }
 
+    /// A command that was told FETCH answers alone.
+    pub(crate) fn told(told: Box<Told>) -> Kept
+        ensures { result ≡ told_entry told.value }
+    {
+        Kept {
+            form: Form::Told { told },
+        }
+    }
+
     /// The entry.
     pub fn lent(&self) -> Lent<'_>
         ensures { entry_lent result ≡ self.now }
@@ -128,6 +148,7 @@ impl Kept {
                 tag,
             },
             Form::Closed { session } => Lent::Closed { session: *session },
+            Form::Told { told } => Lent::Told { told },
             Form::Whole { entry } => Lent::Whole { entry },
         }
     }
@@ -139,6 +160,7 @@ impl Kept {
         match &self.form {
             Form::Noop { tag, .. } => is_replied_done(outcome, tag),
             Form::Closed { .. } => Outcome::Closed.same(outcome),
+            Form::Told { told } => told.has_outcome(outcome),
             Form::Whole { entry } => entry.outcome.same(outcome),
         }
     }
@@ -176,21 +198,7 @@ pub fn is_done(reply: &Reply, tag: &Octets) -> bool
 fn is_end(answers: &[Answer], tag: &Octets) -> bool
     ensures { IsTrue result ↔ (Completed tag.now None words.Noop ∷ [] ≡ answers.now) }
 {
-    answers.len() == 1 && completes(&answers[0], tag)
-}
-
-/// Whether an answer is the end of a NOOP with this tag.
-fn completes(answer: &Answer, tag: &Octets) -> bool
-    ensures { IsTrue result ↔ (Completed tag.now None words.Noop ≡ answer.now) }
-{
-    match answer {
-        Answer::Completed {
-            tag: told,
-            code: None,
-            command: CommandWord::Noop,
-        } => told.as_bytes() == tag.as_bytes(),
-        _ => false,
-    }
+    answers.len() == 1 && completes(&answers[0], tag, CommandWord::Noop)
 }
 
 /// An event whose outcome is still to come, with all memory that its entry takes.
