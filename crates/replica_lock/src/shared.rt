@@ -84,7 +84,14 @@ impl<L: Ledger> Shared<L> {
         if let Some(session) = roused {
             self.bells.of(session).notify_all();
         }
-        result
+        // What came of the call before is let go only here, where the lock is given back: it may be long.
+        match result {
+            Ok(last) => {
+                drop(last);
+                Ok(())
+            }
+            Err(fault) => Err(fault),
+        }
     }
 
     /// Opens a session, for a pass that has none.
