@@ -1,17 +1,15 @@
 -- An operation about another folder leaves what a listing shows.
-use Rattle.std.specs.List.{cons_option, filter_map, list_any}
+use Rattle.std.specs.List.{cons_option, filter_map}
 use Rattle.std.specs.Option.{option_map}
 use Rattle.std.specs.Str.{bytes_eq}
-use Rattle.std.proofs.Common.{◌≡◌, inl, inr, ℕ, Bool, true, false, List, [], ◌∷◌, ◌++◌, map, Option, Some, None, refl, sym, ap, ◌∙◌, subst, append_assoc, append-nil}
+use Rattle.std.proofs.Common.{◌≡◌, inl, inr, ℕ, Bool, true, false, List, [], ◌∷◌, ◌++◌, Option, Some, None, refl, sym, ap, ◌∙◌, subst, append_assoc, append-nil}
 use Rattle.std.specs.Prelude.{if◌then◌else◌, ◌+◌, ◌*◌, nat_eq}
-use Rattle.std.proofs.lemmas.Bool.{cases_Bool, false≢true, false_from_ne_true}
-use Rattle.std.proofs.lemmas.Slice.Eq.{bytes_eq-Decides}
+use Rattle.std.proofs.lemmas.Bool.{cases_Bool}
 use Rattle.tags_clocks.specs.declared.id.OpId.{OpId}
 use Rattle.merge_laws.specs.Orders.{IsIn}
 use Rattle.mail_listing.specs.declared.entry.Entry.{Entry as Numbered}
 use Rattle.crdt_ops.specs.declared.op.Op.{Op}
 use Rattle.crdt_ops.specs.Sets.{Body, body_from, tag_flags_of, versions_of, message_of}
-use Rattle.crdt_ops.specs.Tags.{name_of}
 use Rattle.crdt_ops.specs.Unions.{union_of}
 use Rattle.crdt_ops.proofs.VersionLemmas.{versions_listed}
 use Rattle.imap_types.specs.Names.{inbox}
@@ -24,10 +22,9 @@ use Rattle.uid_projection.specs.declared.start.Start.{Start}
 use Rattle.uid_projection.specs.Applied.{IsApplied}
 use Rattle.uid_projection.specs.Incarnations.{is_there, k_of, uidvalidity_of}
 use Rattle.uid_projection.specs.Lines.{concerns_by, has_version}
-use Rattle.uid_projection.specs.Listing.{listing, numbered}
+use Rattle.uid_projection.specs.Listing.{listing}
 use Rattle.uid_projection.specs.Rows.{row_by}
 use Rattle.uid_projection.proofs.ChartOf.{charted}
-use Rattle.uid_projection.proofs.Lasting.{about_name}
 use Rattle.uid_projection.proofs.Presence.{applied_front, other_there, same_bool}
 use Rattle.uid_projection.proofs.RowLemmas.{rows_told}
 use Rattle.uid_projection.proofs.Steps.{k_here}

@@ -1,25 +1,21 @@
 -- What sessions are still to be told, behind what operations changed.
 use Rattle.std.specs.List.{list_any}
-use Rattle.std.proofs.Common.{◌≡◌, ◌⊎◌, inl, inr, ℕ, zero, suc, ◌<◌, ◌≤◌, ◌-◌, Bool, true, false, ◌||◌, List, [], ◌∷◌, ◌++◌, length, drop, Option, Some, None, refl, sym, ap, ◌∙◌, subst, append_assoc, arith}
-use Rattle.std.specs.Prelude.{bytes_eq, nat_eq, slice_index_or}
+use Rattle.std.proofs.Common.{◌≡◌, inl, inr, ℕ, ◌≤◌, true, false, List, [], ◌∷◌, ◌++◌, length, drop, Some, refl, sym, ap, ◌∙◌, subst}
+use Rattle.std.specs.Prelude.{bytes_eq}
 use Rattle.std.proofs.lemmas.Bool.{cases_Bool, false≢true}
 use Rattle.std.proofs.lemmas.List.{drop_all}
 use Rattle.std.proofs.lemmas.Slice.Eq.{bytes_eq-Decides}
 use Rattle.merge_laws.specs.Orders.{IsIn}
 use Rattle.crdt_ops.specs.declared.op.Op.{Op}
 use Rattle.crdt_ops.specs.Tags.{name_of}
-use Rattle.mail_listing.specs.Listed.{Listed}
 use Rattle.idle_feed.specs.Feeds.{Kept, Pending}
-use Rattle.imap_node.specs.Feeds.{AreAllNoted, FolderNoted, IsCurrent, IsNews, IsNotedFor, NamesIn, is_named, notes_in, pending_at, with_ended}
-use Rattle.imap_node.specs.Mailboxes.{rows_for}
+use Rattle.imap_node.specs.Feeds.{AreAllNoted, FolderNoted, IsCurrent, IsNews, is_named, notes_in, pending_at, with_ended}
 use Rattle.imap_node.specs.Replays.{view_at}
 use Rattle.imap_node.specs.Sessions.{Places}
-use Rattle.session_view.specs.Changes.{NamesAll, flags_at, is_told, names}
+use Rattle.session_view.specs.Changes.{flags_at, is_told, names}
 use Rattle.session_view.specs.Seen.{Seen}
-use Rattle.session_view.specs.Views.{entries_of}
 use Rattle.session_view.specs.declared.changes.Note.{Note}
 use Rattle.session_view.specs.declared.changes.Note.TheVariants.{Ended}
-use Rattle.session_view.specs.declared.entry.Entry.{Entry}
 use Rattle.uid_projection.specs.declared.start.Start.{Start}
 use Rattle.uid_projection.specs.Applied.{IsApplied}
 use Rattle.uid_projection.specs.Lines.{concerns_by}

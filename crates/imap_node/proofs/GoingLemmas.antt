@@ -1,24 +1,24 @@
 -- What becomes of sessions that go on, and what they are still to be told then.
 use Rattle.std.specs.List.{list_any}
 use Rattle.std.specs.Option.{option_map}
-use Rattle.std.proofs.Common.{◌≡◌, ◌⊎◌, inl, inr, ℕ, zero, suc, ◌<◌, ◌≤◌, ◌+◌, ◌-◌, Bool, true, false, List, [], ◌∷◌, ◌++◌, length, get_or, set, take, drop, Option, Some, None, refl, sym, ap, ◌∙◌, subst, arith}
+use Rattle.std.proofs.Common.{◌≡◌, ◌⊎◌, inl, inr, ℕ, zero, suc, ◌<◌, ◌≤◌, ◌+◌, ◌-◌, Bool, false, List, [], ◌∷◌, ◌++◌, length, take, drop, Option, Some, None, refl, sym, ap, ◌∙◌, subst, arith}
 use Rattle.std.specs.Prelude.{nat_eq, nat_lt, slice_index_or, slice_set}
 use Rattle.std.proofs.lemmas.Bool.{cases_Bool, false≢true}
 use Rattle.std.proofs.lemmas.Bool.Decides.{nat_tests}
 use Rattle.std.proofs.lemmas.List.{get_or-set_other, get_or-set_same, length-append, length-drop, take-append-drop, take_all, take_at}
 use Rattle.causal_inbox.specs.Received.{HasGrown}
 use Rattle.crdt_ops.specs.declared.op.Op.{Op}
-use Rattle.idle_feed.specs.Feeds.{Kept, Pending, some_missed}
+use Rattle.idle_feed.specs.Feeds.{Kept, Pending}
 use Rattle.imap_answers.specs.declared.answer.Answer.{Answer}
 use Rattle.imap_commands.specs.declared.session.Session.{Session}
 use Rattle.imap_commands.specs.declared.session.State.{State}
 use Rattle.imap_commands.specs.declared.session.State.TheVariants.{Selected}
 use Rattle.imap_node.specs.declared.going.Going.{Going}
 use Rattle.imap_node.specs.declared.going.Onward.{Onward}
-use Rattle.imap_node.specs.declared.going.Onward.TheVariants.{Moves, Stays}
+use Rattle.imap_node.specs.declared.going.Onward.TheVariants.{Stays}
 use Rattle.imap_node.specs.Endings.{FrontOf, IsMadeFor, answers_by, ending_behind, synced_by}
 use Rattle.imap_node.specs.Feeds.{AreAllNoted, FolderNoted, IsBehindNews, IsNews, IsNotedFor, IsSettled, UntoldOf, lacking, notes_in, pending_at}
-use Rattle.imap_node.specs.Going.{CanChange, CanGo, ChangeLeaves, LeavesNoted, gone_on, state_onward, state_with}
+use Rattle.imap_node.specs.Going.{CanGo, ChangeLeaves, LeavesNoted, gone_on, state_onward, state_with}
 use Rattle.imap_node.specs.Mailboxes.{rows_for}
 use Rattle.imap_node.specs.Replays.{view_at, view_in, view_of}
 use Rattle.imap_node.specs.Sessions.{Places, awake, session_at, with_session}

@@ -10,7 +10,6 @@ use Rattle.std.proofs.lemmas.Slice.Eq.{bytes_eq-Decides}
 use Rattle.merge_laws.specs.Orders.{IsIn}
 use Rattle.crdt_ops.specs.declared.op.Op.{Op}
 use Rattle.crdt_ops.specs.Tags.{name_of}
-use Rattle.imap_types.specs.declared.flags.Flags.{Flags}
 use Rattle.mail_listing.specs.Listed.{Listed}
 use Rattle.mail_listing.specs.Listing.{row_of}
 use Rattle.imap_node.specs.Feeds.{FolderNoted, IsNews, NamesIn, is_named, notes_in}
@@ -25,7 +24,6 @@ use Rattle.uid_projection.specs.Applied.{IsApplied}
 use Rattle.uid_projection.specs.Incarnations.{uidvalidity_of}
 use Rattle.uid_projection.specs.Lines.{concerns_by, uidnext_of}
 use Rattle.uid_projection.specs.Listing.{listing}
-use Rattle.uid_projection.specs.Touched.{StayBut}
 use Rattle.uid_projection.proofs.Lasting.{about_name}
 use Rattle.uid_projection.proofs.Presence.{applied_front}
 use Rattle.uid_projection.proofs.Staying.{ends_at_uidnext}

@@ -1,5 +1,5 @@
 -- A command's own answers that shift no numbers make of a view what the flags make of it that they tell.
-use Rattle.std.specs.List.{flat_map, list_any}
+use Rattle.std.specs.List.{list_any}
 use Rattle.std.proofs.Common.{◌≡◌, Bool, true, false, ◌||◌, ℕ, List, [], ◌∷◌, ◌++◌, Option, None, Some, refl, sym, ap, ◌∙◌}
 use Rattle.std.proofs.lemmas.Bool.{false≢true}
 use Rattle.imap_answers.specs.declared.answer.Answer.{Answer}

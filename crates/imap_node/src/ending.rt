@@ -113,6 +113,15 @@ impl<'a> Model for Untold<'a> {
     ghost view = { λ u. record { pending = u.feed.now.pending; news = u.news.now } };
 }
 
+/// A replica, and the operations of an input behind those that it applied.
+#[derive(Drop)]
+pub struct Applied<'a> {
+    /// The replica.
+    pub replica: &'a Replica,
+    /// The operations.
+    pub ops: &'a [SoundOp],
+}
+
 /// The sync behind what stands in front of it, and a state that is made anew.
 #[derive(Drop)]
 pub struct Anew {
@@ -197,24 +206,23 @@ fn alters(answer: &Answer) -> bool
 /// changed; where the feed missed some, one pass over the view and the listing.
 pub fn ending_in_place(
     alloc: Global,
-    replica: &Replica,
-    ops: &[SoundOp],
+    applied: &Applied<'_>,
     made: Option<&Rows<'_>>,
     state: &mut State,
     untold: &Untold<'_>,
     front: &Front<'_>,
 ) -> Result<(Vec<Answer>, Onward), AllocError>
-    requires ready { IsReady replica.now ops.now }
-    requires made { IsMadeFor replica.now.start (replica.now.applied ++ ops.now) state.old (option_map (λ rows. rows.now) made) }
-    requires noted { (view : Seen) → view_of state.old ≡ Some view → IsNotedFor replica.now.start replica.now.applied untold.now.pending view }
-    requires news { IsNews replica.now.start replica.now.applied (replica.now.applied ++ ops.now) untold.now.news }
+    requires ready { IsReady applied.now.replica.now applied.now.ops.now }
+    requires made { IsMadeFor applied.now.replica.now.start (applied.now.replica.now.applied ++ applied.now.ops.now) state.old (option_map (λ rows. rows.now) made) }
+    requires noted { (view : Seen) → view_of state.old ≡ Some view → IsNotedFor applied.now.replica.now.start applied.now.replica.now.applied untold.now.pending view }
+    requires news { IsNews applied.now.replica.now.start applied.now.replica.now.applied (applied.now.replica.now.applied ++ applied.now.ops.now) untold.now.news }
     ensures same { state.new ≡ state.old }
-    ensures answers { IfOk result (λ e. e.0.items ≡ (ending_behind replica.now.start (replica.now.applied ++ ops.now) state.old front.now).answers) }
-    ensures state { IfOk result (λ e. state_onward state.old e.1 ≡ (ending_behind replica.now.start (replica.now.applied ++ ops.now) state.old front.now).state) }
-    ensures can { IfOk result (λ e. CanGo replica.now.start (replica.now.applied ++ ops.now) state.old e.1) }
+    ensures answers { IfOk result (λ e. e.0.items ≡ (ending_behind applied.now.replica.now.start (applied.now.replica.now.applied ++ applied.now.ops.now) state.old front.now).answers) }
+    ensures state { IfOk result (λ e. state_onward state.old e.1 ≡ (ending_behind applied.now.replica.now.start (applied.now.replica.now.applied ++ applied.now.ops.now) state.old front.now).state) }
+    ensures can { IfOk result (λ e. CanGo applied.now.replica.now.start (applied.now.replica.now.applied ++ applied.now.ops.now) state.old e.1) }
 {
     if do_shift(front.own) {
-        return made_anew(alloc, replica, ops, state, front);
+        return made_anew(alloc, applied.replica, applied.ops, state, front);
     }
     let first = flags_first(alloc, state, front)?;
     if first.is_empty() && is_settled(state, untold, front.sync) {
@@ -223,7 +231,7 @@ pub fn ending_in_place(
     }
     let Some(kind) = front.sync else {
         drop(first);
-        return made_anew(alloc, replica, ops, state, front);
+        return made_anew(alloc, applied.replica, applied.ops, state, front);
     };
     match state {
         State::Selected { view, .. } => {
@@ -231,7 +239,7 @@ pub fn ending_in_place(
                 kind,
                 modseq: front.modseq,
             };
-            let planned = planned_behind(alloc, replica, ops, made, view, untold, first, form)?;
+            let planned = planned_behind(alloc, applied, made, view, untold, first, form)?;
             let Planned { answers, change } = planned;
             Ok((
                 answers,
@@ -250,64 +258,40 @@ pub fn ending_in_place(
 /// The sync of a view behind the flags that are set first, and what it changes in the view, which stays as it was.
 fn planned_behind(
     alloc: Global,
-    replica: &Replica,
-    ops: &[SoundOp],
+    applied: &Applied<'_>,
     made: Option<&Rows<'_>>,
     view: &mut View,
     untold: &Untold<'_>,
     first: Vec<Silent>,
     form: SyncForm,
 ) -> Result<Planned, AllocError>
-    requires ready { IsReady replica.now ops.now }
-    requires made { (rows : List Listed) → option_map (λ rows. rows.now) made ≡ Some rows → rows ≡ rows_for replica.now.start (replica.now.applied ++ ops.now) view.old }
-    requires noted { IsNotedFor replica.now.start replica.now.applied untold.now.pending view.old }
-    requires news { IsNews replica.now.start replica.now.applied (replica.now.applied ++ ops.now) untold.now.news }
+    requires ready { IsReady applied.now.replica.now applied.now.ops.now }
+    requires made { (rows : List Listed) → option_map (λ rows. rows.now) made ≡ Some rows → rows ≡ rows_for applied.now.replica.now.start (applied.now.replica.now.applied ++ applied.now.ops.now) view.old }
+    requires noted { IsNotedFor applied.now.replica.now.start applied.now.replica.now.applied untold.now.pending view.old }
+    requires news { IsNews applied.now.replica.now.start applied.now.replica.now.applied (applied.now.replica.now.applied ++ applied.now.ops.now) untold.now.news }
     ensures same { view.new ≡ view.old }
-    ensures answers { IfOk result (λ plan. plan.answers.items ≡ sync_answers form.kind form.modseq (rows_for replica.now.start (replica.now.applied ++ ops.now) view.old) (after_silent view.old.entries first.items)) }
-    ensures changed { IfOk result (λ plan. changed view.old.entries plan.change ≡ synced form.kind (rows_for replica.now.start (replica.now.applied ++ ops.now) view.old) (after_silent view.old.entries first.items)) }
-    ensures change { IfOk result (λ plan. IsChangeTo (rows_for replica.now.start (replica.now.applied ++ ops.now) view.old) view.old.entries plan.change) }
-    ensures can { IfOk result (λ plan. CanCommit view.old.entries plan.change) }
-{
-    if let Some(rows) = made {
-        return planned_over(alloc, replica, ops, rows, view, untold, first, form);
-    }
-    let rows = match rows_behind(alloc, replica, ops, view) {
-        Ok(rows) => rows,
-        Err(error) => {
-            drop(first);
-            return Err(error);
-        }
-    };
-    let planned = planned_over(alloc, replica, ops, &rows, view, untold, first, form);
-    drop(rows);
-    planned
-}
-
-/// The same over what the view's mailbox has behind the operations.
-fn planned_over(
-    alloc: Global,
-    replica: &Replica,
-    ops: &[SoundOp],
-    rows: &Rows<'_>,
-    view: &mut View,
-    untold: &Untold<'_>,
-    first: Vec<Silent>,
-    form: SyncForm,
-) -> Result<Planned, AllocError>
-    requires rows { rows.now ≡ rows_for replica.now.start (replica.now.applied ++ ops.now) view.old }
-    requires noted { IsNotedFor replica.now.start replica.now.applied untold.now.pending view.old }
-    requires news { IsNews replica.now.start replica.now.applied (replica.now.applied ++ ops.now) untold.now.news }
-    ensures same { view.new ≡ view.old }
-    ensures answers { IfOk result (λ plan. plan.answers.items ≡ sync_answers form.kind form.modseq (rows_for replica.now.start (replica.now.applied ++ ops.now) view.old) (after_silent view.old.entries first.items)) }
-    ensures changed { IfOk result (λ plan. changed view.old.entries plan.change ≡ synced form.kind (rows_for replica.now.start (replica.now.applied ++ ops.now) view.old) (after_silent view.old.entries first.items)) }
-    ensures change { IfOk result (λ plan. IsChangeTo (rows_for replica.now.start (replica.now.applied ++ ops.now) view.old) view.old.entries plan.change) }
+    ensures answers { IfOk result (λ plan. plan.answers.items ≡ sync_answers form.kind form.modseq (rows_for applied.now.replica.now.start (applied.now.replica.now.applied ++ applied.now.ops.now) view.old) (after_silent view.old.entries first.items)) }
+    ensures changed { IfOk result (λ plan. changed view.old.entries plan.change ≡ synced form.kind (rows_for applied.now.replica.now.start (applied.now.replica.now.applied ++ applied.now.ops.now) view.old) (after_silent view.old.entries first.items)) }
+    ensures change { IfOk result (λ plan. IsChangeTo (rows_for applied.now.replica.now.start (applied.now.replica.now.applied ++ applied.now.ops.now) view.old) view.old.entries plan.change) }
     ensures can { IfOk result (λ plan. CanCommit view.old.entries plan.change) }
 {
     let noted = Noted {
         feed: untold.feed,
         notes: untold.news.notes_of(view.name()),
     };
-    plan(alloc, view, rows, noted, first, form)
+    if let Some(rows) = made {
+        return plan(alloc, view, rows, noted, first, form);
+    }
+    let rows = match rows_behind(alloc, applied.replica, applied.ops, view) {
+        Ok(rows) => rows,
+        Err(error) => {
+            drop(first);
+            return Err(error);
+        }
+    };
+    let planned = plan(alloc, view, &rows, noted, first, form);
+    drop(rows);
+    planned
 }
 
 /// The sync, and the state then, on a copy of the state.

@@ -18,7 +18,7 @@ ghost use Rattle.imap_node.specs.Sessions.{IsOpen, session_at};
 ghost use Rattle.session_view.specs.Seen.{Seen};
 
 use crate::course::{Course, condstore_after, course_of, idling_after, joined};
-use crate::ending::{Anew, Front, Untold, ending, ending_in_place};
+use crate::ending::{Anew, Applied, Front, Untold, ending, ending_in_place};
 use crate::feeds::Feeds;
 use crate::going::{Going, Onward};
 use crate::input::Input;
@@ -410,13 +410,6 @@ fn all_sent(own: Vec<Answer>, synced: Vec<Answer>, tail: Vec<Answer>) -> Result<
     Answers::new(joined(own, joined(synced, tail)?)?)
 }
 
-/// A replica, and the operations of an input behind those that it applied.
-#[derive(Drop)]
-struct Applied<'a> {
-    replica: &'a Replica,
-    ops: &'a [SoundOp],
-}
-
 /// The sync, and what becomes of the state, behind what moved it, if something did.
 fn ended(
     alloc: Global,
@@ -445,14 +438,6 @@ fn ended(
             } = ending(alloc, applied.replica, applied.ops, next, front)?;
             Ok((answers, Onward::Moves { state, shows_all }))
         }
-        None => ending_in_place(
-            alloc,
-            applied.replica,
-            applied.ops,
-            made,
-            state,
-            untold,
-            front,
-        ),
+        None => ending_in_place(alloc, applied, made, state, untold, front),
     }
 }

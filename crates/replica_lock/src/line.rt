@@ -36,15 +36,20 @@ pub struct FetchLine {
 }
 
 impl SystemFlags {
-    /// These, without the keywords.
-    fn of(flags: &Flags) -> SystemFlags {
-        SystemFlags {
+    /// These; `None` where there are keywords among them.
+    fn of(flags: &Flags) -> Option<SystemFlags>
+        ensures { IfSome result (λ system. flags_of system ≡ flags.now) }
+    {
+        if !flags.keywords.is_empty() {
+            return None;
+        }
+        Some(SystemFlags {
             answered: flags.answered,
             flagged: flags.flagged,
             deleted: flags.deleted,
             seen: flags.seen,
             draft: flags.draft,
-        }
+        })
     }
 
     /// Whether these are all flags.
@@ -68,24 +73,25 @@ impl FetchLine {
         let Answer::Fetch { number, items } = answer else {
             return None;
         };
-        let line = FetchLine::without_more(*number, items);
-        if line.stands_for(answer) {
-            Some(line)
-        } else {
-            None
+        if !items.sections.parts().is_empty() {
+            return None;
         }
+        FetchLine::without_parts(*number, items)
     }
 
-    /// The line of what a line can tell of these items.
-    pub(crate) fn without_more(number: u32, items: &FetchItems) -> FetchLine
-        ensures { result.number ≡ number }
+    /// The line that tells all of these items but the parts of the text; `None` where none does.
+    pub(crate) fn without_parts(number: u32, items: &FetchItems) -> Option<FetchLine>
+        ensures { IfSome result (λ line. (line.number ≡ number) × (items_of line items.now.sections ≡ items.now)) }
     {
-        FetchLine {
-            number,
-            uid: items.uid.unwrap_or(0),
-            modseq: items.modseq.unwrap_or(0),
-            flags: system_flags(&items.flags),
+        if items.date.is_some() || items.size.is_some() {
+            return None;
         }
+        Some(FetchLine {
+            number,
+            uid: kept_uid(items.uid)?,
+            modseq: kept_modseq(items.modseq)?,
+            flags: kept_flags(&items.flags)?,
+        })
     }
 
     /// Whether it stands for this answer by itself.
@@ -136,11 +142,35 @@ fn told_modseq(modseq: u64) -> Option<u64>
     if modseq == 0 { None } else { Some(modseq) }
 }
 
-/// The system flags among those that are told.
-fn system_flags(flags: &Option<Flags>) -> Option<SystemFlags> {
+/// What is kept of a UID; `None` where it is 0, which none is.
+fn kept_uid(uid: Option<u32>) -> Option<u32>
+    ensures { IfSome result (λ kept. told_number kept ≡ uid) }
+{
+    match uid {
+        None => Some(0),
+        Some(0) => None,
+        Some(uid) => Some(uid),
+    }
+}
+
+/// What is kept of a mod-sequence; `None` where it is 0, which none is.
+fn kept_modseq(modseq: Option<u64>) -> Option<u64>
+    ensures { IfSome result (λ kept. told_number kept ≡ modseq) }
+{
+    match modseq {
+        None => Some(0),
+        Some(0) => None,
+        Some(modseq) => Some(modseq),
+    }
+}
+
+/// What is kept of flags; `None` where there are keywords among them.
+fn kept_flags(flags: &Option<Flags>) -> Option<Option<SystemFlags>>
+    ensures { IfSome result (λ kept. option_map flags_of kept ≡ flags.now) }
+{
     match flags {
-        Some(flags) => Some(SystemFlags::of(flags)),
-        None => None,
+        None => Some(None),
+        Some(flags) => Some(Some(SystemFlags::of(flags)?)),
     }
 }
 

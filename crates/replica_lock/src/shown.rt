@@ -107,10 +107,7 @@ fn parts_of(alloc: Global, answers: &[Answer]) -> Option<Shown>
     let Answer::Fetch { number, items } = &answers[0] else {
         return None;
     };
-    let line = FetchLine::without_more(*number, items);
-    if !line.agrees(items) {
-        return None;
-    }
+    let line = FetchLine::without_parts(*number, items)?;
     let sections = items.sections.copy(alloc).ok()?;
     Some(Shown::Parts { line, sections })
 }

@@ -23,15 +23,15 @@ told_nothing start after _ front answers e n = (e, refl)
 
 pub planned_behind-requires-clause-made : goal.planned_behind-requires-clause-made
 planned_behind-requires-clause-made c = λ rows e.
-    made_for c.args.replica.now.start (c.args.replica.now.applied ++ c.args.ops.now) c.args.state.now c.in-Selected.view c.in-Selected.read_only _ rows c.in-Selected.is e c.requires.made
+    made_for c.args.applied.now.replica.now.start (c.args.applied.now.replica.now.applied ++ c.args.applied.now.ops.now) c.args.state.now c.in-Selected.view c.in-Selected.read_only _ rows c.in-Selected.is e c.requires.made
 
 pub planned_behind-requires-clause-noted : goal.planned_behind-requires-clause-noted
 planned_behind-requires-clause-noted c = c.requires.noted c.in-Selected.view (ap view_of c.in-Selected.is)
 
 pub returns-in_ok-planned-in-Selected-clause-answers : goal.returns-in_ok-planned-in-Selected-clause-answers
 returns-in_ok-planned-in-Selected-clause-answers c =
-    let start = c.args.replica.now.start in
-    let after = c.args.replica.now.applied ++ c.args.ops.now in
+    let start = c.args.applied.now.replica.now.start in
+    let after = c.args.applied.now.replica.now.applied ++ c.args.applied.now.ops.now in
     let inside = c.front.inside in
     let front : FrontOf = record { silent = inside.silent.now; own = inside.own.now; sync = inside.sync; modseq = inside.modseq } in
     subst (λ (f : FrontOf). c.in_ok-planned-in-Selected.planned.answers.items ≡ (ending_behind start after c.args.state.now f).answers) c.front.view_is
@@ -42,8 +42,8 @@ returns-in_ok-planned-in-Selected-clause-answers c =
 
 pub returns-in_ok-planned-in-Selected-clause-state : goal.returns-in_ok-planned-in-Selected-clause-state
 returns-in_ok-planned-in-Selected-clause-state c =
-    let start = c.args.replica.now.start in
-    let after = c.args.replica.now.applied ++ c.args.ops.now in
+    let start = c.args.applied.now.replica.now.start in
+    let after = c.args.applied.now.replica.now.applied ++ c.args.applied.now.ops.now in
     let inside = c.front.inside in
     let front : FrontOf = record { silent = inside.silent.now; own = inside.own.now; sync = inside.sync; modseq = inside.modseq } in
     subst (λ (f : FrontOf). state_with c.args.state.now (Some c.in_ok-planned-in-Selected.planned.change) ≡ (ending_behind start after c.args.state.now f).state) c.front.view_is
@@ -54,8 +54,8 @@ returns-in_ok-planned-in-Selected-clause-state c =
 
 pub returns-in_ok-planned-in-Selected-clause-can : goal.returns-in_ok-planned-in-Selected-clause-can
 returns-in_ok-planned-in-Selected-clause-can c =
-    let start = c.args.replica.now.start in
-    let after = c.args.replica.now.applied ++ c.args.ops.now in
+    let start = c.args.applied.now.replica.now.start in
+    let after = c.args.applied.now.replica.now.applied ++ c.args.applied.now.ops.now in
     let inside = c.front.inside in
     let front : FrontOf = record { silent = inside.silent.now; own = inside.own.now; sync = inside.sync; modseq = inside.modseq } in
     can_in_place start after c.args.state.now c.in-Selected.view c.in-Selected.read_only front c.in-Some.kind (rows_for start after c.in-Selected.view) c.in_ok-first.first.items
@@ -65,9 +65,9 @@ returns-in_ok-planned-in-Selected-clause-can c =
 
 pub returns-then-is_settled-clause-answers : goal.returns-then-is_settled-clause-answers
 returns-then-is_settled-clause-answers c =
-    let start = c.args.replica.now.start in
-    let before = c.args.replica.now.applied in
-    let after = before ++ c.args.ops.now in
+    let start = c.args.applied.now.replica.now.start in
+    let before = c.args.applied.now.replica.now.applied in
+    let after = before ++ c.args.applied.now.ops.now in
     let inside = c.front.inside in
     let front : FrontOf = record { silent = inside.silent.now; own = inside.own.now; sync = inside.sync; modseq = inside.modseq } in
     let first = c.in_ok-first.first in
@@ -80,9 +80,9 @@ returns-then-is_settled-clause-answers c =
 
 pub returns-then-is_settled-clause-state : goal.returns-then-is_settled-clause-state
 returns-then-is_settled-clause-state c =
-    let start = c.args.replica.now.start in
-    let before = c.args.replica.now.applied in
-    let after = before ++ c.args.ops.now in
+    let start = c.args.applied.now.replica.now.start in
+    let before = c.args.applied.now.replica.now.applied in
+    let after = before ++ c.args.applied.now.ops.now in
     let inside = c.front.inside in
     let front : FrontOf = record { silent = inside.silent.now; own = inside.own.now; sync = inside.sync; modseq = inside.modseq } in
     let first = c.in_ok-first.first in
@@ -94,7 +94,7 @@ returns-then-is_settled-clause-state c =
 
 pub returns-in_default-state : goal.returns-in_default-state
 returns-in_default-state c =
-    let start = c.args.replica.now.start in
-    let after = c.args.replica.now.applied ++ c.args.ops.now in
+    let start = c.args.applied.now.replica.now.start in
+    let after = c.args.applied.now.replica.now.applied ++ c.args.applied.now.ops.now in
     let told = told_nothing start after c.args.state.now c.args.front.now c.new-in_default-state.result.items c.new-in_default-state.ensures.items c.in_default-state.not-Selected in
     record { same = refl; answers = told.0; state = told.1; can = can_stay start after c.args.state.now }

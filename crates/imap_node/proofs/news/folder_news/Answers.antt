@@ -1,4 +1,4 @@
-use Rattle.std.proofs.Common.{◌≡◌, ℕ, List, ◌++◌, IfOk, sym, subst, ap, ◌∙◌}
+use Rattle.std.proofs.Common.{ℕ, List, ◌++◌, IfOk, sym, subst, ap, ◌∙◌}
 use Rattle.imap_node.specs.Feeds.{NamesIn}
 use Rattle.imap_node.specs.News.{IsAheadOf}
 use Rattle.uid_projection.specs.Incarnations.{uidvalidity_of}

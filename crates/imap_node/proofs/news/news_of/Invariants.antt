@@ -1,4 +1,4 @@
-use Rattle.std.proofs.Common.{◌≡◌, ◌⊎◌, List, true, drop}
+use Rattle.std.proofs.Common.{◌≡◌, ◌⊎◌, true, drop}
 use Rattle.crdt_ops.specs.Tags.{name_of}
 use Rattle.crdt_ops.specs.declared.op.Op.{Op}
 use Rattle.merge_laws.specs.Orders.{IsIn}

@@ -1,8 +1,8 @@
-use Rattle.std.proofs.Common.{◌≡◌, ◌++◌, List, ℕ, IfOk, sym, subst, ap, ◌∙◌}
+use Rattle.std.proofs.Common.{◌++◌, List, ℕ, sym, subst, ◌∙◌}
 use Rattle.imap_node.specs.Feeds.{FolderNoted, NamesIn}
 use Rattle.imap_node.specs.News.{AreNewsSoFar}
 use Rattle.crdt_ops.specs.Tags.{name_of}
-use Rattle.imap_node.proofs.NewsLemmas.{news_kept, news_more}
+use Rattle.imap_node.proofs.NewsLemmas.{news_more}
 use Rattle.imap_node.proofs.news.push_news.Goals as goal
 
 pub returns : goal.returns

@@ -1,4 +1,4 @@
-use Rattle.std.proofs.Common.{Bool, List, ◌≡◌, ◌++◌, [], append-nil, ap, sym, ◌∙◌}
+use Rattle.std.proofs.Common.{Bool, List, ◌≡◌, ◌++◌, append-nil, ap, sym, ◌∙◌}
 use Rattle.crdt_ops.specs.declared.op.Op.{Op}
 use Rattle.imap_commands.specs.Fetching.{fetch_tells}
 use Rattle.imap_commands.specs.declared.session.State.{State}
