@@ -17,5 +17,5 @@ pub use imap_answers::{
     Answer, ByeReason, Code, CommandWord, Continuation, Enabled, FetchItems, Login, MailboxState,
     Notice, Refusal, SearchResults, SectionData, Sections, StatusItems,
 };
-pub use printer::{print, print_by};
+pub use printer::print;
 pub use reading::{one_reading, read};

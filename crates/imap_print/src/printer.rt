@@ -24,19 +24,9 @@ pub fn print(answer: &Answer, out: &mut Vec<u8>) -> Result<(), AllocError>
     ensures ok { OnOk result (out.new.items ≡ out.old.items ++ printed answer.now) }
     ensures err { OnErr result (out.new.items ≡ out.old.items) }
 {
-    let mut line = Vec::new(*out.allocator());
-    print_by(answer, &mut line, out)
-}
-
-/// The same with memory for a line that many answers use one after another; what is in it is let go.
-pub fn print_by(answer: &Answer, line: &mut Vec<u8>, out: &mut Vec<u8>) -> Result<(), AllocError>
-    ensures ok { OnOk result (out.new.items ≡ out.old.items ++ printed answer.now) }
-    ensures err { OnErr result (out.new.items ≡ out.old.items) }
-{
-    line.clear();
-    line.reserve(USUAL_LINE)?;
-    push_line(answer, line)?;
-    out.extend_from_slice(line)
+    let mut line = Vec::with_capacity(*out.allocator(), USUAL_LINE)?;
+    push_line(answer, &mut line)?;
+    out.extend_from_slice(&line)
 }
 
 fn push_line(answer: &Answer, out: &mut Vec<u8>) -> Result<(), AllocError>

@@ -10,7 +10,7 @@ ghost use Rattle.imap_talk.specs.Requests.{texts};
 use crate::ends::Sink;
 use imap_answers::{Answer, Notice, Refusal};
 use imap_node::Reply;
-use imap_print::print_by;
+use imap_print::print;
 use imap_types::Octets;
 use std::alloc::{AllocError, Global};
 
@@ -22,9 +22,8 @@ pub fn tell_all(text: &mut Vec<u8>, answers: &[Answer]) -> Result<(), AllocError
     ensures ok { OnOk result (text.new.items ≡ text.old.items ++ texts answers.now) }
     ensures err { OnErr result ((front : List OneAnswer) × (text.new.items ≡ text.old.items ++ texts front) × IsFront front answers.now) }
 {
-    let mut line = Vec::new(*text.allocator());
     for answer in answers {
-        print_by(answer, &mut line, text)?;
+        print(answer, text)?;
     }
     Ok(())
 }

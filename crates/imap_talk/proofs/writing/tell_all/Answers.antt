@@ -3,8 +3,8 @@ use Rattle.std.proofs.lemmas.List.{take-append-drop}
 use Rattle.imap_talk.proofs.TurnLemmas.{at_error}
 use Rattle.imap_talk.proofs.writing.tell_all.Goals as goal
 
-pub returns-in_err-print_by-clause-err : goal.returns-in_err-print_by-clause-err
-returns-in_err-print_by-clause-err c =
+pub returns-in_err-print-clause-err : goal.returns-in_err-print-clause-err
+returns-in_err-print-clause-err c =
     let i = c.loop-answer.answer-index in
     let given = c.args.answers.now in
-    at_error c.from_residual.result _ (take i given, c.in_err-print_by.ensures.err ∙ c.loop-answer.invariant, (drop i given, sym (take-append-drop i given)))
+    at_error c.from_residual.result _ (take i given, c.in_err-print.ensures.err ∙ c.loop-answer.invariant, (drop i given, sym (take-append-drop i given)))
