@@ -1,6 +1,6 @@
 //! What an answer's line says.
 
-ghost use Rattle.std.specs.Prelude.{◌≡◌, ◌+◌, ◌-◌, ◌*◌, ◌<◌, ◌^◌, SomeIff};
+ghost use Rattle.std.specs.Prelude.{codes, ◌≡◌, ◌+◌, ◌-◌, ◌*◌, ◌<◌, ◌^◌, SomeIff};
 ghost use Rattle.std.specs.Char.{is_ascii_digit};
 ghost use Rattle.std.specs.List.{list_all};
 ghost use Rattle.std.specs.Option.{option_map};
@@ -52,24 +52,22 @@ pub fn answer_of(line: &[u8], number: u64) -> Answer
 fn plain_answer(line: &[u8]) -> Answer
     ensures { result ≡ plain_answer line.now }
 {
-    if behind(b"* BYE", line).is_some() {
-        return Answer::Bye;
+    match line {
+        [b'*', b' ', b'B', b'Y', b'E', ..] => Answer::Bye,
+        [b'*', b' ', ..] => Answer::Other,
+        [b'+', ..] => Answer::Continue,
+        _ => Answer::Unreadable,
     }
-    if behind(b"* ", line).is_some() {
-        return Answer::Other;
-    }
-    if behind(b"+", line).is_some() {
-        return Answer::Continue;
-    }
-    Answer::Unreadable
 }
 
 /// How the command with this number ended, where the line bears its tag.
 fn status_in(line: &[u8], number: u64) -> Option<Status>
     ensures { result ≡ status_in number line.now }
 {
+    let [b'b', rest @ ..] = line else {
+        return None;
+    };
     let mut buffer = Buffer::new();
-    let rest = behind(b"b", line)?;
     let rest = behind(buffer.format(number).as_bytes(), rest)?;
     let rest = behind(b" ", rest)?;
     status_of(rest)
@@ -94,9 +92,22 @@ fn status_of(text: &[u8]) -> Option<Status>
 fn exists_in(line: &[u8]) -> Option<u32>
     ensures { result ≡ exists_in line.now }
 {
-    let rest = behind(b"* ", line)?;
-    let digits = in_front_of(b" EXISTS\r\n", rest)?;
+    let [b'*', b' ', rest @ ..] = line else {
+        return None;
+    };
+    let digits = in_front_of_exists(rest)?;
     number_of(digits)
+}
+
+/// What stands in front of the end of an answer that tells how many messages there are. Most answers have another octet there in place of its S.
+#[tactic(auto, using(crate::proofs::AnswerLemmas::no_exists, crate::proofs::AnswerLemmas::too_short))]
+fn in_front_of_exists(text: &[u8]) -> Option<&[u8]>
+    ensures { option_map (λ rest. rest.now) result ≡ front_of (codes " EXISTS\r\n") text.now }
+{
+    match text {
+        [.., b'S', _, _] => in_front_of(b" EXISTS\r\n", text),
+        _ => None,
+    }
 }
 
 /// What stands behind this front.

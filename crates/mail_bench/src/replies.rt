@@ -1,10 +1,11 @@
 //! The octets of a server, put together to answers. An answer is a line with literals in it (RFC 9051, sections 2.2.2 and 4.3); of a literal nothing is kept.
 
-ghost use Rattle.std.specs.Prelude.{◌≡◌, ◌⊎◌, ◌≤◌, ◌<◌, [], IfErr, IfOk, None, OnOk, Some, drop, length, true};
-ghost use Rattle.mail_bench.specs.Replies.{at_literal, count_more, heard, in_line, is_ended, is_kept, kept, next, refusal, refusal_at};
+ghost use Rattle.std.specs.Prelude.{◌≡◌, ◌⊎◌, ◌≤◌, ◌<◌, ◌+◌, ◌++◌, [], IfErr, IfOk, None, OnOk, Some, drop, false, length, true};
+ghost use Rattle.mail_bench.specs.Replies.{at_literal, count_more, heard, in_line, is_ended, is_kept, kept, longest_line, next, refusal, refusal_at};
 ghost use Rattle.mail_bench.specs.declared.replies.ReplyFault.TheVariants as faults;
-ghost use Rattle.mail_bench.specs.declared.replies.Stage.TheVariants.{Line};
+ghost use Rattle.mail_bench.specs.declared.replies.Stage.TheVariants.{Line, Literal};
 
+use memchr::memchr2;
 use std::alloc::Global;
 
 /// An answer's line has at most so many octets, without its literals.
@@ -94,19 +95,99 @@ impl Reading {
     }
 
     /// Reads on until the answer has ended or all octets were read, and gives how many were.
-    #[tactic(auto, using(crate::proofs::ReplyLemmas::heard_ended, crate::proofs::ReplyLemmas::heard_next))]
+    #[tactic(auto, using(crate::proofs::ReplyLemmas::heard_ended, crate::proofs::ReplyLemmas::heard_whole))]
     pub fn read(&mut self, octets: &[u8]) -> Result<usize, ReplyFault>
         ensures within { IfOk result (λ count. count ≤ length octets.now) }
         ensures heard { IfOk result (λ count. heard self.old.stage self.old.line.items octets.now ≡ (self.new.stage, self.new.line.items, drop count octets.now)) }
         ensures ended { IfOk result (λ count. count < length octets.now → is_ended self.new.stage ≡ true) }
     {
-        for at in 0..octets.len() {
+        let mut at = 0;
+        while at < octets.len() {
             if self.is_ended() {
                 return Ok(at);
             }
-            self.take(octets[at])?;
+            let count = self.read_some(&octets[at..])?;
+            at += count;
         }
-        Ok(octets.len())
+        Ok(at)
+    }
+
+    /// Reads one octet or more of an answer that hasn't ended, as far as they are of one kind, and gives how many.
+    fn read_some(&mut self, octets: &[u8]) -> Result<usize, ReplyFault>
+        requires some { 0 < length octets.now }
+        requires goes_on { is_ended self.old.stage ≡ false }
+        ensures some { IfOk result (λ count. 0 < count) }
+        ensures within { IfOk result (λ count. count ≤ length octets.now) }
+        ensures heard { IfOk result (λ count. heard self.old.stage self.old.line.items octets.now ≡ heard self.new.stage self.new.line.items (drop count octets.now)) }
+    {
+        match self.stage {
+            Stage::Line => self.read_text(octets),
+            Stage::Literal { left } => Ok(self.pass(left, octets)),
+            _ => self.read_one(octets),
+        }
+    }
+
+    /// Reads octets of a line up to the first that may begin an announcement or that ends the answer, and that one, and gives how many these are.
+    fn read_text(&mut self, octets: &[u8]) -> Result<usize, ReplyFault>
+        requires some { 0 < length octets.now }
+        requires text { self.old.stage ≡ Line }
+        ensures some { IfOk result (λ count. 0 < count) }
+        ensures within { IfOk result (λ count. count ≤ length octets.now) }
+        ensures heard { IfOk result (λ count. heard Line self.old.line.items octets.now ≡ heard self.new.stage self.new.line.items (drop count octets.now)) }
+    {
+        match memchr2(b'{', b'\n', octets) {
+            Some(at) => {
+                self.keep(&octets[..at + 1], in_line(octets[at]))?;
+                Ok(at + 1)
+            }
+            None => {
+                self.keep(octets, Stage::Line)?;
+                Ok(octets.len())
+            }
+        }
+    }
+
+    /// Puts octets behind the line, behind which the next one stands so. `LongLine` comes just where the line would be too long.
+    fn keep(&mut self, text: &[u8], behind: Stage) -> Result<(), ReplyFault>
+        ensures stage { OnOk result (self.new.stage ≡ behind) }
+        ensures line { OnOk result (self.new.line.items ≡ self.old.line.items ++ text.now) }
+        ensures fine { OnOk result (length self.new.line.items ≤ longest_line) }
+        ensures refused { IfErr result (λ fault. (fault ≡ faults.NoMemory) ⊎ ((fault ≡ faults.LongLine) × (longest_line < length self.old.line.items + length text.now))) }
+    {
+        if self.line.len().saturating_add(text.len()) > MAX_LINE {
+            return Err(ReplyFault::LongLine);
+        }
+        if self.line.extend_from_slice(text).is_err() {
+            return Err(ReplyFault::NoMemory);
+        }
+        self.stage = behind;
+        Ok(())
+    }
+
+    /// Passes what there is of the octets of a literal of which so many are to come, and gives how many these are.
+    fn pass(&mut self, left: u64, octets: &[u8]) -> usize
+        requires some { 0 < length octets.now }
+        requires literal { self.old.stage ≡ Literal left }
+        ensures some { 0 < result }
+        ensures within { result ≤ length octets.now }
+        ensures heard { heard (Literal left) self.old.line.items octets.now ≡ heard self.new.stage self.new.line.items (drop result octets.now) }
+    {
+        let count = (octets.len() as u64).min(left.max(1));
+        self.stage = at_literal(left.saturating_sub(count));
+        count as usize
+    }
+
+    /// Reads the first of these octets, and gives that it was one.
+    #[tactic(auto, using(crate::proofs::ReplyLemmas::heard_next))]
+    fn read_one(&mut self, octets: &[u8]) -> Result<usize, ReplyFault>
+        requires some { 0 < length octets.now }
+        requires goes_on { is_ended self.old.stage ≡ false }
+        ensures some { IfOk result (λ count. 0 < count) }
+        ensures within { IfOk result (λ count. count ≤ length octets.now) }
+        ensures heard { IfOk result (λ count. heard self.old.stage self.old.line.items octets.now ≡ heard self.new.stage self.new.line.items (drop count octets.now)) }
+    {
+        self.take(octets[0])?;
+        Ok(1)
     }
 
     /// Reads one octet of an answer that hasn't ended. `LongLine` and `LongLiteral` come just where the answer is too long behind it.
