@@ -1,16 +1,44 @@
--- The line of a message's flags alone.
-use Rattle.std.proofs.Common.{◌≡◌, ℕ, List, [], ◌++◌, ap, sym, append_assoc, append-nil}
+-- The lines that most commands get, and what a line's beginning leaves.
+use Rattle.std.proofs.Common.{◌≡◌, ◌≤◌, ◌∙◌, ℕ, List, [], ◌++◌, None, refl, arith, ap, sym, append_assoc, append-nil, length, take}
+use Rattle.std.proofs.lemmas.List.{length-take, take-append-le, take_all}
 use Rattle.std.specs.Prelude.{codes, decimal}
 use Rattle.imap_types.specs.Flags.{flag_texts}
 use Rattle.imap_types.specs.declared.flags.Flags.{Flags}
-use Rattle.imap_answers.specs.declared.answer.Answer.TheVariants.{Fetch}
+use Rattle.imap_answers.specs.declared.answer.Answer.TheVariants.{Completed, Fetch}
+use Rattle.imap_answers.specs.declared.fetched.FetchItems.{FetchItems}
+use Rattle.imap_answers.specs.declared.words.CommandWord.{CommandWord}
 use Rattle.imap_answers.specs.Printed.{answer_text, printed}
 use Rattle.imap_answers.specs.Strings.{crlf, separated}
-use Rattle.imap_print.specs.Lines.{flags_line, only_flags}
+use Rattle.imap_answers.specs.Words.{command_text}
+use Rattle.imap_print.specs.Appending.{StartsWith}
+use Rattle.imap_print.specs.Lines.{EndsFlags, done_line, flags_end, numbered_line, only_flags}
 
 joined : (digits front label texts end line : List ℕ) → (((digits ++ front) ++ ((label ++ texts ++ end) ++ [])) ++ end) ++ line ≡ digits ++ (front ++ (label ++ (texts ++ (end ++ (end ++ line)))))
 joined digits front label texts end line = simp (append_assoc, append-nil)
 
-pub flags_line_is : (number : ℕ) (flags : Flags) → flags_line number flags ≡ printed (Fetch number (only_flags flags))
+flags_line_is : (number : ℕ) (flags : Flags) → numbered_line number (flags_end flags) ≡ printed (Fetch number (only_flags flags))
 unfolding answer_text
 flags_line_is number flags = ap (λ text. codes "* " ++ text) (sym (joined (decimal number) (codes " FETCH (") (codes "FLAGS (") (separated 32 (flag_texts flags)) (codes ")") crlf))
+
+pub line_is : (number : ℕ) (items : FetchItems) (end : List ℕ) → EndsFlags items end → numbered_line number end ≡ printed (Fetch number items)
+line_is number items end told = ap (numbered_line number) told.2 ∙ flags_line_is number told.0 ∙ ap (λ (i : FetchItems). printed (Fetch number i)) (sym told.1)
+
+done_joined : (tag ok word end line : List ℕ) → (tag ++ ok ++ [] ++ word ++ end) ++ line ≡ tag ++ ok ++ word ++ (end ++ line)
+done_joined tag ok word end line = simp (append_assoc, append-nil)
+
+pub done_line_is : (tag : List ℕ) (command : CommandWord) → done_line tag (command_text command) ≡ printed (Completed tag None command)
+unfolding answer_text
+done_line_is tag command = sym (done_joined tag (codes " OK ") (command_text command) (codes " completed") crlf)
+
+-- ---- a beginning of a line
+
+pub starts_same : (old new : List ℕ) → new ≡ old → StartsWith old new
+starts_same old new e = ap (take (length old)) e ∙ take_all (length old) old (omega arith)
+
+pub starts_behind : (old before text new : List ℕ) → StartsWith old before → new ≡ before ++ text → StartsWith old new
+starts_behind old before text new starts e =
+    let short : length old ≤ length before = omega (arith, length-take (length old) before, ap length starts) in
+    ap (take (length old)) e ∙ take-append-le (length old) before text short ∙ starts
+
+pub starts_line : (old line new : List ℕ) → new ≡ old ++ line → StartsWith old new
+starts_line old line new e = starts_behind old old line new (starts_same old old refl) e

@@ -1,9 +1,13 @@
-use Rattle.std.specs.Prelude.{◌≡◌, ℕ, Bool, true, false, ◌&&◌, List, [], ◌∷◌, ◌++◌, flat_map}
+use Rattle.std.specs.Prelude.{◌≡◌, ℕ, Bool, true, false, ◌&&◌, List, [], ◌∷◌, ◌++◌, flat_map, length, take}
 use Rattle.imap_answers.specs.Strings.{separated}
 
 -- A text was put behind what was there.
 abbrev pub Appends : List ℕ → List ℕ → List ℕ → Type 0
 Appends old new text = new ≡ old ++ text
+
+-- What was there stands in front of what there is now.
+abbrev pub StartsWith : List ℕ → List ℕ → Type 0
+StartsWith old new = take (length old) new ≡ old
 
 -- Whether there are no texts.
 abbrev pub has_none : List (List ℕ) → Bool

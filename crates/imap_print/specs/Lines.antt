@@ -1,4 +1,4 @@
-use Rattle.std.specs.Prelude.{ℕ, List, [], ◌++◌, codes, decimal, Some, None}
+use Rattle.std.specs.Prelude.{◌≡◌, ℕ, List, [], ◌++◌, codes, decimal, Some, None}
 use Rattle.imap_types.specs.Flags.{flag_texts}
 use Rattle.imap_types.specs.declared.flags.Flags.{Flags}
 use Rattle.imap_answers.specs.declared.fetched.FetchItems.{FetchItems}
@@ -8,6 +8,18 @@ use Rattle.imap_answers.specs.Strings.{separated}
 abbrev pub only_flags : Flags → FetchItems
 only_flags flags = record { uid = None; flags = Some flags; date = None; size = None; modseq = None; sections = [] }
 
--- The line that tells them (RFC 9051, section 7.5.2).
-abbrev pub flags_line : ℕ → Flags → List ℕ
-flags_line number flags = (codes "* " ++ decimal number) ++ (codes " FETCH (FLAGS (" ++ separated 32 (flag_texts flags) ++ codes "))\r\n")
+-- What stands behind its number in the line that tells them (RFC 9051, section 7.5.2).
+abbrev pub flags_end : Flags → List ℕ
+flags_end flags = codes " FETCH (FLAGS (" ++ separated 32 (flag_texts flags) ++ codes "))\r\n"
+
+-- This is that end, where FETCH tells a message's flags and nothing else.
+abbrev pub EndsFlags : FetchItems → List ℕ → Type 0
+EndsFlags items end = (flags : Flags) × (items ≡ only_flags flags) × (end ≡ flags_end flags)
+
+-- The line that tells something of the message with this number.
+abbrev pub numbered_line : ℕ → List ℕ → List ℕ
+numbered_line number end = codes "* " ++ decimal number ++ end
+
+-- The line of a command that is done, without a code (RFC 9051, section 7.1.1).
+abbrev pub done_line : List ℕ → List ℕ → List ℕ
+done_line tag word = tag ++ codes " OK " ++ word ++ codes " completed\r\n"

@@ -1,7 +1,6 @@
 ghost use Rattle.std.specs.Prelude.{◌≡◌, ◌++◌, codes, decimal, IfSome, OnErr, OnOk};
-ghost use Rattle.imap_print.specs.Appending.{Appends};
-ghost use Rattle.imap_print.specs.Lines.{flags_line, only_flags};
-ghost use Rattle.imap_answers.specs.declared.answer.Answer.TheVariants.{Fetch};
+ghost use Rattle.imap_print.specs.Appending.{Appends, StartsWith};
+ghost use Rattle.imap_print.specs.Lines.{EndsFlags, done_line, flags_end, numbered_line, only_flags};
 ghost use Rattle.imap_answers.specs.Words.{refusal_text};
 ghost use Rattle.imap_answers.specs.Printed.{answer_text, completed_text, fetch_text, list_text, notice_text, printed, search_text, status_text, uid_mark};
 
@@ -13,6 +12,7 @@ use imap_answers::{
     StatusItems,
 };
 use imap_types::{Flags, Name, Octets};
+use itoa::Buffer;
 use std::alloc::AllocError;
 
 /// So many octets most answers take at most, so that a line's memory is asked for once.
@@ -24,34 +24,47 @@ pub fn print(answer: &Answer, out: &mut Vec<u8>) -> Result<(), AllocError>
     ensures ok { OnOk result (out.new.items ≡ out.old.items ++ printed answer.now) }
     ensures err { OnErr result (out.new.items ≡ out.old.items) }
 {
-    let mut line = Vec::with_capacity(*out.allocator(), USUAL_LINE)?;
-    push_line(answer, &mut line)?;
-    out.extend_from_slice(&line)
-}
-
-fn push_line(answer: &Answer, out: &mut Vec<u8>) -> Result<(), AllocError>
-    ensures { OnOk result (Appends out.old.items out.new.items (printed answer.now)) }
-{
-    match flags_alone(answer) {
-        Some((number, flags)) => {
-            push_flags_line(number, flags, out)?;
-            Ok(())
+    let before = out.len();
+    match push_line(answer, out) {
+        Ok(()) => Ok(()),
+        Err(error) => {
+            out.truncate(before);
+            Err(error)
         }
-        None => push_any_line(answer, out),
     }
 }
 
-/// The number and the flags, where FETCH tells nothing else of a message: the usual line.
-fn flags_alone(answer: &Answer) -> Option<(u32, &Flags)>
-    ensures { IfSome result (λ told. answer.now ≡ Fetch told.0 (only_flags told.1.now)) }
+/// The same, of which an `Err` may leave a beginning. The usual lines are put there by few texts.
+fn push_line(answer: &Answer, out: &mut Vec<u8>) -> Result<(), AllocError>
+    ensures ok { OnOk result (Appends out.old.items out.new.items (printed answer.now)) }
+    ensures err { OnErr result (StartsWith out.old.items out.new.items) }
 {
     match answer {
-        Answer::Fetch { number, items } => match only_flags(items) {
-            Some(flags) => Some((*number, flags)),
-            None => None,
+        Answer::Fetch { number, items } => match usual_end(items) {
+            Some(end) => {
+                push_numbered_line(*number, end, out)?;
+                Ok(())
+            }
+            None => push_apart(answer, out),
         },
-        _ => None,
+        Answer::Completed { tag, code, command } => match code {
+            None => {
+                push_done_line(tag.as_bytes(), command.text(), out)?;
+                Ok(())
+            }
+            Some(_) => push_apart(answer, out),
+        },
+        _ => push_apart(answer, out),
     }
+}
+
+/// What stands behind the number, where FETCH tells flags that most messages bear, and nothing else.
+fn usual_end(items: &FetchItems) -> Option<&'static [u8]>
+    ensures { IfSome result (λ end. EndsFlags items.now end.now) }
+{
+    let flags = only_flags(items)?;
+    let end = flags_end(flags)?;
+    Some(end)
 }
 
 fn only_flags(items: &FetchItems) -> Option<&Flags>
@@ -71,12 +84,73 @@ fn only_flags(items: &FetchItems) -> Option<&Flags>
     }
 }
 
-/// The usual line, by few texts.
-fn push_flags_line(number: u32, flags: &Flags, out: &mut Vec<u8>) -> Result<(), AllocError>
-    ensures { OnOk result (Appends out.old.items out.new.items (flags_line number flags.now)) }
+/// The end of a line of flags, for the sets that most messages bear.
+fn flags_end(flags: &Flags) -> Option<&'static [u8]>
+    ensures { IfSome result (λ end. end.now ≡ flags_end flags.now) }
 {
-    push_label(b"* ", u64::from(number), out)?;
-    push_flags(b" FETCH (FLAGS (", flags, b"))\r\n", out)?;
+    let Flags {
+        answered,
+        flagged,
+        deleted,
+        seen,
+        draft,
+        keywords,
+    } = flags;
+    match (
+        *answered,
+        *flagged,
+        *deleted,
+        *seen,
+        *draft,
+        keywords.as_slice(),
+    ) {
+        (false, false, false, false, false, []) => Some(b" FETCH (FLAGS ())\r\n"),
+        (false, false, false, true, false, []) => Some(b" FETCH (FLAGS (\\Seen))\r\n"),
+        (false, true, false, false, false, []) => Some(b" FETCH (FLAGS (\\Flagged))\r\n"),
+        (false, true, false, true, false, []) => Some(b" FETCH (FLAGS (\\Flagged \\Seen))\r\n"),
+        (true, false, false, true, false, []) => Some(b" FETCH (FLAGS (\\Answered \\Seen))\r\n"),
+        (false, false, true, false, false, []) => Some(b" FETCH (FLAGS (\\Deleted))\r\n"),
+        (false, false, true, true, false, []) => Some(b" FETCH (FLAGS (\\Deleted \\Seen))\r\n"),
+        _ => None,
+    }
+}
+
+/// The line of the message with this number.
+#[tactic(auto, using(crate::proofs::LineLemmas::starts_same, crate::proofs::LineLemmas::starts_behind))]
+fn push_numbered_line(number: u32, end: &[u8], out: &mut Vec<u8>) -> Result<(), AllocError>
+    ensures ok { OnOk result (Appends out.old.items out.new.items (numbered_line number end.now)) }
+    ensures err { OnErr result (StartsWith out.old.items out.new.items) }
+{
+    let mut buffer = Buffer::new();
+    let digits = buffer.format(u64::from(number)).as_bytes();
+    out.extend_from_slice(b"* ")?;
+    out.extend_from_slice(digits)?;
+    out.extend_from_slice(end)?;
+    Ok(())
+}
+
+/// The line of a command that is done without a code.
+#[tactic(auto, using(crate::proofs::LineLemmas::starts_same, crate::proofs::LineLemmas::starts_behind))]
+fn push_done_line(tag: &[u8], word: &[u8], out: &mut Vec<u8>) -> Result<(), AllocError>
+    ensures ok { OnOk result (Appends out.old.items out.new.items (done_line tag.now word.now)) }
+    ensures err { OnErr result (StartsWith out.old.items out.new.items) }
+{
+    out.extend_from_slice(tag)?;
+    out.extend_from_slice(b" OK ")?;
+    out.extend_from_slice(word)?;
+    out.extend_from_slice(b" completed\r\n")?;
+    Ok(())
+}
+
+/// Any other line, by memory of its own, so that an `Err` leaves all as it was.
+#[tactic(auto, using(crate::proofs::LineLemmas::starts_same))]
+fn push_apart(answer: &Answer, out: &mut Vec<u8>) -> Result<(), AllocError>
+    ensures ok { OnOk result (Appends out.old.items out.new.items (printed answer.now)) }
+    ensures err { OnErr result (StartsWith out.old.items out.new.items) }
+{
+    let mut line = Vec::with_capacity(*out.allocator(), USUAL_LINE)?;
+    push_any_line(answer, &mut line)?;
+    out.extend_from_slice(&line)?;
     Ok(())
 }
 

@@ -1,9 +1,20 @@
 use Rattle.std.proofs.Common.{◌∙◌, ◌++◌, ap, sym}
+use Rattle.imap_answers.specs.declared.answer.Answer.TheVariants.{Completed}
 use Rattle.imap_answers.specs.Printed.{printed}
-use Rattle.imap_print.proofs.LineLemmas.{flags_line_is}
+use Rattle.imap_print.specs.Lines.{done_line}
+use Rattle.imap_print.proofs.LineLemmas.{done_line_is, line_is}
 use Rattle.imap_print.proofs.printer.push_line.Goals as goal
 
-pub returns-in_ok-push_flags_line-in-Some : goal.returns-in_ok-push_flags_line-in-Some
-returns-in_ok-push_flags_line-in-Some c =
-    let line = flags_line_is c.in-Some.number c.in-Some.flags.now ∙ ap printed (sym c.in-Some.ensures) in
-    c.in_ok-push_flags_line-in-Some.ensures ∙ ap (λ text. c.args.out.now.items ++ text) line
+pub returns-in_ok-push_numbered_line-in-Some-clause-ok : goal.returns-in_ok-push_numbered_line-in-Some-clause-ok
+returns-in_ok-push_numbered_line-in-Some-clause-ok c =
+    let line = line_is c.in-Fetch.number c.in-Fetch.items c.in-Some.end.now c.in-Some.ensures ∙ ap printed (sym c.in-Fetch.is) in
+    c.in_ok-push_numbered_line-in-Some.ensures.ok ∙ ap (λ text. c.args.out.now.items ++ text) line
+
+pub returns-in_ok-push_done_line-in-None-code-clause-ok : goal.returns-in_ok-push_done_line-in-None-code-clause-ok
+returns-in_ok-push_done_line-in-None-code-clause-ok c =
+    let told = c.in-Completed in
+    let line = done_line_is told.tag told.command ∙ ap (λ code. printed (Completed told.tag code told.command)) (sym c.in-None-code.is) ∙ ap printed (sym told.is) in
+    c.in_ok-push_done_line-in-None-code.ensures.ok
+    ∙ ap (λ tag. c.args.out.now.items ++ done_line tag c.text.result.now) c.as_bytes.ensures
+    ∙ ap (λ word. c.args.out.now.items ++ done_line told.tag word) c.text.ensures
+    ∙ ap (λ text. c.args.out.now.items ++ text) line
