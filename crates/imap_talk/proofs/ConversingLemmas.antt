@@ -1,6 +1,5 @@
-use Rattle.std.proofs.Common.{◌≡◌, inl, inr, ℕ, ◌+◌, ◌<◌, Bool, true, false, List, [], ◌∷◌, ◌++◌, length, take, drop, get_or, Option, Some, None, Result, Ok, Err, IsErr, IsOk, OnOk, refl, sym, ap, ◌∙◌, subst, arith, append_assoc, append-nil}
+use Rattle.std.proofs.Common.{◌≡◌, inl, inr, ℕ, Bool, true, false, List, [], ◌∷◌, ◌++◌, take, drop, Option, Some, None, Result, Ok, Err, IsErr, IsOk, OnOk, refl, sym, ap, ◌∙◌, subst, append_assoc, append-nil}
 use Rattle.std.specs.Prelude.{IfErr, is_ok}
-use Rattle.std.proofs.lemmas.Grind.{common_steps}
 use Rattle.std.proofs.lemmas.Bool.{false≢true}
 use Rattle.std.proofs.lemmas.List.{take-append-drop}
 use Rattle.imap_answers.specs.declared.answer.Answer.{Answer}
@@ -12,6 +11,7 @@ use Rattle.imap_lex.specs.declared.limits.Limits.{Limits}
 use Rattle.imap_lex.proofs.CutLemmas.{goes_on-append}
 use Rattle.imap_syntax.specs.declared.idle.IdleLine.{IdleLine}
 use Rattle.imap_node.specs.declared.reply.Reply.{Reply}
+use Rattle.imap_syntax.specs.declared.command.Tagged.{Tagged}
 use Rattle.imap_talk.specs.Conversation.{IsFront}
 use Rattle.imap_talk.specs.Inputs.{IsRequest}
 use Rattle.imap_talk.specs.Replies.{is_without_memory}
@@ -24,7 +24,7 @@ use Rattle.imap_talk.specs.Devices.{Gave, Said, Took, TookSome}
 use Rattle.imap_talk.specs.Asked as asked
 use Rattle.imap_talk.specs.Endings.{IsSaid, end_of, failed_writes}
 use Rattle.imap_talk.specs.Requests.{Fails, Handles, StopsAt, Takes, call_of, texts}
-use Rattle.imap_talk.specs.Conversing.{Breaks, Converses, Ends, Goes, GoesFor, Halts, IsCut, IsWritten, Leaves}
+use Rattle.imap_talk.specs.Conversing.{Breaks, Converses, Ends, Goes, GoesFor, Going, Halts, IsCut, IsWritten, Leaves, Unsaid}
 use Rattle.imap_talk.specs.declared.ended.Ended.{Ended}
 use Rattle.imap_talk.specs.declared.ended.Ended.TheVariants.{Logout, PeerClosed, TooManySessions, Framing, NoMemory, ReadFailed, Torn, WriteFailed}
 use Rattle.imap_talk.specs.declared.fault.PortFault.{PortFault}
@@ -172,15 +172,6 @@ module _ {S : Type 0} (steps : S → Asked → Result Reply PortFault → S → 
     converses-append c.1 c.2 items more c.3 mid between rest new after c.6 d,
   )
 
-  -- one more item
-  pub converses-more : (old : S) (idling : Option (List ℕ)) (items : List Item) (i : ℕ) (item : Item) (said : List ℕ) (mid : S) (between : Option (List ℕ)) (given : List Answer) (new : S) (after : Option (List ℕ))
-      → i < length items → item ≡ get_or items i item → Converses steps old idling (take i items) said mid between → Takes steps mid between item given new after false
-      → Converses steps old idling (take (i + 1) items) (said ++ texts given) new after
-  converses-more old idling items i item said mid between given new after h e c t =
-      let at : take (i + 1) items ≡ take i items ++ item ∷ [] = grind (arith, common_steps) in
-      let one : Converses steps mid between (item ∷ []) (texts given) new after = (given, new, after, [], t, sym (append-nil (texts given)), (refl, refl, refl)) in
-      subst (λ (xs : List Item). Converses steps old idling xs (said ++ texts given) new after) (sym at) (converses-append old idling (take i items) (item ∷ []) said mid between (texts given) new after c one)
-
   goes_behind : (old : S) (idling : Option (List ℕ)) (items more : List Item) (said : List ℕ) (mid : S) (between : Option (List ℕ)) (rest : List ℕ) (new : S)
       → Converses steps old idling items said mid between → Goes steps mid between more rest new → Goes steps old idling (items ++ more) (said ++ rest) new
   goes_behind old idling items more said mid between rest new c g =
@@ -195,7 +186,7 @@ module _ {S : Type 0} (steps : S → Asked → Result Reply PortFault → S → 
         goes = goes_behind old idling items g.front said mid between rest new c g.goes;
       }
 
-  breaks_behind : (old : S) (idling : Option (List ℕ)) (items more : List Item) (ended : Ended) (said : List ℕ) (mid : S) (between : Option (List ℕ)) (rest : List ℕ) (new : S)
+  pub breaks_behind : (old : S) (idling : Option (List ℕ)) (items more : List Item) (ended : Ended) (said : List ℕ) (mid : S) (between : Option (List ℕ)) (rest : List ℕ) (new : S)
       → Converses steps old idling items said mid between → Breaks steps mid between more ended rest new → Breaks steps old idling (items ++ more) ended (said ++ rest) new
   breaks_behind old idling items more ended said mid between rest new c b =
       record {
@@ -212,47 +203,73 @@ module _ {S : Type 0} (steps : S → Asked → Result Reply PortFault → S → 
         said_is = ap (λ t. said ++ t) b.said_is ∙ sym (append_assoc said b.before (texts b.given));
       }
 
+  unsaid_behind : (old : S) (idling : Option (List ℕ)) (items more : List Item) (said : List ℕ) (mid : S) (between : Option (List ℕ)) (rest : List ℕ) (new : S)
+      → Converses steps old idling items said mid between → Unsaid steps mid between more rest new → Unsaid steps old idling (items ++ more) (said ++ rest) new
+  unsaid_behind old idling items more said mid between rest new c u =
+      let at = sym (append_assoc said rest (texts u.lost)) in
+      record {
+        lost = u.lost;
+        all =
+            elim u.all [
+              | inl g ↦ inl (subst (λ (t : List ℕ). GoesFor steps old idling (items ++ more) t new) at (goes_for_behind old idling items more said mid between (rest ++ texts u.lost) new c g))
+              | inr b ↦ inr (b.0, subst (λ (t : List ℕ). Breaks steps old idling (items ++ more) b.0 t new) at (breaks_behind old idling items more b.0 said mid between (rest ++ texts u.lost) new c b.1))
+            ];
+      }
+
   pub leaves_behind : (old : S) (idling : Option (List ℕ)) (items more : List Item) (ended : Ended) (said : List ℕ) (mid : S) (between : Option (List ℕ)) (rest : List ℕ) (new : S)
       → Converses steps old idling items said mid between → Leaves steps mid between more ended rest new → Leaves steps old idling (items ++ more) ended (said ++ rest) new
   leaves_behind old idling items more ended said mid between rest new c h =
       elim h [
         | inl f ↦ inl (f.0, goes_for_behind old idling items more said mid between rest new c f.1)
-        | inr b ↦ inr (breaks_behind old idling items more ended said mid between rest new c b)
+        | inr other ↦ elim other [
+          | inl b ↦ inr (inl (breaks_behind old idling items more ended said mid between rest new c b))
+          | inr u ↦ inr (inr (u.0, unsaid_behind old idling items more said mid between rest new c u.1))
+        ]
       ]
+
+  goes_for_first : (old : S) (idling : Option (List ℕ)) (items all : List Item) (said : List ℕ) (new : S) → IsPrefix items all → GoesFor steps old idling items said new → GoesFor steps old idling all said new
+  goes_for_first old idling items all said new f g = record { front = g.front; first = front_of_front g.front items all g.first f; goes = g.goes }
+
+  breaks_first : (old : S) (idling : Option (List ℕ)) (items all : List Item) (ended : Ended) (said : List ℕ) (new : S) → IsPrefix items all → Breaks steps old idling items ended said new → Breaks steps old idling all ended said new
+  breaks_first old idling items all ended said new f b =
+      record {
+        front = b.front;
+        item = b.item;
+        back = b.back ++ f.0;
+        before = b.before;
+        mid = b.mid;
+        between = b.between;
+        given = b.given;
+        items_are = f.1 ∙ ap (λ t. t ++ f.0) b.items_are ∙ append_assoc b.front (b.item ∷ b.back) f.0;
+        answered = b.answered;
+        stops = b.stops;
+        said_is = b.said_is;
+      }
 
   -- items behind those at which it ended don't matter
-  leaves_first : (old : S) (idling : Option (List ℕ)) (items all : List Item) (ended : Ended) (said : List ℕ) (new : S) → IsPrefix items all → Leaves steps old idling items ended said new → Leaves steps old idling all ended said new
+  pub leaves_first : (old : S) (idling : Option (List ℕ)) (items all : List Item) (ended : Ended) (said : List ℕ) (new : S) → IsPrefix items all → Leaves steps old idling items ended said new → Leaves steps old idling all ended said new
   leaves_first old idling items all ended said new f h =
       elim h [
-        | inl w ↦ inl (w.0, record { front = w.1.front; first = front_of_front w.1.front items all w.1.first f; goes = w.1.goes })
-        | inr b ↦ inr (record {
-          front = b.front;
-          item = b.item;
-          back = b.back ++ f.0;
-          before = b.before;
-          mid = b.mid;
-          between = b.between;
-          given = b.given;
-          items_are = f.1 ∙ ap (λ t. t ++ f.0) b.items_are ∙ append_assoc b.front (b.item ∷ b.back) f.0;
-          answered = b.answered;
-          stops = b.stops;
-          said_is = b.said_is;
-        })
+        | inl w ↦ inl (w.0, goes_for_first old idling items all said new f w.1)
+        | inr other ↦ elim other [
+          | inl b ↦ inr (inl (breaks_first old idling items all ended said new f b))
+          | inr u ↦ inr (inr (
+            u.0,
+            record {
+              lost = u.1.lost;
+              all = elim u.1.all [ inl g ↦ inl (goes_for_first old idling items all (said ++ texts u.1.lost) new f g) | inr b ↦ inr (b.0, breaks_first old idling items all b.0 (said ++ texts u.1.lost) new f b.1) ];
+            },
+          ))
+        ]
       ]
 
-  -- it ends at this item
-  pub breaks_at : (old : S) (idling : Option (List ℕ)) (items : List Item) (i : ℕ) (item : Item) (ended : Ended) (said : List ℕ) (mid : S) (between : Option (List ℕ)) (given : List Answer) (new : S)
-      → i < length items → item ≡ get_or items i item → Converses steps old idling (take i items) said mid between → StopsAt steps mid between item ended given new
-      → Leaves steps old idling items ended (said ++ texts given) new
-  breaks_at old idling items i item ended said mid between given new h e c s =
-      let at : items ≡ take i items ++ item ∷ drop (i + 1) items = grind (arith, common_steps) in
-      inr (record { front = take i items; item = item; back = drop (i + 1) items; before = said; mid = mid; between = between; given = given; items_are = at; answered = c; stops = s; said_is = refl })
-
   -- a write failed behind some of the items
-  pub fails_at : (old : S) (idling : Option (List ℕ)) (items : List Item) (i : ℕ) (said : List ℕ) (new : S) (after : Option (List ℕ))
-      → Converses steps old idling (take i items) said new after → Leaves steps old idling items WriteFailed said new
-  fails_at old idling items i said new after c =
-      inl (refl, record { front = take i items; first = (drop i items, sym (take-append-drop i items)); goes = record { after = after; answered = c } })
+  pub fails_at : (old : S) (idling : Option (List ℕ)) (items : List Item) (i : ℕ) (said : List ℕ) (new : S) (between : Option (List ℕ)) (waiting : List Tagged)
+      → Going steps old idling (take i items) said new between waiting → Leaves steps old idling items WriteFailed said new
+  fails_at old idling items i said new between waiting g =
+      let first : IsPrefix (take i items) items = (drop i items, sym (take-append-drop i items)) in
+      let before : IsPrefix g.front (take i items) = (g.back, g.items_are) in
+      inl (refl, record { front = g.front; first = front_of_front g.front (take i items) items before first; goes = record { after = between; answered = g.answered } })
 
   -- ---- pieces
 

@@ -1,4 +1,6 @@
 mod AmidLemmas
+mod BatchLemmas
+pub mod CarryLemmas
 pub mod ConversingLemmas
 mod DumpLemmas
 mod EndLemmas

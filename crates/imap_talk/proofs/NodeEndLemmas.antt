@@ -91,7 +91,7 @@ module _ {O : Type 0} (comes : O → ℕ → NodeState → ℕ → NodeState →
       | inl read ↦ read.2
       | inr halts ↦ elim halts [
         | inl cuts ↦ framed cuts.0 (subst IsWhole cuts.1 w) cuts.2
-        | inr leaves ↦ elim leaves [ inl write ↦ absurd (not_so ended WriteFailed (λ x. x) w write.0) | inr breaks ↦ absurd (breaks_whole ended w on breaks) ]
+        | inr leaves ↦ elim leaves [ inl write ↦ absurd (not_so ended WriteFailed (λ x. x) w write.0) | inr rest ↦ elim rest [ inl breaks ↦ absurd (breaks_whole ended w on breaks) | inr unsaid ↦ absurd (not_so ended NoMemory (λ x. x) w unsaid.0) ] ]
       ]
     ]
   ]
@@ -105,7 +105,7 @@ module _ {O : Type 0} (comes : O → ℕ → NodeState → ℕ → NodeState →
       | inl read ↦ absurd (no_logout ReadFailed (λ x. x) read.0)
       | inr halts ↦ elim halts [
         | inl cuts ↦ absurd (no_logout (Framing cuts.0) (λ x. x) cuts.1)
-        | inr leaves ↦ elim leaves [ inl write ↦ absurd (no_logout WriteFailed (λ x. x) write.0) | inr breaks ↦ breaks ]
+        | inr leaves ↦ elim leaves [ inl write ↦ absurd (no_logout WriteFailed (λ x. x) write.0) | inr rest ↦ elim rest [ inl breaks ↦ breaks | inr unsaid ↦ absurd (no_logout NoMemory (λ x. x) unsaid.0) ] ]
       ]
     ]
   ]

@@ -1,9 +1,8 @@
-use Rattle.std.proofs.Common.{◌≡◌, inl, inr, ℕ, zero, suc, List, [], ◌∷◌, ◌++◌, take, drop, ap, refl, sym, ◌∙◌, append_assoc, append-nil, subst, Result, Ok, Err, OnOk, OnErr}
+use Rattle.std.proofs.Common.{◌≡◌, inl, inr, ℕ, zero, suc, List, [], ◌∷◌, ◌++◌, take, drop, ap, refl, sym, ◌∙◌, append_assoc, append-nil, subst, Result, Ok, Err, OnErr}
 use Rattle.imap_answers.specs.declared.answer.Answer.{Answer}
 use Rattle.imap_node.specs.Nodes.{HasLoggedOut, IsGoing, NodeState, closed}
 use Rattle.imap_talk.specs.Conversation.{BreaksOff, Converses, IsFront, StopsAt, Takes, Timed, sent, sent_one, turns_of}
 use Rattle.imap_talk.specs.declared.turn.TalkFaultKind.{TalkFaultKind}
-use Rattle.imap_talk.specs.declared.turn.TalkFaultKind.TheVariants as kinds
 use Rattle.imap_talk.specs.declared.turn.Turn.{Turn}
 
 -- some answers and the others are all

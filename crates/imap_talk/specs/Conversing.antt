@@ -9,7 +9,9 @@ use Rattle.imap_lex.specs.declared.fault.Fault.TheVariants.{LineTooLong, Literal
 use Rattle.imap_lex.specs.declared.item.Item.{Item}
 use Rattle.imap_lex.specs.declared.limits.Limits.{Limits}
 use Rattle.imap_node.specs.declared.reply.Reply.{Reply}
+use Rattle.imap_syntax.specs.declared.command.Tagged.{Tagged}
 use Rattle.imap_talk.specs.Asked.{Asked}
+use Rattle.imap_talk.specs.Batches.{AreAsked, are_brief}
 use Rattle.imap_talk.specs.Devices.{Gave, Took, TookSome}
 use Rattle.imap_talk.specs.Endings.{bye_text_of, end_of}
 use Rattle.imap_talk.specs.Requests.{StopsAt, Takes, texts}
@@ -58,9 +60,28 @@ module _ {S : Type 0} (steps : S → Asked → Result Reply PortFault → S → 
   IsCut old idling cut LiteralTooLong said new = (cut.1 ≡ Err LiteralTooLong) × Goes old idling cut.0 said new
   IsCut old idling cut NulByte said new = (cut.1 ≡ Err NulByte) × Goes old idling cut.0 said new
 
-  -- The conversation over these items ends so: a write failed behind some of them; or it ends at one of them.
+  -- Items were taken: the first were answered, and those behind them are brief commands of a session that doesn't idle, which the port wasn't given yet.
+  pub record Going (old : S) (idling : Option (List ℕ)) (items : List Item) (said : List ℕ) (new : S) (between : Option (List ℕ)) (waiting : List Tagged) : Type 0 where
+    pub front : List Item
+    pub back : List Item
+    pub items_are : items ≡ front ++ back
+    pub answered : Converses old idling front said new between
+    pub waits : AreAsked back waiting
+    pub brief : are_brief waiting ≡ true
+    pub awake : (back ≡ []) ⊎ (between ≡ None)
+
+  -- Memory was wanting for the last of what was to be said: items were answered, to one that ends the conversation or not, and the port is as it is behind them; but the
+  -- texts of these last answers aren't said.
+  pub record Unsaid (old : S) (idling : Option (List ℕ)) (items : List Item) (said : List ℕ) (new : S) : Type 0 where
+    pub lost : List Answer
+    pub all : (GoesFor old idling items (said ++ texts lost) new) ⊎ ((ended : Ended) × Breaks old idling items ended (said ++ texts lost) new)
+
+  -- The conversation over these items ends so: a write failed behind some of them; it ends at one of them; or memory was wanting for the last answers.
   abbrev pub Leaves : S → Option (List ℕ) → List Item → Ended → List ℕ → S → Type 0
-  Leaves old idling items ended said new = ((ended ≡ WriteFailed) × GoesFor old idling items said new) ⊎ Breaks old idling items ended said new
+  Leaves old idling items ended said new =
+      ((ended ≡ WriteFailed) × GoesFor old idling items said new)
+      ⊎ (Breaks old idling items ended said new
+      ⊎ ((ended ≡ NoMemory) × Unsaid old idling items said new))
 
   -- The conversation over what octets give ends so: they can't be cut any further; or it ends over the items.
   abbrev pub Halts : S → Option (List ℕ) → Cut → Ended → List ℕ → S → Type 0

@@ -1,4 +1,5 @@
 pub mod Asked
+pub mod Batches
 pub mod Conversation
 pub mod Conversing
 pub mod Devices

@@ -15,6 +15,9 @@ use Rattle.imap_talk.specs.Inputs.{IsRequest}
 use Rattle.imap_talk.specs.Replies.{answers_of, is_without_memory}
 use Rattle.imap_talk.specs.declared.requests.Request.{Request}
 use Rattle.imap_talk.specs.declared.requests.Request.TheVariants as requests
+use Rattle.imap_talk.specs.declared.taking.Asking.{Asking}
+use Rattle.imap_talk.specs.declared.taking.Asking.TheVariants.{Later, Now}
+use Rattle.imap_talk.specs.Batches.{is_brief}
 use Rattle.imap_talk.specs.Asked.{Asked}
 use Rattle.imap_talk.specs.Asked as asked
 use Rattle.imap_talk.specs.Endings.{end_of}
@@ -43,6 +46,11 @@ abbrev pub call_of : Request → Option Asked
 call_of (requests.Told answer) = None
 call_of (requests.Command tagged) = Some (asked.Command tagged)
 call_of (requests.Line tag line) = Some (asked.Line line)
+
+-- A brief command waits for others behind it, and all else is asked at once.
+abbrev pub IsAskingOf : Request → Asking → Type 0
+IsAskingOf request (Later tagged) = (request ≡ requests.Command tagged) × (is_brief tagged.command ≡ true)
+IsAskingOf request (Now asked) = asked ≡ request
 
 -- Memory was wanting before anything was asked or answered.
 abbrev pub IsUnasked : {S : Type 0} → S → Ended → List Answer → S → Type 0

@@ -9,6 +9,7 @@ ghost use Rattle.imap_talk.specs.Endings.{IsSaid, bye_text_of, failed, failed_re
 ghost use Rattle.imap_talk.specs.Conversing.{Converses, Ends, Halts, Holds, IsWritten, Leaves, Talked};
 ghost use Rattle.imap_talk.specs.declared.ended.Ended.TheVariants.{ReadFailed, WriteFailed};
 
+use crate::batch::Batch;
 use crate::ended::{Ended, bye_text, end_of};
 use crate::ends::{Port, Sink, Source};
 use crate::taking::take_item;
@@ -224,8 +225,9 @@ fn take_all<K: Sink, P: Port>(
     ensures devices { IfErr result (λ ended. failed_reads ended ≡ 0) }
     ensures failures { K.failures sink.new ≡ K.failures sink.old + failed result }
 {
+    let mut batch = Batch::new(alloc);
     for item in items {
-        match take_item(alloc, port, idling, item, text) {
+        match take_item(alloc, port, idling, &mut batch, item, text) {
             Ok(()) => {}
             Err(ended) => return Err(ended),
         }
@@ -233,5 +235,8 @@ fn take_all<K: Sink, P: Port>(
             return Err(Ended::WriteFailed);
         }
     }
-    Ok(())
+    match batch.tell(alloc, port, text) {
+        Ok(()) => Ok(()),
+        Err(ended) => Err(ended),
+    }
 }

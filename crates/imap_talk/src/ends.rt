@@ -1,6 +1,6 @@
 //! What a conversation stands between.
 
-ghost use Rattle.std.specs.Prelude.{◌≡◌, ◌≤◌, ◌<◌, ◌+◌, ℕ, List, length, take, Bool, true, IfSome, IfNone, MatchBool, MatchOption, Option, Result};
+ghost use Rattle.std.specs.Prelude.{◌≡◌, ◌≤◌, ◌<◌, ◌+◌, ℕ, List, length, take, vec_capacity, [], Bool, true, IfSome, IfNone, MatchBool, MatchOption, Option, Result};
 ghost use Rattle.imap_talk.specs.Devices.{Gave, TookSome};
 
 use crate::fault::PortFault;
@@ -51,6 +51,7 @@ pub trait Port {
     ghost use Rattle.imap_answers.specs.declared.words.Login.{Login as Known};
     ghost use Rattle.imap_node.specs.declared.reply.Reply.{Reply as Told};
     ghost use Rattle.imap_talk.specs.Asked.{Asked, Command, Line};
+    ghost use Rattle.imap_talk.specs.Batches.{Carries, are_brief};
     ghost use Rattle.imap_talk.specs.declared.fault.PortFault.{PortFault as Fault};
 
     /// What the beginning of a session makes of the port.
@@ -69,6 +70,29 @@ pub trait Port {
     /// Gives the session a command.
     fn command(&mut self, alloc: Global, tagged: Tagged) -> Result<Reply, PortFault>
         ensures { steps self.old (Command tagged) result self.new };
+
+    /// Gives the session brief commands, one behind another, and notes what it replies to each, for which there is room. A fault is that of the first without a reply, and
+    /// none behind it is given.
+    fn commands(
+        &mut self,
+        alloc: Global,
+        commands: Vec<Tagged>,
+        replies: &mut Vec<Reply>,
+    ) -> Result<(), PortFault>
+        requires some { 0 < length commands.items }
+        requires brief { are_brief commands.items ≡ true }
+        requires none { replies.old.items ≡ [] }
+        requires room { length commands.items ≤ vec_capacity replies.old }
+        ensures { Carries steps self.old commands.items replies.new.items result self.new }
+    {
+        for tagged in commands {
+            match self.command(alloc, tagged) {
+                Ok(reply) => replies.push_reserved(reply),
+                Err(fault) => return Err(fault),
+            }
+        }
+        Ok(())
+    }
 
     /// Gives the session, which idles, a line (RFC 2177, section 3).
     fn done(&mut self, alloc: Global, line: IdleLine) -> Result<Reply, PortFault>

@@ -4,6 +4,7 @@
 //! [`Port`]; `specs/Conversing.antt` says what it is. A node stands in `imap_node`; what callers of these calls need of it is passed on here.
 #![tactic(auto)]
 
+mod batch;
 mod conversing;
 mod dump;
 mod ended;

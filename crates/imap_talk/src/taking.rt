@@ -1,13 +1,16 @@
 //! One item of the framer: what the port is asked, and what is answered.
 
-ghost use Rattle.std.specs.Prelude.{◌≡◌, ◌++◌, ◌∷◌, [], true, false, Some, None, List, OnOk, IfErr, if◌then◌else◌};
+ghost use Rattle.std.specs.Prelude.{◌≡◌, ◌++◌, ◌∷◌, [], true, false, Some, None, List, ℕ, Option, OnOk, IfErr, if◌then◌else◌};
 ghost use Rattle.imap_answers.specs.declared.answer.Answer.{Answer as OneAnswer};
 ghost use Rattle.imap_node.specs.Commands.{is_idle};
 ghost use Rattle.imap_talk.specs.Endings.{failed_reads, failed_writes};
-ghost use Rattle.imap_talk.specs.Requests.{Fails, Handles, StopsAt, Takes, is_done, is_logout, texts};
+ghost use Rattle.imap_lex.specs.declared.item.Item.{Item as Given};
+ghost use Rattle.imap_talk.specs.Conversing.{Going, Leaves};
+ghost use Rattle.imap_talk.specs.Requests.{Fails, Handles, IsAskingOf, is_done, is_logout, texts};
 ghost use Rattle.imap_talk.specs.declared.ended.Ended.TheVariants.{Logout, NoMemory};
 ghost use Rattle.imap_talk.specs.declared.requests.Request.TheVariants as requests;
 
+use crate::batch::{Batch, is_brief};
 use crate::ended::{Ended, end_of};
 use crate::ends::Port;
 use crate::replies::is_without_memory;
@@ -21,23 +24,64 @@ use imap_syntax::{Command, IdleLine, Tagged};
 use imap_types::Octets;
 use std::alloc::Global;
 
-/// Takes an item of a session that idles with this tag, or doesn't: asks the port, and adds the answers. `Err` where the conversation ends at
-/// it.
+/// Takes an item of a session that idles with this tag, or doesn't: a brief command waits behind those in front of it; anything else is asked of the port behind these, and
+/// their answers are added. `Err` where the conversation ends.
 pub fn take_item<P: Port>(
     alloc: Global,
     port: &mut P,
     idling: &mut Option<Octets>,
+    batch: &mut Batch,
     item: &Item,
     text: &mut Vec<u8>,
 ) -> Result<(), Ended>
-    ensures ok { OnOk result ((given : List OneAnswer) × Takes P.steps port.old idling.old item.now given port.new idling.new false × (text.new.items ≡ text.old.items ++ texts given)) }
-    ensures err { IfErr result (λ ended. (given : List OneAnswer) × StopsAt P.steps port.old idling.old item.now ended given port.new × (text.new.items ≡ text.old.items ++ texts given)) }
+    ensures ok { (first : P) (from : Option (List ℕ)) (items : List Given) (said : List ℕ) → Going P.steps first from items said port.old idling.old batch.old
+        → OnOk result ((more : List ℕ) × Going P.steps first from (items ++ item.now ∷ []) (said ++ more) port.new idling.new batch.new × (text.new.items ≡ text.old.items ++ more)) }
+    ensures err { (first : P) (from : Option (List ℕ)) (items : List Given) (said : List ℕ) → Going P.steps first from items said port.old idling.old batch.old
+        → IfErr result (λ ended. (more : List ℕ) × Leaves P.steps first from (items ++ item.now ∷ []) ended (said ++ more) port.new × (text.new.items ≡ text.old.items ++ more)) }
     ensures devices { IfErr result (λ ended. (failed_reads ended ≡ 0) × (failed_writes ended ≡ 0)) }
 {
     let Ok(request) = request_of(alloc, idling.as_ref(), item) else {
         return Err(Ended::NoMemory);
     };
-    take_request(alloc, port, idling, request, text)
+    match asking_of(request) {
+        Asking::Later(tagged) => match batch.push(alloc, tagged) {
+            Ok(()) => Ok(()),
+            Err(_) => Err(Ended::NoMemory),
+        },
+        Asking::Now(request) => {
+            match batch.tell(alloc, port, text) {
+                Ok(()) => {}
+                Err(ended) => return Err(ended),
+            }
+            match take_request(alloc, port, idling, request, text) {
+                Ok(()) => Ok(()),
+                Err(ended) => Err(ended),
+            }
+        }
+    }
+}
+
+/// When a request is asked of the port.
+enum Asking {
+    /// With others behind it: a brief command.
+    Later(Tagged),
+    /// At once.
+    Now(Request),
+}
+
+fn asking_of(request: Request) -> Asking
+    ensures { IsAskingOf request result }
+{
+    match request {
+        Request::Command(tagged) => {
+            if is_brief(&tagged.command) {
+                Asking::Later(tagged)
+            } else {
+                Asking::Now(Request::Command(tagged))
+            }
+        }
+        other => Asking::Now(other),
+    }
 }
 
 fn take_request<P: Port>(

@@ -1,5 +1,6 @@
-use Rattle.std.proofs.Common.{◌≡◌, ◌⊎◌, ◌≤◌, inl, inr, ℕ, Option, Some, Result, Ok, Err, refl, sym, ap, ◌∙◌, subst, arith}
-use Rattle.std.specs.Prelude.{IfOk}
+use Rattle.std.proofs.Common.{◌≡◌, ◌⊎◌, ◌≤◌, ◌<◌, inl, inr, ℕ, List, [], ◌∷◌, length, Option, Some, Result, Ok, Err, refl, sym, ap, ◌∙◌, subst, arith}
+use Rattle.std.specs.Prelude.{IfOk, IsOk, IsSome}
+use Rattle.std.proofs.lemmas.Bool.{false≢true}
 use Rattle.imap_answers.specs.declared.words.Login.{Login}
 use Rattle.imap_syntax.specs.declared.command.Tagged.{Tagged}
 use Rattle.imap_syntax.specs.declared.idle.IdleLine.{IdleLine}
@@ -8,17 +9,22 @@ use Rattle.imap_node.specs.declared.sessions.Auth.{Auth}
 use Rattle.imap_node.specs.declared.sessions.OpenFault.TheVariants as refusals
 use Rattle.imap_talk.specs.Asked.{Asked}
 use Rattle.imap_talk.specs.Asked as asked
+use Rattle.imap_talk.specs.Batches.{Carries}
 use Rattle.imap_talk.specs.declared.fault.PortFault.{PortFault}
 use Rattle.imap_talk.specs.declared.fault.PortFault.TheVariants.{NoMemory, NoRoom, PassedOver, TooManySessions, Torn}
-use Rattle.mail_serving.specs.Calls.{BeginsFrom, CallsOnceIn, CommandsOnce, GoesFrom, OpensByCall, OpensIn, StepsByCall, StepsIn}
+use Rattle.imap_talk.proofs.NodeTalkLemmas.{some_is}
+use Rattle.mail_serving.specs.Calls.{BeginsFrom, CallsOnceIn, CommandsOnce, GoesFrom, OpensByCall, OpensIn, StepsByCall, StepsIn, StepsOnce}
 use Rattle.mail_serving.specs.Logins.{auth_of, login_of}
 use Rattle.mail_serving.specs.declared.session.Position.{Position}
 use Rattle.server_settings.specs.declared.settings.Access.{Access}
-use Rattle.replica_lock.specs.Passes.{Held, IsCalled, IsCalledIn}
+use Rattle.replica_lock.specs.Passes.{Held, IsCalled, IsCalledIn, session_after}
 use Rattle.replica_lock.specs.declared.event.BookEvent.{BookEvent}
 use Rattle.replica_lock.specs.declared.event.BookEvent.TheVariants as events
 use Rattle.replica_lock.specs.declared.outcome.Outcome.{Outcome}
 use Rattle.replica_lock.specs.declared.outcome.Outcome.TheVariants.{Opened, Replied}
+
+nothing_less : 0 < 0 → ⊥
+nothing_less h = omega (arith, h)
 
 -- what a call that opens a session tells
 pub opens_by : (access : Access) (login : Login) (auth : Auth) (r : Result Login PortFault) (p q : Held) (last : Option Outcome) → login ≡ login_of access → auth ≡ auth_of access
@@ -73,3 +79,97 @@ commanded_on p q tagged (inr c) = called_on p q (events.Command c.1.0 c.0 tagged
 pub lined_on : (p q : Held) (line : IdleLine) → CallsOnceIn p (λ n. events.Line n line) q → p.seen ≤ q.seen
 lined_on p q line (inl e) = omega (arith, ap (λ (held : Held). held.seen) e)
 lined_on p q line (inr c) = called_on p q (events.Line c.0 line) c.2
+
+-- ---- commands of one turn
+
+-- the session stays behind a reply
+session_stays : (p q : Held) (event : BookEvent) (reply : Reply) → IsCalled p event q → q.last ≡ Some (Replied reply) → q.session ≡ p.session
+session_stays p q event reply c told =
+    let outcome : c.2 ≡ Replied reply = some_is (sym (ap (λ (held : Held). held.last) c.6) ∙ told) in
+    ap (λ (held : Held). held.session) c.6 ∙ ap (λ (o : Outcome). session_after p.session o) outcome
+
+pub command_stays : (p q : Held) (tagged : Tagged) (reply : Reply) → StepsIn p (asked.Command tagged) (Ok reply) q → q.session ≡ p.session
+command_stays p q tagged reply h = session_stays p q (events.Command h.1.0 h.0 tagged) reply h.1.2 h.2
+
+pub stays_open : (r : Result Reply PortFault) (p q : Held) (tagged : Tagged) → IsSome p.session → StepsIn p (asked.Command tagged) r q → IsOk r → IsSome q.session
+stays_open (Ok reply) p q tagged s h o = subst (λ (x : Option ℕ). IsSome x) (sym (command_stays p q tagged reply h)) s
+stays_open (Err fault) p q tagged s h o = absurd (false≢true o)
+
+-- none was given
+pub none_given : (all : List Tagged) (replies : List Reply) (fault : PortFault) (p : Held) → 0 < length all → replies ≡ [] → Carries StepsOnce p all replies (Err fault) p
+none_given [] replies fault p some none = absurd (nothing_less some)
+none_given (tagged ∷ all) [] fault p some none = (tt, inl refl)
+none_given (tagged ∷ all) (reply ∷ replies) fault p some none = cc
+
+once_told : (from : Position) (p q : Held) (tagged : Tagged) (reply : Reply) → from.session ≡ p.session → from.seen ≤ p.seen → StepsOnce p (asked.Command tagged) (Ok reply) q
+    → StepsByCall from (asked.Command tagged) (Ok reply) (record { session = from.session; seen = q.seen })
+once_told from p q tagged reply own low h = (p, q, (own, low, refl, refl), h.0)
+
+once_refused : (from : Position) (p q : Held) (tagged : Tagged) (fault : PortFault) → from.seen ≤ p.seen → StepsOnce p (asked.Command tagged) (Err fault) q
+    → StepsByCall from (asked.Command tagged) (Err fault) (record { session = from.session; seen = q.seen })
+once_refused from p q tagged fault low h = let on = commanded_on p q tagged h.1 in (refl, omega (arith, low, on))
+
+-- a connection that stands where its pass does
+carried_on : (all : List Tagged) (replies : List Reply) (given : Result (Unit {0}) PortFault) (p q : Held) (session : Option ℕ) → session ≡ p.session → Carries StepsOnce p all replies given q
+    → Carries StepsByCall (record { session = session; seen = p.seen }) all replies given (record { session = session; seen = q.seen })
+carried_on [] [] (Ok u) p q session own c = ap (λ (held : Held). record { session = session; seen = held.seen }) c
+carried_on [] [] (Err fault) p q session own c = absurd c
+carried_on [] (reply ∷ replies) given p q session own c = absurd c
+carried_on (tagged ∷ all) [] (Ok u) p q session own c = absurd c
+carried_on (tagged ∷ all) [] (Err fault) p q session own c = once_refused (record { session = session; seen = p.seen }) p q tagged fault (omega arith) c
+carried_on (tagged ∷ all) (reply ∷ replies) given p q session own c = (
+  record { session = session; seen = c.0.seen },
+  once_told (record { session = session; seen = p.seen }) p c.0 tagged reply own (omega arith) c.1,
+  carried_on all replies given c.0 q session (own ∙ sym (command_stays p c.0 tagged reply c.1.0)) c.2,
+)
+
+-- one that had seen no more
+pub carried_from : (all : List Tagged) (replies : List Reply) (given : Result (Unit {0}) PortFault) (from : Position) (p q : Held) → 0 < length all → from.session ≡ p.session → from.seen ≤ p.seen
+    → Carries StepsOnce p all replies given q → Carries StepsByCall from all replies given (record { session = from.session; seen = q.seen })
+carried_from [] replies given from p q some own low c = absurd (nothing_less some)
+carried_from (tagged ∷ all) [] (Ok u) from p q some own low c = absurd c
+carried_from (tagged ∷ all) [] (Err fault) from p q some own low c = once_refused from p q tagged fault low c
+carried_from (tagged ∷ all) (reply ∷ replies) given from p q some own low c = (
+  record { session = from.session; seen = c.0.seen },
+  once_told from p c.0 tagged reply own low c.1,
+  carried_on all replies given c.0 q from.session (own ∙ sym (command_stays p c.0 tagged reply c.1.0)) c.2,
+)
+
+-- what stands somewhere goes with where it stands
+module _ {S : Type 0} (at : S → Position) (put : S → Position → S) (stands : (s : S) (x : Position) → at (put s x) ≡ x) (same : (s : S) → put s (at s) ≡ s) where
+  abbrev steps_at : S → Asked → Result Reply PortFault → S → Type 0
+  steps_at s call told t = StepsByCall (at s) call told (at t)
+
+  carried_behind : (all : List Tagged) (replies : List Reply) (given : Result (Unit {0}) PortFault) (from : Position) (new : S) → Carries StepsByCall from all replies given (at new) → Carries steps_at (put new from) all replies given new
+  carried_behind [] [] (Ok u) from new c = sym (same new) ∙ ap (λ (x : Position). put new x) c
+  carried_behind [] [] (Err fault) from new c = absurd c
+  carried_behind [] (reply ∷ replies) given from new c = absurd c
+  carried_behind (tagged ∷ all) [] (Ok u) from new c = absurd c
+  carried_behind (tagged ∷ all) [] (Err fault) from new c = subst (λ (x : Position). StepsByCall x (asked.Command tagged) (Err fault) (at new)) (sym (stands new from)) c
+  carried_behind (tagged ∷ all) (reply ∷ replies) given from new c =
+      let moved = subst (λ (x : Position). StepsByCall x (asked.Command tagged) (Ok reply) c.0) (sym (stands new from)) c.1 in (
+        put new c.0,
+        subst (λ (x : Position). StepsByCall (at (put new from)) (asked.Command tagged) (Ok reply) x) (sym (stands new c.0)) moved,
+        carried_behind all replies given c.0 new c.2,
+      )
+
+  carried_at : (all : List Tagged) (replies : List Reply) (given : Result (Unit {0}) PortFault) (old new : S) → 0 < length all → Carries StepsByCall (at old) all replies given (at new) → Carries steps_at old all replies given new
+  carried_at [] replies given old new some c = absurd (nothing_less some)
+  carried_at (tagged ∷ all) [] (Ok u) old new some c = absurd c
+  carried_at (tagged ∷ all) [] (Err fault) old new some c = c
+  carried_at (tagged ∷ all) (reply ∷ replies) given old new some c = (
+    put new c.0,
+    subst (λ (x : Position). StepsByCall (at old) (asked.Command tagged) (Ok reply) x) (sym (stands new c.0)) c.1,
+    carried_behind all replies given c.0 new c.2,
+  )
+
+pub carried_by_port : {S : Type 0} (old new : S) (at : S → Position) (put : S → Position → S) → ((s : S) (x : Position) → at (put s x) ≡ x) → ((s : S) → put s (at s) ≡ s)
+    → (all : List Tagged) (replies : List Reply) (given : Result (Unit {0}) PortFault) → 0 < length all → Carries StepsByCall (at old) all replies given (at new)
+    → Carries (λ (s : S) (call : Asked) (told : Result Reply PortFault) (t : S). StepsByCall (at s) call told (at t)) old all replies given new
+carried_by_port old new at put stands same all replies given some c = carried_at at put stands same all replies given old new some c
+
+pub refused_by_port : {S : Type 0} (old new : S) (at : S → Position) → (all : List Tagged) (replies : List Reply) (fault : PortFault) → 0 < length all → replies ≡ [] → at new ≡ at old
+    → Carries (λ (s : S) (call : Asked) (told : Result Reply PortFault) (t : S). StepsByCall (at s) call told (at t)) old all replies (Err fault) new
+refused_by_port old new at [] replies fault some none e = absurd (nothing_less some)
+refused_by_port old new at (tagged ∷ all) [] fault some none e = (ap (λ (x : Position). x.session) e, omega (arith, ap (λ (x : Position). x.seen) e))
+refused_by_port old new at (tagged ∷ all) (reply ∷ replies) fault some none e = cc

@@ -54,6 +54,11 @@ StepsIn p (asked.Command tagged) (Ok reply) q = (moment : ℕ) × IsCalledIn p (
 StepsIn p (asked.Line line) (Ok reply) q = IsCalledIn p (λ n. events.Line n line) q × (q.last ≡ Some (Replied reply))
 StepsIn p call (Err fault) q = Unit {0}
 
+-- The same of one call at most.
+abbrev pub StepsOnce : Held → Asked → Result Reply PortFault → Held → Type 0
+StepsOnce p (asked.Command tagged) told q = StepsIn p (asked.Command tagged) told q × CommandsOnce p tagged q
+StepsOnce p (asked.Line line) told q = StepsIn p (asked.Line line) told q × CallsOnceIn p (λ n. events.Line n line) q
+
 -- A pass that had seen the journal at least as far as a connection opened a session for it, and the connection stands where the pass does since.
 abbrev pub BeginsFrom : Position → Held → Held → Position → Type 0
 BeginsFrom from p q to = (from.seen ≤ p.seen) × (to.session ≡ q.session) × (to.seen ≡ q.seen)

@@ -1,4 +1,3 @@
-use Rattle.std.specs.Prelude.{◌≡◌}
 use Rattle.imap_answers.specs.declared.words.Login.{Login}
 use Rattle.imap_answers.specs.declared.words.Login.TheVariants.{Given, Wanted}
 use Rattle.imap_node.specs.declared.sessions.Auth.{Auth}

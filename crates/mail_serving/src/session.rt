@@ -1,11 +1,12 @@
 //! One session of a replica behind its lock, as a port.
 
-ghost use Rattle.std.specs.Prelude.{◌≡◌, ◌⊎◌, ◌≤◌, ℕ, Err, IfOk, IsTrue, Ok, OnErr, OnOk, Some};
+ghost use Rattle.std.specs.Prelude.{◌≡◌, ◌⊎◌, ◌≤◌, ◌<◌, ℕ, [], Err, IfOk, IsOk, IsSome, IsTrue, Ok, OnErr, OnOk, Some, length, vec_capacity};
 ghost use Rattle.std.specs.Option.{option_map};
 ghost use Rattle.imap_node.specs.declared.sessions.OpenFault.TheVariants as refusals;
 ghost use Rattle.imap_talk.specs.Asked as asked;
+ghost use Rattle.imap_talk.specs.Batches.{Carries};
 ghost use Rattle.imap_talk.specs.declared.fault.PortFault.TheVariants.{NoRoom, TooManySessions, Torn};
-ghost use Rattle.mail_serving.specs.Calls.{CallsOnce, CallsOnceIn, CommandsOnce, IsClosedIn, OpensByCall, OpensIn, StepsByCall, StepsIn};
+ghost use Rattle.mail_serving.specs.Calls.{CallsOnce, CallsOnceIn, CommandsOnce, IsClosedIn, OpensByCall, OpensIn, StepsByCall, StepsIn, StepsOnce};
 ghost use Rattle.mail_serving.specs.Logins.{auth_of};
 ghost use Rattle.replica_lock.specs.declared.event.BookEvent.TheVariants as events;
 ghost use Rattle.replica_lock.specs.declared.outcome.Outcome.TheVariants.{Opened, Replied};
@@ -21,7 +22,7 @@ use imap_syntax::{Command, IdleLine, Tagged};
 use imap_talk::{Port, PortFault};
 use imap_types::Moment;
 use replica_links::Gate;
-use replica_lock::{CallFault, Outcome, Pass, Shared};
+use replica_lock::{CallFault, Outcome, Pass, Shared, Turn};
 use std::alloc::Global;
 use std::rt::Clock;
 use std::sync::ledger::Ledger;
@@ -121,6 +122,30 @@ impl<'a, L: Ledger, R: Wait + Clock, G: Gate> SessionPort<'a, L, R, G> {
         }
     }
 
+    /// Gives the session brief commands in its pass, in one turn at the replica.
+    fn commands_in(
+        &self,
+        alloc: Global,
+        pass: &mut Pass<L>,
+        commands: Vec<Tagged>,
+        replies: &mut Vec<Reply>,
+    ) -> Result<(), PortFault>
+        requires some { 0 < length commands.items }
+        requires none { replies.old.items ≡ [] }
+        requires room { length commands.items ≤ vec_capacity replies.old }
+        ensures { Carries StepsOnce pass.old commands.items replies.new.items result pass.new }
+    {
+        if pass.session().is_none() {
+            drop(commands);
+            return Err(PortFault::PassedOver);
+        }
+        let moment = moment_now(self.rt);
+        let mut turn = self.shared.turn(self.rt);
+        let told = give_all(alloc, &mut turn, pass, moment, commands, replies);
+        self.shared.end(turn);
+        told
+    }
+
     /// Gives the session a line of IDLE in its pass, by one call at most.
     fn line_in(&self, alloc: Global, pass: &mut Pass<L>, line: IdleLine) -> Result<Reply, PortFault>
         ensures told { StepsIn pass.old (asked.Line line) result pass.new }
@@ -207,6 +232,24 @@ impl<'a, L: Ledger, R: Wait + Clock, G: Gate> Port for SessionPort<'a, L, R, G> 
         told
     }
 
+    fn commands(
+        &mut self,
+        alloc: Global,
+        commands: Vec<Tagged>,
+        replies: &mut Vec<Reply>,
+    ) -> Result<(), PortFault> {
+        self.commands = self.commands.saturating_add(1);
+        self.gate.pass(self.commands);
+        let mut pass = self.pass.lock(self.rt);
+        if !self.knows(&pass) {
+            drop(commands);
+            return Err(PortFault::Torn);
+        }
+        let told = self.commands_in(alloc, &mut pass, commands, replies);
+        self.at.seen = pass.seen();
+        told
+    }
+
     fn done(&mut self, alloc: Global, line: IdleLine) -> Result<Reply, PortFault> {
         let mut pass = self.pass.lock(self.rt);
         if !self.knows(&pass) {
@@ -220,6 +263,47 @@ impl<'a, L: Ledger, R: Wait + Clock, G: Gate> Port for SessionPort<'a, L, R, G> 
     fn close(&mut self, alloc: Global) {
         let mut pass = self.pass.lock(self.rt);
         let _ = self.close_in(alloc, &mut pass);
+    }
+}
+
+/// Gives the session of a pass commands, which came at this moment, one behind another, and notes the replies.
+fn give_all<L: Ledger>(
+    alloc: Global,
+    turn: &mut Turn<'_, L>,
+    pass: &mut Pass<L>,
+    moment: Moment,
+    commands: Vec<Tagged>,
+    replies: &mut Vec<Reply>,
+) -> Result<(), PortFault>
+    requires session { IsSome pass.old.session }
+    requires none { replies.old.items ≡ [] }
+    requires room { length commands.items ≤ vec_capacity replies.old }
+    ensures { Carries StepsOnce pass.old commands.items replies.new.items result pass.new }
+{
+    for tagged in commands {
+        match give(alloc, turn, pass, moment, tagged) {
+            Ok(reply) => replies.push_reserved(reply),
+            Err(fault) => return Err(fault),
+        }
+    }
+    Ok(())
+}
+
+/// Gives the session of a pass a command, which came at this moment, by one call at most.
+fn give<L: Ledger>(
+    alloc: Global,
+    turn: &mut Turn<'_, L>,
+    pass: &mut Pass<L>,
+    moment: Moment,
+    tagged: Tagged,
+) -> Result<Reply, PortFault>
+    requires session { IsSome pass.old.session }
+    ensures told { StepsOnce pass.old (asked.Command tagged) result pass.new }
+    ensures session { IsOk result → IsSome pass.new.session }
+{
+    match turn.command(alloc, pass, moment, tagged) {
+        Ok(()) => replied(pass.last()),
+        Err(fault) => Err(fault_of(fault)),
     }
 }
 

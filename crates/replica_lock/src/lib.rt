@@ -30,6 +30,6 @@ pub use laws::same_operations_hold_the_same;
 pub use line::{FetchLine, SystemFlags};
 pub use outcome::Outcome;
 pub use pass::Pass;
-pub use shared::{Gate, Shared};
+pub use shared::{Gate, Shared, Turn};
 pub use shown::Shown;
 pub use told::Told;

@@ -11,6 +11,7 @@ use crate::book::Book;
 use crate::event::BookEvent;
 use crate::faults::{CallFault, FinishFault};
 use crate::locked::Locked;
+use crate::outcome::Outcome;
 use crate::pass::Pass;
 use crdt_ops::SoundOp;
 use imap_node::{Auth, SessionNo};
@@ -19,7 +20,7 @@ use imap_types::Moment;
 use merge_laws::Caused;
 use std::alloc::{AllocError, Global};
 use std::sync::ledger::{Blank, Ledger};
-use std::sync::{Condvar, Mutex, Wait};
+use std::sync::{Condvar, Mutex, MutexGuard, Wait};
 use tags_clocks::Clock;
 
 /// What is passed on the way, so that a test can say in which order threads go on.
@@ -35,6 +36,61 @@ pub struct Shared<L: Ledger> {
     changed: Condvar,
     /// Signals, of each session, that it idles and may have something to be told, that it begins to idle, or that it was closed.
     bells: Bells,
+}
+
+/// A replica whose lock one caller has. Nobody is woken before `Shared::end` gives it back.
+pub struct Turn<'a, L: Ledger> {
+    locked: MutexGuard<'a, Locked<L>>,
+    /// How many entries there were up to the last one of which another session may have to be told.
+    before: u64,
+}
+
+impl<'a, L: Ledger> Turn<'a, L> {
+    ghost use Rattle.replica_lock.specs.Passes.{IsCalled, IsCalledIn, IsRefused};
+    ghost use Rattle.replica_lock.specs.declared.event.BookEvent.TheVariants as events;
+
+    fn call(
+        &mut self,
+        alloc: Global,
+        pass: &mut Pass<L>,
+        event: BookEvent,
+    ) -> Result<Option<Outcome>, CallFault>
+        ensures called { OnOk result (IsCalled pass.old event pass.new) }
+        ensures unchanged { OnErr result (pass.new ≡ pass.old) }
+        ensures refused { IfErr result (IsRefused pass.old.seen) }
+    {
+        self.locked.call(alloc, pass, event)
+    }
+
+    /// Gives the pass's session a command, which came at this moment, and which doesn't begin IDLE: whoever waits for a session to idle isn't woken by a turn.
+    pub fn command(
+        &mut self,
+        alloc: Global,
+        pass: &mut Pass<L>,
+        moment: Moment,
+        tagged: Tagged,
+    ) -> Result<(), CallFault>
+        requires session { IsSome pass.old.session }
+        ensures called { OnOk result (IsCalledIn pass.old (λ n. events.Command n moment tagged) pass.new) }
+        ensures unchanged { OnErr result (pass.new ≡ pass.old) }
+        ensures refused { IfErr result (IsRefused pass.old.seen) }
+    {
+        let Some(session) = pass.session() else {
+            unreachable!()
+        };
+        let command = BookEvent::Command {
+            session,
+            moment,
+            tagged,
+        };
+        match self.call(alloc, pass, command) {
+            Ok(last) => {
+                drop(last);
+                Ok(())
+            }
+            Err(fault) => Err(fault),
+        }
+    }
 }
 
 impl<L: Ledger> Shared<L> {
@@ -73,14 +129,9 @@ impl<L: Ledger> Shared<L> {
         ensures refused { IfErr result (IsRefused pass.old.seen) }
     {
         let roused = roused_by(&event);
-        let mut locked = self.locked.lock(rt);
-        let before = locked.news();
-        let result = locked.call(alloc, pass, event);
-        if locked.news() != before {
-            self.bells.ring(locked.book().node());
-        }
-        drop(locked);
-        self.changed.notify_all();
+        let mut turn = self.turn(rt);
+        let result = turn.call(alloc, pass, event);
+        self.end(turn);
         if let Some(session) = roused {
             self.bells.of(session).notify_all();
         }
@@ -92,6 +143,23 @@ impl<L: Ledger> Shared<L> {
             }
             Err(fault) => Err(fault),
         }
+    }
+
+    /// Takes the lock, for which it may wait, for calls of one caller that come one behind another. All others wait until `end` gives it back.
+    pub fn turn<R: Wait>(&self, rt: &R) -> Turn<'_, L> {
+        let locked = self.locked.lock(rt);
+        let before = locked.news();
+        Turn { locked, before }
+    }
+
+    /// Gives the lock back, and wakes whoever waits for what these calls changed.
+    pub fn end(&self, turn: Turn<'_, L>) {
+        let Turn { locked, before } = turn;
+        if locked.news() != before {
+            self.bells.ring(locked.book().node());
+        }
+        drop(locked);
+        self.changed.notify_all();
     }
 
     /// Opens a session, for a pass that has none.
