@@ -9,3 +9,4 @@ pub mod KeyLemmas
 pub mod NamingLemmas
 pub mod ChangedLemmas
 pub mod SectionLemmas
+pub mod HeadLemmas

@@ -12,3 +12,4 @@ pub mod Search
 pub mod Tests
 pub mod Fetching
 pub mod Naming
+pub mod Heads

@@ -6,6 +6,8 @@ ghost use Rattle.imap_query.specs.declared.fetching.Part.TheVariants as part;
 ghost use Rattle.mail_listing.specs.Listing.{listed, row_of};
 ghost use Rattle.mail_text.specs.Fields.{fields_of};
 
+use crate::heads::{fetch_heads, tell_all};
+use crate::room::make_room;
 use crate::shown::Shown;
 use imap_answers::{Answer, FetchItems, SectionData, Sections};
 use imap_syntax::{FetchItem, Partial};
@@ -29,24 +31,24 @@ pub struct FetchMode {
 
 /// What FETCH asks of each message, and how.
 #[derive(Clone, Copy)]
-struct Asked<'a> {
-    items: &'a [FetchItem],
-    mode: FetchMode,
+pub(crate) struct Asked<'a> {
+    pub(crate) items: &'a [FetchItem],
+    pub(crate) mode: FetchMode,
     /// What the items ask, found out once for all messages.
-    parts: Parts,
+    pub(crate) parts: Parts,
 }
 
 /// Which parts the items of a FETCH ask.
 #[derive(Clone, Copy, Debug, PartialEq, Eq)]
-struct Parts {
-    uid: bool,
-    flags: bool,
-    date: bool,
-    size: bool,
-    modseq: bool,
-    sections: bool,
+pub(crate) struct Parts {
+    pub(crate) uid: bool,
+    pub(crate) flags: bool,
+    pub(crate) date: bool,
+    pub(crate) size: bool,
+    pub(crate) modseq: bool,
+    pub(crate) sections: bool,
     /// Whether one of them sets `\Seen`.
-    seen: bool,
+    pub(crate) seen: bool,
 }
 
 /// What FETCH asks, but for the sections.
@@ -103,7 +105,7 @@ pub fn fetch_unchanged(
 }
 
 /// For how many answers room is made at once: each message's, and the line that ends the command; of those that changed since, few are told.
-fn answers_at_once(named: &[Shown], mode: FetchMode) -> usize {
+pub(crate) fn answers_at_once(named: &[Shown], mode: FetchMode) -> usize {
     match mode.changed_since {
         None => named.len().saturating_add(1),
         Some(_) => 0,
@@ -121,6 +123,9 @@ fn fetch_in(
     ensures { IfOk result (λ answers. answers.items ≡ fetch_answers items.now mode rows.now rows.now named.now) }
 {
     let asked = asked_of(items, mode);
+    if tell_all(asked.parts) {
+        return fetch_heads(alloc, named, rows, asked);
+    }
     let mut answers = Vec::with_capacity(alloc, answers_at_once(named, mode))?;
     for shown in named {
         push_unchanged(alloc, rows, asked, *shown, &mut answers)?;
@@ -203,10 +208,15 @@ fn push_answer(
 }
 
 /// Adds an answer, behind room for it, so that it isn't handed back.
-fn push_fetch(answers: &mut Vec<Answer>, number: u32, items: FetchItems) -> Result<(), AllocError>
+#[inline(always)]
+pub(crate) fn push_fetch(
+    answers: &mut Vec<Answer>,
+    number: u32,
+    items: FetchItems,
+) -> Result<(), AllocError>
     ensures { OnOk result (answers.new.items ≡ answers.old.items ++ Fetch number items ∷ []) }
 {
-    answers.reserve(1)?;
+    make_room(answers)?;
     answers.push_reserved(Answer::Fetch { number, items });
     Ok(())
 }
@@ -244,7 +254,8 @@ fn items_of(
     })
 }
 
-fn tells_uid(asked: Asked<'_>) -> bool
+#[inline(always)]
+pub(crate) fn tells_uid(asked: Asked<'_>) -> bool
     requires { asked.parts ≡ parts_of asked.items.now }
     ensures { result ≡ (asked.entry.mode.by_uid || asks part.Uid asked.entry.items.now) }
 {
@@ -311,7 +322,8 @@ fn sets_seen(item: &FetchItem) -> bool
     }
 }
 
-fn tells_modseq(asked: Asked<'_>, tells_flags: bool) -> bool
+#[inline(always)]
+pub(crate) fn tells_modseq(asked: Asked<'_>, tells_flags: bool) -> bool
     requires { asked.parts ≡ parts_of asked.items.now }
     ensures { result ≡ tells_modseq asked.entry.items.now asked.entry.mode tells_flags }
 {

@@ -2,6 +2,7 @@
 
 ghost use Rattle.std.specs.Prelude.{◌≡◌, ◌∷◌, [], reverse, IfOk, IfSome, OnOk};
 ghost use Rattle.imap_syntax.specs.declared.search.SearchStep.TheVariants.{Test};
+ghost use Rattle.imap_syntax.specs.declared.search.SearchTest.TheVariants.{System};
 ghost use Rattle.imap_query.specs.Keys.{Key, hits, steps_of};
 ghost use Rattle.imap_query.specs.Runs.{after_step};
 ghost use Rattle.imap_query.specs.Tests.{bound_of, holds_in, is_dated, is_so, range_names, rank, set_names};
@@ -9,11 +10,32 @@ ghost use Rattle.mail_listing.specs.Listing.{listed};
 
 use crate::messages::{is_as, is_flagged};
 use crate::shown::Shown;
-use imap_syntax::{DayOrder, SearchStep, SearchTest, TextPlace};
+use imap_syntax::{DayOrder, SearchStep, SearchTest, SystemFlag, TextPlace};
 use imap_types::{DateTime, Day, SequenceBound, SequenceRange};
 use mail_listing::Row;
 use mail_text::{body, contains_nocase, field_contains_nocase, written_day};
 use std::alloc::{AllocError, Global};
+
+/// A test of a system flag.
+#[derive(Clone, Copy)]
+pub(crate) struct FlagTest {
+    pub(crate) flag: SystemFlag,
+    /// Whether it is set, or isn't.
+    pub(crate) is_set: bool,
+}
+
+/// The test, where the steps are one alone, of a flag.
+pub(crate) fn flag_test(steps: &[SearchStep]) -> Option<FlagTest>
+    ensures { IfSome result (λ test. steps.now ≡ Test (System test.flag test.is_set) ∷ []) }
+{
+    match one_test(steps)? {
+        SearchTest::System { flag, is_set } => Some(FlagTest {
+            flag: *flag,
+            is_set: *is_set,
+        }),
+        _ => None,
+    }
+}
 
 /// Whether a message hits, which a view shows here and of which `last` is the last shown.
 pub(crate) fn hits(

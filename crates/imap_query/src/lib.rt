@@ -3,6 +3,7 @@
 #![tactic(auto)]
 
 mod fetching;
+mod heads;
 mod keys;
 mod laws;
 mod listing;
@@ -10,6 +11,7 @@ mod mailbox_status;
 mod messages;
 mod naming;
 mod pattern;
+mod room;
 mod searching;
 mod shown;
 

@@ -2,32 +2,36 @@
 
 ghost use Rattle.std.specs.Prelude.{◌≡◌};
 ghost use Rattle.imap_query.specs.Messages.{has_flag, is_as, is_flagged};
+ghost use Rattle.imap_types.specs.Unions.{united};
 ghost use Rattle.mail_listing.specs.Listing.{listed};
 
 use imap_syntax::SystemFlag;
+use imap_types::Versions;
 use mail_listing::Row;
 
 /// Whether a message has a flag, or lacks it.
 pub(crate) fn is_flagged(row: &Row<'_>, flag: SystemFlag, is_set: bool) -> bool
     ensures { result ≡ is_flagged flag is_set (listed row.now) }
 {
-    is_as(is_set, has_flag(flag, row))
+    is_as(is_set, has_flag(flag, row.versions))
 }
 
+#[inline(always)]
 pub(crate) fn is_as(wanted: bool, is: bool) -> bool
     ensures { result ≡ is_as wanted is }
 {
     if wanted { is } else { !is }
 }
 
-fn has_flag(flag: SystemFlag, row: &Row<'_>) -> bool
-    ensures { result ≡ has_flag flag (listed row.now).flags }
+#[inline(always)]
+pub(crate) fn has_flag(flag: SystemFlag, versions: Versions<'_>) -> bool
+    ensures { result ≡ has_flag flag (united versions.entry.list.now) }
 {
     match flag {
-        SystemFlag::Answered => row.versions.answered(),
-        SystemFlag::Flagged => row.versions.flagged(),
-        SystemFlag::Deleted => row.versions.deleted(),
-        SystemFlag::Seen => row.versions.seen(),
-        SystemFlag::Draft => row.versions.draft(),
+        SystemFlag::Answered => versions.answered(),
+        SystemFlag::Flagged => versions.flagged(),
+        SystemFlag::Deleted => versions.deleted(),
+        SystemFlag::Seen => versions.seen(),
+        SystemFlag::Draft => versions.draft(),
     }
 }

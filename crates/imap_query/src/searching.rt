@@ -6,7 +6,8 @@ ghost use Rattle.imap_query.specs.Keys.{Key, steps_of};
 ghost use Rattle.imap_query.specs.Search.{asks_modseq, first_hit, hit_of, hits_in, last_hit, last_shown, modseq_in, name_of, number_in, results_of, told_modseq, wants, wants_all, wants_ends, where_wanted};
 ghost use Rattle.mail_listing.specs.Listing.{row_of};
 
-use crate::keys::hits;
+use crate::heads::{flagged, push_hit as push_one};
+use crate::keys::{flag_test, hits};
 use crate::shown::Shown;
 use imap_answers::SearchResults;
 use imap_syntax::{SearchOption, SearchStep, SearchTest};
@@ -63,6 +64,9 @@ fn hits_in(
     ensures hits { IfOk result (λ hits. (key : Key) → steps.now ≡ steps_of key → hits.items ≡ hits_in by_uid key rows.now view.now) }
     ensures rising { IfOk result (λ hits. AreRisingFrom 1 (map (λ hit. hit.number) hits.items)) }
 {
+    if let Some(test) = flag_test(steps) {
+        return flagged(alloc, view, rows, by_uid, test);
+    }
     let last = last_shown(view);
     let sought = Sought {
         by_uid,
@@ -103,17 +107,20 @@ fn push_hit(
             if !hits(alloc, sought.last, shown, &row, sought.steps)? {
                 return Ok(());
             }
-            found.push(Hit {
-                number: name_of(sought.by_uid, shown),
-                modseq: row.modseq,
-            })?;
-            Ok(())
+            push_one(
+                found,
+                Hit {
+                    number: name_of(sought.by_uid, shown),
+                    modseq: row.modseq,
+                },
+            )
         }
     }
 }
 
 /// The number by which a search names a message.
-fn name_of(by_uid: bool, shown: Shown) -> u32
+#[inline(always)]
+pub(crate) fn name_of(by_uid: bool, shown: Shown) -> u32
     ensures { result ≡ name_of by_uid shown }
 {
     if by_uid { shown.uid } else { shown.number }

@@ -1,12 +1,12 @@
 -- Messages through a window, and searches by UID.
 use Rattle.std.specs.Result.{is_err, is_ok}
-use Rattle.std.proofs.Common.{Result, Ok, Err, IfOk, OnOk, ◌≡◌, inl, inr, ℕ, Bool, zero, suc, ◌+◌, ◌-◌, ◌<◌, ◌≤◌, true, false, nat_lt, nat_eq, ltb, ◌==◌, if◌then◌else◌, List, [], ◌∷◌, ◌++◌, length, drop, take, get_or, refl, sym, ap, arith, subst, Option, Some, None, option_map}
+use Rattle.std.proofs.Common.{Result, Ok, Err, IfOk, OnOk, ◌≡◌, inl, inr, ℕ, Bool, zero, suc, ◌+◌, ◌-◌, ◌<◌, ◌≤◌, true, false, nat_lt, nat_eq, ltb, ◌==◌, if◌then◌else◌, List, [], ◌∷◌, ◌++◌, length, drop, take, get_or, refl, sym, ap, arith, subst, ◌∙◌, Option, Some, None, option_map}
 use Rattle.std.specs.List.{filter, slice_get}
 use Rattle.std.proofs.lemmas.Bool.{cases_Bool, cases_order}
 use Rattle.std.proofs.lemmas.Bool.Decides.{nat_tests}
 use Rattle.tags_clocks.specs.declared.id.OpId.{OpId}
-use Rattle.mail_listing.specs.Listed.{Listed}
-use Rattle.mail_listing.specs.Listing.{AreRisingRows, beyond, changed_since, last_uid, row_of}
+use Rattle.mail_listing.specs.Listed.{Head, Listed}
+use Rattle.mail_listing.specs.Listing.{AreRisingRows, beyond, changed_since, head_of, last_uid, row_of}
 use Rattle.mail_listing.specs.Telling.{row_by, rows_by}
 use Rattle.mail_listing.specs.declared.entry.Entry.{Entry}
 use Rattle.mail_listing.specs.declared.mailbox.Mailbox.{Mailbox}
@@ -216,6 +216,16 @@ near_there rows place uid h e = there (slice_get rows place) refl e
     there (Some row) is k =
         let same : row.uid ≡ uid = cc k in
         ap is_some (subst (λ u. row_of u rows ≡ Some row) same (found_at 1 rows place row h is))
+
+-- The head of the message that stands at a place, where it has this UID, is that of the one with this UID.
+pub head_there : (rows : List Listed) (place uid : ℕ) (head : Head) → AreRisingRows 1 rows → Some head ≡ option_map head_of (slice_get rows place) → head.uid ≡ uid → Some head ≡ option_map head_of (row_of uid rows)
+head_there rows place uid head h e u = there (slice_get rows place) refl e
+  where
+    there : (o : Option Listed) → slice_get rows place ≡ o → Some head ≡ option_map head_of o → Some head ≡ option_map head_of (row_of uid rows)
+    there None is k = absurd (cc k)
+    there (Some row) is k =
+        let same : row.uid ≡ uid = sym (ap (λ (o : Option Head). (unwrap_or o head).uid) k) ∙ u in
+        k ∙ ap (option_map head_of) (sym (subst (λ n. row_of n rows ≡ Some row) same (found_at 1 rows place row h is)))
 
 -- The messages of entries by ascending UID.
 pub told_rising : (low : ℕ) (fresh : List (OpId × HeldMessage)) (mailbox : Mailbox) (es : List Entry) → AreRising low es → AreRisingRows low (rows_by fresh mailbox es)

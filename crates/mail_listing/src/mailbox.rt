@@ -1,11 +1,11 @@
 //! A folder's messages, lent by what keeps them.
 
 ghost use Rattle.std.specs.Prelude.{◌≡◌, Some, IfSome, option_map};
-ghost use Rattle.mail_listing.specs.Listing.{listed};
+ghost use Rattle.mail_listing.specs.Listing.{head_of, headed, listed};
 ghost use Rattle.mail_listing.specs.Telling.{kept_at, nothing_told, numbered, told, told_by, told_in, versions_in};
 
 use crate::entry::Entry;
-use crate::row::Row;
+use crate::row::{Row, RowHead};
 use imap_types::{DateTime, Text, Version, Versions};
 use indexmap::IndexMap;
 use tags_clocks::OpId;
@@ -57,9 +57,27 @@ impl<'a> Mailbox<'a> {
             None => None,
         }
     }
+
+    /// The head of an entry's row, where its message is kept. Cost: one such look-up.
+    #[inline(always)]
+    pub fn head(&self, entry: &Entry) -> Option<RowHead<'a>>
+        ensures { option_map headed result ≡ option_map (λ told. head_of (numbered entry.now told)) (told_in self.now entry.now.origin) }
+    {
+        match versions_in(self.messages, entry) {
+            Some(versions) => Some(head_with(entry, versions)),
+            None => None,
+        }
+    }
 }
 
 impl HeldMessage<'_> {
+    /// The head of an entry's row with this message, lent.
+    pub fn head(&self, entry: &Entry) -> RowHead<'_>
+        ensures { headed result ≡ head_of (numbered entry.now (told_by self.now)) }
+    {
+        head_with(entry, Versions::new(&self.versions))
+    }
+
     /// The row of an entry with this message, lent.
     pub fn row(&self, entry: &Entry) -> Row<'_>
         ensures { listed result ≡ numbered entry.now (told_by self.now) }
@@ -72,6 +90,18 @@ impl HeldMessage<'_> {
             date: self.date,
             text: self.text,
         }
+    }
+}
+
+/// The head of an entry's row with these versions.
+#[inline(always)]
+pub(crate) fn head_with<'a>(entry: &Entry, versions: Versions<'a>) -> RowHead<'a>
+    ensures { result ≡ record { uid = entry.now.uid; modseq = entry.now.modseq; versions = versions.entry } }
+{
+    RowHead {
+        uid: entry.uid,
+        modseq: entry.modseq,
+        versions,
     }
 }
 
@@ -90,6 +120,7 @@ pub(crate) fn bare_row(entry: &Entry) -> Row<'static>
 }
 
 /// The versions of the message of an entry, where it has any.
+#[inline(always)]
 fn versions_in<'a>(
     messages: Option<&'a IndexMap<OpId, Vec<Version>>>,
     entry: &Entry,
@@ -102,6 +133,7 @@ fn versions_in<'a>(
     }
 }
 
+#[inline(always)]
 fn versions_at<'a>(
     messages: &'a IndexMap<OpId, Vec<Version>>,
     entry: &Entry,
@@ -116,6 +148,7 @@ fn versions_at<'a>(
 
 /// What a table has under the origin of an entry: one look where it stands in the table as its UID counts it, as most do while
 /// all that the table has came into this mailbox and little was taken out; else a look-up by hash.
+#[inline(always)]
 fn found<'a, V>(table: &'a IndexMap<OpId, V>, entry: &Entry) -> Option<&'a V>
     ensures { option_map (λ value. value.now) result ≡ kept_at entry.now.origin table.now.entries }
 {
@@ -126,6 +159,7 @@ fn found<'a, V>(table: &'a IndexMap<OpId, V>, entry: &Entry) -> Option<&'a V>
 }
 
 /// The same, where it stands behind as many others as there are UIDs below its own.
+#[inline(always)]
 fn found_near<'a, V>(table: &'a IndexMap<OpId, V>, entry: &Entry) -> Option<&'a V>
     ensures { IfSome result (λ value. kept_at entry.now.origin table.now.entries ≡ Some value.now) }
 {

@@ -125,6 +125,7 @@ impl<'a> EntryList for EntryOverlay<'a> {
         self.list.len()
     }
 
+    #[inline(always)]
     fn get(&self, place: usize) -> Option<Entry> {
         self.list.get(place)
     }

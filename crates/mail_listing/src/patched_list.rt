@@ -65,6 +65,7 @@ impl<'a, T: Copy + Drop> PatchedList<'a, T> {
     }
 
     /// The item behind so many others, where there is one.
+    #[inline(always)]
     pub fn get(&self, index: usize) -> Option<T>
         ensures { result ≡ slice_get self.now.items index }
     {

@@ -24,6 +24,7 @@ pub struct Piece<T> {
 }
 
 /// The piece that holds the item behind so many others.
+#[inline(always)]
 pub fn piece_at<T>(base: &ChunkList<T>, pieces: &[Piece<T>], index: usize) -> usize
     requires pieces { ArePieces base.now.items 0 pieces.now }
     requires within { index < length (items_of base.now.items pieces.now) }
@@ -43,6 +44,7 @@ pub fn piece_at<T>(base: &ChunkList<T>, pieces: &[Piece<T>], index: usize) -> us
 }
 
 /// The item behind so many others.
+#[inline(always)]
 pub fn item_in<T: Copy + Drop>(base: &ChunkList<T>, pieces: &[Piece<T>], index: usize) -> Option<T>
     requires pieces { ArePieces base.now.items 0 pieces.now }
     requires within { index < length (items_of base.now.items pieces.now) }
@@ -57,6 +59,7 @@ pub fn item_in<T: Copy + Drop>(base: &ChunkList<T>, pieces: &[Piece<T>], index: 
 }
 
 /// The item of a list so many places behind this one.
+#[inline(always)]
 fn kept_item<T: Copy + Drop>(base: &ChunkList<T>, from: usize, more: usize) -> Option<T>
     requires { from + more < length base.now.items }
     ensures { result ≡ slice_get (drop from base.now.items) more }

@@ -1,0 +1,7 @@
+use Rattle.std.proofs.Common.{◌≡◌, ◌++◌, drop}
+use Rattle.imap_query.specs.Fetching.{fetch_answers}
+use Rattle.imap_query.proofs.heads.fetch_heads.Given as goal
+
+abbrev pub invariant-loop-shown : goal.invariant-loop-shown
+invariant-loop-shown l =
+    l.answers.items ++ fetch_answers l.asked.items.now l.asked.mode l.rows l.rows (drop l.shown-index l.named) ≡ fetch_answers l.asked.items.now l.asked.mode l.rows l.rows l.named

@@ -1,0 +1,196 @@
+//! What FETCH and SEARCH tell by the heads of rows alone, without a look at dates and texts.
+
+ghost use Rattle.std.specs.Prelude.{◌≡◌, ◌++◌, ◌∷◌, [], map, true, IfOk, IfSome, OnOk, option_map};
+ghost use Rattle.imap_types.specs.Numbers.{AreRisingFrom};
+ghost use Rattle.imap_types.specs.Unions.{united};
+ghost use Rattle.imap_query.specs.Fetching.{fetch_answers, parts_of, where_told};
+ghost use Rattle.imap_query.specs.Heads.{are_of_heads, flag_key, head_answer, head_hit, head_items, is_kept_head};
+ghost use Rattle.imap_query.specs.Hits.{MayAdd};
+ghost use Rattle.imap_query.specs.Search.{hits_in, name_of};
+ghost use Rattle.mail_listing.specs.Listing.{head_of, headed, row_of};
+
+use crate::fetching::{Asked, Parts, answers_at_once, push_fetch, tells_modseq, tells_uid};
+use crate::keys::FlagTest;
+use crate::messages::{has_flag, is_as};
+use crate::room::make_room;
+use crate::searching::{Hit, name_of};
+use crate::shown::Shown;
+use imap_answers::{Answer, FetchItems, Sections};
+use imap_types::{Flags, Keywords, Version, Versions};
+use mail_listing::{RowHead, Rows};
+use std::alloc::{AllocError, Global};
+
+/// Whether heads of rows tell all that is asked.
+pub(crate) fn tell_all(parts: Parts) -> bool
+    ensures { result ≡ are_of_heads parts }
+{
+    !parts.date && !parts.size && !parts.sections && !parts.seen
+}
+
+/// What FETCH tells of the named messages out of one listing, where heads of rows tell all that is asked.
+pub(crate) fn fetch_heads(
+    alloc: Global,
+    named: &[Shown],
+    rows: &Rows<'_>,
+    asked: Asked<'_>,
+) -> Result<Vec<Answer>, AllocError>
+    requires parts { asked.parts ≡ parts_of asked.items.now }
+    requires heads { are_of_heads asked.parts ≡ true }
+    ensures { IfOk result (λ answers. answers.items ≡ fetch_answers asked.entry.items.now asked.entry.mode rows.now rows.now named.now) }
+{
+    let mut answers = Vec::with_capacity(alloc, answers_at_once(named, asked.mode))?;
+    for shown in named {
+        push_answer(alloc, rows, asked, *shown, &mut answers)?;
+    }
+    Ok(answers)
+}
+
+/// Adds what is told of one message.
+#[inline(always)]
+fn push_answer(
+    alloc: Global,
+    rows: &Rows<'_>,
+    asked: Asked<'_>,
+    shown: Shown,
+    answers: &mut Vec<Answer>,
+) -> Result<(), AllocError>
+    requires { asked.parts ≡ parts_of asked.items.now }
+    ensures { OnOk result (answers.new.items ≡ answers.old.items ++ head_answer asked.entry.items.now asked.entry.mode shown (option_map head_of (row_of shown.uid rows.now))) }
+{
+    match rows.head_near(shown.place(), shown.uid) {
+        None => Ok(()),
+        Some(head) => {
+            if !is_kept(asked.mode.changed_since, &head) {
+                return Ok(());
+            }
+            let told = items_of(alloc, asked, &head)?;
+            push_fetch(answers, shown.number, told)
+        }
+    }
+}
+
+/// Whether a message changed since: its mod-sequence is above this one, or none is asked (RFC 7162, section 3.1.4.1).
+#[inline(always)]
+fn is_kept(changed_since: Option<u64>, head: &RowHead<'_>) -> bool
+    ensures { result ≡ is_kept_head changed_since (headed head.now) }
+{
+    match changed_since {
+        None => true,
+        Some(modseq) => head.modseq > modseq,
+    }
+}
+
+/// What is told of a message.
+#[inline(always)]
+fn items_of(alloc: Global, asked: Asked<'_>, head: &RowHead<'_>) -> Result<FetchItems, AllocError>
+    requires { asked.parts ≡ parts_of asked.items.now }
+    ensures { IfOk result (λ told. told ≡ head_items asked.entry.items.now asked.entry.mode (headed head.now)) }
+{
+    let flags = flags_where(alloc, asked.parts.flags, head.versions)?;
+    Ok(FetchItems {
+        uid: tells_uid(asked).then_some(head.uid),
+        flags,
+        date: None,
+        size: None,
+        modseq: tells_modseq(asked, asked.parts.flags).then_some(head.modseq),
+        sections: Sections::new(Vec::new(alloc)),
+    })
+}
+
+#[inline(always)]
+fn flags_where(
+    alloc: Global,
+    told: bool,
+    versions: Versions<'_>,
+) -> Result<Option<Flags>, AllocError>
+    ensures { IfOk result (λ flags. flags ≡ where_told told (united versions.entry.list.now)) }
+{
+    if !told {
+        return Ok(None);
+    }
+    match plain_flags(alloc, versions.as_slice()) {
+        Some(flags) => Ok(Some(flags)),
+        None => Ok(Some(versions.flags(alloc)?)),
+    }
+}
+
+/// The union of the flags of versions, where there is one without keywords, as most messages have.
+#[inline(always)]
+fn plain_flags(alloc: Global, versions: &[Version]) -> Option<Flags>
+    ensures { IfSome result (λ flags. flags ≡ united versions.now) }
+{
+    match versions {
+        [version] => {
+            if !version.flags.keywords.is_empty() {
+                return None;
+            }
+            Some(Flags {
+                answered: version.flags.answered,
+                flagged: version.flags.flagged,
+                deleted: version.flags.deleted,
+                seen: version.flags.seen,
+                draft: version.flags.draft,
+                keywords: Keywords::empty(alloc),
+            })
+        }
+        _ => None,
+    }
+}
+
+/// The messages of which a test of a flag holds, in the view's order.
+pub(crate) fn flagged(
+    alloc: Global,
+    view: &[Shown],
+    rows: &Rows<'_>,
+    by_uid: bool,
+    test: FlagTest,
+) -> Result<Vec<Hit>, AllocError>
+    requires { AreRisingFrom 1 (map (name_of by_uid) view.now) }
+    ensures hits { IfOk result (λ hits. hits.items ≡ hits_in by_uid (flag_key test) rows.now view.now) }
+    ensures rising { IfOk result (λ hits. AreRisingFrom 1 (map (λ hit. hit.number) hits.items)) }
+{
+    let mut hits = Vec::new(alloc);
+    for shown in view {
+        push_flagged(rows, by_uid, test, *shown, &mut hits)?;
+    }
+    Ok(hits)
+}
+
+/// Adds a message that is there and of which the test holds.
+#[inline(always)]
+fn push_flagged(
+    rows: &Rows<'_>,
+    by_uid: bool,
+    test: FlagTest,
+    shown: Shown,
+    found: &mut Vec<Hit>,
+) -> Result<(), AllocError>
+    ensures hits { OnOk result (found.new.items ≡ found.old.items ++ head_hit by_uid test shown (option_map head_of (row_of shown.uid rows.now))) }
+    ensures numbers { OnOk result (MayAdd (name_of by_uid shown) (map (λ hit. hit.number) found.old.items) (map (λ hit. hit.number) found.new.items)) }
+{
+    match rows.head_near(shown.place(), shown.uid) {
+        None => Ok(()),
+        Some(head) => {
+            if !is_as(test.is_set, has_flag(test.flag, head.versions)) {
+                return Ok(());
+            }
+            push_hit(
+                found,
+                Hit {
+                    number: name_of(by_uid, shown),
+                    modseq: head.modseq,
+                },
+            )
+        }
+    }
+}
+
+/// Adds a hit.
+#[inline(always)]
+pub(crate) fn push_hit(found: &mut Vec<Hit>, hit: Hit) -> Result<(), AllocError>
+    ensures { OnOk result (found.new.items ≡ found.old.items ++ hit ∷ []) }
+{
+    make_room(found)?;
+    found.push_reserved(hit);
+    Ok(())
+}

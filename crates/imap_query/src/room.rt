@@ -1,0 +1,17 @@
+//! Room in lists.
+
+ghost use Rattle.std.specs.Prelude.{◌≡◌, ◌<◌, vec_capacity, vec_len, OnOk};
+
+use std::alloc::AllocError;
+
+/// Room for one more; `Err` where there is no memory for it. The items stay.
+#[inline(always)]
+pub(crate) fn make_room<T>(items: &mut Vec<T>) -> Result<(), AllocError>
+    ensures items { items.new.items ≡ items.old.items }
+    ensures room { OnOk result (vec_len items.new < vec_capacity items.new) }
+{
+    if items.len() < items.capacity() {
+        return Ok(());
+    }
+    items.reserve(1)
+}
