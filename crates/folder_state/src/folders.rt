@@ -8,13 +8,13 @@ use crate::later::{has_tag_left, has_tags, has_version_left, has_versions};
 use crate::lending::{LentMessage, lent_message, messages_lent};
 use crate::lists::{all_ids, folder_names, is_inbox, tag_ids, version_ids};
 use crate::reading::folder_messages;
-use crate::rooms::{empty_lists, reserve_folders};
+use crate::rooms::{empty_lists, reserve_folders, reserve_one};
 use crate::wanted::Wanted;
 use crdt_ops::{Ids, Message, SoundOp, copied_ops};
 use imap_types::{Name, Version};
 use indexmap::IndexMap;
 use mail_listing::{Letter, Mailbox};
-use merge_laws::Replicated;
+use merge_laws::{Caused, Replicated};
 use std::alloc::{AllocError, Global};
 use std::collections::VecDeque;
 use tags_clocks::OpId;
@@ -214,14 +214,10 @@ impl Replicated for Folders {
     ghost commutes = { effects_commute };
 
     fn prepare(&mut self, alloc: Global, ops: &[SoundOp]) -> Result<(), AllocError> {
-        let copies = copied_ops(alloc, ops)?;
-        let wanted = Wanted::by(alloc, ops)?;
-        let lists = empty_lists(alloc, ops, &wanted)?;
-        reserve_folders(alloc, &mut self.by_name, ops, &wanted)?;
-        self.letters.reserve(ops.len())?;
-        self.spare = copies;
-        self.lists = lists;
-        Ok(())
+        match ops {
+            [op] => self.prepare_one(alloc, op),
+            _ => self.prepare_all(alloc, ops),
+        }
     }
 
     fn apply(&mut self, op: &SoundOp) {
@@ -238,5 +234,41 @@ impl Replicated for Folders {
             },
             None => unreachable!(),
         }
+    }
+}
+
+impl Folders {
+    ghost use Rattle.std.specs.Prelude.{◌≡◌, ◌∷◌, [], OnOk};
+    ghost use Rattle.folder_state.specs.Tables.{IsPrepared, contents_of};
+
+    /// Makes room for one operation. An error leaves the content.
+    fn prepare_one(&mut self, alloc: Global, op: &SoundOp) -> Result<(), AllocError>
+        ensures content { contents_of self.new ≡ contents_of self.old }
+        ensures prepared { OnOk result (IsPrepared self.new (op.now ∷ [])) }
+    {
+        let copy = op.copy(alloc)?;
+        let list = Vec::with_capacity(alloc, 1)?;
+        reserve_one(alloc, &mut self.by_name, op.op())?;
+        self.letters.reserve(1)?;
+        self.lists.clear();
+        self.spare.clear();
+        self.lists.push_back(list)?;
+        self.spare.push_back(copy)?;
+        Ok(())
+    }
+
+    /// Makes room for these operations, to be applied in this order. An error leaves the content.
+    fn prepare_all(&mut self, alloc: Global, ops: &[SoundOp]) -> Result<(), AllocError>
+        ensures content { contents_of self.new ≡ contents_of self.old }
+        ensures prepared { OnOk result (IsPrepared self.new ops.now) }
+    {
+        let copies = copied_ops(alloc, ops)?;
+        let wanted = Wanted::by(alloc, ops)?;
+        let lists = empty_lists(alloc, ops, &wanted)?;
+        reserve_folders(alloc, &mut self.by_name, ops, &wanted)?;
+        self.letters.reserve(ops.len())?;
+        self.spare = copies;
+        self.lists = lists;
+        Ok(())
     }
 }

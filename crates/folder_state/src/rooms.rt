@@ -1,6 +1,6 @@
 //! Room made for operations.
 
-ghost use Rattle.std.specs.Prelude.{◌≡◌, ◌≤◌, ℕ, List, [], None, Some, IfOk, OnOk};
+ghost use Rattle.std.specs.Prelude.{◌≡◌, ◌≤◌, ◌∷◌, ℕ, List, [], None, Some, IfOk, OnOk};
 ghost use Rattle.std.specs.Vec.{vec_capacity};
 ghost use Rattle.indexmap.specs.IndexMap.{spare};
 ghost use Rattle.tags_clocks.specs.declared.id.OpId.{OpId as Id};
@@ -62,6 +62,21 @@ pub fn reserve_folders(
         reserve_for(alloc, by_name, op.op(), wanted)?;
     }
     Ok(())
+}
+
+/// The same for one operation alone. Cost: a look-up or two.
+pub fn reserve_one(
+    alloc: Global,
+    by_name: &mut IndexMap<Vec<u8>, Folder>,
+    op: &Op,
+) -> Result<(), AllocError>
+    ensures roomier { AreRoomier by_name.old.entries by_name.new.entries }
+    ensures room { OnOk result (HasRoomFor (op.now ∷ []) op.now (λ name. folder_at name by_name.new.entries)) }
+{
+    match target(op) {
+        Some(name) => reserve_in(alloc, by_name, name.as_bytes(), 1, &origin_by(op), 1),
+        None => Ok(()),
+    }
 }
 
 /// Makes so much room as is wanted in the folder of the operation's tag, and in its message.

@@ -70,6 +70,16 @@ adds_none p es us none = record { kept = λ u i. i; named = λ a e i t. absurd (
 pub adds_alike : (p q : OpId → Bool) (es : List Entry) (old new : List ℕ) → ((g : OpId) → p g ≡ q g) → AddsUids p es old new → AddsUids q es old new
 adds_alike p q es old new h r = record { kept = r.kept; named = λ a e i t. r.named a e i (h e.origin ∙ t) }
 
+-- one that is named already
+pub adds_covered : (p : OpId → Bool) (o : OpId) (es : List Entry) (a b : List ℕ) → p o ≡ true → AddsUids p es a b → AddsUids (λ g. p g || is_some_id g (Some o)) es a b
+adds_covered p o es a b h r = record {
+  kept = r.kept;
+  named = λ apart e i t. elim (or_cases (p e.origin) (is_some_id e.origin (Some o)) t) [
+    | inl x ↦ r.named apart e i x
+    | inr x ↦ r.named apart e i (subst (λ g. p g ≡ true) (sym (same_true e.origin o x)) h)
+  ];
+}
+
 pub adds_both : (p q : OpId → Bool) (es : List Entry) (a b c : List ℕ) → AddsUids p es a b → AddsUids q es b c → AddsUids (λ g. p g || q g) es a c
 adds_both p q es a b c r s = record {
   kept = λ u i. s.kept u (r.kept u i);

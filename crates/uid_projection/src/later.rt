@@ -1,6 +1,6 @@
 //! A folder's entries as operations to come leave them, laid over those that are kept.
 
-ghost use Rattle.std.specs.Prelude.{◌≡◌, ◌⊎◌, ◌<◌, ◌+◌, ◌-◌, ℕ, List, [], ◌∷◌, ◌++◌, true, false, ◌||◌, if◌then◌else◌, IfOk, OnOk, length, get_or};
+ghost use Rattle.std.specs.Prelude.{◌≡◌, ◌⊎◌, ◌<◌, ◌+◌, ◌-◌, ℕ, List, [], ◌∷◌, ◌++◌, true, false, ◌||◌, if◌then◌else◌, IfOk, OnOk, length, get_or, option_copied};
 ghost use Rattle.std.specs.List.{list_any};
 ghost use Rattle.tags_clocks.specs.declared.id.OpId.{OpId as Id};
 ghost use Rattle.mail_listing.specs.declared.entry.Entry.{Entry as Kept};
@@ -16,12 +16,13 @@ ghost use Rattle.uid_projection.specs.declared.start.Start.{Start as First};
 ghost use Rattle.uid_projection.specs.Incarnations.{is_there};
 ghost use Rattle.uid_projection.specs.Lines.{concerns_by, has_version};
 ghost use Rattle.uid_projection.specs.Moves.{AreApart, IsNext, is_held, loses, moved, with_line};
-ghost use Rattle.uid_projection.specs.Table.{IsTable};
+ghost use Rattle.uid_projection.specs.Table.{IsTable, chart_at};
 
 use crate::ahead::same;
+use crate::chart::Chart;
 use crate::charts::Charts;
 use crate::folder::FolderAhead;
-use crate::moves::{added_origin, begin_line, holds, settle};
+use crate::moves::{added_origin, begin_line, renew, settle};
 use crate::start::first_of;
 use crate::table::chart_of;
 use crdt_ops::{Kind, Op, SoundOp};
@@ -49,7 +50,19 @@ pub fn kept_ahead<'a>(
 ) -> Result<ChartAhead<'a>, AllocError>
     ensures { (list : List Operation) (k : ℕ) → IsTable charts.now.start list k charts.now.charts.entries → charts.now.nothing.entries ≡ [] → IfOk result (λ c. IsChart charts.now.start folder.now list c.uidnext c.highest c.entries.entries) }
 {
-    match chart_of(&charts.charts, folder) {
+    ahead_by(alloc, charts, folder, chart_of(&charts.charts, folder))
+}
+
+/// The same of a folder that has this chart among these, or none.
+pub fn ahead_by<'a>(
+    alloc: Global,
+    charts: &'a Charts,
+    folder: &Name,
+    chart: Option<&'a Chart>,
+) -> Result<ChartAhead<'a>, AllocError>
+    ensures { (list : List Operation) (k : ℕ) → IsTable charts.now.start list k charts.now.charts.entries → option_copied chart.entry ≡ chart_at folder.now charts.now.charts.entries → charts.now.nothing.entries ≡ [] → IfOk result (λ c. IsChart charts.now.start folder.now list c.uidnext c.highest c.entries.entries) }
+{
+    match chart {
         Some(chart) => Ok(ChartAhead {
             uidnext: chart.uidnext,
             highest: chart.highest,
@@ -164,27 +177,29 @@ fn advance(
         return Err(AllocError);
     }
     chart.highest += 1;
-    lose(&mut chart.entries, ahead, lost, chart.highest)?;
+    let near = lose(&mut chart.entries, ahead, lost, chart.highest)?;
     match added_origin(op) {
-        Some(origin) => add(chart, &origin),
+        Some(origin) => add(chart, &origin, near),
         None => Ok(()),
     }
 }
 
-/// The messages of these origins get the mod-sequence, or go, where the folder has none of their versions any more.
+/// The messages of these origins get the mod-sequence, or go, where the folder has none of their versions any more. Tells where the last
+/// one's entry stands or stood.
 fn lose(
     entries: &mut EntryOverlay<'_>,
     ahead: &FolderAhead<'_>,
     lost: &[OpId],
     modseq: u64,
-) -> Result<(), AllocError>
+) -> Result<usize, AllocError>
     ensures { OnOk result ((list : List Operation) (c : Contents) → IsAhead c ahead.now → IsMadeBy c list → AreApart entries.old.entries → entries.new.entries ≡ moved (λ g. list_any (same_id g) lost.now) (λ g. has_version (folder_of ahead.now) g list) modseq entries.old.entries) }
 {
+    let mut near = 0;
     for origin in lost {
         entries.reserve(1)?;
-        settle(entries, origin, has_version(ahead, origin), modseq);
+        near = settle(entries, origin, has_version(ahead, origin), modseq);
     }
-    Ok(())
+    Ok(near)
 }
 
 /// Whether the origin has a version in the folder.
@@ -194,15 +209,15 @@ fn has_version(ahead: &FolderAhead<'_>, origin: &OpId) -> bool
     ahead.has_version(origin)
 }
 
-/// The message of this origin gets the highest mod-sequence; one that has no entry gets one with the next UID, behind the others.
-fn add(chart: &mut ChartAhead<'_>, origin: &OpId) -> Result<(), AllocError>
+/// The message of this origin gets the highest mod-sequence; one that has no entry gets one with the next UID, behind the others. Its
+/// entry may be near.
+fn add(chart: &mut ChartAhead<'_>, origin: &OpId, near: usize) -> Result<(), AllocError>
     ensures uidnext { OnOk result (chart.new.uidnext ≡ (if is_held chart.old.entries.entries origin.now then chart.old.uidnext else chart.old.uidnext + 1)) }
     ensures highest { chart.new.highest ≡ chart.old.highest }
     ensures entries { OnOk result (AreApart chart.old.entries.entries → chart.new.entries.entries ≡ with_line origin.now chart.old.uidnext chart.old.highest chart.old.entries.entries) }
 {
     chart.entries.reserve(1)?;
-    if holds(&chart.entries, origin) {
-        settle(&mut chart.entries, origin, true, chart.highest);
+    if renew(&mut chart.entries, origin, near, chart.highest) {
         return Ok(());
     }
     if !can_follow(&chart.entries, chart.uidnext) {

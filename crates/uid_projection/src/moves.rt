@@ -1,9 +1,10 @@
 //! What an operation makes of a folder's entries, as they are kept or as an overlay has them.
 
-ghost use Rattle.std.specs.Prelude.{◌≡◌, ◌<◌, ◌+◌, ℕ, [], ◌∷◌, ◌++◌, true, false, length, get_or, set, remove};
+ghost use Rattle.std.specs.Prelude.{◌≡◌, ◌<◌, ◌+◌, ℕ, [], ◌∷◌, ◌++◌, true, false, Some, MatchOption, length, get_or, set, remove};
 ghost use Rattle.mail_listing.specs.declared.entry.Entry.{Entry as Kept};
 ghost use Rattle.uid_projection.specs.Moves.{AreApart, IsNext, added_origin, is_held, moved, renewed};
 ghost use Rattle.crdt_ops.specs.Order.{same_id};
+ghost use Rattle.mail_listing.specs.Entries.{IsAt, Lacks};
 
 use crdt_ops::{Kind, Op};
 use mail_listing::{Entry, EntryList};
@@ -24,15 +25,56 @@ pub fn added_origin(op: &Op) -> Option<OpId>
     }
 }
 
-/// Gives the message of this origin, if it has an entry, the mod-sequence where it stays, and takes it out where it doesn't.
-pub fn settle<L: EntryList>(entries: &mut L, origin: &OpId, stays: bool, modseq: u64)
+/// The place of the entry with this origin, which may be near: where that is its place, no search is made.
+pub fn place_by<L: EntryList>(entries: &L, origin: &OpId, near: usize) -> Option<usize>
+    ensures { MatchOption result (Lacks origin.now (L.entries entries.now)) (IsAt origin.now (L.entries entries.now)) }
+{
+    if is_of(entries.get(near), origin) {
+        return Some(near);
+    }
+    entries.place_of(origin)
+}
+
+/// Whether there is an entry, and it is of this origin.
+fn is_of(entry: Option<Entry>, origin: &OpId) -> bool
+    ensures { result ≡ true → (e : Kept) × (entry ≡ Some e) × (e.origin ≡ origin.now) }
+{
+    match entry {
+        Some(entry) => entry.origin == *origin,
+        None => false,
+    }
+}
+
+/// Gives the message of this origin, if it has an entry, the mod-sequence where it stays, and takes it out where it doesn't. Tells where
+/// the entry stands or stood; 0 where there is none.
+pub fn settle<L: EntryList>(entries: &mut L, origin: &OpId, stays: bool, modseq: u64) -> usize
     requires { L.has_edits entries.old 1 }
     ensures entries { AreApart (L.entries entries.old) → L.entries entries.new ≡ moved (λ g. same_id g origin.now) (λ g. stays) modseq (L.entries entries.old) }
     ensures room { (n : ℕ) → L.has_room entries.old n → L.has_room entries.new n }
 {
     match entries.place_of(origin) {
-        Some(place) => settle_at(entries, place, stays, modseq),
-        None => {}
+        Some(place) => {
+            settle_at(entries, place, stays, modseq);
+            place
+        }
+        None => 0,
+    }
+}
+
+/// Gives the message of this origin, if it has an entry, the mod-sequence, and tells whether it has one. The entry may be near.
+pub fn renew<L: EntryList>(entries: &mut L, origin: &OpId, near: usize, modseq: u64) -> bool
+    requires { L.has_edits entries.old 1 }
+    ensures held { result ≡ is_held (L.entries entries.old) origin.now }
+    ensures entries { AreApart (L.entries entries.old) → L.entries entries.new ≡ moved (λ g. same_id g origin.now) (λ g. true) modseq (L.entries entries.old) }
+    ensures same { result ≡ false → entries.new ≡ entries.old }
+    ensures room { (n : ℕ) → L.has_room entries.old n → L.has_room entries.new n }
+{
+    match place_by(entries, origin, near) {
+        Some(place) => {
+            settle_at(entries, place, true, modseq);
+            true
+        }
+        None => false,
     }
 }
 
@@ -48,16 +90,6 @@ fn settle_at<L: EntryList>(entries: &mut L, place: usize, stays: bool, modseq: u
         entries.renew(place, modseq);
     } else {
         entries.take_out(place);
-    }
-}
-
-/// Whether there is an entry of this origin.
-pub fn holds<L: EntryList>(entries: &L, origin: &OpId) -> bool
-    ensures { result ≡ is_held (L.entries entries.now) origin.now }
-{
-    match entries.place_of(origin) {
-        Some(_) => true,
-        None => false,
     }
 }
 

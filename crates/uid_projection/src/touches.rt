@@ -1,6 +1,6 @@
 //! Which messages of a folder operations to come touch, by their UIDs.
 
-ghost use Rattle.std.specs.Prelude.{◌≡◌, ◌++◌, List, [], Some, IfOk, OnOk, map};
+ghost use Rattle.std.specs.Prelude.{◌≡◌, ◌||◌, ◌++◌, ℕ, List, [], Some, IfOk, OnOk, map};
 ghost use Rattle.std.specs.List.{list_any, slice_get};
 ghost use Rattle.std.specs.Option.{option_to_list};
 ghost use Rattle.crdt_ops.specs.declared.op.Op.{Op as Operation};
@@ -22,6 +22,7 @@ use crate::origins::origin_at;
 use crate::table::chart_of;
 use crdt_ops::{Op, SoundOp};
 use imap_types::Name;
+use indexmap::IndexMap;
 use mail_listing::{EntryList, EntryTable};
 use std::alloc::{AllocError, Global};
 use tags_clocks::OpId;
@@ -69,7 +70,47 @@ fn push_named(uids: &mut Vec<u32>, chart: &Chart, folder: &Name, op: &Op) -> Res
         return Ok(());
     }
     push_lost(uids, chart, op.kind.removed())?;
-    push_origin(uids, &chart.entries, added_origin(op))
+    match added_origin(op) {
+        Some(origin) => push_added(uids, chart, op.kind.removed(), &origin),
+        None => Ok(()),
+    }
+}
+
+/// Puts the UID of the message of this origin, where it has an entry, behind the others, unless it is there for one of these versions.
+fn push_added(
+    uids: &mut Vec<u32>,
+    chart: &Chart,
+    removed: &[OpId],
+    origin: &OpId,
+) -> Result<(), AllocError>
+    ensures { OnOk result ((before : List ℕ) → AddsUids (loses (origin_at chart.now.versions.entries) removed.now) chart.now.entries.entries before uids.old.items → AddsUids (λ g. loses (origin_at chart.now.versions.entries) removed.now g || is_some_id g (Some origin.now)) chart.now.entries.entries before uids.new.items) }
+{
+    if is_lost(chart, removed, origin) {
+        return Ok(());
+    }
+    push_entry(uids, &chart.entries, origin)
+}
+
+/// Whether one of these is a version of this origin.
+fn is_lost(chart: &Chart, removed: &[OpId], origin: &OpId) -> bool
+    ensures { result ≡ loses (origin_at chart.now.versions.entries) removed.now origin.now }
+{
+    for id in removed {
+        if is_at(&chart.versions, id, origin) {
+            return true;
+        }
+    }
+    false
+}
+
+/// Whether the version with this id is one of this origin.
+fn is_at(versions: &IndexMap<OpId, OpId>, id: &OpId, origin: &OpId) -> bool
+    ensures { result ≡ is_some_id origin.now (origin_at versions.now.entries id.now) }
+{
+    match origin_at(versions, id) {
+        Some(found) => *origin == found,
+        None => false,
+    }
 }
 
 /// Puts the UIDs of the messages of which these are versions behind the others.

@@ -17,14 +17,14 @@ pub loop-id-preserved : goal.loop-id-preserved
 loop-id-preserved c =
     let h = c.loop-id.invariant in
     let p = h.room in
-    let q = c.lose_one.ensures.room in
+    let q = c.lose_one-near.ensures.room in
     record {
       entries = λ list m a.
           let s : OpId → Bool = λ g. has_version c.args.folder.now g list in
           let f : OpId → Option OpId = origin_at c.args.versions.now.entries in
           let old = h.entries list m a in
           let apart = subst AreApart (sym old) (apart_moved _ s c.args.modseq c.args.entries.now.entries a) in
-          c.lose_one.ensures.entries list m apart
+          c.lose_one-near.ensures.entries list m apart
           ∙ ap (moved _ s c.args.modseq) old
           ∙ lost_more f s c.args.modseq c.args.entries.now.entries c.args.removed.now c.loop-id.id-index c.id-item.result c.loop-id-test.true c.id-item.is;
       room = omega (arith, p, q);

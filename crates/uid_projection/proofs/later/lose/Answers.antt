@@ -24,7 +24,7 @@ loop-origin-preserved c = λ list k h m a.
     let before : OpId → Bool = λ x. list_any (same_id x) (take i lost) in
     let now : OpId → Bool = λ x. list_any (same_id x) (take (i + 1) lost) in
     let apart = subst AreApart (sym old) (apart_moved before s q es a) in
-    c.settle.ensures.entries apart
+    c.settle-near.ensures.entries apart
     ∙ moved_by_one g c.has_version.result s q _ (c.has_version.ensures list k h m)
     ∙ ap (moved (λ x. same_id x g) s q) old
     ∙ moved_twice before (λ x. same_id x g) s q es

@@ -1,5 +1,5 @@
 use Rattle.std.proofs.Common.{[], append-nil, ◌∙◌, sym}
-use Rattle.folder_state.proofs.folders.FoldersReplicated.prepare.Goals as goal
+use Rattle.folder_state.proofs.folders.Folders.prepare_all.Goals as goal
 
 pub returns-clause-prepared : goal.returns-clause-prepared
 returns-clause-prepared c = record {
