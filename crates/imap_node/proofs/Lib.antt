@@ -2,6 +2,7 @@ pub mod NextLemmas
 pub mod CanLemmas
 pub mod PlanLemmas
 pub mod PrepareLemmas
+pub mod RestLemmas
 pub mod PlaceLemmas
 pub mod TellLemmas
 pub mod ShownLemmas

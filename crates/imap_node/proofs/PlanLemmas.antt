@@ -136,10 +136,10 @@ left_steps start ops session false false = tt
 
 -- a plan can be committed
 pub plan_planned : (node : NodeKept) (n : ℕ) (state : State) (input : Input) (outcome : Result Prepared Refusal) → IsOpen node.state.sessions n
-    → IfOk outcome (λ p. AreIssued id_of clock_of node.state.applied p.ops) → IfOk outcome (λ p. HasRoomFor node.state.applied node.room p.ops)
+    → IfOk outcome (λ p. AreIssued id_of clock_of node.state.applied p.ops) → IfOk outcome (λ p. (p.ops ≡ [] → ⊥) → HasRoomFor node.state.applied node.room p.ops)
     → IfOk outcome (λ p. IsNews node.state.start node.state.applied (node.state.applied ++ p.ops) p.news)
     → ((s : Session) → session_at node.state.sessions n ≡ Some s → IfOk outcome (λ p. CanGo node.state.start (node.state.applied ++ p.ops) s.state p.answered.going.onward)) → IsPlanned node (plan_by n state input outcome)
-plan_planned node n state input (Ok p) opened i r w c = record { is_open = opened; issued = i; room = λ f. r; news = w; can = c }
+plan_planned node n state input (Ok p) opened i r w c = record { is_open = opened; issued = i; room = r; news = w; can = c }
 plan_planned node n state input (Err why) opened i r w c = record {
   is_open = opened;
   issued = λ front o back e. absurd (no_cut front o back e);
@@ -150,7 +150,7 @@ plan_planned node n state input (Err why) opened i r w c = record {
 
 -- the same where the room was made behind
 pub plan_planned_behind : (start : Start) (applied : List Op) (places : Places) (node : NodeKept) (n : ℕ) (state : State) (input : Input) (outcome : Result Prepared Refusal) → node.state.start ≡ start → node.state.applied ≡ applied → node.state.sessions ≡ places
-    → IsOpen places n → IfOk outcome (λ p. AreIssued id_of clock_of applied p.ops) → IfOk outcome (λ p. HasRoomFor node.state.applied node.room p.ops) → IfOk outcome (λ p. IsNews start applied (applied ++ p.ops) p.news)
+    → IsOpen places n → IfOk outcome (λ p. AreIssued id_of clock_of applied p.ops) → IfOk outcome (λ p. (p.ops ≡ [] → ⊥) → HasRoomFor node.state.applied node.room p.ops) → IfOk outcome (λ p. IsNews start applied (applied ++ p.ops) p.news)
     → ((s : Session) → session_at places n ≡ Some s → IfOk outcome (λ p. CanGo start (applied ++ p.ops) s.state p.answered.going.onward)) → IsPlanned node (plan_by n state input outcome)
 plan_planned_behind start applied places node n state input outcome e f g opened i r w c =
     plan_planned node n state input outcome

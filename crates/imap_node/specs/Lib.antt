@@ -8,6 +8,7 @@ pub mod Endings
 pub mod Respond
 pub mod Printing
 pub mod Plans
+pub mod Resting
 pub mod Deliveries
 pub mod Replays
 pub mod Feeds

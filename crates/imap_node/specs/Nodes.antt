@@ -44,10 +44,10 @@ pub record ReplicaKept : Type 0 where
 abbrev pub received : NodeState → Seen Start Op
 received node = record { start = node.start; applied = node.applied; held = node.held }
 
--- The replica can issue these operations: they come behind those applied, no counter is at its end for them, and there is room.
+-- The replica can issue these operations: they come behind those applied, no counter is at its end for them, and where there are any there is room.
 pub record IsReady (replica : ReplicaKept) (ops : List Op) : Type 0 where
   pub follow : CanFollow replica.start replica.applied ops
-  pub room : HasRoomFor replica.applied replica.room ops
+  pub room : (ops ≡ [] → ⊥) → HasRoomFor replica.applied replica.room ops
 
 -- What a replica received.
 abbrev pub replica_received : ReplicaKept → Seen Start Op

@@ -98,7 +98,7 @@ fn idle_tail(alloc: Global, idling: &Option<Octets>) -> Result<Vec<Answer>, Allo
 }
 
 /// A tagged OK alone.
-fn completed(
+pub fn completed(
     alloc: Global,
     tag: &Octets,
     code: Option<Code>,

@@ -328,7 +328,7 @@ fn flags_first(alloc: Global, state: &State, front: &Front<'_>) -> Result<Vec<Si
 
 /// Whether a sync has nothing to tell: there is none, or nothing is noted of the mailbox that is selected, if one is, neither missed nor still to be told, nor
 /// changed by the operations.
-fn is_settled(state: &State, untold: &Untold<'_>, sync: Option<SyncKind>) -> bool
+pub fn is_settled(state: &State, untold: &Untold<'_>, sync: Option<SyncKind>) -> bool
     ensures { result ≡ true → (sync ≡ None) ⊎ ((view : Seen) → view_of state.now ≡ Some view → IsSettled untold.now view) }
 {
     match (sync, state) {

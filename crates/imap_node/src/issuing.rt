@@ -64,7 +64,7 @@ impl ReadyOps {
     }
 }
 
-/// The replica's next operations, of these kinds, with room for issuing them. An error leaves what was received as it was:
+/// The replica's next operations, of these kinds, with room for issuing them where there are any. An error leaves what was received as it was:
 /// `NumberUsedUp` where a counter is at its end for one of them.
 pub fn readied(
     alloc: Global,
@@ -93,7 +93,7 @@ pub fn readied(
     }
 }
 
-/// Makes room for issuing operations that come next.
+/// Makes room for issuing operations that come next, if there are any.
 fn make_room(alloc: Global, replica: &mut Replica, ops: &[SoundOp]) -> Result<(), Refusal>
     requires sound { AreSound IsSound ops.now }
     requires next { (kinds : List Action) × AreNext replica.old.start.replica replica.old.applied kinds ops.now }
@@ -104,6 +104,9 @@ fn make_room(alloc: Global, replica: &mut Replica, ops: &[SoundOp]) -> Result<()
     ensures err { IfErr result (λ why. (why ≡ NoMemory) ⊎ ((why ≡ NumberUsedUp) × Exhausts replica.old.start replica.old.applied ops.now)) }
 {
     let _list = replica.applied();
+    if ops.is_empty() {
+        return Ok(());
+    }
     match replica.ready(alloc, ops) {
         Ok(()) => Ok(()),
         Err(IssueFault::Exhausted) => Err(Refusal::NumberUsedUp),

@@ -133,10 +133,11 @@ impl Ahead {
     ) -> Result<Ahead, AllocError>
         ensures { IfOk result (λ ahead. IsAheadOf replica.now.start replica.now.applied ops.now name.now ahead) }
     {
+        let (uidvalidity, uidnext) = replica.numbers(name);
         Ok(Ahead {
             name: name.copy(alloc)?,
-            uidvalidity: replica.uidvalidity(name),
-            uidnext: replica.uidnext(name),
+            uidvalidity,
+            uidnext,
             touched: replica.touched(alloc, name, ops)?,
         })
     }

@@ -1,6 +1,6 @@
 //! The plan of an input: all that takes memory.
 
-ghost use Rattle.std.specs.Prelude.{◌≡◌, ◌++◌, IfOk, IfErr, IsSome, Some};
+ghost use Rattle.std.specs.Prelude.{◌≡◌, ◌++◌, ℕ, List, [], IfOk, IfErr, IsSome, Some};
 ghost use Rattle.causal_inbox.specs.Seen.{AreIssued};
 ghost use Rattle.imap_commands.specs.Gives.{Gives};
 ghost use Rattle.imap_commands.specs.declared.session.Session.{Session as One};
@@ -11,14 +11,15 @@ ghost use Rattle.imap_node.specs.Going.{CanGo, state_onward};
 ghost use Rattle.imap_node.specs.Nodes.{IsReady};
 ghost use Rattle.imap_node.specs.Operations.{CanIssueAll, clock_of, id_of};
 ghost use Rattle.imap_node.specs.Plans.{IsAnswered, Prepares};
+ghost use Rattle.imap_node.specs.Resting.{IsAtRest, IsNoop, noop_at_rest};
 ghost use Rattle.imap_node.specs.Replays.{view_in, view_of};
 ghost use Rattle.imap_node.specs.Respond.{IsRefused, IsStamp, IsStampFor, found_by, wants_of};
 ghost use Rattle.imap_node.specs.Rooms.{HasRoomFor};
 ghost use Rattle.imap_node.specs.Sessions.{IsOpen, session_at};
 ghost use Rattle.session_view.specs.Seen.{Seen};
 
-use crate::course::{Course, condstore_after, course_of, idling_after, joined};
-use crate::ending::{Anew, Applied, Front, Untold, ending, ending_in_place};
+use crate::course::{Course, completed, condstore_after, course_of, idling_after, joined};
+use crate::ending::{Anew, Applied, Front, Untold, ending, ending_in_place, is_settled};
 use crate::feeds::Feeds;
 use crate::going::{Going, Onward};
 use crate::input::Input;
@@ -31,13 +32,13 @@ use crate::telling::rows_behind;
 use crate::wanting::wants_of;
 use crdt_ops::SoundOp;
 use idle_feed::Feed;
-use imap_answers::{Answer, Refusal};
+use imap_answers::{Answer, CommandWord, Refusal};
 use imap_commands::{Found, Session, State, Wanted};
 use imap_syntax::Command;
-use imap_types::{DateTime, Moment};
+use imap_types::{DateTime, Moment, Octets};
 use mail_listing::Rows;
 use mail_text::civil;
-use session_view::Silent;
+use session_view::{Silent, SyncKind};
 use std::alloc::{AllocError, Global};
 
 /// What becomes of a session.
@@ -105,7 +106,7 @@ pub fn prepare_for(
     ensures start { replica.new.start ≡ replica.old.start }
     ensures applied { replica.new.applied ≡ replica.old.applied }
     ensures held { replica.new.held ≡ replica.old.held }
-    ensures room { IfOk result (λ p. HasRoomFor replica.new.applied replica.new.room p.ops) }
+    ensures room { IfOk result (λ p. (p.ops ≡ [] → ⊥) → HasRoomFor replica.new.applied replica.new.room p.ops) }
     ensures issued { IfOk result (λ p. AreIssued id_of clock_of replica.old.applied p.ops) }
     ensures news { IfOk result (λ p. IsNews replica.old.start replica.old.applied (replica.old.applied ++ p.ops) p.news) }
     ensures can { (s : One) → session_at sessions.old number ≡ Some s → IfOk result (λ p. CanGo replica.old.start (replica.old.applied ++ p.ops) s.state p.answered.going.onward) }
@@ -134,7 +135,7 @@ fn prepare_at(
     ensures start { replica.new.start ≡ replica.old.start }
     ensures applied { replica.new.applied ≡ replica.old.applied }
     ensures held { replica.new.held ≡ replica.old.held }
-    ensures room { IfOk result (λ p. HasRoomFor replica.new.applied replica.new.room p.ops) }
+    ensures room { IfOk result (λ p. (p.ops ≡ [] → ⊥) → HasRoomFor replica.new.applied replica.new.room p.ops) }
     ensures issued { IfOk result (λ p. AreIssued id_of clock_of replica.old.applied p.ops) }
     ensures news { IfOk result (λ p. IsNews replica.old.start replica.old.applied (replica.old.applied ++ p.ops) p.news) }
     ensures can { (s : One) → place.old ≡ Some s → IfOk result (λ p. CanGo replica.old.start (replica.old.applied ++ p.ops) s.state p.answered.going.onward) }
@@ -160,7 +161,86 @@ fn prepare(
     ensures start { replica.new.start ≡ replica.old.start }
     ensures applied { replica.new.applied ≡ replica.old.applied }
     ensures held { replica.new.held ≡ replica.old.held }
-    ensures room { IfOk result (λ p. HasRoomFor replica.new.applied replica.new.room p.ops) }
+    ensures room { IfOk result (λ p. (p.ops ≡ [] → ⊥) → HasRoomFor replica.new.applied replica.new.room p.ops) }
+    ensures issued { IfOk result (λ p. AreIssued id_of clock_of replica.old.applied p.ops) }
+    ensures news { IfOk result (λ p. IsNews replica.old.start replica.old.applied (replica.old.applied ++ p.ops) p.news) }
+    ensures can { IfOk result (λ p. CanGo replica.old.start (replica.old.applied ++ p.ops) session.old.state p.answered.going.onward) }
+    ensures ok { IfOk result (λ p. Prepares replica.old.start replica.old.applied session.old input.now p) }
+    ensures err { IfErr result (λ why. IsRefused replica.old.start replica.old.applied session.old.state input.now why) }
+{
+    match tag_at_rest(alloc, session, feed, input) {
+        Some(tag) => Ok(noop_at_rest(alloc, session, tag)?),
+        None => worked_out(alloc, replica, session, feed, input),
+    }
+}
+
+/// The tag of a NOOP whose session has nothing to be told; `None` of any other input, and where it may have something.
+fn tag_at_rest<'a>(
+    alloc: Global,
+    session: &Session,
+    feed: &Feed,
+    input: &'a Input,
+) -> Option<&'a Octets>
+    ensures { (tag : List ℕ) → option_map (λ t. t.now) result ≡ Some tag → IsAtRest session.now.state feed.now.pending input.now tag }
+{
+    let tag = noop_tag(input)?;
+    let news = News::none(alloc);
+    let untold = Untold { feed, news: &news };
+    let rests = is_settled(&session.state, &untold, Some(SyncKind::Full));
+    drop(news);
+    if rests { Some(tag) } else { None }
+}
+
+/// The tag of a NOOP.
+fn noop_tag(input: &Input) -> Option<&Octets>
+    ensures { (tag : List ℕ) → option_map (λ t. t.now) result ≡ Some tag → IsNoop input.now tag }
+{
+    match input {
+        Input::Command { tagged, .. } => match &tagged.command {
+            Command::Noop => Some(&tagged.tag),
+            _ => None,
+        },
+        _ => None,
+    }
+}
+
+/// What a NOOP with this tag comes to whose session has nothing to be told: its end alone, without a look at the replica.
+fn noop_at_rest(alloc: Global, session: &Session, tag: &Octets) -> Result<Prepared, AllocError>
+    ensures { IfOk result (λ prepared. prepared ≡ noop_at_rest session.now tag.now) }
+{
+    let answers = Answers::new(completed(alloc, tag, None, CommandWord::Noop)?)?;
+    let silent = Silents::new(Vec::new(alloc))?;
+    let copies = Issued::new(Vec::new(alloc))?;
+    Ok(Prepared {
+        answered: Answered {
+            answers,
+            silent,
+            going: Going {
+                onward: Onward::Stays { change: None },
+                condstore: session.condstore,
+                idling: None,
+            },
+        },
+        ops: ReadyOps::new(Vec::new(alloc)),
+        copies,
+        news: News::none(alloc),
+    })
+}
+
+/// The same of any input.
+fn worked_out(
+    alloc: Global,
+    replica: &mut Replica,
+    session: &mut Session,
+    feed: &Feed,
+    input: &Input,
+) -> Result<Prepared, Refusal>
+    requires noted { (view : Seen) → view_of session.old.state ≡ Some view → IsNotedFor replica.old.start replica.old.applied feed.now.pending view }
+    ensures session { session.new ≡ session.old }
+    ensures start { replica.new.start ≡ replica.old.start }
+    ensures applied { replica.new.applied ≡ replica.old.applied }
+    ensures held { replica.new.held ≡ replica.old.held }
+    ensures room { IfOk result (λ p. (p.ops ≡ [] → ⊥) → HasRoomFor replica.new.applied replica.new.room p.ops) }
     ensures issued { IfOk result (λ p. AreIssued id_of clock_of replica.old.applied p.ops) }
     ensures news { IfOk result (λ p. IsNews replica.old.start replica.old.applied (replica.old.applied ++ p.ops) p.news) }
     ensures can { IfOk result (λ p. CanGo replica.old.start (replica.old.applied ++ p.ops) session.old.state p.answered.going.onward) }

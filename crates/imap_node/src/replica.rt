@@ -235,6 +235,14 @@ impl Replica {
         self.charts_now().uidnext(name)
     }
 
+    /// Both, as `uidvalidity` and `uidnext` tell them. Takes no memory.
+    pub fn numbers(&self, name: &Name) -> (Option<u32>, u32)
+        ensures uidvalidity { result.0 ≡ uidvalidity_of self.now.start name.now self.now.applied }
+        ensures uidnext { result.1 ≡ uidnext_of self.now.start name.now self.now.applied }
+    {
+        self.charts_now().numbers(name)
+    }
+
     /// The UIDs of the mailbox's messages that these operations change or expunge, applied next; `Err` where there is no memory for them.
     pub fn touched(
         &self,
@@ -253,6 +261,19 @@ impl Replica {
         ensures { IfOk result (λ rows. rows ≡ listing self.now.start name.now self.now.applied) }
     {
         self.charts_now().rows(alloc, self.folders_now(), name)
+    }
+
+    /// The mailbox's UIDVALIDITY and its listing, as `uidvalidity` and `rows` tell them; `Err` where there is no memory for it.
+    pub fn numbered_rows(
+        &self,
+        alloc: Global,
+        name: &Name,
+    ) -> Result<(Option<u32>, Rows<'_>), AllocError>
+        ensures uidvalidity { IfOk result (λ numbered. numbered.0 ≡ uidvalidity_of self.now.start name.now self.now.applied) }
+        ensures rows { IfOk result (λ numbered. numbered.1 ≡ listing self.now.start name.now self.now.applied) }
+    {
+        self.charts_now()
+            .numbered_rows(alloc, self.folders_now(), name)
     }
 
     /// The UIDVALIDITY that the mailbox has behind these operations.
@@ -281,6 +302,9 @@ impl Replica {
         requires { IsReady self.now ops.now }
         ensures { result ≡ highest_modseq_of name.now (self.now.applied ++ ops.now) }
     {
+        if ops.is_empty() {
+            return self.charts_now().highest(name);
+        }
         self.charts_now()
             .highest_after(self.folders_now(), name, ops)
     }

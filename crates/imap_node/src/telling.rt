@@ -204,8 +204,8 @@ fn landing_of<'a>(
 fn rows_before<'a>(alloc: Global, replica: &'a Replica, view: &View) -> Result<Rows<'a>, AllocError>
     ensures { IfOk result (λ rows. rows ≡ rows_for replica.now.start replica.now.applied view.now) }
 {
-    let rows = replica.rows(alloc, view.name())?;
-    Ok(view.rows_under(alloc, replica.uidvalidity(view.name()), rows))
+    let (uidvalidity, rows) = replica.numbered_rows(alloc, view.name())?;
+    Ok(view.rows_under(alloc, uidvalidity, rows))
 }
 
 /// The UIDVALIDITY of a mailbox that is there behind these operations.

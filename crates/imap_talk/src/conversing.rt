@@ -21,7 +21,7 @@ use std::alloc::Global;
 use std::sync::Wait;
 
 /// How many octets are read at once.
-const PIECE: usize = 16_384;
+const PIECE: usize = 65_536;
 
 /// What a conversation keeps from one piece of what is read to the next.
 #[derive(Drop)]

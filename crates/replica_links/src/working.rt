@@ -9,7 +9,11 @@ use crossbeam_channel::Receiver;
 use replica_lock::Gate;
 use std::rt::Clock;
 use std::sync::Wait;
+use std::thread;
 use std::time::{Duration, Instant};
+
+/// How long a worker rests behind a letter where no other lies there, in microseconds. Whoever sends meanwhile needn't wake it, which takes longer than to send.
+const PAUSE: u64 = 250;
 
 /// Where a replica's letters come, and whom it asks of its own accord for what it lacks.
 #[derive(Drop)]
@@ -50,6 +54,13 @@ impl Inbox<'_> {
             Ok(letter) => Next::Letter(letter),
             Err(why) if why.is_timeout() => Next::Due,
             Err(_) => Next::Over,
+        }
+    }
+
+    /// Rests where no letter lies there, so that letters that come close together wake the worker once.
+    fn pause<R: Clock>(&self, rt: &R) {
+        if self.letters.is_empty() {
+            thread::sleep(rt, Duration::from_micros(PAUSE));
         }
     }
 
@@ -120,7 +131,11 @@ fn turn<R: Wait + Clock, T: Taker, G: Gate, P: Post>(
         Next::Letter(letter) => {
             pace.letters = pace.letters.saturating_add(1);
             gate.pass(pace.letters);
-            answer(taker, post, letter)
+            let goes_on = answer(taker, post, letter);
+            if goes_on {
+                inbox.pause(rt);
+            }
+            goes_on
         }
         Next::Due => {
             ask_all(taker, post, inbox.peers);

@@ -1,14 +1,29 @@
-use Rattle.std.proofs.Common.{◌≡◌, inr, List, ◌++◌, Result, Ok, Err, refl, sym, ap, ◌∙◌, subst}
+use Rattle.std.proofs.Common.{◌≡◌, inr, List, [], ◌++◌, Result, Ok, Err, length, refl, sym, ap, ◌∙◌, subst}
+use Rattle.std.proofs.lemmas.Bool.{eqb-true}
+use Rattle.std.proofs.lemmas.List.{nil_from_length}
 use Rattle.causal_inbox.specs.declared.answers.IssueFault.{IssueFault}
 use Rattle.crdt_ops.specs.declared.op.Op.{Op as Operation}
 use Rattle.imap_node.specs.Operations.{CanFollow}
-use Rattle.imap_node.proofs.NextLemmas.{next_applied}
+use Rattle.imap_node.proofs.NextLemmas.{next_applied, no_cut}
 use Rattle.uid_projection.specs.declared.start.Start.{Start}
 use Rattle.uid_projection.specs.Applied.{IsApplied}
 use Rattle.imap_node.proofs.issuing.make_room.Goals as goal
 
 fine_or_not : {E T X : Type 0} (r : Result T E) (t : T) (e : E) → r ≡ Ok t → r ≡ Err e → X
 fine_or_not {E} {T} {X} r t e a b = let k : ◌≡◌ {A = Result T E} (Ok t) (Err e) = sym a ∙ b in absurd cc
+
+pub returns-then-is_empty-clause-ready : goal.returns-then-is_empty-clause-ready
+returns-then-is_empty-clause-ready c =
+    let old = c.args.replica.now in
+    let ops = c.args.ops.now in
+    let none : ops ≡ [] = nil_from_length ops (eqb-true (length ops) 0 (sym c.is_empty.ensures ∙ c.if-is_empty.true)) in
+    record {
+      follow = record {
+        causal = next_applied old.start.replica old.applied c.requires.next.0 ops c.applied-list.ensures.sound c.applied-list.ensures.lawful.causal c.requires.sound c.requires.next.1;
+        lasts = λ x. no_cut x.0 x.1 x.2 (sym none ∙ x.3);
+      };
+      room = λ some. absurd (some none);
+    }
 
 pub returns-in-Ok-clause-ready : goal.returns-in-Ok-clause-ready
 returns-in-Ok-clause-ready c =
@@ -21,7 +36,7 @@ returns-in-Ok-clause-ready c =
     } in
     record {
       follow = subst (λ (s : Start). CanFollow s c.ready.new.self.applied ops) (sym c.ready.ensures.start) (subst (λ (os : List Operation). CanFollow old.start os ops) (sym c.ready.ensures.applied) follow);
-      room = (c.in-Ok.ensures {u = tt}).room;
+      room = λ _. (c.in-Ok.ensures {u = tt}).room;
     }
 
 pub returns-in-Err-Exhausted-clause-err : goal.returns-in-Err-Exhausted-clause-err

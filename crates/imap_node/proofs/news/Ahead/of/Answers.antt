@@ -10,7 +10,7 @@ returns c =
     let before = c.args.replica.now.applied in
     record {
       name_is = c.in_ok-copy.ensures {u = tt};
-      uidvalidity = c.uidvalidity.ensures;
-      uidnext = c.uidnext.ensures;
-      stay = λ a e. subst (λ (n : ℕ). StayBut c.in_ok-touched.field-0.items n (listing start name before) (listing start name (before ++ c.args.ops.now))) (sym c.uidnext.ensures) (c.in_ok-touched.ensures {u = tt} a e);
+      uidvalidity = c.numbers-uidvalidity.ensures.uidvalidity;
+      uidnext = c.numbers-uidvalidity.ensures.uidnext;
+      stay = λ a e. subst (λ (n : ℕ). StayBut c.in_ok-touched.field-0.items n (listing start name before) (listing start name (before ++ c.args.ops.now))) (sym c.numbers-uidvalidity.ensures.uidnext) (c.in_ok-touched.ensures {u = tt} a e);
     }
