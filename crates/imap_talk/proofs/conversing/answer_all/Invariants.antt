@@ -9,4 +9,4 @@ invariant-loop g l =
     × (l.talk.framer.limits ≡ record { line = 8192; literals = 1048576 })
     × (g.S.Source.failures l.source ≡ g.S.Source.failures l.initial.source)
     × (g.K.Sink.failures l.sink ≡ g.K.Sink.failures l.initial.sink)
-    × (length l.piece ≡ 16384)
+    × (length l.piece ≡ 65536)
