@@ -57,9 +57,9 @@ impl Inbox<'_> {
         }
     }
 
-    /// Rests where no letter lies there, so that letters that come close together wake the worker once.
-    fn pause<R: Clock>(&self, rt: &R) {
-        if self.letters.is_empty() {
+    /// Rests where it goes on and no letter lies there, so that letters that come close together wake the worker once.
+    fn pause<R: Clock>(&self, rt: &R, goes_on: bool) {
+        if goes_on && self.letters.is_empty() {
             thread::sleep(rt, Duration::from_micros(PAUSE));
         }
     }
@@ -132,9 +132,7 @@ fn turn<R: Wait + Clock, T: Taker, G: Gate, P: Post>(
             pace.letters = pace.letters.saturating_add(1);
             gate.pass(pace.letters);
             let goes_on = answer(taker, post, letter);
-            if goes_on {
-                inbox.pause(rt);
-            }
+            inbox.pause(rt, goes_on);
             goes_on
         }
         Next::Due => {
