@@ -17,7 +17,9 @@ use crate::telling::{Telling, entry_at, gone_code};
 use crate::versions::old_ids;
 use crdt_ops::Kind;
 use imap_answers::{Answer, Code, Refusal};
-use imap_query::{FetchMode, Shown, fetch, fetch_unchanged, is_kept, is_marked, set_seen};
+use imap_query::{
+    FetchMode, Shown, fetch, fetch_unchanged, is_kept, is_marked, make_room, set_seen,
+};
 use imap_syntax::FetchItem;
 use imap_types::{Flags, Versions};
 use mail_listing::Rows;
@@ -175,10 +177,11 @@ fn push_shown(view: &Entries, number: u32, shown: &mut Vec<Shown>) -> Result<(),
     ensures { OnOk result (shown.new.items ≡ shown.old.items ++ shown_at number (entry_at view.now.items number)) }
 {
     if let Some(entry) = entry_at(view, number) {
-        shown.push(Shown {
+        make_room(shown)?;
+        shown.push_reserved(Shown {
             number,
             uid: entry.uid,
-        })?;
+        });
     }
     Ok(())
 }

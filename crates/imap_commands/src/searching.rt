@@ -107,10 +107,10 @@ fn all_shown(alloc: Global, view: &Entries) -> Result<Vec<Shown>, AllocError>
     let mut number = 0;
     for entry in view.iter_from(0) {
         number += 1;
-        shown.push(Shown {
+        shown.push_reserved(Shown {
             number,
             uid: entry.uid,
-        })?;
+        });
     }
     Ok(shown)
 }

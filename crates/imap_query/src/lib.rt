@@ -21,5 +21,6 @@ pub use listing::{ListEntry, list, one_list};
 pub use mailbox_status::{Marks, status};
 pub use naming::{ListMode, list_names};
 pub use pattern::matches;
+pub use room::make_room;
 pub use searching::{Hit, search};
 pub use shown::Shown;

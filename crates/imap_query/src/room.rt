@@ -4,9 +4,9 @@ ghost use Rattle.std.specs.Prelude.{◌≡◌, ◌<◌, vec_capacity, vec_len, O
 
 use std::alloc::AllocError;
 
-/// Room for one more; `Err` where there is no memory for it. The items stay.
+/// Room for one more behind the items, which stay; `Err` where there is no memory for it. Where there is room already, it costs no call.
 #[inline(always)]
-pub(crate) fn make_room<T>(items: &mut Vec<T>) -> Result<(), AllocError>
+pub fn make_room<T>(items: &mut Vec<T>) -> Result<(), AllocError>
     ensures items { items.new.items ≡ items.old.items }
     ensures room { OnOk result (vec_len items.new < vec_capacity items.new) }
 {
