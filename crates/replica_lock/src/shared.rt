@@ -85,7 +85,7 @@ impl<'a, L: Ledger> Turn<'a, L> {
         };
         match self.call(alloc, pass, command) {
             Ok(last) => {
-                drop(last);
+                pass.keep(last);
                 Ok(())
             }
             Err(fault) => Err(fault),
@@ -135,10 +135,10 @@ impl<L: Ledger> Shared<L> {
         if let Some(session) = roused {
             self.bells.of(session).notify_all();
         }
-        // What came of the call before is let go only here, where the lock is given back: it may be long.
+        // What came of the call before is let go no sooner than here, where the lock is given back: it may be long.
         match result {
             Ok(last) => {
-                drop(last);
+                pass.keep(last);
                 Ok(())
             }
             Err(fault) => Err(fault),
