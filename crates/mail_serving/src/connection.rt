@@ -9,6 +9,7 @@ use crate::house::House;
 use crate::outlet::Outlet;
 use crate::reading::Reader;
 use crate::session::SessionPort;
+use crate::socket::{SocketReader, SocketWriter};
 use imap_lex::Limits;
 use imap_talk::{Ended, Sink, Source, Wire, converse};
 use log::{Log, info};
@@ -114,8 +115,9 @@ fn talk<L: Ledger, R: Wait + Clock, G: Gate>(
     line: &Line<'_, L>,
 ) -> Ended {
     let mut port = SessionPort::new(rt, line.desk, line.pass, line.outlet, gate);
-    let mut source = Reader::new(rt, line.outlet, line.stream);
-    let mut sink = Wire::new(line.stream);
+    let device = SocketReader::new(rt, line.stream);
+    let mut source = Reader::new(rt, line.outlet, line.pass, device);
+    let mut sink = Wire::new(SocketWriter::new(line.stream));
     let ended = talk_over(rt, alloc, &mut source, &mut sink, &mut port);
     drop(port);
     line.outlet.end(rt);
@@ -168,6 +170,7 @@ fn is_gone(ended: Ended) -> bool {
 /// Tells the client that no more comes, and drops what it still sends, up to 16 MiB and until it pauses for a second: a connection that is closed
 /// while something is unread is reset, which may take the last answers from the client (RFC 9293, section 3.6.1).
 fn take_leave(stream: &TcpStream) {
+    let _ = stream.set_nonblocking(false);
     let _ = stream.shutdown(Shutdown::Write);
     let _ = stream.set_read_timeout(Some(Duration::from_secs(1)));
     let mut piece = [0u8; 4_096];

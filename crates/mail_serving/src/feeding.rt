@@ -7,6 +7,7 @@ ghost use Rattle.imap_answers.specs.Printed.{printed as printed_answer};
 ghost use Rattle.mail_serving.specs.Calls.{text_told};
 
 use crate::outlet::Outlet;
+use crate::socket::SocketWriter;
 use imap_answers::Answer;
 use imap_node::Reply;
 use imap_print::print;
@@ -85,8 +86,7 @@ fn tell<L: Ledger, R: Wait>(
 }
 
 fn write_all(stream: &TcpStream, text: &[u8]) -> bool {
-    let mut writer = stream;
-    text.is_empty() || writer.write_all(text).is_ok()
+    text.is_empty() || SocketWriter::new(stream).write_all(text).is_ok()
 }
 
 /// The text of a poll's answers, none where it is refused; `None` where the answers can't be told.

@@ -11,6 +11,7 @@ mod program;
 mod reading;
 mod serving;
 mod session;
+mod socket;
 mod station;
 mod totals;
 

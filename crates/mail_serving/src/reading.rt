@@ -4,31 +4,40 @@ ghost use Rattle.std.specs.Prelude.{◌≡◌, None};
 
 use crate::outlet::Outlet;
 use imap_talk::{Source, Wire};
+use replica_lock::Pass;
 use std::io::Read;
-use std::sync::Wait;
+use std::sync::ledger::Ledger;
+use std::sync::{Mutex, Wait};
 
-/// A reader that tells when it waits.
+/// A reader that tells when it waits. What its session's pass keeps of earlier calls is let go then, while the client is at work.
 #[derive(Drop)]
-pub struct Reader<'a, T, R: Wait> {
+pub struct Reader<'a, T, L: Ledger, R: Wait> {
     rt: &'a R,
     outlet: &'a Outlet,
+    pass: &'a Mutex<Pass<L>>,
     wire: Wire<T>,
 }
 
-impl<'a, T, R: Wait> Reader<'a, T, R> {
-    /// Octets from this device.
-    pub fn new(rt: &'a R, outlet: &'a Outlet, device: T) -> Reader<'a, T, R>
+impl<'a, T, L: Ledger, R: Wait> Reader<'a, T, L, R> {
+    /// Octets from this device, for the session of this pass.
+    pub fn new(
+        rt: &'a R,
+        outlet: &'a Outlet,
+        pass: &'a Mutex<Pass<L>>,
+        device: T,
+    ) -> Reader<'a, T, L, R>
         ensures { result.wire.failed ≡ 0 }
     {
         Reader {
             rt,
             outlet,
+            pass,
             wire: Wire::new(device),
         }
     }
 }
 
-impl<'a, T: Read, R: Wait> Source for Reader<'a, T, R> {
+impl<'a, T: Read, L: Ledger, R: Wait> Source for Reader<'a, T, L, R> {
     ghost left = { λ r. None };
 
     ghost failures = { λ r. r.wire.failed };
@@ -36,6 +45,7 @@ impl<'a, T: Read, R: Wait> Source for Reader<'a, T, R> {
     ghost is_ended = { λ r. r.wire.ended };
 
     fn read(&mut self, piece: &mut [u8]) -> Option<usize> {
+        self.pass.lock(self.rt).let_go();
         self.outlet.set_reads(self.rt, true);
         let count = self.wire.read(piece);
         self.outlet.set_reads(self.rt, false);
