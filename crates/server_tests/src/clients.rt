@@ -59,6 +59,44 @@ impl Client {
         }
     }
 
+    /// Says something, and waits for nothing. One that wasn't told something before says no more.
+    pub fn ask(&mut self, said: &[u8]) {
+        if self.is_served {
+            self.is_served = self.send(said).is_ok();
+        }
+    }
+
+    /// Forgets all that it was told.
+    pub fn forget(&mut self) {
+        self.told.clear();
+    }
+
+    /// Waits until it was told so many octets more, and forgets them. One that wasn't told something before waits no more.
+    pub fn skip(&mut self, count: usize) {
+        if self.is_served {
+            self.is_served = matches!(self.pass_over(count), Ok(true));
+        }
+    }
+
+    /// Reads so many octets, at most 4,096 at once; false where the connection ends first.
+    fn pass_over(&self, count: usize) -> io::Result<bool> {
+        let mut piece = [0u8; 4_096];
+        let mut reader = &self.stream;
+        let mut left = count;
+        for _ in 0..10_000_000u32 {
+            if left == 0 {
+                return Ok(true);
+            }
+            let most = left.min(4_096);
+            let read = reader.read(&mut piece[..most])?;
+            if read == 0 {
+                return Ok(false);
+            }
+            left = left.saturating_sub(read);
+        }
+        Ok(false)
+    }
+
     fn send(&self, said: &[u8]) -> io::Result<()> {
         let mut writer = &self.stream;
         writer.write_all(said)

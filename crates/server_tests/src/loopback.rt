@@ -1,4 +1,4 @@
-//! Servers over sockets: what one client does at one replica, another sees at another; replicas that join; who is let in; and the server's clock.
+//! Servers over sockets: what one client does at one replica, another sees at another; replicas that join; who is let in; the server's clock; and a client that reads late.
 
 use crate::visits::Visit;
 use log::Log;
@@ -104,4 +104,10 @@ fn nobody_is_let_in_without_user_and_password(rt: HostRuntime) {
 fn messages_come_by_the_clock(rt: HostRuntime) {
     let line = "imap_server --preauth --stop-after 1 1=127.0.0.1:0";
     assert_eq!(rt; served(&rt, rt.alloc(), line, Visit::Clock), Some(true));
+}
+
+#[test]
+fn a_quick_client_that_reads_late_is_told_all(rt: HostRuntime) {
+    let line = "imap_server --preauth --stop-after 1 1=127.0.0.1:0";
+    assert_eq!(rt; served(&rt, rt.alloc(), line, Visit::Late), Some(true));
 }

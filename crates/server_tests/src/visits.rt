@@ -24,7 +24,18 @@ pub enum Visit {
     Password,
     /// A client that asks when its message came.
     Clock,
+    /// A client that is quick, and then reads late.
+    Late,
 }
+
+/// How long the message is for which a client asks that reads late, in octets.
+const LONG: usize = 200_000;
+
+/// What it is told each time: the message, with the lines around it.
+const LONG_ANSWER: usize = LONG + 53;
+
+/// So often it asks, for more than its connection holds.
+const LATE_TIMES: usize = 60;
 
 impl Visit {
     /// Whether the clients were told what they should be; `None` where one can't connect.
@@ -40,6 +51,7 @@ impl Visit {
             Visit::Alone => visit_alone(rt, alloc, house),
             Visit::Password => visit_password(rt, alloc, house),
             Visit::Clock => visit_clock(rt, alloc, house),
+            Visit::Late => visit_late(rt, alloc, house),
         }
     }
 }
@@ -263,6 +275,45 @@ fn visit_clock<R: Wait + Clock + Net<Listener = TcpListener, Stream = TcpStream>
     client.say(b"c FETCH 1 INTERNALDATE\r\n", b"c OK FETCH completed\r\n");
     leave(&mut client);
     Some(client.is_served() && is_dated(alloc, &client, before?, after?))
+}
+
+/// What a client does that sends one command behind another, then asks for more than its connection holds and reads late; whether it was told all of it.
+fn visit_late<R: Wait + Clock + Net<Listener = TcpListener, Stream = TcpStream>>(
+    rt: &R,
+    alloc: Global,
+    house: &House<'_>,
+) -> Option<bool> {
+    let mut client = client_at(rt, alloc, house, 0)?;
+    select(&mut client);
+    let long = long_append(alloc)?;
+    client.say(&long, b"b OK [APPENDUID 1 1] APPEND completed\r\n");
+    hurry(&mut client);
+    for _ in 0..LATE_TIMES {
+        client.ask(b"c FETCH 1 BODY.PEEK[]\r\n");
+    }
+    thread::sleep(rt, Duration::from_millis(500));
+    client.skip(LATE_TIMES * LONG_ANSWER);
+    hurry(&mut client);
+    leave(&mut client);
+    Some(client.is_served())
+}
+
+/// An APPEND of a long message.
+fn long_append(alloc: Global) -> Option<Vec<u8>> {
+    let mut said = Vec::new(alloc);
+    said.extend_from_slice(b"b APPEND INBOX {200000+}\r\n")
+        .ok()?;
+    said.resize(said.len().saturating_add(LONG), 120).ok()?;
+    said.extend_from_slice(b"\r\n").ok()?;
+    Some(said)
+}
+
+/// Sends one NOOP behind another.
+fn hurry(client: &mut Client) {
+    for _ in 0..200u32 {
+        client.forget();
+        client.say(b"n NOOP\r\n", b"n OK NOOP completed\r\n");
+    }
 }
 
 /// The seconds of the clock, from 1970 on.
