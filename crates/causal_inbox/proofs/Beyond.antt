@@ -5,8 +5,8 @@ use Rattle.tags_clocks.proofs.ClockLemmas.{count_of-below}
 use Rattle.tags_clocks.specs.declared.id.OpId.{OpId}
 use Rattle.tags_clocks.specs.Clock.{count_of, IsAscendingFrom, IsClock, IsCause}
 use Rattle.merge_laws.specs.Orders.{IsIn, HasId}
-use Rattle.causal_inbox.specs.Seen.{IsClockOf}
-use Rattle.causal_inbox.specs.Filing.{IsAwaited, IsLeastMissing, first_beyond}
+use Rattle.causal_inbox.specs.Inbox.{IsClockOf}
+use Rattle.causal_inbox.specs.CauseIndex.{IsAwaited, IsLeastMissing, first_beyond}
 
 -- no entry counts more
 pub none_beyond : (now es : List (ℕ × ℕ)) → first_beyond now es ≡ None → (r : ℕ) → count_of es r ≤ count_of now r

@@ -10,8 +10,8 @@ use Rattle.tags_clocks.specs.Clock.{IsCause, count_of}
 use Rattle.merge_laws.specs.Orders.{IsIn, HasId, AreSound, IsCausal}
 use Rattle.merge_laws.proofs.Causal.{causal_front}
 use Rattle.merge_laws.proofs.Lists.{id_in_front, id_of_element, in_front, split_at}
-use Rattle.causal_inbox.specs.Kept.{LacksNext, numbers}
-use Rattle.causal_inbox.specs.Seen.{IsClockOf, is_cause, uncovered}
+use Rattle.causal_inbox.specs.InboxState.{LacksNext, id_numbers}
+use Rattle.causal_inbox.specs.Inbox.{IsClockOf, is_cause, uncovered_ops}
 use Rattle.causal_inbox.proofs.Numbered.{any_in, is_pair, number_in, pair_is}
 use Rattle.causal_inbox.proofs.Ordered.{in_take_at}
 use Rattle.causal_inbox.proofs.Places.{all_more}
@@ -78,20 +78,20 @@ left_out true x xs e = refl
 left_out false x xs e = absurd cc
 
 module _ {O : Type 0} (id : O → OpId) where
-  none_uncovered : (clock : List (ℕ × ℕ)) (os : List O) → ((o : O) → IsIn o os → IsCause clock (id o)) → uncovered id clock os ≡ []
+  none_uncovered : (clock : List (ℕ × ℕ)) (os : List O) → ((o : O) → IsIn o os → IsCause clock (id o)) → uncovered_ops id clock os ≡ []
   none_uncovered clock [] h = refl
   none_uncovered clock (o ∷ os) h =
-      left_out (is_cause clock (id o)) o (uncovered id clock os) (cause_test clock (id o) (h o (inl refl)))
+      left_out (is_cause clock (id o)) o (uncovered_ops id clock os) (cause_test clock (id o) (h o (inl refl)))
       ∙ none_uncovered clock os (λ p t. h p (inr t))
 
   -- what stands behind a front that the clock covers
-  pub rest_uncovered : (clock : List (ℕ × ℕ)) (os view : List O) (at : ℕ) → view ≡ os → uncovered id clock (take at os) ≡ [] → uncovered id clock (take (length view - at) (drop at view)) ≡ uncovered id clock os
+  pub rest_uncovered : (clock : List (ℕ × ℕ)) (os view : List O) (at : ℕ) → view ≡ os → uncovered_ops id clock (take at os) ≡ [] → uncovered_ops id clock (take (length view - at) (drop at view)) ≡ uncovered_ops id clock os
   rest_uncovered clock os view at is none =
       let test = λ (o : O). not (is_cause clock (id o)) in
-      let parts : uncovered id clock os ≡ uncovered id clock (take at os) ++ uncovered id clock (drop at os) =
-      ap (λ (xs : List O). uncovered id clock xs) (sym (take-append-drop at os)) ∙ filter-append test (take at os) (drop at os) in
-      let behind : uncovered id clock os ≡ uncovered id clock (drop at os) = parts ∙ ap (λ (xs : List O). xs ++ uncovered id clock (drop at os)) none in
-      ap (λ (xs : List O). uncovered id clock xs) (take_rest view at ∙ ap (drop at) is) ∙ sym behind
+      let parts : uncovered_ops id clock os ≡ uncovered_ops id clock (take at os) ++ uncovered_ops id clock (drop at os) =
+      ap (λ (xs : List O). uncovered_ops id clock xs) (sym (take-append-drop at os)) ∙ filter-append test (take at os) (drop at os) in
+      let behind : uncovered_ops id clock os ≡ uncovered_ops id clock (drop at os) = parts ∙ ap (λ (xs : List O). xs ++ uncovered_ops id clock (drop at os)) none in
+      ap (λ (xs : List O). uncovered_ops id clock xs) (take_rest view at ∙ ap (drop at) is) ∙ sym behind
 
 module _ {O : Type 0} (id : O → OpId) (clock : O → List (ℕ × ℕ)) where
   -- a replica's numbers stand in a causal list without a gap: with an operation it has all earlier ones of that replica
@@ -109,7 +109,7 @@ module _ {O : Type 0} (id : O → OpId) (clock : O → List (ℕ × ℕ)) where
       ]
 
 module _ {O : Type 0} (id : O → OpId) (clock : O → List (ℕ × ℕ)) (is_sound : O → Type 0) (next : (o : O) → is_sound o → count_of (clock o) (id o).replica + 1 ≡ (id o).number) where
-  one_covered : (os : List O) (keys now other : List (ℕ × ℕ)) (first : ℕ) (o : O) → IsCausal id clock os → AreSound is_sound os → IsClockOf id os now → keys ≡ map (numbers id) os → ((e : ℕ × ℕ) → IsIn e now → LacksNext other (take first keys) e) → IsIn o (take first os) → IsCause other (id o)
+  one_covered : (os : List O) (keys now other : List (ℕ × ℕ)) (first : ℕ) (o : O) → IsCausal id clock os → AreSound is_sound os → IsClockOf id os now → keys ≡ map (id_numbers id) os → ((e : ℕ × ℕ) → IsIn e now → LacksNext other (take first keys) e) → IsIn o (take first os) → IsCause other (id o)
   one_covered os keys now other first o causal sound counts is lacks h =
       let whole : IsIn o os = in_take o first os h in
       let number : count_of (clock o) (id o).replica + 1 ≡ (id o).number = next o (sound o whole) in
@@ -129,11 +129,11 @@ module _ {O : Type 0} (id : O → OpId) (clock : O → List (ℕ × ℕ)) (is_so
                   let front : IsCausal id clock (take first os) = causal_front id clock (take first os) (drop first os) (subst (IsCausal id clock) (sym (take-append-drop first os)) causal) in
                   let i : OpId = record { replica = w.0.0; number = count_of other w.0.0 + 1 } in
                   let there : HasId id (take first os) i = has_up_to id clock (take first os) o i front number h w.2 one most in
-                  none (subst (IsIn (w.0.0, count_of other w.0.0 + 1)) (sym (ap (take first) is ∙ take-map (numbers id) first os)) (number_in id (take first os) i there))
+                  none (subst (IsIn (w.0.0, count_of other w.0.0 + 1)) (sym (ap (take first) is ∙ take-map (id_numbers id) first os)) (number_in id (take first os) i there))
             ])
         | inr m ↦ (positive, m)
       ]
 
   -- where none of the replicas' first operations that a clock doesn't cover stands in front, it covers the front
-  pub front_covered : (os : List O) (keys now other : List (ℕ × ℕ)) (first : ℕ) → IsCausal id clock os → AreSound is_sound os → IsClockOf id os now → keys ≡ map (numbers id) os → ((e : ℕ × ℕ) → IsIn e now → LacksNext other (take first keys) e) → uncovered id other (take first os) ≡ []
+  pub front_covered : (os : List O) (keys now other : List (ℕ × ℕ)) (first : ℕ) → IsCausal id clock os → AreSound is_sound os → IsClockOf id os now → keys ≡ map (id_numbers id) os → ((e : ℕ × ℕ) → IsIn e now → LacksNext other (take first keys) e) → uncovered_ops id other (take first os) ≡ []
   front_covered os keys now other first causal sound counts is lacks = none_uncovered id other (take first os) (λ o h. one_covered os keys now other first o causal sound counts is lacks h)

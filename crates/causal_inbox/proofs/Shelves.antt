@@ -7,9 +7,9 @@ use Rattle.tags_clocks.specs.Clock.{IsCause, count_of}
 use Rattle.merge_laws.specs.Orders.{IsIn, HasId, HaveSameElements, IsRipe}
 use Rattle.merge_laws.proofs.Lists.{id_of_element, element_of_id}
 use Rattle.tree_list.specs.Searches.{IsPartitioned, IsPoint}
-use Rattle.causal_inbox.specs.declared.filing.Filed.{Filed}
-use Rattle.causal_inbox.specs.Seen.{IsLess, AreAscending, IsClockOf}
-use Rattle.causal_inbox.specs.Filing.{AreApart, AreFiled, AreOrdered, IsAwaited, IsCauseLess, IsFile, IsFiledBefore, IsFiledUnder, IsMoved, IsUnderOneOf}
+use Rattle.causal_inbox.specs.declared.cause_index.CauseEntry.{CauseEntry}
+use Rattle.causal_inbox.specs.Inbox.{IsLess, AreAscending, IsClockOf}
+use Rattle.causal_inbox.specs.CauseIndex.{AreApart, AreIndexed, AreOrdered, IsAwaited, IsCauseLess, IsCauseIndex, IsIndexedBefore, IsIndexedUnder, IsReindexed, IsUnderOneOf}
 use Rattle.causal_inbox.proofs.Ascending.{ascending_determines, in_at, less_irreflexive, less_trans, inserted_ascending, removed_ascending, removed_others}
 use Rattle.causal_inbox.proofs.Ordered.{bool_of, parted, point_before, point_not, found_at, first_least, in_place, inserted_same, removed_elements, removed_ordered}
 use Rattle.causal_inbox.proofs.FileOrder.{before_irr, id_decided, ids_ordered, less_decided}
@@ -45,47 +45,47 @@ module _ {O : Type 0} (id : O → OpId) where
   none_has i os n found other h = let e = element_of_id id i os h in other e.0 (found e.0 e.1 e.2) e.2
 
   -- the file without an entry
-  pub file_elements : (file : List Filed) (at : ℕ) (f g : Filed) → AreOrdered IsFiledBefore file → slice_get file at ≡ Some f → IsIn g (remove file at) ↔ (IsIn g file × (g ≢ f))
-  file_elements file at f g a e = removed_elements IsFiledBefore before_irr file at f g (slice_get_within file at f e) (sym (get_or_from_slice_get file at f f e)) a
+  pub file_elements : (file : List CauseEntry) (at : ℕ) (f g : CauseEntry) → AreOrdered IsIndexedBefore file → slice_get file at ≡ Some f → IsIn g (remove file at) ↔ (IsIn g file × (g ≢ f))
+  file_elements file at f g a e = removed_elements IsIndexedBefore before_irr file at f g (slice_get_within file at f e) (sym (get_or_from_slice_get file at f f e)) a
 
-  pub file_taken : (held rest : List O) (file : List Filed) (at : ℕ) (f : Filed) (op : O) → IsFile id held file → slice_get file at ≡ Some f → f.id ≡ id op → ((o : O) → IsIn o rest ↔ (IsIn o held × (id o ≢ id op))) → IsFile id rest (remove file at)
+  pub file_taken : (held rest : List O) (file : List CauseEntry) (at : ℕ) (f : CauseEntry) (op : O) → IsCauseIndex id held file → slice_get file at ≡ Some f → f.id ≡ id op → ((o : O) → IsIn o rest ↔ (IsIn o held × (id o ≢ id op))) → IsCauseIndex id rest (remove file at)
   file_taken held rest file at f op is e same others =
-      let elements = λ (g : Filed). file_elements file at f g is.ordered e in
+      let elements = λ (g : CauseEntry). file_elements file at f g is.ordered e in
       let there : IsIn f file = in_of_get file at f e in
       record {
         each = λ o h.
             let k = (others o).0 h in
             let x = is.each o k.0 in
-            (x.0, (elements x.0).1 (x.1, λ q. k.1 (sym x.2 ∙ ap (λ (y : Filed). y.id) q ∙ same)), x.2);
+            (x.0, (elements x.0).1 (x.1, λ q. k.1 (sym x.2 ∙ ap (λ (y : CauseEntry). y.id) q ∙ same)), x.2);
         of = λ g h.
             let k = (elements g).0 h in
             let x = is.of g k.0 in
             (x.0, (others x.0).1 (x.1, λ q. k.1 (is.once g f k.0 there (sym x.2 ∙ q ∙ sym same))), x.2);
         once = λ g i h k q. is.once g i ((elements g).0 h).0 ((elements i).0 k).0 q;
-        ordered = removed_ordered IsFiledBefore file at (slice_get_within file at f e) is.ordered;
+        ordered = removed_ordered IsIndexedBefore file at (slice_get_within file at f e) is.ordered;
       }
 
   -- the file with one entry more
-  pub file_more : (held more : List O) (file : List Filed) (n : ℕ) (e : Filed) (op : O) → IsFile id held file → HaveSameElements more (op ∷ held) → ¬ HasId id held (id op) → e.id ≡ id op → AreOrdered IsFiledBefore (insert file n e) → IsFile id more (insert file n e)
+  pub file_more : (held more : List O) (file : List CauseEntry) (n : ℕ) (e : CauseEntry) (op : O) → IsCauseIndex id held file → HaveSameElements more (op ∷ held) → ¬ HasId id held (id op) → e.id ≡ id op → AreOrdered IsIndexedBefore (insert file n e) → IsCauseIndex id more (insert file n e)
   file_more held more file n e op is same new eid ordered =
       let ins = inserted_same file n e in
-      let never : (g : Filed) → IsIn g file → g.id ≡ id op → ⊥ = λ g h q. let x = is.of g h in new (subst (HasId id held) (x.2 ∙ q) (id_of_element id x.0 held x.1)) in
+      let never : (g : CauseEntry) → IsIn g file → g.id ≡ id op → ⊥ = λ g h q. let x = is.of g h in new (subst (HasId id held) (x.2 ∙ q) (id_of_element id x.0 held x.1)) in
       record {
         each = λ o h. elim ((same o).0 h) [
           | inl q ↦ (e, (ins e).1 (inl refl), eid ∙ ap id q)
           | inr t ↦ let x = is.each o t in (x.0, (ins x.0).1 (inr x.1), x.2)
         ];
         of = λ g h. elim ((ins g).0 h) [
-          | inl q ↦ (op, (same op).1 (inl refl), sym eid ∙ ap (λ (y : Filed). y.id) q)
+          | inl q ↦ (op, (same op).1 (inl refl), sym eid ∙ ap (λ (y : CauseEntry). y.id) q)
           | inr t ↦ let x = is.of g t in (x.0, (same x.0).1 (inr x.1), x.2)
         ];
         once = λ f g h k q. elim ((ins f).0 h) [
           | inl a ↦ elim ((ins g).0 k) [
             | inl b ↦ sym a ∙ b
-            | inr t ↦ absurd (never g t (sym q ∙ ap (λ (y : Filed). y.id) (sym a) ∙ eid))
+            | inr t ↦ absurd (never g t (sym q ∙ ap (λ (y : CauseEntry). y.id) (sym a) ∙ eid))
           ]
           | inr s ↦ elim ((ins g).0 k) [
-            | inl b ↦ absurd (never f s (q ∙ ap (λ (y : Filed). y.id) (sym b) ∙ eid))
+            | inl b ↦ absurd (never f s (q ∙ ap (λ (y : CauseEntry). y.id) (sym b) ∙ eid))
             | inr t ↦ is.once f g s t q
           ]
         ];
@@ -93,12 +93,12 @@ module _ {O : Type 0} (id : O → OpId) where
       }
 
   -- an entry taken out and another of the same operation put in
-  pub new_entry : (held : List O) (file : List Filed) (at : ℕ) (f e : Filed) → IsFile id held file → slice_get file at ≡ Some f → e.id ≡ f.id → ¬ IsIn e (remove file at)
+  pub new_entry : (held : List O) (file : List CauseEntry) (at : ℕ) (f e : CauseEntry) → IsCauseIndex id held file → slice_get file at ≡ Some f → e.id ≡ f.id → ¬ IsIn e (remove file at)
   new_entry held file at f e is at_f same h =
       let k = (file_elements file at f e is.ordered at_f).0 h in
       k.1 (is.once e f k.0 (in_of_get file at f at_f) same)
 
-  pub file_moved : (held : List O) (file : List Filed) (at n : ℕ) (f e : Filed) → AreAscending id held → IsFile id held file → slice_get file at ≡ Some f → e.id ≡ f.id → AreOrdered IsFiledBefore (insert (remove file at) n e) → IsFile id held (insert (remove file at) n e)
+  pub file_moved : (held : List O) (file : List CauseEntry) (at n : ℕ) (f e : CauseEntry) → AreAscending id held → IsCauseIndex id held file → slice_get file at ≡ Some f → e.id ≡ f.id → AreOrdered IsIndexedBefore (insert (remove file at) n e) → IsCauseIndex id held (insert (remove file at) n e)
   file_moved held file at n f e a is at_f same ordered =
       let x = is.of f (in_of_get file at f at_f) in
       let op = x.0 in
@@ -121,16 +121,16 @@ module _ {O : Type 0} (id : O → OpId) where
 
   module _ (clock : O → List (ℕ × ℕ)) where
     -- what is filed of fewer
-    pub filed_taken : (woken : List OpId) (applied held rest : List O) (file fewer : List Filed) → ((g : Filed) → IsIn g fewer → IsIn g file) → ((o : O) → IsIn o rest → IsIn o held) → AreFiled id clock woken applied held file → AreFiled id clock woken applied rest fewer
+    pub filed_taken : (woken : List OpId) (applied held rest : List O) (file fewer : List CauseEntry) → ((g : CauseEntry) → IsIn g fewer → IsIn g file) → ((o : O) → IsIn o rest → IsIn o held) → AreIndexed id clock woken applied held file → AreIndexed id clock woken applied rest fewer
     filed_taken woken applied held rest file fewer f h filed = λ g o i j q. filed g o (f g i) (h o j) q
 
     -- and of one more
-    pub filed_more : (woken : List OpId) (applied held more : List O) (file : List Filed) (n : ℕ) (e : Filed) (op : O) → IsFile id held file → HaveSameElements more (op ∷ held) → ¬ HasId id held (id op) → e.id ≡ id op → IsFiledUnder id clock applied op e.cause → AreFiled id clock woken applied held file → AreFiled id clock woken applied more (insert file n e)
+    pub filed_more : (woken : List OpId) (applied held more : List O) (file : List CauseEntry) (n : ℕ) (e : CauseEntry) (op : O) → IsCauseIndex id held file → HaveSameElements more (op ∷ held) → ¬ HasId id held (id op) → e.id ≡ id op → IsIndexedUnder id clock applied op e.cause → AreIndexed id clock woken applied held file → AreIndexed id clock woken applied more (insert file n e)
     filed_more woken applied held more file n e op is same new eid under filed = λ g o i j q.
         elim ((inserted_same file n e g).0 i) [
           | inl a ↦ elim ((same o).0 j) [
-            | inl b ↦ inl (subst (λ (c : Option OpId). IsFiledUnder id clock applied o c) (ap (λ (y : Filed). y.cause) a) (subst (λ (x : O). IsFiledUnder id clock applied x e.cause) b under))
-            | inr t ↦ absurd (new (subst (HasId id held) (q ∙ ap (λ (y : Filed). y.id) (sym a) ∙ eid) (id_of_element id o held t)))
+            | inl b ↦ inl (subst (λ (c : Option OpId). IsIndexedUnder id clock applied o c) (ap (λ (y : CauseEntry). y.cause) a) (subst (λ (x : O). IsIndexedUnder id clock applied x e.cause) b under))
+            | inr t ↦ absurd (new (subst (HasId id held) (q ∙ ap (λ (y : CauseEntry). y.id) (sym a) ∙ eid) (id_of_element id o held t)))
           ]
           | inr s ↦ elim ((same o).0 j) [
             | inl b ↦ let x = is.of g s in absurd (new (subst (HasId id held) (x.2 ∙ sym q ∙ ap id (sym b)) (id_of_element id x.0 held x.1)))
@@ -139,7 +139,7 @@ module _ {O : Type 0} (id : O → OpId) where
         ]
 
     -- an operation is filed under one cause
-    pub under_one : (applied : List O) (o : O) (c d : Option OpId) → IsFiledUnder id clock applied o c → IsFiledUnder id clock applied o d → c ≡ d
+    pub under_one : (applied : List O) (o : O) (c d : Option OpId) → IsIndexedUnder id clock applied o c → IsIndexedUnder id clock applied o d → c ≡ d
     under_one applied o None None h k = refl
     under_one applied o None (Some i) h k = absurd (k.missing (h.0 i k.cause))
     under_one applied o (Some i) None h k = absurd (h.missing (k.0 i h.cause))
@@ -154,32 +154,32 @@ module _ {O : Type 0} (id : O → OpId) where
     nowhere None h = h
     nowhere (Some i) h = h
 
-    pub filed_is : (applied held : List O) (file : List Filed) → AreFiled id clock [] applied held file → (f : Filed) (o : O) → IsIn f file → IsIn o held → id o ≡ f.id → IsFiledUnder id clock applied o f.cause
+    pub filed_is : (applied held : List O) (file : List CauseEntry) → AreIndexed id clock [] applied held file → (f : CauseEntry) (o : O) → IsIn f file → IsIn o held → id o ≡ f.id → IsIndexedUnder id clock applied o f.cause
     filed_is applied held file filed f o h k e = elim (filed f o h k e) [ inl u ↦ u | inr w ↦ absurd (nowhere f.cause w) ]
 
     -- the entry of a held operation stands in the file
-    pub entry_there : (applied held : List O) (file : List Filed) (op : O) (e : Filed) → IsFile id held file → AreFiled id clock [] applied held file → IsIn op held → e.id ≡ id op → IsFiledUnder id clock applied op e.cause → IsIn e file
+    pub entry_there : (applied held : List O) (file : List CauseEntry) (op : O) (e : CauseEntry) → IsCauseIndex id held file → AreIndexed id clock [] applied held file → IsIn op held → e.id ≡ id op → IsIndexedUnder id clock applied op e.cause → IsIn e file
     entry_there applied held file op e is filed h same under =
         let x = is.each op h in
         let c : x.0.cause ≡ e.cause = under_one applied op x.0.cause e.cause (filed_is applied held file filed x.0 op x.1 h (sym x.2)) under in
         let k : x.0.id ≡ e.id = x.2 ∙ sym same in
-        subst (λ (y : Filed). IsIn y file) (λ t. record { cause = c t; id = k t }) x.1
+        subst (λ (y : CauseEntry). IsIn y file) (λ t. record { cause = c t; id = k t }) x.1
 
     -- the ripe ones stand in front
-    ripe_none : (applied : List O) (o : O) (c : Option OpId) → IsRipe id clock applied o → IsFiledUnder id clock applied o c → c ≡ None
+    ripe_none : (applied : List O) (o : O) (c : Option OpId) → IsRipe id clock applied o → IsIndexedUnder id clock applied o c → c ≡ None
     ripe_none applied o None r u = refl
     ripe_none applied o (Some i) r u = absurd (u.missing (r.0 i u.cause))
 
-    some_cause_first : (f g : Filed) (i : OpId) → f.cause ≡ Some i → g.cause ≡ None → ((f ≡ g) ⊎ IsFiledBefore f g) → ⊥
+    some_cause_first : (f g : CauseEntry) (i : OpId) → f.cause ≡ Some i → g.cause ≡ None → ((f ≡ g) ⊎ IsIndexedBefore f g) → ⊥
     some_cause_first f g i e n h = elim h [
-      | inl q ↦ let k : ◌≡◌ {A = Option OpId} (Some i) None = sym e ∙ ap (λ (y : Filed). y.cause) q ∙ n in absurd cc
+      | inl q ↦ let k : ◌≡◌ {A = Option OpId} (Some i) None = sym e ∙ ap (λ (y : CauseEntry). y.cause) q ∙ n in absurd cc
       | inr b ↦ elim b [
         | inl l ↦ let k : IsCauseLess (Some i) None = subst (λ (c : Option OpId). IsCauseLess c None) e (subst (IsCauseLess f.cause) n l) in k
         | inr p ↦ let k : ◌≡◌ {A = Option OpId} (Some i) None = sym e ∙ p.0 ∙ n in absurd cc
       ]
     ]
 
-    pub none_ripe : (applied held : List O) (file : List Filed) → IsFile id held file → AreFiled id clock [] applied held file → ((f : Filed) → slice_get file 0 ≡ Some f → f.cause ≢ None) → (o : O) → IsIn o held → ¬ IsRipe id clock applied o
+    pub none_ripe : (applied held : List O) (file : List CauseEntry) → IsCauseIndex id held file → AreIndexed id clock [] applied held file → ((f : CauseEntry) → slice_get file 0 ≡ Some f → f.cause ≢ None) → (o : O) → IsIn o held → ¬ IsRipe id clock applied o
     none_ripe applied held file is filed first o h r =
         let x = is.each o h in
         let n : x.0.cause ≡ None = ripe_none applied o x.0.cause r (filed_is applied held file filed x.0 o x.1 h (sym x.2)) in
@@ -189,7 +189,7 @@ module _ {O : Type 0} (id : O → OpId) where
         cause_cases None = inl refl
         cause_cases (Some i) = inr (i, refl)
 
-        at_front : (file : List Filed) → AreOrdered IsFiledBefore file → ((f : Filed) → slice_get file 0 ≡ Some f → f.cause ≢ None) → (g : Filed) → IsIn g file → g.cause ≡ None → ⊥
+        at_front : (file : List CauseEntry) → AreOrdered IsIndexedBefore file → ((f : CauseEntry) → slice_get file 0 ≡ Some f → f.cause ≢ None) → (g : CauseEntry) → IsIn g file → g.cause ≡ None → ⊥
         at_front [] a first g h n = h
         at_front (f ∷ fs) a first g h n =
             elim (cause_cases f.cause) [
@@ -197,14 +197,14 @@ module _ {O : Type 0} (id : O → OpId) where
               | inr p ↦ some_cause_first f g p.0 p.1 n (elim h [ inl q ↦ inl q | inr t ↦ inr (a.0 g t) ])
             ]
 
-    pub least_ripe : (applied held : List O) (file : List Filed) (f : Filed) (o : O) → AreAscending id held → IsFile id held file → AreFiled id clock [] applied held file → slice_get file 0 ≡ Some f → f.cause ≡ None → IsIn o held → id o ≡ f.id → IsRipe id clock applied o × ((p : O) → IsIn p held → IsRipe id clock applied p → ¬ IsLess (id p) (id o))
+    pub least_ripe : (applied held : List O) (file : List CauseEntry) (f : CauseEntry) (o : O) → AreAscending id held → IsCauseIndex id held file → AreIndexed id clock [] applied held file → slice_get file 0 ≡ Some f → f.cause ≡ None → IsIn o held → id o ≡ f.id → IsRipe id clock applied o × ((p : O) → IsIn p held → IsRipe id clock applied p → ¬ IsLess (id p) (id o))
     least_ripe applied held file f o a is filed at none h same = (
-      subst (IsFiledUnder id clock applied o) none (filed_is applied held file filed f o (in_of_get file 0 f at) h same),
+      subst (IsIndexedUnder id clock applied o) none (filed_is applied held file filed f o (in_of_get file 0 f at) h same),
       λ p k r l.
           let x = is.each p k in
           let n : x.0.cause ≡ None = ripe_none applied p x.0.cause r (filed_is applied held file filed x.0 p x.1 k (sym x.2)) in
-          elim (first_least IsFiledBefore file f x.0 (slice_get_within file 0 f at) (sym (get_or_from_slice_get file 0 f f at)) is.ordered x.1) [
-            | inl q ↦ less_irreflexive (id p) (id o) (sym x.2 ∙ ap (λ (y : Filed). y.id) (sym q) ∙ sym same) l
+          elim (first_least IsIndexedBefore file f x.0 (slice_get_within file 0 f at) (sym (get_or_from_slice_get file 0 f f at)) is.ordered x.1) [
+            | inl q ↦ less_irreflexive (id p) (id o) (sym x.2 ∙ ap (λ (y : CauseEntry). y.id) (sym q) ∙ sym same) l
             | inr b ↦ elim b [
               | inl m ↦ let z : IsCauseLess None None = subst (λ (c : Option OpId). IsCauseLess c None) none (subst (IsCauseLess f.cause) n m) in z
               | inr m ↦ less_irreflexive (id o) (id o) refl (less_trans (id o) (id p) (id o) (subst (λ (i : OpId). IsLess i (id p)) (sym same) (subst (IsLess f.id) x.2 m.1)) l)
@@ -212,7 +212,7 @@ module _ {O : Type 0} (id : O → OpId) where
           ],
     )
 
-    pub next_place : (applied held : List O) (file : List Filed) (f : Filed) (r : Option ℕ) → AreAscending id held → IsFile id held file → AreFiled id clock [] applied held file → slice_get file 0 ≡ Some f → f.cause ≡ None → MatchOption r (¬ HasId id held f.id) (λ at. (at < length held) × ((o : O) → o ≡ get_or held at o → id o ≡ f.id)) → MatchOption r ((o : O) → IsIn o held → ¬ IsRipe id clock applied o) (λ at. (at < length held) × ((o : O) → o ≡ get_or held at o → IsRipe id clock applied o) × ((o p : O) → o ≡ get_or held at o → IsIn p held → IsRipe id clock applied p → ¬ IsLess (id p) (id o)))
+    pub next_place : (applied held : List O) (file : List CauseEntry) (f : CauseEntry) (r : Option ℕ) → AreAscending id held → IsCauseIndex id held file → AreIndexed id clock [] applied held file → slice_get file 0 ≡ Some f → f.cause ≡ None → MatchOption r (¬ HasId id held f.id) (λ at. (at < length held) × ((o : O) → o ≡ get_or held at o → id o ≡ f.id)) → MatchOption r ((o : O) → IsIn o held → ¬ IsRipe id clock applied o) (λ at. (at < length held) × ((o : O) → o ≡ get_or held at o → IsRipe id clock applied o) × ((o p : O) → o ≡ get_or held at o → IsIn p held → IsRipe id clock applied p → ¬ IsLess (id p) (id o)))
     next_place applied held file f None a is filed first none m =
         let x = is.of f (in_of_get file 0 f first) in
         absurd (m (subst (HasId id held) x.2 (id_of_element id x.0 held x.1)))
@@ -224,10 +224,10 @@ module _ {O : Type 0} (id : O → OpId) where
 
 module _ {O : Type 0} (id : O → OpId) where
   -- one more held
-  pub not_there : (held : List O) (file : List Filed) (e : Filed) (op : O) → IsFile id held file → ¬ HasId id held (id op) → e.id ≡ id op → ¬ IsIn e file
+  pub not_there : (held : List O) (file : List CauseEntry) (e : CauseEntry) (op : O) → IsCauseIndex id held file → ¬ HasId id held (id op) → e.id ≡ id op → ¬ IsIn e file
   not_there held file e op is new same h = let x = is.of e h in new (subst (HasId id held) (x.2 ∙ same) (id_of_element id x.0 held x.1))
 
-  pub one_more : (held more : List O) (file longer : List Filed) (at to : ℕ) (e : Filed) (op : O) → more ≡ insert held at op → longer ≡ insert file to e → at ≤ length held → to ≤ length file → length file ≡ length held → IsFile id held file → ¬ HasId id held (id op) → e.id ≡ id op → AreOrdered IsFiledBefore (insert file to e) → (length longer ≡ length more) × IsFile id more longer × HaveSameElements more (op ∷ held)
+  pub one_more : (held more : List O) (file longer : List CauseEntry) (at to : ℕ) (e : CauseEntry) (op : O) → more ≡ insert held at op → longer ≡ insert file to e → at ≤ length held → to ≤ length file → length file ≡ length held → IsCauseIndex id held file → ¬ HasId id held (id op) → e.id ≡ id op → AreOrdered IsIndexedBefore (insert file to e) → (length longer ≡ length more) × IsCauseIndex id more longer × HaveSameElements more (op ∷ held)
   one_more held more file longer at to e op m l inside within count is new same ordered =
       let elements : HaveSameElements more (op ∷ held) = subst (λ xs. HaveSameElements xs (op ∷ held)) (sym m) (inserted_same held at op) in
       let a = ap length m in
@@ -235,12 +235,12 @@ module _ {O : Type 0} (id : O → OpId) where
       let x = length-insert held at op inside in
       let y = length-insert file to e within in (
         omega (arith, a, b, x, y, count),
-        subst (IsFile id more) (sym l) (file_more id held more file to e op is elements new same ordered),
+        subst (IsCauseIndex id more) (sym l) (file_more id held more file to e op is elements new same ordered),
         elements,
       )
 
   -- one less
-  pub one_less : (held rest : List O) (file fewer : List Filed) (at there : ℕ) (e : Filed) (op : O) → rest ≡ remove held at → fewer ≡ remove file there → slice_get held at ≡ Some op → slice_get file there ≡ Some e → e.id ≡ id op → AreAscending id held → IsFile id held file → length file ≡ length held → AreAscending id rest × (length fewer ≡ length rest) × IsFile id rest fewer
+  pub one_less : (held rest : List O) (file fewer : List CauseEntry) (at there : ℕ) (e : CauseEntry) (op : O) → rest ≡ remove held at → fewer ≡ remove file there → slice_get held at ≡ Some op → slice_get file there ≡ Some e → e.id ≡ id op → AreAscending id held → IsCauseIndex id held file → length file ≡ length held → AreAscending id rest × (length fewer ≡ length rest) × IsCauseIndex id rest fewer
   one_less held rest file fewer at there e op m l is_op is_e same a is count =
       let below = slice_get_within held at op is_op in
       let there_below = slice_get_within file there e is_e in
@@ -251,18 +251,18 @@ module _ {O : Type 0} (id : O → OpId) where
       let q = ap length l in (
         subst (AreAscending id) (sym m) (removed_ascending id held at below a),
         omega (arith, x, y, p, q, count),
-        subst (λ xs. IsFile id xs fewer) (sym m) (subst (IsFile id (remove held at)) (sym l)
+        subst (λ xs. IsCauseIndex id xs fewer) (sym m) (subst (IsCauseIndex id (remove held at)) (sym l)
             (file_taken id held (remove held at) file there e op is is_e same (λ o. removed_others id held at op o below place a))),
       )
 
-  pub less_filed : (clock : O → List (ℕ × ℕ)) (woken : List OpId) (applied held rest : List O) (file fewer : List Filed) (at there : ℕ) (e : Filed) (op : O) → rest ≡ remove held at → fewer ≡ remove file there → slice_get held at ≡ Some op → slice_get file there ≡ Some e → AreAscending id held → IsFile id held file → AreFiled id clock woken applied held file → AreFiled id clock woken applied rest fewer
+  pub less_filed : (clock : O → List (ℕ × ℕ)) (woken : List OpId) (applied held rest : List O) (file fewer : List CauseEntry) (at there : ℕ) (e : CauseEntry) (op : O) → rest ≡ remove held at → fewer ≡ remove file there → slice_get held at ≡ Some op → slice_get file there ≡ Some e → AreAscending id held → IsCauseIndex id held file → AreIndexed id clock woken applied held file → AreIndexed id clock woken applied rest fewer
   less_filed clock woken applied held rest file fewer at there e op m l is_op is_e a is filed =
       filed_taken id clock woken applied held rest file fewer
       (λ g h. ((file_elements id file there e g is.ordered is_e).0 (subst (IsIn g) l h)).0)
       (λ o h. ((removed_others id held at op o (slice_get_within held at op is_op) (sym (get_or_from_slice_get held at op op is_op)) a).0 (subst (IsIn o) m h)).0)
       filed
 
-  pub entry_place : (clock : O → List (ℕ × ℕ)) (applied held : List O) (file : List Filed) (at there : ℕ) (e : Filed) (op : O) → slice_get held at ≡ Some op → IsFile id held file → AreFiled id clock [] applied held file → AreApart id held applied → e.id ≡ id op → (¬ HasId id applied (id op) → IsFiledUnder id clock applied op e.cause) → (IsIn e file → slice_get file there ≡ Some e) → slice_get file there ≡ Some e
+  pub entry_place : (clock : O → List (ℕ × ℕ)) (applied held : List O) (file : List CauseEntry) (at there : ℕ) (e : CauseEntry) (op : O) → slice_get held at ≡ Some op → IsCauseIndex id held file → AreIndexed id clock [] applied held file → AreApart id held applied → e.id ≡ id op → (¬ HasId id applied (id op) → IsIndexedUnder id clock applied op e.cause) → (IsIn e file → slice_get file there ≡ Some e) → slice_get file there ≡ Some e
   entry_place clock applied held file at there e op is_op is filed apart same under found =
       let h : IsIn op held = in_of_get held at op is_op in
       found (entry_there id clock applied held file op e is filed h same (under (apart (id op) (id_of_element id op held h))))

@@ -1,9 +1,9 @@
-pub mod Cells
-pub mod Filing
-pub mod Seen
-pub mod Kept
+pub mod OpCells
+pub mod CauseIndex
+pub mod Inbox
+pub mod InboxState
 pub mod Delivery
 pub mod Stalls
 pub mod Standing
-pub mod Received
-pub mod Owns
+pub mod ReceivedSets
+pub mod OwnIds

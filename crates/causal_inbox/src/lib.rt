@@ -4,23 +4,23 @@
 //! inbox serves any [`merge_laws::Replicated`] value, and tells a [`merge_laws::Follower`] each operation that it applies.
 #![tactic(auto)]
 
-mod answers;
-mod cell;
-mod filing;
-mod held;
+mod delivery;
+mod op_cell;
+mod cause_index;
+mod held_store;
 mod held_ops;
 mod history;
 mod inbox;
 mod laws;
-mod owning;
+mod own_ids;
 mod search;
 
-pub use answers::{Arrival, DeliverFault, Delivered, Drained, IssueFault, Stall};
+pub use delivery::{Arrival, DeliverFault, Delivered, Drained, IssueFault, Stall};
 pub use held_ops::{HeldIter, HeldOps};
 pub use inbox::{HELD_LIMIT, Inbox};
 pub use laws::{
     delivery_is_received, filed_by_least_missing_cause, issue_is_received, nothing_ripe_is_left,
     release_loses_nothing, what_is_received_is_consistent,
 };
-pub use owning::least_own;
+pub use own_ids::least_own;
 pub use search::find_in;

@@ -3,7 +3,7 @@ use Rattle.std.proofs.Common.{◌≡◌, ℕ, suc, ◌+◌, ◌-◌, ◌*◌, �
 use Rattle.std.proofs.Math.Numerals.{add-one}
 use Rattle.std.proofs.lemmas.Bool.{cases_lt, cases_order}
 use Rattle.std.proofs.lemmas.List.{set_split, drop_all, drop_at, drop-drop, drop_more, get_or_at, length-take-le, take-append-drop, take-take, take_at, take_more}
-use Rattle.chunk_list.specs.Chunks.{AreChunks, AreDense, AreLoose, FillOne, FitOne, free_behind, items_of, one_down}
+use Rattle.chunk_list.specs.Chunks.{AreChunks, AreDense, AreNearlyDense, FillOne, FitOne, free_behind, items_of, with_one_less}
 use Rattle.chunk_list.specs.declared.chunks.Chunk.{Chunk}
 use Rattle.chunk_list.specs.declared.chunks.TheConstants.{CHUNK}
 use Rattle.chunk_list.proofs.Free.{free_append}
@@ -27,7 +27,7 @@ pub dense_less : {T : Type 0} (few many : ℕ) (cs : List (Chunk T)) → few ≤
 dense_less few many [] h d = tt
 dense_less few many (c ∷ cs) h d = (omega (arith, h, d.0), d.1)
 
-pub dense_down : {T : Type 0} (free : ℕ) (cs : List (Chunk T)) → AreDense free cs → AreDense free (map one_down cs)
+pub dense_down : {T : Type 0} (free : ℕ) (cs : List (Chunk T)) → AreDense free cs → AreDense free (map with_one_less cs)
 dense_down free [] h = tt
 dense_down free (c ∷ cs) h = (h.0, dense_down (CHUNK - length c.items.items) cs h.1)
 
@@ -53,7 +53,7 @@ free_in_front : {T : Type 0} (cs : List (Chunk T)) (i : ℕ) (d : Chunk T) → i
 free_in_front cs i d inside = ap (free_behind 0) (take_more cs i d inside) ∙ free_append 0 (take i cs) (get_or cs i d ∷ [])
 
 -- One chunk between others, which has lost an item.
-pub loose_between : {T : Type 0} (front : List (Chunk T)) (c : Chunk T) (behind : List (Chunk T)) (at : ℕ) → length front ≡ at → AreDense 0 front → free_behind 0 front ≤ length c.items.items → AreDense (CHUNK - (length c.items.items + 1)) behind → AreLoose (front ++ c ∷ behind) at
+pub loose_between : {T : Type 0} (front : List (Chunk T)) (c : Chunk T) (behind : List (Chunk T)) (at : ℕ) → length front ≡ at → AreDense 0 front → free_behind 0 front ≤ length c.items.items → AreDense (CHUNK - (length c.items.items + 1)) behind → AreNearlyDense (front ++ c ∷ behind) at
 loose_between front c behind at many before here after =
     let front_is : take at (front ++ c ∷ behind) ≡ front = take_at front (c ∷ behind) at many in
     let behind_is : drop (at + 1) (front ++ c ∷ behind) ≡ behind = sym (drop-drop 1 at (front ++ c ∷ behind)) ∙ ap (drop 1) (drop_at front (c ∷ behind) at many) in
@@ -64,13 +64,13 @@ loose_between front c behind at many before here after =
     }
 
 -- A chunk has lost an item, and those behind it know it.
-pub dense_lost : {T : Type 0} (cs : List (Chunk T)) (i : ℕ) (d : Chunk T) → i < length cs → AreDense 0 cs → (c : Chunk T) → length c.items.items + 1 ≡ length (get_or cs i d).items.items → AreLoose (take i cs ++ c ∷ map one_down (drop (suc i) cs)) i
+pub dense_lost : {T : Type 0} (cs : List (Chunk T)) (i : ℕ) (d : Chunk T) → i < length cs → AreDense 0 cs → (c : Chunk T) → length c.items.items + 1 ≡ length (get_or cs i d).items.items → AreNearlyDense (take i cs ++ c ∷ map with_one_less (drop (suc i) cs)) i
 dense_lost cs i d inside h c many =
     let from = dense_from cs i d inside h in
-    loose_between (take i cs) c (map one_down (drop (suc i) cs)) i (length-take-le i cs (omega (arith, inside))) (dense_before cs i d inside h) (omega (arith, many, from.0)) (dense_down _ (drop (suc i) cs) (subst (λ n. AreDense (CHUNK - n) (drop (suc i) cs)) (sym many) from.1))
+    loose_between (take i cs) c (map with_one_less (drop (suc i) cs)) i (length-take-le i cs (omega (arith, inside))) (dense_before cs i d inside h) (omega (arith, many, from.0)) (dense_down _ (drop (suc i) cs) (subst (λ n. AreDense (CHUNK - n) (drop (suc i) cs)) (sym many) from.1))
 
 -- The same, where it and the next one are to be one, and where it and the one in front are.
-filled_next : {T : Type 0} (d : Chunk T) (cs : List (Chunk T)) (at : ℕ) → AreLoose cs at → at + 1 < length cs → ((e : Chunk T) → length (get_or cs at e).items.items + length (get_or cs (at + 1) e).items.items ≤ CHUNK) → FillOne cs at
+filled_next : {T : Type 0} (d : Chunk T) (cs : List (Chunk T)) (at : ℕ) → AreNearlyDense cs at → at + 1 < length cs → ((e : Chunk T) → length (get_or cs at e).items.items + length (get_or cs (at + 1) e).items.items ≤ CHUNK) → FillOne cs at
 filled_next d cs at loose inside fits = record {
   front = loose.front;
   full = λ e. omega (arith, fits e, (next e).0);
@@ -83,11 +83,11 @@ filled_next d cs at loose inside fits = record {
     next : (e : _) → AreDense (CHUNK - (length (get_or cs at e).items.items + 1)) (get_or cs (at + 1) e ∷ drop (at + 1 + 1) cs)
     next e = subst (AreDense _) (drop_more cs (at + 1) e inside) (loose.behind e)
 
-pub fill_next : {T : Type 0} (cs : List (Chunk T)) (at : ℕ) → AreLoose cs at → at + 1 < length cs → ((e : Chunk T) → length (get_or cs at e).items.items + length (get_or cs (at + 1) e).items.items ≤ CHUNK) → FillOne cs at
+pub fill_next : {T : Type 0} (cs : List (Chunk T)) (at : ℕ) → AreNearlyDense cs at → at + 1 < length cs → ((e : Chunk T) → length (get_or cs at e).items.items + length (get_or cs (at + 1) e).items.items ≤ CHUNK) → FillOne cs at
 fill_next [] at loose inside fits = absurd (omega (arith, inside))
 fill_next (c ∷ cs) at loose inside fits = filled_next c (c ∷ cs) at loose inside fits
 
-filled_front : {T : Type 0} (d : Chunk T) (cs : List (Chunk T)) (i : ℕ) → AreLoose cs (i + 1) → i + 1 < length cs → ((e : Chunk T) → length (get_or cs i e).items.items + length (get_or cs (i + 1) e).items.items ≤ CHUNK) → FillOne cs i
+filled_front : {T : Type 0} (d : Chunk T) (cs : List (Chunk T)) (i : ℕ) → AreNearlyDense cs (i + 1) → i + 1 < length cs → ((e : Chunk T) → length (get_or cs i e).items.items + length (get_or cs (i + 1) e).items.items ≤ CHUNK) → FillOne cs i
 filled_front d cs i loose inside fits =
     let far : i + 1 + 1 ≡ i + 2 = omega arith in
     let front : take i (take (i + 1) cs) ≡ take i cs = take-take i (i + 1) cs (omega arith) in
@@ -97,14 +97,14 @@ filled_front d cs i loose inside fits =
       behind = subst (λ j. AreDense 0 (drop j cs)) far (dense_less 0 _ (drop (i + 1 + 1) cs) (omega arith) (loose.behind d));
     }
 
-pub fill_front : {T : Type 0} (cs : List (Chunk T)) (at : ℕ) → AreLoose cs at → 0 < at → at < length cs → ((e : Chunk T) → length (get_or cs (at - 1) e).items.items + length (get_or cs at e).items.items ≤ CHUNK) → FillOne cs (at - 1)
+pub fill_front : {T : Type 0} (cs : List (Chunk T)) (at : ℕ) → AreNearlyDense cs at → 0 < at → at < length cs → ((e : Chunk T) → length (get_or cs (at - 1) e).items.items + length (get_or cs at e).items.items ≤ CHUNK) → FillOne cs (at - 1)
 fill_front [] at loose some inside fits = absurd (omega (arith, inside))
 fill_front (c ∷ cs) at loose some inside fits =
     let back : at ≡ at - 1 + 1 = omega (arith, some) in
-    filled_front c (c ∷ cs) (at - 1) (subst (AreLoose (c ∷ cs)) back loose) (omega (arith, some, inside)) (λ e. subst (λ j. length (get_or (c ∷ cs) (at - 1) e).items.items + length (get_or (c ∷ cs) j e).items.items ≤ CHUNK) back (fits e))
+    filled_front c (c ∷ cs) (at - 1) (subst (AreNearlyDense (c ∷ cs)) back loose) (omega (arith, some, inside)) (λ e. subst (λ j. length (get_or (c ∷ cs) (at - 1) e).items.items + length (get_or (c ∷ cs) j e).items.items ≤ CHUNK) back (fits e))
 
 -- They are dense where it can be joined with neither.
-module _ {T : Type 0} (d : Chunk T) (cs : List (Chunk T)) (at : ℕ) (h : AreChunks 0 cs) (loose : AreLoose cs at) (inside : at < length cs) (alone : 0 < at → length (get_or cs (at - 1) d).items.items + length (get_or cs at d).items.items ≤ CHUNK → ⊥) (apart : at + 1 < length cs → length (get_or cs at d).items.items + length (get_or cs (at + 1) d).items.items ≤ CHUNK → ⊥) where
+module _ {T : Type 0} (d : Chunk T) (cs : List (Chunk T)) (at : ℕ) (h : AreChunks 0 cs) (loose : AreNearlyDense cs at) (inside : at < length cs) (alone : 0 < at → length (get_or cs (at - 1) d).items.items + length (get_or cs at d).items.items ≤ CHUNK → ⊥) (apart : at + 1 < length cs → length (get_or cs at d).items.items + length (get_or cs (at + 1) d).items.items ≤ CHUNK → ⊥) where
   more_here : free_behind 0 (take at cs) < length (get_or cs at d).items.items
   more_here = elim (cases_order at 0) [
     | inl first ↦ (let none : free_behind 0 (take at cs) ≡ 0 = ap (λ j. free_behind 0 (take j cs)) first in omega (arith, none, (chunk_is cs at d inside h).some))
@@ -132,20 +132,20 @@ module _ {T : Type 0} (d : Chunk T) (cs : List (Chunk T)) (at : ℕ) (h : AreChu
   densely : AreDense 0 cs
   densely = subst (AreDense 0) (sym (parted cs at d inside)) (dense_joined 0 (take at cs) (get_or cs at d ∷ drop (suc at) cs) loose.front (more_here, subst (λ j. AreDense (CHUNK - length (get_or cs at d).items.items) (drop j cs)) (add-one at) dense_next))
 
-pub dense_alone : {T : Type 0} (cs : List (Chunk T)) (at : ℕ) → AreChunks 0 cs → AreLoose cs at → at < length cs → ((d : Chunk T) → 0 < at → length (get_or cs (at - 1) d).items.items + length (get_or cs at d).items.items ≤ CHUNK → ⊥) → ((d : Chunk T) → at + 1 < length cs → length (get_or cs at d).items.items + length (get_or cs (at + 1) d).items.items ≤ CHUNK → ⊥) → AreDense 0 cs
+pub dense_alone : {T : Type 0} (cs : List (Chunk T)) (at : ℕ) → AreChunks 0 cs → AreNearlyDense cs at → at < length cs → ((d : Chunk T) → 0 < at → length (get_or cs (at - 1) d).items.items + length (get_or cs at d).items.items ≤ CHUNK → ⊥) → ((d : Chunk T) → at + 1 < length cs → length (get_or cs at d).items.items + length (get_or cs (at + 1) d).items.items ≤ CHUNK → ⊥) → AreDense 0 cs
 dense_alone [] at h loose inside alone apart = tt
 dense_alone (c ∷ cs) at h loose inside alone apart = densely c (c ∷ cs) at h loose inside (alone c) (apart c)
 
 -- The same, as a test of two neighbours tells it.
-pub told_next : {T : Type 0} (cs xs : List (Chunk T)) (at : ℕ) (r : Bool) → xs ≡ cs → AreLoose cs at → (IsTrue r → (0 < at + 1) × (at + 1 < length xs)) → ((d : Chunk T) → IsTrue r ↔ FitOne xs (at + 1) d) → IsTrue r → FillOne cs at
+pub told_next : {T : Type 0} (cs xs : List (Chunk T)) (at : ℕ) (r : Bool) → xs ≡ cs → AreNearlyDense cs at → (IsTrue r → (0 < at + 1) × (at + 1 < length xs)) → ((d : Chunk T) → IsTrue r ↔ FitOne xs (at + 1) d) → IsTrue r → FillOne cs at
 told_next cs xs at r is loose both told t =
     let back : at + 1 - 1 ≡ at = omega arith in
     fill_next cs at loose (subst (λ ys. at + 1 < length ys) is (both t).1) (λ e. subst (λ j. length (get_or cs j e).items.items + length (get_or cs (at + 1) e).items.items ≤ CHUNK) back (subst (λ ys. FitOne ys (at + 1) e) is ((told e).0 t)).2)
 
-pub told_front : {T : Type 0} (cs xs : List (Chunk T)) (at : ℕ) (r : Bool) → xs ≡ cs → AreLoose cs at → (IsTrue r → (0 < at) × (at < length xs)) → ((d : Chunk T) → IsTrue r ↔ FitOne xs at d) → IsTrue r → FillOne cs (at - 1)
+pub told_front : {T : Type 0} (cs xs : List (Chunk T)) (at : ℕ) (r : Bool) → xs ≡ cs → AreNearlyDense cs at → (IsTrue r → (0 < at) × (at < length xs)) → ((d : Chunk T) → IsTrue r ↔ FitOne xs at d) → IsTrue r → FillOne cs (at - 1)
 told_front cs xs at r is loose both told t = fill_front cs at loose (both t).0 (subst (λ ys. at < length ys) is (both t).1) (λ e. (subst (λ ys. FitOne ys at e) is ((told e).0 t)).2)
 
-pub told_alone : {T : Type 0} (cs xs ys : List (Chunk T)) (at : ℕ) (r s : Bool) → xs ≡ cs → ys ≡ cs → AreChunks 0 cs → AreLoose cs at → at < length cs → ((d : Chunk T) → IsTrue r ↔ FitOne xs (at + 1) d) → (IsTrue r → ⊥) → ((d : Chunk T) → IsTrue s ↔ FitOne ys at d) → (IsTrue s → ⊥) → AreDense 0 cs
+pub told_alone : {T : Type 0} (cs xs ys : List (Chunk T)) (at : ℕ) (r s : Bool) → xs ≡ cs → ys ≡ cs → AreChunks 0 cs → AreNearlyDense cs at → at < length cs → ((d : Chunk T) → IsTrue r ↔ FitOne xs (at + 1) d) → (IsTrue r → ⊥) → ((d : Chunk T) → IsTrue s ↔ FitOne ys at d) → (IsTrue s → ⊥) → AreDense 0 cs
 told_alone cs xs ys at r s is same h loose inside next apart front alone =
     let back : at + 1 - 1 ≡ at = omega arith in
     dense_alone cs at h loose inside

@@ -4,9 +4,9 @@ use Rattle.std.proofs.lemmas.Bool.{false≢true}
 use Rattle.std.proofs.lemmas.List.{append-nil, map-append}
 use Rattle.std.proofs.lemmas.List.Concat.{flat_map-append}
 use Rattle.tags_clocks.specs.declared.id.OpId.{OpId}
-use Rattle.crdt_ops.specs.Order.{IsAscending, StandsBefore, id_order}
+use Rattle.crdt_ops.specs.SortedSets.{IsAscending, StandsBefore, id_order}
 use Rattle.crdt_ops.specs.Reading.{◌>>=◌, all_read, are_ascending, behind_all, comes_first}
-use Rattle.crdt_ops.specs.Text.{listed}
+use Rattle.crdt_ops.specs.Text.{join_by_commas}
 use Rattle.crdt_ops.proofs.PartLemmas.{all_taken}
 
 -- What a loop has done behind so many elements of a list.
@@ -27,12 +27,12 @@ field_more front words i word l e = append_assoc front (take i words) (word ∷ 
 -- one text more behind a comma (44)
 pub listed_more : {X : Type 0} (text : X → List ℕ) (xs : List X) (i : ℕ) (x : X) (before old mid new : List ℕ) → i < length xs → x ≡ get_or xs i x → old ≡ before ++ flat_map (λ next. 44 ∷ next) (map text (take i xs)) → mid ≡ old ++ 44 ∷ [] → new ≡ mid ++ text x → new ≡ before ++ flat_map (λ next. 44 ∷ next) (map text (take (i + 1) xs))
 listed_more text xs i x before old mid new l e o m n =
-    let listed = flat_map (λ next. 44 ∷ next) (map text (take i xs)) in
+    let join_by_commas = flat_map (λ next. 44 ∷ next) (map text (take i xs)) in
     n ∙ ap (λ ys. ys ++ text x) (m ∙ ap (λ ys. ys ++ 44 ∷ []) o)
-    ∙ append_assoc (before ++ listed) (44 ∷ []) (text x)
-    ∙ append_assoc before listed (44 ∷ text x)
+    ∙ append_assoc (before ++ join_by_commas) (44 ∷ []) (text x)
+    ∙ append_assoc before join_by_commas (44 ∷ text x)
     ∙ ap (λ ys. before ++ ys) (
-    ap (λ ys. listed ++ ys) (sym (append-nil (44 ∷ text x)))
+    ap (λ ys. join_by_commas ++ ys) (sym (append-nil (44 ∷ text x)))
     ∙ sym (flat_map-append (λ next. 44 ∷ next) (map text (take i xs)) (text x ∷ []))
     ∙ ap (flat_map (λ next. 44 ∷ next)) (sym (map-append text (take i xs) (x ∷ [])) ∙ ap (map text) (taken_more xs i x l e))
     )
@@ -110,6 +110,6 @@ none_of [] l = refl
 none_of (x ∷ xs) l = absurd (omega arith)
 
 -- a list of texts, the first and the others
-pub first_listed : {X : Type 0} (text : X → List ℕ) (xs : List X) (x : X) → 1 ≤ length xs → x ≡ get_or xs 0 x → listed (map text xs) ≡ text x ++ flat_map (λ next. 44 ∷ next) (map text (take (length xs - 1) (drop 1 xs)))
+pub first_listed : {X : Type 0} (text : X → List ℕ) (xs : List X) (x : X) → 1 ≤ length xs → x ≡ get_or xs 0 x → join_by_commas (map text xs) ≡ text x ++ flat_map (λ next. 44 ∷ next) (map text (take (length xs - 1) (drop 1 xs)))
 first_listed text [] x l e = absurd (omega arith)
 first_listed text (y ∷ xs) x l e = λ k. text (sym e k) ++ flat_map (λ next. 44 ∷ next) (map text (sym (tail_is y xs) k))

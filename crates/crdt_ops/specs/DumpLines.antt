@@ -3,8 +3,8 @@ use Rattle.std.specs.List.{flat_map}
 use Rattle.tags_clocks.specs.declared.id.OpId.{OpId}
 use Rattle.crdt_ops.specs.declared.message.Message.{Message}
 use Rattle.crdt_ops.specs.declared.op.Op.{Op}
-use Rattle.crdt_ops.specs.Sets.{folder_tags_of, folders_of, messages_of, subscribed_of, subscription_tags_of}
-use Rattle.crdt_ops.specs.Text.{flags_text, id_text, ids_text, letter_text, name_text, op_text}
+use Rattle.crdt_ops.specs.Sets.{folder_tags_of, folders_of, messages_of, subscribed_names_of, subscription_tags_of}
+use Rattle.crdt_ops.specs.Text.{flags_text, id_text, ids_text, text_field, name_text, op_text}
 
 -- The line of an operation.
 abbrev pub op_line : Op → List ℕ
@@ -19,16 +19,16 @@ abbrev pub folder_line : List Op → List ℕ → List ℕ
 folder_line ops folder = named_line (codes "folder ") folder (folder_tags_of ops folder)
 
 -- A message's date and text, each behind a space (32), and the end of their line.
-abbrev pub dated_text : Message → List ℕ
-dated_text message = 32 ∷ (message.date ++ 32 ∷ (letter_text message.text ++ 10 ∷ []))
+abbrev pub dated_text_fields : Message → List ℕ
+dated_text_fields message = 32 ∷ (message.date ++ 32 ∷ (text_field message.text ++ 10 ∷ []))
 
 -- What a message's line says behind its versions: its flags, its date and its text.
-abbrev pub body_text : Message → List ℕ
-body_text message = flags_text message.flags ++ dated_text message
+abbrev pub message_fields : Message → List ℕ
+message_fields message = flags_text message.flags ++ dated_text_fields message
 
 -- The line of a message: its origin, its versions, and what it says.
 abbrev pub message_line : Message → List ℕ
-message_line message = codes "message " ++ (id_text message.origin ++ 32 ∷ (ids_text message.versions ++ 32 ∷ body_text message))
+message_line message = codes "message " ++ (id_text message.origin ++ 32 ∷ (ids_text message.versions ++ 32 ∷ message_fields message))
 
 -- The lines of a folder: its own, and those of its messages by their origins.
 abbrev pub folder_lines : List Op → List ℕ → List ℕ
@@ -40,4 +40,4 @@ subscription_line ops name = named_line (codes "subscribed ") name (subscription
 
 -- What the set of these operations defines: its folders with their messages, and the names that are subscribed to.
 abbrev pub state_text : List Op → List ℕ
-state_text ops = flat_map (folder_lines ops) (folders_of ops) ++ flat_map (subscription_line ops) (subscribed_of ops)
+state_text ops = flat_map (folder_lines ops) (folders_of ops) ++ flat_map (subscription_line ops) (subscribed_names_of ops)

@@ -2,8 +2,8 @@
 
 ghost use Rattle.std.specs.Prelude.{◌≡◌, ◌++◌, ◌∷◌, [], OnOk};
 ghost use Rattle.std.specs.List.{flat_map};
-ghost use Rattle.crdt_ops.specs.Text.{letter_text};
-ghost use Rattle.crdt_ops.specs.DumpLines.{body_text, dated_text, message_line, named_line};
+ghost use Rattle.crdt_ops.specs.Text.{text_field};
+ghost use Rattle.crdt_ops.specs.DumpLines.{message_fields, dated_text_fields, message_line, named_line};
 
 use crate::ids::Ids;
 use crate::message::Message;
@@ -12,7 +12,7 @@ use imap_types::{Escape, Name, Text, write_escaped};
 use std::alloc::{AllocError, Global};
 
 /// Puts the line of a name behind what is there: a word with its space, the name, and these ids. `Err` where there is no memory, and then a part of it may be there.
-pub fn push_named_line(
+pub fn push_name_line(
     alloc: Global,
     word: &[u8],
     name: &Name,
@@ -56,24 +56,24 @@ fn push_message(alloc: Global, message: &Message, text: &mut Vec<u8>) -> Result<
 
 /// The flags, the date and the text of a message, and the end of its line.
 fn push_body(message: &Message, text: &mut Vec<u8>) -> Result<(), AllocError>
-    ensures { OnOk result (text.new.items ≡ text.old.items ++ body_text message.now) }
+    ensures { OnOk result (text.new.items ≡ text.old.items ++ message_fields message.now) }
 {
     write_flags(&message.flags, text)?;
-    push_dated(message, text)
+    push_date_and_text(message, text)
 }
 
 /// The date and the text of a message, each behind a space, and the end of its line.
-fn push_dated(message: &Message, text: &mut Vec<u8>) -> Result<(), AllocError>
-    ensures { OnOk result (text.new.items ≡ text.old.items ++ dated_text message.now) }
+fn push_date_and_text(message: &Message, text: &mut Vec<u8>) -> Result<(), AllocError>
+    ensures { OnOk result (text.new.items ≡ text.old.items ++ dated_text_fields message.now) }
 {
     text.push(b' ')?;
     text.extend_from_slice(message.date.as_bytes())?;
-    push_letter(&message.text, text)
+    push_text_field(&message.text, text)
 }
 
 /// The text of a message, behind a space, and the end of its line.
-fn push_letter(letter: &Text, text: &mut Vec<u8>) -> Result<(), AllocError>
-    ensures { OnOk result (text.new.items ≡ text.old.items ++ 32 ∷ (letter_text letter.now ++ 10 ∷ [])) }
+fn push_text_field(letter: &Text, text: &mut Vec<u8>) -> Result<(), AllocError>
+    ensures { OnOk result (text.new.items ≡ text.old.items ++ 32 ∷ (text_field letter.now ++ 10 ∷ [])) }
 {
     text.extend_from_slice(b" =")?;
     write_escaped(Escape::Text, letter.as_bytes(), text)?;

@@ -2,7 +2,7 @@
 //! sound, their text, what a set of them means, and the lines of a dump that tell this.
 #![tactic(auto)]
 
-mod copies;
+mod op_copies;
 mod dump_lines;
 mod fault;
 mod fields;
@@ -11,22 +11,22 @@ mod ids;
 mod kind;
 mod laws;
 mod message;
-mod names;
+mod name_lists;
 mod op;
 mod read;
-mod soundness;
+mod sound_op;
 mod verb;
 mod write;
 
-pub use copies::copied_ops;
-pub use dump_lines::{push_messages, push_named_line};
+pub use op_copies::copy_ops;
+pub use dump_lines::{push_messages, push_name_line};
 pub use fault::OpFault;
 pub use ids::Ids;
 pub use kind::{Kind, MAX_OLD_IDS};
 pub use laws::{one_set_means_one, present_tags_are_listed};
 pub use message::Message;
-pub use names::place_name;
+pub use name_lists::insert_name;
 pub use op::{Op, SoundOp};
 pub use read::{one_operation, read_op};
-pub use soundness::{Unsound, check, checked};
+pub use sound_op::{Unsound, check, into_sound_op};
 pub use write::{write_clock, write_flags, write_id, write_ids, write_op};

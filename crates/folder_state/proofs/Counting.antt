@@ -6,9 +6,9 @@ use Rattle.std.specs.Vec.{vec_capacity}
 use Rattle.std.proofs.lemmas.List.{append-nil, append_assoc, drop_all, drop_more}
 use Rattle.tags_clocks.specs.declared.id.OpId.{OpId}
 use Rattle.crdt_ops.specs.declared.op.Op.{Op}
-use Rattle.crdt_ops.specs.Order.{is_some_id}
+use Rattle.crdt_ops.specs.SortedSets.{is_some_id}
 use Rattle.imap_types.specs.declared.version.Version.{Version}
-use Rattle.folder_state.specs.Rooms.{HaveLists, is_named, origin_by, tags_wanted, target, versions_wanted, wanted_by}
+use Rattle.folder_state.specs.OpRoom.{HaveLists, is_named, origin_by, tags_added, target, versions_added, counts_of}
 
 pub on_ok_by : {A E : Type 0} {P Q : Type 0} (r : Result A E) → (P → Q) → OnOk r P → OnOk r Q
 on_ok_by (Ok v) f h = f h
@@ -26,36 +26,36 @@ module _ (ops : List Op) (i : ℕ) (o : Op) (l : i < length ops) (e : o ≡ get_
   here : drop i ops ≡ o ∷ drop (i + 1) ops
   here = drop_more ops i o l ∙ ap (λ x. x ∷ drop (i + 1) ops) (sym e)
 
-  pub tags_behind : (name : List ℕ) → tags_wanted (drop i ops) name ≡ cond (is_named name (target o.kind)) 1 0 + tags_wanted (drop (i + 1) ops) name
-  tags_behind name = ap (λ os. tags_wanted os name) here
+  pub tags_behind : (name : List ℕ) → tags_added (drop i ops) name ≡ cond (is_named name (target o.kind)) 1 0 + tags_added (drop (i + 1) ops) name
+  tags_behind name = ap (λ os. tags_added os name) here
 
-  pub versions_behind : (origin : OpId) → versions_wanted (drop i ops) origin ≡ cond (is_some_id origin (origin_by o.id o.kind)) 1 0 + versions_wanted (drop (i + 1) ops) origin
-  versions_behind origin = ap (λ os. versions_wanted os origin) here
+  pub versions_behind : (origin : OpId) → versions_added (drop i ops) origin ≡ cond (is_some_id origin (origin_by o.id o.kind)) 1 0 + versions_added (drop (i + 1) ops) origin
+  versions_behind origin = ap (λ os. versions_added os origin) here
 
-pub tags_done : (ops : List Op) (i n : ℕ) (name : List ℕ) → length ops ≤ i → n + tags_wanted (drop i ops) name ≡ tags_wanted ops name → n ≡ tags_wanted ops name
-tags_done ops i n name l h = let none : tags_wanted (drop i ops) name ≡ 0 = ap (λ os. tags_wanted os name) (drop_all i ops l) in omega (arith, h, none)
+pub tags_done : (ops : List Op) (i n : ℕ) (name : List ℕ) → length ops ≤ i → n + tags_added (drop i ops) name ≡ tags_added ops name → n ≡ tags_added ops name
+tags_done ops i n name l h = let none : tags_added (drop i ops) name ≡ 0 = ap (λ os. tags_added os name) (drop_all i ops l) in omega (arith, h, none)
 
-pub versions_done : (ops : List Op) (i n : ℕ) (origin : OpId) → length ops ≤ i → n + versions_wanted (drop i ops) origin ≡ versions_wanted ops origin → n ≡ versions_wanted ops origin
-versions_done ops i n origin l h = let none : versions_wanted (drop i ops) origin ≡ 0 = ap (λ os. versions_wanted os origin) (drop_all i ops l) in omega (arith, h, none)
+pub versions_done : (ops : List Op) (i n : ℕ) (origin : OpId) → length ops ≤ i → n + versions_added (drop i ops) origin ≡ versions_added ops origin → n ≡ versions_added ops origin
+versions_done ops i n origin l h = let none : versions_added (drop i ops) origin ≡ 0 = ap (λ os. versions_added os origin) (drop_all i ops l) in omega (arith, h, none)
 
 -- ---- a list for each operation
 
-pub fewer_behind : (ops : List Op) (i : ℕ) (origin : OpId) → versions_wanted (drop i ops) origin ≤ versions_wanted ops origin
+pub fewer_behind : (ops : List Op) (i : ℕ) (origin : OpId) → versions_added (drop i ops) origin ≤ versions_added ops origin
 fewer_behind ops zero origin = omega arith
 fewer_behind [] (suc i) origin = omega arith
 fewer_behind (o ∷ ops) (suc i) origin = let rest = fewer_behind ops i origin in omega (arith, rest)
 
-pub wanted_less : (few many : OpId → ℕ) → ((o : OpId) → few o ≤ many o) → (x : Option OpId) → wanted_by few x ≤ wanted_by many x
+pub wanted_less : (few many : OpId → ℕ) → ((o : OpId) → few o ≤ many o) → (x : Option OpId) → counts_of few x ≤ counts_of many x
 wanted_less few many h None = omega arith
 wanted_less few many h (Some o) = h o
 
 pub lists_one : (ops : List Op) (i : ℕ) (o : Op) (l : i < length ops) (e : o ≡ get_or ops i o) (lists new : List (Vec Version)) (list : Vec Version)
-    → new ≡ lists ++ list ∷ [] → list.items ≡ [] → wanted_by (versions_wanted ops) (origin_by o.id o.kind) ≤ vec_capacity list
+    → new ≡ lists ++ list ∷ [] → list.items ≡ [] → counts_of (versions_added ops) (origin_by o.id o.kind) ≤ vec_capacity list
     → ((more : List (Vec Version)) → HaveLists (drop i ops) more → HaveLists ops (lists ++ more))
     → (more : List (Vec Version)) → HaveLists (drop (i + 1) ops) more → HaveLists ops (new ++ more)
 lists_one ops i o l e lists new list n none room h more m =
     let cut = here ops i o l e in
-    let less = subst (λ os. wanted_by (versions_wanted os) (origin_by o.id o.kind) ≤ wanted_by (versions_wanted ops) (origin_by o.id o.kind)) cut (wanted_less (versions_wanted (drop i ops)) (versions_wanted ops) (fewer_behind ops i) (origin_by o.id o.kind)) in
+    let less = subst (λ os. counts_of (versions_added os) (origin_by o.id o.kind) ≤ counts_of (versions_added ops) (origin_by o.id o.kind)) cut (wanted_less (versions_added (drop i ops)) (versions_added ops) (fewer_behind ops i) (origin_by o.id o.kind)) in
     subst (HaveLists ops) (sym (ap (λ ls. ls ++ more) n ∙ append_assoc lists (list ∷ []) more))
     (h (list ∷ more) (subst (λ os. HaveLists os (list ∷ more)) (sym cut) (none, omega (arith, less, room), m)))
 

@@ -10,12 +10,12 @@ use Rattle.imap_types.specs.declared.flags.Flags.{Flags}
 use Rattle.tags_clocks.specs.declared.id.OpId.{OpId}
 use Rattle.merge_laws.specs.Orders.{IsIn}
 use Rattle.merge_laws.proofs.Lists.{in_front, in_back, in_parts}
-use Rattle.crdt_ops.specs.Order.{IsAscending, id_order, placed, same_id}
-use Rattle.crdt_ops.specs.Sets.{Body}
+use Rattle.crdt_ops.specs.SortedSets.{IsAscending, id_order, insert_ordered, same_id}
+use Rattle.crdt_ops.specs.Sets.{MessageTagData}
 use Rattle.crdt_ops.proofs.Members.{any_in}
 use Rattle.imap_types.specs.declared.version.Version.{Version}
 use Rattle.imap_types.specs.Unions.{version_ids}
-use Rattle.folder_state.specs.Kept.{AreFiled, AreVersionsOf, HasTagIn, InFolder, IsPutIn, IsTakenOut, Kept, body_at, by_id, flags_among, folder_contents, folder_ids, has_ids, listed, versions_at, without}
+use Rattle.folder_state.specs.FolderTables.{AreIndexed, AreVersionsOf, HasTagIn, FolderContents, IsPutIn, IsTakenOut, FolderTables, body_at, by_id, flags_among, folder_contents, folder_ids, has_ids, versions_or_none, versions_at, without}
 use Rattle.folder_state.proofs.Versions.{ascending_with, ascending_without, flags_own, flags_some, flags_with, flags_without, id_is, id_not, ids_with, ids_without, not_id, own_id, own_placed, placed_long}
 
 -- ---- lookups
@@ -39,32 +39,32 @@ some_mapped g None = (λ h. absurd (false≢true h), λ h. absurd (false≢true 
 some_mapped g (Some x) = (λ h. refl, λ h. refl)
 
 -- What a version carries, with the origin of its message.
-abbrev pub carrying : OpId → Flags → Body
+abbrev pub carrying : OpId → Flags → MessageTagData
 carrying origin flags = record { flags = flags; origin = origin }
 
 -- ---- what they tell
 
-module _ (messages : List (OpId × Vec Version)) (origins : List (OpId × OpId)) (filed : AreFiled messages origins) where
+module _ (messages : List (OpId × Vec Version)) (origins : List (OpId × OpId)) (filed : AreIndexed messages origins) where
   -- the origin that is told of a tag is that of what it carries
-  pub origin_is : (i : OpId) → option_map (λ (b : Body). b.origin) (body_at messages i (lookup (same_id i) origins)) ≡ lookup (same_id i) origins
+  pub origin_is : (i : OpId) → option_map (λ (b : MessageTagData). b.origin) (body_at messages i (lookup (same_id i) origins)) ≡ lookup (same_id i) origins
   origin_is i = at (lookup (same_id i) origins) refl
     where
-      at : (x : Option OpId) → lookup (same_id i) origins ≡ x → option_map (λ (b : Body). b.origin) (body_at messages i x) ≡ x
+      at : (x : Option OpId) → lookup (same_id i) origins ≡ x → option_map (λ (b : MessageTagData). b.origin) (body_at messages i x) ≡ x
       at None e = refl
       at (Some o) e =
           let w = flags_some (versions_at messages o) i ((filed.both i o).0 e) in
-          ap (λ (x : Option Flags). option_map (λ (b : Body). b.origin) (option_map (carrying o) x)) w.1
+          ap (λ (x : Option Flags). option_map (λ (b : MessageTagData). b.origin) (option_map (carrying o) x)) w.1
 
   pub body_some : (i : OpId) → IsSome (body_at messages i (lookup (same_id i) origins)) ↔ IsSome (lookup (same_id i) origins)
   body_some i =
       let body = body_at messages i (lookup (same_id i) origins) in
-      let m = some_mapped (λ (b : Body). b.origin) body in (
+      let m = some_mapped (λ (b : MessageTagData). b.origin) body in (
         λ h. subst IsSome (origin_is i) (m.1 h),
         λ h. m.0 (subst IsSome (sym (origin_is i)) h),
       )
 
   -- the origin has just these versions
-  pub versions_by : (o i : OpId) → IsIn i (version_ids (versions_at messages o)) ↔ (option_map (λ (b : Body). b.origin) (body_at messages i (lookup (same_id i) origins)) ≡ Some o)
+  pub versions_by : (o i : OpId) → IsIn i (version_ids (versions_at messages o)) ↔ (option_map (λ (b : MessageTagData). b.origin) (body_at messages i (lookup (same_id i) origins)) ≡ Some o)
   versions_by o i = (λ t. origin_is i ∙ (filed.both i o).1 t, λ t. (filed.both i o).0 (sym (origin_is i) ∙ t))
 
   -- each carries its flags
@@ -77,18 +77,18 @@ module _ (messages : List (OpId × Vec Version)) (origins : List (OpId × OpId))
       versions_id v [] h = absurd h
       versions_id v (w ∷ ws) h = elim h [ inl e ↦ inl (ap (λ (z : Version). z.id) e) | inr t ↦ inr (versions_id v ws t) ]
 
-pub versions_are : (k : Kept) (o : OpId) (vs : Vec Version) → AreFiled k.messages k.origins → lookup (same_id o) k.messages ≡ Some vs → AreVersionsOf (folder_contents k) o vs.items
+pub versions_are : (k : FolderTables) (o : OpId) (vs : Vec Version) → AreIndexed k.messages k.origins → lookup (same_id o) k.messages ≡ Some vs → AreVersionsOf (folder_contents k) o vs.items
 versions_are k o vs filed e =
-    let same : versions_at k.messages o ≡ vs.items = ap listed e in
+    let same : versions_at k.messages o ≡ vs.items = ap versions_or_none e in
     record {
       some = filed.some o vs e;
       ascending = subst (λ xs. IsAscending id_order (version_ids xs)) same (filed.ascending o);
-      listed = λ i. subst (λ xs. IsIn i (version_ids xs) ↔ (option_map (λ (b : Body). b.origin) ((folder_contents k).bodies i) ≡ Some o)) same (versions_by k.messages k.origins filed o i);
+      listed = λ i. subst (λ xs. IsIn i (version_ids xs) ↔ (option_map (λ (b : MessageTagData). b.origin) ((folder_contents k).bodies i) ≡ Some o)) same (versions_by k.messages k.origins filed o i);
       carried = λ v t. carried_by k.messages k.origins filed o v (subst (IsIn v) (sym same) t);
     }
 
-pub no_versions : (k : Kept) (o : OpId) → AreFiled k.messages k.origins → lookup (same_id o) k.messages ≡ None → (i : OpId) → option_map (λ (b : Body). b.origin) ((folder_contents k).bodies i) ≡ Some o → ⊥
-no_versions k o filed e i h = subst (λ xs. IsIn i (version_ids xs)) (ap listed e) ((versions_by k.messages k.origins filed o i).1 h)
+pub no_versions : (k : FolderTables) (o : OpId) → AreIndexed k.messages k.origins → lookup (same_id o) k.messages ≡ None → (i : OpId) → option_map (λ (b : MessageTagData). b.origin) ((folder_contents k).bodies i) ≡ Some o → ⊥
+no_versions k o filed e i h = subst (λ xs. IsIn i (version_ids xs)) (ap versions_or_none e) ((versions_by k.messages k.origins filed o i).1 h)
 
 -- the ids of all tags
 pub tag_listed : (keys : List OpId) (i : OpId) → IsIn i keys ↔ (list_any (same_id i) keys ≡ true)
@@ -98,7 +98,7 @@ tag_listed keys i =
       λ h. let w = at.0 h in subst (λ j. IsIn j keys) (sym (id_is i w.0 w.2)) w.1,
     )
 
-pub ids_are : (k : Kept) → AreFiled k.messages k.origins → (i : OpId) → IsIn i (folder_ids k) ↔ HasTagIn (folder_contents k) i
+pub ids_are : (k : FolderTables) → AreIndexed k.messages k.origins → (i : OpId) → IsIn i (folder_ids k) ↔ HasTagIn (folder_contents k) i
 ids_are k filed i =
     let tag = tag_listed k.tags i in
     let key = key_found k.origins i in
@@ -113,7 +113,7 @@ split_at : (new old : List (OpId × Vec Version)) (o : OpId) (changed : List Ver
 split_at new old o changed here beside p =
     elim (cases_Bool (same_id p o)) [
       | inl t ↦ subst (λ q. versions_at new q ≡ changed (versions_at old q)) (sym (id_is p o t)) here ∙ (λ k. cond (sym t k) (changed (versions_at old p)) (versions_at old p))
-      | inr f ↦ ap listed (beside p f) ∙ (λ k. cond (sym f k) (changed (versions_at old p)) (versions_at old p))
+      | inr f ↦ ap versions_or_none (beside p f) ∙ (λ k. cond (sym f k) (changed (versions_at old p)) (versions_at old p))
     ]
 
 cond_none : {Y : Type 0} (b : Bool) (x : Option Y) (y : Y) → cond b None x ≡ Some y → (b ≡ false) × (x ≡ Some y)
@@ -138,8 +138,8 @@ module _ (o id : OpId) (old new : List (OpId × Vec Version)) (taken : IsTakenOu
       at true = flags_without id i f (versions_at old p)
       at false = refl
 
-  module _ (before after : List (OpId × OpId)) (filed : AreFiled old before) (was : lookup (same_id id) before ≡ Some o) (told : (i : OpId) → lookup (same_id i) after ≡ cond (same_id i id) None (lookup (same_id i) before)) where
-    pub filed_taken : AreFiled new after
+  module _ (before after : List (OpId × OpId)) (filed : AreIndexed old before) (was : lookup (same_id id) before ≡ Some o) (told : (i : OpId) → lookup (same_id i) after ≡ cond (same_id i id) None (lookup (same_id i) before)) where
+    pub filed_taken : AreIndexed new after
     filed_taken = record {
       some = λ p vs e. elim (cases_Bool (same_id p o)) [
         | inl t ↦ taken.some vs (subst (λ q. lookup (same_id q) new ≡ Some vs) (id_is p o t) e)
@@ -186,39 +186,39 @@ cond_some true x y z h = inl (refl, cc)
 cond_some false x y z h = inr (refl, h)
 
 module _ (o : OpId) (v : Version) (old new : List (OpId × Vec Version)) (put : IsPutIn o v old new) where
-  put_at : (p : OpId) → versions_at new p ≡ cond (same_id p o) (placed by_id v (versions_at old p)) (versions_at old p)
-  put_at p = split_at new old o (placed by_id v) put.here put.beside p
+  put_at : (p : OpId) → versions_at new p ≡ cond (same_id p o) (insert_ordered by_id v (versions_at old p)) (versions_at old p)
+  put_at p = split_at new old o (insert_ordered by_id v) put.here put.beside p
 
-  module _ (before after : List (OpId × OpId)) (filed : AreFiled old before) (was : lookup (same_id v.id) before ≡ None) (told : (i : OpId) → lookup (same_id i) after ≡ cond (same_id i v.id) (Some o) (lookup (same_id i) before)) where
+  module _ (before after : List (OpId × OpId)) (filed : AreIndexed old before) (was : lookup (same_id v.id) before ≡ None) (told : (i : OpId) → lookup (same_id i) after ≡ cond (same_id i v.id) (Some o) (lookup (same_id i) before)) where
     absent : (p : OpId) → IsIn v.id (version_ids (versions_at old p)) → ⊥
     absent p h = let k : ◌≡◌ {A = Option OpId} None (Some p) = sym was ∙ (filed.both v.id p).1 h in cc
 
     put_ids : (p i : OpId) → IsIn i (version_ids (versions_at new p)) ↔ (((same_id p o ≡ true) × (v.id ≡ i)) ⊎ IsIn i (version_ids (versions_at old p)))
     put_ids p i = subst (λ xs. IsIn i (version_ids xs) ↔ (((same_id p o ≡ true) × (v.id ≡ i)) ⊎ IsIn i (version_ids (versions_at old p)))) (sym (put_at p)) (at (same_id p o))
       where
-        at : (b : Bool) → IsIn i (version_ids (cond b (placed by_id v (versions_at old p)) (versions_at old p))) ↔ (((b ≡ true) × (v.id ≡ i)) ⊎ IsIn i (version_ids (versions_at old p)))
+        at : (b : Bool) → IsIn i (version_ids (cond b (insert_ordered by_id v (versions_at old p)) (versions_at old p))) ↔ (((b ≡ true) × (v.id ≡ i)) ⊎ IsIn i (version_ids (versions_at old p)))
         at true = let w = ids_with v (versions_at old p) (absent p) i in (λ h. elim (w.0 h) [ inl e ↦ inl (refl, e) | inr t ↦ inr t ], λ h. w.1 (elim h [ inl e ↦ inl e.1 | inr t ↦ inr t ]))
         at false = (λ h. inr h, λ h. elim h [ inl e ↦ absurd (false≢true e.0) | inr t ↦ t ])
 
     put_flags : (p i : OpId) → same_id i v.id ≡ false → flags_among (versions_at new p) i ≡ flags_among (versions_at old p) i
     put_flags p i f = ap (λ xs. flags_among xs i) (put_at p) ∙ at (same_id p o)
       where
-        at : (b : Bool) → flags_among (cond b (placed by_id v (versions_at old p)) (versions_at old p)) i ≡ flags_among (versions_at old p) i
+        at : (b : Bool) → flags_among (cond b (insert_ordered by_id v (versions_at old p)) (versions_at old p)) i ≡ flags_among (versions_at old p) i
         at true = flags_with v (versions_at old p) (absent p) i f
         at false = refl
 
     put_ascending : (p : OpId) → IsAscending id_order (version_ids (versions_at new p))
     put_ascending p = subst (λ xs. IsAscending id_order (version_ids xs)) (sym (put_at p)) (at (same_id p o))
       where
-        at : (b : Bool) → IsAscending id_order (version_ids (cond b (placed by_id v (versions_at old p)) (versions_at old p)))
+        at : (b : Bool) → IsAscending id_order (version_ids (cond b (insert_ordered by_id v (versions_at old p)) (versions_at old p)))
         at true = ascending_with v (versions_at old p) (filed.ascending p)
         at false = filed.ascending p
 
-    pub filed_put : AreFiled new after
+    pub filed_put : AreIndexed new after
     filed_put = record {
       some = λ p vs e. elim (cases_Bool (same_id p o)) [
         | inl t ↦
-            let same : vs.items ≡ placed by_id v (versions_at old o) = sym (ap listed (subst (λ q. lookup (same_id q) new ≡ Some vs) (id_is p o t) e)) ∙ put.here in
+            let same : vs.items ≡ insert_ordered by_id v (versions_at old o) = sym (ap versions_or_none (subst (λ q. lookup (same_id q) new ≡ Some vs) (id_is p o t) e)) ∙ put.here in
             subst (λ xs. 0 < length xs) (sym same) (placed_long v (versions_at old o)).0
         | inr f ↦ filed.some p vs (sym (put.beside p f) ∙ e)
       ];
@@ -274,14 +274,14 @@ some_id : (ids : List OpId) → not (not (length ids == 0)) ≡ false → (i : O
 some_id [] h = absurd (false≢true (sym h))
 some_id (i ∷ is) h = (i, inl refl)
 
-pub empty_told : (k : Kept) → AreFiled k.messages k.origins → (b : Bool) → b ≡ not (has_ids k) → MatchBool b ((i : OpId) → HasTagIn (folder_contents k) i → ⊥) ((i : OpId) × HasTagIn (folder_contents k) i)
+pub empty_told : (k : FolderTables) → AreIndexed k.messages k.origins → (b : Bool) → b ≡ not (has_ids k) → MatchBool b ((i : OpId) → HasTagIn (folder_contents k) i → ⊥) ((i : OpId) × HasTagIn (folder_contents k) i)
 empty_told k filed true e = λ i h. let none : folder_ids k ≡ [] = no_ids (folder_ids k) (sym e) in subst (IsIn i) none ((ids_are k filed i).1 h)
 empty_told k filed false e = let w = some_id (folder_ids k) (sym e) in (w.0, (ids_are k filed w.0).0 w.1)
 
 more_than_none : {X : Type 0} (x : X) (xs : List X) → (length (x ∷ xs) == 0) ≡ false
 more_than_none x xs = false_from_ne_true (length (x ∷ xs) == 0) (λ h. let k : length (x ∷ xs) ≡ 0 = eqb-true (length (x ∷ xs)) 0 h in absurd (omega (arith, k)))
 
-pub emptied : (k : Kept) (b : Bool) → length k.tags ≡ 0 → IsTrue b ↔ (length k.origins ≡ 0) → b ≡ not (has_ids k)
+pub emptied : (k : FolderTables) (b : Bool) → length k.tags ≡ 0 → IsTrue b ↔ (length k.origins ≡ 0) → b ≡ not (has_ids k)
 emptied k b e h = at k.tags k.origins b e h
   where
     at : (tags : List OpId) (origins : List (OpId × OpId)) (b : Bool) → length tags ≡ 0 → IsTrue b ↔ (length origins ≡ 0) → b ≡ not (not (length (tags ++ keys_of origins) == 0))
@@ -291,7 +291,7 @@ emptied k b e h = at k.tags k.origins b e h
     at [] (o ∷ os) false e h = sym (ap (λ c. not (not c)) (more_than_none o.0 (keys_of os)))
     at (t ∷ ts) os b e h = absurd (omega (arith, e))
 
-pub tagged : (k : Kept) → (length k.tags ≡ 0 → ⊥) → false ≡ not (has_ids k)
+pub tagged : (k : FolderTables) → (length k.tags ≡ 0 → ⊥) → false ≡ not (has_ids k)
 tagged k h = at k.tags h
   where
     at : (tags : List OpId) → (length tags ≡ 0 → ⊥) → false ≡ not (not (length (tags ++ keys_of k.origins) == 0))
@@ -314,6 +314,6 @@ pub in_place_of : {X : Type 0} (b : Bool) (x y : Option X) → cond b x (cond b 
 in_place_of true x y = refl
 in_place_of false x y = refl
 
-pub version_there : (f : InFolder) (o : OpId) (vs : List Version) → AreVersionsOf f o vs → (i : OpId) × (option_map (λ (b : Body). b.origin) (f.bodies i) ≡ Some o)
+pub version_there : (f : FolderContents) (o : OpId) (vs : List Version) → AreVersionsOf f o vs → (i : OpId) × (option_map (λ (b : MessageTagData). b.origin) (f.bodies i) ≡ Some o)
 version_there f o [] h = absurd (let k = h.some in omega (arith, k))
 version_there f o (v ∷ vs) h = (v.id, (h.listed v.id).0 (inl refl))

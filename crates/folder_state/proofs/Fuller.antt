@@ -6,17 +6,17 @@ use Rattle.std.specs.Vec.{vec_capacity}
 use Rattle.std.specs.Str.{bytes_eq}
 use Rattle.std.proofs.lemmas.Bool.{cases_Bool, false≢true}
 use Rattle.tags_clocks.specs.declared.id.OpId.{OpId}
-use Rattle.crdt_ops.specs.Order.{is_some_id, placed, same_id}
+use Rattle.crdt_ops.specs.SortedSets.{is_some_id, insert_ordered, same_id}
 use Rattle.imap_types.specs.declared.version.Version.{Version}
-use Rattle.folder_state.specs.Kept.{IsTakenOut, Kept, by_id, folder_at}
-use Rattle.folder_state.specs.Rooms.{AreNoFuller, HasPlaces, HasRoomAt, HasVersionPlaces, HasVersionRoom, IsNoFuller, IsNoFullerIn, LeavesRoom, wanted_by}
+use Rattle.folder_state.specs.FolderTables.{IsTakenOut, FolderTables, by_id, find_folder}
+use Rattle.folder_state.specs.OpRoom.{AreNoFuller, HasPlaces, HasRoomAt, HasVersionPlaces, HasVersionRoom, IsNoFuller, IsNoFullerIn, LeavesRoom, counts_of}
 use Rattle.folder_state.proofs.Lenses.{own_name, same_name, some_is}
 use Rattle.folder_state.proofs.Versions.{id_is, own_id, placed_long}
 
-pub no_fuller_same : (a : Kept) → IsNoFuller a a
+pub no_fuller_same : (a : FolderTables) → IsNoFuller a a
 no_fuller_same a = record { tags = omega arith; messages = omega arith; origins = omega arith; versions = λ o n h. h }
 
-pub no_fuller_behind : (a b c : Kept) → IsNoFuller a b → IsNoFuller b c → IsNoFuller a c
+pub no_fuller_behind : (a b c : FolderTables) → IsNoFuller a b → IsNoFuller b c → IsNoFuller a c
 no_fuller_behind a b c h k = record {
   tags = omega (arith, h.tags, k.tags);
   messages = omega (arith, h.messages, k.messages);
@@ -24,7 +24,7 @@ no_fuller_behind a b c h k = record {
   versions = λ o n r. k.versions o n (h.versions o n r);
 }
 
-pub places_kept : (a b : Kept) (o : Option OpId) (n : ℕ) → IsNoFuller a b → HasPlaces a o n → HasPlaces b o n
+pub places_kept : (a b : FolderTables) (o : Option OpId) (n : ℕ) → IsNoFuller a b → HasPlaces a o n → HasPlaces b o n
 places_kept a b o n h p = record {
   tags = omega (arith, h.tags, p.tags);
   messages = λ q e. let x = p.messages q e in omega (arith, h.messages, x);
@@ -32,7 +32,7 @@ places_kept a b o n h p = record {
 }
 
 -- the room for fewer tags
-fewer_places : (k : Kept) (o : Option OpId) (m n : ℕ) → n ≤ m → HasPlaces k o m → HasPlaces k o n
+fewer_places : (k : FolderTables) (o : Option OpId) (m n : ℕ) → n ≤ m → HasPlaces k o m → HasPlaces k o n
 fewer_places k o m n less p = record {
   tags = let x = p.tags in omega (arith, x, less);
   messages = λ q e. let x = p.messages q e in omega (arith, x, less);
@@ -66,61 +66,61 @@ put_room o origin n old new now beside is here h vs e =
     ]
 
 -- one version more in a list that had room for it
-pub one_fits : (o origin : OpId) (n : ℕ) (old : List (OpId × Vec Version)) (v : Version) (was now : Vec Version) → lookup (same_id origin) old ≡ Some was → now.items ≡ placed by_id v was.items → vec_capacity now ≡ vec_capacity was → HasVersionRoom old o (cond (same_id o origin) 1 0 + n) → same_id o origin ≡ true → length now.items + n ≤ vec_capacity now
+pub one_fits : (o origin : OpId) (n : ℕ) (old : List (OpId × Vec Version)) (v : Version) (was now : Vec Version) → lookup (same_id origin) old ≡ Some was → now.items ≡ insert_ordered by_id v was.items → vec_capacity now ≡ vec_capacity was → HasVersionRoom old o (cond (same_id o origin) 1 0 + n) → same_id o origin ≡ true → length now.items + n ≤ vec_capacity now
 one_fits o origin n old v was now found items capacity h t =
     let room = h was (subst (λ q. lookup (same_id q) old ≡ Some was) (sym (id_is o origin t)) found) in
     let one : ◌≡◌ {A = ℕ} (cond (same_id o origin) 1 0) 1 = ap (λ b. cond b 1 0) t in
     let long = (placed_long v was.items).1 in
-    let same : length now.items ≡ length (placed by_id v was.items) = ap length items in
+    let same : length now.items ≡ length (insert_ordered by_id v was.items) = ap length items in
     omega (arith, room, one, long, same, capacity)
 
-pub first_fits : (n : ℕ) (v : Version) (list now : Vec Version) → list.items ≡ [] → now.items ≡ placed by_id v list.items → vec_capacity now ≡ vec_capacity list → 1 + n ≤ vec_capacity list → length now.items + n ≤ vec_capacity now
+pub first_fits : (n : ℕ) (v : Version) (list now : Vec Version) → list.items ≡ [] → now.items ≡ insert_ordered by_id v list.items → vec_capacity now ≡ vec_capacity list → 1 + n ≤ vec_capacity list → length now.items + n ≤ vec_capacity now
 first_fits n v list now none items capacity h =
-    let same : length now.items ≡ length (placed by_id v []) = ap length (items ∙ ap (placed by_id v) none) in
-    let one : length (placed by_id v []) ≡ 1 = omega arith in
+    let same : length now.items ≡ length (insert_ordered by_id v []) = ap length (items ∙ ap (insert_ordered by_id v) none) in
+    let one : length (insert_ordered by_id v []) ≡ 1 = omega arith in
     omega (arith, same, one, capacity, h)
 
 -- ---- one folder of many
 
-pub no_fuller_in : (o : Option Kept) → IsNoFullerIn o o
+pub no_fuller_in : (o : Option FolderTables) → IsNoFullerIn o o
 no_fuller_in None = tt
 no_fuller_in (Some k) = no_fuller_same k
 
 fewer : (messages : List (OpId × Vec Version)) (o : OpId) (x n : ℕ) → HasVersionRoom messages o (x + n) → HasVersionRoom messages o n
 fewer messages o x n h vs e = let k = h vs e in omega (arith, k)
 
-module _ (name : List ℕ) (old new : List (Vec ℕ × Kept)) (a b : Kept) (was : folder_at name old ≡ Some a) (at : (f : List ℕ) → folder_at f new ≡ cond (bytes_eq f name) (Some b) (folder_at f old)) where
-  pub no_fuller_now : IsNoFuller a b → (f : List ℕ) → IsNoFullerIn (folder_at f old) (folder_at f new)
+module _ (name : List ℕ) (old new : List (Vec ℕ × FolderTables)) (a b : FolderTables) (was : find_folder name old ≡ Some a) (at : (f : List ℕ) → find_folder f new ≡ cond (bytes_eq f name) (Some b) (find_folder f old)) where
+  pub no_fuller_now : IsNoFuller a b → (f : List ℕ) → IsNoFullerIn (find_folder f old) (find_folder f new)
   no_fuller_now h f =
       elim (cases_Bool (bytes_eq f name)) [
         | inl t ↦
-            let there : folder_at f old ≡ Some a = ap (λ g. folder_at g old) (same_name f name t) ∙ was in
-            let now : folder_at f new ≡ Some b = at f ∙ (λ k. cond (t k) (Some b) (folder_at f old)) in
-            subst (λ (x : Option Kept × Option Kept). IsNoFullerIn x.0 x.1) (λ k. (sym there k, sym now k)) h
-        | inr d ↦ subst (IsNoFullerIn (folder_at f old)) (sym (at f ∙ (λ k. cond (d k) (Some b) (folder_at f old)))) (no_fuller_in (folder_at f old))
+            let there : find_folder f old ≡ Some a = ap (λ g. find_folder g old) (same_name f name t) ∙ was in
+            let now : find_folder f new ≡ Some b = at f ∙ (λ k. cond (t k) (Some b) (find_folder f old)) in
+            subst (λ (x : Option FolderTables × Option FolderTables). IsNoFullerIn x.0 x.1) (λ k. (sym there k, sym now k)) h
+        | inr d ↦ subst (IsNoFullerIn (find_folder f old)) (sym (at f ∙ (λ k. cond (d k) (Some b) (find_folder f old)))) (no_fuller_in (find_folder f old))
       ]
 
   -- the room that is left behind a tag put in
-  pub room_left : (origin : Option OpId) (places : ℕ) → ((o : Option OpId) (n : ℕ) → HasPlaces a o (n + 1) → HasPlaces b o n) → ((o : OpId) (n : ℕ) → HasVersionRoom a.messages o (cond (is_some_id o origin) 1 0 + n) → (is_some_id o origin ≡ true → 1 + n ≤ places) → HasVersionRoom b.messages o n) → LeavesRoom name origin places (λ n. folder_at n old) (λ n. folder_at n new)
+  pub room_left : (origin : Option OpId) (places : ℕ) → ((o : Option OpId) (n : ℕ) → HasPlaces a o (n + 1) → HasPlaces b o n) → ((o : OpId) (n : ℕ) → HasVersionRoom a.messages o (cond (is_some_id o origin) 1 0 + n) → (is_some_id o origin ≡ true → 1 + n ≤ places) → HasVersionRoom b.messages o n) → LeavesRoom name origin places (λ n. find_folder n old) (λ n. find_folder n new)
   room_left origin places room fits tags versions o None h w = tt
   room_left origin places room fits tags versions o (Some n) h w =
       elim (cases_Bool (bytes_eq n name)) [
         | inl t ↦
-            let same : a ≡ h.0 = some_is a h.0 (sym was ∙ ap (λ g. folder_at g old) (sym (same_name n name t)) ∙ h.1) in
-            let now : folder_at n new ≡ Some b = at n ∙ (λ k. cond (t k) (Some b) (folder_at n old)) in
+            let same : a ≡ h.0 = some_is a h.0 (sym was ∙ ap (λ g. find_folder g old) (sym (same_name n name t)) ∙ h.1) in
+            let now : find_folder n new ≡ Some b = at n ∙ (λ k. cond (t k) (Some b) (find_folder n old)) in
             let one : ◌≡◌ {A = ℕ} (cond (bytes_eq n name) 1 0) 1 = ap (λ c. cond c 1 0) t in
             let places_here : HasPlaces h.0 o (tags n + 1) = fewer_places h.0 o (cond (bytes_eq n name) 1 0 + tags n) (tags n + 1) (omega (arith, one)) h.2 in
-            (b, now, room o (tags n) (subst (λ (k : Kept). HasPlaces k o (tags n + 1)) (sym same) places_here), fit origin o (subst (λ (k : Kept). HasVersionPlaces k o (wanted_by (λ i. cond (is_some_id i origin) 1 0 + versions i) o)) (sym same) h.3) w fits)
+            (b, now, room o (tags n) (subst (λ (k : FolderTables). HasPlaces k o (tags n + 1)) (sym same) places_here), fit origin o (subst (λ (k : FolderTables). HasVersionPlaces k o (counts_of (λ i. cond (is_some_id i origin) 1 0 + versions i) o)) (sym same) h.3) w fits)
         | inr d ↦
-            let now : folder_at n new ≡ Some h.0 = at n ∙ (λ k. cond (d k) (Some b) (folder_at n old)) ∙ h.1 in
+            let now : find_folder n new ≡ Some h.0 = at n ∙ (λ k. cond (d k) (Some b) (find_folder n old)) ∙ h.1 in
             (h.0, now, fewer_places h.0 o (cond (bytes_eq n name) 1 0 + tags n) (tags n) (omega arith) h.2, beside o h.3)
       ]
     where
-      beside : (o : Option OpId) → HasVersionPlaces h.0 o (wanted_by (λ i. cond (is_some_id i origin) 1 0 + versions i) o) → HasVersionPlaces h.0 o (wanted_by versions o)
+      beside : (o : Option OpId) → HasVersionPlaces h.0 o (counts_of (λ i. cond (is_some_id i origin) 1 0 + versions i) o) → HasVersionPlaces h.0 o (counts_of versions o)
       beside None k = tt
       beside (Some q) k = fewer h.0.messages q (cond (is_some_id q origin) 1 0) (versions q) k
 
-      fit : (origin o : Option OpId) → HasVersionPlaces a o (wanted_by (λ i. cond (is_some_id i origin) 1 0 + versions i) o) → wanted_by (λ i. cond (is_some_id i origin) 1 0 + versions i) origin ≤ places → ((o : OpId) (n : ℕ) → HasVersionRoom a.messages o (cond (is_some_id o origin) 1 0 + n) → (is_some_id o origin ≡ true → 1 + n ≤ places) → HasVersionRoom b.messages o n) → HasVersionPlaces b o (wanted_by versions o)
+      fit : (origin o : Option OpId) → HasVersionPlaces a o (counts_of (λ i. cond (is_some_id i origin) 1 0 + versions i) o) → counts_of (λ i. cond (is_some_id i origin) 1 0 + versions i) origin ≤ places → ((o : OpId) (n : ℕ) → HasVersionRoom a.messages o (cond (is_some_id o origin) 1 0 + n) → (is_some_id o origin ≡ true → 1 + n ≤ places) → HasVersionRoom b.messages o n) → HasVersionPlaces b o (counts_of versions o)
       fit origin None k w fits = tt
       fit None (Some q) k w fits = fits q (versions q) k (λ t. absurd (false≢true t))
       fit (Some r) (Some q) k w fits = fits q (versions q) k (λ t.
@@ -130,20 +130,20 @@ module _ (name : List ℕ) (old new : List (Vec ℕ × Kept)) (a b : Kept) (was 
           let turned : versions q ≡ versions r = ap versions same in
           omega (arith, one, less, turned))
 
-pub same_lists : (a b : Kept) (o : OpId) (n : ℕ) → b.messages ≡ a.messages → HasVersionRoom a.messages o (0 + n) → HasVersionRoom b.messages o n
+pub same_lists : (a b : FolderTables) (o : OpId) (n : ℕ) → b.messages ≡ a.messages → HasVersionRoom a.messages o (0 + n) → HasVersionRoom b.messages o n
 same_lists a b o n e h = subst (λ (m : List (OpId × Vec Version)). HasVersionRoom m o n) (sym e) (fewer a.messages o 0 n h)
 
 -- ---- what is wanted, with and without one operation
 
-pub room_less : (extra tags : List ℕ → ℕ) (more versions : OpId → ℕ) (o : Option OpId) (t : Option (List ℕ)) (folders : List ℕ → Option Kept) → HasRoomAt (λ n. extra n + tags n) (λ i. more i + versions i) o t folders → HasRoomAt tags versions o t folders
+pub room_less : (extra tags : List ℕ → ℕ) (more versions : OpId → ℕ) (o : Option OpId) (t : Option (List ℕ)) (folders : List ℕ → Option FolderTables) → HasRoomAt (λ n. extra n + tags n) (λ i. more i + versions i) o t folders → HasRoomAt tags versions o t folders
 room_less extra tags more versions o None folders h = tt
 room_less extra tags more versions o (Some n) folders h = (h.0, h.1, fewer_places h.0 o (extra n + tags n) (tags n) (omega arith) h.2, at o h.3)
   where
-    at : (o : Option OpId) → HasVersionPlaces h.0 o (wanted_by (λ i. more i + versions i) o) → HasVersionPlaces h.0 o (wanted_by versions o)
+    at : (o : Option OpId) → HasVersionPlaces h.0 o (counts_of (λ i. more i + versions i) o) → HasVersionPlaces h.0 o (counts_of versions o)
     at None k = tt
     at (Some q) k = fewer h.0.messages q (more q) (versions q) k
 
-pub place_one : (name : List ℕ) (k : Kept) (o : Option OpId) → HasPlaces k o (cond (bytes_eq name name) 1 0 + 0) → HasPlaces k o 1
+pub place_one : (name : List ℕ) (k : FolderTables) (o : Option OpId) → HasPlaces k o (cond (bytes_eq name name) 1 0 + 0) → HasPlaces k o 1
 place_one name k o h =
     let one : ◌≡◌ {A = ℕ} (cond (bytes_eq name name) 1 0) 1 = ap (λ b. cond b 1 0) (own_name name) in
     fewer_places k o (cond (bytes_eq name name) 1 0 + 0) 1 (omega (arith, one)) h
@@ -161,17 +161,17 @@ list_one id n h =
 
 -- ---- the room that there is behind what was taken out
 
-pub room_no_fuller : (old new : List (Vec ℕ × Kept)) → AreNoFuller old new → (tags : List ℕ → ℕ) (versions : OpId → ℕ) (o : Option OpId) (t : Option (List ℕ)) → HasRoomAt tags versions o t (λ n. folder_at n old) → HasRoomAt tags versions o t (λ n. folder_at n new)
+pub room_no_fuller : (old new : List (Vec ℕ × FolderTables)) → AreNoFuller old new → (tags : List ℕ → ℕ) (versions : OpId → ℕ) (o : Option OpId) (t : Option (List ℕ)) → HasRoomAt tags versions o t (λ n. find_folder n old) → HasRoomAt tags versions o t (λ n. find_folder n new)
 room_no_fuller old new less tags versions o None h = tt
 room_no_fuller old new less tags versions o (Some n) h =
-    let w = there (folder_at n old) (folder_at n new) h.0 (less n) h.1 in
+    let w = there (find_folder n old) (find_folder n new) h.0 (less n) h.1 in
     (w.0, w.1, places_kept h.0 w.0 o (tags n) w.2 h.2, fits w.0 w.2 o h.3)
   where
-    there : (x y : Option Kept) (k : Kept) → IsNoFullerIn x y → x ≡ Some k → (l : Kept) × (y ≡ Some l) × IsNoFuller k l
-    there None y k m e = absurd (let z : ◌≡◌ {A = Option Kept} None (Some k) = e in cc)
+    there : (x y : Option FolderTables) (k : FolderTables) → IsNoFullerIn x y → x ≡ Some k → (l : FolderTables) × (y ≡ Some l) × IsNoFuller k l
+    there None y k m e = absurd (let z : ◌≡◌ {A = Option FolderTables} None (Some k) = e in cc)
     there (Some x) None k m e = absurd m
     there (Some x) (Some y) k m e = (y, refl, subst (λ z. IsNoFuller z y) (some_is x k e) m)
 
-    fits : (l : Kept) → IsNoFuller h.0 l → (o : Option OpId) → HasVersionPlaces h.0 o (wanted_by versions o) → HasVersionPlaces l o (wanted_by versions o)
+    fits : (l : FolderTables) → IsNoFuller h.0 l → (o : Option OpId) → HasVersionPlaces h.0 o (counts_of versions o) → HasVersionPlaces l o (counts_of versions o)
     fits l m None k = tt
     fits l m (Some q) k = m.versions q (versions q) k

@@ -6,8 +6,8 @@ use Rattle.std.proofs.lemmas.Bool.{and_from, and_parts, cases_Bool, false≢true
 use Rattle.tags_clocks.specs.declared.id.OpId.{OpId}
 use Rattle.merge_laws.specs.Orders.{AreSound, IsCausal, IsIn}
 use Rattle.crdt_ops.specs.declared.op.Op.{Op}
-use Rattle.crdt_ops.specs.Order.{is_some_id}
-use Rattle.crdt_ops.specs.Sets.{Body, body_by}
+use Rattle.crdt_ops.specs.SortedSets.{is_some_id}
+use Rattle.crdt_ops.specs.Sets.{MessageTagData, tag_data_by}
 use Rattle.crdt_ops.specs.Sound.{IsSound}
 use Rattle.crdt_ops.specs.Tags.{FolderTag, MessageTag, adds, removes}
 use Rattle.crdt_ops.specs.TagLaws.{adds_own}
@@ -16,9 +16,9 @@ use Rattle.crdt_ops.proofs.VersionLemmas.{some_id}
 use Rattle.imap_types.specs.declared.version.Version.{Version}
 use Rattle.imap_types.specs.Unions.{version_ids}
 use Rattle.folder_state.specs.Contents.{Contents, HasTag, HasVersion, IsMadeBy, effect_of, no_contents, origin_in}
-use Rattle.folder_state.specs.Kept.{HasTagIn, Kept, body_in_folder, has_tag_in, held_in}
-use Rattle.folder_state.specs.Later.{after, alone, has_body, has_tag_after, is_brought, is_some, is_version}
-use Rattle.folder_state.specs.Rooms.{origin_by}
+use Rattle.folder_state.specs.FolderTables.{HasTagIn, FolderTables, body_in_folder, has_tag_in, folder_tag_data}
+use Rattle.folder_state.specs.AfterOps.{after, alone, has_body, has_tag_after, is_added_and_left, is_some, is_version}
+use Rattle.folder_state.specs.OpRoom.{origin_by}
 use Rattle.folder_state.proofs.VersionLemmas.{body_source, cond_some, origin_some}
 use Rattle.crdt_ops.specs.Ops.{clock_of, id_of}
 
@@ -65,7 +65,7 @@ after_from (o ∷ ops) c n i h =
           | inl a ↦ inr (o, inl refl, own_id n i o (inr a))
           | inr g ↦ inl (elim t [
             | inl k ↦ inl (kept_tag (adds (FolderTag n i) o) (removes (FolderTag n i) o) (c.tags n i) k f)
-            | inr k ↦ inr (kept_body (adds (MessageTag n i) o) (removes (MessageTag n i) o) (body_by o.id o.kind) (c.bodies n i) k g)
+            | inr k ↦ inr (kept_body (adds (MessageTag n i) o) (removes (MessageTag n i) o) (tag_data_by o.id o.kind) (c.bodies n i) k g)
           ])
         ]
       ]
@@ -80,14 +80,14 @@ tag_alike c d (o ∷ ops) n i e = tag_alike (effect_of c o) (effect_of d o) ops 
 
 body_alike : (c d : Contents) (ops : List Op) (n : List ℕ) (i : OpId) → c.bodies n i ≡ d.bodies n i → (after c ops).bodies n i ≡ (after d ops).bodies n i
 body_alike c d [] n i e = e
-body_alike c d (o ∷ ops) n i e = body_alike (effect_of c o) (effect_of d o) ops n i (λ k. cond (adds (MessageTag n i) o) (body_by o.id o.kind) (cond (removes (MessageTag n i) o) None (e k)))
+body_alike c d (o ∷ ops) n i e = body_alike (effect_of c o) (effect_of d o) ops n i (λ k. cond (adds (MessageTag n i) o) (tag_data_by o.id o.kind) (cond (removes (MessageTag n i) o) None (e k)))
 
-module _ (c : Contents) (n : List ℕ) (held : Option Kept) (tags : (i : OpId) → c.tags n i ≡ has_tag_in held i) (bodies : (i : OpId) → c.bodies n i ≡ body_in_folder held i) (ops : List Op) where
+module _ (c : Contents) (n : List ℕ) (held : Option FolderTables) (tags : (i : OpId) → c.tags n i ≡ has_tag_in held i) (bodies : (i : OpId) → c.bodies n i ≡ body_in_folder held i) (ops : List Op) where
   alike : (i : OpId) → has_tag_after c ops n i ≡ has_tag_after (alone held) ops n i
   alike i = λ k. tag_alike c (alone held) ops n i (tags i) k || is_some (body_alike c (alone held) ops n i (bodies i) k)
 
   -- whether a tag is left
-  pub tag_left : (ids : List OpId) → ((i : OpId) → IsIn i ids ↔ HasTagIn (held_in held) i) → (r : Bool) → r ≡ (list_any (λ i. has_tag_after (alone held) ops n i) ids || list_any (λ o. has_tag_after (alone held) ops n o.id) ops) → (r ≡ true) ↔ ((i : OpId) × HasTag (after c ops) n i)
+  pub tag_left : (ids : List OpId) → ((i : OpId) → IsIn i ids ↔ HasTagIn (folder_tag_data held) i) → (r : Bool) → r ≡ (list_any (λ i. has_tag_after (alone held) ops n i) ids || list_any (λ o. has_tag_after (alone held) ops n o.id) ops) → (r ≡ true) ↔ ((i : OpId) × HasTag (after c ops) n i)
   tag_left ids listed r e =
       let a = list_any (λ (i : OpId). has_tag_after (alone held) ops n i) ids in
       let b = list_any (λ (o : Op). has_tag_after (alone held) ops n o.id) ops in
@@ -100,39 +100,39 @@ module _ (c : Contents) (n : List ℕ) (held : Option Kept) (tags : (i : OpId) �
             let here : has_tag_after (alone held) ops n w.0 ≡ true = sym (alike w.0) ∙ (has_by c ops n w.0).0 w.1 in
             e ∙ elim (after_from ops c n w.0 w.1) [
               | inl u ↦
-                  let own : HasTagIn (held_in held) w.0 = elim u [ inl t ↦ inl (sym (tags w.0) ∙ t) | inr t ↦ inr (subst IsSome (bodies w.0) t) ] in
+                  let own : HasTagIn (folder_tag_data held) w.0 = elim u [ inl t ↦ inl (sym (tags w.0) ∙ t) | inr t ↦ inr (subst IsSome (bodies w.0) t) ] in
                   or_left a b ((any_in (λ (i : OpId). has_tag_after (alone held) ops n i) ids).1 (w.0, (listed w.0).1 own, here))
               | inr u ↦ or_right a b ((any_in (λ (o : Op). has_tag_after (alone held) ops n o.id) ops).1 (u.0, u.1, subst (λ j. has_tag_after (alone held) ops n j ≡ true) u.2 here))
             ],
       )
 
   -- whether a version is left
-  pub version_left : (o : OpId) (vs : List Version) → ((i : OpId) → IsIn i (version_ids vs) ↔ (option_map (λ (b : Body). b.origin) (body_in_folder held i) ≡ Some o)) → (r : Bool) → r ≡ (list_any (λ v. is_version (after (alone held) ops) n o v.id) vs || list_any (is_brought held ops n o) ops) → (r ≡ true) ↔ HasVersion (after c ops) n o
+  pub version_left : (o : OpId) (vs : List Version) → ((i : OpId) → IsIn i (version_ids vs) ↔ (option_map (λ (b : MessageTagData). b.origin) (body_in_folder held i) ≡ Some o)) → (r : Bool) → r ≡ (list_any (λ v. is_version (after (alone held) ops) n o v.id) vs || list_any (is_added_and_left held ops n o) ops) → (r ≡ true) ↔ HasVersion (after c ops) n o
   version_left o vs listed r e =
       let a = list_any (λ (v : Version). is_version (after (alone held) ops) n o v.id) vs in
-      let b = list_any (is_brought held ops n o) ops in
+      let b = list_any (is_added_and_left held ops n o) ops in
       let same = λ (i : OpId). body_alike c (alone held) ops n i (bodies i) in
-      let there = λ (i : OpId) (t : is_version (after (alone held) ops) n o i ≡ true). ap (option_map (λ (b : Body). b.origin)) (same i) ∙ (some_id o (origin_in (after (alone held) ops) n i)).0 t in (
+      let there = λ (i : OpId) (t : is_version (after (alone held) ops) n o i ≡ true). ap (option_map (λ (b : MessageTagData). b.origin)) (same i) ∙ (some_id o (origin_in (after (alone held) ops) n i)).0 t in (
         λ t. elim (or_cases a b (sym e ∙ t)) [
           | inl k ↦ let w = (any_in (λ (v : Version). is_version (after (alone held) ops) n o v.id) vs).0 k in (w.0.id, there w.0.id w.2)
           | inr k ↦
-              let w = (any_in (is_brought held ops n o) ops).0 k in
+              let w = (any_in (is_added_and_left held ops n o) ops).0 k in
               (w.0.id, there w.0.id (and_parts (is_some_id o (origin_by w.0.id w.0.kind)) (is_version (after (alone held) ops) n o w.0.id) w.2).1)
         ],
         λ h.
             let f = origin_some ((after c ops).bodies n h.0) o h.1 in
-            let here : is_version (after (alone held) ops) n o h.0 ≡ true = (some_id o (origin_in (after (alone held) ops) n h.0)).1 (ap (option_map (λ (b : Body). b.origin)) (sym (same h.0)) ∙ h.1) in
+            let here : is_version (after (alone held) ops) n o h.0 ≡ true = (some_id o (origin_in (after (alone held) ops) n h.0)).1 (ap (option_map (λ (b : MessageTagData). b.origin)) (sym (same h.0)) ∙ h.1) in
             e ∙ elim (body_source ops c n h.0 f.0 f.1) [
               | inl k ↦
-                  let own = (listed h.0).1 (ap (option_map (λ (b : Body). b.origin)) (sym (bodies h.0) ∙ k) ∙ ap (λ (j : OpId). Some j) f.2) in
+                  let own = (listed h.0).1 (ap (option_map (λ (b : MessageTagData). b.origin)) (sym (bodies h.0) ∙ k) ∙ ap (λ (j : OpId). Some j) f.2) in
                   let v = (in_map (λ (v : Version). v.id) vs h.0).0 own in
                   or_left a b ((any_in (λ (v : Version). is_version (after (alone held) ops) n o v.id) vs).1 (v.0, v.1, subst (λ j. is_version (after (alone held) ops) n o j ≡ true) (sym v.2) here))
               | inr k ↦
-                  let adds_it = cond_some (adds (MessageTag n h.0) k.0) (body_by k.0.id k.0.kind) f.0 k.2 in
+                  let adds_it = cond_some (adds (MessageTag n h.0) k.0) (tag_data_by k.0.id k.0.kind) f.0 k.2 in
                   let own : h.0 ≡ k.0.id = adds_own (MessageTag n h.0) k.0 adds_it in
-                  let by : body_by k.0.id k.0.kind ≡ Some f.0 = (λ j. cond (sym adds_it j) (body_by k.0.id k.0.kind) None) ∙ k.2 in
-                  let origin : origin_by k.0.id k.0.kind ≡ Some o = ap (option_map (λ (b : Body). b.origin)) by ∙ ap (λ (j : OpId). Some j) f.2 in
-                  or_right a b ((any_in (is_brought held ops n o) ops).1 (
+                  let by : tag_data_by k.0.id k.0.kind ≡ Some f.0 = (λ j. cond (sym adds_it j) (tag_data_by k.0.id k.0.kind) None) ∙ k.2 in
+                  let origin : origin_by k.0.id k.0.kind ≡ Some o = ap (option_map (λ (b : MessageTagData). b.origin)) by ∙ ap (λ (j : OpId). Some j) f.2 in
+                  or_right a b ((any_in (is_added_and_left held ops n o) ops).1 (
                     k.0,
                     k.1,
                     and_from (is_some_id o (origin_by k.0.id k.0.kind)) (is_version (after (alone held) ops) n o k.0.id)
@@ -148,7 +148,7 @@ after_more c ops m o l e =
     ap (λ j. after c (take j ops)) (add-one m) ∙ ap (after c) (take-suc ops m o l) ∙ fold_append c (take m ops) (get_or ops m o ∷ [])
     ∙ ap (effect_of (after c (take m ops))) (sym e)
 
-pub origin_more : (a r : Bool) (x y : Option Body) → option_map (λ (b : Body). b.origin) (cond a x (cond r None y)) ≡ cond a (option_map (λ (b : Body). b.origin) x) (cond r None (option_map (λ (b : Body). b.origin) y))
+pub origin_more : (a r : Bool) (x y : Option MessageTagData) → option_map (λ (b : MessageTagData). b.origin) (cond a x (cond r None y)) ≡ cond a (option_map (λ (b : MessageTagData). b.origin) x) (cond r None (option_map (λ (b : MessageTagData). b.origin) y))
 origin_more true r x y = refl
 origin_more false true x y = refl
 origin_more false false x y = refl

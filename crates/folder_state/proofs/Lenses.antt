@@ -10,8 +10,8 @@ use Rattle.std.proofs.lemmas.Bool.{cases_Bool}
 use Rattle.std.proofs.lemmas.List.Folds.{list_any-append}
 use Rattle.std.proofs.lemmas.Slice.Eq.{bytes_eq-Decides}
 use Rattle.tags_clocks.specs.declared.id.OpId.{OpId}
-use Rattle.crdt_ops.specs.Order.{same_id}
-use Rattle.folder_state.specs.Kept.{Kept, folder_at}
+use Rattle.crdt_ops.specs.SortedSets.{same_id}
+use Rattle.folder_state.specs.FolderTables.{FolderTables, find_folder}
 use Rattle.folder_state.proofs.Versions.{id_is, id_not, not_id, own_id}
 
 pub some_is : {X : Type 0} (x y : X) → ◌≡◌ {A = Option X} (Some x) (Some y) → x ≡ y
@@ -82,26 +82,26 @@ module _ {X : Type 0} (name : List ℕ) (old new : List (Vec ℕ × X)) (keeps :
 pub folder_changed : {X : Type 0} (name octets : List ℕ) → octets ≡ name → (old new : List (Vec ℕ × X)) → KeepsOthers (λ (x y : Vec ℕ). bytes_eq x.items y.items) (λ (key : Vec ℕ). bytes_eq octets key.items) old new → (a : Option X) → named octets new ≡ a → (f : List ℕ) → named f new ≡ cond (bytes_eq f name) a (named f old)
 folder_changed name octets e old new keeps a is f = subst (λ n. named f new ≡ cond (bytes_eq f n) a (named f old)) e (name_now octets old new keeps a is f)
 
-module _ (name : List ℕ) (old new : List (Vec ℕ × Kept)) (a b : Kept) (was : folder_at name old ≡ Some a) (at : (f : List ℕ) → folder_at f new ≡ cond (bytes_eq f name) (Some b) (folder_at f old)) where
+module _ (name : List ℕ) (old new : List (Vec ℕ × FolderTables)) (a b : FolderTables) (was : find_folder name old ≡ Some a) (at : (f : List ℕ) → find_folder f new ≡ cond (bytes_eq f name) (Some b) (find_folder f old)) where
   -- what is told of each folder, where it changes in this one
-  pub told_now : {X : Type 0} (P : Option Kept → OpId → X) (F : Bool → OpId → X → X) → ((i : OpId) (x : X) → F false i x ≡ x) → ((i : OpId) → P (Some b) i ≡ F true i (P (Some a) i)) → (f : List ℕ) (i : OpId) → P (folder_at f new) i ≡ F (bytes_eq f name) i (P (folder_at f old) i)
+  pub told_now : {X : Type 0} (P : Option FolderTables → OpId → X) (F : Bool → OpId → X → X) → ((i : OpId) (x : X) → F false i x ≡ x) → ((i : OpId) → P (Some b) i ≡ F true i (P (Some a) i)) → (f : List ℕ) (i : OpId) → P (find_folder f new) i ≡ F (bytes_eq f name) i (P (find_folder f old) i)
   told_now P F none here f i =
       ap (λ o. P o i) (at f)
       ∙ elim (cases_Bool (bytes_eq f name)) [
         | inl t ↦
-            let there : folder_at f old ≡ Some a = ap (λ g. folder_at g old) (same_name f name t) ∙ was in
-            (λ k. P (cond (t k) (Some b) (folder_at f old)) i) ∙ here i ∙ (λ k. F (sym t k) i (P (sym there k) i))
-        | inr d ↦ (λ k. P (cond (d k) (Some b) (folder_at f old)) i) ∙ sym (none i (P (folder_at f old) i)) ∙ (λ k. F (sym d k) i (P (folder_at f old) i))
+            let there : find_folder f old ≡ Some a = ap (λ g. find_folder g old) (same_name f name t) ∙ was in
+            (λ k. P (cond (t k) (Some b) (find_folder f old)) i) ∙ here i ∙ (λ k. F (sym t k) i (P (sym there k) i))
+        | inr d ↦ (λ k. P (cond (d k) (Some b) (find_folder f old)) i) ∙ sym (none i (P (find_folder f old) i)) ∙ (λ k. F (sym d k) i (P (find_folder f old) i))
       ]
 
 -- nothing changes where the folder isn't there
-pub told_same : (name : List ℕ) (old : List (Vec ℕ × Kept)) → folder_at name old ≡ None → {X : Type 0} (P : Option Kept → OpId → X) (F : Bool → OpId → X → X) → ((i : OpId) (x : X) → F false i x ≡ x) → ((i : OpId) → P None i ≡ F true i (P None i)) → (f : List ℕ) (i : OpId) → P (folder_at f old) i ≡ F (bytes_eq f name) i (P (folder_at f old) i)
+pub told_same : (name : List ℕ) (old : List (Vec ℕ × FolderTables)) → find_folder name old ≡ None → {X : Type 0} (P : Option FolderTables → OpId → X) (F : Bool → OpId → X → X) → ((i : OpId) (x : X) → F false i x ≡ x) → ((i : OpId) → P None i ≡ F true i (P None i)) → (f : List ℕ) (i : OpId) → P (find_folder f old) i ≡ F (bytes_eq f name) i (P (find_folder f old) i)
 told_same name old was P F none here f i =
     elim (cases_Bool (bytes_eq f name)) [
       | inl t ↦
-          let there : folder_at f old ≡ None = ap (λ g. folder_at g old) (same_name f name t) ∙ was in
+          let there : find_folder f old ≡ None = ap (λ g. find_folder g old) (same_name f name t) ∙ was in
           (λ k. P (there k) i) ∙ here i ∙ (λ k. F (sym t k) i (P (sym there k) i))
-      | inr d ↦ sym (none i (P (folder_at f old) i)) ∙ (λ k. F (sym d k) i (P (folder_at f old) i))
+      | inr d ↦ sym (none i (P (find_folder f old) i)) ∙ (λ k. F (sym d k) i (P (find_folder f old) i))
     ]
 
 pub and_nothing : (b : Bool) → false ≡ (not b && false)

@@ -1,8 +1,8 @@
 -- Lists made in loops.
 use Rattle.std.proofs.Common.{Result, Ok, Err, IfOk, ◌≡◌, ◌↔◌, ◌⊎◌, inl, inr, ℕ, zero, suc, ◌+◌, ◌≤◌, ◌<◌, add-one, arith, Bool, true, false, cond, ◌||◌, Option, None, Some, List, [], ◌∷◌, ◌++◌, drop, length, take, refl, sym, ap, ◌∙◌, subst}
 use Rattle.std.specs.Global.{Vec}
-use Rattle.imap_types.specs.Ascending.{compared}
-use Rattle.folder_state.specs.Kept.{Kept, folder_named}
+use Rattle.imap_types.specs.Ascending.{octet_order}
+use Rattle.folder_state.specs.FolderTables.{FolderTables, name_if_tagged}
 use Rattle.std.specs.List.{cons_option, filter_map, fold, list_any, slice_get}
 use Rattle.std.specs.Option.{MatchOption}
 use Rattle.std.proofs.lemmas.Bool.{false≢true}
@@ -11,10 +11,10 @@ use Rattle.tags_clocks.specs.declared.id.OpId.{OpId}
 use Rattle.merge_laws.specs.Orders.{IsIn}
 use Rattle.imap_types.specs.declared.version.Version.{Version}
 use Rattle.imap_types.specs.Unions.{version_ids}
-use Rattle.crdt_ops.specs.Order.{IsListOf, id_order, in_order, placed}
+use Rattle.crdt_ops.specs.SortedSets.{IsListOf, id_order, sorted_set, insert_ordered}
 
-pub folded : (ids list : List OpId) (i : ℕ) → length list ≤ i → fold (λ done id. placed id_order id done) ids (drop i list) ≡ in_order id_order list → ids ≡ in_order id_order list
-folded ids list i l h = sym (ap (fold (λ done id. placed id_order id done) ids) (drop_all i list l)) ∙ h
+pub folded : (ids list : List OpId) (i : ℕ) → length list ≤ i → fold (λ done id. insert_ordered id_order id done) ids (drop i list) ≡ sorted_set id_order list → ids ≡ sorted_set id_order list
+folded ids list i l h = sym (ap (fold (λ done id. insert_ordered id_order id done) ids) (drop_all i list l)) ∙ h
 
 -- ---- places
 
@@ -88,25 +88,25 @@ given_more xs i = ap (λ j. take j xs) (add-one i) ∙ at xs i
 -- ---- names
 
 abbrev names_put : List (List ℕ) → List (List ℕ) → List (List ℕ)
-names_put names more = fold (λ done name. placed compared name done) names more
+names_put names more = fold (λ done name. insert_ordered octet_order name done) names more
 
-pub names_more : (es : List (Vec ℕ × Kept)) (i : ℕ) (names new : List (List ℕ)) → i < length es → MatchOption (slice_get es i) (new ≡ names) (λ e. new ≡ names_put names (cons_option (folder_named e) [])) → names_put new (filter_map folder_named (drop (i + 1) es)) ≡ names_put names (filter_map folder_named (drop i es))
+pub names_more : (es : List (Vec ℕ × FolderTables)) (i : ℕ) (names new : List (List ℕ)) → i < length es → MatchOption (slice_get es i) (new ≡ names) (λ e. new ≡ names_put names (cons_option (name_if_tagged e) [])) → names_put new (filter_map name_if_tagged (drop (i + 1) es)) ≡ names_put names (filter_map name_if_tagged (drop i es))
 names_more es i names new l h = at (slice_get es i) refl h
   where
     one : (x : Option (List ℕ)) (rest : List (List ℕ)) → names_put (names_put names (cons_option x [])) rest ≡ names_put names (cons_option x rest)
     one None rest = refl
     one (Some name) rest = refl
 
-    at : (o : Option (Vec ℕ × Kept)) → slice_get es i ≡ o → MatchOption o (new ≡ names) (λ e. new ≡ names_put names (cons_option (folder_named e) [])) → names_put new (filter_map folder_named (drop (i + 1) es)) ≡ names_put names (filter_map folder_named (drop i es))
+    at : (o : Option (Vec ℕ × FolderTables)) → slice_get es i ≡ o → MatchOption o (new ≡ names) (λ e. new ≡ names_put names (cons_option (name_if_tagged e) [])) → names_put new (filter_map name_if_tagged (drop (i + 1) es)) ≡ names_put names (filter_map name_if_tagged (drop i es))
     at None e m = absurd (let k = none_at es i e in omega (arith, k, l))
     at (Some x) e m =
-        ap (λ j. names_put new (filter_map folder_named (drop j es))) (add-one i)
-        ∙ ap (λ n. names_put n (filter_map folder_named (drop (suc i) es))) m
-        ∙ one (folder_named x) (filter_map folder_named (drop (suc i) es))
-        ∙ sym (ap (λ xs. names_put names (filter_map folder_named xs)) (cut_at es i x e))
+        ap (λ j. names_put new (filter_map name_if_tagged (drop j es))) (add-one i)
+        ∙ ap (λ n. names_put n (filter_map name_if_tagged (drop (suc i) es))) m
+        ∙ one (name_if_tagged x) (filter_map name_if_tagged (drop (suc i) es))
+        ∙ sym (ap (λ xs. names_put names (filter_map name_if_tagged xs)) (cut_at es i x e))
 
-pub names_done : (es : List (Vec ℕ × Kept)) (i : ℕ) (names all : List (List ℕ)) → length es ≤ i → names_put names (filter_map folder_named (drop i es)) ≡ all → names ≡ all
-names_done es i names all l h = sym (ap (λ xs. names_put names (filter_map folder_named xs)) (drop_all i es l)) ∙ h
+pub names_done : (es : List (Vec ℕ × FolderTables)) (i : ℕ) (names all : List (List ℕ)) → length es ≤ i → names_put names (filter_map name_if_tagged (drop i es)) ≡ all → names ≡ all
+names_done es i names all l h = sym (ap (λ xs. names_put names (filter_map name_if_tagged xs)) (drop_all i es l)) ∙ h
 
 -- the same list by another property
 pub listed_so : (P Q : OpId → Type 0) (ids : List OpId) → IsListOf id_order P ids → ((i : OpId) → P i ↔ Q i) → IsListOf id_order Q ids
@@ -131,6 +131,6 @@ in_taken xs i y h = at xs i (subst (IsIn y) (ap (λ j. take j xs) (add-one i)) h
 abbrev pub folder_named_by : Bool → List ℕ → Option (List ℕ)
 folder_named_by b name = cond b (Some name) None
 
-pub put_named : (b : Bool) (name : List ℕ) (names : List (List ℕ)) → cond b (placed compared name names) names ≡ names_put names (cons_option (folder_named_by b name) [])
+pub put_named : (b : Bool) (name : List ℕ) (names : List (List ℕ)) → cond b (insert_ordered octet_order name names) names ≡ names_put names (cons_option (folder_named_by b name) [])
 put_named true name names = refl
 put_named false name names = refl

@@ -11,11 +11,11 @@ use Rattle.std.proofs.lemmas.Bool.{cases_Bool}
 use Rattle.tags_clocks.specs.declared.id.OpId.{OpId}
 use Rattle.merge_laws.specs.Orders.{IsIn}
 use Rattle.merge_laws.proofs.Lists.{in_parts}
-use Rattle.crdt_ops.specs.Order.{IsAscending, id_order, same_id}
+use Rattle.crdt_ops.specs.SortedSets.{IsAscending, id_order, same_id}
 use Rattle.imap_types.specs.declared.version.Version.{Version}
 use Rattle.imap_types.specs.Unions.{version_ids}
-use Rattle.folder_state.specs.Kept.{AreFiled, Kept, body_at, body_in_folder, flags_among, folder_at, has_tag_in, listed, versions_at}
-use Rattle.folder_state.specs.Rooms.{AreRoomier, AreRoomierLists, HasRoomAt, HasVersionPlaces, HasVersionRoom, IsRoomier, IsRoomierIn, IsRoomierList, wanted_by}
+use Rattle.folder_state.specs.FolderTables.{AreIndexed, FolderTables, body_at, body_in_folder, flags_among, find_folder, has_tag_in, versions_or_none, versions_at}
+use Rattle.folder_state.specs.OpRoom.{AreRoomier, AreRoomierLists, HasRoomAt, HasVersionPlaces, HasVersionRoom, IsRoomier, IsRoomierIn, IsRoomierList, counts_of}
 use Rattle.folder_state.proofs.Filed.{carrying}
 use Rattle.folder_state.proofs.Lenses.{same_name, some_is}
 use Rattle.folder_state.proofs.Versions.{id_is, own_id}
@@ -37,7 +37,7 @@ list_behind (Some x) (Some y) (Some z) h k = (k.0 ∙ h.0, let a = h.1 in let b 
 pub roomier_lists : (messages : List (OpId × Vec Version)) → AreRoomierLists messages messages
 roomier_lists messages o = roomier_list (lookup (same_id o) messages)
 
-list_same : (x y : Option (Vec Version)) → IsRoomierList x y → listed y ≡ listed x
+list_same : (x y : Option (Vec Version)) → IsRoomierList x y → versions_or_none y ≡ versions_or_none x
 list_same None None h = refl
 list_same None (Some y) h = absurd h
 list_same (Some x) None h = absurd h
@@ -62,7 +62,7 @@ module _ (old new : List (OpId × Vec Version)) (roomier : AreRoomierLists old n
   pub versions_same : (o : OpId) → versions_at new o ≡ versions_at old o
   versions_same o = list_same (lookup (same_id o) old) (lookup (same_id o) new) (roomier o)
 
-  pub filed_roomier : (origins : List (OpId × OpId)) → AreFiled old origins → AreFiled new origins
+  pub filed_roomier : (origins : List (OpId × OpId)) → AreIndexed old origins → AreIndexed new origins
   filed_roomier origins filed = record {
     some = λ o vs e. let w = list_some (lookup (same_id o) old) (lookup (same_id o) new) vs (roomier o) e in subst (λ xs. 0 < length xs) (sym w.2) (filed.some o w.0 w.1);
     ascending = λ o. subst (λ xs. IsAscending id_order (version_ids xs)) (sym (versions_same o)) (filed.ascending o);
@@ -87,11 +87,11 @@ none_listed (e ∷ es) h = absurd (subst (IsRoomierList None) (ap (λ b. cond b 
 
 -- ---- folders
 
-pub roomier_in : (x : Option Kept) → IsRoomierIn x x
+pub roomier_in : (x : Option FolderTables) → IsRoomierIn x x
 roomier_in None = tt
 roomier_in (Some k) = record { tags = refl; origins = refl; versions = roomier_lists k.messages; tag_room = omega arith; message_room = omega arith; origin_room = omega arith }
 
-pub roomier_behind : (x y z : Option Kept) → IsRoomierIn x y → IsRoomierIn y z → IsRoomierIn x z
+pub roomier_behind : (x y z : Option FolderTables) → IsRoomierIn x y → IsRoomierIn y z → IsRoomierIn x z
 roomier_behind None None z h k = k
 roomier_behind None (Some y) None h k = absurd k
 roomier_behind None (Some y) (Some z) h k = (k.tags ∙ h.0, none_listed z.messages (subst (λ m. AreRoomierLists m z.messages) h.1 k.versions), k.origins ∙ h.2)
@@ -106,13 +106,13 @@ roomier_behind (Some x) (Some y) (Some z) h k = record {
   origin_room = let a = h.origin_room in let b = k.origin_room in omega (arith, a, b);
 }
 
-pub tags_roomier : (x y : Option Kept) → IsRoomierIn x y → (i : OpId) → has_tag_in y i ≡ has_tag_in x i
+pub tags_roomier : (x y : Option FolderTables) → IsRoomierIn x y → (i : OpId) → has_tag_in y i ≡ has_tag_in x i
 tags_roomier None None h i = refl
 tags_roomier None (Some y) h i = ap (list_any (same_id i)) h.0
 tags_roomier (Some x) None h i = absurd h
 tags_roomier (Some x) (Some y) h i = ap (list_any (same_id i)) h.tags
 
-pub bodies_roomier : (x y : Option Kept) → IsRoomierIn x y → (i : OpId) → body_in_folder y i ≡ body_in_folder x i
+pub bodies_roomier : (x y : Option FolderTables) → IsRoomierIn x y → (i : OpId) → body_in_folder y i ≡ body_in_folder x i
 bodies_roomier None None h i = refl
 bodies_roomier None (Some y) h i = ap (λ (es : List (OpId × OpId)). body_at y.messages i (lookup (same_id i) es)) h.2
 bodies_roomier (Some x) None h i = absurd h
@@ -120,27 +120,27 @@ bodies_roomier (Some x) (Some y) h i =
     ap (λ (es : List (OpId × OpId)). body_at y.messages i (lookup (same_id i) es)) h.origins
     ∙ body_roomier x.messages y.messages h.versions i (lookup (same_id i) x.origins)
 
-module _ (name : List ℕ) (old new : List (Vec ℕ × Kept)) (was is : Option Kept) (before : folder_at name old ≡ was) (at : (f : List ℕ) → folder_at f new ≡ cond (bytes_eq f name) is (folder_at f old)) where
+module _ (name : List ℕ) (old new : List (Vec ℕ × FolderTables)) (was is : Option FolderTables) (before : find_folder name old ≡ was) (at : (f : List ℕ) → find_folder f new ≡ cond (bytes_eq f name) is (find_folder f old)) where
   pub roomier_at : IsRoomierIn was is → AreRoomier old new
   roomier_at h f =
       elim (cases_Bool (bytes_eq f name)) [
         | inl t ↦
-            let there : folder_at f old ≡ was = ap (λ g. folder_at g old) (same_name f name t) ∙ before in
-            let now : folder_at f new ≡ is = at f ∙ (λ k. cond (t k) is (folder_at f old)) in
-            subst (λ (x : Option Kept × Option Kept). IsRoomierIn x.0 x.1) (λ k. (sym there k, sym now k)) h
-        | inr d ↦ subst (IsRoomierIn (folder_at f old)) (sym (at f ∙ (λ k. cond (d k) is (folder_at f old)))) (roomier_in (folder_at f old))
+            let there : find_folder f old ≡ was = ap (λ g. find_folder g old) (same_name f name t) ∙ before in
+            let now : find_folder f new ≡ is = at f ∙ (λ k. cond (t k) is (find_folder f old)) in
+            subst (λ (x : Option FolderTables × Option FolderTables). IsRoomierIn x.0 x.1) (λ k. (sym there k, sym now k)) h
+        | inr d ↦ subst (IsRoomierIn (find_folder f old)) (sym (at f ∙ (λ k. cond (d k) is (find_folder f old)))) (roomier_in (find_folder f old))
       ]
 
-pub places_roomier : (x y : Option Kept) → IsRoomierIn x y → (k : Kept) → x ≡ Some k → (l : Kept) × (y ≡ Some l) × IsRoomier k l
+pub places_roomier : (x y : Option FolderTables) → IsRoomierIn x y → (k : FolderTables) → x ≡ Some k → (l : FolderTables) × (y ≡ Some l) × IsRoomier k l
 places_roomier None y h k e = absurd (let z = e in cc)
 places_roomier (Some x) None h k e = absurd h
 places_roomier (Some x) (Some y) h k e = (y, refl, subst (λ z. IsRoomier z y) (some_is x k e) h)
 
 -- the room that there was is kept
-pub room_kept : (old new : List (Vec ℕ × Kept)) → AreRoomier old new → (tags : List ℕ → ℕ) (versions : OpId → ℕ) (o : Option OpId) (t : Option (List ℕ)) → HasRoomAt tags versions o t (λ n. folder_at n old) → HasRoomAt tags versions o t (λ n. folder_at n new)
+pub room_kept : (old new : List (Vec ℕ × FolderTables)) → AreRoomier old new → (tags : List ℕ → ℕ) (versions : OpId → ℕ) (o : Option OpId) (t : Option (List ℕ)) → HasRoomAt tags versions o t (λ n. find_folder n old) → HasRoomAt tags versions o t (λ n. find_folder n new)
 room_kept old new roomier tags versions o None h = tt
 room_kept old new roomier tags versions o (Some n) h =
-    let w = places_roomier (folder_at n old) (folder_at n new) (roomier n) h.0 h.1 in
+    let w = places_roomier (find_folder n old) (find_folder n new) (roomier n) h.0 h.1 in
     let p = h.2 in
     let r = w.2 in (
       w.0,
@@ -153,9 +153,9 @@ room_kept old new roomier tags versions o (Some n) h =
       at o h.3,
     )
   where
-    at : (o : Option OpId) → HasVersionPlaces h.0 o (wanted_by versions o) → HasVersionPlaces (places_roomier (folder_at n old) (folder_at n new) (roomier n) h.0 h.1).0 o (wanted_by versions o)
+    at : (o : Option OpId) → HasVersionPlaces h.0 o (counts_of versions o) → HasVersionPlaces (places_roomier (find_folder n old) (find_folder n new) (roomier n) h.0 h.1).0 o (counts_of versions o)
     at None k = tt
-    at (Some q) k = room_roomier h.0.messages (places_roomier (folder_at n old) (folder_at n new) (roomier n) h.0 h.1).0.messages (places_roomier (folder_at n old) (folder_at n new) (roomier n) h.0 h.1).2.versions q (versions q) k
+    at (Some q) k = room_roomier h.0.messages (places_roomier (find_folder n old) (find_folder n new) (roomier n) h.0 h.1).0.messages (places_roomier (find_folder n old) (find_folder n new) (roomier n) h.0 h.1).2.versions q (versions q) k
 
 pub in_more : {X : Type 0} (xs : List X) (n : ℕ) (x y : X) → n < length xs → x ≡ get_or xs n x → IsIn y (take (n + 1) xs) → IsIn y (take n xs) ⊎ (x ≡ y)
 in_more xs n x y l e h =
@@ -164,6 +164,6 @@ in_more xs n x y l e h =
       | inr t ↦ elim t [ inl k ↦ inr k | inr k ↦ absurd k ]
     ]
 
-pub nothing_to_fit : (k : Kept) (o : Option OpId) (n : ℕ) → k.messages ≡ [] → HasVersionPlaces k o n
+pub nothing_to_fit : (k : FolderTables) (o : Option OpId) (n : ℕ) → k.messages ≡ [] → HasVersionPlaces k o n
 nothing_to_fit k None n e = tt
 nothing_to_fit k (Some o) n e = λ vs f. let z : ◌≡◌ {A = Option (Vec Version)} None (Some vs) = ap (lookup (same_id o)) (sym e) ∙ f in absurd cc

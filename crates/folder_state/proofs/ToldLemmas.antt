@@ -6,34 +6,34 @@ use Rattle.std.specs.List.{cons_option, filter_map, list_any}
 use Rattle.std.specs.Str.{bytes_eq}
 use Rattle.std.proofs.lemmas.Bool.{and_parts, cases_Bool, false≢true, false_from_ne_true}
 use Rattle.std.proofs.lemmas.Slice.Eq.{bytes_eq-Decides}
-use Rattle.imap_types.specs.Ascending.{compared}
+use Rattle.imap_types.specs.Ascending.{octet_order}
 use Rattle.imap_types.specs.Names.{inbox}
 use Rattle.tags_clocks.specs.declared.id.OpId.{OpId}
 use Rattle.merge_laws.specs.Orders.{IsIn}
 use Rattle.merge_laws.proofs.Lists.{in_back, in_front}
 use Rattle.crdt_ops.specs.declared.op.Op.{Op}
-use Rattle.crdt_ops.specs.Order.{IsListOf, id_order, in_order, same_id}
-use Rattle.crdt_ops.specs.Sets.{body_by, body_from, delete_set_of, first_given, folder_at, folder_id, folder_tag_id, folder_tags_of, folders_of}
+use Rattle.crdt_ops.specs.SortedSets.{IsListOf, id_order, sorted_set, same_id}
+use Rattle.crdt_ops.specs.Sets.{tag_data_by, tag_data_from, delete_set_of, first_some, folder_of_tag, folder_tag_or_message_tag_id, folder_tag_id, folder_tags_of, folders_of}
 use Rattle.crdt_ops.specs.Tags.{MessageTag, adds, is_present, present_tags, removes}
 use Rattle.crdt_ops.proofs.Members.{any_in, given_in, in_filter_map}
 use Rattle.crdt_ops.proofs.OrderLemmas.{id_order_same, id_order_total, in_order_lists, listed_in_order, lists_by, names_same, names_total}
 use Rattle.crdt_ops.proofs.SetLemmas.{delete_set_in, folder_tags_in, folders_in}
 use Rattle.folder_state.specs.Contents.{Contents, HasTag, IsFolder, IsMadeBy, contents_by}
-use Rattle.folder_state.specs.Kept.{HasTagIn, IsKnown, Kept, body_at, body_in_folder, folder_contents, folder_ids, folder_named, has_ids, has_tag_in, held_in}
+use Rattle.folder_state.specs.FolderTables.{HasTagIn, IsIndexedFolder, FolderTables, body_at, body_in_folder, folder_contents, folder_ids, name_if_tagged, has_ids, has_tag_in, folder_tag_data}
 use Rattle.folder_state.proofs.Filed.{ids_are, key_found, tag_listed}
 use Rattle.folder_state.proofs.Lenses.{named, some_is}
 use Rattle.folder_state.proofs.SetLemmas.{carries, contents_made}
 
 -- ---- what one folder tells
 
-module _ (c : Contents) (n : List ℕ) (held : Option Kept) (tags : (i : OpId) → c.tags n i ≡ has_tag_in held i) (bodies : (i : OpId) → c.bodies n i ≡ body_in_folder held i) where
-  pub has_tag_told : (i : OpId) → HasTagIn (held_in held) i ↔ HasTag c n i
+module _ (c : Contents) (n : List ℕ) (held : Option FolderTables) (tags : (i : OpId) → c.tags n i ≡ has_tag_in held i) (bodies : (i : OpId) → c.bodies n i ≡ body_in_folder held i) where
+  pub has_tag_told : (i : OpId) → HasTagIn (folder_tag_data held) i ↔ HasTag c n i
   has_tag_told i = (
     λ h. elim h [ inl t ↦ inl (tags i ∙ t) | inr t ↦ inr (subst IsSome (sym (bodies i)) t) ],
     λ h. elim h [ inl t ↦ inl (sym (tags i) ∙ t) | inr t ↦ inr (subst IsSome (bodies i) t) ],
   )
 
-  pub exists_told : (b : Bool) → MatchBool b ((i : OpId) × HasTagIn (held_in held) i) ((i : OpId) → HasTagIn (held_in held) i → ⊥) → (b ≡ true) ↔ ((i : OpId) × HasTag c n i)
+  pub exists_told : (b : Bool) → MatchBool b ((i : OpId) × HasTagIn (folder_tag_data held) i) ((i : OpId) → HasTagIn (folder_tag_data held) i → ⊥) → (b ≡ true) ↔ ((i : OpId) × HasTag c n i)
   exists_told true h = (λ t. (h.0, (has_tag_told h.0).0 h.1), λ t. refl)
   exists_told false h = (λ t. absurd (false≢true t), λ w. absurd (h w.0 ((has_tag_told w.0).1 w.1)))
 
@@ -57,15 +57,15 @@ some_given false x h = absurd (false≢true h)
 -- a present message tag carries something
 pub present_body : (ops : List Op) (n : List ℕ) (i : OpId) → IsSome ((contents_by ops).bodies n i) ↔ (is_present ops (MessageTag n i) ≡ true)
 present_body ops n i = (
-  some_given (is_present ops (MessageTag n i)) (first_given (body_from n i) ops),
+  some_given (is_present ops (MessageTag n i)) (first_some (tag_data_from n i) ops),
   λ h.
       let w = (any_in (adds (MessageTag n i)) ops).0 (and_parts (list_any (adds (MessageTag n i)) ops) (not (list_any (removes (MessageTag n i)) ops)) h).0 in
-      let here : IsSome (body_from n i w.0) =
-      subst (λ (b : Bool). IsSome (cond b (body_by w.0.id w.0.kind) None)) (sym w.2) (carries n i w.0.id w.0.kind w.2) in
-      (given (is_present ops (MessageTag n i)) (first_given (body_from n i) ops) ((given_in (body_from n i) ops).1 (w.0, w.1, here))).1 h,
+      let here : IsSome (tag_data_from n i w.0) =
+      subst (λ (b : Bool). IsSome (cond b (tag_data_by w.0.id w.0.kind) None)) (sym w.2) (carries n i w.0.id w.0.kind w.2) in
+      (given (is_present ops (MessageTag n i)) (first_some (tag_data_from n i) ops) ((given_in (tag_data_from n i) ops).1 (w.0, w.1, here))).1 h,
 )
 
-folders_by : (ops : List Op) (n : List ℕ) → IsFolder (contents_by ops) n ↔ IsIn n (inbox ∷ filter_map folder_at (present_tags ops))
+folders_by : (ops : List Op) (n : List ℕ) → IsFolder (contents_by ops) n ↔ IsIn n (inbox ∷ filter_map folder_of_tag (present_tags ops))
 folders_by ops n =
     let at = folders_in ops n in (
       λ h. elim h [
@@ -81,14 +81,14 @@ folders_by ops n =
 pub exists_by_set : (v : Contents) (ops : List Op) (n : List ℕ) (result : Bool) → IsMadeBy v ops → (result ≡ true) ↔ IsFolder v n → (result ≡ true) ↔ IsIn n (folders_of ops)
 exists_by_set v ops n result m h =
     let k = subst (λ (w : Contents). (result ≡ true) ↔ IsFolder w n) (contents_made v ops m) h in
-    let o = (in_order_lists names_total names_same (inbox ∷ filter_map folder_at (present_tags ops))).1 n in
+    let o = (in_order_lists names_total names_same (inbox ∷ filter_map folder_of_tag (present_tags ops))).1 n in
     let e = folders_by ops n in
     (λ t. o.1 (e.0 (k.0 t)), λ t. k.1 (e.1 (o.0 t)))
 
-pub names_by_set : (v : Contents) (ops : List Op) (names : List (List ℕ)) → IsMadeBy v ops → IsListOf compared (IsFolder v) names → names ≡ folders_of ops
+pub names_by_set : (v : Contents) (ops : List Op) (names : List (List ℕ)) → IsMadeBy v ops → IsListOf octet_order (IsFolder v) names → names ≡ folders_of ops
 names_by_set v ops names m h =
-    listed_in_order names_total names_same (IsFolder (contents_by ops)) names (inbox ∷ filter_map folder_at (present_tags ops))
-    (subst (λ (w : Contents). IsListOf compared (IsFolder w) names) (contents_made v ops m) h) (folders_by ops)
+    listed_in_order names_total names_same (IsFolder (contents_by ops)) names (inbox ∷ filter_map folder_of_tag (present_tags ops))
+    (subst (λ (w : Contents). IsListOf octet_order (IsFolder w) names) (contents_made v ops m) h) (folders_by ops)
 
 pub tags_by_set : (v : Contents) (ops : List Op) (n : List ℕ) (ids : List OpId) → IsMadeBy v ops → IsListOf id_order (λ i. v.tags n i ≡ true) ids → ids ≡ folder_tags_of ops n
 tags_by_set v ops n ids m h =
@@ -98,7 +98,7 @@ tags_by_set v ops n ids m h =
 
 pub delete_set_by_set : (v : Contents) (ops : List Op) (n : List ℕ) (ids : List OpId) → IsMadeBy v ops → IsListOf id_order (HasTag v n) ids → ids ≡ delete_set_of ops n
 delete_set_by_set v ops n ids m h =
-    listed_in_order id_order_total id_order_same (HasTag (contents_by ops) n) ids (filter_map (folder_id n) (present_tags ops))
+    listed_in_order id_order_total id_order_same (HasTag (contents_by ops) n) ids (filter_map (folder_tag_or_message_tag_id n) (present_tags ops))
     (subst (λ (w : Contents). IsListOf id_order (HasTag w n) ids) (contents_made v ops m) h)
     (λ i. let e = delete_set_in ops n i in (
       λ t. e.1 (elim t [ inl k ↦ inl k | inr k ↦ inr ((present_body ops n i).0 k) ]),
@@ -114,7 +114,7 @@ filter_map_same f g (x ∷ xs) h = λ k. cons_option (h x (inl refl) k) (filter_
 
 -- ---- the names of the folders
 
-tag_ids_some : (k : Kept) (i : OpId) → HasTagIn (folder_contents k) i → IsIn i (folder_ids k)
+tag_ids_some : (k : FolderTables) (i : OpId) → HasTagIn (folder_contents k) i → IsIn i (folder_ids k)
 tag_ids_some k i h =
     elim h [
       | inl t ↦ in_front i k.tags (keys_of k.origins) ((tag_listed k.tags i).1 t)
@@ -129,7 +129,7 @@ some_ids : (ids : List OpId) (i : OpId) → IsIn i ids → not (length ids == 0)
 some_ids [] i h = absurd h
 some_ids (x ∷ xs) i h = ap not (false_from_ne_true (length (x ∷ xs) == 0) (λ e. let k : length (x ∷ xs) ≡ 0 = eqb-true (length (x ∷ xs)) 0 e in absurd (omega (arith, k))))
 
-entry_named : (es : List (Vec ℕ × Kept)) (n : List ℕ) (k : Kept) → named n es ≡ Some k → (e : Vec ℕ × Kept) × IsIn e es × (e.0.items ≡ n) × (e.1 ≡ k)
+entry_named : (es : List (Vec ℕ × FolderTables)) (n : List ℕ) (k : FolderTables) → named n es ≡ Some k → (e : Vec ℕ × FolderTables) × IsIn e es × (e.0.items ≡ n) × (e.1 ≡ k)
 entry_named [] n k h = absurd (let z = h in cc)
 entry_named (e ∷ es) n k h =
     elim (cases_Bool (bytes_eq n e.0.items)) [
@@ -141,10 +141,10 @@ chosen_name : (b : Bool) (x y : List ℕ) → ◌≡◌ {A = Option (List ℕ)} 
 chosen_name true x y h = (refl, some_is x y h)
 chosen_name false x y h = absurd (let k : ◌≡◌ {A = Option (List ℕ)} None (Some y) = h in cc)
 
-module _ (c : Contents) (es : List (Vec ℕ × Kept)) (tags : (n : List ℕ) (i : OpId) → c.tags n i ≡ has_tag_in (named n es) i) (bodies : (n : List ℕ) (i : OpId) → c.bodies n i ≡ body_in_folder (named n es) i) (known : (e : Vec ℕ × Kept) → IsIn e es → IsKnown es e) where
-  named_there : (n : List ℕ) → ((i : OpId) × HasTag c n i) ↔ IsIn n (filter_map folder_named es)
+module _ (c : Contents) (es : List (Vec ℕ × FolderTables)) (tags : (n : List ℕ) (i : OpId) → c.tags n i ≡ has_tag_in (named n es) i) (bodies : (n : List ℕ) (i : OpId) → c.bodies n i ≡ body_in_folder (named n es) i) (known : (e : Vec ℕ × FolderTables) → IsIn e es → IsIndexedFolder es e) where
+  named_there : (n : List ℕ) → ((i : OpId) × HasTag c n i) ↔ IsIn n (filter_map name_if_tagged es)
   named_there n =
-      let at = in_filter_map folder_named es n in (
+      let at = in_filter_map name_if_tagged es n in (
         λ h. to (named n es) refl h.0 ((has_tag_told c n (named n es) (tags n) (bodies n) h.0).1 h.1),
         λ h.
             let w = at.0 h in
@@ -152,23 +152,23 @@ module _ (c : Contents) (es : List (Vec ℕ × Kept)) (tags : (n : List ℕ) (i 
             let k = known w.0 w.1 in
             let i = first_id (folder_ids w.0.1) p.0 in
             let found : named n es ≡ Some w.0.1 = subst (λ m. named m es ≡ Some w.0.1) p.1 k.0 in
-            (i.0, (has_tag_told c n (named n es) (tags n) (bodies n) i.0).0 (subst (λ (o : Option Kept). HasTagIn (held_in o) i.0) (sym found) ((ids_are w.0.1 k.1 i.0).0 i.1))),
+            (i.0, (has_tag_told c n (named n es) (tags n) (bodies n) i.0).0 (subst (λ (o : Option FolderTables). HasTagIn (folder_tag_data o) i.0) (sym found) ((ids_are w.0.1 k.1 i.0).0 i.1))),
       )
     where
       first_id : (ids : List OpId) → not (length ids == 0) ≡ true → (i : OpId) × IsIn i ids
       first_id [] h = absurd (false≢true h)
       first_id (i ∷ is) h = (i, inl refl)
 
-      to : (o : Option Kept) → named n es ≡ o → (i : OpId) → HasTagIn (held_in o) i → IsIn n (filter_map folder_named es)
+      to : (o : Option FolderTables) → named n es ≡ o → (i : OpId) → HasTagIn (folder_tag_data o) i → IsIn n (filter_map name_if_tagged es)
       to None e i h = absurd (elim h [ inl t ↦ false≢true t | inr t ↦ false≢true t ])
       to (Some k) e i h =
           let w = entry_named es n k e in
           let some : has_ids w.0.1 ≡ true = some_ids (folder_ids w.0.1) i (tag_ids_some w.0.1 i (subst (λ z. HasTagIn (folder_contents z) i) (sym w.3) h)) in
-          (in_filter_map folder_named es n).1 (w.0, w.1, ap (λ b. cond b (Some w.0.0.items) None) some ∙ ap (λ (m : List ℕ). Some m) w.2)
+          (in_filter_map name_if_tagged es n).1 (w.0, w.1, ap (λ b. cond b (Some w.0.0.items) None) some ∙ ap (λ (m : List ℕ). Some m) w.2)
 
-  pub names_told : (names : List (List ℕ)) → names ≡ in_order compared (inbox ∷ filter_map folder_named es) → IsListOf compared (IsFolder c) names
+  pub names_told : (names : List (List ℕ)) → names ≡ sorted_set octet_order (inbox ∷ filter_map name_if_tagged es) → IsListOf octet_order (IsFolder c) names
   names_told names e =
-      lists_by names_total names_same (IsFolder c) names (inbox ∷ filter_map folder_named es) e (λ n. (
+      lists_by names_total names_same (IsFolder c) names (inbox ∷ filter_map name_if_tagged es) e (λ n. (
         λ h. elim h [ inl k ↦ inl (sym k) | inr w ↦ inr ((named_there n).0 w) ],
         λ h. elim h [ inl k ↦ inl (sym k) | inr t ↦ inr ((named_there n).1 t) ],
       ))

@@ -12,12 +12,12 @@ use Rattle.tags_clocks.specs.declared.id.OpId.{OpId}
 use Rattle.tags_clocks.proofs.Decide.{ids_decide}
 use Rattle.merge_laws.specs.Orders.{IsIn}
 use Rattle.merge_laws.proofs.Lists.{in_middle}
-use Rattle.crdt_ops.specs.Order.{IsAscending, id_order, placed, same_id}
+use Rattle.crdt_ops.specs.SortedSets.{IsAscending, id_order, insert_ordered, same_id}
 use Rattle.crdt_ops.proofs.Members.{in_filter, in_map}
 use Rattle.crdt_ops.proofs.OrderLemmas.{ascending-placed, ascending_filtered, id_order_same, id_order_total}
 use Rattle.imap_types.specs.declared.version.Version.{Version}
 use Rattle.imap_types.specs.Unions.{version_ids}
-use Rattle.folder_state.specs.Kept.{by_id, flags_among, without}
+use Rattle.folder_state.specs.FolderTables.{by_id, flags_among, without}
 
 pub own_id : (i : OpId) → same_id i i ≡ true
 own_id i = (ids_decide i i).1 refl
@@ -135,33 +135,33 @@ shorter_without id (x ∷ xs) = at (not (same_id id x.id)) (without id xs) (shor
 
 -- ---- one more
 
-pub ids_placed : (v : Version) (vs : List Version) → version_ids (placed by_id v vs) ≡ placed id_order v.id (version_ids vs)
+pub ids_placed : (v : Version) (vs : List Version) → version_ids (insert_ordered by_id v vs) ≡ insert_ordered id_order v.id (version_ids vs)
 ids_placed v [] = refl
 ids_placed v (w ∷ ws) = at (id_order v.id w.id) (ids_placed v ws)
   where
-    at : (o : Ordering) → version_ids (placed by_id v ws) ≡ placed id_order v.id (version_ids ws) → version_ids (match_ordering o (v ∷ w ∷ ws) (w ∷ ws) (w ∷ placed by_id v ws)) ≡ match_ordering o (v.id ∷ w.id ∷ version_ids ws) (w.id ∷ version_ids ws) (w.id ∷ placed id_order v.id (version_ids ws))
+    at : (o : Ordering) → version_ids (insert_ordered by_id v ws) ≡ insert_ordered id_order v.id (version_ids ws) → version_ids (match_ordering o (v ∷ w ∷ ws) (w ∷ ws) (w ∷ insert_ordered by_id v ws)) ≡ match_ordering o (v.id ∷ w.id ∷ version_ids ws) (w.id ∷ version_ids ws) (w.id ∷ insert_ordered id_order v.id (version_ids ws))
     at Less h = refl
     at Equal h = refl
     at Greater h = ap (λ is. w.id ∷ is) h
 
-pub ascending_with : (v : Version) (vs : List Version) → IsAscending id_order (version_ids vs) → IsAscending id_order (version_ids (placed by_id v vs))
+pub ascending_with : (v : Version) (vs : List Version) → IsAscending id_order (version_ids vs) → IsAscending id_order (version_ids (insert_ordered by_id v vs))
 ascending_with v vs h = subst (IsAscending id_order) (sym (ids_placed v vs)) (ascending-placed id_order_total v.id (version_ids vs) h)
 
-pub placed_long : (v : Version) (vs : List Version) → (0 < length (placed by_id v vs)) × (length (placed by_id v vs) ≤ length vs + 1)
+pub placed_long : (v : Version) (vs : List Version) → (0 < length (insert_ordered by_id v vs)) × (length (insert_ordered by_id v vs) ≤ length vs + 1)
 placed_long v [] = (omega arith, omega arith)
 placed_long v (w ∷ ws) = at (id_order v.id w.id) (placed_long v ws).1
   where
-    at : (o : Ordering) → length (placed by_id v ws) ≤ length ws + 1 → (0 < length (match_ordering o (v ∷ w ∷ ws) (w ∷ ws) (w ∷ placed by_id v ws))) × (length (match_ordering o (v ∷ w ∷ ws) (w ∷ ws) (w ∷ placed by_id v ws)) ≤ length (w ∷ ws) + 1)
+    at : (o : Ordering) → length (insert_ordered by_id v ws) ≤ length ws + 1 → (0 < length (match_ordering o (v ∷ w ∷ ws) (w ∷ ws) (w ∷ insert_ordered by_id v ws))) × (length (match_ordering o (v ∷ w ∷ ws) (w ∷ ws) (w ∷ insert_ordered by_id v ws)) ≤ length (w ∷ ws) + 1)
     at Less h = (omega arith, omega arith)
     at Equal h = (omega arith, omega arith)
     at Greater h = (omega arith, omega (arith, h))
 
 -- it stands among the others, where none has its id
-pub placed_among : (v : Version) (vs : List Version) → (IsIn v.id (version_ids vs) → ⊥) → (front : List Version) × (back : List Version) × (vs ≡ front ++ back) × (placed by_id v vs ≡ front ++ v ∷ back)
+pub placed_among : (v : Version) (vs : List Version) → (IsIn v.id (version_ids vs) → ⊥) → (front : List Version) × (back : List Version) × (vs ≡ front ++ back) × (insert_ordered by_id v vs ≡ front ++ v ∷ back)
 placed_among v [] h = ([], [], refl, refl)
 placed_among v (w ∷ ws) h = at (id_order v.id w.id) refl (placed_among v ws (λ i. h (inr i)))
   where
-    at : (o : Ordering) → id_order v.id w.id ≡ o → (front : List Version) × (back : List Version) × (ws ≡ front ++ back) × (placed by_id v ws ≡ front ++ v ∷ back) → (front : List Version) × (back : List Version) × (w ∷ ws ≡ front ++ back) × (match_ordering o (v ∷ w ∷ ws) (w ∷ ws) (w ∷ placed by_id v ws) ≡ front ++ v ∷ back)
+    at : (o : Ordering) → id_order v.id w.id ≡ o → (front : List Version) × (back : List Version) × (ws ≡ front ++ back) × (insert_ordered by_id v ws ≡ front ++ v ∷ back) → (front : List Version) × (back : List Version) × (w ∷ ws ≡ front ++ back) × (match_ordering o (v ∷ w ∷ ws) (w ∷ ws) (w ∷ insert_ordered by_id v ws) ≡ front ++ v ∷ back)
     at Less e r = ([], w ∷ ws, refl, refl)
     at Equal e r = absurd (h (inl (sym (id_order_same v.id w.id e))))
     at Greater e r = (w ∷ r.0, r.1, ap (λ xs. w ∷ xs) r.2, ap (λ xs. w ∷ xs) r.3)
@@ -174,19 +174,19 @@ ids_cons (w ∷ front) back v i =
       λ h. elim h [ inl e ↦ inr (rest.1 (inl e)) | inr t ↦ elim t [ inl e ↦ inl e | inr u ↦ inr (rest.1 (inr u)) ] ],
     )
 
-pub ids_with : (v : Version) (vs : List Version) → (IsIn v.id (version_ids vs) → ⊥) → (i : OpId) → IsIn i (version_ids (placed by_id v vs)) ↔ ((v.id ≡ i) ⊎ IsIn i (version_ids vs))
+pub ids_with : (v : Version) (vs : List Version) → (IsIn v.id (version_ids vs) → ⊥) → (i : OpId) → IsIn i (version_ids (insert_ordered by_id v vs)) ↔ ((v.id ≡ i) ⊎ IsIn i (version_ids vs))
 ids_with v vs n i =
     let p = placed_among v vs n in
     subst (λ (x : List Version × List Version). IsIn i (version_ids x.0) ↔ ((v.id ≡ i) ⊎ IsIn i (version_ids x.1))) (λ k. (sym p.3 k, sym p.2 k)) (ids_cons p.0 p.1 v i)
 
-pub own_placed : (v : Version) (vs : List Version) → (IsIn v.id (version_ids vs) → ⊥) → IsIn v (placed by_id v vs)
+pub own_placed : (v : Version) (vs : List Version) → (IsIn v.id (version_ids vs) → ⊥) → IsIn v (insert_ordered by_id v vs)
 own_placed v vs n = let p = placed_among v vs n in subst (IsIn v) (sym p.3) (in_middle v p.0 p.1)
 
 flags_passed : (front back : List Version) (v : Version) (i : OpId) → same_id i v.id ≡ false → flags_among (front ++ v ∷ back) i ≡ flags_among (front ++ back) i
 flags_passed [] back v i f = ap (λ b. option_or (cond b (Some v.flags) None) (flags_among back i)) f
 flags_passed (w ∷ front) back v i f = ap (option_or (cond (same_id i w.id) (Some w.flags) None)) (flags_passed front back v i f)
 
-pub flags_with : (v : Version) (vs : List Version) → (IsIn v.id (version_ids vs) → ⊥) → (i : OpId) → same_id i v.id ≡ false → flags_among (placed by_id v vs) i ≡ flags_among vs i
+pub flags_with : (v : Version) (vs : List Version) → (IsIn v.id (version_ids vs) → ⊥) → (i : OpId) → same_id i v.id ≡ false → flags_among (insert_ordered by_id v vs) i ≡ flags_among vs i
 flags_with v vs n i f =
     let p = placed_among v vs n in
     ap (λ xs. flags_among xs i) p.3 ∙ flags_passed p.0 p.1 v i f ∙ ap (λ xs. flags_among xs i) (sym p.2)

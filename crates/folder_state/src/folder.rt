@@ -5,9 +5,9 @@ ghost use Rattle.std.specs.Bool.{MatchBool};
 ghost use Rattle.std.specs.List.{cons_option, slice_get};
 ghost use Rattle.std.specs.Map.{keys_of};
 ghost use Rattle.std.specs.Option.{option_map};
-ghost use Rattle.tags_clocks.specs.declared.id.OpId.{OpId as Id};
+ghost use Rattle.tags_clocks.specs.declared.id.OpId.{OpId};
 ghost use Rattle.merge_laws.specs.Orders.{IsIn};
-ghost use Rattle.folder_state.specs.Kept.{AreFiled, AreVersionsOf, HasTagIn, folder_contents, folder_ids, has_ids, versions_at};
+ghost use Rattle.folder_state.specs.FolderTables.{AreIndexed, AreVersionsOf, HasTagIn, folder_contents, folder_ids, has_ids, versions_at};
 
 use imap_types::Version;
 use indexmap::{IndexMap, IndexSet};
@@ -36,13 +36,13 @@ impl Drop for Folder {
 impl Model for Folder {
     ghost use Rattle.indexmap.specs.IndexMap.{spare};
     ghost use Rattle.indexmap.specs.IndexSet.{spare as spare_keys};
-    ghost use Rattle.folder_state.specs.Kept.{AreFiled, Kept};
+    ghost use Rattle.folder_state.specs.FolderTables.{AreIndexed, FolderTables};
 
-    ghost Value = { Kept };
+    ghost Value = { FolderTables };
 
     ghost view = { λ f. record { tags = f.tags.keys; messages = f.messages.entries; origins = f.origins.entries; tag_room = spare_keys f.tags; message_room = spare f.messages; origin_room = spare f.origins } };
 
-    ghost invariant = { λ f. AreFiled f.messages.entries f.origins.entries };
+    ghost invariant = { λ f. AreIndexed f.messages.entries f.origins.entries };
 }
 
 impl Folder {
@@ -74,7 +74,7 @@ impl Folder {
     /// The versions of this origin, ascending by id, one at least; None where it has none. Cost: a look-up.
     pub fn versions_of(&self, origin: &OpId) -> Option<&[Version]>
         ensures { MatchOption result
-            ((i : Id) → option_map (λ body. body.origin) ((folder_contents self.now).bodies i) ≡ Some origin.now → ⊥)
+            ((i : OpId) → option_map (λ body. body.origin) ((folder_contents self.now).bodies i) ≡ Some origin.now → ⊥)
             (λ versions. AreVersionsOf (folder_contents self.now) origin.now versions.now) }
     {
         match self.messages.get(origin) {
@@ -86,8 +86,8 @@ impl Folder {
     /// Whether this origin has a version. Cost: a look-up.
     pub(crate) fn has_versions(&self, origin: &OpId) -> bool
         ensures { MatchBool result
-            ((i : Id) × (option_map (λ body. body.origin) ((folder_contents self.now).bodies i) ≡ Some origin.now))
-            ((i : Id) → option_map (λ body. body.origin) ((folder_contents self.now).bodies i) ≡ Some origin.now → ⊥) }
+            ((i : OpId) × (option_map (λ body. body.origin) ((folder_contents self.now).bodies i) ≡ Some origin.now))
+            ((i : OpId) → option_map (λ body. body.origin) ((folder_contents self.now).bodies i) ≡ Some origin.now → ⊥) }
     {
         match self.versions_of(origin) {
             Some(_) => true,
@@ -98,7 +98,7 @@ impl Folder {
     /// The versions of this origin, ascending by id, none where it has none.
     pub(crate) fn versions_at(&self, origin: &OpId) -> &[Version]
         ensures list { result.now ≡ versions_at self.now.messages origin.now }
-        ensures filed { AreFiled self.now.messages self.now.origins }
+        ensures filed { AreIndexed self.now.messages self.now.origins }
     {
         match self.messages.get(origin) {
             Some(versions) => versions,
@@ -109,7 +109,7 @@ impl Folder {
     /// The number of its tags of both kinds.
     pub fn count(&self) -> usize
         ensures ids { result ≡ length (folder_ids self.now) }
-        ensures tags { (i : Id) → IsIn i (folder_ids self.now) ↔ HasTagIn (folder_contents self.now) i }
+        ensures tags { (i : OpId) → IsIn i (folder_ids self.now) ↔ HasTagIn (folder_contents self.now) i }
     {
         self.tags.len() + self.origins.len()
     }
@@ -131,7 +131,7 @@ impl Folder {
     /// Whether it has no tag of either kind.
     pub fn is_empty(&self) -> bool
         ensures ids { result ≡ not (has_ids self.now) }
-        ensures tags { MatchBool result ((i : Id) → HasTagIn (folder_contents self.now) i → ⊥) ((i : Id) × HasTagIn (folder_contents self.now) i) }
+        ensures tags { MatchBool result ((i : OpId) → HasTagIn (folder_contents self.now) i → ⊥) ((i : OpId) × HasTagIn (folder_contents self.now) i) }
     {
         self.tags.is_empty() && self.origins.is_empty()
     }
@@ -146,7 +146,7 @@ impl Folder {
     /// The versions of its messages by origin.
     pub(crate) fn messages(&self) -> &IndexMap<OpId, Vec<Version>>
         ensures entries { result.now.entries ≡ self.now.messages }
-        ensures filed { AreFiled self.now.messages self.now.origins }
+        ensures filed { AreIndexed self.now.messages self.now.origins }
     {
         &self.messages
     }
@@ -154,7 +154,7 @@ impl Folder {
     /// The ids of all its tags; `Err` where there is no memory for them.
     pub(crate) fn ids(&self, alloc: Global) -> Result<Vec<OpId>, AllocError>
         ensures ids { IfOk result (λ ids. ids.items ≡ folder_ids self.now) }
-        ensures tags { (i : Id) → IsIn i (folder_ids self.now) ↔ HasTagIn (folder_contents self.now) i }
+        ensures tags { (i : OpId) → IsIn i (folder_ids self.now) ↔ HasTagIn (folder_contents self.now) i }
     {
         let count = self.count();
         let mut ids = Vec::new(alloc);
@@ -177,7 +177,7 @@ impl Folder {
     /// The origins of its messages; `Err` where there is no memory for them.
     pub(crate) fn origins(&self, alloc: Global) -> Result<Vec<OpId>, AllocError>
         ensures origins { IfOk result (λ ids. ids.items ≡ keys_of self.now.messages) }
-        ensures filed { AreFiled self.now.messages self.now.origins }
+        ensures filed { AreIndexed self.now.messages self.now.origins }
     {
         let mut ids = Vec::new(alloc);
         for place in 0..self.messages.len() {

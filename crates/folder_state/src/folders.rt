@@ -2,18 +2,18 @@
 
 ghost use Rattle.crdt_ops.specs.Ops.{clock_of, id_of};
 
-use crate::changes::{forget_removed, keep_added};
+use crate::tag_changes::{remove_tags_of, add_tag_of};
 use crate::folder::Folder;
-use crate::later::{has_tag_left, has_tags, has_version_left, has_versions};
-use crate::lending::{LentMessage, lent_message, messages_lent};
-use crate::lists::{all_ids, folder_names, is_inbox, tag_ids, version_ids};
-use crate::reading::folder_messages;
-use crate::rooms::{empty_lists, reserve_folders, reserve_one};
-use crate::wanted::Wanted;
-use crdt_ops::{Ids, Message, SoundOp, copied_ops};
+use crate::after_ops::{has_tag_after_all, has_tags, has_version_after_all, has_versions};
+use crate::lent_message::{LentMessage, lent_message, lent_messages};
+use crate::id_lists::{all_ids, folder_names, is_inbox, tag_ids, version_ids};
+use crate::message_reader::folder_messages;
+use crate::op_room::{empty_lists, reserve_folders, reserve_one};
+use crate::tag_counts::TagCounts;
+use crdt_ops::{Ids, Message, SoundOp, copy_ops};
 use imap_types::{Name, Version};
 use indexmap::IndexMap;
-use mail_listing::{Letter, Mailbox};
+use mailbox_rows::{DatedText, FolderMessages};
 use merge_laws::{Caused, Replicated};
 use std::alloc::{AllocError, Global};
 use std::collections::VecDeque;
@@ -22,7 +22,7 @@ use tags_clocks::OpId;
 /// Folders with their messages, changed by operations in any causal order.
 pub struct Folders {
     by_name: IndexMap<Vec<u8>, Folder>,
-    letters: IndexMap<OpId, Letter>,
+    letters: IndexMap<OpId, DatedText>,
     spare: VecDeque<SoundOp>,
     lists: VecDeque<Vec<Version>>,
 }
@@ -43,17 +43,17 @@ impl Folders {
     ghost use Rattle.std.specs.Prelude.{◌≡◌, ◌↔◌, List, None, Some, IfOk, IsTrue, true, if◌then◌else◌};
     ghost use Rattle.std.specs.List.{list_any};
     ghost use Rattle.std.specs.Option.{option_copied, option_map};
-    ghost use Rattle.tags_clocks.specs.declared.id.OpId.{OpId as Id};
-    ghost use Rattle.imap_types.specs.Ascending.{compared};
+    ghost use Rattle.tags_clocks.specs.declared.id.OpId.{OpId};
+    ghost use Rattle.imap_types.specs.Ascending.{octet_order};
     ghost use Rattle.std.specs.Prelude.{◌++◌};
     ghost use Rattle.merge_laws.specs.Orders.{AreSound, IsCausal, IsIn};
     ghost use Rattle.crdt_ops.specs.Sound.{IsSound};
-    ghost use Rattle.folder_state.specs.Later.{after};
-    ghost use Rattle.folder_state.specs.Kept.{body_in_folder, has_tag_in};
-    ghost use Rattle.folder_state.specs.Telling.{lent, letter_told, message_told};
-    ghost use Rattle.mail_listing.specs.Telling.{told_in};
-    ghost use Rattle.crdt_ops.specs.declared.op.Op.{Op as Operation};
-    ghost use Rattle.crdt_ops.specs.Order.{IsListOf, id_order, same_id};
+    ghost use Rattle.folder_state.specs.AfterOps.{after};
+    ghost use Rattle.folder_state.specs.FolderTables.{body_in_folder, has_tag_in};
+    ghost use Rattle.folder_state.specs.LentMessages.{lent_message, kept_dated_text, message_of_data};
+    ghost use Rattle.mailbox_rows.specs.MessageData.{kept_message_data};
+    ghost use Rattle.crdt_ops.specs.declared.op.Op.{Op};
+    ghost use Rattle.crdt_ops.specs.SortedSets.{IsListOf, id_order, same_id};
     ghost use Rattle.crdt_ops.specs.Sets.{delete_set_of, folder_tags_of, folders_of, message_of, messages_of, origins_of, versions_of};
     ghost use Rattle.folder_state.specs.Contents.{AreMessages, AreVersions, HasTag, HasVersion, IsFolder, IsMadeBy, IsMessageOf, no_contents};
     ghost use Rattle.folder_state.specs.Tables.{contents_of};
@@ -72,25 +72,25 @@ impl Folders {
 
     /// What is kept of this folder, where it has a table. Cost: a look-up.
     pub fn folder(&self, name: &Name) -> Option<&Folder>
-        ensures tags { (i : Id) → (contents_of self.now).tags name.now i ≡ has_tag_in (option_copied result) i }
-        ensures bodies { (i : Id) → (contents_of self.now).bodies name.now i ≡ body_in_folder (option_copied result) i }
+        ensures tags { (i : OpId) → (contents_of self.now).tags name.now i ≡ has_tag_in (option_copied result) i }
+        ensures bodies { (i : OpId) → (contents_of self.now).bodies name.now i ≡ body_in_folder (option_copied result) i }
     {
         self.by_name.get(name.as_bytes())
     }
 
     /// The folder's messages as they are kept, lent, with the dates and texts of all Appends. Cost: a look-up.
-    pub fn mailbox(&self, name: &Name) -> Mailbox<'_>
-        ensures contents { (origin : Id) → IsMessageOf (contents_of self.now) name.now origin (option_map (message_told origin) (told_in result origin)) }
+    pub fn mailbox(&self, name: &Name) -> FolderMessages<'_>
+        ensures contents { (origin : OpId) → IsMessageOf (contents_of self.now) name.now origin (option_map (message_of_data origin) (kept_message_data result origin)) }
     {
-        Mailbox {
-            messages: messages_lent(self.folder(name)),
+        FolderMessages {
+            messages: lent_messages(self.folder(name)),
             letters: &self.letters,
         }
     }
 
     /// The date and text of the Append with this id, where one was applied, whatever its folder. Cost: a look-up.
-    pub fn letter(&self, id: &OpId) -> Option<&Letter>
-        ensures { option_map letter_told (option_copied result) ≡ (contents_of self.now).letters id.now }
+    pub fn dated_text(&self, id: &OpId) -> Option<&DatedText>
+        ensures { option_map kept_dated_text (option_copied result) ≡ (contents_of self.now).letters id.now }
     {
         self.letters.get(id)
     }
@@ -98,7 +98,7 @@ impl Folders {
     /// Whether this folder is there: INBOX, or a name with a present tag. Takes no memory. Cost: a look-up.
     pub fn exists(&self, name: &Name) -> bool
         ensures contents { IsTrue result ↔ IsFolder (contents_of self.now) name.now }
-        ensures set { (ops : List Operation) → IsMadeBy (contents_of self.now) ops → IsTrue result ↔ IsIn name.now (folders_of ops) }
+        ensures set { (ops : List Op) → IsMadeBy (contents_of self.now) ops → IsTrue result ↔ IsIn name.now (folders_of ops) }
     {
         is_inbox(name) || has_tags(self.folder(name))
     }
@@ -107,15 +107,15 @@ impl Folders {
     /// the operations times the folder's tags and operations together.
     pub fn exists_after(&self, name: &Name, ops: &[SoundOp]) -> bool
         ensures contents { IsTrue result ↔ IsFolder (after (contents_of self.now) ops.now) name.now }
-        ensures set { (list : List Operation) → IsMadeBy (contents_of self.now) list → AreSound IsSound (list ++ ops.now) → IsCausal id_of clock_of (list ++ ops.now) → IsTrue result ↔ IsIn name.now (folders_of (list ++ ops.now)) }
+        ensures set { (list : List Op) → IsMadeBy (contents_of self.now) list → AreSound IsSound (list ++ ops.now) → IsCausal id_of clock_of (list ++ ops.now) → IsTrue result ↔ IsIn name.now (folders_of (list ++ ops.now)) }
     {
-        is_inbox(name) || has_tag_left(self.folder(name), name, ops)
+        is_inbox(name) || has_tag_after_all(self.folder(name), name, ops)
     }
 
     /// Whether the origin has a version in the folder. Takes no memory. Cost: a look-up.
     pub fn has_version(&self, folder: &Name, origin: &OpId) -> bool
         ensures contents { IsTrue result ↔ HasVersion (contents_of self.now) folder.now origin.now }
-        ensures set { (ops : List Operation) → IsMadeBy (contents_of self.now) ops → IsTrue result ↔ IsIn origin.now (origins_of ops folder.now) }
+        ensures set { (ops : List Op) → IsMadeBy (contents_of self.now) ops → IsTrue result ↔ IsIn origin.now (origins_of ops folder.now) }
     {
         has_versions(self.folder(folder), origin)
     }
@@ -123,16 +123,16 @@ impl Folders {
     /// Whether the origin will have a version in the folder after these operations, applied in this order. Takes no memory.
     pub fn has_version_after(&self, folder: &Name, origin: &OpId, ops: &[SoundOp]) -> bool
         ensures contents { IsTrue result ↔ HasVersion (after (contents_of self.now) ops.now) folder.now origin.now }
-        ensures set { (list : List Operation) → IsMadeBy (contents_of self.now) list → AreSound IsSound (list ++ ops.now) → IsCausal id_of clock_of (list ++ ops.now) → IsTrue result ↔ IsIn origin.now (origins_of (list ++ ops.now) folder.now) }
+        ensures set { (list : List Op) → IsMadeBy (contents_of self.now) list → AreSound IsSound (list ++ ops.now) → IsCausal id_of clock_of (list ++ ops.now) → IsTrue result ↔ IsIn origin.now (origins_of (list ++ ops.now) folder.now) }
     {
-        has_version_left(self.folder(folder), folder, origin, ops)
+        has_version_after_all(self.folder(folder), folder, origin, ops)
     }
 
     /// The folder's message of this origin, all of it lent by the folders; None where the origin has no version in the folder.
     /// Takes no memory. Cost: a look-up or three.
     pub fn message<'a>(&'a self, folder: &Name, origin: &OpId) -> Option<LentMessage<'a>>
-        ensures contents { IsMessageOf (contents_of self.now) folder.now origin.now (option_map lent result) }
-        ensures set { (list : List Operation) → IsMadeBy (contents_of self.now) list → option_map lent result ≡ (if list_any (same_id origin.now) (origins_of list folder.now) then Some (message_of list folder.now origin.now) else None) }
+        ensures contents { IsMessageOf (contents_of self.now) folder.now origin.now (option_map lent_message result) }
+        ensures set { (list : List Op) → IsMadeBy (contents_of self.now) list → option_map lent_message result ≡ (if list_any (same_id origin.now) (origins_of list folder.now) then Some (message_of list folder.now origin.now) else None) }
     {
         match self.folder(folder) {
             Some(found) => lent_message(found, &self.letters, origin),
@@ -143,8 +143,8 @@ impl Folders {
     /// The names of the folders that are there, ascending by octets, INBOX among them; `Err` where there is no memory for
     /// them.
     pub fn names(&self, alloc: Global) -> Result<Vec<Name>, AllocError>
-        ensures contents { IfOk result (λ names. IsListOf compared (IsFolder (contents_of self.now)) names.items) }
-        ensures set { (ops : List Operation) → IsMadeBy (contents_of self.now) ops → IfOk result (λ names. names.items ≡ folders_of ops) }
+        ensures contents { IfOk result (λ names. IsListOf octet_order (IsFolder (contents_of self.now)) names.items) }
+        ensures set { (ops : List Op) → IsMadeBy (contents_of self.now) ops → IfOk result (λ names. names.items ≡ folders_of ops) }
     {
         let names = folder_names(alloc, &self.by_name)?;
         Ok(names)
@@ -153,7 +153,7 @@ impl Folders {
     /// The ids of the folder's present folder tags; `Err` where there is no memory for them.
     pub fn tags(&self, alloc: Global, folder: &Name) -> Result<Ids, AllocError>
         ensures contents { IfOk result (λ ids. IsListOf id_order (λ i. (contents_of self.now).tags folder.now i ≡ true) ids) }
-        ensures set { (ops : List Operation) → IsMadeBy (contents_of self.now) ops → IfOk result (λ ids. ids ≡ folder_tags_of ops folder.now) }
+        ensures set { (ops : List Op) → IsMadeBy (contents_of self.now) ops → IfOk result (λ ids. ids ≡ folder_tags_of ops folder.now) }
     {
         let ids = tag_ids(alloc, self.folder(folder))?;
         Ok(ids)
@@ -163,7 +163,7 @@ impl Folders {
     /// `Err` where there is no memory for them.
     pub fn versions(&self, alloc: Global, folder: &Name, origin: &OpId) -> Result<Ids, AllocError>
         ensures contents { IfOk result (λ ids. AreVersions (contents_of self.now) folder.now origin.now ids) }
-        ensures set { (ops : List Operation) → IsMadeBy (contents_of self.now) ops → IfOk result (λ ids. ids ≡ versions_of ops folder.now origin.now) }
+        ensures set { (ops : List Op) → IsMadeBy (contents_of self.now) ops → IfOk result (λ ids. ids ≡ versions_of ops folder.now origin.now) }
     {
         let ids = version_ids(alloc, self.folder(folder), origin)?;
         Ok(ids)
@@ -175,7 +175,7 @@ impl Folders {
     /// them.
     pub fn messages(&self, alloc: Global, folder: &Name) -> Result<Vec<Message>, AllocError>
         ensures contents { IfOk result (λ messages. AreMessages (contents_of self.now) folder.now messages.items) }
-        ensures set { (ops : List Operation) → IsMadeBy (contents_of self.now) ops → IfOk result (λ messages. messages.items ≡ messages_of ops folder.now) }
+        ensures set { (ops : List Op) → IsMadeBy (contents_of self.now) ops → IfOk result (λ messages. messages.items ≡ messages_of ops folder.now) }
     {
         let messages = folder_messages(alloc, self.folder(folder), &self.letters)?;
         Ok(messages)
@@ -185,7 +185,7 @@ impl Folders {
     /// memory for them.
     pub fn delete_set(&self, alloc: Global, folder: &Name) -> Result<Ids, AllocError>
         ensures contents { IfOk result (λ ids. IsListOf id_order (HasTag (contents_of self.now) folder.now) ids) }
-        ensures set { (ops : List Operation) → IsMadeBy (contents_of self.now) ops → IfOk result (λ ids. ids ≡ delete_set_of ops folder.now) }
+        ensures set { (ops : List Op) → IsMadeBy (contents_of self.now) ops → IfOk result (λ ids. ids ≡ delete_set_of ops folder.now) }
     {
         let ids = all_ids(alloc, self.folder(folder))?;
         Ok(ids)
@@ -221,10 +221,10 @@ impl Replicated for Folders {
     }
 
     fn apply(&mut self, op: &SoundOp) {
-        forget_removed(&mut self.by_name, op.op());
+        remove_tags_of(&mut self.by_name, op.op());
         match self.spare.pop_front() {
             Some(copy) => match self.lists.pop_front() {
-                Some(list) => keep_added(
+                Some(list) => add_tag_of(
                     &mut self.by_name,
                     &mut self.letters,
                     copy.into_op(),
@@ -262,10 +262,10 @@ impl Folders {
         ensures content { contents_of self.new ≡ contents_of self.old }
         ensures prepared { OnOk result (IsPrepared self.new ops.now) }
     {
-        let copies = copied_ops(alloc, ops)?;
-        let wanted = Wanted::by(alloc, ops)?;
-        let lists = empty_lists(alloc, ops, &wanted)?;
-        reserve_folders(alloc, &mut self.by_name, ops, &wanted)?;
+        let copies = copy_ops(alloc, ops)?;
+        let tag_counts = TagCounts::of_ops(alloc, ops)?;
+        let lists = empty_lists(alloc, ops, &tag_counts)?;
+        reserve_folders(alloc, &mut self.by_name, ops, &tag_counts)?;
         self.letters.reserve(ops.len())?;
         self.spare = copies;
         self.lists = lists;

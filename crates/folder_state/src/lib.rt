@@ -5,20 +5,20 @@
 //! texts of all Appends. What it tells of any causal list of sound operations is what the set of them means.
 #![tactic(auto)]
 
-mod changes;
+mod tag_changes;
 mod folder;
 mod folders;
-mod forgetting;
-mod later;
+mod tag_removal;
+mod after_ops;
 mod laws;
-mod lending;
-mod lists;
-mod putting;
-mod reading;
-mod rooms;
-mod wanted;
+mod lent_message;
+mod id_lists;
+mod tag_insertion;
+mod message_reader;
+mod op_room;
+mod tag_counts;
 
 pub use folder::Folder;
 pub use folders::Folders;
 pub use laws::{contents_follow_the_set, folders_for_all_orders};
-pub use lending::LentMessage;
+pub use lent_message::LentMessage;

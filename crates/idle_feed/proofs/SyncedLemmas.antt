@@ -1,18 +1,18 @@
 use Rattle.std.proofs.Common.{◌≡◌, ◌⊎◌, inl, inr, nat_le, Bool, true, List, [], ◌∷◌, ◌++◌, length, refl, sym, ◌∙◌, append_assoc}
 use Rattle.std.proofs.lemmas.Bool.{cases_Bool, false≢true}
-use Rattle.mail_listing.specs.Listed.{Listed}
-use Rattle.idle_feed.specs.Noted.{IsLeft, IsNoted}
-use Rattle.idle_feed.specs.Feeds.{Pending, after, came_back, nothing, one}
-use Rattle.idle_feed.specs.declared.feed.Taken.{Taken}
-use Rattle.idle_feed.specs.declared.feed.Taken.TheVariants.{Changes, Resync}
-use Rattle.session_view.specs.declared.changes.Note.{Note}
-use Rattle.session_view.specs.declared.entry.Entry.{Entry}
+use Rattle.mailbox_rows.specs.ListedMessage.{ListedMessage}
+use Rattle.idle_feed.specs.NotedFeeds.{IsLeftNoted, NotesAllOf}
+use Rattle.idle_feed.specs.Feeds.{Pending, pending_after, input_of_restore, no_pending, one}
+use Rattle.idle_feed.specs.declared.feed.TakenNotes.{TakenNotes}
+use Rattle.idle_feed.specs.declared.feed.TakenNotes.TheVariants.{Changes, Resync}
+use Rattle.session_view.specs.declared.notes.Note.{Note}
+use Rattle.session_view.specs.declared.view_entry.ViewEntry.{ViewEntry}
 
 -- one note more
-pub missed_stays : (p : Pending) (n : Note) (found : Bool) → p.missed ≡ true → (after p (one n found)).missed ≡ true
+pub missed_stays : (p : Pending) (n : Note) (found : Bool) → p.missed ≡ true → (pending_after p (one n found)).missed ≡ true
 missed_stays p n found m = rw m refl
 
-pub note_step : (p : Pending) (n : Note) (found : Bool) (rest all : List Note) → (p.missed ≡ true) ⊎ (p.notes ++ n ∷ rest ≡ all) → ((after p (one n found)).missed ≡ true) ⊎ ((after p (one n found)).notes ++ rest ≡ all)
+pub note_step : (p : Pending) (n : Note) (found : Bool) (rest all : List Note) → (p.missed ≡ true) ⊎ (p.notes ++ n ∷ rest ≡ all) → ((pending_after p (one n found)).missed ≡ true) ⊎ ((pending_after p (one n found)).notes ++ rest ≡ all)
 note_step p n found rest all h =
     elim (cases_Bool p.missed) [
       | inl m ↦ inl (missed_stays p n found m)
@@ -29,7 +29,7 @@ note_step p n found rest all h =
     ]
 
 -- what is put back in an empty feed
-pub left_is_noted : (taken : Taken) (rows : List Listed) (goal : List Entry) → IsLeft taken rows goal → IsNoted (after nothing (came_back taken true)) rows goal
+pub left_is_noted : (taken : TakenNotes) (rows : List ListedMessage) (goal : List ViewEntry) → IsLeftNoted taken rows goal → NotesAllOf (pending_after no_pending (input_of_restore taken true)) rows goal
 left_is_noted (Changes notes) rows goal h =
     elim (cases_Bool (nat_le (length notes) 4096)) [ inl fits ↦ inr (rw fits h) | inr over ↦ inl (rw over refl) ]
 left_is_noted Resync rows goal h = inl refl

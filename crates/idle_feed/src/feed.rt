@@ -2,7 +2,7 @@
 
 ghost use Rattle.std.specs.Prelude.{◌≡◌, ◌⊎◌, ◌≤◌, ◌+◌, ◌-◌, ◌&&◌, [], true, false, nat_lt, length, min, OnOk};
 ghost use Rattle.std.specs.Option.{option_copied};
-ghost use Rattle.idle_feed.specs.Feeds.{after, came_back, notes_told, nothing, one, some_missed, told};
+ghost use Rattle.idle_feed.specs.Feeds.{pending_after, input_of_restore, pending_notes, no_pending, one, missed_pending, taken_from};
 
 use session_view::{Changes, Note};
 use std::alloc::{AllocError, Global};
@@ -14,7 +14,7 @@ pub const MAX_NOTES: usize = 4_096;
 
 /// What was taken out of a feed.
 #[derive(Drop)]
-pub enum Taken {
+pub enum TakenNotes {
     /// All notes since the last time.
     Changes { changes: Changes },
     /// Some were missed: all of the view is to be compared.
@@ -40,9 +40,9 @@ impl Drop for Feed {
 
 impl Model for Feed {
     ghost use Rattle.std.specs.Prelude.{◌≡◌, ◌-◌, ◌≤◌, [], true, length, vec_len, vec_capacity};
-    ghost use Rattle.idle_feed.specs.Feeds.{Kept};
+    ghost use Rattle.idle_feed.specs.Feeds.{FeedState};
 
-    ghost Value = { Kept };
+    ghost Value = { FeedState };
 
     ghost view = { λ f. record { pending = record { notes = f.notes.items; missed = f.missed }; room = vec_capacity f.notes - vec_len f.notes } };
 
@@ -52,7 +52,7 @@ impl Model for Feed {
 impl Feed {
     /// A feed with nothing to tell; it has no room.
     pub fn new(alloc: Global) -> Feed
-        ensures { result.pending ≡ nothing }
+        ensures { result.pending ≡ no_pending }
     {
         Feed {
             notes: Vec::new(alloc),
@@ -72,7 +72,7 @@ impl Feed {
 
     /// Notes something; takes no memory. The 4,097th note, and one for which there is no room, are missed.
     pub fn note(&mut self, note: Note)
-        ensures pending { self.new.pending ≡ after self.old.pending (one note (nat_lt 0 self.old.room)) }
+        ensures pending { self.new.pending ≡ pending_after self.old.pending (one note (nat_lt 0 self.old.room)) }
         ensures room { self.old.room ≤ self.new.room + 1 }
     {
         if self.missed {
@@ -87,38 +87,38 @@ impl Feed {
 
     /// Takes all notes that came or were put back since the last time, or tells that some were missed; takes no memory. Nothing is to be
     /// told then.
-    pub fn take(&mut self) -> Taken
-        ensures taken { result ≡ told self.old.pending }
-        ensures rest { self.new.pending ≡ nothing }
+    pub fn take(&mut self) -> TakenNotes
+        ensures taken { result ≡ taken_from self.old.pending }
+        ensures rest { self.new.pending ≡ no_pending }
     {
         if self.missed {
             self.missed = false;
-            return Taken::Resync;
+            return TakenNotes::Resync;
         }
         let empty = Vec::new(*self.notes.allocator());
         let notes = mem::replace(&mut self.notes, empty);
-        Taken::Changes {
+        TakenNotes::Changes {
             changes: Changes::new(notes),
         }
     }
 
     /// Puts back what was taken. It takes no memory where nothing came since.
-    pub fn restore(&mut self, taken: Taken)
-        ensures back { self.old.pending.notes ≡ [] → self.new.pending ≡ after self.old.pending (came_back taken true) }
-        ensures anyhow { (self.new.pending ≡ after self.old.pending (came_back taken true)) ⊎ (self.new.pending ≡ after self.old.pending (came_back taken false)) }
+    pub fn restore(&mut self, taken: TakenNotes)
+        ensures back { self.old.pending.notes ≡ [] → self.new.pending ≡ pending_after self.old.pending (input_of_restore taken true) }
+        ensures anyhow { (self.new.pending ≡ pending_after self.old.pending (input_of_restore taken true)) ⊎ (self.new.pending ≡ pending_after self.old.pending (input_of_restore taken false)) }
     {
         if self.missed {
             return;
         }
         match taken {
-            Taken::Resync => self.miss(),
-            Taken::Changes { changes } => self.put_back(changes.into_notes()),
+            TakenNotes::Resync => self.miss(),
+            TakenNotes::Changes { changes } => self.push_front(changes.into_notes()),
         }
     }
 
-    fn put_back(&mut self, notes: Vec<Note>)
-        ensures back { self.old.pending.notes ≡ [] → self.new.pending ≡ after self.old.pending (record { notes = notes.items; found = true }) }
-        ensures anyhow { (self.new.pending ≡ after self.old.pending (record { notes = notes.items; found = true })) ⊎ (self.new.pending ≡ after self.old.pending (record { notes = notes.items; found = false })) }
+    fn push_front(&mut self, notes: Vec<Note>)
+        ensures back { self.old.pending.notes ≡ [] → self.new.pending ≡ pending_after self.old.pending (record { notes = notes.items; found = true }) }
+        ensures anyhow { (self.new.pending ≡ pending_after self.old.pending (record { notes = notes.items; found = true })) ⊎ (self.new.pending ≡ pending_after self.old.pending (record { notes = notes.items; found = false })) }
     {
         if self.missed {
             return;
@@ -143,14 +143,14 @@ impl Feed {
 
     /// What is to be told, in its order; `None` where some was missed.
     pub fn notes(&self) -> Option<&[Note]>
-        ensures { option_copied result ≡ notes_told self.now.pending }
+        ensures { option_copied result ≡ pending_notes self.now.pending }
     {
         if self.missed { None } else { Some(&self.notes) }
     }
 
     /// Lets all notes go, and keeps their room; takes no memory.
     pub fn clear(&mut self)
-        ensures pending { self.new.pending ≡ nothing }
+        ensures pending { self.new.pending ≡ no_pending }
         ensures room { self.new.room ≡ self.old.room + length self.old.pending.notes }
     {
         self.notes.clear();
@@ -166,7 +166,7 @@ impl Feed {
 
     /// Some were missed.
     fn miss(&mut self)
-        ensures pending { self.new.pending ≡ some_missed }
+        ensures pending { self.new.pending ≡ missed_pending }
         ensures room { self.new.room ≡ self.old.room + length self.old.pending.notes }
     {
         self.notes.clear();

@@ -5,14 +5,14 @@
 //! planned with all memory that it takes, and done in place without any.
 #![tactic(auto)]
 
-mod change;
+mod view_change;
 mod feed;
 mod laws;
-mod noting;
-mod planning;
+mod feed_notes;
+mod sync_planning;
 
-pub use change::{Change, commit};
-pub use feed::{Feed, MAX_NOTES, Taken};
+pub use view_change::{ViewChange, commit};
+pub use feed::{Feed, MAX_NOTES, TakenNotes};
 pub use laws::takes_tell_all;
-pub use noting::note_all;
-pub use planning::{Noted, Planned, plan};
+pub use feed_notes::note_all;
+pub use sync_planning::{NotedChanges, PlannedSync, plan};

@@ -2,9 +2,9 @@ use Rattle.std.specs.Prelude.{◌≡◌, ℕ, ◌<◌, ◌^◌, Bool, not, ◌&&
 use Rattle.std.specs.List.{list_all}
 use Rattle.imap_types.specs.DateTimes.{IsDateTime}
 use Rattle.imap_types.specs.Keywords.{AreKeywords, is_atom_octet, is_tag_octet}
-use Rattle.imap_types.specs.Names.{folded_name}
+use Rattle.imap_types.specs.Names.{fold_inbox}
 use Rattle.imap_types.specs.Numbers.{AreRisingFrom, greatest}
-use Rattle.imap_types.specs.declared.flags.Flags.{Flags as FlagSet}
+use Rattle.imap_types.specs.declared.flags.Flags.{Flags}
 use Rattle.imap_types.specs.declared.section.Section.{Section}
 use Rattle.imap_types.specs.declared.section.Section.TheVariants as section
 use Rattle.imap_answers.specs.declared.answer.Answer.{Answer}
@@ -13,8 +13,8 @@ use Rattle.imap_answers.specs.declared.codes.Code.{Code}
 use Rattle.imap_answers.specs.declared.codes.Code.TheVariants as code
 use Rattle.imap_answers.specs.declared.codes.Notice.{Notice}
 use Rattle.imap_answers.specs.declared.codes.Notice.TheVariants as notice
-use Rattle.imap_answers.specs.declared.fetched.FetchItems.{FetchItems}
-use Rattle.imap_answers.specs.declared.fetched.SectionData.{SectionData}
+use Rattle.imap_answers.specs.declared.fetch_items.FetchItems.{FetchItems}
+use Rattle.imap_answers.specs.declared.fetch_items.SectionData.{SectionData}
 use Rattle.imap_answers.specs.declared.mailbox.SearchResults.{SearchResults}
 use Rattle.imap_answers.specs.declared.mailbox.StatusItems.{StatusItems}
 
@@ -58,12 +58,12 @@ pub record IsSet (numbers : List ℕ) : Type 0 where
   pub small : IsSmall (greatest numbers)
 
 -- Flags whose keywords are atoms in their one spelling (RFC 9051, section 9, flag-keyword).
-abbrev pub AreFlags : FlagSet → Type 0
+abbrev pub AreFlags : Flags → Type 0
 AreFlags flags = AreKeywords flags.keywords × Each IsAtom flags.keywords
 
 -- A name with INBOX in capitals (RFC 9051, section 5.1).
 abbrev pub IsFolded : List ℕ → Type 0
-IsFolded name = folded_name name ≡ name
+IsFolded name = fold_inbox name ≡ name
 
 -- One name of a header field or more, of lengths that can be counted (RFC 9051, section 9, header-list).
 abbrev pub AreFieldNames : List (List ℕ) → Type 0

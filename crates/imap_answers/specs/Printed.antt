@@ -1,7 +1,7 @@
 use Rattle.std.specs.Prelude.{ℕ, Bool, true, false, List, [], ◌∷◌, ◌++◌, map, codes, decimal, Option, Some, None}
 use Rattle.imap_types.specs.Flags.{flag_texts}
 use Rattle.imap_types.specs.declared.date_time.DateTime.{DateTime}
-use Rattle.imap_types.specs.declared.flags.Flags.{Flags as FlagSet}
+use Rattle.imap_types.specs.declared.flags.Flags.{Flags}
 use Rattle.imap_types.specs.declared.section.Section.{Section}
 use Rattle.imap_types.specs.declared.section.Section.TheVariants as section
 use Rattle.imap_answers.specs.declared.answer.Answer.{Answer}
@@ -10,23 +10,23 @@ use Rattle.imap_answers.specs.declared.codes.Code.{Code}
 use Rattle.imap_answers.specs.declared.codes.Code.TheVariants as code
 use Rattle.imap_answers.specs.declared.codes.Notice.{Notice}
 use Rattle.imap_answers.specs.declared.codes.Notice.TheVariants as notice
-use Rattle.imap_answers.specs.declared.words.CommandWord.{CommandWord}
-use Rattle.imap_answers.specs.declared.fetched.FetchItems.{FetchItems}
-use Rattle.imap_answers.specs.declared.fetched.SectionData.{SectionData}
+use Rattle.imap_answers.specs.declared.fixed_words.CompletedWord.{CompletedWord}
+use Rattle.imap_answers.specs.declared.fetch_items.FetchItems.{FetchItems}
+use Rattle.imap_answers.specs.declared.fetch_items.SectionData.{SectionData}
 use Rattle.imap_answers.specs.declared.mailbox.MailboxState.{MailboxState}
 use Rattle.imap_answers.specs.declared.mailbox.SearchResults.{SearchResults}
 use Rattle.imap_answers.specs.declared.mailbox.StatusItems.{StatusItems}
-use Rattle.imap_answers.specs.Strings.{crlf, field_text, item, labelled, literal_text, name_text, separated, set_text}
+use Rattle.imap_answers.specs.Strings.{crlf, field_text, item, labelled_number, literal_text, name_text, separated_by, set_text}
 use Rattle.imap_answers.specs.Words.{attributes_text, bye_text, command_text, continuation_text, enabled_text, greeting_text, refusal_text}
 
 -- Flags in parentheses, with spaces (32) between them (RFC 9051, section 9, flag-list).
-abbrev pub flags_text : FlagSet → List ℕ
-flags_text flags = codes "(" ++ separated 32 (flag_texts flags) ++ codes ")"
+abbrev pub flags_text : Flags → List ℕ
+flags_text flags = codes "(" ++ separated_by 32 (flag_texts flags) ++ codes ")"
 
 -- The flags that can be changed for good: these and any new keyword, or none (RFC 9051, section 7.1).
-abbrev pub permanent_text : Option FlagSet → List ℕ
+abbrev pub permanent_text : Option Flags → List ℕ
 permanent_text None = codes "()"
-permanent_text (Some flags) = codes "(" ++ separated 32 (flag_texts flags ++ codes "\\*" ∷ []) ++ codes ")"
+permanent_text (Some flags) = codes "(" ++ separated_by 32 (flag_texts flags ++ codes "\\*" ∷ []) ++ codes ")"
 
 -- The UIDs before and after copying.
 abbrev pub sets_text : List ℕ → List ℕ → List ℕ
@@ -82,19 +82,19 @@ all_text (hit ∷ hits) = codes " ALL " ++ set_text (hit ∷ hits)
 -- What a search found (RFC 9051, section 7.3.4; RFC 7162, section 3.1.10).
 abbrev pub results_text : SearchResults → List ℕ
 results_text results =
-    labelled (codes " MIN ") results.min
-    ++ labelled (codes " MAX ") results.max
+    labelled_number (codes " MIN ") results.min
+    ++ labelled_number (codes " MAX ") results.max
     ++ all_text results.all
-    ++ labelled (codes " COUNT ") results.count
-    ++ labelled (codes " MODSEQ ") results.modseq
+    ++ labelled_number (codes " COUNT ") results.count
+    ++ labelled_number (codes " MODSEQ ") results.modseq
 
 -- A part of a message, as it was asked (RFC 9051, section 9, section-spec).
 abbrev pub section_text : Section → List ℕ
 section_text section.Whole = []
 section_text section.Header = codes "HEADER"
 section_text section.Text = codes "TEXT"
-section_text (section.Fields names) = codes "HEADER.FIELDS (" ++ separated 32 (map field_text names) ++ codes ")"
-section_text (section.FieldsNot names) = codes "HEADER.FIELDS.NOT (" ++ separated 32 (map field_text names) ++ codes ")"
+section_text (section.Fields names) = codes "HEADER.FIELDS (" ++ separated_by 32 (map field_text names) ++ codes ")"
+section_text (section.FieldsNot names) = codes "HEADER.FIELDS.NOT (" ++ separated_by 32 (map field_text names) ++ codes ")"
 
 -- Where a partial begins.
 abbrev pub origin_text : Option ℕ → List ℕ
@@ -106,7 +106,7 @@ abbrev pub body_text : SectionData → List ℕ
 body_text part = codes "BODY[" ++ section_text part.section ++ codes "]" ++ origin_text part.origin ++ codes " " ++ literal_text part.octets
 
 -- The flags of a message, its date and its mod-sequence, each where it is told (RFC 9051, section 7.5.2; RFC 7162, section 3.1.4.1).
-abbrev pub flags_item : Option FlagSet → List (List ℕ)
+abbrev pub flags_item : Option Flags → List (List ℕ)
 flags_item None = []
 flags_item (Some flags) = (codes "FLAGS " ++ flags_text flags) ∷ []
 
@@ -134,7 +134,7 @@ list_text name state subscribed = codes "* LIST " ++ attributes_text state subsc
 
 -- A mailbox in STATUS (RFC 9051, section 7.3.3).
 abbrev pub status_text : List ℕ → StatusItems → List ℕ
-status_text name items = codes "* STATUS " ++ name_text name ++ codes " (" ++ separated 32 (status_texts items) ++ codes ")"
+status_text name items = codes "* STATUS " ++ name_text name ++ codes " (" ++ separated_by 32 (status_texts items) ++ codes ")"
 
 -- The end of the tag in ESEARCH, and whether it tells UIDs (RFC 9051, section 7.3.4).
 abbrev pub uid_mark : Bool → List ℕ
@@ -147,33 +147,33 @@ search_text tag by_uid results = codes "* ESEARCH (TAG \"" ++ tag ++ uid_mark by
 
 -- A message in FETCH (RFC 9051, section 7.5.2).
 abbrev pub fetch_text : ℕ → FetchItems → List ℕ
-fetch_text number items = codes "* " ++ decimal number ++ codes " FETCH (" ++ separated 32 (fetch_texts items) ++ codes ")"
+fetch_text number items = codes "* " ++ decimal number ++ codes " FETCH (" ++ separated_by 32 (fetch_texts items) ++ codes ")"
 
 -- The tagged line of a command that is done (RFC 9051, section 7.1.1).
-abbrev pub completed_text : List ℕ → Option Code → CommandWord → List ℕ
+abbrev pub completed_text : List ℕ → Option Code → CompletedWord → List ℕ
 completed_text tag code command = tag ++ codes " OK " ++ code_before code ++ command_text command ++ codes " completed"
 
 -- An answer without its line end.
-unfoldable pub answer_text : Answer → List ℕ
-answer_text (answer.Greeting login) = greeting_text login
-answer_text (answer.Continue awaited) = continuation_text awaited
-answer_text answer.Capability = codes "* CAPABILITY IMAP4rev2 IDLE CONDSTORE"
-answer_text (answer.Enabled extensions) = enabled_text extensions
-answer_text answer.Namespace = codes "* NAMESPACE ((\"\" \"/\")) NIL NIL"
-answer_text (answer.Flags flags) = codes "* FLAGS " ++ flags_text flags
-answer_text (answer.Exists count) = codes "* " ++ decimal count ++ codes " EXISTS"
-answer_text (answer.Expunge number) = codes "* " ++ decimal number ++ codes " EXPUNGE"
-answer_text (answer.List name state subscribed) = list_text name state subscribed
-answer_text (answer.Tell notice) = codes "* OK " ++ notice_text notice ++ codes " ok"
-answer_text (answer.Status name items) = status_text name items
-answer_text (answer.Search tag by_uid results) = search_text tag by_uid results
-answer_text (answer.Fetch number items) = fetch_text number items
-answer_text (answer.Bye reason) = bye_text reason
-answer_text answer.NoTag = codes "* BAD no tag"
-answer_text answer.LiteralTooLong = codes "* NO [LIMIT] literal too long"
-answer_text (answer.Completed tag code command) = completed_text tag code command
-answer_text (answer.Refused tag reason) = tag ++ codes " " ++ refusal_text reason
+unfoldable pub line_of_answer : Answer → List ℕ
+line_of_answer (answer.Greeting login) = greeting_text login
+line_of_answer (answer.Continue awaited) = continuation_text awaited
+line_of_answer answer.Capability = codes "* CAPABILITY IMAP4rev2 IDLE CONDSTORE"
+line_of_answer (answer.Enabled extensions) = enabled_text extensions
+line_of_answer answer.Namespace = codes "* NAMESPACE ((\"\" \"/\")) NIL NIL"
+line_of_answer (answer.Flags flags) = codes "* FLAGS " ++ flags_text flags
+line_of_answer (answer.Exists count) = codes "* " ++ decimal count ++ codes " EXISTS"
+line_of_answer (answer.Expunge number) = codes "* " ++ decimal number ++ codes " EXPUNGE"
+line_of_answer (answer.List name state subscribed) = list_text name state subscribed
+line_of_answer (answer.Tell notice) = codes "* OK " ++ notice_text notice ++ codes " ok"
+line_of_answer (answer.Status name items) = status_text name items
+line_of_answer (answer.Search tag by_uid results) = search_text tag by_uid results
+line_of_answer (answer.Fetch number items) = fetch_text number items
+line_of_answer (answer.Bye reason) = bye_text reason
+line_of_answer answer.NoTag = codes "* BAD no tag"
+line_of_answer answer.LiteralTooLong = codes "* NO [LIMIT] literal too long"
+line_of_answer (answer.Completed tag code command) = completed_text tag code command
+line_of_answer (answer.Refused tag reason) = tag ++ codes " " ++ refusal_text reason
 
 -- The one text of an answer (RFC 9051, section 7; the words behind codes are this project's own).
-abbrev pub printed : Answer → List ℕ
-printed answer = answer_text answer ++ crlf
+abbrev pub text_of_answer : Answer → List ℕ
+text_of_answer answer = line_of_answer answer ++ crlf

@@ -1,7 +1,7 @@
 use Rattle.std.specs.Prelude.{ℕ, Bool, not, ◌&&◌, ◌||◌, ◌==◌, List, [], ◌∷◌, ◌++◌, length, map, flat_map, codes, decimal, Option, Some, None, if◌then◌else◌}
 use Rattle.std.specs.List.{list_all, list_any}
 use Rattle.std.specs.Str.{bytes_eq}
-use Rattle.imap_types.specs.Keywords.{is_astring_octet, lowered}
+use Rattle.imap_types.specs.Keywords.{is_astring_octet, to_lower_case}
 use Rattle.imap_types.specs.Names.{inbox, is_inbox}
 use Rattle.imap_types.specs.Numbers.{runs_of}
 use Rattle.imap_types.specs.declared.number_set.Run.{Run}
@@ -11,22 +11,22 @@ abbrev pub crlf : List ℕ
 crlf = codes "\r\n"
 
 -- Texts with an octet between any two.
-abbrev pub separated : ℕ → List (List ℕ) → List ℕ
-separated between [] = []
-separated between (text ∷ texts) = text ++ flat_map (λ next. between ∷ next) texts
+abbrev pub separated_by : ℕ → List (List ℕ) → List ℕ
+separated_by between [] = []
+separated_by between (text ∷ texts) = text ++ flat_map (λ next. between ∷ next) texts
 
 -- Whether a string can stand without quotes: it has octets, all of them such, and isn't NIL in any case
 -- (RFC 9051, section 9, astring and nil).
 abbrev pub is_plain : List ℕ → Bool
-is_plain string = not (length string == 0) && list_all is_astring_octet string && not (bytes_eq (lowered string) (codes "nil"))
+is_plain string = not (length string == 0) && list_all is_astring_octet string && not (bytes_eq (to_lower_case string) (codes "nil"))
 
 -- An octet between quotes: `"` (34) and `\` (92) behind a `\` (RFC 9051, section 9, QUOTED-CHAR).
 abbrev pub escaped_octet : ℕ → List ℕ
 escaped_octet octet = if (octet == 34) || (octet == 92) then 92 ∷ octet ∷ [] else octet ∷ []
 
 -- A string between quotes (RFC 9051, section 9, quoted).
-abbrev pub quoted_text : List ℕ → List ℕ
-quoted_text string = codes "\"" ++ flat_map escaped_octet string ++ codes "\""
+abbrev pub quoted_string : List ℕ → List ℕ
+quoted_string string = codes "\"" ++ flat_map escaped_octet string ++ codes "\""
 
 -- A string as a counted literal (RFC 9051, section 9, literal).
 abbrev pub literal_text : List ℕ → List ℕ
@@ -34,7 +34,7 @@ literal_text string = codes "{" ++ decimal (length string) ++ codes "}\r\n" ++ s
 
 -- A mailbox name: INBOX in capitals, and any other without quotes where it can be.
 abbrev pub name_text : List ℕ → List ℕ
-name_text name = if is_inbox name then inbox else (if is_plain name then name else quoted_text name)
+name_text name = if is_inbox name then inbox else (if is_plain name then name else quoted_string name)
 
 -- Whether a string has octets that can't stand between quotes: CR (13) and LF (10).
 abbrev pub has_line_octet : List ℕ → Bool
@@ -42,7 +42,7 @@ has_line_octet string = list_any (λ octet. (octet == 13) || (octet == 10)) stri
 
 -- The name of a header field: without quotes where it can be, and as a literal only where quotes can't hold it.
 abbrev pub field_text : List ℕ → List ℕ
-field_text name = if is_plain name then name else (if has_line_octet name then literal_text name else quoted_text name)
+field_text name = if is_plain name then name else (if has_line_octet name then literal_text name else quoted_string name)
 
 -- A run of numbers: one number alone, more by both ends (RFC 9051, section 9, seq-range).
 abbrev pub run_text : Run → List ℕ
@@ -50,12 +50,12 @@ run_text run = if run.first == run.last then decimal run.first else decimal run.
 
 -- Rising numbers as runs with commas (44) between them (RFC 9051, section 9, sequence-set).
 abbrev pub set_text : List ℕ → List ℕ
-set_text numbers = separated 44 (map run_text (runs_of numbers))
+set_text numbers = separated_by 44 (map run_text (runs_of numbers))
 
 -- A number behind its label, where there is one.
-abbrev pub labelled : List ℕ → Option ℕ → List ℕ
-labelled label None = []
-labelled label (Some number) = label ++ decimal number
+abbrev pub labelled_number : List ℕ → Option ℕ → List ℕ
+labelled_number label None = []
+labelled_number label (Some number) = label ++ decimal number
 
 -- The same as one text of a list, where there is one.
 abbrev pub item : List ℕ → Option ℕ → List (List ℕ)

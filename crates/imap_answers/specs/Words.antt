@@ -1,16 +1,16 @@
 use Rattle.std.specs.Prelude.{ℕ, Bool, true, false, List, codes}
-use Rattle.imap_answers.specs.declared.words.Login.{Login}
-use Rattle.imap_answers.specs.declared.words.Login.TheVariants as login
-use Rattle.imap_answers.specs.declared.words.Continuation.{Continuation}
-use Rattle.imap_answers.specs.declared.words.Continuation.TheVariants as continuation
-use Rattle.imap_answers.specs.declared.words.Enabled.{Enabled}
-use Rattle.imap_answers.specs.declared.words.Enabled.TheVariants as enabled
-use Rattle.imap_answers.specs.declared.words.ByeReason.{ByeReason}
-use Rattle.imap_answers.specs.declared.words.ByeReason.TheVariants as bye
-use Rattle.imap_answers.specs.declared.words.Refusal.{Refusal}
-use Rattle.imap_answers.specs.declared.words.Refusal.TheVariants as refusal
-use Rattle.imap_answers.specs.declared.words.CommandWord.{CommandWord}
-use Rattle.imap_answers.specs.declared.words.CommandWord.TheVariants as command
+use Rattle.imap_answers.specs.declared.fixed_words.Login.{Login}
+use Rattle.imap_answers.specs.declared.fixed_words.Login.TheVariants as login
+use Rattle.imap_answers.specs.declared.fixed_words.Continuation.{Continuation}
+use Rattle.imap_answers.specs.declared.fixed_words.Continuation.TheVariants as continuation
+use Rattle.imap_answers.specs.declared.fixed_words.EnabledExtensions.{EnabledExtensions}
+use Rattle.imap_answers.specs.declared.fixed_words.EnabledExtensions.TheVariants as enabled
+use Rattle.imap_answers.specs.declared.fixed_words.ByeReason.{ByeReason}
+use Rattle.imap_answers.specs.declared.fixed_words.ByeReason.TheVariants as bye
+use Rattle.imap_answers.specs.declared.fixed_words.Refusal.{Refusal}
+use Rattle.imap_answers.specs.declared.fixed_words.Refusal.TheVariants as refusal
+use Rattle.imap_answers.specs.declared.fixed_words.CompletedWord.{CompletedWord}
+use Rattle.imap_answers.specs.declared.fixed_words.CompletedWord.TheVariants as command
 use Rattle.imap_answers.specs.declared.mailbox.MailboxState.{MailboxState}
 use Rattle.imap_answers.specs.declared.mailbox.MailboxState.TheVariants as state
 
@@ -25,7 +25,7 @@ continuation_text continuation.Ready = codes "+ ready"
 continuation_text continuation.Idling = codes "+ idling"
 
 -- The extensions that are on now (RFC 9051, section 7.2.1).
-abbrev pub enabled_text : Enabled → List ℕ
+abbrev pub enabled_text : EnabledExtensions → List ℕ
 enabled_text enabled.Nothing = codes "* ENABLED"
 enabled_text enabled.Condstore = codes "* ENABLED CONDSTORE"
 enabled_text enabled.Imap4Rev2 = codes "* ENABLED IMAP4rev2"
@@ -65,7 +65,7 @@ refusal_text refusal.NoSuchMessage = codes "BAD no such message"
 refusal_text refusal.DoneExpected = codes "BAD DONE expected"
 
 -- A command's name in capitals.
-abbrev pub command_text : CommandWord → List ℕ
+abbrev pub command_text : CompletedWord → List ℕ
 command_text command.Capability = codes "CAPABILITY"
 command_text command.Noop = codes "NOOP"
 command_text command.Logout = codes "LOGOUT"

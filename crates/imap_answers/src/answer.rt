@@ -1,9 +1,9 @@
 ghost use Rattle.std.specs.Prelude.{◌≡◌, ◌↔◌, IfOk, IsTrue};
 
 use crate::codes::{Code, Notice};
-use crate::fetched::FetchItems;
+use crate::fetch_items::FetchItems;
 use crate::mailbox::{MailboxState, SearchResults, StatusItems};
-use crate::words::{ByeReason, CommandWord, Continuation, Enabled, Login, Refusal};
+use crate::fixed_words::{ByeReason, CompletedWord, Continuation, EnabledExtensions, Login, Refusal};
 use imap_types::{Flags, Name, Octets};
 use std::alloc::{AllocError, Global};
 
@@ -21,7 +21,7 @@ pub enum Answer {
     Capability,
     /// The extensions that are on now.
     Enabled {
-        extensions: Enabled,
+        extensions: EnabledExtensions,
     },
     /// Where mailboxes live.
     Namespace,
@@ -75,7 +75,7 @@ pub enum Answer {
     Completed {
         tag: Octets,
         code: Option<Code>,
-        command: CommandWord,
+        command: CompletedWord,
     },
     /// The command with this tag isn't done.
     Refused {
@@ -253,7 +253,7 @@ impl Answer {
             Answer::LiteralTooLong => Answer::LiteralTooLong,
             Answer::Completed { tag, code, command } => Answer::Completed {
                 tag: tag.copy(alloc)?,
-                code: copied_code(alloc, code)?,
+                code: copy_code(alloc, code)?,
                 command: *command,
             },
             Answer::Refused { tag, reason } => Answer::Refused {
@@ -293,7 +293,7 @@ fn are_same_codes(code: &Option<Code>, other: &Option<Code>) -> bool
     }
 }
 
-fn copied_code(alloc: Global, code: &Option<Code>) -> Result<Option<Code>, AllocError>
+fn copy_code(alloc: Global, code: &Option<Code>) -> Result<Option<Code>, AllocError>
     ensures { IfOk result (λ copied. copied ≡ code.now) }
 {
     Ok(match code {

@@ -202,7 +202,7 @@ impl Notice {
             Notice::UidValidity { value } => Notice::UidValidity { value: *value },
             Notice::UidNext { uid } => Notice::UidNext { uid: *uid },
             Notice::PermanentFlags { flags } => Notice::PermanentFlags {
-                flags: copied_flags(alloc, flags)?,
+                flags: copy_flags(alloc, flags)?,
             },
             Notice::HighestModSeq { modseq } => Notice::HighestModSeq { modseq: *modseq },
             Notice::CopyUid {
@@ -230,7 +230,7 @@ pub fn are_same_flags(flags: &Option<Flags>, others: &Option<Flags>) -> bool
 }
 
 /// The same flags, where there are any.
-pub fn copied_flags(alloc: Global, flags: &Option<Flags>) -> Result<Option<Flags>, AllocError>
+pub fn copy_flags(alloc: Global, flags: &Option<Flags>) -> Result<Option<Flags>, AllocError>
     ensures { IfOk result (λ copied. copied ≡ flags.now) }
 {
     Ok(match flags {

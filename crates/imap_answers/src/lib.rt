@@ -3,12 +3,12 @@
 
 mod answer;
 mod codes;
-mod fetched;
+mod fetch_items;
 mod mailbox;
-mod words;
+mod fixed_words;
 
 pub use answer::Answer;
 pub use codes::{Code, Notice};
-pub use fetched::{FetchItems, SectionData, Sections};
+pub use fetch_items::{FetchItems, SectionData, Sections};
 pub use mailbox::{MailboxState, SearchResults, StatusItems};
-pub use words::{ByeReason, CommandWord, Continuation, Enabled, Login, Refusal};
+pub use fixed_words::{ByeReason, CompletedWord, Continuation, EnabledExtensions, Login, Refusal};

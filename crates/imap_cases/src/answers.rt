@@ -2,7 +2,7 @@
 
 use crate::numbers::put_numbers;
 use crate::parts::{put_flags, put_section};
-use case_text::Words;
+use case_lines::Words;
 use imap_print::{Answer, Code, FetchItems, Notice, SearchResults, SectionData, StatusItems};
 use imap_types::NumberSet;
 

@@ -2,7 +2,7 @@
 
 use crate::queries::{Stage, is_setting, put_query, put_view};
 use crate::texts::answer_to;
-use case_text::{Words, parted};
+use case_lines::{Words, parted};
 use std::alloc::{AllocError, Global};
 
 /// What cases are of.

@@ -2,7 +2,7 @@
 
 use crate::keys::put_steps;
 use crate::parts::{put_flags, put_section, put_texts};
-use case_text::Words;
+use case_lines::Words;
 use imap_grammar::{Command, FetchItem, StoreAction, Tagged, Transfer};
 use imap_types::{DateTime, SequenceBound, SequenceSet};
 use std::fmt::Debug;

@@ -3,7 +3,7 @@
 use crate::frames::is_answered;
 use crate::round_trips::is_front_printed;
 use crate::streams::is_same_in_pieces;
-use case_text::{Words, with_octet};
+use case_lines::{Words, with_octet};
 use imap_lex::Limits;
 use std::alloc::{AllocError, Global};
 

@@ -2,7 +2,7 @@
 
 use crate::parts::flags_named;
 use crate::round_trips::put_printed;
-use case_text::Words;
+use case_lines::Words;
 use imap_print::{Answer, FetchItems, Notice, Sections};
 use imap_types::Flags;
 use std::alloc::{AllocError, Global};

@@ -3,7 +3,7 @@
 use crate::commands::put_tagged;
 use crate::damage::{Demand, first_failing, put_failing};
 use crate::parts::joined;
-use case_text::Words;
+use case_lines::Words;
 use imap_grammar::{IdleLine, ParseFault, idle_line, parse, tag_of};
 use std::alloc::{AllocError, Global};
 

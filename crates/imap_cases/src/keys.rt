@@ -2,7 +2,7 @@
 
 use crate::commands::put_set;
 use crate::parts::put_day;
-use case_text::Words;
+use case_lines::Words;
 use imap_grammar::{SearchStep, SearchTest};
 
 /// The steps in the order in which they are worked off, each behind a space.

@@ -1,6 +1,6 @@
 //! Sets of numbers.
 
-use case_text::Words;
+use case_lines::Words;
 use imap_types::NumberSet;
 use std::alloc::{AllocError, Global};
 use std::str;

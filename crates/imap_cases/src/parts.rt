@@ -1,6 +1,6 @@
 //! Parts that commands and answers have in common, as text.
 
-use case_text::Words;
+use case_lines::Words;
 use imap_types::{Day, Flags, Octets, Section};
 use std::alloc::{AllocError, Global};
 

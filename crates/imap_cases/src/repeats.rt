@@ -2,7 +2,7 @@
 
 ghost use Rattle.std.specs.Prelude.{◌<◌};
 
-use case_text::{Words, parted};
+use case_lines::{Words, parted};
 use std::alloc::{AllocError, Global};
 
 /// Texts that come at least so often are written short.

@@ -3,7 +3,7 @@
 use crate::answers::put_answer;
 use crate::damage::{Demand, put_failing};
 use crate::parts::joined;
-use case_text::Words;
+use case_lines::Words;
 use imap_print::{Answer, MailboxState, print, read};
 use imap_types::Name;
 use std::alloc::{AllocError, Global};
@@ -166,7 +166,7 @@ fn is_read(alloc: Global, words: &mut Words, text: &[u8]) -> bool {
 
 /// A mailbox of this name in LIST, as it is printed.
 pub fn put_mailbox(alloc: Global, words: &mut Words, name: &[u8]) {
-    match Name::copied_from(alloc, name) {
+    match Name::from_slice(alloc, name) {
         Ok(name) => {
             let state = MailboxState::There;
             let subscribed = false;

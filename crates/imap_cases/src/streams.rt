@@ -1,7 +1,7 @@
 //! How the framer cuts streams into commands.
 
 use crate::damage::{Demand, put_failing};
-use case_text::Words;
+use case_lines::Words;
 use imap_lex::{FrameFault, Framer, Item, Limits};
 use std::alloc::{AllocError, Global};
 

@@ -2,7 +2,7 @@
 
 use crate::repeats::{written_out, written_short};
 use crate::{flag_orders, frames, numbers, round_trips, streams};
-use case_text::Words;
+use case_lines::Words;
 use imap_lex::Limits;
 use imap_types::{Escape, EscapeFault, read_escaped, write_escaped};
 use std::alloc::{AllocError, Global};

@@ -5,23 +5,23 @@ use Rattle.std.specs.List.{fold}
 use Rattle.std.specs.Ordering.{match_ordering}
 use Rattle.std.proofs.lemmas.Cmp.{nat_list_cmp_total, tied_itself}
 use Rattle.std.proofs.lemmas.Map.Lookups.{exact_bytes}
-use Rattle.imap_types.specs.Ascending.{AreAscending, ComesBefore, compared}
-use Rattle.imap_types.specs.Keywords.{AreKeywords, lowered, with_text}
+use Rattle.imap_types.specs.Ascending.{AreAscending, ComesBefore, octet_order}
+use Rattle.imap_types.specs.Keywords.{AreKeywords, to_lower_case, with_word}
 use Rattle.imap_types.proofs.KeywordLemmas.{keywords_with}
 use Rattle.merge_laws.specs.Orders.{IsIn}
-use Rattle.mail_listing.specs.Listed.{Listed}
-use Rattle.imap_commands.specs.Selecting.{AreBorne, IsBorne}
+use Rattle.mailbox_rows.specs.ListedMessage.{ListedMessage}
+use Rattle.imap_commands.specs.Selecting.{AreListedKeywords, BearsKeyword}
 
 -- A set of keywords with more of them in lower case, and with those of messages, one after another.
 abbrev pub with_keywords : List (List ℕ) → List (List ℕ) → List (List ℕ)
-with_keywords words keywords = fold (λ done word. with_text (lowered word) done) keywords words
+with_keywords words keywords = fold (λ done word. with_word (to_lower_case word) done) keywords words
 
-abbrev pub with_rows : List Listed → List (List ℕ) → List (List ℕ)
-with_rows rows keywords = fold (λ done row. fold (λ done word. with_text (lowered word) done) done row.flags.keywords) keywords rows
+abbrev pub with_rows : List ListedMessage → List (List ℕ) → List (List ℕ)
+with_rows rows keywords = fold (λ done row. fold (λ done word. with_word (to_lower_case word) done) done row.flags.keywords) keywords rows
 
 -- The keywords with those that are given, which are in lower case.
 abbrev pub united : List (List ℕ) → List (List ℕ) → List (List ℕ)
-united given keywords = fold (λ done word. with_text word done) keywords given
+united given keywords = fold (λ done word. with_word word done) keywords given
 
 -- ---- what is there once a text is put in
 
@@ -30,60 +30,60 @@ has_by Less x w v vs behind more h = h
 has_by Equal x w v vs behind more h = inr h
 has_by Greater x w v vs behind more h = elim h [ inl e ↦ inr (inl e) | inr t ↦ elim (more t) [ inl e ↦ inl e | inr u ↦ inr (inr u) ] ]
 
-pub text_has : (x w : List ℕ) (vs : List (List ℕ)) → IsIn x (with_text w vs) → (w ≡ x) ⊎ IsIn x vs
+pub text_has : (x w : List ℕ) (vs : List (List ℕ)) → IsIn x (with_word w vs) → (w ≡ x) ⊎ IsIn x vs
 text_has x w [] h = h
-text_has x w (v ∷ vs) h = has_by (compared w v) x w v vs (with_text w vs) (text_has x w vs) h
+text_has x w (v ∷ vs) h = has_by (octet_order w v) x w v vs (with_word w vs) (text_has x w vs) h
 
 keeps_by : (o : Ordering) (x w v : List ℕ) (vs behind : List (List ℕ)) → (IsIn x vs → IsIn x behind) → IsIn x (v ∷ vs) → IsIn x (match_ordering o (w ∷ v ∷ vs) (v ∷ vs) (v ∷ behind))
 keeps_by Less x w v vs behind more h = inr h
 keeps_by Equal x w v vs behind more h = h
 keeps_by Greater x w v vs behind more h = elim h [ inl e ↦ inl e | inr t ↦ inr (more t) ]
 
-pub text_keeps : (x w : List ℕ) (vs : List (List ℕ)) → IsIn x vs → IsIn x (with_text w vs)
+pub text_keeps : (x w : List ℕ) (vs : List (List ℕ)) → IsIn x vs → IsIn x (with_word w vs)
 text_keeps x w [] h = absurd h
-text_keeps x w (v ∷ vs) h = keeps_by (compared w v) x w v vs (with_text w vs) (text_keeps x w vs) h
+text_keeps x w (v ∷ vs) h = keeps_by (octet_order w v) x w v vs (with_word w vs) (text_keeps x w vs) h
 
-new_by : (o : Ordering) (w v : List ℕ) (vs behind : List (List ℕ)) → compared w v ≡ o → IsIn w behind → IsIn w (match_ordering o (w ∷ v ∷ vs) (v ∷ vs) (v ∷ behind))
+new_by : (o : Ordering) (w v : List ℕ) (vs behind : List (List ℕ)) → octet_order w v ≡ o → IsIn w behind → IsIn w (match_ordering o (w ∷ v ∷ vs) (v ∷ vs) (v ∷ behind))
 new_by Less w v vs behind e more = inl refl
 new_by Equal w v vs behind e more = inl (sym (exact_bytes w v e))
 new_by Greater w v vs behind e more = inr more
 
-pub text_new : (w : List ℕ) (vs : List (List ℕ)) → IsIn w (with_text w vs)
+pub text_new : (w : List ℕ) (vs : List (List ℕ)) → IsIn w (with_word w vs)
 text_new w [] = inl refl
-text_new w (v ∷ vs) = new_by (compared w v) w v vs (with_text w vs) refl (text_new w vs)
+text_new w (v ∷ vs) = new_by (octet_order w v) w v vs (with_word w vs) refl (text_new w vs)
 
 -- ---- the same of several keywords
 
 abbrev IsSpelled : List (List ℕ) → List ℕ → Type 0
-IsSpelled words x = (keyword : List ℕ) × IsIn keyword words × (lowered keyword ≡ x)
+IsSpelled words x = (keyword : List ℕ) × IsIn keyword words × (to_lower_case keyword ≡ x)
 
 words_has : (x : List ℕ) (words vs : List (List ℕ)) → IsIn x (with_keywords words vs) → IsSpelled words x ⊎ IsIn x vs
 words_has x [] vs h = inr h
 words_has x (w ∷ words) vs h =
-    elim (words_has x words (with_text (lowered w) vs) h) [
+    elim (words_has x words (with_word (to_lower_case w) vs) h) [
       | inl s ↦ inl (s.0, inr s.1, s.2)
-      | inr t ↦ elim (text_has x (lowered w) vs t) [ inl e ↦ inl (w, inl refl, e) | inr u ↦ inr u ]
+      | inr t ↦ elim (text_has x (to_lower_case w) vs t) [ inl e ↦ inl (w, inl refl, e) | inr u ↦ inr u ]
     ]
 
 words_keeps : (x : List ℕ) (words vs : List (List ℕ)) → IsIn x vs → IsIn x (with_keywords words vs)
 words_keeps x [] vs h = h
-words_keeps x (w ∷ words) vs h = words_keeps x words (with_text (lowered w) vs) (text_keeps x (lowered w) vs h)
+words_keeps x (w ∷ words) vs h = words_keeps x words (with_word (to_lower_case w) vs) (text_keeps x (to_lower_case w) vs h)
 
-words_new : (x keyword : List ℕ) (words vs : List (List ℕ)) → IsIn keyword words → lowered keyword ≡ x → IsIn x (with_keywords words vs)
+words_new : (x keyword : List ℕ) (words vs : List (List ℕ)) → IsIn keyword words → to_lower_case keyword ≡ x → IsIn x (with_keywords words vs)
 words_new x keyword [] vs h e = absurd h
 words_new x keyword (w ∷ words) vs h e =
     elim h [
-      | inl f ↦ words_keeps x words (with_text (lowered w) vs) (subst (λ (y : List ℕ). IsIn y (with_text (lowered w) vs)) (ap lowered f ∙ e) (text_new (lowered w) vs))
-      | inr t ↦ words_new x keyword words (with_text (lowered w) vs) t e
+      | inl f ↦ words_keeps x words (with_word (to_lower_case w) vs) (subst (λ (y : List ℕ). IsIn y (with_word (to_lower_case w) vs)) (ap to_lower_case f ∙ e) (text_new (to_lower_case w) vs))
+      | inr t ↦ words_new x keyword words (with_word (to_lower_case w) vs) t e
     ]
 
 words_set : (words vs : List (List ℕ)) → AreKeywords vs → AreKeywords (with_keywords words vs)
 words_set [] vs h = h
-words_set (w ∷ words) vs h = words_set words (with_text (lowered w) vs) (keywords_with w vs h)
+words_set (w ∷ words) vs h = words_set words (with_word (to_lower_case w) vs) (keywords_with w vs h)
 
 -- ---- the same of a listing's
 
-rows_has : (x : List ℕ) (rows : List Listed) (vs : List (List ℕ)) → IsIn x (with_rows rows vs) → IsBorne rows x ⊎ IsIn x vs
+rows_has : (x : List ℕ) (rows : List ListedMessage) (vs : List (List ℕ)) → IsIn x (with_rows rows vs) → BearsKeyword rows x ⊎ IsIn x vs
 rows_has x [] vs h = inr h
 rows_has x (row ∷ rows) vs h =
     elim (rows_has x rows (with_keywords row.flags.keywords vs) h) [
@@ -91,28 +91,28 @@ rows_has x (row ∷ rows) vs h =
       | inr t ↦ elim (words_has x row.flags.keywords vs t) [ inl s ↦ inl (row, inl refl, s) | inr u ↦ inr u ]
     ]
 
-rows_keeps : (x : List ℕ) (rows : List Listed) (vs : List (List ℕ)) → IsIn x vs → IsIn x (with_rows rows vs)
+rows_keeps : (x : List ℕ) (rows : List ListedMessage) (vs : List (List ℕ)) → IsIn x vs → IsIn x (with_rows rows vs)
 rows_keeps x [] vs h = h
 rows_keeps x (row ∷ rows) vs h = rows_keeps x rows (with_keywords row.flags.keywords vs) (words_keeps x row.flags.keywords vs h)
 
-rows_new : (x : List ℕ) (rows : List Listed) (vs : List (List ℕ)) → IsBorne rows x → IsIn x (with_rows rows vs)
+rows_new : (x : List ℕ) (rows : List ListedMessage) (vs : List (List ℕ)) → BearsKeyword rows x → IsIn x (with_rows rows vs)
 rows_new x [] vs b = absurd b.1
 rows_new x (row ∷ rows) vs b =
     elim b.1 [
       | inl e ↦
-          let there : IsIn b.2.0 row.flags.keywords = subst (λ (r : Listed). IsIn b.2.0 r.flags.keywords) (sym e) b.2.1 in
+          let there : IsIn b.2.0 row.flags.keywords = subst (λ (r : ListedMessage). IsIn b.2.0 r.flags.keywords) (sym e) b.2.1 in
           rows_keeps x rows (with_keywords row.flags.keywords vs) (words_new x b.2.0 row.flags.keywords vs there b.2.2)
       | inr t ↦ rows_new x rows (with_keywords row.flags.keywords vs) (b.0, t, b.2)
     ]
 
-rows_set : (rows : List Listed) (vs : List (List ℕ)) → AreKeywords vs → AreKeywords (with_rows rows vs)
+rows_set : (rows : List ListedMessage) (vs : List (List ℕ)) → AreKeywords vs → AreKeywords (with_rows rows vs)
 rows_set [] vs h = h
 rows_set (row ∷ rows) vs h = rows_set rows (with_keywords row.flags.keywords vs) (words_set row.flags.keywords vs h)
 
-none_in : (x : List ℕ) (rows : List Listed) → IsBorne rows x ⊎ IsIn x [] → IsBorne rows x
+none_in : (x : List ℕ) (rows : List ListedMessage) → BearsKeyword rows x ⊎ IsIn x [] → BearsKeyword rows x
 none_in x rows h = elim h [ inl b ↦ b | inr t ↦ absurd t ]
 
-pub borne : (rows : List Listed) → AreBorne rows (with_rows rows [])
+pub borne : (rows : List ListedMessage) → AreListedKeywords rows (with_rows rows [])
 borne rows = record {
   set = rows_set rows [] (refl, tt);
   exactly = λ word. (λ h. none_in word rows (rows_has word rows [] h), rows_new word rows []);
@@ -121,7 +121,7 @@ borne rows = record {
 -- ---- ascending texts are determined by which they are
 
 not_before_itself : (a : List ℕ) → ComesBefore a a → ⊥
-not_before_itself a h = let e : compared a a ≡ Equal = tied_itself nat_list_cmp_total a in let q : Equal ≡ Less = sym e ∙ h in cc
+not_before_itself a h = let e : octet_order a a ≡ Equal = tied_itself nat_list_cmp_total a in let q : Equal ≡ Less = sym e ∙ h in cc
 
 before_before : (a b c : List ℕ) → ComesBefore a b → ComesBefore b c → ComesBefore a c
 before_before a b c h k = nat_list_cmp_total.trans a b c h k
@@ -163,6 +163,6 @@ same_texts (x ∷ xs) (y ∷ ys) h k s =
     ) in
     λ i. heads i ∷ same_texts xs ys (tail_ascending x xs h) (tail_ascending y ys k) tails i
 
-pub one_set : (rows : List Listed) (these those : List (List ℕ)) → AreBorne rows these → AreBorne rows those → these ≡ those
+pub one_set : (rows : List ListedMessage) (these those : List (List ℕ)) → AreListedKeywords rows these → AreListedKeywords rows those → these ≡ those
 one_set rows these those h k =
     same_texts these those h.set.1 k.set.1 (λ z. (λ i. (k.exactly z).1 ((h.exactly z).0 i), λ i. (h.exactly z).1 ((k.exactly z).0 i)))

@@ -4,9 +4,9 @@ use Rattle.std.specs.List.{filter, list_all}
 use Rattle.std.proofs.lemmas.Bool.{and_from, and_parts, cases_Bool}
 use Rattle.std.proofs.lemmas.Cmp.{nat_list_cmp_total}
 use Rattle.imap_types.specs.Ascending.{AreAscending, ComesBefore}
-use Rattle.imap_types.specs.Keywords.{AreKeywords, are_keywords, has_keyword, is_lowered}
+use Rattle.imap_types.specs.Keywords.{AreKeywords, are_keywords, has_keyword, is_lower_case}
 use Rattle.imap_types.proofs.KeywordLemmas.{test_from_keywords}
-use Rattle.imap_commands.specs.Changing.{remaining}
+use Rattle.imap_commands.specs.FlagChange.{remaining}
 
 -- ---- keywords left
 
@@ -51,4 +51,4 @@ never_none false words made t m e = cc
 pub remaining_are_keywords : (given keywords : List (List ℕ)) → AreKeywords keywords → are_keywords (remaining given keywords) ≡ true
 remaining_are_keywords given keywords h =
     let test = λ (keyword : List ℕ). not (has_keyword keyword given) in
-    test_from_keywords (remaining given keywords) (all_filtered is_lowered test keywords h.0, filtered test keywords h.1)
+    test_from_keywords (remaining given keywords) (all_filtered is_lower_case test keywords h.0, filtered test keywords h.1)

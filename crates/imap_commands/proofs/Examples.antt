@@ -1,7 +1,7 @@
 -- Worked examples of the definitions.
 use Rattle.std.proofs.Common.{◌≡◌, [], ◌∷◌, refl}
 use Rattle.std.specs.Prelude.{codes}
-use Rattle.imap_answers.specs.declared.words.Enabled.TheVariants.{Nothing, Imap4Rev2Condstore}
+use Rattle.imap_answers.specs.declared.fixed_words.EnabledExtensions.TheVariants.{Nothing, Imap4Rev2Condstore}
 use Rattle.imap_commands.specs.Enabling.{enabled_of}
 use Rattle.imap_commands.specs.Mailboxes.{created_name}
 

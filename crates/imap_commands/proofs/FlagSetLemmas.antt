@@ -10,11 +10,11 @@ use Rattle.imap_syntax.specs.declared.flags.SystemFlag.TheVariants.{Answered, Fl
 use Rattle.imap_syntax.specs.declared.store.StoreMode.{StoreMode}
 use Rattle.imap_syntax.specs.declared.store.StoreMode.TheVariants.{Add, Remove, Replace}
 use Rattle.imap_query.specs.Messages.{has_flag}
-use Rattle.imap_types.specs.Keywords.{AreKeywords, has_keyword, is_lowered, lowered, with_text}
+use Rattle.imap_types.specs.Keywords.{AreKeywords, has_keyword, is_lower_case, to_lower_case, with_word}
 use Rattle.imap_types.specs.declared.flags.Flags.{Flags}
 use Rattle.imap_types.proofs.KeywordLemmas.{keywords_from_test, keywords_with}
 use Rattle.merge_laws.specs.Orders.{IsIn}
-use Rattle.imap_commands.specs.Changing.{changed_flags, remaining}
+use Rattle.imap_commands.specs.FlagChange.{changed_flags, remaining}
 use Rattle.imap_commands.proofs.BorneLemmas.{text_has, text_keeps, text_new, united}
 use Rattle.imap_commands.proofs.ChangingLemmas.{remaining_are_keywords}
 
@@ -50,21 +50,21 @@ removed_flag Draft old given = but_is old.draft given.draft
 united_has : (x : List ℕ) (given keywords : List (List ℕ)) → IsIn x (united given keywords) → IsIn x keywords ⊎ IsIn x given
 united_has x [] keywords h = inl h
 united_has x (word ∷ given) keywords h =
-    elim (united_has x given (with_text word keywords) h) [
+    elim (united_has x given (with_word word keywords) h) [
       | inl t ↦ elim (text_has x word keywords t) [ inl e ↦ inr (inl e) | inr u ↦ inl u ]
       | inr t ↦ inr (inr t)
     ]
 
 united_keeps : (x : List ℕ) (given keywords : List (List ℕ)) → IsIn x keywords → IsIn x (united given keywords)
 united_keeps x [] keywords h = h
-united_keeps x (word ∷ given) keywords h = united_keeps x given (with_text word keywords) (text_keeps x word keywords h)
+united_keeps x (word ∷ given) keywords h = united_keeps x given (with_word word keywords) (text_keeps x word keywords h)
 
 united_new : (x : List ℕ) (given keywords : List (List ℕ)) → IsIn x given → IsIn x (united given keywords)
 united_new x [] keywords h = absurd h
 united_new x (word ∷ given) keywords h =
     elim h [
-      | inl e ↦ united_keeps x given (with_text word keywords) (subst (λ (y : List ℕ). IsIn y (with_text word keywords)) e (text_new word keywords))
-      | inr t ↦ united_new x given (with_text word keywords) t
+      | inl e ↦ united_keeps x given (with_word word keywords) (subst (λ (y : List ℕ). IsIn y (with_word word keywords)) e (text_new word keywords))
+      | inr t ↦ united_new x given (with_word word keywords) t
     ]
 
 pub added_keyword : (word : List ℕ) (old given : Flags) → IsIn word (changed_flags Add old given).keywords ↔ (IsIn word old.keywords ⊎ IsIn word given.keywords)
@@ -74,24 +74,24 @@ added_keyword word old given = (
   λ h. elim h [ inl t ↦ united_keeps word given.keywords old.keywords t | inr t ↦ united_new word given.keywords old.keywords t ],
 )
 
-lowered_in : (words : List (List ℕ)) (word : List ℕ) → list_all is_lowered words ≡ true → IsIn word words → lowered word ≡ word
+lowered_in : (words : List (List ℕ)) (word : List ℕ) → list_all is_lower_case words ≡ true → IsIn word words → to_lower_case word ≡ word
 lowered_in [] word h i = absurd i
 lowered_in (first ∷ words) word h i =
-    let parts = and_parts (is_lowered first) (list_all is_lowered words) h in
+    let parts = and_parts (is_lower_case first) (list_all is_lower_case words) h in
     elim i [
-      | inl e ↦ subst (λ (w : List ℕ). lowered w ≡ w) e ((bytes_eq-Decides (lowered first) first).0 parts.0)
+      | inl e ↦ subst (λ (w : List ℕ). to_lower_case w ≡ w) e ((bytes_eq-Decides (to_lower_case first) first).0 parts.0)
       | inr t ↦ lowered_in words word parts.1 t
     ]
 
 -- of keywords in lower case, one is found where it is one of them
-found_is : (word : List ℕ) (given : List (List ℕ)) → lowered word ≡ word → list_all is_lowered given ≡ true → (has_keyword word given ≡ true) ↔ IsIn word given
+found_is : (word : List ℕ) (given : List (List ℕ)) → to_lower_case word ≡ word → list_all is_lower_case given ≡ true → (has_keyword word given ≡ true) ↔ IsIn word given
 found_is word given l all =
-    let same = λ (other : List ℕ). bytes_eq (lowered other) (lowered word) in (
+    let same = λ (other : List ℕ). bytes_eq (to_lower_case other) (to_lower_case word) in (
       λ h.
           let w = (any_in same given).0 h in
-          let e : w.0 ≡ word = sym (lowered_in given w.0 all w.1) ∙ (bytes_eq-Decides (lowered w.0) (lowered word)).0 w.2 ∙ l in
+          let e : w.0 ≡ word = sym (lowered_in given w.0 all w.1) ∙ (bytes_eq-Decides (to_lower_case w.0) (to_lower_case word)).0 w.2 ∙ l in
           subst (λ (x : List ℕ). IsIn x given) e w.1,
-      λ i. (any_in same given).1 (word, i, (bytes_eq-Decides (lowered word) (lowered word)).1 refl),
+      λ i. (any_in same given).1 (word, i, (bytes_eq-Decides (to_lower_case word) (to_lower_case word)).1 refl),
     )
 
 not_is : (b : Bool) → (not b ≡ true) ↔ ((b ≡ true) → ⊥)
@@ -118,12 +118,12 @@ replaced_flags old given = refl
 
 -- ---- their one spelling
 
-united_spelled : (given keywords : List (List ℕ)) → list_all is_lowered given ≡ true → AreKeywords keywords → AreKeywords (united given keywords)
+united_spelled : (given keywords : List (List ℕ)) → list_all is_lower_case given ≡ true → AreKeywords keywords → AreKeywords (united given keywords)
 united_spelled [] keywords g k = k
 united_spelled (word ∷ given) keywords g k =
-    let parts = and_parts (is_lowered word) (list_all is_lowered given) g in
-    let low : lowered word ≡ word = (bytes_eq-Decides (lowered word) word).0 parts.0 in
-    united_spelled given (with_text word keywords) parts.1 (subst (λ (w : List ℕ). AreKeywords (with_text w keywords)) low (keywords_with word keywords k))
+    let parts = and_parts (is_lower_case word) (list_all is_lower_case given) g in
+    let low : to_lower_case word ≡ word = (bytes_eq-Decides (to_lower_case word) word).0 parts.0 in
+    united_spelled given (with_word word keywords) parts.1 (subst (λ (w : List ℕ). AreKeywords (with_word w keywords)) low (keywords_with word keywords k))
 
 pub changed_spelled : (mode : StoreMode) (old given : Flags) → AreKeywords old.keywords → AreKeywords given.keywords → AreKeywords (changed_flags mode old given).keywords
 unfolding changed_flags

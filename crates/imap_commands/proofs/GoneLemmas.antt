@@ -4,14 +4,14 @@ use Rattle.std.proofs.lemmas.Bool.{cases_Bool}
 use Rattle.std.proofs.lemmas.Grind.{flat_map-append}
 use Rattle.imap_syntax.specs.declared.fetch.FetchItem.{FetchItem}
 use Rattle.imap_answers.specs.declared.answer.Answer.{Answer}
-use Rattle.imap_query.specs.Fetching.{answer_of, fetch_answers, is_kept}
+use Rattle.imap_query.specs.Fetching.{answer_of, fetch_answers, is_above_changed_since}
 use Rattle.imap_query.specs.declared.fetching.FetchMode.{FetchMode}
-use Rattle.imap_query.specs.declared.shown.Shown.{Shown}
-use Rattle.mail_listing.specs.Listed.{Listed}
-use Rattle.mail_listing.specs.Listing.{row_of}
-use Rattle.session_view.specs.declared.entry.Entry.{Entry}
+use Rattle.imap_query.specs.declared.viewed_message.ViewedMessage.{ViewedMessage}
+use Rattle.mailbox_rows.specs.ListedMessage.{ListedMessage}
+use Rattle.mailbox_rows.specs.RowViews.{row_of}
+use Rattle.session_view.specs.declared.view_entry.ViewEntry.{ViewEntry}
 use Rattle.imap_commands.specs.Fetching.{shown_at, shown_of}
-use Rattle.imap_commands.specs.Told.{are_some_gone, entry_at, is_gone, message_at, row_for}
+use Rattle.imap_commands.specs.Report.{are_some_gone, entry_at, is_gone, message_at, row_for}
 
 -- One for what is so.
 abbrev one_if : Bool → ℕ
@@ -23,28 +23,28 @@ one_or true b = omega arith
 one_or false b = omega arith
 
 -- A message has one answer at most, and none where it is gone.
-one_answer : (items : List FetchItem) (mode : FetchMode) (shown : Shown) (old row : Option Listed) → length (answer_of items mode shown old row) + one_if (is_gone old) ≤ 1
+one_answer : (items : List FetchItem) (mode : FetchMode) (shown : ViewedMessage) (old row : Option ListedMessage) → length (answer_of items mode shown old row) + one_if (is_gone old) ≤ 1
 one_answer items mode shown None row = omega arith
 one_answer items mode shown (Some old) None = omega arith
 one_answer items mode shown (Some old) (Some row) =
-    elim (cases_Bool (is_kept mode.changed_since old)) [
+    elim (cases_Bool (is_above_changed_since mode.changed_since old)) [
       | inl t ↦ rw t (omega arith)
       | inr f ↦ rw f (omega arith)
     ]
 
 -- So has a number.
-numbered : (items : List FetchItem) (mode : FetchMode) (before after : List Listed) (n : ℕ) (e : Option Entry) → length (fetch_answers items mode before after (shown_at n e)) + one_if (is_gone (row_for before e)) ≤ 1
+numbered : (items : List FetchItem) (mode : FetchMode) (before after : List ListedMessage) (n : ℕ) (e : Option ViewEntry) → length (fetch_answers items mode before after (shown_at n e)) + one_if (is_gone (row_for before e)) ≤ 1
 numbered items mode before after n None = omega arith
 numbered items mode before after n (Some e) =
-    let shown : Shown = record { number = n; uid = e.uid } in
+    let shown : ViewedMessage = record { number = n; uid = e.uid } in
     let one = one_answer items mode shown (row_of e.uid before) (row_of e.uid after) in
     omega (arith, length-append (answer_of items mode shown (row_of e.uid before) (row_of e.uid after)) [], one)
 
 -- Where some are gone, there are fewer answers than numbers.
-fewer : (items : List FetchItem) (mode : FetchMode) (before after : List Listed) (view : List Entry) (numbers : List ℕ) → length (fetch_answers items mode before after (shown_of view numbers)) + one_if (are_some_gone before view numbers) ≤ length numbers
+fewer : (items : List FetchItem) (mode : FetchMode) (before after : List ListedMessage) (view : List ViewEntry) (numbers : List ℕ) → length (fetch_answers items mode before after (shown_of view numbers)) + one_if (are_some_gone before view numbers) ≤ length numbers
 fewer items mode before after view [] = omega arith
 fewer items mode before after view (n ∷ numbers) =
-    let answers : Shown → List Answer = λ shown. answer_of items mode shown (row_of shown.uid before) (row_of shown.uid after) in
+    let answers : ViewedMessage → List Answer = λ shown. answer_of items mode shown (row_of shown.uid before) (row_of shown.uid after) in
     let first = shown_at n (entry_at view n) in
     let parted = ap length (flat_map-append answers first (shown_of view numbers)) in
     let both = length-append (fetch_answers items mode before after first) (fetch_answers items mode before after (shown_of view numbers)) in
@@ -58,5 +58,5 @@ none_so true told all h e = absurd (omega (arith, h, e))
 none_so false told all h e = refl
 
 -- As many answers as numbers: none is gone.
-pub all_told : (items : List FetchItem) (mode : FetchMode) (before after : List Listed) (view : List Entry) (numbers : List ℕ) → length (fetch_answers items mode before after (shown_of view numbers)) ≡ length numbers → are_some_gone before view numbers ≡ false
+pub all_told : (items : List FetchItem) (mode : FetchMode) (before after : List ListedMessage) (view : List ViewEntry) (numbers : List ℕ) → length (fetch_answers items mode before after (shown_of view numbers)) ≡ length numbers → are_some_gone before view numbers ≡ false
 all_told items mode before after view numbers e = none_so _ _ _ (fewer items mode before after view numbers) e

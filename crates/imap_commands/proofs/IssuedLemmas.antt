@@ -8,32 +8,32 @@ use Rattle.std.proofs.lemmas.Bool.{and_from, and_parts}
 use Rattle.std.proofs.lemmas.Bool.Decides.{nat_tests}
 use Rattle.crdt_ops.specs.declared.kind.Kind.{Kind}
 use Rattle.crdt_ops.specs.declared.kind.Kind.TheVariants.{Create, Delete, Append, Expunge, Store, Subscribe, Unsubscribe}
-use Rattle.imap_answers.specs.declared.words.Refusal.{Refusal}
+use Rattle.imap_answers.specs.declared.fixed_words.Refusal.{Refusal}
 use Rattle.imap_syntax.specs.declared.fetch.FetchItem.{FetchItem}
 use Rattle.imap_syntax.specs.declared.store.StoreMode.{StoreMode}
 use Rattle.imap_syntax.specs.declared.store.StoreMode.TheVariants.{Replace, Add, Remove}
-use Rattle.imap_query.specs.Fetching.{is_kept, is_marked}
+use Rattle.imap_query.specs.Fetching.{is_above_changed_since, is_seen_set}
 use Rattle.imap_query.specs.declared.fetching.FetchMode.{FetchMode}
-use Rattle.imap_types.specs.Ascending.{compared}
-use Rattle.imap_types.specs.Keywords.{has_keyword, is_lawful_keyword, with_text}
+use Rattle.imap_types.specs.Ascending.{octet_order}
+use Rattle.imap_types.specs.Keywords.{has_keyword, is_lawful_keyword, with_word}
 use Rattle.imap_types.specs.declared.flags.Flags.{Flags}
 use Rattle.imap_types.specs.declared.sequence_set.SequenceRange.{SequenceRange}
-use Rattle.mail_listing.specs.Listed.{Listed}
-use Rattle.mail_listing.specs.Listing.{row_of}
+use Rattle.mailbox_rows.specs.ListedMessage.{ListedMessage}
+use Rattle.mailbox_rows.specs.RowViews.{row_of}
 use Rattle.merge_laws.specs.Orders.{IsIn}
-use Rattle.session_view.specs.Sets.{is_in_range, resolved}
+use Rattle.session_view.specs.Sets.{is_in_range, numbers_in_set}
 use Rattle.session_view.specs.Views.{same_flags}
-use Rattle.session_view.specs.declared.entry.Entry.{Entry}
-use Rattle.imap_commands.specs.Asked.{CopyAsked, FetchAsked, OpenMailbox, StoreAsked}
-use Rattle.imap_commands.specs.Changing.{changed_flags}
+use Rattle.session_view.specs.declared.view_entry.ViewEntry.{ViewEntry}
+use Rattle.imap_commands.specs.Arguments.{CopyArgs, FetchArgs, OpenMailbox, StoreArgs}
+use Rattle.imap_commands.specs.FlagChange.{changed_flags}
 use Rattle.imap_commands.proofs.BorneLemmas.{united}
-use Rattle.imap_commands.specs.Copying.{append_of, appends_of, copy_wants, move_wants, removal_of, removals_of}
-use Rattle.imap_commands.specs.Expunging.{close_wants, expunge_at, expunge_of, expunge_wants, expunges_at, expunges_of, uid_expunge_wants}
-use Rattle.imap_commands.specs.Fetching.{fetch_wants, mode_of, seen_flags, seen_store, seen_stores}
-use Rattle.imap_commands.specs.Issued.{AreIssuable, AreListedIds, AreListedWithOrigin, HaveLawfulKeywords, IsIssuable}
+use Rattle.imap_commands.specs.Copying.{append_of, appends_of, copy_intent, move_intent, expunge_of_moved, expunges_of_moved}
+use Rattle.imap_commands.specs.Expunging.{close_intent, expunge_at, expunge_of, expunge_intent, expunges_at, expunges_of, uid_expunge_intent}
+use Rattle.imap_commands.specs.Fetching.{fetch_intent, mode_of, seen_flags, seen_store, seen_stores}
+use Rattle.imap_commands.specs.Issuable.{AreIssuable, AreListedIds, AreListedWithOrigin, HaveLawfulKeywords, IsIssuable}
 use Rattle.imap_commands.specs.Limits.{has_many_keywords, has_many_versions, within_limits}
-use Rattle.imap_commands.specs.Storing.{has_unlawful_keyword, store_of, store_wants, stores_of, those_taken}
-use Rattle.imap_commands.specs.Told.{entry_at, message_at, row_for}
+use Rattle.imap_commands.specs.Storing.{has_unlawful_keyword, store_of, store_intent, stores_of, taken_messages}
+use Rattle.imap_commands.specs.Report.{entry_at, message_at, row_for}
 use Rattle.imap_commands.proofs.ChangingLemmas.{all_filtered}
 
 -- ---- lists of operations
@@ -72,15 +72,15 @@ ok_is P found kinds the e h p = let k : found ≡ kinds = cc in subst P k p
 
 -- ---- messages of a listing
 
-picked : (b : Bool) (x row : Listed) (rest : Option Listed) → (if b then Some x else rest) ≡ Some row → (x ≡ row) ⊎ (rest ≡ Some row)
+picked : (b : Bool) (x row : ListedMessage) (rest : Option ListedMessage) → (if b then Some x else rest) ≡ Some row → (x ≡ row) ⊎ (rest ≡ Some row)
 picked true x row rest h = let k : x ≡ row = cc in inl k
 picked false x row rest h = inr h
 
-row_is_in : (uid : ℕ) (rows : List Listed) (row : Listed) → row_of uid rows ≡ Some row → IsIn row rows
+row_is_in : (uid : ℕ) (rows : List ListedMessage) (row : ListedMessage) → row_of uid rows ≡ Some row → IsIn row rows
 row_is_in uid [] row h = cc
 row_is_in uid (x ∷ rows) row h = elim (picked (x.uid == uid) x row (row_of uid rows) h) [ inl e ↦ inl e | inr t ↦ inr (row_is_in uid rows row t) ]
 
-message_is_in : (rows : List Listed) (entry : Option Entry) (row : Listed) → row_for rows entry ≡ Some row → IsIn row rows
+message_is_in : (rows : List ListedMessage) (entry : Option ViewEntry) (row : ListedMessage) → row_for rows entry ≡ Some row → IsIn row rows
 message_is_in rows None row h = cc
 message_is_in rows (Some e) row h = row_is_in e.uid rows row h
 
@@ -92,16 +92,16 @@ all_with p word next words rest Less h i j = and_from (p word) (list_all p (next
 all_with p word next words rest Equal h i j = i
 all_with p word next words rest Greater h i j = and_from (p next) (list_all p rest) (and_parts (p next) (list_all p words) i).0 j
 
-all_with_text : (p : List ℕ → Bool) (word : List ℕ) (words : List (List ℕ)) → p word ≡ true → list_all p words ≡ true → list_all p (with_text word words) ≡ true
+all_with_text : (p : List ℕ → Bool) (word : List ℕ) (words : List (List ℕ)) → p word ≡ true → list_all p words ≡ true → list_all p (with_word word words) ≡ true
 all_with_text p word [] h i = and_from (p word) true h refl
 all_with_text p word (next ∷ words) h i =
-    all_with p word next words (with_text word words) (compared word next) h i (all_with_text p word words h (and_parts (p next) (list_all p words) i).1)
+    all_with p word next words (with_word word words) (octet_order word next) h i (all_with_text p word words h (and_parts (p next) (list_all p words) i).1)
 
 all_united : (p : List ℕ → Bool) (given words : List (List ℕ)) → list_all p given ≡ true → list_all p words ≡ true → list_all p (united given words) ≡ true
 all_united p [] words h i = i
 all_united p (word ∷ given) words h i =
     let parts = and_parts (p word) (list_all p given) h in
-    all_united p given (with_text word words) parts.1 (all_with_text p word words parts.0 i)
+    all_united p given (with_word word words) parts.1 (all_with_text p word words parts.0 i)
 
 lawful_change : (mode : StoreMode) (old given : Flags) → list_all is_lawful_keyword old.keywords ≡ true → list_all is_lawful_keyword given.keywords ≡ true → list_all is_lawful_keyword (changed_flags mode old given).keywords ≡ true
 unfolding changed_flags
@@ -112,7 +112,7 @@ lawful_change Remove old given h i = all_filtered is_lawful_keyword (λ (keyword
 -- ---- limits
 
 -- an issuable operation, apart from how many keywords and ids it carries
-abbrev IsWanted : List ℕ → List ℕ → List Listed → Kind → Type 0
+abbrev IsWanted : List ℕ → List ℕ → List ListedMessage → Kind → Type 0
 IsWanted folder destination rows (Store f flags olds origin) = (f ≡ folder) × (list_all is_lawful_keyword flags.keywords ≡ true) × AreListedWithOrigin rows olds origin
 IsWanted folder destination rows (Expunge f olds) = (f ≡ folder) × AreListedIds rows olds
 IsWanted folder destination rows (Append f flags date text) = (f ≡ destination) × (list_all is_lawful_keyword flags.keywords ≡ true)
@@ -124,7 +124,7 @@ IsWanted folder destination rows (Unsubscribe name seen) = ⊥
 few_enough : (n most : ℕ) → nat_lt most n ≡ false → n ≤ most
 few_enough n most h = grind (arith, nat_tests)
 
-few_issuable : (folder destination : List ℕ) (rows : List Listed) (kind : Kind) → IsWanted folder destination rows kind → has_many_keywords kind ≡ false → has_many_versions kind ≡ false → IsIssuable folder destination rows kind
+few_issuable : (folder destination : List ℕ) (rows : List ListedMessage) (kind : Kind) → IsWanted folder destination rows kind → has_many_keywords kind ≡ false → has_many_versions kind ≡ false → IsIssuable folder destination rows kind
 few_issuable folder destination rows (Store f flags olds origin) w k v = (w.0, (few_enough (length flags.keywords) 32 k, w.1), few_enough (length olds) 64 v, w.2)
 few_issuable folder destination rows (Expunge f olds) w k v = (w.0, few_enough (length olds) 64 v, w.1)
 few_issuable folder destination rows (Append f flags date text) w k v = (w.0, (few_enough (length flags.keywords) 32 k, w.1))
@@ -151,7 +151,7 @@ within_is wanted kinds h =
     ok_is (λ found. found ≡ wanted) wanted kinds _ refl versions.1 refl
 
 -- what is issued within the limits is issuable
-within_issuable : (folder destination : List ℕ) (rows : List Listed) (wanted kinds : List Kind) → within_limits wanted ≡ Ok kinds → ((kind : Kind) → IsIn kind wanted → IsWanted folder destination rows kind) → AreIssuable folder destination rows kinds
+within_issuable : (folder destination : List ℕ) (rows : List ListedMessage) (wanted kinds : List Kind) → within_limits wanted ≡ Ok kinds → ((kind : Kind) → IsIn kind wanted → IsWanted folder destination rows kind) → AreIssuable folder destination rows kinds
 within_issuable folder destination rows wanted kinds h w =
     let keywords = unless_refused (list_any has_many_keywords wanted) _ _ kinds h in
     let versions = unless_refused (list_any has_many_versions wanted) _ _ kinds keywords.1 in
@@ -160,7 +160,7 @@ within_issuable folder destination rows wanted kinds h w =
 
 -- ---- STORE
 
-store_wanted : (folder destination : List ℕ) (rows : List Listed) (mode : StoreMode) (given : Flags) (message : Option Listed) → ((row : Listed) → message ≡ Some row → IsIn row rows) → HaveLawfulKeywords rows
+store_wanted : (folder destination : List ℕ) (rows : List ListedMessage) (mode : StoreMode) (given : Flags) (message : Option ListedMessage) → ((row : ListedMessage) → message ≡ Some row → IsIn row rows) → HaveLawfulKeywords rows
     → list_all is_lawful_keyword given.keywords ≡ true → (kind : Kind) → IsIn kind (store_of folder mode given message) → IsWanted folder destination rows kind
 store_wanted folder destination rows mode given None m l k kind i = absurd i
 store_wanted folder destination rows mode given (Some row) m l k kind i =
@@ -176,7 +176,7 @@ not_false false h = cc
 lawful_given : (flags : Flags) → has_unlawful_keyword flags ≡ false → list_all is_lawful_keyword flags.keywords ≡ true
 lawful_given flags h = not_false (list_all is_lawful_keyword flags.keywords) h
 
-stores_wanted : (mailbox : OpenMailbox) (destination : List ℕ) (asked : StoreAsked) (numbers : List ℕ) → HaveLawfulKeywords mailbox.rows → has_unlawful_keyword asked.flags ≡ false
+stores_wanted : (mailbox : OpenMailbox) (destination : List ℕ) (asked : StoreArgs) (numbers : List ℕ) → HaveLawfulKeywords mailbox.rows → has_unlawful_keyword asked.flags ≡ false
     → (kind : Kind) → IsIn kind (stores_of mailbox asked numbers) → IsWanted mailbox.name destination mailbox.rows kind
 stores_wanted mailbox destination asked numbers l u =
     let rows = mailbox.rows in
@@ -185,65 +185,65 @@ stores_wanted mailbox destination asked numbers l u =
     (λ n i. store_wanted mailbox.name destination rows asked.action.mode asked.flags (message_at rows view n) (λ row e. message_is_in rows (entry_at view n) row e) l (lawful_given asked.flags u))
 
 -- STORE issues Stores of listed messages, with lawful flags.
-pub store_wants_issuable : (mailbox : OpenMailbox) (destination : List ℕ) (asked : StoreAsked) (kinds : List Kind) → HaveLawfulKeywords mailbox.rows → store_wants mailbox asked ≡ Ok kinds
+pub store_wants_issuable : (mailbox : OpenMailbox) (destination : List ℕ) (asked : StoreArgs) (kinds : List Kind) → HaveLawfulKeywords mailbox.rows → store_intent mailbox asked ≡ Ok kinds
     → AreIssuable mailbox.name destination mailbox.rows kinds
 store_wants_issuable mailbox destination asked kinds l h =
     let in_range = unless_refused (not (is_in_range asked.by_uid asked.messages mailbox.view)) _ _ kinds h in
     let writable = unless_refused mailbox.read_only _ _ kinds in_range.1 in
     let lawful = unless_refused (has_unlawful_keyword asked.flags) _ _ kinds writable.1 in
-    let taken = those_taken mailbox.rows mailbox.view asked.unchanged_since (resolved asked.by_uid asked.messages mailbox.view) in
+    let taken = taken_messages mailbox.rows mailbox.view asked.unchanged_since (numbers_in_set asked.by_uid asked.messages mailbox.view) in
     within_issuable mailbox.name destination mailbox.rows (stores_of mailbox asked taken) kinds lawful.1 (stores_wanted mailbox destination asked taken l lawful.0)
 
 -- ---- EXPUNGE
 
-expunge_wanted : (folder destination : List ℕ) (rows : List Listed) (row : Listed) → IsIn row rows → (kind : Kind) → IsIn kind (expunge_of folder row) → IsWanted folder destination rows kind
+expunge_wanted : (folder destination : List ℕ) (rows : List ListedMessage) (row : ListedMessage) → IsIn row rows → (kind : Kind) → IsIn kind (expunge_of folder row) → IsWanted folder destination rows kind
 expunge_wanted folder destination rows row m kind i =
     one_where (IsWanted folder destination rows) row.flags.deleted (Expunge folder row.versions) (refl, (row, m, refl)) kind i
 
-expunges_wanted : (folder destination : List ℕ) (rows : List Listed) (kind : Kind) → IsIn kind (expunges_of folder rows) → IsWanted folder destination rows kind
+expunges_wanted : (folder destination : List ℕ) (rows : List ListedMessage) (kind : Kind) → IsIn kind (expunges_of folder rows) → IsWanted folder destination rows kind
 expunges_wanted folder destination rows = each_flat (IsWanted folder destination rows) (expunge_of folder) rows (λ row m. expunge_wanted folder destination rows row m)
 
 -- EXPUNGE issues Expunges of listed messages.
-pub expunge_wants_issuable : (mailbox : OpenMailbox) (destination : List ℕ) (kinds : List Kind) → expunge_wants mailbox ≡ Ok kinds → AreIssuable mailbox.name destination mailbox.rows kinds
+pub expunge_wants_issuable : (mailbox : OpenMailbox) (destination : List ℕ) (kinds : List Kind) → expunge_intent mailbox ≡ Ok kinds → AreIssuable mailbox.name destination mailbox.rows kinds
 expunge_wants_issuable mailbox destination kinds h =
     let writable = unless_refused mailbox.read_only _ _ kinds h in
     within_issuable mailbox.name destination mailbox.rows (expunges_of mailbox.name mailbox.rows) kinds writable.1 (expunges_wanted mailbox.name destination mailbox.rows)
 
 -- CLOSE does too, or issues nothing.
-close_by : (read_only : Bool) (folder destination : List ℕ) (rows : List Listed) (kinds : List Kind) → (if read_only then Ok [] else within_limits (expunges_of folder rows)) ≡ Ok kinds → AreIssuable folder destination rows kinds
+close_by : (read_only : Bool) (folder destination : List ℕ) (rows : List ListedMessage) (kinds : List Kind) → (if read_only then Ok [] else within_limits (expunges_of folder rows)) ≡ Ok kinds → AreIssuable folder destination rows kinds
 close_by true folder destination rows kinds h = ok_is (AreIssuable folder destination rows) [] kinds _ refl h (λ kind i. absurd i)
 close_by false folder destination rows kinds h = within_issuable folder destination rows (expunges_of folder rows) kinds h (expunges_wanted folder destination rows)
 
-pub close_wants_issuable : (mailbox : OpenMailbox) (destination : List ℕ) (kinds : List Kind) → close_wants mailbox ≡ Ok kinds → AreIssuable mailbox.name destination mailbox.rows kinds
+pub close_wants_issuable : (mailbox : OpenMailbox) (destination : List ℕ) (kinds : List Kind) → close_intent mailbox ≡ Ok kinds → AreIssuable mailbox.name destination mailbox.rows kinds
 close_wants_issuable mailbox destination kinds h = close_by mailbox.read_only mailbox.name destination mailbox.rows kinds h
 
-expunge_at_wanted : (folder destination : List ℕ) (rows : List Listed) (message : Option Listed) → ((row : Listed) → message ≡ Some row → IsIn row rows) → (kind : Kind) → IsIn kind (expunge_at folder message) → IsWanted folder destination rows kind
+expunge_at_wanted : (folder destination : List ℕ) (rows : List ListedMessage) (message : Option ListedMessage) → ((row : ListedMessage) → message ≡ Some row → IsIn row rows) → (kind : Kind) → IsIn kind (expunge_at folder message) → IsWanted folder destination rows kind
 expunge_at_wanted folder destination rows None m kind i = absurd i
 expunge_at_wanted folder destination rows (Some row) m kind i = expunge_wanted folder destination rows row (m row refl) kind i
 
 -- So does UID EXPUNGE.
-pub uid_expunge_wants_issuable : (mailbox : OpenMailbox) (destination : List ℕ) (uids : List SequenceRange) (kinds : List Kind) → uid_expunge_wants mailbox uids ≡ Ok kinds → AreIssuable mailbox.name destination mailbox.rows kinds
+pub uid_expunge_wants_issuable : (mailbox : OpenMailbox) (destination : List ℕ) (uids : List SequenceRange) (kinds : List Kind) → uid_expunge_intent mailbox uids ≡ Ok kinds → AreIssuable mailbox.name destination mailbox.rows kinds
 uid_expunge_wants_issuable mailbox destination uids kinds h =
     let writable = unless_refused mailbox.read_only _ _ kinds h in
     let folder = mailbox.name in
     let before = mailbox.rows in
     let view = mailbox.view in
-    let numbers = resolved true uids view in
+    let numbers = numbers_in_set true uids view in
     within_issuable folder destination before (expunges_at folder before view numbers) kinds writable.1
     (each_flat (IsWanted folder destination before) (λ n. expunge_at folder (message_at before view n)) numbers
     (λ n i. expunge_at_wanted folder destination before (message_at before view n) (λ row e. message_is_in before (entry_at view n) row e)))
 
 -- ---- FETCH
 
-seen_wanted : (folder destination : List ℕ) (rows : List Listed) (items : List FetchItem) (mode : FetchMode) (message : Option Listed) → ((row : Listed) → message ≡ Some row → IsIn row rows) → HaveLawfulKeywords rows
+seen_wanted : (folder destination : List ℕ) (rows : List ListedMessage) (items : List FetchItem) (mode : FetchMode) (message : Option ListedMessage) → ((row : ListedMessage) → message ≡ Some row → IsIn row rows) → HaveLawfulKeywords rows
     → (kind : Kind) → IsIn kind (seen_store folder items mode message) → IsWanted folder destination rows kind
 seen_wanted folder destination rows items mode None m l kind i = absurd i
 seen_wanted folder destination rows items mode (Some row) m l kind i =
     let is_in : IsIn row rows = m row refl in
-    one_where (IsWanted folder destination rows) (is_kept mode.changed_since row && is_marked items mode row) (Store folder (seen_flags row.flags) row.versions row.origin) (refl, l row is_in, (row, is_in, refl, refl)) kind i
+    one_where (IsWanted folder destination rows) (is_above_changed_since mode.changed_since row && is_seen_set items mode row) (Store folder (seen_flags row.flags) row.versions row.origin) (refl, l row is_in, (row, is_in, refl, refl)) kind i
 
 -- FETCH issues Stores of listed messages, with lawful flags.
-pub fetch_wants_issuable : (mailbox : OpenMailbox) (destination : List ℕ) (asked : FetchAsked) (kinds : List Kind) → HaveLawfulKeywords mailbox.rows → fetch_wants mailbox asked ≡ Ok kinds
+pub fetch_wants_issuable : (mailbox : OpenMailbox) (destination : List ℕ) (asked : FetchArgs) (kinds : List Kind) → HaveLawfulKeywords mailbox.rows → fetch_intent mailbox asked ≡ Ok kinds
     → AreIssuable mailbox.name destination mailbox.rows kinds
 fetch_wants_issuable mailbox destination asked kinds l h =
     let in_range = unless_refused (not (is_in_range asked.by_uid asked.messages mailbox.view)) _ _ kinds h in
@@ -252,34 +252,34 @@ fetch_wants_issuable mailbox destination asked kinds l h =
     let view = mailbox.view in
     let items = asked.items in
     let mode = mode_of mailbox false asked in
-    let numbers = resolved asked.by_uid asked.messages view in
+    let numbers = numbers_in_set asked.by_uid asked.messages view in
     within_issuable folder destination before (seen_stores mailbox asked numbers) kinds in_range.1
     (each_flat (IsWanted folder destination before) (λ n. seen_store folder items mode (message_at before view n)) numbers
     (λ n i. seen_wanted folder destination before items mode (message_at before view n) (λ row e. message_is_in before (entry_at view n) row e) l))
 
 -- ---- COPY and MOVE
 
-append_wanted : (folder destination : List ℕ) (rows : List Listed) (message : Option Listed) → ((row : Listed) → message ≡ Some row → IsIn row rows) → HaveLawfulKeywords rows
+append_wanted : (folder destination : List ℕ) (rows : List ListedMessage) (message : Option ListedMessage) → ((row : ListedMessage) → message ≡ Some row → IsIn row rows) → HaveLawfulKeywords rows
     → (kind : Kind) → IsIn kind (append_of destination message) → IsWanted folder destination rows kind
 append_wanted folder destination rows None m l kind i = absurd i
 append_wanted folder destination rows (Some row) m l kind i = only_one (IsWanted folder destination rows) (Append destination row.flags row.date row.text) (refl, l row (m row refl)) kind i
 
-appends_wanted : (folder destination : List ℕ) (rows : List Listed) (view : List Entry) (numbers : List ℕ) → HaveLawfulKeywords rows → (kind : Kind) → IsIn kind (appends_of destination rows view numbers) → IsWanted folder destination rows kind
+appends_wanted : (folder destination : List ℕ) (rows : List ListedMessage) (view : List ViewEntry) (numbers : List ℕ) → HaveLawfulKeywords rows → (kind : Kind) → IsIn kind (appends_of destination rows view numbers) → IsWanted folder destination rows kind
 appends_wanted folder destination rows view numbers l =
     each_flat (IsWanted folder destination rows) (λ n. append_of destination (message_at rows view n)) numbers
     (λ n i. append_wanted folder destination rows (message_at rows view n) (λ row e. message_is_in rows (entry_at view n) row e) l)
 
-removal_wanted : (folder destination : List ℕ) (rows : List Listed) (message : Option Listed) → ((row : Listed) → message ≡ Some row → IsIn row rows) → (kind : Kind) → IsIn kind (removal_of folder message) → IsWanted folder destination rows kind
+removal_wanted : (folder destination : List ℕ) (rows : List ListedMessage) (message : Option ListedMessage) → ((row : ListedMessage) → message ≡ Some row → IsIn row rows) → (kind : Kind) → IsIn kind (expunge_of_moved folder message) → IsWanted folder destination rows kind
 removal_wanted folder destination rows None m kind i = absurd i
 removal_wanted folder destination rows (Some row) m kind i = only_one (IsWanted folder destination rows) (Expunge folder row.versions) (refl, (row, m row refl, refl)) kind i
 
-removals_wanted : (folder destination : List ℕ) (rows : List Listed) (view : List Entry) (numbers : List ℕ) (kind : Kind) → IsIn kind (removals_of folder rows view numbers) → IsWanted folder destination rows kind
+removals_wanted : (folder destination : List ℕ) (rows : List ListedMessage) (view : List ViewEntry) (numbers : List ℕ) (kind : Kind) → IsIn kind (expunges_of_moved folder rows view numbers) → IsWanted folder destination rows kind
 removals_wanted folder destination rows view numbers =
-    each_flat (IsWanted folder destination rows) (λ n. removal_of folder (message_at rows view n)) numbers
+    each_flat (IsWanted folder destination rows) (λ n. expunge_of_moved folder (message_at rows view n)) numbers
     (λ n i. removal_wanted folder destination rows (message_at rows view n) (λ row e. message_is_in rows (entry_at view n) row e))
 
 -- COPY issues Appends in the destination, with lawful flags.
-pub copy_wants_issuable : (mailbox : OpenMailbox) (asked : CopyAsked) (is_there : Bool) (kinds : List Kind) → HaveLawfulKeywords mailbox.rows → copy_wants mailbox asked is_there ≡ Ok kinds
+pub copy_wants_issuable : (mailbox : OpenMailbox) (asked : CopyArgs) (is_there : Bool) (kinds : List Kind) → HaveLawfulKeywords mailbox.rows → copy_intent mailbox asked is_there ≡ Ok kinds
     → AreIssuable mailbox.name asked.destination mailbox.rows kinds
 copy_wants_issuable mailbox asked is_there kinds l h =
     let in_range = unless_refused (not (is_in_range asked.by_uid asked.messages mailbox.view)) _ _ kinds h in
@@ -288,11 +288,11 @@ copy_wants_issuable mailbox asked is_there kinds l h =
     let destination = asked.destination in
     let before = mailbox.rows in
     let view = mailbox.view in
-    let numbers = resolved asked.by_uid asked.messages view in
+    let numbers = numbers_in_set asked.by_uid asked.messages view in
     within_issuable folder destination before (appends_of destination before view numbers) kinds found.1 (appends_wanted folder destination before view numbers l)
 
 -- MOVE issues these and Expunges of listed messages.
-pub move_wants_issuable : (mailbox : OpenMailbox) (asked : CopyAsked) (is_there : Bool) (kinds : List Kind) → HaveLawfulKeywords mailbox.rows → move_wants mailbox asked is_there ≡ Ok kinds
+pub move_wants_issuable : (mailbox : OpenMailbox) (asked : CopyArgs) (is_there : Bool) (kinds : List Kind) → HaveLawfulKeywords mailbox.rows → move_intent mailbox asked is_there ≡ Ok kinds
     → AreIssuable mailbox.name asked.destination mailbox.rows kinds
 move_wants_issuable mailbox asked is_there kinds l h =
     let in_range = unless_refused (not (is_in_range asked.by_uid asked.messages mailbox.view)) _ _ kinds h in
@@ -302,7 +302,7 @@ move_wants_issuable mailbox asked is_there kinds l h =
     let destination = asked.destination in
     let before = mailbox.rows in
     let view = mailbox.view in
-    let numbers = resolved asked.by_uid asked.messages view in
-    within_issuable folder destination before (appends_of destination before view numbers ++ removals_of folder before view numbers) kinds found.1
-    (each_append (IsWanted folder destination before) (appends_of destination before view numbers) (removals_of folder before view numbers)
+    let numbers = numbers_in_set asked.by_uid asked.messages view in
+    within_issuable folder destination before (appends_of destination before view numbers ++ expunges_of_moved folder before view numbers) kinds found.1
+    (each_append (IsWanted folder destination before) (appends_of destination before view numbers) (expunges_of_moved folder before view numbers)
     (appends_wanted folder destination before view numbers l) (removals_wanted folder destination before view numbers))

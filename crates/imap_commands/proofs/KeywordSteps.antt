@@ -4,26 +4,26 @@ use Rattle.std.specs.declared.alloc.AllocError.{AllocError}
 use Rattle.std.specs.List.{slice_get}
 use Rattle.std.specs.Option.{option_to_list}
 use Rattle.imap_query.proofs.CountLemmas.{from_place}
-use Rattle.mail_listing.specs.Listed.{Listed}
-use Rattle.imap_commands.specs.Selecting.{AreBorne}
+use Rattle.mailbox_rows.specs.ListedMessage.{ListedMessage}
+use Rattle.imap_commands.specs.Selecting.{AreListedKeywords}
 use Rattle.imap_commands.proofs.BorneLemmas.{borne, with_keywords, with_rows}
 use Rattle.imap_commands.proofs.PlaceLemmas.{drop_past}
 
 -- the keywords of the message at a place, and of those behind it
-pub row_read : (rows : List Listed) (place : ℕ) (row : Listed) (keywords : List (List ℕ)) → Some row ≡ slice_get rows place
+pub row_read : (rows : List ListedMessage) (place : ℕ) (row : ListedMessage) (keywords : List (List ℕ)) → Some row ≡ slice_get rows place
     → with_rows (drop (place + 1) rows) (with_keywords row.flags.keywords keywords) ≡ with_rows (drop place rows) keywords
 row_read rows place row keywords e =
-    let from : drop place rows ≡ row ∷ drop (place + 1) rows = from_place rows place ∙ ap (λ (found : Option Listed). option_to_list found ++ drop (place + 1) rows) (sym e) in
-    sym (ap (λ (some : List Listed). with_rows some keywords) from)
+    let from : drop place rows ≡ row ∷ drop (place + 1) rows = from_place rows place ∙ ap (λ (found : Option ListedMessage). option_to_list found ++ drop (place + 1) rows) (sym e) in
+    sym (ap (λ (some : List ListedMessage). with_rows some keywords) from)
 
-pub row_passed : (rows : List Listed) (place : ℕ) (keywords : List (List ℕ)) → ◌≡◌ {A = Option Listed} None (slice_get rows place)
+pub row_passed : (rows : List ListedMessage) (place : ℕ) (keywords : List (List ℕ)) → ◌≡◌ {A = Option ListedMessage} None (slice_get rows place)
     → with_rows (drop (place + 1) rows) keywords ≡ with_rows (drop place rows) keywords
 row_passed rows place keywords e =
-    let from : drop place rows ≡ drop (place + 1) rows = from_place rows place ∙ ap (λ (found : Option Listed). option_to_list found ++ drop (place + 1) rows) (sym e) in
-    sym (ap (λ (some : List Listed). with_rows some keywords) from)
+    let from : drop place rows ≡ drop (place + 1) rows = from_place rows place ∙ ap (λ (found : Option ListedMessage). option_to_list found ++ drop (place + 1) rows) (sym e) in
+    sym (ap (λ (some : List ListedMessage). with_rows some keywords) from)
 
 -- the same where memory was not wanting for them
-pub row_added : (rows : List Listed) (place : ℕ) (row : Listed) (words keywords new : List (List ℕ)) (r : Result (Unit {0}) AllocError)
+pub row_added : (rows : List ListedMessage) (place : ℕ) (row : ListedMessage) (words keywords new : List (List ℕ)) (r : Result (Unit {0}) AllocError)
     → Some row ≡ slice_get rows place → words ≡ row.flags.keywords → OnOk r (new ≡ with_keywords words keywords)
     → OnOk r (with_rows (drop (place + 1) rows) new ≡ with_rows (drop place rows) keywords)
 row_added rows place row words keywords new (Ok done) e w h =
@@ -31,7 +31,7 @@ row_added rows place row words keywords new (Ok done) e w h =
 row_added rows place row words keywords new (Err why) e w h = tt
 
 -- behind the last message they are those that all bear
-pub all_borne : (rows : List Listed) (place : ℕ) (keywords : List (List ℕ)) → length rows ≤ place → with_rows (drop place rows) keywords ≡ with_rows rows [] → AreBorne rows keywords
+pub all_borne : (rows : List ListedMessage) (place : ℕ) (keywords : List (List ℕ)) → length rows ≤ place → with_rows (drop place rows) keywords ≡ with_rows rows [] → AreListedKeywords rows keywords
 all_borne rows place keywords l e =
-    let all : keywords ≡ with_rows rows [] = sym (ap (λ (some : List Listed). with_rows some keywords) (drop_past rows place l)) ∙ e in
-    subst (AreBorne rows) (sym all) (borne rows)
+    let all : keywords ≡ with_rows rows [] = sym (ap (λ (some : List ListedMessage). with_rows some keywords) (drop_past rows place l)) ∙ e in
+    subst (AreListedKeywords rows) (sym all) (borne rows)

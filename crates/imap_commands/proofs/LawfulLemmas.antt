@@ -6,20 +6,20 @@ use Rattle.std.proofs.lemmas.Bool.Decides.{nat_tests}
 use Rattle.std.proofs.lemmas.Slice.Eq.{bytes_eq-Decides}
 use Rattle.crdt_ops.specs.declared.kind.Kind.{Kind}
 use Rattle.crdt_ops.specs.declared.kind.Kind.TheVariants.{Append, Create, Delete, Subscribe, Unsubscribe}
-use Rattle.imap_answers.specs.declared.words.Refusal.{Refusal}
-use Rattle.imap_answers.specs.declared.words.Refusal.TheVariants.{InboxStays, KeywordTooLong, LoginFailed, MailboxExists, NameNotAllowed, NoDestination, NoSuchMailbox, TooManyKeywords}
+use Rattle.imap_answers.specs.declared.fixed_words.Refusal.{Refusal}
+use Rattle.imap_answers.specs.declared.fixed_words.Refusal.TheVariants.{InboxStays, KeywordTooLong, LoginFailed, MailboxExists, NameNotAllowed, NoDestination, NoSuchMailbox, TooManyKeywords}
 use Rattle.imap_types.specs.declared.flags.Flags.{Flags}
 use Rattle.imap_types.specs.Keywords.{is_lawful_keyword}
 use Rattle.imap_types.specs.Names.{IsLawfulName, inbox}
 use Rattle.tags_clocks.specs.declared.id.OpId.{OpId}
 use Rattle.imap_commands.specs.declared.session.Credentials.{Credentials}
-use Rattle.imap_commands.specs.Appending.{append_wants, given_date}
-use Rattle.imap_commands.specs.Asked.{AppendAsked}
-use Rattle.imap_commands.specs.Asking.{status_wants}
-use Rattle.imap_commands.specs.Entering.{are_right, login_wants}
+use Rattle.imap_commands.specs.Appending.{append_intent, given_date}
+use Rattle.imap_commands.specs.Arguments.{AppendArgs}
+use Rattle.imap_commands.specs.SimpleCommands.{status_intent}
+use Rattle.imap_commands.specs.Login.{are_credentials, login_intent}
 use Rattle.imap_commands.specs.Lawful.{AreLawfulKinds, IsLawfulKind}
-use Rattle.imap_commands.specs.Mailboxes.{create_wants, created_name, delete_wants, is_lawful_name, subscribe_wants, unsubscribe_wants, unsubscribes}
-use Rattle.imap_commands.specs.Selecting.{select_wants}
+use Rattle.imap_commands.specs.Mailboxes.{create_intent, created_name, delete_intent, is_lawful_name, subscribe_intent, unsubscribe_intent, unsubscribes}
+use Rattle.imap_commands.specs.Selecting.{select_intent}
 use Rattle.imap_commands.proofs.NameLemmas.{lawful_from_test}
 
 -- what is given where a result is Ok
@@ -40,14 +40,14 @@ nothing_by true why kinds e = none kinds e
 nothing_by false why kinds e = never why kinds e
 
 -- SELECT, EXAMINE, STATUS and LOGIN issue nothing
-pub select_lawful : (is_there : Bool) (kinds : List Kind) → select_wants is_there ≡ Ok kinds → AreLawfulKinds kinds
+pub select_lawful : (is_there : Bool) (kinds : List Kind) → select_intent is_there ≡ Ok kinds → AreLawfulKinds kinds
 select_lawful is_there kinds e = nothing_by is_there NoSuchMailbox kinds e
 
-pub status_lawful : (is_there : Bool) (kinds : List Kind) → status_wants is_there ≡ Ok kinds → AreLawfulKinds kinds
+pub status_lawful : (is_there : Bool) (kinds : List Kind) → status_intent is_there ≡ Ok kinds → AreLawfulKinds kinds
 status_lawful is_there kinds e = nothing_by is_there NoSuchMailbox kinds e
 
-pub login_lawful : (credentials : Credentials) (user password : List ℕ) (kinds : List Kind) → login_wants credentials user password ≡ Ok kinds → AreLawfulKinds kinds
-login_lawful credentials user password kinds e = nothing_by (are_right credentials user password) LoginFailed kinds e
+pub login_lawful : (credentials : Credentials) (user password : List ℕ) (kinds : List Kind) → login_intent credentials user password ≡ Ok kinds → AreLawfulKinds kinds
+login_lawful credentials user password kinds e = nothing_by (are_credentials credentials user password) LoginFailed kinds e
 
 -- CREATE
 create_by : (lawful is_there : Bool) (folder : List ℕ) (kinds : List Kind) → (lawful ≡ true → IsLawfulName folder)
@@ -56,7 +56,7 @@ create_by true true folder kinds n e = never MailboxExists kinds e
 create_by true false folder kinds n e = one (Create folder) kinds (record { name = n refl; flags = tt; inbox_stays = λ k. k; count = tt }) e
 create_by false is_there folder kinds n e = never NameNotAllowed kinds e
 
-pub create_lawful : (is_there : Bool) (name : List ℕ) (kinds : List Kind) → create_wants is_there name ≡ Ok kinds → AreLawfulKinds kinds
+pub create_lawful : (is_there : Bool) (name : List ℕ) (kinds : List Kind) → create_intent is_there name ≡ Ok kinds → AreLawfulKinds kinds
 create_lawful is_there name kinds e = create_by (is_lawful_name (created_name name)) is_there (created_name name) kinds (lawful_from_test (created_name name)) e
 
 -- DELETE
@@ -69,7 +69,7 @@ delete_by false is_inbox seen name kinds n i e = never NoSuchMailbox kinds e
 not_inbox : (name : List ℕ) → bytes_eq name inbox ≡ false → name ≡ inbox → ⊥
 not_inbox name f e = let t : bytes_eq name inbox ≡ true = (bytes_eq-Decides name inbox).1 e in cc
 
-pub delete_lawful : (is_there : Bool) (seen : List OpId) (name : List ℕ) (kinds : List Kind) → IsLawfulName name → delete_wants is_there seen name ≡ Ok kinds → AreLawfulKinds kinds
+pub delete_lawful : (is_there : Bool) (seen : List OpId) (name : List ℕ) (kinds : List Kind) → IsLawfulName name → delete_intent is_there seen name ≡ Ok kinds → AreLawfulKinds kinds
 delete_lawful is_there seen name kinds n e = delete_by is_there (bytes_eq name inbox) seen name kinds n (not_inbox name) e
 
 -- SUBSCRIBE
@@ -79,7 +79,7 @@ subscribe_by true true name kinds n e = none kinds e
 subscribe_by true false name kinds n e = one (Subscribe name) kinds (record { name = n refl; flags = tt; inbox_stays = λ k. k; count = tt }) e
 subscribe_by false is_subscribed name kinds n e = never NameNotAllowed kinds e
 
-pub subscribe_lawful : (is_subscribed : Bool) (name : List ℕ) (kinds : List Kind) → subscribe_wants is_subscribed name ≡ Ok kinds → AreLawfulKinds kinds
+pub subscribe_lawful : (is_subscribed : Bool) (name : List ℕ) (kinds : List Kind) → subscribe_intent is_subscribed name ≡ Ok kinds → AreLawfulKinds kinds
 subscribe_lawful is_subscribed name kinds e = subscribe_by (is_lawful_name name) is_subscribed name kinds (lawful_from_test name) e
 
 -- UNSUBSCRIBE
@@ -89,7 +89,7 @@ unsubscribe_by true [] name kinds n e = none kinds e
 unsubscribe_by true (id ∷ ids) name kinds n e = one (Unsubscribe name (id ∷ ids)) kinds (record { name = n refl; flags = tt; inbox_stays = λ k. k; count = tt }) e
 unsubscribe_by false seen name kinds n e = never NameNotAllowed kinds e
 
-pub unsubscribe_lawful : (seen : List OpId) (name : List ℕ) (kinds : List Kind) → unsubscribe_wants seen name ≡ Ok kinds → AreLawfulKinds kinds
+pub unsubscribe_lawful : (seen : List OpId) (name : List ℕ) (kinds : List Kind) → unsubscribe_intent seen name ≡ Ok kinds → AreLawfulKinds kinds
 unsubscribe_lawful seen name kinds e = unsubscribe_by (is_lawful_name name) seen name kinds (lawful_from_test name) e
 
 -- APPEND
@@ -103,6 +103,6 @@ append_by true true false name flags date text kinds n l m e =
 append_by true false many name flags date text kinds n l m e = never KeywordTooLong kinds e
 append_by false lawful many name flags date text kinds n l m e = never NoDestination kinds e
 
-pub append_lawful : (is_there : Bool) (stamp : List ℕ) (asked : AppendAsked) (kinds : List Kind) → IsLawfulName asked.name → append_wants is_there stamp asked ≡ Ok kinds → AreLawfulKinds kinds
+pub append_lawful : (is_there : Bool) (stamp : List ℕ) (asked : AppendArgs) (kinds : List Kind) → IsLawfulName asked.name → append_intent is_there stamp asked ≡ Ok kinds → AreLawfulKinds kinds
 append_lawful is_there stamp asked kinds n e =
     append_by is_there (list_all is_lawful_keyword asked.flags.keywords) (nat_lt 32 (length asked.flags.keywords)) asked.name asked.flags (given_date asked.date stamp) asked.text kinds n refl refl e

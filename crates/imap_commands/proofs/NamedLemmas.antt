@@ -5,16 +5,16 @@ use Rattle.std.proofs.lemmas.Bool.{cases_Bool}
 use Rattle.std.proofs.lemmas.Bool.Decides.{eqb_tells}
 use Rattle.imap_types.specs.Numbers.{AreRisingFrom, greatest}
 use Rattle.imap_types.specs.declared.sequence_set.SequenceRange.{SequenceRange}
-use Rattle.imap_query.specs.Search.{name_of as shown_name}
-use Rattle.mail_listing.specs.Listed.{Listed}
-use Rattle.mail_listing.specs.Listing.{AreRisingRows, beyond}
-use Rattle.session_view.specs.Sets.{numbers_from, resolved, set_names, top_of}
-use Rattle.session_view.specs.Sets.{name_of as set_name}
+use Rattle.imap_query.specs.Search.{number_or_uid as shown_name}
+use Rattle.mailbox_rows.specs.ListedMessage.{ListedMessage}
+use Rattle.mailbox_rows.specs.RowViews.{AreRisingRows, rows_after_uid}
+use Rattle.session_view.specs.Sets.{numbers_from, numbers_in_set, set_names, top_of}
+use Rattle.session_view.specs.Sets.{number_or_uid as set_name}
 use Rattle.session_view.specs.Views.{AreRising}
-use Rattle.session_view.specs.declared.entry.Entry.{Entry}
-use Rattle.imap_commands.specs.Named.{name_at, names_of, uid_in}
+use Rattle.session_view.specs.declared.view_entry.ViewEntry.{ViewEntry}
+use Rattle.imap_commands.specs.MessageNames.{name_at, names_of, uid_in}
 use Rattle.imap_commands.specs.Searching.{shown_from}
-use Rattle.imap_commands.specs.Told.{entry_at}
+use Rattle.imap_commands.specs.Report.{entry_at}
 
 -- ---- rising names
 
@@ -38,19 +38,19 @@ pub least_next : (by_uid : Bool) (n uid name : ℕ) → name ≡ (if by_uid then
 least_next true n uid name e = ap (λ k. k + 1) (sym e)
 least_next false n uid name e = ap (λ k. k + 1) (sym e)
 
-at_length : (front : List Entry) (e : Entry) (es : List Entry) → slice_get (front ++ e ∷ es) (length front) ≡ Some e
+at_length : (front : List ViewEntry) (e : ViewEntry) (es : List ViewEntry) → slice_get (front ++ e ∷ es) (length front) ≡ Some e
 at_length [] e es = refl
 at_length (x ∷ front) e es = at_length front e es
 
-entry_there : (view front : List Entry) (e : Entry) (es : List Entry) (n : ℕ) → view ≡ front ++ e ∷ es → n ≡ length front + 1 → entry_at view n ≡ Some e
+entry_there : (view front : List ViewEntry) (e : ViewEntry) (es : List ViewEntry) (n : ℕ) → view ≡ front ++ e ∷ es → n ≡ length front + 1 → entry_at view n ≡ Some e
 entry_there view front e es n v m =
     let k : n - 1 ≡ length front = omega (arith, m) in
     elim (eqb_tells n 0) [
       | inl t ↦ let z = t.1 in absurd (omega (arith, m, z))
-      | inr f ↦ rw f.0 (ap (λ (xs : List Entry). slice_get xs (n - 1)) v ∙ ap (λ j. slice_get (front ++ e ∷ es) j) k ∙ at_length front e es)
+      | inr f ↦ rw f.0 (ap (λ (xs : List ViewEntry). slice_get xs (n - 1)) v ∙ ap (λ j. slice_get (front ++ e ∷ es) j) k ∙ at_length front e es)
     ]
 
-name_there : (by_uid : Bool) (view front : List Entry) (e : Entry) (es : List Entry) (n : ℕ) → view ≡ front ++ e ∷ es → n ≡ length front + 1 → name_at by_uid view n ≡ (if by_uid then e.uid else n)
+name_there : (by_uid : Bool) (view front : List ViewEntry) (e : ViewEntry) (es : List ViewEntry) (n : ℕ) → view ≡ front ++ e ∷ es → n ≡ length front + 1 → name_at by_uid view n ≡ (if by_uid then e.uid else n)
 name_there true view front e es n v m = ap uid_in (entry_there view front e es n v m)
 name_there false view front e es n v m = refl
 
@@ -63,7 +63,7 @@ one_more by_uid test name true n low uid rest e l h =
       | inr f ↦ rw f (rising_lower (least by_uid n low) (least by_uid (n + 1) (uid + 1)) (map name (filter test rest)) (least_lower by_uid n low uid l) h)
     ]
 
-rising_from : (name_uid by_uid : Bool) (top : ℕ) (set : List SequenceRange) (test : ℕ → Bool) (view front es : List Entry) (n low : ℕ) → view ≡ front ++ es → n ≡ length front + 1 → AreRising low es
+rising_from : (name_uid by_uid : Bool) (top : ℕ) (set : List SequenceRange) (test : ℕ → Bool) (view front es : List ViewEntry) (n low : ℕ) → view ≡ front ++ es → n ≡ length front + 1 → AreRising low es
     → AreRisingFrom (least name_uid n low) (map (name_at name_uid view) (filter test (numbers_from by_uid top set n es)))
 rising_from name_uid by_uid top set test view front [] n low v m h = tt
 rising_from name_uid by_uid top set test view front (e ∷ es) n low v m h =
@@ -73,34 +73,34 @@ rising_from name_uid by_uid top set test view front (e ∷ es) n low v m h =
     (rising_from name_uid by_uid top set test view (front ++ e ∷ []) es (n + 1) (e.uid + 1) w k h.1)
 
 -- What some of the messages that a set names are named by ascends.
-pub names_rising : (name_uid by_uid : Bool) (set : List SequenceRange) (test : ℕ → Bool) (view : List Entry) → AreRising 1 view → AreRisingFrom 1 (names_of name_uid view (filter test (resolved by_uid set view)))
+pub names_rising : (name_uid by_uid : Bool) (set : List SequenceRange) (test : ℕ → Bool) (view : List ViewEntry) → AreRising 1 view → AreRisingFrom 1 (names_of name_uid view (filter test (numbers_in_set by_uid set view)))
 names_rising true by_uid set test view h = rising_from true by_uid (top_of by_uid view) set test view [] view 1 1 refl refl h
 names_rising false by_uid set test view h = rising_from false by_uid (top_of by_uid view) set test view [] view 1 1 refl refl h
 
-pub chosen_rising : (name_uid by_uid : Bool) (set : List SequenceRange) (test : ℕ → Bool) (view seen : List Entry) (numbers chosen : List ℕ) → seen ≡ view → AreRising 1 view → chosen ≡ filter test numbers → numbers ≡ resolved by_uid set view
+pub chosen_rising : (name_uid by_uid : Bool) (set : List SequenceRange) (test : ℕ → Bool) (view seen : List ViewEntry) (numbers chosen : List ℕ) → seen ≡ view → AreRising 1 view → chosen ≡ filter test numbers → numbers ≡ numbers_in_set by_uid set view
     → AreRisingFrom 1 (names_of name_uid seen chosen)
 chosen_rising name_uid by_uid set test view seen numbers chosen s h c n =
     subst (λ (ns : List ℕ). AreRisingFrom 1 ns) (sym ((λ i. names_of name_uid (s i) (c i)) ∙ ap (λ (ns : List ℕ). names_of name_uid view (filter test ns)) n)) (names_rising name_uid by_uid set test view h)
 
 -- What the messages of a view are named by ascends.
-pub shown_rising : (by_uid : Bool) (n low : ℕ) (view : List Entry) → AreRising low view → AreRisingFrom (least by_uid n low) (map (shown_name by_uid) (shown_from n view))
+pub shown_rising : (by_uid : Bool) (n low : ℕ) (view : List ViewEntry) → AreRising low view → AreRisingFrom (least by_uid n low) (map (shown_name by_uid) (shown_from n view))
 shown_rising true n low [] h = tt
 shown_rising false n low [] h = tt
 shown_rising true n low (e ∷ es) h = (h.0, shown_rising true (n + 1) (e.uid + 1) es h.1)
 shown_rising false n low (e ∷ es) h = (omega arith, shown_rising false (n + 1) (e.uid + 1) es h.1)
 
-pub all_shown_rising : (by_uid : Bool) (view : List Entry) → AreRising 1 view → AreRisingFrom 1 (map (shown_name by_uid) (shown_from 1 view))
+pub all_shown_rising : (by_uid : Bool) (view : List ViewEntry) → AreRising 1 view → AreRisingFrom 1 (map (shown_name by_uid) (shown_from 1 view))
 all_shown_rising true view h = shown_rising true 1 1 view h
 all_shown_rising false view h = shown_rising false 1 1 view h
 
 -- The UIDs of a listing above one of them ascend.
-pub beyond_rising : (uid low : ℕ) (rows : List Listed) → AreRisingRows low rows → AreRisingFrom low (map (λ (row : Listed). row.uid) (beyond uid rows))
+pub beyond_rising : (uid low : ℕ) (rows : List ListedMessage) → AreRisingRows low rows → AreRisingFrom low (map (λ (row : ListedMessage). row.uid) (rows_after_uid uid rows))
 beyond_rising uid low [] h = tt
 beyond_rising uid low (row ∷ rows) h =
     let rest = beyond_rising uid (row.uid + 1) rows h.1 in
     elim (cases_Bool (nat_lt uid row.uid)) [
       | inl t ↦ rw t (h.0, rest)
-      | inr f ↦ rw f (rising_lower low (row.uid + 1) (map (λ (row : Listed). row.uid) (beyond uid rows)) (omega (arith, h.0)) rest)
+      | inr f ↦ rw f (rising_lower low (row.uid + 1) (map (λ (row : ListedMessage). row.uid) (rows_after_uid uid rows)) (omega (arith, h.0)) rest)
     ]
 
 -- ---- a set of numbers, built

@@ -8,32 +8,32 @@ use Rattle.imap_answers.specs.declared.mailbox.StatusItems.{StatusItems}
 use Rattle.imap_syntax.specs.declared.status.StatusItem.{StatusItem}
 use Rattle.imap_syntax.specs.declared.status.StatusItem.TheVariants as item
 use Rattle.imap_syntax.specs.declared.flags.SystemFlag.TheVariants as system
-use Rattle.imap_query.specs.Listing.{AreListed}
+use Rattle.imap_query.specs.ListEntries.{AreListEntries}
 use Rattle.imap_query.specs.Messages.{is_flagged}
-use Rattle.imap_query.specs.Naming.{ShowsMatched, ShowsNames, name_answer, subscribed_answer}
+use Rattle.imap_query.specs.ListNames.{ListsMatching, ListsNames, name_answer, subscribed_answer}
 use Rattle.imap_query.specs.Patterns as patterns
-use Rattle.imap_query.specs.Status.{is_asked, size_of, status_of, where_asked}
-use Rattle.imap_query.specs.declared.listing.ListEntry.{ListEntry}
-use Rattle.imap_query.specs.declared.mailbox_status.Marks.{Marks}
-use Rattle.imap_query.specs.declared.naming.ListMode.{ListMode}
-use Rattle.imap_types.specs.Names.{folded_name, is_inbox}
-use Rattle.mail_listing.specs.Listed.{Listed}
+use Rattle.imap_query.specs.Status.{is_asked, size_of, status_of, if_asked}
+use Rattle.imap_query.specs.declared.list_entries.ListEntry.{ListEntry}
+use Rattle.imap_query.specs.declared.mailbox_status.MailboxCounters.{MailboxCounters}
+use Rattle.imap_query.specs.declared.list_answers.ListMode.{ListMode}
+use Rattle.imap_types.specs.Names.{fold_inbox, is_inbox}
+use Rattle.mailbox_rows.specs.ListedMessage.{ListedMessage}
 use Rattle.merge_laws.specs.Orders.{IsIn}
-use Rattle.imap_commands.specs.Asking.{ListTells, capability_tells, idle_tells, logout_tells, namespace_tells, status_tells}
-use Rattle.imap_commands.specs.Enabling.{enable_tells}
+use Rattle.imap_commands.specs.SimpleCommands.{IsListReport, capability_report, idle_report, logout_report, namespace_report, status_report}
+use Rattle.imap_commands.specs.Enabling.{enable_report}
 use Rattle.imap_commands.specs.Printing.{AreNonzeroMarks, AreShowable, IsPrintableTelling}
-use Rattle.imap_commands.specs.Told.{Telling, only_told}
+use Rattle.imap_commands.specs.Report.{CommandReport, report_of_answers}
 use Rattle.imap_commands.proofs.PrintSelected.{each_in, each_of, rows_small}
 
 -- ---- answers alone
 
-pub only_printable : (answers : List Answer) → Each IsPrintable answers → IsPrintableTelling (only_told answers)
+pub only_printable : (answers : List Answer) → Each IsPrintable answers → IsPrintableTelling (report_of_answers answers)
 only_printable answers h = record { own = h; code = tt }
 
 -- ---- LIST
 
 -- INBOX in capitals stays so
-pub folded_again : (name : List ℕ) → IsFolded (folded_name name)
+pub folded_again : (name : List ℕ) → IsFolded (fold_inbox name)
 folded_again name =
     elim (cases_Bool (is_inbox name)) [
       | inl t ↦ rw t refl
@@ -52,7 +52,7 @@ each_mapped : {X Y : Type 0} (Q : X → Type 0) (P : Y → Type 0) (f : X → Y)
 each_mapped Q P f [] g h = tt
 each_mapped Q P f (x ∷ xs) g h = (g x h.0, each_mapped Q P f xs g h.1)
 
-entry_folded : (pattern : List ℕ) (folders : List (List ℕ)) (entries : List ListEntry) → Each IsFolded folders → AreListed folders pattern entries → (entry : ListEntry) → IsIn entry entries → IsFolded entry.name
+entry_folded : (pattern : List ℕ) (folders : List (List ℕ)) (entries : List ListEntry) → Each IsFolded folders → AreListEntries folders pattern entries → (entry : ListEntry) → IsIn entry entries → IsFolded entry.name
 entry_folded pattern folders entries all h entry i =
     elim (((h.exactly entry).0 (of_list entry entries i)).1) [
       | inl m ↦ each_in IsFolded folders entry.name all (in_list entry.name folders m.1)
@@ -60,7 +60,7 @@ entry_folded pattern folders entries all h entry i =
     ]
 
 matched_printable : (only returned : Bool) (pattern : List ℕ) (folders subscriptions : List (List ℕ)) (answers : List Answer) → Each IsFolded folders → Each IsFolded subscriptions
-    → ShowsMatched only returned pattern folders subscriptions answers → Each IsPrintable answers
+    → ListsMatching only returned pattern folders subscriptions answers → Each IsPrintable answers
 matched_printable true returned pattern folders subscriptions answers f s h =
     let names = h.0 in
     let folded : Each IsFolded names = each_of IsFolded names (λ name i. each_in IsFolded subscriptions name s (in_list name subscriptions ((h.1.exactly name).0 (of_list name names i)).1)) in
@@ -71,13 +71,13 @@ matched_printable false returned pattern folders subscriptions answers f s h =
     subst (Each IsPrintable) (sym h.2) (each_mapped (λ (entry : ListEntry). IsFolded entry.name) IsPrintable (name_answer returned subscriptions) entries (λ entry k. k) folded)
 
 names_printable : (mode : ListMode) (reference pattern : List ℕ) (folders subscriptions : List (List ℕ)) (answers : List Answer) → Each IsFolded folders → Each IsFolded subscriptions
-    → ShowsNames mode reference pattern folders subscriptions answers → Each IsPrintable answers
+    → ListsNames mode reference pattern folders subscriptions answers → Each IsPrintable answers
 names_printable mode reference [] folders subscriptions answers f s h = subst (Each IsPrintable) (sym h) (refl, tt)
 names_printable mode reference (octet ∷ pattern) folders subscriptions answers f s h =
     matched_printable mode.subscribed_only mode.return_subscribed (reference ++ octet ∷ pattern) folders subscriptions answers f s h
 
-pub list_printable : (mode : ListMode) (reference pattern : List ℕ) (folders subscriptions : List (List ℕ)) (told : Telling) → Each IsFolded folders → Each IsFolded subscriptions
-    → ListTells mode reference pattern folders subscriptions told → IsPrintableTelling told
+pub list_printable : (mode : ListMode) (reference pattern : List ℕ) (folders subscriptions : List (List ℕ)) (told : CommandReport) → Each IsFolded folders → Each IsFolded subscriptions
+    → IsListReport mode reference pattern folders subscriptions told → IsPrintableTelling told
 list_printable mode reference pattern folders subscriptions told f s h =
     subst IsPrintableTelling (sym h.only) (only_printable told.own (names_printable mode reference pattern folders subscriptions told.own f s h.names))
 
@@ -116,7 +116,7 @@ mailbox_told : (told : StatusItems)
     → IsOneOf (is_some told.messages) (is_some told.uidnext) (is_some told.uidvalidity) (is_some told.unseen) (is_some told.deleted) (is_some told.size) (is_some told.highest_modseq) → tells_of_mailbox told ≡ true
 mailbox_told told h = any_of (is_some told.messages) (is_some told.uidnext) (is_some told.uidvalidity) (is_some told.unseen) (is_some told.deleted) (is_some told.size) (is_some told.highest_modseq) h
 
-one_asked : (one : StatusItem) (items : List StatusItem) (marks : Marks) (rows : List Listed) → tells_of_mailbox (status_of (one ∷ items) marks rows) ≡ true
+one_asked : (one : StatusItem) (items : List StatusItem) (marks : MailboxCounters) (rows : List ListedMessage) → tells_of_mailbox (status_of (one ∷ items) marks rows) ≡ true
 one_asked item.Messages items marks rows = mailbox_told (status_of (item.Messages ∷ items) marks rows) (inl refl)
 one_asked item.UidNext items marks rows = mailbox_told (status_of (item.UidNext ∷ items) marks rows) (inr (inl refl))
 one_asked item.UidValidity items marks rows = mailbox_told (status_of (item.UidValidity ∷ items) marks rows) (inr (inr (inl refl)))
@@ -125,11 +125,11 @@ one_asked item.Deleted items marks rows = mailbox_told (status_of (item.Deleted 
 one_asked item.Size items marks rows = mailbox_told (status_of (item.Size ∷ items) marks rows) (inr (inr (inr (inr (inr (inl refl))))))
 one_asked item.HighestModSeq items marks rows = mailbox_told (status_of (item.HighestModSeq ∷ items) marks rows) (inr (inr (inr (inr (inr (inr refl))))))
 
-all_asked : (items : List StatusItem) (marks : Marks) (rows : List Listed) → 0 < length items → tells_of_mailbox (status_of items marks rows) ≡ true
+all_asked : (items : List StatusItem) (marks : MailboxCounters) (rows : List ListedMessage) → 0 < length items → tells_of_mailbox (status_of items marks rows) ≡ true
 all_asked [] marks rows l = absurd (omega (arith, l))
 all_asked (one ∷ items) marks rows l = one_asked one items marks rows
 
-asked_is : (P : ℕ → Type 0) (one : StatusItem) (items : List StatusItem) (number : ℕ) → P number → Where P (where_asked one items number)
+asked_is : (P : ℕ → Type 0) (one : StatusItem) (items : List StatusItem) (number : ℕ) → P number → Where P (if_asked one items number)
 asked_is P one items number h = elim (cases_Bool (is_asked one items)) [ inl t ↦ rw t h | inr f ↦ rw f tt ]
 
 filter_fewer : {X : Type 0} (test : X → Bool) (xs : List X) → length (filter test xs) ≤ length xs
@@ -138,8 +138,8 @@ filter_fewer test (x ∷ xs) =
     let more = filter_fewer test xs in
     elim (cases_Bool (test x)) [ inl t ↦ rw t (omega (arith, more)) | inr f ↦ rw f (omega (arith, more)) ]
 
-pub status_printable : (name : List ℕ) (items : List StatusItem) (marks : Marks) (rows : List Listed) → IsFolded name → 0 < length items → AreNonzeroMarks marks → AreShowable rows
-    → IsPrintableTelling (status_tells name items marks rows)
+pub status_printable : (name : List ℕ) (items : List StatusItem) (marks : MailboxCounters) (rows : List ListedMessage) → IsFolded name → 0 < length items → AreNonzeroMarks marks → AreShowable rows
+    → IsPrintableTelling (status_report name items marks rows)
 status_printable name items marks rows f l m r =
     let n : length rows < 4294967296 = rows_small rows r in
     let unseen = filter_fewer (is_flagged system.Seen false) rows in
@@ -158,17 +158,17 @@ status_printable name items marks rows f l m r =
 
 -- ---- ENABLE, and what is always the same
 
-pub enable_printable : (names : List (List ℕ)) → IsPrintableTelling (enable_tells names)
+pub enable_printable : (names : List (List ℕ)) → IsPrintableTelling (enable_report names)
 enable_printable names = record { own = (tt, tt); code = tt }
 
-pub capability_printable : IsPrintableTelling capability_tells
+pub capability_printable : IsPrintableTelling capability_report
 capability_printable = record { own = (tt, tt); code = tt }
 
-pub namespace_printable : IsPrintableTelling namespace_tells
+pub namespace_printable : IsPrintableTelling namespace_report
 namespace_printable = record { own = (tt, tt); code = tt }
 
-pub logout_printable : IsPrintableTelling logout_tells
+pub logout_printable : IsPrintableTelling logout_report
 logout_printable = record { own = (tt, tt); code = tt }
 
-pub idle_printable : IsPrintableTelling idle_tells
+pub idle_printable : IsPrintableTelling idle_report
 idle_printable = record { own = (tt, tt); code = tt }

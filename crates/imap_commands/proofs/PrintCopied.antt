@@ -3,16 +3,16 @@ use Rattle.imap_answers.specs.declared.codes.Code.{Code}
 use Rattle.imap_answers.specs.Printable.{Each, IsCode, IsCopied, IsNonzero, IsPrintable, IsSmall, Where}
 use Rattle.imap_types.specs.Numbers.{AreRisingFrom}
 use Rattle.imap_types.specs.declared.sequence_set.SequenceRange.{SequenceRange}
-use Rattle.mail_listing.specs.Listed.{Listed}
-use Rattle.mail_listing.specs.Listing.{beyond}
-use Rattle.session_view.specs.Sets.{resolved}
-use Rattle.session_view.specs.declared.entry.Entry.{Entry}
-use Rattle.imap_commands.specs.Appending.{append_tells}
-use Rattle.imap_commands.specs.Asked.{CopyAsked, Landing, OpenMailbox}
-use Rattle.imap_commands.specs.Copying.{copied_code, copies_in, copy_tells, move_tells, moved_answers, sources_of}
-use Rattle.imap_commands.specs.Named.{those_there}
+use Rattle.mailbox_rows.specs.ListedMessage.{ListedMessage}
+use Rattle.mailbox_rows.specs.RowViews.{rows_after_uid}
+use Rattle.session_view.specs.Sets.{numbers_in_set}
+use Rattle.session_view.specs.declared.view_entry.ViewEntry.{ViewEntry}
+use Rattle.imap_commands.specs.Appending.{append_report}
+use Rattle.imap_commands.specs.Arguments.{CopyArgs, CopyTarget, OpenMailbox}
+use Rattle.imap_commands.specs.Copying.{copied_code, copies_in, copy_report, move_report, moved_answers, sources_of}
+use Rattle.imap_commands.specs.MessageNames.{existing_messages}
 use Rattle.imap_commands.specs.Printing.{AreAsMany, AreShowable, IsNumbered, IsPrintableTelling, IsShowable}
-use Rattle.imap_commands.specs.Told.{gone_code, is_gone, message_at}
+use Rattle.imap_commands.specs.Report.{gone_code, is_gone, message_at}
 use Rattle.imap_commands.proofs.NamedLemmas.{beyond_rising, names_rising}
 use Rattle.imap_commands.proofs.PrintFetched.{gone_printable}
 use Rattle.imap_commands.proofs.PrintSearched.{set_of}
@@ -39,31 +39,31 @@ moved_printable uidvalidity [] copies u s c e = tt
 moved_printable uidvalidity (n ∷ sources) [] u s c e = absurd (omega (arith, e))
 moved_printable uidvalidity (n ∷ sources) (m ∷ copies) u s c e = (copied_is uidvalidity n m sources copies u s c e, tt)
 
-sources_uids : (before : List Listed) (view : List Entry) (by_uid : Bool) (set : List SequenceRange) → IsNumbered view → AreUids (sources_of before view (resolved by_uid set view))
+sources_uids : (before : List ListedMessage) (view : List ViewEntry) (by_uid : Bool) (set : List SequenceRange) → IsNumbered view → AreUids (sources_of before view (numbers_in_set by_uid set view))
 sources_uids before view by_uid set v =
     let there : ℕ → Bool = λ n. not (is_gone (message_at before view n)) in
-    let numbers = resolved by_uid set view in
+    let numbers = numbers_in_set by_uid set view in
     record {
       rising = names_rising true by_uid set there view v.rising;
-      small = names_small true view (those_there before view numbers) v.small (each_filtered IsNonzero there numbers (numbers_nonzero by_uid set view v));
+      small = names_small true view (existing_messages before view numbers) v.small (each_filtered IsNonzero there numbers (numbers_nonzero by_uid set view v));
     }
 
-uids_small : (rows : List Listed) → Each IsShowable rows → Each IsSmall (map (λ (row : Listed). row.uid) rows)
+uids_small : (rows : List ListedMessage) → Each IsShowable rows → Each IsSmall (map (λ (row : ListedMessage). row.uid) rows)
 uids_small [] h = tt
 uids_small (row ∷ rows) h = (h.0.uid.1, uids_small rows h.1)
 
-copies_uids : (uidnext : ℕ) (landed : List Listed) → AreShowable landed → AreUids (copies_in uidnext landed)
+copies_uids : (uidnext : ℕ) (landed : List ListedMessage) → AreShowable landed → AreUids (copies_in uidnext landed)
 copies_uids uidnext landed r = record {
   rising = beyond_rising (uidnext - 1) 1 landed r.rising;
-  small = uids_small (beyond (uidnext - 1) landed) (each_filtered IsShowable (λ (row : Listed). nat_lt (uidnext - 1) row.uid) landed r.each);
+  small = uids_small (rows_after_uid (uidnext - 1) landed) (each_filtered IsShowable (λ (row : ListedMessage). nat_lt (uidnext - 1) row.uid) landed r.each);
 }
 
 -- ---- COPY, MOVE and APPEND
 
-pub copy_printable : (mailbox : OpenMailbox) (asked : CopyAsked) (landing : Landing) → IsNumbered mailbox.view → IsNonzero landing.uidvalidity → AreShowable landing.rows → AreAsMany mailbox asked landing
-    → IsPrintableTelling (copy_tells mailbox asked landing)
+pub copy_printable : (mailbox : OpenMailbox) (asked : CopyArgs) (landing : CopyTarget) → IsNumbered mailbox.view → IsNonzero landing.uidvalidity → AreShowable landing.rows → AreAsMany mailbox asked landing
+    → IsPrintableTelling (copy_report mailbox asked landing)
 copy_printable mailbox asked landing v u r e =
-    let numbers = resolved asked.by_uid asked.messages mailbox.view in
+    let numbers = numbers_in_set asked.by_uid asked.messages mailbox.view in
     record {
       own = tt;
       code =
@@ -71,10 +71,10 @@ copy_printable mailbox asked landing v u r e =
           (sources_uids mailbox.rows mailbox.view asked.by_uid asked.messages v) (copies_uids landing.uidnext landing.rows r) e (gone_printable mailbox.rows mailbox.view numbers);
     }
 
-pub move_printable : (mailbox : OpenMailbox) (asked : CopyAsked) (landing : Landing) → IsNumbered mailbox.view → IsNonzero landing.uidvalidity → AreShowable landing.rows → AreAsMany mailbox asked landing
-    → IsPrintableTelling (move_tells mailbox asked landing)
+pub move_printable : (mailbox : OpenMailbox) (asked : CopyArgs) (landing : CopyTarget) → IsNumbered mailbox.view → IsNonzero landing.uidvalidity → AreShowable landing.rows → AreAsMany mailbox asked landing
+    → IsPrintableTelling (move_report mailbox asked landing)
 move_printable mailbox asked landing v u r e =
-    let numbers = resolved asked.by_uid asked.messages mailbox.view in
+    let numbers = numbers_in_set asked.by_uid asked.messages mailbox.view in
     record {
       own =
           moved_printable landing.uidvalidity (sources_of mailbox.rows mailbox.view numbers) (copies_in landing.uidnext landing.rows) u (sources_uids mailbox.rows mailbox.view asked.by_uid asked.messages v)
@@ -82,5 +82,5 @@ move_printable mailbox asked landing v u r e =
       code = gone_printable mailbox.rows mailbox.view numbers;
     }
 
-pub append_printable : (uidvalidity uid : ℕ) → IsNonzero uidvalidity → IsNonzero uid → IsPrintableTelling (append_tells uidvalidity uid)
+pub append_printable : (uidvalidity uid : ℕ) → IsNonzero uidvalidity → IsNonzero uid → IsPrintableTelling (append_report uidvalidity uid)
 append_printable uidvalidity uid v u = record { own = tt; code = (v, u) }

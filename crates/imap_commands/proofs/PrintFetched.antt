@@ -3,29 +3,29 @@ use Rattle.std.specs.Prelude.{is_some}
 use Rattle.std.specs.List.{concat}
 use Rattle.std.proofs.Math.Dec.{eqb-suc-zero}
 use Rattle.std.proofs.lemmas.Bool.{cases_Bool, false≢true}
-use Rattle.imap_answers.specs.declared.fetched.FetchItems.{FetchItems}
+use Rattle.imap_answers.specs.declared.fetch_items.FetchItems.{FetchItems}
 use Rattle.imap_answers.specs.Printable.{AreFetchItems, AreFlags, Each, IsCode, IsModSeq, IsNonzero, IsPart, IsPrintable, IsSmall, IsWide, Where, tells_of_message}
 use Rattle.imap_syntax.specs.declared.fetch.FetchItem.{FetchItem}
 use Rattle.imap_syntax.specs.declared.fetch.FetchItem.TheVariants as item
 use Rattle.imap_syntax.specs.declared.fetch.Partial.{Partial}
-use Rattle.imap_query.specs.Fetching.{answer_of, are_sections, cut, is_kept, items_of, origin_of, section_of, section_part, tells_flags, tells_modseq, where_told}
+use Rattle.imap_query.specs.Fetching.{answer_of, are_sections, partial_octets, is_above_changed_since, items_of, origin_of, section_of, section_part, tells_flags, tells_modseq, if_told}
 use Rattle.imap_query.specs.declared.fetching.FetchMode.{FetchMode}
-use Rattle.imap_query.specs.declared.shown.Shown.{Shown}
+use Rattle.imap_query.specs.declared.viewed_message.ViewedMessage.{ViewedMessage}
 use Rattle.imap_types.specs.DateTimes.{IsDateTime}
 use Rattle.imap_types.specs.declared.section.Section.{Section}
 use Rattle.imap_types.specs.declared.section.Section.TheVariants as section
-use Rattle.mail_listing.specs.Listed.{Listed}
-use Rattle.mail_listing.specs.Listing.{row_of}
-use Rattle.mail_text.specs.Fields.{asked_in, empty_line, field_lines, fields_in, fields_of, first_asked, goes_on}
-use Rattle.mail_text.specs.Fields.{asks as asks_field}
-use Rattle.mail_text.specs.Lines.{body_lines, header_lines, in_first, is_empty_line, lines_of}
+use Rattle.mailbox_rows.specs.ListedMessage.{ListedMessage}
+use Rattle.mailbox_rows.specs.RowViews.{row_of}
+use Rattle.mail_text.specs.HeaderFields.{asked_fields_in, empty_line, field_lines, fields_in, fields_of, first_asked, is_continuation}
+use Rattle.mail_text.specs.HeaderFields.{is_asked_field as asks_field}
+use Rattle.mail_text.specs.TextLines.{body_lines, header_lines, in_first, is_empty_line, lines_of}
 use Rattle.mail_text.proofs.LineLemmas.{lines-joined}
-use Rattle.session_view.specs.Sets.{resolved}
-use Rattle.session_view.specs.declared.entry.Entry.{Entry}
-use Rattle.imap_commands.specs.Asked.{FetchAsked, OpenMailbox}
-use Rattle.imap_commands.specs.Fetching.{fetch_tells, mode_of, shown_at, shown_of}
+use Rattle.session_view.specs.Sets.{numbers_in_set}
+use Rattle.session_view.specs.declared.view_entry.ViewEntry.{ViewEntry}
+use Rattle.imap_commands.specs.Arguments.{FetchArgs, OpenMailbox}
+use Rattle.imap_commands.specs.Fetching.{fetch_report, mode_of, shown_at, shown_of}
 use Rattle.imap_commands.specs.Printing.{AreShowable, AreTellable, IsNumbered, IsPrintableTelling, IsShowable, IsTellable}
-use Rattle.imap_commands.specs.Told.{are_some_gone, entry_at, gone_code}
+use Rattle.imap_commands.specs.Report.{are_some_gone, entry_at, gone_code}
 use Rattle.imap_commands.proofs.PrintSelected.{each_append}
 use Rattle.imap_commands.proofs.PrintViews.{numbers_nonzero, row_showable}
 
@@ -35,11 +35,11 @@ pub each_flat : {X Y : Type 0} (Q : X → Type 0) (P : Y → Type 0) (f : X → 
 each_flat Q P f [] g h = tt
 each_flat Q P f (x ∷ xs) g h = each_append P (f x) (flat_map f xs) (g x h.0) (each_flat Q P f xs g h.1)
 
-pub where_is : {X : Type 0} (P : X → Type 0) (told : Bool) (x : X) → P x → Where P (where_told told x)
+pub where_is : {X : Type 0} (P : X → Type 0) (told : Bool) (x : X) → P x → Where P (if_told told x)
 where_is P true x h = h
 where_is P false x h = tt
 
-is_told : {X : Type 0} (told : Bool) (x : X) → told ≡ true → is_some (where_told told x) ≡ true
+is_told : {X : Type 0} (told : Bool) (x : X) → told ≡ true → is_some (if_told told x) ≡ true
 is_told true x h = refl
 is_told false x h = absurd (false≢true h)
 
@@ -73,7 +73,7 @@ any_told false false false false false false h =
     ]
 
 -- the code that tells of messages that are gone
-pub gone_printable : (rows : List Listed) (view : List Entry) (numbers : List ℕ) → Where IsCode (gone_code rows view numbers)
+pub gone_printable : (rows : List ListedMessage) (view : List ViewEntry) (numbers : List ℕ) → Where IsCode (gone_code rows view numbers)
 gone_printable rows view numbers =
     elim (cases_Bool (are_some_gone rows view numbers)) [
       | inl t ↦ rw t tt
@@ -116,7 +116,7 @@ joined_fields (line ∷ []) = let a = length-append (line ++ []) [] in omega (ar
 joined_fields (line ∷ next ∷ lines) =
     let more = joined_fields (next ∷ lines) in
     let whole = length-append line (concat (next ∷ lines)) in
-    elim (cases_Bool (goes_on next)) [
+    elim (cases_Bool (is_continuation next)) [
       | inl t ↦ rw t (let one = joined_first line (fields_in (next ∷ lines)) in omega (arith, more, whole, one))
       | inr f ↦ rw f (
           let a = length-append (line ++ []) (concat (map concat (fields_in (next ∷ lines)))) in
@@ -124,13 +124,13 @@ joined_fields (line ∷ next ∷ lines) =
           omega (arith, more, whole, a, b))
     ]
 
-asked_short : (asked : List ℕ → Bool) (fields : List (List (List ℕ))) → length (asked_in asked fields) ≤ length (concat (map concat fields))
+asked_short : (asked : List ℕ → Bool) (fields : List (List (List ℕ))) → length (asked_fields_in asked fields) ≤ length (concat (map concat fields))
 asked_short asked [] = omega arith
 asked_short asked (field ∷ fields) =
     let more = asked_short asked fields in
     let whole = length-append (concat field) (concat (map concat fields)) in
     elim (cases_Bool (first_asked asked field)) [
-      | inl t ↦ rw t (let one = length-append (concat field) (asked_in asked fields) in omega (arith, more, whole, one))
+      | inl t ↦ rw t (let one = length-append (concat field) (asked_fields_in asked fields) in omega (arith, more, whole, one))
       | inr f ↦ rw f (omega (arith, more, whole))
     ]
 
@@ -148,7 +148,7 @@ fields_short : (named : Bool) (names : List (List ℕ)) (text : List ℕ) → le
 fields_short named names text =
     let lines = lines_of text in
     let fields = fields_in (field_lines lines) in
-    let a = length-append (asked_in (asks_field named names) fields) (empty_line lines) in
+    let a = length-append (asked_fields_in (asks_field named names) fields) (empty_line lines) in
     let b = asked_short (asks_field named names) fields in
     let c = joined_fields (field_lines lines) in
     let d = parts_short lines in
@@ -172,7 +172,7 @@ drop_short zero octets = omega arith
 drop_short (suc n) [] = omega arith
 drop_short (suc n) (octet ∷ octets) = let t = drop_short n octets in omega (arith, t)
 
-cut_short : (partial : Option Partial) (octets : List ℕ) → length (cut partial octets) ≤ length octets
+cut_short : (partial : Option Partial) (octets : List ℕ) → length (partial_octets partial octets) ≤ length octets
 cut_short None octets = omega arith
 cut_short (Some range) octets = let t = take_short range.count (drop range.start octets) in let d = drop_short range.start octets in omega (arith, t, d)
 
@@ -199,7 +199,7 @@ IsToldOf told = IsOne (is_some told.uid) (is_some told.flags) (is_some told.date
 pub told_at : (told : FetchItems) → IsToldOf told → tells_of_message told ≡ true
 told_at told h = any_told (is_some told.uid) (is_some told.flags) (is_some told.date) (is_some told.size) (is_some told.modseq) (not (nat_eq (length told.sections) 0)) h
 
-one_told : (one : FetchItem) (items : List FetchItem) (mode : FetchMode) (old row : Listed) → tells_of_message (items_of (one ∷ items) mode old row) ≡ true
+one_told : (one : FetchItem) (items : List FetchItem) (mode : FetchMode) (old row : ListedMessage) → tells_of_message (items_of (one ∷ items) mode old row) ≡ true
 one_told item.Uid items mode old row = told_at (items_of (item.Uid ∷ items) mode old row) (inl (is_told (mode.by_uid || true) row.uid (or_right mode.by_uid true refl)))
 one_told item.Flags items mode old row = told_at (items_of (item.Flags ∷ items) mode old row) (inr (inl (is_told (tells_flags (item.Flags ∷ items) mode old) row.flags refl)))
 one_told item.InternalDate items mode old row = told_at (items_of (item.InternalDate ∷ items) mode old row) (inr (inr (inl (is_told true row.date refl))))
@@ -207,11 +207,11 @@ one_told item.Size items mode old row = told_at (items_of (item.Size ∷ items) 
 one_told item.ModSeq items mode old row = told_at (items_of (item.ModSeq ∷ items) mode old row) (inr (inr (inr (inr (inl (is_told true row.modseq refl))))))
 one_told (item.Body peek this partial) items mode old row = told_at (items_of (item.Body peek this partial ∷ items) mode old row) (inr (inr (inr (inr (inr (ap not (eqb-suc-zero (length (are_sections row.text items)))))))))
 
-all_told : (items : List FetchItem) (mode : FetchMode) (old row : Listed) → 0 < length items → tells_of_message (items_of items mode old row) ≡ true
+all_told : (items : List FetchItem) (mode : FetchMode) (old row : ListedMessage) → 0 < length items → tells_of_message (items_of items mode old row) ≡ true
 all_told [] mode old row l = absurd (omega (arith, l))
 all_told (one ∷ items) mode old row l = one_told one items mode old row
 
-items_printable : (items : List FetchItem) (mode : FetchMode) (old row : Listed) → AreTellable items → IsShowable row → AreFetchItems (items_of items mode old row)
+items_printable : (items : List FetchItem) (mode : FetchMode) (old row : ListedMessage) → AreTellable items → IsShowable row → AreFetchItems (items_of items mode old row)
 items_printable items mode old row t h = record {
   some = all_told items mode old row t.some;
   uid = where_is IsNonzero _ row.uid h.uid;
@@ -222,33 +222,33 @@ items_printable items mode old row t h = record {
   sections = each_flat IsTellable IsPart (section_part row.text) items (λ one k. part_is row.text one h.text k) t.each;
 }
 
-answer_printable : (items : List FetchItem) (mode : FetchMode) (shown : Shown) (old row : Option Listed) → AreTellable items → IsNonzero shown.number → Where IsShowable row → Each IsPrintable (answer_of items mode shown old row)
+answer_printable : (items : List FetchItem) (mode : FetchMode) (shown : ViewedMessage) (old row : Option ListedMessage) → AreTellable items → IsNonzero shown.number → Where IsShowable row → Each IsPrintable (answer_of items mode shown old row)
 answer_printable items mode shown None row t n h = tt
 answer_printable items mode shown (Some old) None t n h = tt
 answer_printable items mode shown (Some old) (Some row) t n h =
-    elim (cases_Bool (is_kept mode.changed_since old)) [
+    elim (cases_Bool (is_above_changed_since mode.changed_since old)) [
       | inl k ↦ rw k ((n, items_printable items mode old row t h), tt)
       | inr f ↦ rw f tt
     ]
 
 -- ---- FETCH
 
-abbrev IsNumberNonzero : Shown → Type 0
+abbrev IsNumberNonzero : ViewedMessage → Type 0
 IsNumberNonzero shown = IsNonzero shown.number
 
-shown_nonzero : (n : ℕ) (e : Option Entry) → IsNonzero n → Each IsNumberNonzero (shown_at n e)
+shown_nonzero : (n : ℕ) (e : Option ViewEntry) → IsNonzero n → Each IsNumberNonzero (shown_at n e)
 shown_nonzero n None h = tt
 shown_nonzero n (Some e) h = (h, tt)
 
-pub fetch_printable : (mailbox : OpenMailbox) (after : List Listed) (condstore : Bool) (asked : FetchAsked) → AreShowable after → IsNumbered mailbox.view → AreTellable asked.items
-    → IsPrintableTelling (fetch_tells mailbox after condstore asked)
+pub fetch_printable : (mailbox : OpenMailbox) (after : List ListedMessage) (condstore : Bool) (asked : FetchArgs) → AreShowable after → IsNumbered mailbox.view → AreTellable asked.items
+    → IsPrintableTelling (fetch_report mailbox after condstore asked)
 fetch_printable mailbox after condstore asked r v t =
     let before = mailbox.rows in
     let view = mailbox.view in
     let by_uid = asked.by_uid in
     let set = asked.messages in
     let items = asked.items in
-    let numbers = resolved by_uid set view in
+    let numbers = numbers_in_set by_uid set view in
     let mode = mode_of mailbox condstore asked in
     record {
       own =

@@ -4,14 +4,14 @@ use Rattle.std.proofs.lemmas.Bool.{and_parts, cases_Bool}
 use Rattle.std.proofs.lemmas.Slice.Eq.{bytes_eq-Decides}
 use Rattle.imap_answers.specs.Printable.{AreFlags, Each, IsAtom, IsCode, IsFolded, IsPrintable, IsSmall, Where}
 use Rattle.imap_types.specs.declared.flags.Flags.{Flags}
-use Rattle.imap_types.specs.Keywords.{is_lowered, lowered}
-use Rattle.imap_query.specs.declared.mailbox_status.Marks.{Marks}
-use Rattle.mail_listing.specs.Listed.{Listed}
-use Rattle.mail_listing.specs.Listing.{AreRisingRows}
+use Rattle.imap_types.specs.Keywords.{is_lower_case, to_lower_case}
+use Rattle.imap_query.specs.declared.mailbox_status.MailboxCounters.{MailboxCounters}
+use Rattle.mailbox_rows.specs.ListedMessage.{ListedMessage}
+use Rattle.mailbox_rows.specs.RowViews.{AreRisingRows}
 use Rattle.merge_laws.specs.Orders.{IsIn}
 use Rattle.imap_commands.specs.Printing.{AreNonzeroMarks, AreShowable, IsPrintableTelling, IsShowable}
-use Rattle.imap_commands.specs.Selecting.{AreBorne, SelectTells, access_code, closed_answers, flags_in_use, mailbox_answers, permanent_flags}
-use Rattle.imap_commands.specs.Told.{Telling}
+use Rattle.imap_commands.specs.Selecting.{AreListedKeywords, IsSelectReport, access_code, closed_answers, flags_in_use, mailbox_answers, permanent_flags}
+use Rattle.imap_commands.specs.Report.{CommandReport}
 
 -- ---- each of a list
 
@@ -43,7 +43,7 @@ all_in test (y ∷ ys) x h i =
 
 -- ---- how many messages a listing has
 
-pub row_count : (low : ℕ) (rows : List Listed) → AreRisingRows low rows → Each IsShowable rows → low ≤ 4294967296 → low + length rows ≤ 4294967296
+pub row_count : (low : ℕ) (rows : List ListedMessage) → AreRisingRows low rows → Each IsShowable rows → low ≤ 4294967296 → low + length rows ≤ 4294967296
 row_count low [] r h l = omega (arith, l)
 row_count low (row ∷ rows) r h l =
     let u : row.uid < 4294967296 = h.0.uid.1 in
@@ -51,21 +51,21 @@ row_count low (row ∷ rows) r h l =
     let first : low ≤ row.uid = r.0 in
     omega (arith, n, first)
 
-pub rows_small : (rows : List Listed) → AreShowable rows → IsSmall (length rows)
+pub rows_small : (rows : List ListedMessage) → AreShowable rows → IsSmall (length rows)
 rows_small rows h = let n = row_count 1 rows h.rising h.each (omega arith) in omega (arith, n)
 
 -- ---- SELECT and EXAMINE
 
-use_atoms : (rows : List Listed) (keywords : List (List ℕ)) → AreBorne rows keywords → Each IsShowable rows → Each IsAtom keywords
+use_atoms : (rows : List ListedMessage) (keywords : List (List ℕ)) → AreListedKeywords rows keywords → Each IsShowable rows → Each IsAtom keywords
 use_atoms rows keywords are h =
     each_of IsAtom keywords (λ word i.
     let b = (are.exactly word).0 i in
     let f = (each_in IsShowable rows b.0 h b.1).flags in
-    let low : is_lowered b.2.0 ≡ true = all_in is_lowered b.0.flags.keywords b.2.0 f.0.0 b.2.1 in
-    let same : lowered b.2.0 ≡ b.2.0 = (bytes_eq-Decides (lowered b.2.0) b.2.0).0 low in
+    let low : is_lower_case b.2.0 ≡ true = all_in is_lower_case b.0.flags.keywords b.2.0 f.0.0 b.2.1 in
+    let same : to_lower_case b.2.0 ≡ b.2.0 = (bytes_eq-Decides (to_lower_case b.2.0) b.2.0).0 low in
     subst IsAtom (sym same ∙ b.2.2) (each_in IsAtom b.0.flags.keywords b.2.0 f.1 b.2.1))
 
-use_flags : (rows : List Listed) (keywords : List (List ℕ)) → AreBorne rows keywords → Each IsShowable rows → AreFlags (flags_in_use keywords)
+use_flags : (rows : List ListedMessage) (keywords : List (List ℕ)) → AreListedKeywords rows keywords → Each IsShowable rows → AreFlags (flags_in_use keywords)
 use_flags rows keywords are h = (are.set, use_atoms rows keywords are h)
 
 permanent : (read_only : Bool) (flags : Flags) → AreFlags flags → Where AreFlags (permanent_flags read_only flags)
@@ -80,12 +80,12 @@ access : (read_only : Bool) → IsCode (access_code read_only)
 access true = tt
 access false = tt
 
-opened : (read_only : Bool) (name : List ℕ) (marks : Marks) (rows : List Listed) (flags : Flags) → AreFlags flags → IsFolded name → AreNonzeroMarks marks → AreShowable rows
+opened : (read_only : Bool) (name : List ℕ) (marks : MailboxCounters) (rows : List ListedMessage) (flags : Flags) → AreFlags flags → IsFolded name → AreNonzeroMarks marks → AreShowable rows
     → Each IsPrintable (mailbox_answers read_only name marks (length rows) flags)
 opened read_only name marks rows flags a f m h = (a, (rows_small rows h, (f, (m.uidvalidity, (m.uidnext, (permanent read_only flags a, (m.highest, tt)))))))
 
-pub select_printable : (was_selected read_only : Bool) (name : List ℕ) (marks : Marks) (rows : List Listed) (told : Telling) → IsFolded name → AreNonzeroMarks marks → AreShowable rows
-    → SelectTells was_selected read_only name marks rows told → IsPrintableTelling told
+pub select_printable : (was_selected read_only : Bool) (name : List ℕ) (marks : MailboxCounters) (rows : List ListedMessage) (told : CommandReport) → IsFolded name → AreNonzeroMarks marks → AreShowable rows
+    → IsSelectReport was_selected read_only name marks rows told → IsPrintableTelling told
 select_printable was_selected read_only name marks rows told f m h s =
     let flags = use_flags rows s.keywords s.borne h.each in
     let all = mailbox_answers read_only name marks (length rows) (flags_in_use s.keywords) in

@@ -6,9 +6,9 @@ use Rattle.imap_answers.specs.Printable.{AreFieldNames, Each, IsFolded, IsSectio
 use Rattle.imap_syntax.specs.Commands.{IsSpelled, arguments, status_item}
 use Rattle.imap_syntax.specs.Items.{fast_items, fetch_item, fetched, field_names, partial, section}
 use Rattle.imap_syntax.specs.Languages.{each_behind, in_parens, listed, sp}
-use Rattle.imap_syntax.specs.Strings.{astring, escaped, literal, mailbox, run, text_of}
-use Rattle.imap_syntax.specs.declared.class.Class.{Class}
-use Rattle.imap_syntax.specs.declared.class.Class.TheVariants as classes
+use Rattle.imap_syntax.specs.Strings.{astring, quoted_escape, literal, mailbox, run, text_of}
+use Rattle.imap_syntax.specs.declared.octet_class.OctetClass.{OctetClass}
+use Rattle.imap_syntax.specs.declared.octet_class.OctetClass.TheVariants as classes
 use Rattle.imap_syntax.specs.declared.command.Command.{Command}
 use Rattle.imap_syntax.specs.declared.command.Command.TheVariants as commands
 use Rattle.imap_syntax.specs.declared.command.Tagged.{Tagged}
@@ -38,7 +38,7 @@ tag_is (octet ∷ octets) text h = subst (λ (b : Bool). (not b && list_all is_t
 name_folded : (name text : List ℕ) → mailbox name text → IsFolded name
 name_folded name text h = subst IsFolded h.2 (folded_again h.0)
 
-escaped_longer : (octets : List ℕ) → length octets ≤ length (escaped octets)
+escaped_longer : (octets : List ℕ) → length octets ≤ length (quoted_escape octets)
 escaped_longer [] = omega arith
 escaped_longer (octet ∷ octets) =
     let more = escaped_longer octets in
@@ -48,15 +48,15 @@ escaped_longer (octet ∷ octets) =
     ]
 
 -- a string is no longer than its text
-string_short : (class : Class) (value text : List ℕ) → text_of class value text → length value ≤ length text
+string_short : (class : OctetClass) (value text : List ℕ) → text_of class value text → length value ≤ length text
 string_short class value text h =
     elim h [
       | inl own ↦ let l = ap length own.2 in omega (arith, l)
       | inr more ↦ elim more [
         | inl quote ↦
             let l = ap length quote.1 in
-            let a = length-append (codes "\"") (escaped value ++ codes "\"") in
-            let b = length-append (escaped value) (codes "\"") in
+            let a = length-append (codes "\"") (quoted_escape value ++ codes "\"") in
+            let b = length-append (quoted_escape value) (codes "\"") in
             let e = escaped_longer value in
             omega (arith, l, a, b, e)
         | inr lit ↦ literal_short value text lit

@@ -2,20 +2,20 @@ use Rattle.std.proofs.Common.{◌≡◌, refl, sym, arith, ℕ, inl, inr, Bool, 
 use Rattle.std.specs.Prelude.{is_some}
 use Rattle.std.proofs.lemmas.Bool.{cases_Bool, false≢true}
 use Rattle.imap_answers.specs.declared.codes.Code.{Code}
-use Rattle.imap_answers.specs.declared.fetched.FetchItems.{FetchItems}
+use Rattle.imap_answers.specs.declared.fetch_items.FetchItems.{FetchItems}
 use Rattle.imap_answers.specs.Printable.{AreFetchItems, AreFlags, Each, IsCode, IsModSeq, IsNonzero, IsPrintable, IsSmall, Where}
-use Rattle.imap_query.specs.Fetching.{where_told}
+use Rattle.imap_query.specs.Fetching.{if_told}
 use Rattle.imap_types.specs.Numbers.{AreRisingFrom}
 use Rattle.imap_types.specs.declared.sequence_set.SequenceRange.{SequenceRange}
-use Rattle.mail_listing.specs.Listed.{Listed}
-use Rattle.session_view.specs.Sets.{resolved}
-use Rattle.session_view.specs.declared.entry.Entry.{Entry}
-use Rattle.imap_commands.specs.Asked.{OpenMailbox, StoreAsked}
-use Rattle.imap_commands.specs.Expunging.{uid_expunge_tells}
-use Rattle.imap_commands.specs.Named.{names_of}
+use Rattle.mailbox_rows.specs.ListedMessage.{ListedMessage}
+use Rattle.session_view.specs.Sets.{numbers_in_set}
+use Rattle.session_view.specs.declared.view_entry.ViewEntry.{ViewEntry}
+use Rattle.imap_commands.specs.Arguments.{OpenMailbox, StoreArgs}
+use Rattle.imap_commands.specs.Expunging.{uid_expunge_report}
+use Rattle.imap_commands.specs.MessageNames.{names_of}
 use Rattle.imap_commands.specs.Printing.{AreShowable, IsNumbered, IsPrintableTelling, IsShowable}
-use Rattle.imap_commands.specs.Storing.{is_refused, is_taken, modified_code, store_tells, stored_answer, stored_answers, those_refused, those_taken}
-use Rattle.imap_commands.specs.Told.{entry_at, gone_code, message_at, row_for}
+use Rattle.imap_commands.specs.Storing.{is_refused, is_taken, modified_code, store_report, stored_answer, stored_answers, refused_messages, taken_messages}
+use Rattle.imap_commands.specs.Report.{entry_at, gone_code, message_at, row_for}
 use Rattle.imap_commands.proofs.NamedLemmas.{names_rising}
 use Rattle.imap_commands.proofs.PrintFetched.{IsToldOf, each_flat, gone_printable, told_at, where_is}
 use Rattle.imap_commands.proofs.PrintSelected.{each_filtered}
@@ -23,22 +23,22 @@ use Rattle.imap_commands.proofs.PrintViews.{greatest_small, names_small, numbers
 
 -- ---- the messages that STORE takes
 
-pub message_showable : (rows : List Listed) (e : Option Entry) → Each IsShowable rows → Where IsShowable (row_for rows e)
+pub message_showable : (rows : List ListedMessage) (e : Option ViewEntry) → Each IsShowable rows → Where IsShowable (row_for rows e)
 message_showable rows None h = tt
 message_showable rows (Some e) h = row_showable e.uid rows h
 
 -- what is told of one of them
-abbrev stored_items : Bool → Bool → Bool → Listed → FetchItems
+abbrev stored_items : Bool → Bool → Bool → ListedMessage → FetchItems
 stored_items by_uid with_flags with_modseq row =
-    record { uid = where_told by_uid row.uid; flags = where_told with_flags row.flags; date = None; size = None; modseq = where_told with_modseq row.modseq; sections = [] }
+    record { uid = if_told by_uid row.uid; flags = if_told with_flags row.flags; date = None; size = None; modseq = if_told with_modseq row.modseq; sections = [] }
 
 -- flags are, or else the mod-sequence is
-stored_some : (by_uid with_flags with_modseq : Bool) (row : Listed) → (with_flags || with_modseq) ≡ true → IsToldOf (stored_items by_uid with_flags with_modseq row)
+stored_some : (by_uid with_flags with_modseq : Bool) (row : ListedMessage) → (with_flags || with_modseq) ≡ true → IsToldOf (stored_items by_uid with_flags with_modseq row)
 stored_some by_uid true with_modseq row e = inr (inl refl)
 stored_some by_uid false true row e = inr (inr (inr (inr (inl refl))))
 stored_some by_uid false false row e = absurd (false≢true e)
 
-stored_one : (condstore : Bool) (asked : StoreAsked) (n : ℕ) (row : Option Listed) → (not asked.action.silent || (is_some asked.unchanged_since || condstore)) ≡ true → IsNonzero n → Where IsShowable row
+stored_one : (condstore : Bool) (asked : StoreArgs) (n : ℕ) (row : Option ListedMessage) → (not asked.action.silent || (is_some asked.unchanged_since || condstore)) ≡ true → IsNonzero n → Where IsShowable row
     → Each IsPrintable (stored_answer condstore asked n row)
 stored_one condstore asked n None e k h = tt
 stored_one condstore asked n (Some row) e k h =
@@ -56,7 +56,7 @@ stored_one condstore asked n (Some row) e k h =
     } in
     ((k, items), tt)
 
-stored_each : (after : List Listed) (view : List Entry) (condstore : Bool) (asked : StoreAsked) (taken : List ℕ) → (not asked.action.silent || (is_some asked.unchanged_since || condstore)) ≡ true → AreShowable after
+stored_each : (after : List ListedMessage) (view : List ViewEntry) (condstore : Bool) (asked : StoreArgs) (taken : List ℕ) → (not asked.action.silent || (is_some asked.unchanged_since || condstore)) ≡ true → AreShowable after
     → Each IsNonzero taken → Each IsPrintable (flat_map (λ n. stored_answer condstore asked n (message_at after view n)) taken)
 stored_each after view condstore asked taken e r k =
     each_flat IsNonzero IsPrintable (λ n. stored_answer condstore asked n (message_at after view n)) taken
@@ -68,7 +68,7 @@ told_of_each false given condstore e = refl
 told_of_each true true condstore e = refl
 told_of_each true false condstore e = absurd (false≢true (sym e))
 
-stored_printable : (after : List Listed) (view : List Entry) (condstore : Bool) (asked : StoreAsked) (taken : List ℕ) → AreShowable after → Each IsNonzero taken → Each IsPrintable (stored_answers after view condstore asked taken)
+stored_printable : (after : List ListedMessage) (view : List ViewEntry) (condstore : Bool) (asked : StoreArgs) (taken : List ℕ) → AreShowable after → Each IsNonzero taken → Each IsPrintable (stored_answers after view condstore asked taken)
 stored_printable after view condstore asked taken r k =
     elim (cases_Bool (asked.action.silent && not (is_some asked.unchanged_since))) [
       | inl t ↦ rw t tt
@@ -81,25 +81,25 @@ modified_printable : (refused : List ℕ) (code : Option Code) → AreRisingFrom
 modified_printable [] code r s h = h
 modified_printable (n ∷ refused) code r s h = record { filled = omega arith; rising = r; small = greatest_small (n ∷ refused) s }
 
-pub store_printable : (mailbox : OpenMailbox) (after : List Listed) (condstore : Bool) (asked : StoreAsked) → AreShowable after → IsNumbered mailbox.view → IsPrintableTelling (store_tells mailbox after condstore asked)
+pub store_printable : (mailbox : OpenMailbox) (after : List ListedMessage) (condstore : Bool) (asked : StoreArgs) → AreShowable after → IsNumbered mailbox.view → IsPrintableTelling (store_report mailbox after condstore asked)
 store_printable mailbox after condstore asked r v =
     let before = mailbox.rows in
     let view = mailbox.view in
     let by_uid = asked.by_uid in
     let set = asked.messages in
     let since = asked.unchanged_since in
-    let numbers = resolved by_uid set view in
+    let numbers = numbers_in_set by_uid set view in
     let named = numbers_nonzero by_uid set view v in
     let taken : ℕ → Bool = λ n. is_taken since (message_at before view n) in
     let refused : ℕ → Bool = λ n. is_refused since (message_at before view n) in
     record {
-      own = stored_printable after view condstore asked (those_taken before view since numbers) r (each_filtered IsNonzero taken numbers named);
+      own = stored_printable after view condstore asked (taken_messages before view since numbers) r (each_filtered IsNonzero taken numbers named);
       code =
-          modified_printable (names_of by_uid view (those_refused before view since numbers)) (gone_code before view numbers) (names_rising by_uid by_uid set refused view v.rising)
-          (names_small by_uid view (those_refused before view since numbers) v.small (each_filtered IsNonzero refused numbers named)) (gone_printable before view numbers);
+          modified_printable (names_of by_uid view (refused_messages before view since numbers)) (gone_code before view numbers) (names_rising by_uid by_uid set refused view v.rising)
+          (names_small by_uid view (refused_messages before view since numbers) v.small (each_filtered IsNonzero refused numbers named)) (gone_printable before view numbers);
     }
 
 -- ---- UID EXPUNGE
 
-pub uid_expunge_printable : (mailbox : OpenMailbox) (uids : List SequenceRange) → IsPrintableTelling (uid_expunge_tells mailbox uids)
-uid_expunge_printable mailbox uids = record { own = tt; code = gone_printable mailbox.rows mailbox.view (resolved true uids mailbox.view) }
+pub uid_expunge_printable : (mailbox : OpenMailbox) (uids : List SequenceRange) → IsPrintableTelling (uid_expunge_report mailbox uids)
+uid_expunge_printable mailbox uids = record { own = tt; code = gone_printable mailbox.rows mailbox.view (numbers_in_set true uids mailbox.view) }

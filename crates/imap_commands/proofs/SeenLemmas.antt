@@ -4,32 +4,32 @@ use Rattle.std.specs.List.{list_any}
 use Rattle.std.proofs.lemmas.Bool.{cases_Bool}
 use Rattle.crdt_ops.specs.declared.kind.Kind.{Kind}
 use Rattle.imap_syntax.specs.declared.fetch.FetchItem.{FetchItem}
-use Rattle.imap_query.specs.Fetching.{is_kept, is_marked, sets_seen}
+use Rattle.imap_query.specs.Fetching.{is_above_changed_since, is_seen_set, sets_seen}
 use Rattle.imap_query.specs.declared.fetching.FetchMode.{FetchMode}
-use Rattle.mail_listing.specs.Listed.{Listed}
-use Rattle.imap_commands.specs.Asked.{FetchAsked, OpenMailbox}
+use Rattle.mailbox_rows.specs.ListedMessage.{ListedMessage}
+use Rattle.imap_commands.specs.Arguments.{FetchArgs, OpenMailbox}
 use Rattle.imap_commands.specs.Fetching.{mode_of, seen_store, seen_stores}
-use Rattle.imap_commands.specs.Told.{message_at}
+use Rattle.imap_commands.specs.Report.{message_at}
 
-unmarked_row : (folder : List ℕ) (items : List FetchItem) (mode : FetchMode) (o : Option Listed) → ((row : Listed) → is_marked items mode row ≡ false) → seen_store folder items mode o ≡ []
+unmarked_row : (folder : List ℕ) (items : List FetchItem) (mode : FetchMode) (o : Option ListedMessage) → ((row : ListedMessage) → is_seen_set items mode row ≡ false) → seen_store folder items mode o ≡ []
 unmarked_row folder items mode None h = refl
 unmarked_row folder items mode (Some row) h =
     let no = h row in
-    elim (cases_Bool (is_kept mode.changed_since row)) [
+    elim (cases_Bool (is_above_changed_since mode.changed_since row)) [
       | inl t ↦ rw t (rw no refl)
       | inr f ↦ rw f refl
     ]
 
-unmarked : (mailbox : OpenMailbox) (asked : FetchAsked) (numbers : List ℕ) → ((row : Listed) → is_marked asked.items (mode_of mailbox false asked) row ≡ false) → [] ≡ seen_stores mailbox asked numbers
+unmarked : (mailbox : OpenMailbox) (asked : FetchArgs) (numbers : List ℕ) → ((row : ListedMessage) → is_seen_set asked.items (mode_of mailbox false asked) row ≡ false) → [] ≡ seen_stores mailbox asked numbers
 unmarked mailbox asked [] h = refl
 unmarked mailbox asked (n ∷ numbers) h =
     let none = unmarked_row mailbox.name asked.items (mode_of mailbox false asked) (message_at mailbox.rows mailbox.view n) h in
     rw none (unmarked mailbox asked numbers h)
 
-pub read_only_stores : (mailbox : OpenMailbox) (asked : FetchAsked) (numbers : List ℕ) → mailbox.read_only ≡ true → [] ≡ seen_stores mailbox asked numbers
+pub read_only_stores : (mailbox : OpenMailbox) (asked : FetchArgs) (numbers : List ℕ) → mailbox.read_only ≡ true → [] ≡ seen_stores mailbox asked numbers
 read_only_stores mailbox asked numbers r = unmarked mailbox asked numbers (λ row. rw r refl)
 
-pub unset_stores : (mailbox : OpenMailbox) (asked : FetchAsked) (numbers : List ℕ) → list_any sets_seen asked.items ≡ false → [] ≡ seen_stores mailbox asked numbers
+pub unset_stores : (mailbox : OpenMailbox) (asked : FetchArgs) (numbers : List ℕ) → list_any sets_seen asked.items ≡ false → [] ≡ seen_stores mailbox asked numbers
 unset_stores mailbox asked numbers s = unmarked mailbox asked numbers (λ row. unset (not mailbox.read_only) row.flags.seen (list_any sets_seen asked.items) s)
   where
     unset : (writable seen any : Bool) → any ≡ false → (writable && (not seen && any)) ≡ false

@@ -3,8 +3,8 @@ use Rattle.std.specs.Char.{to_ascii_lowercase}
 use Rattle.std.specs.List.{filter, list_any}
 use Rattle.std.specs.Str.{bytes_eq}
 use Rattle.imap_answers.specs.declared.answer.Answer.TheVariants.{Enabled as EnabledAnswer}
-use Rattle.imap_answers.specs.declared.words.Enabled.{Enabled}
-use Rattle.imap_answers.specs.declared.words.Enabled.TheVariants.{Nothing, Condstore, Imap4Rev2, CondstoreImap4Rev2, Imap4Rev2Condstore}
+use Rattle.imap_answers.specs.declared.fixed_words.EnabledExtensions.{EnabledExtensions}
+use Rattle.imap_answers.specs.declared.fixed_words.EnabledExtensions.TheVariants.{Nothing, Condstore, Imap4Rev2, CondstoreImap4Rev2, Imap4Rev2Condstore}
 use Rattle.imap_syntax.specs.declared.fetch.FetchItem.{FetchItem}
 use Rattle.imap_syntax.specs.declared.fetch.FetchItem.TheVariants.{Body, Flags, InternalDate, ModSeq, Size, Uid}
 use Rattle.imap_syntax.specs.declared.search.SearchStep.{SearchStep}
@@ -12,7 +12,7 @@ use Rattle.imap_syntax.specs.declared.status.StatusItem.{StatusItem}
 use Rattle.imap_syntax.specs.declared.status.StatusItem.TheVariants.{HighestModSeq}
 use Rattle.imap_query.specs.Hits.{step_names_modseq}
 use Rattle.imap_query.specs.Status.{is_asked}
-use Rattle.imap_commands.specs.Told.{Telling, only_told}
+use Rattle.imap_commands.specs.Report.{CommandReport, report_of_answers}
 
 -- ---- ENABLE (RFC 9051, section 6.3.1)
 
@@ -40,18 +40,18 @@ abbrev pub asks_condstore_first : List (List ℕ) → Bool
 asks_condstore_first names = begins_with_condstore (filter (λ name. is_condstore name || is_imap4rev2 name) names)
 
 -- Which of CONDSTORE and IMAP4rev2 were asked, and in which order first.
-abbrev pub enabled_by : Bool → Bool → Bool → Enabled
+abbrev pub enabled_by : Bool → Bool → Bool → EnabledExtensions
 enabled_by false false first = Nothing
 enabled_by true false first = Condstore
 enabled_by false true first = Imap4Rev2
 enabled_by true true true = CondstoreImap4Rev2
 enabled_by true true false = Imap4Rev2Condstore
 
-abbrev pub enabled_of : List (List ℕ) → Enabled
+abbrev pub enabled_of : List (List ℕ) → EnabledExtensions
 enabled_of names = enabled_by (asks_condstore names) (asks_imap4rev2 names) (asks_condstore_first names)
 
-abbrev pub enable_tells : List (List ℕ) → Telling
-enable_tells names = only_told (EnabledAnswer (enabled_of names) ∷ [])
+abbrev pub enable_report : List (List ℕ) → CommandReport
+enable_report names = report_of_answers (EnabledAnswer (enabled_of names) ∷ [])
 
 -- ---- what else turns mod-sequences on (RFC 7162, section 3.1)
 

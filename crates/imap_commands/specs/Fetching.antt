@@ -1,22 +1,22 @@
 use Rattle.std.specs.Prelude.{ℕ, Bool, true, false, not, ◌&&◌, List, [], ◌∷◌, flat_map, Option, Some, None, Result, Err, if◌then◌else◌}
 use Rattle.crdt_ops.specs.declared.kind.Kind.{Kind}
 use Rattle.crdt_ops.specs.declared.kind.Kind.TheVariants.{Store}
-use Rattle.imap_answers.specs.declared.words.Refusal.{Refusal}
-use Rattle.imap_answers.specs.declared.words.Refusal.TheVariants.{NoSuchMessage}
+use Rattle.imap_answers.specs.declared.fixed_words.Refusal.{Refusal}
+use Rattle.imap_answers.specs.declared.fixed_words.Refusal.TheVariants.{NoSuchMessage}
 use Rattle.imap_syntax.specs.declared.fetch.FetchItem.{FetchItem}
-use Rattle.imap_query.specs.Fetching.{fetch_answers, is_kept, is_marked}
+use Rattle.imap_query.specs.Fetching.{fetch_answers, is_above_changed_since, is_seen_set}
 use Rattle.imap_query.specs.declared.fetching.FetchMode.{FetchMode}
-use Rattle.imap_query.specs.declared.shown.Shown.{Shown}
+use Rattle.imap_query.specs.declared.viewed_message.ViewedMessage.{ViewedMessage}
 use Rattle.imap_types.specs.declared.flags.Flags.{Flags}
-use Rattle.mail_listing.specs.Listed.{Listed}
-use Rattle.session_view.specs.Sets.{is_in_range, resolved}
-use Rattle.session_view.specs.declared.entry.Entry.{Entry}
-use Rattle.imap_commands.specs.Asked.{FetchAsked, OpenMailbox}
+use Rattle.mailbox_rows.specs.ListedMessage.{ListedMessage}
+use Rattle.session_view.specs.Sets.{is_in_range, numbers_in_set}
+use Rattle.session_view.specs.declared.view_entry.ViewEntry.{ViewEntry}
+use Rattle.imap_commands.specs.Arguments.{FetchArgs, OpenMailbox}
 use Rattle.imap_commands.specs.Limits.{within_limits}
-use Rattle.imap_commands.specs.Told.{Telling, entry_at, gone_code, message_at}
+use Rattle.imap_commands.specs.Report.{CommandReport, entry_at, gone_code, message_at}
 
 -- How FETCH asks, with CONDSTORE on or not.
-abbrev pub mode_of : OpenMailbox → Bool → FetchAsked → FetchMode
+abbrev pub mode_of : OpenMailbox → Bool → FetchArgs → FetchMode
 mode_of mailbox condstore asked = record { by_uid = asked.by_uid; condstore = condstore; writable = not mailbox.read_only; changed_since = asked.changed_since }
 
 -- Flags with `\Seen`.
@@ -25,34 +25,34 @@ seen_flags flags = record flags { seen = true }
 
 -- The Store of `\Seen` of a message, in place of all its versions: where the mailbox is read-write, an item sets it, the message was kept
 -- by CHANGEDSINCE and none of its versions has it.
-abbrev pub seen_store : List ℕ → List FetchItem → FetchMode → Option Listed → List Kind
+abbrev pub seen_store : List ℕ → List FetchItem → FetchMode → Option ListedMessage → List Kind
 seen_store folder items mode None = []
 seen_store folder items mode (Some row) =
-    if is_kept mode.changed_since row && is_marked items mode row then Store folder (seen_flags row.flags) row.versions row.origin ∷ [] else []
+    if is_above_changed_since mode.changed_since row && is_seen_set items mode row then Store folder (seen_flags row.flags) row.versions row.origin ∷ [] else []
 
 -- The Stores of `\Seen` of the messages with these numbers.
-abbrev pub seen_stores : OpenMailbox → FetchAsked → List ℕ → List Kind
+abbrev pub seen_stores : OpenMailbox → FetchArgs → List ℕ → List Kind
 seen_stores mailbox asked numbers = flat_map (λ n. seen_store mailbox.name asked.items (mode_of mailbox false asked) (message_at mailbox.rows mailbox.view n)) numbers
 
 -- What FETCH issues, or the first reason against it (RFC 9051, section 6.4.5; RFC 7162, section 3.1.4).
-abbrev pub fetch_wants : OpenMailbox → FetchAsked → Result (List Kind) Refusal
-fetch_wants mailbox asked =
+abbrev pub fetch_intent : OpenMailbox → FetchArgs → Result (List Kind) Refusal
+fetch_intent mailbox asked =
     if not (is_in_range asked.by_uid asked.messages mailbox.view) then Err NoSuchMessage
-    else within_limits (seen_stores mailbox asked (resolved asked.by_uid asked.messages mailbox.view))
+    else within_limits (seen_stores mailbox asked (numbers_in_set asked.by_uid asked.messages mailbox.view))
 
 -- A message of a view as queries see it.
-abbrev pub shown_at : ℕ → Option Entry → List Shown
+abbrev pub shown_at : ℕ → Option ViewEntry → List ViewedMessage
 shown_at n None = []
 shown_at n (Some e) = record { number = n; uid = e.uid } ∷ []
 
 -- The messages with these numbers.
-abbrev pub shown_of : List Entry → List ℕ → List Shown
+abbrev pub shown_of : List ViewEntry → List ℕ → List ViewedMessage
 shown_of view numbers = flat_map (λ n. shown_at n (entry_at view n)) numbers
 
 -- What FETCH tells, by the mailbox before it, the listing after it and whether CONDSTORE is on.
-abbrev pub fetch_tells : OpenMailbox → List Listed → Bool → FetchAsked → Telling
-fetch_tells mailbox after condstore asked =
-    let numbers = resolved asked.by_uid asked.messages mailbox.view in
+abbrev pub fetch_report : OpenMailbox → List ListedMessage → Bool → FetchArgs → CommandReport
+fetch_report mailbox after condstore asked =
+    let numbers = numbers_in_set asked.by_uid asked.messages mailbox.view in
     record {
       own = fetch_answers asked.items (mode_of mailbox condstore asked) mailbox.rows after (shown_of mailbox.view numbers);
       silent = [];

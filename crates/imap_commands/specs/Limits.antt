@@ -2,8 +2,8 @@ use Rattle.std.specs.Prelude.{nat_lt, Bool, false, List, length, Result, Ok, Err
 use Rattle.std.specs.List.{list_any}
 use Rattle.crdt_ops.specs.declared.kind.Kind.{Kind}
 use Rattle.crdt_ops.specs.declared.kind.Kind.TheVariants.{Create, Delete, Append, Expunge, Store, Subscribe, Unsubscribe}
-use Rattle.imap_answers.specs.declared.words.Refusal.{Refusal}
-use Rattle.imap_answers.specs.declared.words.Refusal.TheVariants.{TooManyKeywords, TooManyVersions}
+use Rattle.imap_answers.specs.declared.fixed_words.Refusal.{Refusal}
+use Rattle.imap_answers.specs.declared.fixed_words.Refusal.TheVariants.{TooManyKeywords, TooManyVersions}
 
 -- An operation gives a message more than 32 keywords, which none may (the bound is this project's own). A message's versions together
 -- may have more.

@@ -3,9 +3,9 @@ use Rattle.std.specs.List.{list_all}
 use Rattle.std.specs.Str.{bytes_eq, is_utf8}
 use Rattle.crdt_ops.specs.declared.kind.Kind.{Kind}
 use Rattle.crdt_ops.specs.declared.kind.Kind.TheVariants.{Create, Delete, Subscribe, Unsubscribe}
-use Rattle.imap_answers.specs.declared.words.Refusal.{Refusal}
-use Rattle.imap_answers.specs.declared.words.Refusal.TheVariants.{InboxStays, MailboxExists, NameNotAllowed, NoSuchMailbox}
-use Rattle.imap_types.specs.Names.{folded_name, has_octets, inbox, is_name_octet, levels_of}
+use Rattle.imap_answers.specs.declared.fixed_words.Refusal.{Refusal}
+use Rattle.imap_answers.specs.declared.fixed_words.Refusal.TheVariants.{InboxStays, MailboxExists, NameNotAllowed, NoSuchMailbox}
+use Rattle.imap_types.specs.Names.{fold_inbox, has_octets, inbox, is_name_octet, levels_of}
 use Rattle.tags_clocks.specs.declared.id.OpId.{OpId}
 
 -- ---- names
@@ -15,7 +15,7 @@ use Rattle.tags_clocks.specs.declared.id.OpId.{OpId}
 unfoldable pub is_lawful_name : List ℕ → Bool
 is_lawful_name name =
     not (length name == 0) && not (nat_lt 255 (length name)) && is_utf8 name
-    && list_all is_name_octet name && list_all has_octets (levels_of name) && bytes_eq (folded_name name) name
+    && list_all is_name_octet name && list_all has_octets (levels_of name) && bytes_eq (fold_inbox name) name
 
 -- A name without one separator `/` (47) at its end.
 abbrev pub without_last_separator : List ℕ → List ℕ
@@ -23,27 +23,27 @@ without_last_separator name = if slice_index name (length name - 1) == 47 then t
 
 -- The name that CREATE makes: without one separator at its end, INBOX in capitals (RFC 9051, sections 5.1 and 6.3.4).
 abbrev pub created_name : List ℕ → List ℕ
-created_name name = folded_name (without_last_separator name)
+created_name name = fold_inbox (without_last_separator name)
 
 -- ---- what the commands issue
 
 -- CREATE (RFC 9051, section 6.3.4), where `is_there` tells whether there is a mailbox of the created name. It makes no superior levels.
-abbrev pub create_wants : Bool → List ℕ → Result (List Kind) Refusal
-create_wants is_there name =
+abbrev pub create_intent : Bool → List ℕ → Result (List Kind) Refusal
+create_intent is_there name =
     if is_lawful_name (created_name name)
     then (if is_there then Err MailboxExists else Ok (Create (created_name name) ∷ []))
     else Err NameNotAllowed
 
 -- DELETE (RFC 9051, section 6.3.5): it lists the ids of all the folder's tags that are present here.
-abbrev pub delete_wants : Bool → List OpId → List ℕ → Result (List Kind) Refusal
-delete_wants is_there seen name =
+abbrev pub delete_intent : Bool → List OpId → List ℕ → Result (List Kind) Refusal
+delete_intent is_there seen name =
     if is_there
     then (if bytes_eq name inbox then Err InboxStays else Ok (Delete name seen ∷ []))
     else Err NoSuchMailbox
 
 -- SUBSCRIBE (RFC 9051, section 6.3.7), which needs no mailbox: nothing where the name is subscribed.
-abbrev pub subscribe_wants : Bool → List ℕ → Result (List Kind) Refusal
-subscribe_wants is_subscribed name =
+abbrev pub subscribe_intent : Bool → List ℕ → Result (List Kind) Refusal
+subscribe_intent is_subscribed name =
     if is_lawful_name name
     then Ok (if is_subscribed then [] else Subscribe name ∷ [])
     else Err NameNotAllowed
@@ -54,5 +54,5 @@ unsubscribes [] name = []
 unsubscribes (id ∷ ids) name = Unsubscribe name (id ∷ ids) ∷ []
 
 -- UNSUBSCRIBE (RFC 9051, section 6.3.8): nothing where the name isn't subscribed.
-abbrev pub unsubscribe_wants : List OpId → List ℕ → Result (List Kind) Refusal
-unsubscribe_wants seen name = if is_lawful_name name then Ok (unsubscribes seen name) else Err NameNotAllowed
+abbrev pub unsubscribe_intent : List OpId → List ℕ → Result (List Kind) Refusal
+unsubscribe_intent seen name = if is_lawful_name name then Ok (unsubscribes seen name) else Err NameNotAllowed

@@ -4,25 +4,25 @@ use Rattle.imap_syntax.specs.declared.command.Command.{Command}
 use Rattle.imap_syntax.specs.declared.command.Command.TheVariants as commands
 use Rattle.imap_syntax.specs.declared.fetch.FetchItem.{FetchItem}
 use Rattle.imap_syntax.specs.declared.fetch.FetchItem.TheVariants.{Body, Flags, InternalDate, ModSeq, Size, Uid}
-use Rattle.imap_query.specs.declared.mailbox_status.Marks.{Marks}
+use Rattle.imap_query.specs.declared.mailbox_status.MailboxCounters.{MailboxCounters}
 use Rattle.imap_types.specs.DateTimes.{IsDateTime}
-use Rattle.mail_listing.specs.Listed.{Listed}
-use Rattle.mail_listing.specs.Listing.{AreRisingRows}
-use Rattle.session_view.specs.Sets.{resolved}
+use Rattle.mailbox_rows.specs.ListedMessage.{ListedMessage}
+use Rattle.mailbox_rows.specs.RowViews.{AreRisingRows}
+use Rattle.session_view.specs.Sets.{numbers_in_set}
 use Rattle.session_view.specs.Views.{AreRising}
-use Rattle.session_view.specs.declared.entry.Entry.{Entry}
-use Rattle.imap_commands.specs.Asked.{CopyAsked, Landing, OpenMailbox}
+use Rattle.session_view.specs.declared.view_entry.ViewEntry.{ViewEntry}
+use Rattle.imap_commands.specs.Arguments.{CopyArgs, CopyTarget, OpenMailbox}
 use Rattle.imap_commands.specs.Copying.{copies_in, sources_of}
-use Rattle.imap_commands.specs.Told.{Telling}
+use Rattle.imap_commands.specs.Report.{CommandReport}
 
 -- What a command tells can be printed: its own answers, and the code of its tagged line.
-pub record IsPrintableTelling (told : Telling) : Type 0 where
+pub record IsPrintableTelling (told : CommandReport) : Type 0 where
   pub own : Each IsPrintable told.own
   pub code : Where IsCode told.code
 
 -- A message that can be shown: its UID and mod-sequence are numbers from 1 on of 32 and 64 bits, its keywords are atoms in their one
 -- spelling, its date is a date-time, and its octets can be counted (RFC 9051, section 9; RFC 7162, section 7).
-pub record IsShowable (row : Listed) : Type 0 where
+pub record IsShowable (row : ListedMessage) : Type 0 where
   pub uid : IsNonzero row.uid
   pub modseq : IsModSeq row.modseq
   pub flags : AreFlags row.flags
@@ -30,17 +30,17 @@ pub record IsShowable (row : Listed) : Type 0 where
   pub text : IsWide (length row.text)
 
 -- A listing that can be shown: each message can, and their UIDs ascend (RFC 9051, section 2.3.1.1).
-pub record AreShowable (rows : List Listed) : Type 0 where
+pub record AreShowable (rows : List ListedMessage) : Type 0 where
   pub each : Each IsShowable rows
   pub rising : AreRisingRows 1 rows
 
 -- A view whose messages have ascending UIDs, from 1 on in 32 bits.
-pub record IsNumbered (view : List Entry) : Type 0 where
+pub record IsNumbered (view : List ViewEntry) : Type 0 where
   pub small : Each (λ e. IsSmall e.uid) view
   pub rising : AreRising 1 view
 
 -- The numbers of a mailbox are from 1 on in their bits.
-pub record AreNonzeroMarks (marks : Marks) : Type 0 where
+pub record AreNonzeroMarks (marks : MailboxCounters) : Type 0 where
   pub uidnext : IsNonzero marks.uidnext
   pub uidvalidity : IsNonzero marks.uidvalidity
   pub highest : IsModSeq marks.highest_modseq
@@ -61,9 +61,9 @@ pub record AreTellable (items : List FetchItem) : Type 0 where
   pub each : Each IsTellable items
 
 -- As many messages have come into the destination as the command copies (RFC 9051, section 7.1, COPYUID).
-abbrev pub AreAsMany : OpenMailbox → CopyAsked → Landing → Type 0
+abbrev pub AreAsMany : OpenMailbox → CopyArgs → CopyTarget → Type 0
 AreAsMany mailbox asked landing =
-    length (sources_of mailbox.rows mailbox.view (resolved asked.by_uid asked.messages mailbox.view)) ≡ length (copies_in landing.uidnext landing.rows)
+    length (sources_of mailbox.rows mailbox.view (numbers_in_set asked.by_uid asked.messages mailbox.view)) ≡ length (copies_in landing.uidnext landing.rows)
 
 -- What a command asks can be told: its names have INBOX in capitals, and its items are some and can be told.
 abbrev pub IsAnswerable : Command → Type 0

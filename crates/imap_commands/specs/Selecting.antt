@@ -6,30 +6,30 @@ use Rattle.imap_answers.specs.declared.codes.Code.{Code}
 use Rattle.imap_answers.specs.declared.codes.Code.TheVariants.{ReadWrite, ReadOnly}
 use Rattle.imap_answers.specs.declared.codes.Notice.TheVariants.{Closed, UidValidity, UidNext, PermanentFlags, HighestModSeq}
 use Rattle.imap_answers.specs.declared.mailbox.MailboxState.TheVariants.{There}
-use Rattle.imap_answers.specs.declared.words.Refusal.{Refusal}
-use Rattle.imap_answers.specs.declared.words.Refusal.TheVariants.{NoSuchMailbox}
-use Rattle.imap_query.specs.declared.mailbox_status.Marks.{Marks}
+use Rattle.imap_answers.specs.declared.fixed_words.Refusal.{Refusal}
+use Rattle.imap_answers.specs.declared.fixed_words.Refusal.TheVariants.{NoSuchMailbox}
+use Rattle.imap_query.specs.declared.mailbox_status.MailboxCounters.{MailboxCounters}
 use Rattle.merge_laws.specs.Orders.{IsIn}
 use Rattle.imap_types.specs.declared.flags.Flags.{Flags}
-use Rattle.imap_types.specs.Keywords.{AreKeywords, lowered}
-use Rattle.mail_listing.specs.Listed.{Listed}
-use Rattle.imap_commands.specs.Told.{Telling}
+use Rattle.imap_types.specs.Keywords.{AreKeywords, to_lower_case}
+use Rattle.mailbox_rows.specs.ListedMessage.{ListedMessage}
+use Rattle.imap_commands.specs.Report.{CommandReport}
 
 -- What SELECT and EXAMINE issue, which is nothing, where the mailbox is there (RFC 9051, sections 6.3.2 and 6.3.3).
-abbrev pub select_wants : Bool → Result (List Kind) Refusal
-select_wants is_there = if is_there then Ok [] else Err NoSuchMailbox
+abbrev pub select_intent : Bool → Result (List Kind) Refusal
+select_intent is_there = if is_there then Ok [] else Err NoSuchMailbox
 
 -- ---- the keywords of a listing
 
 -- Some message of the listing bears a keyword that has this spelling in lower case.
-abbrev pub IsBorne : List Listed → List ℕ → Type 0
-IsBorne rows word =
-    (row : Listed) × IsIn row rows × ((keyword : List ℕ) × IsIn keyword row.flags.keywords × (lowered keyword ≡ word))
+abbrev pub BearsKeyword : List ListedMessage → List ℕ → Type 0
+BearsKeyword rows word =
+    (row : ListedMessage) × IsIn row rows × ((keyword : List ℕ) × IsIn keyword row.flags.keywords × (to_lower_case keyword ≡ word))
 
 -- The keywords of a listing: the set of those that its messages bear (RFC 9051, section 2.3.2).
-pub record AreBorne (rows : List Listed) (keywords : List (List ℕ)) : Type 0 where
+pub record AreListedKeywords (rows : List ListedMessage) (keywords : List (List ℕ)) : Type 0 where
   pub set : AreKeywords keywords
-  pub exactly : (word : List ℕ) → IsIn word keywords ↔ IsBorne rows word
+  pub exactly : (word : List ℕ) → IsIn word keywords ↔ BearsKeyword rows word
 
 -- ---- what is told
 
@@ -43,7 +43,7 @@ permanent_flags read_only flags = if read_only then None else Some flags
 
 -- What is told of the mailbox that is selected, which has so many messages and uses these flags (RFC 9051, section 6.3.2; RFC 7162,
 -- section 3.1.2.1).
-abbrev pub mailbox_answers : Bool → List ℕ → Marks → ℕ → Flags → List Answer
+abbrev pub mailbox_answers : Bool → List ℕ → MailboxCounters → ℕ → Flags → List Answer
 mailbox_answers read_only name marks count flags =
     FlagsAnswer flags ∷ Exists count ∷ ListAnswer name There false
     ∷ Tell (UidValidity marks.uidvalidity) ∷ Tell (UidNext marks.uidnext)
@@ -58,15 +58,15 @@ abbrev pub access_code : Bool → Code
 access_code read_only = if read_only then ReadOnly else ReadWrite
 
 -- What SELECT and EXAMINE tell, where the messages bear these keywords.
-abbrev pub select_tells : Bool → Bool → List ℕ → Marks → List Listed → List (List ℕ) → Telling
-select_tells was_selected read_only name marks rows keywords = record {
+abbrev pub select_report : Bool → Bool → List ℕ → MailboxCounters → List ListedMessage → List (List ℕ) → CommandReport
+select_report was_selected read_only name marks rows keywords = record {
   own = closed_answers was_selected ++ mailbox_answers read_only name marks (length rows) (flags_in_use keywords);
   silent = [];
   code = Some (access_code read_only);
 }
 
 -- What SELECT and EXAMINE tell, which is one telling, since the keywords of a listing are one set: EXAMINE selects read-only.
-pub record SelectTells (was_selected read_only : Bool) (name : List ℕ) (marks : Marks) (rows : List Listed) (told : Telling) : Type 0 where
+pub record IsSelectReport (was_selected read_only : Bool) (name : List ℕ) (marks : MailboxCounters) (rows : List ListedMessage) (told : CommandReport) : Type 0 where
   pub keywords : List (List ℕ)
-  pub borne : AreBorne rows keywords
-  pub only : told ≡ select_tells was_selected read_only name marks rows keywords
+  pub borne : AreListedKeywords rows keywords
+  pub only : told ≡ select_report was_selected read_only name marks rows keywords

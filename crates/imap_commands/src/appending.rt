@@ -3,13 +3,13 @@
 ghost use Rattle.std.specs.Prelude.{◌≡◌, ◌∷◌, [], IfOk};
 ghost use Rattle.std.specs.List.{list_all};
 ghost use Rattle.crdt_ops.specs.declared.kind.Kind.TheVariants.{Append as AppendKind};
-ghost use Rattle.imap_commands.specs.Appending.{append_tells, append_wants, given_date};
-ghost use Rattle.imap_commands.specs.Gives.{Gives};
+ghost use Rattle.imap_commands.specs.Appending.{append_report, append_intent, given_date};
+ghost use Rattle.imap_commands.specs.Gives.{GivesOrLacksMemory};
 ghost use Rattle.imap_types.specs.Keywords.{is_lawful_keyword};
 
-use crate::asked::AppendAsked;
+use crate::command_args::AppendArgs;
 use crate::mailboxes::one_kind;
-use crate::telling::Telling;
+use crate::report::CommandReport;
 use crdt_ops::Kind;
 use imap_answers::{Code, Refusal};
 use imap_types::{DateTime, Flags, MAX_KEYWORDS, Name, Octets, Text, is_lawful_keyword};
@@ -18,13 +18,13 @@ use std::alloc::{AllocError, Global};
 /// What APPEND issues, or why it is refused: `NoDestination` where the mailbox isn't there, else `KeywordTooLong` where no message
 /// may bear one of the keywords, else `TooManyKeywords` (RFC 9051, section 6.3.12). Without a date the message takes `stamp`, the
 /// date-time of the moment.
-pub fn append_wants(
+pub fn append_intent(
     alloc: Global,
     is_there: bool,
     stamp: &DateTime,
-    asked: &AppendAsked<'_>,
+    asked: &AppendArgs<'_>,
 ) -> Result<Vec<Kind>, Refusal>
-    ensures { Gives (λ kinds. kinds.items) result (append_wants is_there stamp.now asked.now) }
+    ensures { GivesOrLacksMemory (λ kinds. kinds.items) result (append_intent is_there stamp.now asked.now) }
 {
     if !is_there {
         return Err(Refusal::NoDestination);
@@ -84,9 +84,9 @@ fn append(
 }
 
 /// What APPEND tells: the UID that the message took, under this UIDVALIDITY (RFC 9051, section 7.1, APPENDUID).
-pub fn append_tells(alloc: Global, uidvalidity: u32, uid: u32) -> Telling
-    ensures { result ≡ append_tells uidvalidity uid }
+pub fn append_report(alloc: Global, uidvalidity: u32, uid: u32) -> CommandReport
+    ensures { result ≡ append_report uidvalidity uid }
 {
     let code = Code::AppendUid { uidvalidity, uid };
-    Telling::new(Vec::new(alloc), Vec::new(alloc), Some(code))
+    CommandReport::new(Vec::new(alloc), Vec::new(alloc), Some(code))
 }

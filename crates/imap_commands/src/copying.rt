@@ -4,23 +4,23 @@ ghost use Rattle.std.specs.Prelude.{◌≡◌, ◌++◌, drop, map, IfOk, OnOk};
 ghost use Rattle.std.specs.List.{slice_get};
 ghost use Rattle.std.specs.Option.{option_to_list};
 ghost use Rattle.imap_types.specs.Numbers.{AreRisingFrom};
-ghost use Rattle.mail_listing.specs.Listing.{beyond};
-ghost use Rattle.imap_commands.specs.Asked.{CopyAsked as Transfer};
-ghost use Rattle.imap_commands.specs.Copying.{append_of, appends_of, copied_code, copies_in, copy_tells, copy_wants, move_tells, move_wants, moved_answers, removal_of, removals_of, sources_of};
-ghost use Rattle.imap_commands.specs.Found.{IsNamed, named_found};
-ghost use Rattle.imap_commands.specs.Gives.{Gives};
-ghost use Rattle.imap_commands.specs.Told.{gone_code, message_at};
+ghost use Rattle.mailbox_rows.specs.RowViews.{rows_after_uid};
+ghost use Rattle.imap_commands.specs.Arguments.{CopyArgs};
+ghost use Rattle.imap_commands.specs.Copying.{append_of, appends_of, copied_code, copies_in, copy_report, copy_intent, move_report, move_intent, moved_answers, expunge_of_moved, expunges_of_moved, sources_of};
+ghost use Rattle.imap_commands.specs.NamedMessages.{AreNamedBySome, messages_named_by};
+ghost use Rattle.imap_commands.specs.Gives.{GivesOrLacksMemory};
+ghost use Rattle.imap_commands.specs.Report.{gone_code, message_at};
 
-use crate::asked::{CopyAsked, Landing, OpenMailbox};
-use crate::found::{Found, Wanted};
-use crate::limits::limited;
-use crate::named::{named, names_of, set_of, those_there};
-use crate::telling::{Telling, gone_code};
+use crate::command_args::{CopyArgs, CopyTarget, OpenMailbox};
+use crate::intent::{NamedMessages, Intent};
+use crate::limits::intent_within_limits;
+use crate::named_messages::{messages_named, names_of, set_of, existing_messages};
+use crate::report::{CommandReport, gone_code};
 use crate::versions::old_ids;
 use crdt_ops::Kind;
 use imap_answers::{Answer, Code, Notice, Refusal};
 use imap_types::{Name, NumberSet};
-use mail_listing::Rows;
+use mailbox_rows::Rows;
 use std::alloc::{AllocError, Global};
 
 /// What a command copied.
@@ -36,36 +36,36 @@ struct Copied {
 
 /// What COPY issues in the destination, and the messages that it found for that, or the first reason against it: `NoSuchMessage`,
 /// `NoDestination`, `TooManyKeywords` (more than 32 on a message). `NoMemory` may come in place of any answer. The copies share the texts.
-pub fn copy_wants(
+pub fn copy_intent(
     alloc: Global,
     mailbox: &OpenMailbox<'_>,
-    asked: &CopyAsked<'_>,
+    asked: &CopyArgs<'_>,
     is_there: bool,
-) -> Result<Wanted, Refusal>
-    ensures gives { Gives (λ wanted. wanted.kinds.items) result (copy_wants mailbox.now asked.now is_there) }
-    ensures found { IfOk result (λ wanted. wanted.found ≡ named_found asked.now.by_uid asked.now.messages mailbox.now.view) }
+) -> Result<Intent, Refusal>
+    ensures gives { GivesOrLacksMemory (λ intent. intent.kinds.items) result (copy_intent mailbox.now asked.now is_there) }
+    ensures found { IfOk result (λ intent. intent.found ≡ messages_named_by asked.now.by_uid asked.now.messages mailbox.now.view) }
 {
-    let numbers = named(alloc, asked.by_uid, asked.messages, mailbox.view)?;
+    let numbers = messages_named(alloc, asked.by_uid, asked.messages, mailbox.view)?;
     if !is_there {
         return Err(Refusal::NoDestination);
     }
     let mut kinds = Vec::new(alloc);
     push_appends(alloc, asked.destination, mailbox, &numbers, &mut kinds)?;
-    limited(kinds, Found::new(numbers, Vec::new(alloc)))
+    intent_within_limits(kinds, NamedMessages::new(numbers, Vec::new(alloc)))
 }
 
 /// What MOVE issues, and the messages that it found for that, or the first reason against it: `NoSuchMessage`, `ReadOnly`, `NoDestination`, `TooManyKeywords` (more than 32 on a
 /// message), `TooManyVersions` (more than 64 of one). `NoMemory` may come in place of any answer. It issues all copies in the destination first, then what takes the messages out of the folder. The copies share the texts.
-pub fn move_wants(
+pub fn move_intent(
     alloc: Global,
     mailbox: &OpenMailbox<'_>,
-    asked: &CopyAsked<'_>,
+    asked: &CopyArgs<'_>,
     is_there: bool,
-) -> Result<Wanted, Refusal>
-    ensures gives { Gives (λ wanted. wanted.kinds.items) result (move_wants mailbox.now asked.now is_there) }
-    ensures found { IfOk result (λ wanted. wanted.found ≡ named_found asked.now.by_uid asked.now.messages mailbox.now.view) }
+) -> Result<Intent, Refusal>
+    ensures gives { GivesOrLacksMemory (λ intent. intent.kinds.items) result (move_intent mailbox.now asked.now is_there) }
+    ensures found { IfOk result (λ intent. intent.found ≡ messages_named_by asked.now.by_uid asked.now.messages mailbox.now.view) }
 {
-    let numbers = named(alloc, asked.by_uid, asked.messages, mailbox.view)?;
+    let numbers = messages_named(alloc, asked.by_uid, asked.messages, mailbox.view)?;
     if mailbox.read_only {
         return Err(Refusal::ReadOnly);
     }
@@ -75,7 +75,7 @@ pub fn move_wants(
     let mut kinds = Vec::new(alloc);
     push_appends(alloc, asked.destination, mailbox, &numbers, &mut kinds)?;
     push_removals(alloc, mailbox, &numbers, &mut kinds)?;
-    limited(kinds, Found::new(numbers, Vec::new(alloc)))
+    intent_within_limits(kinds, NamedMessages::new(numbers, Vec::new(alloc)))
 }
 
 /// Adds the Appends of the messages with these numbers.
@@ -125,7 +125,7 @@ fn push_removals(
     numbers: &[u32],
     kinds: &mut Vec<Kind>,
 ) -> Result<(), AllocError>
-    ensures { OnOk result (kinds.new.items ≡ kinds.old.items ++ removals_of mailbox.now.name mailbox.now.rows mailbox.now.view numbers.now) }
+    ensures { OnOk result (kinds.new.items ≡ kinds.old.items ++ expunges_of_moved mailbox.now.name mailbox.now.rows mailbox.now.view numbers.now) }
 {
     for number in numbers {
         push_removal(alloc, mailbox, *number, kinds)?;
@@ -139,7 +139,7 @@ fn push_removal(
     number: u32,
     kinds: &mut Vec<Kind>,
 ) -> Result<(), AllocError>
-    ensures { OnOk result (kinds.new.items ≡ kinds.old.items ++ removal_of mailbox.now.name (message_at mailbox.now.rows mailbox.now.view number)) }
+    ensures { OnOk result (kinds.new.items ≡ kinds.old.items ++ expunge_of_moved mailbox.now.name (message_at mailbox.now.rows mailbox.now.view number)) }
 {
     let Some(row) = mailbox.message_at(number) else {
         return Ok(());
@@ -153,14 +153,14 @@ fn push_removal(
 
 /// What COPY tells, by the mailbox before it and what it found there: where the copies are, and else whether some messages are gone. `Err`
 /// where there is no memory.
-pub fn copy_tells(
+pub fn copy_report(
     alloc: Global,
     mailbox: &OpenMailbox<'_>,
-    landing: &Landing<'_>,
-    found: &Found,
-) -> Result<Telling, AllocError>
-    requires { IsNamed mailbox.now.view found.now }
-    ensures { (asked : Transfer) → found.now ≡ named_found asked.by_uid asked.messages mailbox.now.view → IfOk result (λ told. told ≡ copy_tells mailbox.now asked landing.now) }
+    landing: &CopyTarget<'_>,
+    found: &NamedMessages,
+) -> Result<CommandReport, AllocError>
+    requires { AreNamedBySome mailbox.now.view found.now }
+    ensures { (asked : CopyArgs) → found.now ≡ messages_named_by asked.by_uid asked.messages mailbox.now.view → IfOk result (λ told. told ≡ copy_report mailbox.now asked landing.now) }
 {
     let Copied {
         source,
@@ -168,18 +168,18 @@ pub fn copy_tells(
         gone,
     } = outcome_of(alloc, mailbox, landing, found)?;
     let code = copied_code(landing.uidvalidity, source, copies, gone);
-    Ok(Telling::new(Vec::new(alloc), Vec::new(alloc), code))
+    Ok(CommandReport::new(Vec::new(alloc), Vec::new(alloc), code))
 }
 
 /// What MOVE tells, by the same: where the copies are, and by the code whether some messages are gone. `Err` where there is no memory.
-pub fn move_tells(
+pub fn move_report(
     alloc: Global,
     mailbox: &OpenMailbox<'_>,
-    landing: &Landing<'_>,
-    found: &Found,
-) -> Result<Telling, AllocError>
-    requires { IsNamed mailbox.now.view found.now }
-    ensures { (asked : Transfer) → found.now ≡ named_found asked.by_uid asked.messages mailbox.now.view → IfOk result (λ told. told ≡ move_tells mailbox.now asked landing.now) }
+    landing: &CopyTarget<'_>,
+    found: &NamedMessages,
+) -> Result<CommandReport, AllocError>
+    requires { AreNamedBySome mailbox.now.view found.now }
+    ensures { (asked : CopyArgs) → found.now ≡ messages_named_by asked.by_uid asked.messages mailbox.now.view → IfOk result (λ told. told ≡ move_report mailbox.now asked landing.now) }
 {
     let Copied {
         source,
@@ -187,24 +187,24 @@ pub fn move_tells(
         gone,
     } = outcome_of(alloc, mailbox, landing, found)?;
     let own = moved_answers(alloc, landing.uidvalidity, source, copies)?;
-    Ok(Telling::new(own, Vec::new(alloc), gone))
+    Ok(CommandReport::new(own, Vec::new(alloc), gone))
 }
 
 /// What was copied, by UIDs, and whether some messages are gone.
 fn outcome_of(
     alloc: Global,
     mailbox: &OpenMailbox<'_>,
-    landing: &Landing<'_>,
-    found: &Found,
+    landing: &CopyTarget<'_>,
+    found: &NamedMessages,
 ) -> Result<Copied, AllocError>
-    requires { IsNamed mailbox.now.view found.now }
+    requires { AreNamedBySome mailbox.now.view found.now }
     ensures source { IfOk result (λ copied. copied.source ≡ sources_of mailbox.now.rows mailbox.now.view found.now.numbers) }
     ensures copies { IfOk result (λ copied. copied.copies ≡ copies_in landing.now.uidnext landing.now.rows) }
     ensures gone { IfOk result (λ copied. copied.gone ≡ gone_code mailbox.now.rows mailbox.now.view found.now.numbers) }
 {
     let before = &mailbox.rows;
     let view = mailbox.view.entries();
-    let there = those_there(alloc, before, view, found.numbers())?;
+    let there = existing_messages(alloc, before, view, found.numbers())?;
     let uids = names_of(alloc, true, view, &there)?;
     Ok(Copied {
         source: set_of(alloc, &uids)?,
@@ -265,11 +265,11 @@ fn moved_answers(
 
 /// The UIDs above this one.
 fn uids_beyond(alloc: Global, uid: u32, rows: &Rows<'_>) -> Result<Vec<u32>, AllocError>
-    ensures uids { IfOk result (λ uids. uids.items ≡ map (λ row. row.uid) (beyond uid rows.now)) }
+    ensures uids { IfOk result (λ uids. uids.items ≡ map (λ row. row.uid) (rows_after_uid uid rows.now)) }
     ensures rising { IfOk result (λ uids. AreRisingFrom 1 uids.items) }
 {
     let _count = rows.count();
-    let uids = uids_from(alloc, rows.place_beyond(uid), rows)?;
+    let uids = uids_from(alloc, rows.place_after_uid(uid), rows)?;
     Ok(uids)
 }
 

@@ -2,26 +2,26 @@
 
 ghost use Rattle.std.specs.Prelude.{◌≡◌, IfOk, false};
 ghost use Rattle.std.specs.List.{filter, list_any};
-ghost use Rattle.imap_commands.specs.Enabling.{asks_condstore, asks_condstore_first, asks_imap4rev2, begins_with_condstore, enable_tells, enabled_by, enabled_of, fetch_asks_modseq, is_condstore, is_imap4rev2, is_modseq_item, search_asks_modseq, status_asks_modseq};
+ghost use Rattle.imap_commands.specs.Enabling.{asks_condstore, asks_condstore_first, asks_imap4rev2, begins_with_condstore, enable_report, enabled_by, enabled_of, fetch_asks_modseq, is_condstore, is_imap4rev2, is_modseq_item, search_asks_modseq, status_asks_modseq};
 ghost use Rattle.imap_query.specs.Hits.{step_names_modseq};
 
-use crate::asking::one_answer;
-use crate::telling::Telling;
-use imap_answers::{Answer, Enabled};
+use crate::simple_commands::one_answer;
+use crate::report::CommandReport;
+use imap_answers::{Answer, EnabledExtensions};
 use imap_syntax::{FetchItem, SearchStep, SearchTest, StatusItem};
 use imap_types::Octets;
 use std::alloc::{AllocError, Global};
 
 /// What ENABLE tells: which of CONDSTORE and IMAP4rev2 were asked, in the order in which they were asked first, in any case
 /// (RFC 9051, section 6.3.1). `Err` where there is no memory for it.
-pub fn enable_tells(alloc: Global, names: &[Octets]) -> Result<Telling, AllocError>
-    ensures { IfOk result (λ told. told ≡ enable_tells names.now) }
+pub fn enable_report(alloc: Global, names: &[Octets]) -> Result<CommandReport, AllocError>
+    ensures { IfOk result (λ told. told ≡ enable_report names.now) }
 {
     let extensions = enabled_of(names);
     one_answer(alloc, Answer::Enabled { extensions })
 }
 
-fn enabled_of(names: &[Octets]) -> Enabled
+fn enabled_of(names: &[Octets]) -> EnabledExtensions
     ensures { result ≡ enabled_of names.now }
 {
     enabled_by(
@@ -31,15 +31,15 @@ fn enabled_of(names: &[Octets]) -> Enabled
     )
 }
 
-fn enabled_by(condstore: bool, imap4rev2: bool, condstore_first: bool) -> Enabled
+fn enabled_by(condstore: bool, imap4rev2: bool, condstore_first: bool) -> EnabledExtensions
     ensures { result ≡ enabled_by condstore imap4rev2 condstore_first }
 {
     match (condstore, imap4rev2, condstore_first) {
-        (false, false, _) => Enabled::Nothing,
-        (true, false, _) => Enabled::Condstore,
-        (false, true, _) => Enabled::Imap4Rev2,
-        (true, true, true) => Enabled::CondstoreImap4Rev2,
-        (true, true, false) => Enabled::Imap4Rev2Condstore,
+        (false, false, _) => EnabledExtensions::Nothing,
+        (true, false, _) => EnabledExtensions::Condstore,
+        (false, true, _) => EnabledExtensions::Imap4Rev2,
+        (true, true, true) => EnabledExtensions::CondstoreImap4Rev2,
+        (true, true, false) => EnabledExtensions::Imap4Rev2Condstore,
     }
 }
 

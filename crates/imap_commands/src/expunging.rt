@@ -3,28 +3,28 @@
 ghost use Rattle.std.specs.Prelude.{◌≡◌, ◌++◌, List, true, IfOk, OnOk};
 ghost use Rattle.std.specs.List.{slice_get};
 ghost use Rattle.imap_types.specs.declared.sequence_set.SequenceRange.{SequenceRange};
-ghost use Rattle.mail_listing.specs.Listing.{listed};
-ghost use Rattle.imap_commands.specs.Expunging.{close_wants, expunge_at, expunge_of, expunge_wants, expunges_at, expunges_of, uid_expunge_tells, uid_expunge_wants};
-ghost use Rattle.imap_commands.specs.Found.{named_found};
-ghost use Rattle.imap_commands.specs.Gives.{Gives};
+ghost use Rattle.mailbox_rows.specs.RowViews.{listed_message};
+ghost use Rattle.imap_commands.specs.Expunging.{close_intent, expunge_at, expunge_of, expunge_intent, expunges_at, expunges_of, uid_expunge_report, uid_expunge_intent};
+ghost use Rattle.imap_commands.specs.NamedMessages.{messages_named_by};
+ghost use Rattle.imap_commands.specs.Gives.{GivesOrLacksMemory};
 
-use crate::asked::OpenMailbox;
-use crate::found::{Found, Wanted};
-use crate::limits::{limited, within_limits};
-use crate::named::named;
-use crate::telling::{Telling, gone_code};
+use crate::command_args::OpenMailbox;
+use crate::intent::{NamedMessages, Intent};
+use crate::limits::{intent_within_limits, within_limits};
+use crate::named_messages::messages_named;
+use crate::report::{CommandReport, gone_code};
 use crate::versions::old_ids;
 use crdt_ops::Kind;
 use imap_answers::Refusal;
 use imap_types::{Name, SequenceSet};
-use mail_listing::{Row, Rows};
+use mailbox_rows::{Row, Rows};
 use std::alloc::{AllocError, Global};
 
 /// What EXPUNGE issues in the mailbox, or the first reason against it: `ReadOnly`, `TooManyVersions` (more than 64 of a message that it
 /// takes out). `NoMemory` may come in place of any answer. It takes out the messages of the listing that are marked as deleted, those among
 /// them that the session wasn't told of yet. It looks at each message once.
-pub fn expunge_wants(alloc: Global, mailbox: &OpenMailbox<'_>) -> Result<Vec<Kind>, Refusal>
-    ensures { Gives (λ kinds. kinds.items) result (expunge_wants mailbox.now) }
+pub fn expunge_intent(alloc: Global, mailbox: &OpenMailbox<'_>) -> Result<Vec<Kind>, Refusal>
+    ensures { GivesOrLacksMemory (λ kinds. kinds.items) result (expunge_intent mailbox.now) }
 {
     if mailbox.read_only {
         return Err(Refusal::ReadOnly);
@@ -33,8 +33,8 @@ pub fn expunge_wants(alloc: Global, mailbox: &OpenMailbox<'_>) -> Result<Vec<Kin
 }
 
 /// What CLOSE issues, or why not (`TooManyVersions`, `NoMemory`): what EXPUNGE does, and nothing in a mailbox that is only read.
-pub fn close_wants(alloc: Global, mailbox: &OpenMailbox<'_>) -> Result<Vec<Kind>, Refusal>
-    ensures { Gives (λ kinds. kinds.items) result (close_wants mailbox.now) }
+pub fn close_intent(alloc: Global, mailbox: &OpenMailbox<'_>) -> Result<Vec<Kind>, Refusal>
+    ensures { GivesOrLacksMemory (λ kinds. kinds.items) result (close_intent mailbox.now) }
 {
     if mailbox.read_only {
         return Ok(Vec::new(alloc));
@@ -76,7 +76,7 @@ fn push_expunge(
     row: &Row<'_>,
     kinds: &mut Vec<Kind>,
 ) -> Result<(), AllocError>
-    ensures { OnOk result (kinds.new.items ≡ kinds.old.items ++ expunge_of folder.now (listed row.now)) }
+    ensures { OnOk result (kinds.new.items ≡ kinds.old.items ++ expunge_of folder.now (listed_message row.now)) }
 {
     if !row.versions.deleted() {
         return Ok(());
@@ -91,20 +91,20 @@ fn push_expunge(
 /// What UID EXPUNGE issues, and the messages that it found for that, or the first reason against it: `ReadOnly`, `TooManyVersions` (more than 64 of a message that it takes out).
 /// `NoMemory` may come in place of any answer. It takes out those of the view's messages that the set names by UIDs and that are marked as
 /// deleted.
-pub fn uid_expunge_wants(
+pub fn uid_expunge_intent(
     alloc: Global,
     mailbox: &OpenMailbox<'_>,
     uids: &SequenceSet,
-) -> Result<Wanted, Refusal>
-    ensures gives { Gives (λ wanted. wanted.kinds.items) result (uid_expunge_wants mailbox.now uids.now) }
-    ensures found { IfOk result (λ wanted. wanted.found ≡ named_found true uids.now mailbox.now.view) }
+) -> Result<Intent, Refusal>
+    ensures gives { GivesOrLacksMemory (λ intent. intent.kinds.items) result (uid_expunge_intent mailbox.now uids.now) }
+    ensures found { IfOk result (λ intent. intent.found ≡ messages_named_by true uids.now mailbox.now.view) }
 {
     if mailbox.read_only {
         return Err(Refusal::ReadOnly);
     }
-    let numbers = named(alloc, true, uids, mailbox.view)?;
+    let numbers = messages_named(alloc, true, uids, mailbox.view)?;
     let kinds = expunges_at(alloc, mailbox, &numbers)?;
-    limited(kinds, Found::new(numbers, Vec::new(alloc)))
+    intent_within_limits(kinds, NamedMessages::new(numbers, Vec::new(alloc)))
 }
 
 /// The Expunges of those messages that are marked as deleted.
@@ -125,9 +125,9 @@ fn expunges_at(
 }
 
 /// What UID EXPUNGE tells, by the mailbox before it and what it found there: that it names messages that are gone, if it does.
-pub fn uid_expunge_tells(alloc: Global, mailbox: &OpenMailbox<'_>, found: &Found) -> Telling
-    ensures { (uids : List SequenceRange) → found.now ≡ named_found true uids mailbox.now.view → result ≡ uid_expunge_tells mailbox.now uids }
+pub fn uid_expunge_report(alloc: Global, mailbox: &OpenMailbox<'_>, found: &NamedMessages) -> CommandReport
+    ensures { (uids : List SequenceRange) → found.now ≡ messages_named_by true uids mailbox.now.view → result ≡ uid_expunge_report mailbox.now uids }
 {
     let code = gone_code(&mailbox.rows, mailbox.view.entries(), found.numbers());
-    Telling::new(Vec::new(alloc), Vec::new(alloc), code)
+    CommandReport::new(Vec::new(alloc), Vec::new(alloc), code)
 }

@@ -3,47 +3,47 @@
 ghost use Rattle.std.specs.Prelude.{◌≡◌, ◌++◌, false, length, IfOk, OnOk};
 ghost use Rattle.std.specs.Option.{option_map, unwrap_or};
 ghost use Rattle.imap_query.specs.Fetching.{fetch_answers};
-ghost use Rattle.imap_types.specs.Unions.{united};
-ghost use Rattle.imap_commands.specs.Fetching.{fetch_tells, fetch_wants, mode_of, seen_flags, seen_store, seen_stores, shown_at, shown_of};
-ghost use Rattle.imap_commands.specs.Found.{named_found};
-ghost use Rattle.imap_commands.specs.Gives.{Gives};
-ghost use Rattle.imap_commands.specs.Told.{are_some_gone, entry_at, gone_code, message_at};
+ghost use Rattle.imap_types.specs.Unions.{united_flags};
+ghost use Rattle.imap_commands.specs.Fetching.{fetch_report, fetch_intent, mode_of, seen_flags, seen_store, seen_stores, shown_at, shown_of};
+ghost use Rattle.imap_commands.specs.NamedMessages.{messages_named_by};
+ghost use Rattle.imap_commands.specs.Gives.{GivesOrLacksMemory};
+ghost use Rattle.imap_commands.specs.Report.{are_some_gone, entry_at, gone_code, message_at};
 
-use crate::asked::{FetchAsked, OpenMailbox};
-use crate::found::{Found, Wanted};
-use crate::limits::limited;
-use crate::named::named;
-use crate::telling::{Telling, entry_at, gone_code};
+use crate::command_args::{FetchArgs, OpenMailbox};
+use crate::intent::{NamedMessages, Intent};
+use crate::limits::intent_within_limits;
+use crate::named_messages::messages_named;
+use crate::report::{CommandReport, entry_at, gone_code};
 use crate::versions::old_ids;
 use crdt_ops::Kind;
 use imap_answers::{Answer, Code, Refusal};
 use imap_query::{
-    FetchMode, Shown, fetch, fetch_unchanged, is_kept, is_marked, make_room, set_seen,
+    FetchMode, ViewedMessage, fetch, fetch_unchanged, is_kept, is_seen_set, make_room, set_seen,
 };
 use imap_syntax::FetchItem;
 use imap_types::{Flags, Versions};
-use mail_listing::Rows;
-use session_view::Entries;
+use mailbox_rows::Rows;
+use session_view::ViewEntries;
 use std::alloc::{AllocError, Global};
 
 /// What FETCH issues in the mailbox, and the messages that it found for that, or the first reason against it: `NoSuchMessage`,
 /// `TooManyKeywords` (more than 32 on a message that it marks), `TooManyVersions` (more than 64 of such a message). `NoMemory` may come in
 /// place of any answer. It issues Stores of `\Seen`, where it reads a section without PEEK.
-pub fn fetch_wants(
+pub fn fetch_intent(
     alloc: Global,
     mailbox: &OpenMailbox<'_>,
-    asked: &FetchAsked<'_>,
-) -> Result<Wanted, Refusal>
-    ensures gives { Gives (λ wanted. wanted.kinds.items) result (fetch_wants mailbox.now asked.now) }
-    ensures found { IfOk result (λ wanted. wanted.found ≡ named_found asked.now.by_uid asked.now.messages mailbox.now.view) }
+    asked: &FetchArgs<'_>,
+) -> Result<Intent, Refusal>
+    ensures gives { GivesOrLacksMemory (λ intent. intent.kinds.items) result (fetch_intent mailbox.now asked.now) }
+    ensures found { IfOk result (λ intent. intent.found ≡ messages_named_by asked.now.by_uid asked.now.messages mailbox.now.view) }
 {
-    let numbers = named(alloc, asked.by_uid, asked.messages, mailbox.view)?;
+    let numbers = messages_named(alloc, asked.by_uid, asked.messages, mailbox.view)?;
     let kinds = seen_stores(alloc, mailbox, asked, &numbers)?;
-    limited(kinds, Found::new(numbers, Vec::new(alloc)))
+    intent_within_limits(kinds, NamedMessages::new(numbers, Vec::new(alloc)))
 }
 
 /// How FETCH asks, with CONDSTORE on or not.
-fn mode_of(mailbox: &OpenMailbox<'_>, condstore: bool, asked: &FetchAsked<'_>) -> FetchMode
+fn mode_of(mailbox: &OpenMailbox<'_>, condstore: bool, asked: &FetchArgs<'_>) -> FetchMode
     ensures { result ≡ mode_of mailbox.now condstore asked.now }
 {
     FetchMode {
@@ -58,7 +58,7 @@ fn mode_of(mailbox: &OpenMailbox<'_>, condstore: bool, asked: &FetchAsked<'_>) -
 fn seen_stores(
     alloc: Global,
     mailbox: &OpenMailbox<'_>,
-    asked: &FetchAsked<'_>,
+    asked: &FetchArgs<'_>,
     numbers: &[u32],
 ) -> Result<Vec<Kind>, AllocError>
     ensures { IfOk result (λ kinds. kinds.items ≡ seen_stores mailbox.now asked.now numbers.now) }
@@ -77,7 +77,7 @@ fn seen_stores(
 fn push_seen(
     alloc: Global,
     mailbox: &OpenMailbox<'_>,
-    asked: &FetchAsked<'_>,
+    asked: &FetchArgs<'_>,
     number: u32,
     kinds: &mut Vec<Kind>,
 ) -> Result<(), AllocError>
@@ -89,7 +89,7 @@ fn push_seen(
     if !is_kept(asked.changed_since, &row) {
         return Ok(());
     }
-    if !is_marked(asked.items, mode_of(mailbox, false, asked), &row) {
+    if !is_seen_set(asked.items, mode_of(mailbox, false, asked), &row) {
         return Ok(());
     }
     kinds.push(Kind::Store {
@@ -103,7 +103,7 @@ fn push_seen(
 
 /// The flags of a message's versions together, with `\Seen`.
 fn seen_flags(alloc: Global, versions: &Versions<'_>) -> Result<Flags, AllocError>
-    ensures { IfOk result (λ seen. seen ≡ seen_flags (united versions.now.list.now)) }
+    ensures { IfOk result (λ seen. seen ≡ seen_flags (united_flags versions.now.list.now)) }
 {
     let mut seen = versions.flags(alloc)?;
     seen.seen = true;
@@ -113,29 +113,29 @@ fn seen_flags(alloc: Global, versions: &Versions<'_>) -> Result<Flags, AllocErro
 /// What FETCH tells, by the mailbox before it, what it found there, the listing after it (where none is given, as of a command that issues nothing, the one before it)
 /// and whether CONDSTORE is on: what `imap_query::fetch` says of the messages named, and whether some are gone. `Err` where there is no memory. It costs what `fetch` of
 /// `imap_query` does, or `fetch_unchanged` where no listing is given, and where some have no answer, a look at each for the code.
-pub fn fetch_tells(
+pub fn fetch_report(
     alloc: Global,
     mailbox: &OpenMailbox<'_>,
     after: Option<&Rows<'_>>,
     condstore: bool,
-    asked: &FetchAsked<'_>,
-    found: &Found,
-) -> Result<Telling, AllocError>
-    requires { found.now ≡ named_found asked.now.by_uid asked.now.messages mailbox.now.view }
-    ensures { IfOk result (λ told. told ≡ fetch_tells mailbox.now (unwrap_or (option_map (λ rows. rows.now) after.entry) mailbox.now.rows) condstore asked.now) }
+    asked: &FetchArgs<'_>,
+    found: &NamedMessages,
+) -> Result<CommandReport, AllocError>
+    requires { found.now ≡ messages_named_by asked.now.by_uid asked.now.messages mailbox.now.view }
+    ensures { IfOk result (λ told. told ≡ fetch_report mailbox.now (unwrap_or (option_map (λ rows. rows.now) after.entry) mailbox.now.rows) condstore asked.now) }
 {
     let before = &mailbox.rows;
     let view = mailbox.view.entries();
     let numbers = found.numbers();
     let shown = shown_of(alloc, view, numbers)?;
     let mode = mode_of(mailbox, condstore, asked);
-    let own = fetched(alloc, &shown, before, after, asked.items, mode)?;
-    let code = code_beside(&own, before, view, numbers);
-    Ok(Telling::new(own, Vec::new(alloc), code))
+    let own = fetch_answers_of(alloc, &shown, before, after, asked.items, mode)?;
+    let code = code_for_answers(&own, before, view, numbers);
+    Ok(CommandReport::new(own, Vec::new(alloc), code))
 }
 
 /// The code beside these answers: where each of the messages has one, none is gone.
-fn code_beside(told: &[Answer], rows: &Rows<'_>, view: &Entries, numbers: &[u32]) -> Option<Code>
+fn code_for_answers(told: &[Answer], rows: &Rows<'_>, view: &ViewEntries, numbers: &[u32]) -> Option<Code>
     requires { length told.now ≡ length numbers.now → are_some_gone rows.now view.now.items numbers.now ≡ false }
     ensures { result ≡ gone_code rows.now view.now.items numbers.now }
 {
@@ -146,9 +146,9 @@ fn code_beside(told: &[Answer], rows: &Rows<'_>, view: &Entries, numbers: &[u32]
 }
 
 /// What FETCH answers, by the listing before it and the one after it, which is the same where none is given.
-fn fetched(
+fn fetch_answers_of(
     alloc: Global,
-    shown: &[Shown],
+    shown: &[ViewedMessage],
     before: &Rows<'_>,
     after: Option<&Rows<'_>>,
     items: &[FetchItem],
@@ -163,7 +163,7 @@ fn fetched(
 }
 
 /// The messages with these numbers, as queries see them.
-fn shown_of(alloc: Global, view: &Entries, numbers: &[u32]) -> Result<Vec<Shown>, AllocError>
+fn shown_of(alloc: Global, view: &ViewEntries, numbers: &[u32]) -> Result<Vec<ViewedMessage>, AllocError>
     ensures { IfOk result (λ shown. shown.items ≡ shown_of view.now.items numbers.now) }
 {
     let mut shown = Vec::with_capacity(alloc, numbers.len())?;
@@ -173,12 +173,12 @@ fn shown_of(alloc: Global, view: &Entries, numbers: &[u32]) -> Result<Vec<Shown>
     Ok(shown)
 }
 
-fn push_shown(view: &Entries, number: u32, shown: &mut Vec<Shown>) -> Result<(), AllocError>
+fn push_shown(view: &ViewEntries, number: u32, shown: &mut Vec<ViewedMessage>) -> Result<(), AllocError>
     ensures { OnOk result (shown.new.items ≡ shown.old.items ++ shown_at number (entry_at view.now.items number)) }
 {
     if let Some(entry) = entry_at(view, number) {
         make_room(shown)?;
-        shown.push_reserved(Shown {
+        shown.push_reserved(ViewedMessage {
             number,
             uid: entry.uid,
         });

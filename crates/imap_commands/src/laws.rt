@@ -3,13 +3,13 @@
 ghost use Rattle.std.specs.Prelude.{◌≡◌, ◌↔◌, ℕ, List, IsTrue};
 ghost use Rattle.imap_commands.specs.Enabling.{search_asks_modseq};
 ghost use Rattle.imap_commands.specs.Mailboxes.{is_lawful_name};
-ghost use Rattle.imap_commands.specs.Searching.{key_wants, search_wants};
-ghost use Rattle.imap_commands.specs.Selecting.{AreBorne};
-ghost use Rattle.imap_query.specs.Keys.{Key, steps_of};
+ghost use Rattle.imap_commands.specs.Searching.{search_intent_by_key, search_intent};
+ghost use Rattle.imap_commands.specs.Selecting.{AreListedKeywords};
+ghost use Rattle.imap_query.specs.KeyHits.{Key, steps_of};
 ghost use Rattle.imap_query.specs.Search.{asks_modseq};
 ghost use Rattle.imap_types.specs.Names.{IsLawfulName};
-ghost use Rattle.mail_listing.specs.Listed.{Listed};
-ghost use Rattle.session_view.specs.declared.entry.Entry.{Entry};
+ghost use Rattle.mailbox_rows.specs.ListedMessage.{ListedMessage};
+ghost use Rattle.session_view.specs.declared.view_entry.ViewEntry.{ViewEntry};
 
 /// The test of a name says whether a mailbox may bear it.
 pub fn lawful_name_is()
@@ -18,17 +18,17 @@ pub fn lawful_name_is()
 
 /// The keywords that the messages of a listing bear are a set: there always is one.
 pub fn listed_keywords_are_borne()
-    ensures { (rows : List Listed) → (keywords : List (List ℕ)) × AreBorne rows keywords }
+    ensures { (rows : List ListedMessage) → (keywords : List (List ℕ)) × AreListedKeywords rows keywords }
 {}
 
 /// They are one set: two sets of the keywords that messages bear are equal.
 pub fn one_set_of_keywords()
-    ensures { (rows : List Listed) (these those : List (List ℕ)) → AreBorne rows these → AreBorne rows those → these ≡ those }
+    ensures { (rows : List ListedMessage) (these those : List (List ℕ)) → AreListedKeywords rows these → AreListedKeywords rows those → these ≡ those }
 {}
 
 /// What SEARCH wants by the steps of a key is what the key wants: whether it asks for mod-sequences (RFC 7162, section 3.1.5), and whether it
 /// is refused for a number that no message has (RFC 9051, section 6.4.4).
 pub fn searches_are_by_keys()
     ensures modseq { (key : Key) → search_asks_modseq (steps_of key) ≡ asks_modseq key }
-    ensures wants { (view : List Entry) (key : Key) → search_wants view (steps_of key) ≡ key_wants view key }
+    ensures wants { (view : List ViewEntry) (key : Key) → search_intent view (steps_of key) ≡ search_intent_by_key view key }
 {}

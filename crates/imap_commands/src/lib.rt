@@ -7,51 +7,51 @@
 #![tactic(auto)]
 
 mod appending;
-mod asked;
-mod asking;
-mod changing;
+mod command_args;
+mod simple_commands;
+mod flag_change;
 mod copying;
 mod enabling;
-mod entering;
+mod login;
 mod expunging;
 mod fetching;
 mod flag_sets;
-mod found;
-mod issued;
+mod intent;
+mod issuable;
 mod laws;
 mod limits;
 mod mailboxes;
-mod named;
+mod named_messages;
 mod printable;
 mod searching;
 mod selecting;
 mod session;
 mod storing;
-mod telling;
+mod report;
 mod versions;
 
-pub use appending::{append_tells, append_wants};
-pub use asked::{
-    AppendAsked, CopyAsked, FetchAsked, Landing, OpenMailbox, SearchAsked, StoreAsked,
+pub use appending::{append_report, append_intent};
+pub use command_args::{
+    AppendArgs, CopyArgs, FetchArgs, CopyTarget, OpenMailbox, SearchArgs, StoreArgs,
 };
-pub use asking::{
-    capability_tells, idle_tells, list_tells, logout_tells, namespace_tells, status_tells,
-    status_wants,
+pub use simple_commands::{
+    capability_report, idle_report, list_report, logout_report, namespace_report, status_report,
+    status_intent,
 };
-pub use changing::changed;
-pub use copying::{copy_tells, copy_wants, move_tells, move_wants};
+pub use flag_change::changed_flags;
+pub use copying::{copy_report, copy_intent, move_report, move_intent};
 pub use enabling::{
-    asks_condstore, enable_tells, fetch_asks_modseq, search_asks_modseq, status_asks_modseq,
+    asks_condstore, enable_report, fetch_asks_modseq, search_asks_modseq, status_asks_modseq,
 };
-pub use entering::login_wants;
-pub use expunging::{close_wants, expunge_wants, uid_expunge_tells, uid_expunge_wants};
-pub use fetching::{fetch_tells, fetch_wants};
+pub use login::login_intent;
+pub use expunging::{close_intent, expunge_intent, uid_expunge_report, uid_expunge_intent};
+pub use fetching::{fetch_report, fetch_intent};
 pub use flag_sets::{
     added_flags_are_the_union, changed_flags_are_spelled, removed_flags_are_the_difference,
     replaced_flags_are_those_given,
 };
-pub use found::{Found, Wanted};
-pub use issued::{
+pub use intent::{NamedMessages, Intent};
+pub use issuable::{
     copies_are_issuable, expunges_are_issuable, moves_are_issuable, seen_stores_are_issuable,
     stores_are_issuable,
 };
@@ -59,7 +59,7 @@ pub use laws::{
     lawful_name_is, listed_keywords_are_borne, one_set_of_keywords, searches_are_by_keys,
 };
 pub use mailboxes::{
-    create_wants, created_name, delete_wants, is_lawful_name, subscribe_wants, unsubscribe_wants,
+    create_intent, created_name, delete_intent, is_lawful_name, subscribe_intent, unsubscribe_intent,
 };
 pub use printable::{
     append_is_printable, constant_answers_are_printable, copies_are_printable, fetch_is_printable,
@@ -67,8 +67,8 @@ pub use printable::{
     status_is_printable, store_is_printable, sync_is_printable, uid_expunge_is_printable,
     views_stay_numbered,
 };
-pub use searching::{search_tells, search_wants};
-pub use selecting::{select_tells, select_wants};
+pub use searching::{search_report, search_intent};
+pub use selecting::{select_report, select_intent};
 pub use session::{Credentials, Session, State};
-pub use storing::{store_tells, store_wants};
-pub use telling::{Telling, entry_at, gone_code, message_at};
+pub use storing::{store_report, store_intent};
+pub use report::{CommandReport, entry_at, gone_code, message_at};

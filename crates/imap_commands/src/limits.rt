@@ -2,10 +2,10 @@
 
 ghost use Rattle.std.specs.Prelude.{◌≡◌, IfOk};
 ghost use Rattle.std.specs.List.{list_any};
-ghost use Rattle.imap_commands.specs.Gives.{Gives};
+ghost use Rattle.imap_commands.specs.Gives.{GivesOrLacksMemory};
 ghost use Rattle.imap_commands.specs.Limits.{has_many_keywords, has_many_versions, within_limits};
 
-use crate::found::{Found, Wanted};
+use crate::intent::{NamedMessages, Intent};
 use crdt_ops::{Kind, MAX_OLD_IDS};
 use imap_answers::Refusal;
 use imap_types::MAX_KEYWORDS;
@@ -13,7 +13,7 @@ use imap_types::MAX_KEYWORDS;
 /// These operations, or the first reason against them: `TooManyKeywords` where one gives a message more than 32 keywords, else
 /// `TooManyVersions` where one names more than 64 versions of a message.
 pub fn within_limits(kinds: Vec<Kind>) -> Result<Vec<Kind>, Refusal>
-    ensures { Gives (λ kinds. kinds.items) result (within_limits kinds.items) }
+    ensures { GivesOrLacksMemory (λ kinds. kinds.items) result (within_limits kinds.items) }
 {
     if have_many_keywords(&kinds) {
         drop(kinds);
@@ -27,12 +27,12 @@ pub fn within_limits(kinds: Vec<Kind>) -> Result<Vec<Kind>, Refusal>
 }
 
 /// The same of a command that found this.
-pub fn limited(kinds: Vec<Kind>, found: Found) -> Result<Wanted, Refusal>
-    ensures gives { Gives (λ wanted. wanted.kinds.items) result (within_limits kinds.items) }
-    ensures found { IfOk result (λ wanted. wanted.found ≡ found) }
+pub fn intent_within_limits(kinds: Vec<Kind>, found: NamedMessages) -> Result<Intent, Refusal>
+    ensures gives { GivesOrLacksMemory (λ intent. intent.kinds.items) result (within_limits kinds.items) }
+    ensures found { IfOk result (λ intent. intent.found ≡ found) }
 {
     match within_limits(kinds) {
-        Ok(kinds) => Ok(Wanted { kinds, found }),
+        Ok(kinds) => Ok(Intent { kinds, found }),
         Err(why) => Err(why),
     }
 }

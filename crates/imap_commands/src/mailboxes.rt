@@ -3,8 +3,8 @@
 ghost use Rattle.std.specs.Prelude.{◌≡◌, ◌∷◌, [], IfOk};
 ghost use Rattle.std.specs.Str.{bytes_eq};
 ghost use Rattle.crdt_ops.specs.declared.kind.Kind.TheVariants.{Create as CreateKind, Delete as DeleteKind, Subscribe as SubscribeKind};
-ghost use Rattle.imap_commands.specs.Gives.{Gives};
-ghost use Rattle.imap_commands.specs.Mailboxes.{create_wants, created_name, delete_wants, is_lawful_name, subscribe_wants, unsubscribe_wants, unsubscribes, without_last_separator};
+ghost use Rattle.imap_commands.specs.Gives.{GivesOrLacksMemory};
+ghost use Rattle.imap_commands.specs.Mailboxes.{create_intent, created_name, delete_intent, is_lawful_name, subscribe_intent, unsubscribe_intent, unsubscribes, without_last_separator};
 ghost use Rattle.imap_types.specs.Names.{inbox};
 
 use crdt_ops::{Ids, Kind};
@@ -26,7 +26,7 @@ pub fn created_name(alloc: Global, name: &Name) -> Result<Name, AllocError>
 {
     let mut octets = name.as_bytes().to_vec(alloc)?;
     drop_last_separator(&mut octets);
-    Ok(Name::new(octets).folded())
+    Ok(Name::new(octets).fold_inbox())
 }
 
 fn drop_last_separator(octets: &mut Vec<u8>)
@@ -39,8 +39,8 @@ fn drop_last_separator(octets: &mut Vec<u8>)
 
 /// What CREATE issues, or why it is refused: `NameNotAllowed` where no mailbox may bear the created name, else `MailboxExists`
 /// where `is_there` says that one does (RFC 9051, section 6.3.4). It makes no superior levels.
-pub fn create_wants(alloc: Global, is_there: bool, name: &Name) -> Result<Vec<Kind>, Refusal>
-    ensures { Gives (λ kinds. kinds.items) result (create_wants is_there name.now) }
+pub fn create_intent(alloc: Global, is_there: bool, name: &Name) -> Result<Vec<Kind>, Refusal>
+    ensures { GivesOrLacksMemory (λ kinds. kinds.items) result (create_intent is_there name.now) }
 {
     let folder = created_name(alloc, name)?;
     if !is_lawful_name(&folder) {
@@ -54,13 +54,13 @@ pub fn create_wants(alloc: Global, is_there: bool, name: &Name) -> Result<Vec<Ki
 
 /// What DELETE issues, or why it is refused: `NoSuchMailbox` where the mailbox isn't there, else `InboxStays` for INBOX (RFC 9051,
 /// section 6.3.5). `seen` has the ids of all the folder's present tags, those of its messages too.
-pub fn delete_wants(
+pub fn delete_intent(
     alloc: Global,
     is_there: bool,
     seen: Ids,
     name: &Name,
 ) -> Result<Vec<Kind>, Refusal>
-    ensures { Gives (λ kinds. kinds.items) result (delete_wants is_there seen name.now) }
+    ensures { GivesOrLacksMemory (λ kinds. kinds.items) result (delete_intent is_there seen name.now) }
 {
     if !is_there {
         return Err(Refusal::NoSuchMailbox);
@@ -86,12 +86,12 @@ fn is_inbox(name: &Name) -> bool
 
 /// What SUBSCRIBE issues, or why it is refused: `NameNotAllowed` where no mailbox may bear the name. A name that is subscribed
 /// needs nothing, and there need be no mailbox (RFC 9051, section 6.3.7).
-pub fn subscribe_wants(
+pub fn subscribe_intent(
     alloc: Global,
     is_subscribed: bool,
     name: &Name,
 ) -> Result<Vec<Kind>, Refusal>
-    ensures { Gives (λ kinds. kinds.items) result (subscribe_wants is_subscribed name.now) }
+    ensures { GivesOrLacksMemory (λ kinds. kinds.items) result (subscribe_intent is_subscribed name.now) }
 {
     if !is_lawful_name(name) {
         return Err(Refusal::NameNotAllowed);
@@ -111,8 +111,8 @@ fn subscribe(alloc: Global, name: &Name) -> Result<Vec<Kind>, AllocError>
 
 /// What UNSUBSCRIBE issues, or why it is refused: `NameNotAllowed` where no mailbox may bear the name (RFC 9051, section 6.3.8).
 /// `seen` has the ids of the name's present subscription tags; where there are none, nothing is issued.
-pub fn unsubscribe_wants(alloc: Global, seen: Ids, name: &Name) -> Result<Vec<Kind>, Refusal>
-    ensures { Gives (λ kinds. kinds.items) result (unsubscribe_wants seen name.now) }
+pub fn unsubscribe_intent(alloc: Global, seen: Ids, name: &Name) -> Result<Vec<Kind>, Refusal>
+    ensures { GivesOrLacksMemory (λ kinds. kinds.items) result (unsubscribe_intent seen name.now) }
 {
     if !is_lawful_name(name) {
         return Err(Refusal::NameNotAllowed);

@@ -3,23 +3,23 @@
 ghost use Rattle.std.specs.Prelude.{◌≡◌, IfOk};
 ghost use Rattle.std.specs.List.{list_all};
 ghost use Rattle.session_view.specs.Views.{AreRising};
-ghost use Rattle.imap_commands.specs.Gives.{Gives};
-ghost use Rattle.imap_commands.specs.Searching.{Finds, SearchTells, search_wants, shown_from, step_is_in_range, test_is_in_range};
+ghost use Rattle.imap_commands.specs.Gives.{GivesOrLacksMemory};
+ghost use Rattle.imap_commands.specs.Searching.{IsSearchResult, IsSearchReport, search_intent, shown_from, step_is_in_range, test_is_in_range};
 
-use crate::asked::{OpenMailbox, SearchAsked};
-use crate::asking::one_answer;
-use crate::telling::Telling;
+use crate::command_args::{OpenMailbox, SearchArgs};
+use crate::simple_commands::one_answer;
+use crate::report::CommandReport;
 use crdt_ops::Kind;
 use imap_answers::{Answer, Refusal, SearchResults};
-use imap_query::{Shown, search};
+use imap_query::{ViewedMessage, search};
 use imap_syntax::{SearchStep, SearchTest};
 use imap_types::Octets;
-use session_view::{Entries, View, count_of};
+use session_view::{ViewEntries, View, count_of};
 use std::alloc::{AllocError, Global};
 
 /// Nothing, which is what SEARCH issues, or `NoSuchMessage`: a set of numbers in its keys, wherever it stands, names one that no message has.
-pub fn search_wants(alloc: Global, view: &View, steps: &[SearchStep]) -> Result<Vec<Kind>, Refusal>
-    ensures { Gives (λ kinds. kinds.items) result (search_wants view.now.entries steps.now) }
+pub fn search_intent(alloc: Global, view: &View, steps: &[SearchStep]) -> Result<Vec<Kind>, Refusal>
+    ensures { GivesOrLacksMemory (λ kinds. kinds.items) result (search_intent view.now.entries steps.now) }
 {
     if !are_in_range(view, steps) {
         return Err(Refusal::NoSuchMessage);
@@ -57,16 +57,16 @@ fn test_is_in_range(view: &View, test: &SearchTest) -> bool
 }
 
 /// What SEARCH tells: what `imap_query::search` says of the view's messages that are there. `Err` where there is no memory.
-pub fn search_tells(
+pub fn search_report(
     alloc: Global,
     mailbox: &OpenMailbox<'_>,
     tag: &Octets,
-    asked: &SearchAsked<'_>,
-) -> Result<Telling, AllocError>
-    ensures { IfOk result (λ told. SearchTells mailbox.now tag.now asked.now told) }
+    asked: &SearchArgs<'_>,
+) -> Result<CommandReport, AllocError>
+    ensures { IfOk result (λ told. IsSearchReport mailbox.now tag.now asked.now told) }
 {
     let tag = tag.copy(alloc)?;
-    let results = found(alloc, mailbox, asked)?;
+    let results = search_results_of(alloc, mailbox, asked)?;
     one_answer(
         alloc,
         Answer::Search {
@@ -78,12 +78,12 @@ pub fn search_tells(
 }
 
 /// What SEARCH finds.
-fn found(
+fn search_results_of(
     alloc: Global,
     mailbox: &OpenMailbox<'_>,
-    asked: &SearchAsked<'_>,
+    asked: &SearchArgs<'_>,
 ) -> Result<SearchResults, AllocError>
-    ensures { IfOk result (λ results. Finds mailbox.now asked.now results) }
+    ensures { IfOk result (λ results. IsSearchResult mailbox.now asked.now results) }
 {
     let shown = all_shown(alloc, mailbox.view.entries())?;
     let steps = asked.steps.as_slice();
@@ -98,7 +98,7 @@ fn found(
 }
 
 /// A view's messages as queries see them.
-fn all_shown(alloc: Global, view: &Entries) -> Result<Vec<Shown>, AllocError>
+fn all_shown(alloc: Global, view: &ViewEntries) -> Result<Vec<ViewedMessage>, AllocError>
     requires { AreRising 1 view.now.items }
     ensures { IfOk result (λ shown. shown.items ≡ shown_from 1 view.now.items) }
 {
@@ -107,7 +107,7 @@ fn all_shown(alloc: Global, view: &Entries) -> Result<Vec<Shown>, AllocError>
     let mut number = 0;
     for entry in view.iter_from(0) {
         number += 1;
-        shown.push_reserved(Shown {
+        shown.push_reserved(ViewedMessage {
             number,
             uid: entry.uid,
         });

@@ -5,23 +5,23 @@ ghost use Rattle.std.specs.List.{fold};
 ghost use Rattle.imap_answers.specs.declared.answer.Answer.TheVariants.{Exists as ExistsAnswer, Flags as FlagsAnswer, List as ListAnswer, Tell as TellAnswer};
 ghost use Rattle.imap_answers.specs.declared.codes.Notice.TheVariants.{HighestModSeq as HighestModSeqNotice, PermanentFlags as PermanentFlagsNotice, UidNext as UidNextNotice, UidValidity as UidValidityNotice};
 ghost use Rattle.imap_answers.specs.declared.mailbox.MailboxState.TheVariants.{There};
-ghost use Rattle.imap_types.specs.Keywords.{lowered, with_text};
-ghost use Rattle.imap_types.specs.Unions.{united};
-ghost use Rattle.imap_commands.specs.Gives.{Gives};
-ghost use Rattle.imap_commands.specs.Selecting.{AreBorne, SelectTells, access_code, flags_in_use, mailbox_answers, permanent_flags, select_tells, select_wants};
+ghost use Rattle.imap_types.specs.Keywords.{to_lower_case, with_word};
+ghost use Rattle.imap_types.specs.Unions.{united_flags};
+ghost use Rattle.imap_commands.specs.Gives.{GivesOrLacksMemory};
+ghost use Rattle.imap_commands.specs.Selecting.{AreListedKeywords, IsSelectReport, access_code, flags_in_use, mailbox_answers, permanent_flags, select_report, select_intent};
 
-use crate::telling::Telling;
+use crate::report::CommandReport;
 use crdt_ops::Kind;
 use imap_answers::{Answer, Code, MailboxState, Notice, Refusal};
-use imap_query::Marks;
+use imap_query::MailboxCounters;
 use imap_types::{Flags, Keywords, Name, Octets, Versions};
-use mail_listing::Rows;
+use mailbox_rows::Rows;
 use std::alloc::{AllocError, Global};
 
 /// What SELECT and EXAMINE issue, which is nothing, or why they are refused: `NoSuchMailbox` where the mailbox isn't there
 /// (RFC 9051, sections 6.3.2 and 6.3.3).
-pub fn select_wants(alloc: Global, is_there: bool) -> Result<Vec<Kind>, Refusal>
-    ensures { Gives (λ kinds. kinds.items) result (select_wants is_there) }
+pub fn select_intent(alloc: Global, is_there: bool) -> Result<Vec<Kind>, Refusal>
+    ensures { GivesOrLacksMemory (λ kinds. kinds.items) result (select_intent is_there) }
 {
     if !is_there {
         return Err(Refusal::NoSuchMailbox);
@@ -32,15 +32,15 @@ pub fn select_wants(alloc: Global, is_there: bool) -> Result<Vec<Kind>, Refusal>
 /// What SELECT and EXAMINE, which selects read-only, tell of a mailbox, behind CLOSED where another was selected (RFC 9051,
 /// sections 6.3.2 and 6.3.3; RFC 7162, section 3.1.2.1). Each message's keywords are looked up among those found so far. `Err`
 /// where there is no memory for it.
-pub fn select_tells(
+pub fn select_report(
     alloc: Global,
     was_selected: bool,
     read_only: bool,
     name: &Name,
-    marks: Marks,
+    marks: MailboxCounters,
     rows: &Rows<'_>,
-) -> Result<Telling, AllocError>
-    ensures { IfOk result (λ told. SelectTells was_selected read_only name.now marks rows.now told) }
+) -> Result<CommandReport, AllocError>
+    ensures { IfOk result (λ told. IsSelectReport was_selected read_only name.now marks rows.now told) }
 {
     let keywords = listed_keywords(alloc, rows)?;
     let opened = Opened {
@@ -48,26 +48,26 @@ pub fn select_tells(
         marks,
         read_only,
     };
-    told_of(alloc, was_selected, &opened, rows, keywords)
+    report_with_flags(alloc, was_selected, &opened, rows, keywords)
 }
 
 /// A mailbox that is selected, and how.
 #[derive(Drop)]
 struct Opened<'a> {
     name: &'a Name,
-    marks: Marks,
+    marks: MailboxCounters,
     read_only: bool,
 }
 
 /// What is told where the messages bear these keywords.
-fn told_of(
+fn report_with_flags(
     alloc: Global,
     was_selected: bool,
     opened: &Opened<'_>,
     rows: &Rows<'_>,
     keywords: Keywords,
-) -> Result<Telling, AllocError>
-    ensures { IfOk result (λ told. told ≡ select_tells was_selected opened.now.read_only opened.now.name.now opened.now.marks rows.now keywords) }
+) -> Result<CommandReport, AllocError>
+    ensures { IfOk result (λ told. told ≡ select_report was_selected opened.now.read_only opened.now.name.now opened.now.marks rows.now keywords) }
 {
     let mut own = Vec::new(alloc);
     if was_selected {
@@ -77,7 +77,7 @@ fn told_of(
     }
     push_mailbox(alloc, opened, rows.count(), keywords, &mut own)?;
     let code = access_code(opened.read_only);
-    Ok(Telling::new(own, Vec::new(alloc), Some(code)))
+    Ok(CommandReport::new(own, Vec::new(alloc), Some(code)))
 }
 
 fn access_code(read_only: bool) -> Code
@@ -134,7 +134,7 @@ fn push_contents(
 }
 
 /// UIDVALIDITY and UIDNEXT.
-fn push_uids(marks: Marks, answers: &mut Vec<Answer>) -> Result<(), AllocError>
+fn push_uids(marks: MailboxCounters, answers: &mut Vec<Answer>) -> Result<(), AllocError>
     ensures { OnOk result (answers.new.items ≡ answers.old.items ++ TellAnswer (UidValidityNotice marks.uidvalidity) ∷ TellAnswer (UidNextNotice marks.uidnext) ∷ []) }
 {
     answers.push(Answer::Tell {
@@ -151,7 +151,7 @@ fn push_uids(marks: Marks, answers: &mut Vec<Answer>) -> Result<(), AllocError>
 /// PERMANENTFLAGS, with these flags, and HIGHESTMODSEQ.
 fn push_changes(
     permanent: Option<Flags>,
-    marks: Marks,
+    marks: MailboxCounters,
     answers: &mut Vec<Answer>,
 ) -> Result<(), AllocError>
     ensures { OnOk result (answers.new.items ≡ answers.old.items ++ TellAnswer (PermanentFlagsNotice permanent) ∷ TellAnswer (HighestModSeqNotice marks.highest_modseq) ∷ []) }
@@ -197,7 +197,7 @@ fn flags_in_use(keywords: Keywords) -> Flags
 
 /// The keywords of all messages. Each is looked up among those found so far.
 fn listed_keywords(alloc: Global, rows: &Rows<'_>) -> Result<Keywords, AllocError>
-    ensures { IfOk result (λ keywords. AreBorne rows.now keywords) }
+    ensures { IfOk result (λ keywords. AreListedKeywords rows.now keywords) }
 {
     let mut keywords = Keywords::empty(alloc);
     for place in 0..rows.count() {
@@ -213,7 +213,7 @@ fn add_keywords_at(
     place: u32,
     keywords: &mut Keywords,
 ) -> Result<(), AllocError>
-    ensures { OnOk result (fold (λ done row. fold (λ done word. with_text (lowered word) done) done row.flags.keywords) keywords.new (drop (place + 1) rows.now) ≡ fold (λ done row. fold (λ done word. with_text (lowered word) done) done row.flags.keywords) keywords.old (drop place rows.now)) }
+    ensures { OnOk result (fold (λ done row. fold (λ done word. with_word (to_lower_case word) done) done row.flags.keywords) keywords.new (drop (place + 1) rows.now) ≡ fold (λ done row. fold (λ done word. with_word (to_lower_case word) done) done row.flags.keywords) keywords.old (drop place rows.now)) }
 {
     match rows.row_at(place as usize) {
         Some(row) => add_keywords_of(alloc, &row.versions, keywords),
@@ -227,14 +227,14 @@ fn add_keywords_of(
     versions: &Versions<'_>,
     keywords: &mut Keywords,
 ) -> Result<(), AllocError>
-    ensures { OnOk result (keywords.new ≡ fold (λ done word. with_text (lowered word) done) keywords.old (united versions.now.list.now).keywords) }
+    ensures { OnOk result (keywords.new ≡ fold (λ done word. with_word (to_lower_case word) done) keywords.old (united_flags versions.now.list.now).keywords) }
 {
     let flags = versions.flags(alloc)?;
     add_keywords(alloc, flags.keywords.as_slice(), keywords)
 }
 
 fn add_keywords(alloc: Global, words: &[Octets], keywords: &mut Keywords) -> Result<(), AllocError>
-    ensures { OnOk result (keywords.new ≡ fold (λ done word. with_text (lowered word) done) keywords.old words.now) }
+    ensures { OnOk result (keywords.new ≡ fold (λ done word. with_word (to_lower_case word) done) keywords.old words.now) }
 {
     for word in words {
         keywords.insert(alloc, word.as_bytes())?;

@@ -4,42 +4,42 @@ ghost use Rattle.std.specs.Prelude.{◌≡◌, ◌&&◌, ◌++◌, flat_map, not
 ghost use Rattle.std.specs.List.{list_all};
 ghost use Rattle.imap_types.specs.Keywords.{is_lawful_keyword};
 ghost use Rattle.imap_types.specs.Numbers.{AreRisingFrom};
-ghost use Rattle.mail_listing.specs.Listing.{listed};
-ghost use Rattle.imap_types.specs.Unions.{united};
-ghost use Rattle.imap_query.specs.Fetching.{where_told};
+ghost use Rattle.mailbox_rows.specs.RowViews.{listed_message};
+ghost use Rattle.imap_types.specs.Unions.{united_flags};
+ghost use Rattle.imap_query.specs.Fetching.{if_told};
 ghost use Rattle.session_view.specs.Views.{same_flags};
-ghost use Rattle.imap_commands.specs.Found.{store_found};
-ghost use Rattle.imap_commands.specs.Gives.{Gives};
-ghost use Rattle.imap_commands.specs.Named.{names_of};
-ghost use Rattle.imap_commands.specs.Storing.{has_unlawful_keyword, is_refused, is_taken, is_unchanged, modified_code, silent_at, silents_of, store_of, store_tells, store_wants, stored_answer, stored_answers, stores_of, those_refused, those_taken};
-ghost use Rattle.imap_commands.specs.Told.{entry_at, gone_code, message_at};
+ghost use Rattle.imap_commands.specs.NamedMessages.{messages_stored_by};
+ghost use Rattle.imap_commands.specs.Gives.{GivesOrLacksMemory};
+ghost use Rattle.imap_commands.specs.MessageNames.{names_of};
+ghost use Rattle.imap_commands.specs.Storing.{has_unlawful_keyword, is_refused, is_taken, is_unchanged, modified_code, silent_at, silents_of, store_of, store_report, store_intent, stored_answer, stored_answers, stores_of, refused_messages, taken_messages};
+ghost use Rattle.imap_commands.specs.Report.{entry_at, gone_code, message_at};
 
-use crate::asked::{OpenMailbox, StoreAsked};
-use crate::changing::changed;
-use crate::found::{Found, Wanted};
-use crate::limits::limited;
-use crate::named::{named, names_of, set_of};
-use crate::telling::{Telling, entry_at, gone_code, message_at};
+use crate::command_args::{OpenMailbox, StoreArgs};
+use crate::flag_change::changed_flags;
+use crate::intent::{NamedMessages, Intent};
+use crate::limits::intent_within_limits;
+use crate::named_messages::{messages_named, names_of, set_of};
+use crate::report::{CommandReport, entry_at, gone_code, message_at};
 use crate::versions::old_ids;
 use crdt_ops::Kind;
 use imap_answers::{Answer, Code, FetchItems, Refusal, Sections};
 use imap_types::{Flags, Octets, Versions, is_lawful_keyword};
-use mail_listing::{Row, Rows};
-use session_view::{Entries, Silent};
+use mailbox_rows::{Row, Rows};
+use session_view::{ViewEntries, SilentFlags};
 use std::alloc::{AllocError, Global};
 
 /// What STORE issues in the mailbox, and the messages that it found for that, or the first reason against it: `NoSuchMessage`, `ReadOnly`,
 /// `KeywordTooLong` (a keyword that no message may bear), `TooManyKeywords` (more than 32 on a message that it changes), `TooManyVersions`
 /// (more than 64 of such a message). `NoMemory` may come in place of any answer. It looks each named message up twice, by binary search.
-pub fn store_wants(
+pub fn store_intent(
     alloc: Global,
     mailbox: &OpenMailbox<'_>,
-    asked: &StoreAsked<'_>,
-) -> Result<Wanted, Refusal>
-    ensures gives { Gives (λ wanted. wanted.kinds.items) result (store_wants mailbox.now asked.now) }
-    ensures found { IfOk result (λ wanted. wanted.found ≡ store_found mailbox.now asked.now) }
+    asked: &StoreArgs<'_>,
+) -> Result<Intent, Refusal>
+    ensures gives { GivesOrLacksMemory (λ intent. intent.kinds.items) result (store_intent mailbox.now asked.now) }
+    ensures found { IfOk result (λ intent. intent.found ≡ messages_stored_by mailbox.now asked.now) }
 {
-    let numbers = named(alloc, asked.by_uid, asked.messages, mailbox.view)?;
+    let numbers = messages_named(alloc, asked.by_uid, asked.messages, mailbox.view)?;
     if mailbox.read_only {
         return Err(Refusal::ReadOnly);
     }
@@ -47,9 +47,9 @@ pub fn store_wants(
         return Err(Refusal::KeywordTooLong);
     }
     let view = mailbox.view.entries();
-    let taken = those_taken(alloc, &mailbox.rows, view, asked.unchanged_since, &numbers)?;
+    let taken = taken_messages(alloc, &mailbox.rows, view, asked.unchanged_since, &numbers)?;
     let kinds = stores_of(alloc, mailbox, asked, &taken)?;
-    limited(kinds, Found::new(numbers, taken))
+    intent_within_limits(kinds, NamedMessages::new(numbers, taken))
 }
 
 fn has_unlawful_keyword(flags: &Flags) -> bool
@@ -71,7 +71,7 @@ fn are_lawful(keywords: &[Octets]) -> bool
 
 /// Whether a message did not change since.
 fn is_unchanged(since: Option<u64>, row: &Row<'_>) -> bool
-    ensures { result ≡ is_unchanged since (listed row.now) }
+    ensures { result ≡ is_unchanged since (listed_message row.now) }
 {
     match since {
         None => true,
@@ -79,7 +79,7 @@ fn is_unchanged(since: Option<u64>, row: &Row<'_>) -> bool
     }
 }
 
-fn is_taken(since: Option<u64>, rows: &Rows<'_>, view: &Entries, number: u32) -> bool
+fn is_taken(since: Option<u64>, rows: &Rows<'_>, view: &ViewEntries, number: u32) -> bool
     ensures { result ≡ is_taken since (message_at rows.now view.now.items number) }
 {
     match message_at(rows, view, number) {
@@ -88,7 +88,7 @@ fn is_taken(since: Option<u64>, rows: &Rows<'_>, view: &Entries, number: u32) ->
     }
 }
 
-fn is_refused(since: Option<u64>, rows: &Rows<'_>, view: &Entries, number: u32) -> bool
+fn is_refused(since: Option<u64>, rows: &Rows<'_>, view: &ViewEntries, number: u32) -> bool
     ensures { result ≡ is_refused since (message_at rows.now view.now.items number) }
 {
     match message_at(rows, view, number) {
@@ -98,14 +98,14 @@ fn is_refused(since: Option<u64>, rows: &Rows<'_>, view: &Entries, number: u32) 
 }
 
 /// The numbers of the messages that STORE takes.
-fn those_taken(
+fn taken_messages(
     alloc: Global,
     before: &Rows<'_>,
-    view: &Entries,
+    view: &ViewEntries,
     since: Option<u64>,
     numbers: &[u32],
 ) -> Result<Vec<u32>, AllocError>
-    ensures { IfOk result (λ taken. taken.items ≡ those_taken before.now view.now.items since numbers.now) }
+    ensures { IfOk result (λ taken. taken.items ≡ taken_messages before.now view.now.items since numbers.now) }
 {
     let mut taken = Vec::new(alloc);
     for number in numbers {
@@ -117,14 +117,14 @@ fn those_taken(
 }
 
 /// The numbers of the messages that STORE refuses.
-fn those_refused(
+fn refused_messages(
     alloc: Global,
     before: &Rows<'_>,
-    view: &Entries,
+    view: &ViewEntries,
     since: Option<u64>,
     numbers: &[u32],
 ) -> Result<Vec<u32>, AllocError>
-    ensures { IfOk result (λ refused. refused.items ≡ those_refused before.now view.now.items since numbers.now) }
+    ensures { IfOk result (λ refused. refused.items ≡ refused_messages before.now view.now.items since numbers.now) }
 {
     let mut refused = Vec::new(alloc);
     for number in numbers {
@@ -139,7 +139,7 @@ fn those_refused(
 fn stores_of(
     alloc: Global,
     mailbox: &OpenMailbox<'_>,
-    asked: &StoreAsked<'_>,
+    asked: &StoreArgs<'_>,
     numbers: &[u32],
 ) -> Result<Vec<Kind>, AllocError>
     ensures { IfOk result (λ kinds. kinds.items ≡ stores_of mailbox.now asked.now numbers.now) }
@@ -155,7 +155,7 @@ fn stores_of(
 fn push_store(
     alloc: Global,
     mailbox: &OpenMailbox<'_>,
-    asked: &StoreAsked<'_>,
+    asked: &StoreArgs<'_>,
     number: u32,
     kinds: &mut Vec<Kind>,
 ) -> Result<(), AllocError>
@@ -165,7 +165,7 @@ fn push_store(
         return Ok(());
     };
     let old = row.versions.flags(alloc)?;
-    let flags = changed(alloc, asked.action.mode, &old, asked.flags)?;
+    let flags = changed_flags(alloc, asked.action.mode, &old, asked.flags)?;
     if are_same(&flags, &old) {
         return Ok(());
     }
@@ -188,32 +188,32 @@ fn are_same(flags: &Flags, others: &Flags) -> bool
 /// What STORE tells, by the mailbox before it, what it found there, the listing after it and whether CONDSTORE is on: FETCH of each message that it takes, the flags that the
 /// session takes where it is silent, and which messages UNCHANGEDSINCE refused or that some are gone. `Err` where there is no memory. It looks each named message up three times
 /// at most, by binary search.
-pub fn store_tells(
+pub fn store_report(
     alloc: Global,
     mailbox: &OpenMailbox<'_>,
     after: &Rows<'_>,
     condstore: bool,
-    asked: &StoreAsked<'_>,
-    found: &Found,
-) -> Result<Telling, AllocError>
-    requires { found.now ≡ store_found mailbox.now asked.now }
-    ensures { IfOk result (λ told. told ≡ store_tells mailbox.now after.now condstore asked.now) }
+    asked: &StoreArgs<'_>,
+    found: &NamedMessages,
+) -> Result<CommandReport, AllocError>
+    requires { found.now ≡ messages_stored_by mailbox.now asked.now }
+    ensures { IfOk result (λ told. told ≡ store_report mailbox.now after.now condstore asked.now) }
 {
     let before = &mailbox.rows;
     let view = mailbox.view.entries();
     let numbers = found.numbers();
-    let refused = those_refused(alloc, before, view, asked.unchanged_since, numbers)?;
+    let refused = refused_messages(alloc, before, view, asked.unchanged_since, numbers)?;
     let code = store_code(alloc, before, view, asked.by_uid, &refused, numbers)?;
-    let own = stored_answers(alloc, after, view, condstore, asked, found.taken())?;
-    let silent = silents_of(alloc, view, asked, found.taken())?;
-    Ok(Telling::new(own, silent, code))
+    let own = stored_answers(alloc, after, view, condstore, asked, found.stored())?;
+    let silent = silents_of(alloc, view, asked, found.stored())?;
+    Ok(CommandReport::new(own, silent, code))
 }
 
 /// The code of a STORE that names messages with these numbers: which it refused, and else whether some are gone.
 fn store_code(
     alloc: Global,
     before: &Rows<'_>,
-    view: &Entries,
+    view: &ViewEntries,
     by_uid: bool,
     refused: &[u32],
     numbers: &[u32],
@@ -234,21 +234,21 @@ fn store_code(
 fn stored_answers(
     alloc: Global,
     after: &Rows<'_>,
-    view: &Entries,
+    view: &ViewEntries,
     condstore: bool,
-    asked: &StoreAsked<'_>,
+    asked: &StoreArgs<'_>,
     taken: &[u32],
 ) -> Result<Vec<Answer>, AllocError>
     ensures { IfOk result (λ answers. answers.items ≡ stored_answers after.now view.now.items condstore asked.now taken.now) }
 {
-    if is_untold(asked.action.silent, asked.unchanged_since) {
+    if answers_nothing(asked.action.silent, asked.unchanged_since) {
         return Ok(Vec::new(alloc));
     }
     answers_of(alloc, after, view, condstore, asked, taken)
 }
 
 /// Whether nothing is told of the messages.
-fn is_untold(silent: bool, since: Option<u64>) -> bool
+fn answers_nothing(silent: bool, since: Option<u64>) -> bool
     ensures { result ≡ (silent && not (is_some since)) }
 {
     silent && !since.is_some()
@@ -258,9 +258,9 @@ fn is_untold(silent: bool, since: Option<u64>) -> bool
 fn answers_of(
     alloc: Global,
     after: &Rows<'_>,
-    view: &Entries,
+    view: &ViewEntries,
     condstore: bool,
-    asked: &StoreAsked<'_>,
+    asked: &StoreArgs<'_>,
     taken: &[u32],
 ) -> Result<Vec<Answer>, AllocError>
     ensures { IfOk result (λ answers. answers.items ≡ flat_map (λ n. stored_answer condstore asked.now n (message_at after.now view.now.items n)) taken.now) }
@@ -278,12 +278,12 @@ fn answers_of(
 fn push_answer(
     alloc: Global,
     condstore: bool,
-    asked: &StoreAsked<'_>,
+    asked: &StoreArgs<'_>,
     number: u32,
     row: &Row<'_>,
     answers: &mut Vec<Answer>,
 ) -> Result<(), AllocError>
-    ensures { OnOk result (answers.new.items ≡ answers.old.items ++ stored_answer condstore asked.now number (Some (listed row.now))) }
+    ensures { OnOk result (answers.new.items ≡ answers.old.items ++ stored_answer condstore asked.now number (Some (listed_message row.now))) }
 {
     let flags = flags_where(alloc, !asked.action.silent, &row.versions)?;
     let with_modseq = asked.unchanged_since.is_some() || condstore;
@@ -307,7 +307,7 @@ fn flags_where(
     told: bool,
     versions: &Versions<'_>,
 ) -> Result<Option<Flags>, AllocError>
-    ensures { IfOk result (λ flags. flags ≡ where_told told (united versions.now.list.now)) }
+    ensures { IfOk result (λ flags. flags ≡ if_told told (united_flags versions.now.list.now)) }
 {
     if !told {
         return Ok(None);
@@ -318,10 +318,10 @@ fn flags_where(
 /// The flags that a session takes where STORE is silent.
 fn silents_of(
     alloc: Global,
-    view: &Entries,
-    asked: &StoreAsked<'_>,
+    view: &ViewEntries,
+    asked: &StoreArgs<'_>,
     taken: &[u32],
-) -> Result<Vec<Silent>, AllocError>
+) -> Result<Vec<SilentFlags>, AllocError>
     ensures { IfOk result (λ silents. silents.items ≡ silents_of view.now.items asked.now taken.now) }
 {
     if !asked.action.silent {
@@ -332,10 +332,10 @@ fn silents_of(
 
 fn silents(
     alloc: Global,
-    view: &Entries,
-    asked: &StoreAsked<'_>,
+    view: &ViewEntries,
+    asked: &StoreArgs<'_>,
     taken: &[u32],
-) -> Result<Vec<Silent>, AllocError>
+) -> Result<Vec<SilentFlags>, AllocError>
     ensures { IfOk result (λ silents. silents.items ≡ flat_map (λ n. silent_at asked.now.action.mode asked.now.flags n (entry_at view.now.items n)) taken.now) }
 {
     let mut silents = Vec::new(alloc);
@@ -348,19 +348,19 @@ fn silents(
 /// Adds the view's own flags of a message, changed as asked.
 fn push_silent(
     alloc: Global,
-    view: &Entries,
-    asked: &StoreAsked<'_>,
+    view: &ViewEntries,
+    asked: &StoreArgs<'_>,
     number: u32,
-    silents: &mut Vec<Silent>,
+    silents: &mut Vec<SilentFlags>,
 ) -> Result<(), AllocError>
     ensures { OnOk result (silents.new.items ≡ silents.old.items ++ silent_at asked.now.action.mode asked.now.flags number (entry_at view.now.items number)) }
 {
     let Some(entry) = entry_at(view, number) else {
         return Ok(());
     };
-    silents.push(Silent {
+    silents.push(SilentFlags {
         number,
-        flags: changed(alloc, asked.action.mode, &entry.flags, asked.flags)?,
+        flags: changed_flags(alloc, asked.action.mode, &entry.flags, asked.flags)?,
     })?;
     Ok(())
 }

@@ -19,9 +19,9 @@ use Rattle.imap_grammar.proofs.ItemLaws.{fetched_reads}
 use Rattle.imap_grammar.proofs.ModifierLaws.{modifier_reads}
 use Rattle.imap_syntax.specs.Strings.{astring, begins, is_in, mailbox, pattern, run}
 use Rattle.std.specs.List.{list_all}
-use Rattle.imap_types.specs.Keywords.{lowered}
+use Rattle.imap_types.specs.Keywords.{to_lower_case}
 use Rattle.imap_syntax.specs.Words.{command_word, uid_words, status_word, status_items, mode_word, store_actions, store_word}
-use Rattle.imap_syntax.specs.declared.class.Class.TheVariants.{Astring, Atom, Item, Pattern}
+use Rattle.imap_syntax.specs.declared.octet_class.OctetClass.TheVariants.{Astring, Atom, Item, Pattern}
 use Rattle.imap_syntax.specs.declared.command.Command.{Command}
 use Rattle.imap_syntax.specs.declared.command.Command.TheVariants as commands
 use Rattle.imap_syntax.specs.declared.word.CommandWord.{CommandWord}
@@ -149,7 +149,7 @@ store_found store.Add true = refl
 store_found store.Remove false = refl
 store_found store.Remove true = refl
 
-store_letters : (mode : StoreMode) (silent : Bool) → (list_all (is_in Item) (lowered (mode_word mode silent)) ≡ true) × (is_nil (lowered (mode_word mode silent)) ≡ false)
+store_letters : (mode : StoreMode) (silent : Bool) → (list_all (is_in Item) (to_lower_case (mode_word mode silent)) ≡ true) × (is_nil (to_lower_case (mode_word mode silent)) ≡ false)
 store_letters store.Replace false = (refl, refl)
 store_letters store.Replace true = (refl, refl)
 store_letters store.Add false = (refl, refl)
@@ -212,7 +212,7 @@ uid_found octets x h =
     let front = joined sp (word (command_word a.0.0)) octets s.0 a.0.1 (after_takes (32 ∷ []) octets s.0 s.1) (named_at_takes command_word uid_words s.0 a.0 s.2) in
     (t.0, t.1 octets front)
 
-own_again : (own : CommandWord) (octets mid : List ℕ) → named command_word uid_words (command_word own) ≡ Some own → list_all (is_in Item) (lowered (command_word own)) ≡ true → Front (sp ⌢ word (command_word own)) octets mid → Ends mid
+own_again : (own : CommandWord) (octets mid : List ℕ) → named command_word uid_words (command_word own) ≡ Some own → list_all (is_in Item) (to_lower_case (command_word own)) ≡ true → Front (sp ⌢ word (command_word own)) octets mid → Ends mid
     → uid_at octets ≡ uid_arguments_at own mid
 own_again own octets mid e l f s =
     let p = parted sp (word (command_word own)) octets mid f in
@@ -259,7 +259,7 @@ copy_front false own octets rest Q f = sp_ends Q octets rest (without_nothing _ 
 
 -- The command takes message numbers or UIDs, and its parts are read in either case.
 either_again : {A : Type 0} {read : List ℕ → Option (A × List ℕ)} {form : A → List ℕ → Type 0} (reads : Reads read form Closes) (make : Bool → A → Command) (own : CommandWord) (value : A)
-    → named command_word uid_words (command_word own) ≡ Some own → list_all (is_in Item) (lowered (command_word own)) ≡ true
+    → named command_word uid_words (command_word own) ≡ Some own → list_all (is_in Item) (to_lower_case (command_word own)) ≡ true
     → ((octets : List ℕ) → uid_arguments_at own octets ≡ made (make true) read octets) → ((octets : List ℕ) → arguments_at own octets ≡ made (make false) read octets)
     → ((octets rest : List ℕ) → Front (form value) octets rest → Ends octets)
     → (by_uid : Bool) (octets rest : List ℕ) → Front (own_word by_uid own ⌢ form value) octets rest → Closes rest → arguments_at (first_word by_uid own) octets ≡ Some (make by_uid value, rest)

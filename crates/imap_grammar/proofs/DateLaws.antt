@@ -10,7 +10,7 @@ use Rattle.imap_grammar.specs.Reading.{after, before, date_at, date_parts_at, da
 use Rattle.imap_syntax.specs.Faults.{begins_in}
 use Rattle.imap_syntax.specs.Languages.{◌⌢◌}
 use Rattle.imap_syntax.specs.Strings.{begins, is_in, number_of, run}
-use Rattle.imap_syntax.specs.declared.class.Class.TheVariants.{Digit}
+use Rattle.imap_syntax.specs.declared.octet_class.OctetClass.TheVariants.{Digit}
 use Rattle.imap_grammar.proofs.DateTimeLaws.{date_from, date_to}
 use Rattle.imap_grammar.proofs.Fronts.{Ends, Front, Reads, after_again, after_takes, bind_some, both_reads, chosen, exactly_is, guarded, joined, made_reads, parted, some_is}
 use Rattle.imap_grammar.proofs.SetLaws.{NoDigit}

@@ -3,13 +3,13 @@ use Rattle.std.proofs.Common.{◌≡◌, ℕ, true, false, cond, List, [], ◌�
 use Rattle.std.proofs.lemmas.Bool.{and_parts, eqb-true}
 use Rattle.std.proofs.lemmas.Bool.Decides.{nat_tests}
 use Rattle.std.specs.List.{list_all}
-use Rattle.imap_types.specs.Keywords.{lowered, is_atom_octet}
+use Rattle.imap_types.specs.Keywords.{to_lower_case, is_atom_octet}
 use Rattle.imap_syntax.specs.Languages.{exactly, sp, word, listed, maybe_listed}
 use Rattle.imap_syntax.specs.MessageFlags.{flag, flag_group, stored, stored_texts}
 use Rattle.imap_grammar.specs.Reading.{flag_at, flag_group_at, flags_of, listed_at, made, maybe_flags_at, named, named_at, no_flags, run_at, stored_at, stored_texts_at, ◌>>=◌}
 use Rattle.imap_syntax.specs.Strings.{begins, is_in, run}
 use Rattle.imap_syntax.specs.Words.{system_flags, system_word}
-use Rattle.imap_syntax.specs.declared.class.Class.TheVariants.{Atom, Item}
+use Rattle.imap_syntax.specs.declared.octet_class.OctetClass.TheVariants.{Atom, Item}
 use Rattle.imap_syntax.specs.declared.flags.Flag.{Flag}
 use Rattle.imap_syntax.specs.declared.flags.Flag.TheVariants.{System, Keyword}
 use Rattle.imap_syntax.specs.declared.flags.SystemFlag.{SystemFlag}
@@ -27,7 +27,7 @@ system_found system.Deleted = refl
 system_found system.Seen = refl
 system_found system.Draft = refl
 
-system_letters : (w : SystemFlag) → list_all (is_in Item) (lowered (system_word w)) ≡ true
+system_letters : (w : SystemFlag) → list_all (is_in Item) (to_lower_case (system_word w)) ≡ true
 system_letters system.Answered = refl
 system_letters system.Flagged = refl
 system_letters system.Deleted = refl

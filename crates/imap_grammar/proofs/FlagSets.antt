@@ -9,8 +9,8 @@ use Rattle.std.specs.Ordering.{match_ordering}
 use Rattle.std.specs.Str.{bytes_eq}
 use Rattle.std.specs.declared.cmp.Ordering.{Ordering}
 use Rattle.std.specs.declared.cmp.Ordering.TheVariants.{Less, Equal, Greater}
-use Rattle.imap_types.specs.Ascending.{AreAscending, ComesBefore, compared}
-use Rattle.imap_types.specs.Keywords.{AreKeywords, lowered, with_text}
+use Rattle.imap_types.specs.Ascending.{AreAscending, ComesBefore, octet_order}
+use Rattle.imap_types.specs.Keywords.{AreKeywords, to_lower_case, with_word}
 use Rattle.imap_types.specs.declared.flags.Flags.{Flags}
 use Rattle.imap_types.proofs.KeywordLemmas.{keywords_with}
 use Rattle.imap_syntax.specs.MessageFlags.{AreWritten, is_keyword, is_system}
@@ -91,17 +91,17 @@ system_all known (one ∷ more) flags =
 abbrev holds : List (List ℕ) → List ℕ → Bool
 holds words word = list_any (bytes_eq word) words
 
-same_word : (w v : List ℕ) → compared w v ≡ Equal → w ≡ v
+same_word : (w v : List ℕ) → octet_order w v ≡ Equal → w ≡ v
 same_word w v e = slice_cmp-IsAntisymmetric nat_cmp-IsAntisymmetric w v e
 
-holds_step : (x w v : List ℕ) (vs rest : List (List ℕ)) (o : Ordering) → compared w v ≡ o → holds rest x ≡ (bytes_eq x w || holds vs x) → holds (match_ordering o (w ∷ v ∷ vs) (v ∷ vs) (v ∷ rest)) x ≡ (bytes_eq x w || (bytes_eq x v || holds vs x))
+holds_step : (x w v : List ℕ) (vs rest : List (List ℕ)) (o : Ordering) → octet_order w v ≡ o → holds rest x ≡ (bytes_eq x w || holds vs x) → holds (match_ordering o (w ∷ v ∷ vs) (v ∷ vs) (v ∷ rest)) x ≡ (bytes_eq x w || (bytes_eq x v || holds vs x))
 holds_step x w v vs rest Less e h = refl
 holds_step x w v vs rest Equal e h = sym (ap (λ (u : List ℕ). bytes_eq x u || (bytes_eq x v || holds vs x)) (same_word w v e) ∙ or_twice (bytes_eq x v) (holds vs x))
 holds_step x w v vs rest Greater e h = ap (λ (b : Bool). bytes_eq x v || b) h ∙ or_turned (bytes_eq x w) (bytes_eq x v) (holds vs x)
 
-holds_with : (x w : List ℕ) (vs : List (List ℕ)) → holds (with_text w vs) x ≡ (bytes_eq x w || holds vs x)
+holds_with : (x w : List ℕ) (vs : List (List ℕ)) → holds (with_word w vs) x ≡ (bytes_eq x w || holds vs x)
 holds_with x w [] = refl
-holds_with x w (v ∷ vs) = holds_step x w v vs (with_text w vs) (compared w v) refl (holds_with x w vs)
+holds_with x w (v ∷ vs) = holds_step x w v vs (with_word w vs) (octet_order w v) refl (holds_with x w vs)
 
 keyword_more : (x : List ℕ) (one : Flag) (flags : Flags) → holds (with_flag flags one).keywords x ≡ (is_keyword x one || holds flags.keywords x)
 keyword_more x (System Answered) flags = refl
@@ -109,7 +109,7 @@ keyword_more x (System Flagged) flags = refl
 keyword_more x (System Deleted) flags = refl
 keyword_more x (System Seen) flags = refl
 keyword_more x (System Draft) flags = refl
-keyword_more x (Keyword keyword) flags = holds_with x (lowered keyword) flags.keywords
+keyword_more x (Keyword keyword) flags = holds_with x (to_lower_case keyword) flags.keywords
 
 keyword_all : (x : List ℕ) (written : List Flag) (flags : Flags) → holds (flags_of flags written).keywords x ≡ (holds flags.keywords x || list_any (is_keyword x) written)
 keyword_all x [] flags = sym (or_none (holds flags.keywords x))

@@ -8,7 +8,7 @@ use Rattle.imap_grammar.specs.Reading.{Gives, after, is_nil, named, run_at, span
 use Rattle.imap_grammar.specs.CommandReading.{AnswersTag, AnswersWord, arguments_at, ended_at, tag_at, tagged_at, word_at}
 use Rattle.imap_syntax.specs.Strings.{is_in, run}
 use Rattle.imap_syntax.specs.Words.{command_word, command_words}
-use Rattle.imap_syntax.specs.declared.class.Class.TheVariants.{Tag, Atom}
+use Rattle.imap_syntax.specs.declared.octet_class.OctetClass.TheVariants.{Tag, Atom}
 use Rattle.imap_syntax.specs.declared.command.Command.{Command}
 use Rattle.imap_syntax.specs.declared.command.Tagged.{Tagged}
 use Rattle.imap_grammar.specs.declared.fault.ParseFault.{ParseFault}

@@ -5,7 +5,7 @@ use Rattle.std.proofs.lemmas.Bool.Decides.{nat_tests}
 use Rattle.std.proofs.lemmas.Slice.Eq.{bytes_eq-Decides}
 use Rattle.std.specs.List.{list_all}
 use Rattle.std.specs.Str.{bytes_eq}
-use Rattle.imap_types.specs.Keywords.{lowered}
+use Rattle.imap_types.specs.Keywords.{to_lower_case}
 use Rattle.imap_types.specs.declared.section.Section.{Section}
 use Rattle.imap_types.specs.declared.section.Section.TheVariants.{Whole, Header, Text, Fields, FieldsNot}
 use Rattle.imap_syntax.specs.Faults.{begins_in}
@@ -14,7 +14,7 @@ use Rattle.imap_syntax.specs.Languages.{◌⌢◌, exactly, nothing, sp, word, i
 use Rattle.imap_grammar.specs.Reading.{after, alone_at, before, body_at, both, bracketed_at, fetched_at, field_names_at, is_nil, item_at, item_behind_at, listed_at, made, named, named_at, number_at, nz_at, parens_at, partial_at, section_at, section_behind_at, span, ◌>>=◌}
 use Rattle.imap_syntax.specs.Strings.{begins, is_in, is_pattern_octet, number_to, nz}
 use Rattle.imap_syntax.specs.Words.{fetch_word, fetch_words, section_word, section_words}
-use Rattle.imap_syntax.specs.declared.class.Class.TheVariants.{Astring, Digit, Item}
+use Rattle.imap_syntax.specs.declared.octet_class.OctetClass.TheVariants.{Astring, Digit, Item}
 use Rattle.imap_syntax.specs.declared.fetch.FetchItem.{FetchItem}
 use Rattle.imap_syntax.specs.declared.fetch.FetchItem.TheVariants as items
 use Rattle.imap_syntax.specs.declared.fetch.FetchWord.{FetchWord}
@@ -37,7 +37,7 @@ section_found sections.Text = refl
 section_found sections.Fields = refl
 section_found sections.FieldsNot = refl
 
-section_letters : (w : SectionWord) → list_all (is_in Item) (lowered (section_word w)) ≡ true
+section_letters : (w : SectionWord) → list_all (is_in Item) (to_lower_case (section_word w)) ≡ true
 section_letters sections.Header = refl
 section_letters sections.Text = refl
 section_letters sections.Fields = refl
@@ -161,7 +161,7 @@ fetch_found words.ModSeq = refl
 fetch_found words.Body = refl
 fetch_found words.BodyPeek = refl
 
-fetch_letters : (w : FetchWord) → list_all (is_in Item) (lowered (fetch_word w)) ≡ true
+fetch_letters : (w : FetchWord) → list_all (is_in Item) (to_lower_case (fetch_word w)) ≡ true
 fetch_letters words.Flags = refl
 fetch_letters words.InternalDate = refl
 fetch_letters words.Size = refl
@@ -170,7 +170,7 @@ fetch_letters words.ModSeq = refl
 fetch_letters words.Body = refl
 fetch_letters words.BodyPeek = refl
 
-fetch_some : (w : FetchWord) → is_nil (lowered (fetch_word w)) ≡ false
+fetch_some : (w : FetchWord) → is_nil (to_lower_case (fetch_word w)) ≡ false
 fetch_some words.Flags = refl
 fetch_some words.InternalDate = refl
 fetch_some words.Size = refl
@@ -179,7 +179,7 @@ fetch_some words.ModSeq = refl
 fetch_some words.Body = refl
 fetch_some words.BodyPeek = refl
 
-not_fast : (w : FetchWord) → bytes_eq (lowered (fetch_word w)) (lowered (codes "FAST")) ≡ false
+not_fast : (w : FetchWord) → bytes_eq (to_lower_case (fetch_word w)) (to_lower_case (codes "FAST")) ≡ false
 not_fast words.Flags = refl
 not_fast words.InternalDate = refl
 not_fast words.Size = refl
@@ -249,7 +249,7 @@ list_reads = listed_reads 32 item_reads Closes closes_no_space closes_ends (λ o
 
 alone_takes : (octets : List ℕ) (x : List FetchItem × List ℕ) → alone_at octets ≡ Some x → Front (fetched x.0) octets x.1
 alone_takes octets x h =
-    elim (chosen (bytes_eq (lowered (span (is_in Item) octets).0) (lowered (codes "FAST"))) (Some (fast_items, (span (is_in Item) octets).1)) (made (λ item. item ∷ []) item_at octets) (Some x) h) [
+    elim (chosen (bytes_eq (to_lower_case (span (is_in Item) octets).0) (to_lower_case (codes "FAST"))) (Some (fast_items, (span (is_in Item) octets).1)) (made (λ item. item ∷ []) item_at octets) (Some x) h) [
       | inl t ↦
           subst (λ (y : List FetchItem × List ℕ). Front (fetched y.0) octets y.1) (some_is (fast_items, (span (is_in Item) octets).1) x t.1)
           ((span (is_in Item) octets).0, inr (inl ((bytes_eq-Decides _ _).0 t.0, refl)), span_parts (is_in Item) octets)
@@ -278,7 +278,7 @@ no_group (b ∷ bs) h = ap (λ c. cond c (before (listed_at 32 item_at) (after (
 fast_again : (octets rest : List ℕ) → Front (word (codes "FAST")) octets rest → Ends rest → fetched_at octets ≡ Some (fast_items, rest)
 fast_again octets rest f s =
     no_group octets (word_first (codes "FAST") octets rest 40 refl refl refl f)
-    ∙ ap (λ (y : List ℕ × List ℕ). cond (bytes_eq (lowered y.0) (lowered (codes "FAST"))) (Some (fast_items, y.1)) (made (λ item. item ∷ []) item_at octets)) (item_span (codes "FAST") octets rest refl f (ends_item rest s))
+    ∙ ap (λ (y : List ℕ × List ℕ). cond (bytes_eq (to_lower_case y.0) (to_lower_case (codes "FAST"))) (Some (fast_items, y.1)) (made (λ item. item ∷ []) item_at octets)) (item_span (codes "FAST") octets rest refl f (ends_item rest s))
     ∙ ap (λ c. cond c (Some (fast_items, rest)) (made (λ item. item ∷ []) item_at octets)) ((bytes_eq-Decides _ _).1 f.1)
 
 one_again : (it : FetchItem) (octets rest : List ℕ) → Front (fetch_item it) octets rest → Ends rest → fetched_at octets ≡ Some (it ∷ [], rest)
@@ -286,8 +286,8 @@ one_again it octets rest f s =
     let w : FetchWord = item_word it in
     let p = parted (word (fetch_word w)) (item_behind it) octets rest f in
     let cut : span (is_in Item) octets ≡ (p.1.0, p.0) = item_span (fetch_word w) octets p.0 (fetch_letters w) p.1 (item_stop it p.0 rest p.2 s) in
-    let other : bytes_eq (lowered (span (is_in Item) octets).0) (lowered (codes "FAST")) ≡ false =
-    ap (λ (y : List ℕ × List ℕ). bytes_eq (lowered y.0) (lowered (codes "FAST"))) cut ∙ ap (λ t. bytes_eq t (lowered (codes "FAST"))) p.1.1 ∙ not_fast w in
+    let other : bytes_eq (to_lower_case (span (is_in Item) octets).0) (to_lower_case (codes "FAST")) ≡ false =
+    ap (λ (y : List ℕ × List ℕ). bytes_eq (to_lower_case y.0) (to_lower_case (codes "FAST"))) cut ∙ ap (λ t. bytes_eq t (to_lower_case (codes "FAST"))) p.1.1 ∙ not_fast w in
     no_group octets (word_first (fetch_word w) octets p.0 40 (fetch_letters w) (fetch_some w) refl p.1)
     ∙ ap (λ c. cond c (Some (fast_items, (span (is_in Item) octets).1)) (made (λ item. item ∷ []) item_at octets)) other
     ∙ ap (λ r. r >>= λ first. Some (first.0 ∷ [], first.1)) (item_reads.again octets rest it f s)

@@ -6,7 +6,7 @@ use Rattle.std.specs.Char.{to_ascii_lowercase}
 use Rattle.std.specs.List.{list_all}
 use Rattle.std.specs.Str.{bytes_eq}
 use Rattle.imap_types.specs.DateTimes.{is_digit}
-use Rattle.imap_types.specs.Keywords.{lowered}
+use Rattle.imap_types.specs.Keywords.{to_lower_case}
 use Rattle.imap_types.specs.declared.sequence_set.SequenceBound.{SequenceBound}
 use Rattle.imap_types.specs.declared.sequence_set.SequenceBound.TheVariants.{Number, Greatest}
 use Rattle.imap_types.specs.declared.sequence_set.SequenceRange.{SequenceRange}
@@ -19,11 +19,11 @@ use Rattle.imap_syntax.specs.Languages.{◌⌢◌, exactly, never, sp, word, in_
 use Rattle.imap_grammar.specs.Reading.{after, and_more, before, both, date_at, is_nil, listed_at, made, more_at, named, named_at, next_at, number_at, run_at, set_at, spaced, text_at, ◌>>=◌}
 use Rattle.imap_syntax.specs.Sets.{bound, range, sequence_set}
 use Rattle.imap_syntax.specs.Strings.{astring, begins, is_in, number_to, run}
-use Rattle.imap_syntax.specs.declared.class.Class.TheVariants.{Astring, Atom, Digit, Item}
+use Rattle.imap_syntax.specs.declared.octet_class.OctetClass.TheVariants.{Astring, Atom, Digit, Item}
 use Rattle.imap_syntax.specs.declared.flags.SystemFlag.TheVariants as system
-use Rattle.imap_syntax.specs.declared.search.DayOrder.TheVariants as order
-use Rattle.imap_syntax.specs.declared.search.KeyWord.{KeyWord}
-use Rattle.imap_syntax.specs.declared.search.KeyWord.TheVariants as key
+use Rattle.imap_syntax.specs.declared.search.DateRelation.TheVariants as order
+use Rattle.imap_syntax.specs.declared.search.SearchKeyWord.{SearchKeyWord}
+use Rattle.imap_syntax.specs.declared.search.SearchKeyWord.TheVariants as key
 use Rattle.imap_syntax.specs.declared.search.SearchStep.{SearchStep}
 use Rattle.imap_syntax.specs.declared.search.SearchStep.TheVariants.{Test, Not, Or, And}
 use Rattle.imap_syntax.specs.declared.search.SearchTest.{SearchTest}
@@ -38,16 +38,16 @@ use Rattle.imap_grammar.proofs.Texts.{text_reads}
 use Rattle.imap_grammar.proofs.WordLaws.{NoItem, ends_item, named_at_again, named_at_takes, word_first}
 
 -- A key's word is found among those of all keys, its letters are those of words, and it can't be taken for a set of numbers, nor for what may stand in front of keys.
-abbrev IsKeyWord : KeyWord → Type 0
+abbrev IsKeyWord : SearchKeyWord → Type 0
 IsKeyWord w =
     (named key_word key_words (key_word w) ≡ Some w)
-    × (list_all (is_in Item) (lowered (key_word w)) ≡ true)
-    × (is_nil (lowered (key_word w)) ≡ false)
-    × (begins_in Digit (lowered (key_word w)) ≡ false)
-    × (bytes_eq (lowered (key_word w)) (lowered (codes "RETURN")) ≡ false)
-    × (bytes_eq (lowered (key_word w)) (lowered (codes "CHARSET")) ≡ false)
+    × (list_all (is_in Item) (to_lower_case (key_word w)) ≡ true)
+    × (is_nil (to_lower_case (key_word w)) ≡ false)
+    × (begins_in Digit (to_lower_case (key_word w)) ≡ false)
+    × (bytes_eq (to_lower_case (key_word w)) (to_lower_case (codes "RETURN")) ≡ false)
+    × (bytes_eq (to_lower_case (key_word w)) (to_lower_case (codes "CHARSET")) ≡ false)
 
-is_key_word : (w : KeyWord) → IsKeyWord w
+is_key_word : (w : SearchKeyWord) → IsKeyWord w
 is_key_word key.All = (refl, refl, refl, refl, refl, refl)
 is_key_word (key.System system.Answered true) = (refl, refl, refl, refl, refl, refl)
 is_key_word (key.System system.Answered false) = (refl, refl, refl, refl, refl, refl)
@@ -79,22 +79,22 @@ is_key_word key.Uid = (refl, refl, refl, refl, refl, refl)
 is_key_word key.Not = (refl, refl, refl, refl, refl, refl)
 is_key_word key.Or = (refl, refl, refl, refl, refl, refl)
 
-pub key_found : (w : KeyWord) → named key_word key_words (key_word w) ≡ Some w
+pub key_found : (w : SearchKeyWord) → named key_word key_words (key_word w) ≡ Some w
 key_found w = (is_key_word w).0
 
-pub key_letters : (w : KeyWord) → list_all (is_in Item) (lowered (key_word w)) ≡ true
+pub key_letters : (w : SearchKeyWord) → list_all (is_in Item) (to_lower_case (key_word w)) ≡ true
 key_letters w = (is_key_word w).1
 
-pub key_some : (w : KeyWord) → is_nil (lowered (key_word w)) ≡ false
+pub key_some : (w : SearchKeyWord) → is_nil (to_lower_case (key_word w)) ≡ false
 key_some w = (is_key_word w).2
 
-pub key_no_digit : (w : KeyWord) → begins_in Digit (lowered (key_word w)) ≡ false
+pub key_no_digit : (w : SearchKeyWord) → begins_in Digit (to_lower_case (key_word w)) ≡ false
 key_no_digit w = (is_key_word w).3
 
-pub key_no_return : (w : KeyWord) → bytes_eq (lowered (key_word w)) (lowered (codes "RETURN")) ≡ false
+pub key_no_return : (w : SearchKeyWord) → bytes_eq (to_lower_case (key_word w)) (to_lower_case (codes "RETURN")) ≡ false
 key_no_return w = (is_key_word w).4
 
-pub key_no_charset : (w : KeyWord) → bytes_eq (lowered (key_word w)) (lowered (codes "CHARSET")) ≡ false
+pub key_no_charset : (w : SearchKeyWord) → bytes_eq (to_lower_case (key_word w)) (to_lower_case (codes "CHARSET")) ≡ false
 key_no_charset w = (is_key_word w).5
 
 sizes_reads : Reads (spaced (number_at 9223372036854775807)) (λ value. sp ⌢ number_to 9223372036854775807 value) Ends
@@ -117,14 +117,14 @@ sets_reads = spaced_reads set_reads
 
 -- ---- Tests.
 
-test_by : {A : Type 0} {read : List ℕ → Option (A × List ℕ)} {form : A → List ℕ → Type 0} (reads : Reads read form Ends) (make : A → SearchTest) (w : KeyWord)
+test_by : {A : Type 0} {read : List ℕ → Option (A × List ℕ)} {form : A → List ℕ → Type 0} (reads : Reads read form Ends) (make : A → SearchTest) (w : SearchKeyWord)
     → ((value : A) (text : List ℕ) → (word (key_word w) ⌢ form value) text → test (make value) text) → (octets mid : List ℕ) (x : SearchTest × List ℕ) → Front (word (key_word w)) octets mid → made make read mid ≡ Some x → Front (test x.0) octets x.1
 test_by {A} {read} {form} reads make w there octets mid x f h =
     let a = bind_some (read mid) _ x h in
     let j = joined (word (key_word w)) (form a.0.0) octets mid a.0.1 f (reads.takes mid a.0 a.1) in
     subst (λ (y : SearchTest × List ℕ). Front (test y.0) octets y.1) (some_is (make a.0.0, a.0.1) x a.2) (j.0, there a.0.0 j.0 j.1, j.2)
 
-leaf_takes : (w : KeyWord) (octets mid : List ℕ) (x : SearchTest × List ℕ) → Front (word (key_word w)) octets mid → leaf_at w mid ≡ Some x → Front (test x.0) octets x.1
+leaf_takes : (w : SearchKeyWord) (octets mid : List ℕ) (x : SearchTest × List ℕ) → Front (word (key_word w)) octets mid → leaf_at w mid ≡ Some x → Front (test x.0) octets x.1
 leaf_takes key.All octets mid x f h = subst (λ (y : SearchTest × List ℕ). Front (test y.0) octets y.1) (some_is (tests.All, mid) x h) f
 leaf_takes (key.System flag is_set) octets mid x f h = subst (λ (y : SearchTest × List ℕ). Front (test y.0) octets y.1) (some_is (tests.System flag is_set, mid) x h) f
 leaf_takes (key.Keyword is_set) octets mid x f h = test_by keyword_reads (λ keyword. tests.Keyword keyword is_set) (key.Keyword is_set) (λ value text t. t) octets mid x f h
@@ -141,7 +141,7 @@ leaf_takes key.Or octets mid x f h = absurd cc
 digit_same : (b : ℕ) → is_digit (to_ascii_lowercase b) ≡ is_digit b
 digit_same b = grind (arith, nat_tests)
 
-no_digit : (letters text octets rest : List ℕ) → begins_in Digit (lowered letters) ≡ false → is_nil (lowered letters) ≡ false → word letters text → octets ≡ text ++ rest → begins_in Digit octets ≡ false
+no_digit : (letters text octets rest : List ℕ) → begins_in Digit (to_lower_case letters) ≡ false → is_nil (to_lower_case letters) ≡ false → word letters text → octets ≡ text ++ rest → begins_in Digit octets ≡ false
 no_digit letters [] octets rest h n w e = absurd (let k : true ≡ false = ap is_nil w ∙ n in cc)
 no_digit letters (b ∷ text) octets rest h n w e = ap (begins_in Digit) e ∙ sym (digit_same b) ∙ ap (begins_in Digit) w ∙ h
 
@@ -238,7 +238,7 @@ module _ {inner : List ℕ → Option (List SearchStep × List ℕ)} {form : Lis
 
   -- ---- What is read.
 
-  worded_takes : (w : KeyWord) (octets mid : List ℕ) (x : List SearchStep × List ℕ) → Front (word (key_word w)) octets mid → made (λ test. Test test ∷ []) (leaf_at w) mid ≡ Some x → Front (key_over form x.0) octets x.1
+  worded_takes : (w : SearchKeyWord) (octets mid : List ℕ) (x : List SearchStep × List ℕ) → Front (word (key_word w)) octets mid → made (λ test. Test test ∷ []) (leaf_at w) mid ≡ Some x → Front (key_over form x.0) octets x.1
   worded_takes w octets mid x f h =
       let a = bind_some (leaf_at w mid) _ x h in
       let t = leaf_takes w octets mid a.0 f a.1 in
@@ -256,7 +256,7 @@ module _ {inner : List ℕ → Option (List SearchStep × List ℕ)} {form : Lis
       let j = joined (word (key_word key.Or)) (sp ⌢ form a.0.0.0 ⌢ sp ⌢ form a.0.0.1) octets mid a.0.1 f (two_reads.takes mid a.0 a.1) in
       subst (λ (y : List SearchStep × List ℕ). Front (key_over form y.0) octets y.1) (some_is (a.0.0.0 ++ a.0.0.1 ++ Or ∷ [], a.0.1) x a.2) (j.0, inr (inr (inl (a.0.0.0, a.0.0.1, j.1, refl))), j.2)
 
-  any_takes : (w : KeyWord) (octets mid : List ℕ) (x : List SearchStep × List ℕ) → Front (word (key_word w)) octets mid → worded_at inner w mid ≡ Some x → Front (key_over form x.0) octets x.1
+  any_takes : (w : SearchKeyWord) (octets mid : List ℕ) (x : List SearchStep × List ℕ) → Front (word (key_word w)) octets mid → worded_at inner w mid ≡ Some x → Front (key_over form x.0) octets x.1
   any_takes key.Not octets mid x f h = not_takes octets mid x f h
   any_takes key.Or octets mid x f h = or_takes octets mid x f h
   any_takes key.All octets mid x f h = worded_takes key.All octets mid x f h
@@ -308,7 +308,7 @@ module _ {inner : List ℕ → Option (List SearchStep × List ℕ)} {form : Lis
       ∙ ap (λ c. cond (c || (eqb b 42)) (numbers_at (b ∷ bs)) (by_word (b ∷ bs))) i
       ∙ ap (λ c. cond c (numbers_at (b ∷ bs)) (by_word (b ∷ bs))) j
 
-  word_level : (w : KeyWord) (octets mid : List ℕ) → Front (word (key_word w)) octets mid → NoItem mid → level_at inner octets ≡ worded_at inner w mid
+  word_level : (w : SearchKeyWord) (octets mid : List ℕ) → Front (word (key_word w)) octets mid → NoItem mid → level_at inner octets ≡ worded_at inner w mid
   word_level w octets mid f s =
       no_forms octets (word_first (key_word w) octets mid 40 (key_letters w) (key_some w) refl f) (no_digit (key_word w) f.0 octets mid (key_no_digit w) (key_some w) f.1 f.2) (word_first (key_word w) octets mid 42 (key_letters w) (key_some w) refl f)
       ∙ ap (λ r. r >>= λ found. worded_at inner found.0 found.1) (named_at_again key_word key_words w octets mid (key_found w) (key_letters w) f s)
@@ -319,7 +319,7 @@ module _ {inner : List ℕ → Option (List SearchStep × List ℕ)} {form : Lis
       ap (λ c. cond c (before (keys_at inner) (after (41 ∷ [])) bs) (cond (is_in Digit b || (eqb b 42)) (numbers_at (b ∷ bs)) (by_word (b ∷ bs)))) h
       ∙ ap (λ c. cond c (numbers_at (b ∷ bs)) (by_word (b ∷ bs))) i
 
-  test_from : {A : Type 0} {read : List ℕ → Option (A × List ℕ)} {part : A → List ℕ → Type 0} (parts : Reads read part Ends) (make : A → SearchTest) (w : KeyWord) → ((o : List ℕ) → worded_at inner w o ≡ wrap (made make read o))
+  test_from : {A : Type 0} {read : List ℕ → Option (A × List ℕ)} {part : A → List ℕ → Type 0} (parts : Reads read part Ends) (make : A → SearchTest) (w : SearchKeyWord) → ((o : List ℕ) → worded_at inner w o ≡ wrap (made make read o))
       → ((value : A) (o rest : List ℕ) → Front (part value) o rest → Ends o) → (value : A) (octets rest : List ℕ) → Front (word (key_word w) ⌢ part value) octets rest → Ends rest → level_at inner octets ≡ Some (Test (make value) ∷ [], rest)
   test_from {A} {read} {part} parts make w same ends value octets rest f s =
       let p = parted (word (key_word w)) (part value) octets rest f in

@@ -10,7 +10,7 @@ use Rattle.imap_syntax.specs.Languages.{◌⌢◌, exactly, nothing, sp, word}
 use Rattle.imap_grammar.specs.Reading.{◌>>=◌, after, after_word, before, spaced}
 use Rattle.imap_grammar.specs.CommandReading.{options_at, options_inner_at, returns_at, selection_at}
 use Rattle.imap_syntax.specs.Strings.{astring, begins, is_in, run}
-use Rattle.imap_syntax.specs.declared.class.Class.TheVariants.{Astring, Item}
+use Rattle.imap_syntax.specs.declared.octet_class.OctetClass.TheVariants.{Astring, Item}
 use Rattle.imap_grammar.proofs.Fronts.{Closes, Ends, Front, Reads, after_again, after_takes, bind_some, chosen, closes_ends, closes_no_space, exactly_is, front_begins, joined, parted, some_is, sp_ends, spaced_reads}
 use Rattle.imap_grammar.proofs.WordLaws.{after_word_again, after_word_takes, ends_item, word_first}
 

@@ -1,18 +1,18 @@
 -- Modifiers with their mod-sequence.
 use Rattle.std.proofs.Common.{◌≡◌, ℕ, true, false, List, ap, ◌∙◌}
 use Rattle.std.specs.List.{list_all}
-use Rattle.imap_types.specs.Keywords.{lowered}
+use Rattle.imap_types.specs.Keywords.{to_lower_case}
 use Rattle.imap_syntax.specs.Commands.{modifier}
 use Rattle.imap_syntax.specs.Languages.{◌⌢◌, sp, word, optional}
 use Rattle.imap_grammar.specs.Reading.{◌>>=◌, after_word, modifier_at, modifier_group_at, number_at, peeks, spaced}
 use Rattle.imap_syntax.specs.Strings.{is_in, number_to}
-use Rattle.imap_syntax.specs.declared.class.Class.TheVariants.{Digit, Item}
+use Rattle.imap_syntax.specs.declared.octet_class.OctetClass.TheVariants.{Digit, Item}
 use Rattle.imap_grammar.proofs.Fronts.{Closes, Reads, bind_some, closes_ends, front_begins, joined, parens_reads, parted, peeked_reads, sp_ends, spaced_reads}
 use Rattle.imap_grammar.proofs.SetLaws.{number_reads}
 use Rattle.imap_grammar.proofs.Spans.{ends_stop}
 use Rattle.imap_grammar.proofs.WordLaws.{after_word_again, after_word_takes, ends_item}
 
-module _ (letters : List ℕ) (words : list_all (is_in Item) (lowered letters) ≡ true) where
+module _ (letters : List ℕ) (words : list_all (is_in Item) (to_lower_case letters) ≡ true) where
   inner_reads : Reads (λ octets. after_word letters octets >>= spaced (number_at 9223372036854775807)) (λ value. word letters ⌢ sp ⌢ number_to 9223372036854775807 value) Closes
   inner_reads = record {
     takes = λ octets x h.

@@ -3,7 +3,7 @@ use Rattle.std.proofs.lemmas.Bool.Decides.{same_from_decides}
 use Rattle.std.proofs.lemmas.List.{nil_from_length}
 use Rattle.std.proofs.lemmas.Slice.Eq.{bytes_eq-Decides}
 use Rattle.std.specs.Str.{bytes_eq}
-use Rattle.imap_types.specs.Keywords.{lowered}
+use Rattle.imap_types.specs.Keywords.{to_lower_case}
 use Rattle.imap_grammar.specs.Reading.{after, named}
 
 pub dropped : {X : Type 0} (xs : List X) (i : ℕ) (x : X) → i < length xs → x ≡ get_or xs i x → drop i xs ≡ x ∷ drop (i + 1) xs
@@ -21,17 +21,17 @@ after-short ws rest i total l m e =
 
 module _ {W : Type 0} (word_of : W → List ℕ) where
   -- a value found
-  pub found : (text : List ℕ) (ws : List W) (i : ℕ) (w : W) (shown : List ℕ) (b : Bool) → i < length ws → w ≡ get_or ws i w → shown ≡ word_of w → IsTrue b ↔ (lowered text ≡ lowered shown) → b ≡ true
+  pub found : (text : List ℕ) (ws : List W) (i : ℕ) (w : W) (shown : List ℕ) (b : Bool) → i < length ws → w ≡ get_or ws i w → shown ≡ word_of w → IsTrue b ↔ (to_lower_case text ≡ to_lower_case shown) → b ≡ true
       → named word_of (drop i ws) text ≡ named word_of ws text → Some w ≡ named word_of ws text
   found text ws i w shown b l e s t h inv =
-      let f : bytes_eq (lowered text) (lowered (word_of w)) ≡ true = (bytes_eq-Decides _ _).1 (t.0 h ∙ ap lowered s) in
+      let f : bytes_eq (to_lower_case text) (to_lower_case (word_of w)) ≡ true = (bytes_eq-Decides _ _).1 (t.0 h ∙ ap to_lower_case s) in
       let g : named word_of (w ∷ drop (i + 1) ws) text ≡ Some w = ap (λ c. cond c (Some w) (named word_of (drop (i + 1) ws) text)) f in
       sym (sym inv ∙ ap (λ vs. named word_of vs text) (dropped ws i w l e) ∙ g)
 
   -- and one passed over
-  pub passed : (text : List ℕ) (ws : List W) (i : ℕ) (w : W) (shown : List ℕ) (b : Bool) → i < length ws → w ≡ get_or ws i w → shown ≡ word_of w → IsTrue b ↔ (lowered text ≡ lowered shown) → b ≡ false
+  pub passed : (text : List ℕ) (ws : List W) (i : ℕ) (w : W) (shown : List ℕ) (b : Bool) → i < length ws → w ≡ get_or ws i w → shown ≡ word_of w → IsTrue b ↔ (to_lower_case text ≡ to_lower_case shown) → b ≡ false
       → named word_of (drop i ws) text ≡ named word_of ws text → named word_of (drop (i + 1) ws) text ≡ named word_of ws text
   passed text ws i w shown b l e s t h inv =
-      let f : bytes_eq (lowered text) (lowered (word_of w)) ≡ false = same_from_decides _ _ (bytes_eq-Decides (lowered text) (lowered (word_of w))) (λ k. t.0 k ∙ ap lowered s, λ k. t.1 (k ∙ sym (ap lowered s))) ∙ h in
+      let f : bytes_eq (to_lower_case text) (to_lower_case (word_of w)) ≡ false = same_from_decides _ _ (bytes_eq-Decides (to_lower_case text) (to_lower_case (word_of w))) (λ k. t.0 k ∙ ap to_lower_case s, λ k. t.1 (k ∙ sym (ap to_lower_case s))) ∙ h in
       let g : named word_of (w ∷ drop (i + 1) ws) text ≡ named word_of (drop (i + 1) ws) text = ap (λ c. cond c (Some w) (named word_of (drop (i + 1) ws) text)) f in
       sym (sym inv ∙ ap (λ vs. named word_of vs text) (dropped ws i w l e) ∙ g)

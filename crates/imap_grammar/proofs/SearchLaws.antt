@@ -6,7 +6,7 @@ use Rattle.std.proofs.lemmas.Slice.Eq.{bytes_eq-Decides}
 use Rattle.std.specs.Char.{to_ascii_lowercase}
 use Rattle.std.specs.List.{list_all}
 use Rattle.std.specs.Str.{bytes_eq}
-use Rattle.imap_types.specs.Keywords.{lowered}
+use Rattle.imap_types.specs.Keywords.{to_lower_case}
 use Rattle.imap_syntax.specs.Faults.{begins_in}
 use Rattle.imap_grammar.specs.KeyReading.{below_at, charset_at, charset_name_at, is_charset, keys_at, maybe_options_at, returned_at, returned_group_at, search_parts_at}
 use Rattle.imap_syntax.specs.KeyWords.{key_word, option_word, search_options}
@@ -16,9 +16,9 @@ use Rattle.imap_syntax.specs.Keys.{charset, key_over, key_within, return_options
 use Rattle.imap_syntax.specs.Languages.{◌⌢◌, exactly, sp, word, in_parens, listed, each_behind, maybe_listed}
 use Rattle.imap_grammar.specs.Reading.{after, is_nil, listed_at, named, named_at, parens_at, spaced, span, text_at, ◌>>=◌}
 use Rattle.imap_syntax.specs.Strings.{astring, begins, is_in}
-use Rattle.imap_syntax.specs.declared.class.Class.TheVariants.{Astring, Digit, Item}
-use Rattle.imap_syntax.specs.declared.search.KeyWord.{KeyWord}
-use Rattle.imap_syntax.specs.declared.search.KeyWord.TheVariants as key
+use Rattle.imap_syntax.specs.declared.octet_class.OctetClass.TheVariants.{Astring, Digit, Item}
+use Rattle.imap_syntax.specs.declared.search.SearchKeyWord.{SearchKeyWord}
+use Rattle.imap_syntax.specs.declared.search.SearchKeyWord.TheVariants as key
 use Rattle.imap_syntax.specs.declared.search.SearchOption.{SearchOption}
 use Rattle.imap_syntax.specs.declared.search.SearchOption.TheVariants as option
 use Rattle.imap_syntax.specs.declared.search.SearchStep.{SearchStep}
@@ -39,13 +39,13 @@ option_found option.Max = refl
 option_found option.All = refl
 option_found option.Count = refl
 
-option_letters : (w : SearchOption) → list_all (is_in Item) (lowered (option_word w)) ≡ true
+option_letters : (w : SearchOption) → list_all (is_in Item) (to_lower_case (option_word w)) ≡ true
 option_letters option.Min = refl
 option_letters option.Max = refl
 option_letters option.All = refl
 option_letters option.Count = refl
 
-option_some : (w : SearchOption) → is_nil (lowered (option_word w)) ≡ false
+option_some : (w : SearchOption) → is_nil (to_lower_case (option_word w)) ≡ false
 option_some option.Min = refl
 option_some option.Max = refl
 option_some option.All = refl
@@ -86,18 +86,18 @@ group_reads end = spaced_reads (enclosed_reads 40 41 (record { takes = maybe_tak
 -- ---- Words in front that are others.
 
 abbrev Other : List ℕ → List ℕ → Type 0
-Other letters octets = bytes_eq (lowered (span (is_in Item) octets).0) (lowered letters) ≡ false
+Other letters octets = bytes_eq (to_lower_case (span (is_in Item) octets).0) (to_lower_case letters) ≡ false
 
-word_other : (letters own octets mid : List ℕ) → list_all (is_in Item) (lowered own) ≡ true → bytes_eq (lowered own) (lowered letters) ≡ false → Front (word own) octets mid → NoItem mid → Other letters octets
+word_other : (letters own octets mid : List ℕ) → list_all (is_in Item) (to_lower_case own) ≡ true → bytes_eq (to_lower_case own) (to_lower_case letters) ≡ false → Front (word own) octets mid → NoItem mid → Other letters octets
 word_other letters own octets mid h o f s =
-    ap (λ (y : List ℕ × List ℕ). bytes_eq (lowered y.0) (lowered letters)) (item_span own octets mid h f s) ∙ ap (λ t. bytes_eq t (lowered letters)) f.1 ∙ o
+    ap (λ (y : List ℕ × List ℕ). bytes_eq (to_lower_case y.0) (to_lower_case letters)) (item_span own octets mid h f s) ∙ ap (λ t. bytes_eq t (to_lower_case letters)) f.1 ∙ o
 
-module _ (letters : List ℕ) (others : (w : KeyWord) → bytes_eq (lowered (key_word w)) (lowered letters) ≡ false) (empty : bytes_eq [] (lowered letters) ≡ false)
-    (digits : (b : ℕ) (bs : List ℕ) → (is_in Digit b || (eqb b 42)) ≡ true → bytes_eq (lowered (b ∷ bs)) (lowered letters) ≡ false) where
-  plain_other : (w : KeyWord) (octets rest : List ℕ) → Front (word (key_word w)) octets rest → Ends rest → Other letters octets
+module _ (letters : List ℕ) (others : (w : SearchKeyWord) → bytes_eq (to_lower_case (key_word w)) (to_lower_case letters) ≡ false) (empty : bytes_eq [] (to_lower_case letters) ≡ false)
+    (digits : (b : ℕ) (bs : List ℕ) → (is_in Digit b || (eqb b 42)) ≡ true → bytes_eq (to_lower_case (b ∷ bs)) (to_lower_case letters) ≡ false) where
+  plain_other : (w : SearchKeyWord) (octets rest : List ℕ) → Front (word (key_word w)) octets rest → Ends rest → Other letters octets
   plain_other w octets rest f s = word_other letters (key_word w) octets rest (key_letters w) (others w) f (ends_item rest s)
 
-  part_other : (w : KeyWord) (Q : List ℕ → Type 0) (octets rest : List ℕ) → Front (word (key_word w) ⌢ sp ⌢ Q) octets rest → Other letters octets
+  part_other : (w : SearchKeyWord) (Q : List ℕ → Type 0) (octets rest : List ℕ) → Front (word (key_word w) ⌢ sp ⌢ Q) octets rest → Other letters octets
   part_other w Q octets rest f =
       let p = parted (word (key_word w)) (sp ⌢ Q) octets rest f in
       plain_other w octets p.0 p.1 (sp_ends Q p.0 rest p.2)
@@ -131,7 +131,7 @@ module _ (letters : List ℕ) (others : (w : KeyWord) → bytes_eq (lowered (key
         | inl o ↦ part_other key.Or _ octets rest (f.0, o.2, f.2)
         | inr g ↦
             let p = parted (exactly (40 ∷ [])) _ octets rest (f.0, g.1, f.2) in
-            ap (λ o. bytes_eq (lowered (span (is_in Item) o).0) (lowered letters)) (exactly_is (40 ∷ []) octets p.0 p.1) ∙ empty
+            ap (λ o. bytes_eq (to_lower_case (span (is_in Item) o).0) (to_lower_case letters)) (exactly_is (40 ∷ []) octets p.0 p.1) ∙ empty
       ]
     ]
   ]
@@ -161,17 +161,17 @@ no_c : (b : ℕ) → (is_in Digit b || (eqb b 42)) ≡ true → eqb (to_ascii_lo
 no_c b h = grind (arith, nat_tests)
 
 keys_no_return : (steps : List SearchStep) (octets rest : List ℕ) → Front (search_keys steps) octets rest → Closes rest → Other (codes "RETURN") octets
-keys_no_return = keys_other (codes "RETURN") key_no_return refl (λ b bs h. ap (λ c. c && bytes_eq (lowered bs) (codes "eturn")) (no_r b h))
+keys_no_return = keys_other (codes "RETURN") key_no_return refl (λ b bs h. ap (λ c. c && bytes_eq (to_lower_case bs) (codes "eturn")) (no_r b h))
 
 keys_no_charset : (steps : List SearchStep) (octets rest : List ℕ) → Front (search_keys steps) octets rest → Closes rest → Other (codes "CHARSET") octets
-keys_no_charset = keys_other (codes "CHARSET") key_no_charset refl (λ b bs h. ap (λ c. c && bytes_eq (lowered bs) (codes "harset")) (no_c b h))
+keys_no_charset = keys_other (codes "CHARSET") key_no_charset refl (λ b bs h. ap (λ c. c && bytes_eq (to_lower_case bs) (codes "harset")) (no_c b h))
 
 -- ---- RETURN.
 
 returned_takes : (octets : List ℕ) (x : List SearchOption × List ℕ) → returned_at octets ≡ Some x → Front (return_options x.0) octets x.1
 returned_takes octets x h =
     let cut = span (is_in Item) octets in
-    elim (chosen (bytes_eq (lowered cut.0) (lowered (codes "RETURN"))) (returned_group_at cut.1) (Some ([], octets)) (Some x) h) [
+    elim (chosen (bytes_eq (to_lower_case cut.0) (to_lower_case (codes "RETURN"))) (returned_group_at cut.1) (Some ([], octets)) (Some x) h) [
       | inl t ↦
           let a = bind_some (spaced (parens_at maybe_options_at) cut.1) _ x t.1 in
           let s = bind_some (after (32 ∷ []) a.0.1) _ x a.2 in
@@ -196,7 +196,7 @@ returned_again values octets rest f s = elim f.1 [
       let t = parted (in_parens (maybe_listed sp search_option values)) sp q.0 rest q.2 in
       let group = joined sp (in_parens (maybe_listed sp search_option values)) p.0 q.0 t.0 q.1 t.1 in
       let cut : span (is_in Item) octets ≡ (p.1.0, p.0) = item_span (codes "RETURN") octets p.0 refl p.1 (ends_item p.0 (sp_ends _ p.0 rest p.2)) in
-      ap (λ (y : List ℕ × List ℕ). cond (bytes_eq (lowered y.0) (lowered (codes "RETURN"))) (returned_group_at y.1) (Some ([], octets))) cut
+      ap (λ (y : List ℕ × List ℕ). cond (bytes_eq (to_lower_case y.0) (to_lower_case (codes "RETURN"))) (returned_group_at y.1) (Some ([], octets))) cut
       ∙ ap (λ c. cond c (returned_group_at p.0) (Some ([], octets))) ((bytes_eq-Decides _ _).1 p.1.1)
       ∙ ap (λ r. r >>= λ first. after (32 ∷ []) first.1 >>= λ rest. Some (first.0, rest)) ((group_reads (λ r. Unit {0})).again p.0 t.0 values group tt)
       ∙ ap (λ r. r >>= λ rest. Some (values, rest)) (after_again (32 ∷ []) t.0 rest t.2)
@@ -208,9 +208,9 @@ returned_reads = record { takes = returned_takes; again = λ octets rest values 
 -- ---- CHARSET.
 
 known_from : (name : List ℕ) → is_charset name ≡ true → word (codes "UTF-8") name ⊎ word (codes "US-ASCII") name
-known_from name h = elim (cases_Bool (bytes_eq (lowered name) (lowered (codes "UTF-8")))) [
+known_from name h = elim (cases_Bool (bytes_eq (to_lower_case name) (to_lower_case (codes "UTF-8")))) [
   | inl t ↦ inl ((bytes_eq-Decides _ _).0 t)
-  | inr f ↦ inr ((bytes_eq-Decides _ _).0 (sym (ap (λ c. c || bytes_eq (lowered name) (lowered (codes "US-ASCII"))) f) ∙ h))
+  | inr f ↦ inr ((bytes_eq-Decides _ _).0 (sym (ap (λ c. c || bytes_eq (to_lower_case name) (to_lower_case (codes "US-ASCII"))) f) ∙ h))
 ]
 
 or_right : (a : Bool) → (a || true) ≡ true
@@ -219,14 +219,14 @@ or_right false = refl
 
 known_to : (name : List ℕ) → word (codes "UTF-8") name ⊎ word (codes "US-ASCII") name → is_charset name ≡ true
 known_to name h = elim h [
-  | inl u ↦ ap (λ c. c || bytes_eq (lowered name) (lowered (codes "US-ASCII"))) ((bytes_eq-Decides _ _).1 u)
-  | inr a ↦ ap (λ c. bytes_eq (lowered name) (lowered (codes "UTF-8")) || c) ((bytes_eq-Decides _ _).1 a) ∙ or_right _
+  | inl u ↦ ap (λ c. c || bytes_eq (to_lower_case name) (to_lower_case (codes "US-ASCII"))) ((bytes_eq-Decides _ _).1 u)
+  | inr a ↦ ap (λ c. bytes_eq (to_lower_case name) (to_lower_case (codes "UTF-8")) || c) ((bytes_eq-Decides _ _).1 a) ∙ or_right _
 ]
 
 charset_takes : (octets rest : List ℕ) → charset_at octets ≡ Some rest → Front charset octets rest
 charset_takes octets rest h =
     let cut = span (is_in Item) octets in
-    elim (chosen (bytes_eq (lowered cut.0) (lowered (codes "CHARSET"))) (charset_name_at cut.1) (Some octets) (Some rest) h) [
+    elim (chosen (bytes_eq (to_lower_case cut.0) (to_lower_case (codes "CHARSET"))) (charset_name_at cut.1) (Some octets) (Some rest) h) [
       | inl t ↦
           let n = bind_some (spaced (text_at Astring) cut.1) _ rest t.1 in
           elim (chosen (is_charset n.0.0) (after (32 ∷ []) n.0.1) None (Some rest) n.2) [
@@ -253,7 +253,7 @@ charset_again octets rest f s = elim f.1 [
       let named_text = joined sp (astring name) p.0 q.0 t.0 q.1 t.1 in
       let space : t.0 ≡ 32 ∷ rest = exactly_is (32 ∷ []) t.0 rest t.2 in
       let cut : span (is_in Item) octets ≡ (p.1.0, p.0) = item_span (codes "CHARSET") octets p.0 refl p.1 (ends_item p.0 (sp_ends _ p.0 rest p.2)) in
-      ap (λ (y : List ℕ × List ℕ). cond (bytes_eq (lowered y.0) (lowered (codes "CHARSET"))) (charset_name_at y.1) (Some octets)) cut
+      ap (λ (y : List ℕ × List ℕ). cond (bytes_eq (to_lower_case y.0) (to_lower_case (codes "CHARSET"))) (charset_name_at y.1) (Some octets)) cut
       ∙ ap (λ c. cond c (charset_name_at p.0) (Some octets)) ((bytes_eq-Decides _ _).1 p.1.1)
       ∙ ap (λ r. r >>= λ name. cond (is_charset name.0) (after (32 ∷ []) name.1) None) ((spaced_reads (text_reads Astring)).again p.0 t.0 name named_text (subst Ends (sym space) refl))
       ∙ ap (λ c. cond c (after (32 ∷ []) t.0) None) (known_to name r.2)

@@ -11,7 +11,7 @@ use Rattle.imap_syntax.specs.Languages.{exactly}
 use Rattle.imap_grammar.specs.Reading.{◌>>=◌, bound_at, made, number_at, nz_at, range_at, ranged_at, run_at, set_at}
 use Rattle.imap_syntax.specs.Sets.{bound, range, sequence_set}
 use Rattle.imap_syntax.specs.Strings.{begins, is_in, is_pattern_octet, number_of, number_to, nz, run}
-use Rattle.imap_syntax.specs.declared.class.Class.TheVariants.{Digit}
+use Rattle.imap_syntax.specs.declared.octet_class.OctetClass.TheVariants.{Digit}
 use Rattle.imap_grammar.proofs.Fronts.{Front, Reads, Ends, bind_some, chosen, exactly_is, guarded, joined, parted, some_is}
 use Rattle.imap_grammar.proofs.Lists.{listed_reads}
 use Rattle.imap_grammar.proofs.Spans.{run_takes, run_again, ends_stop}

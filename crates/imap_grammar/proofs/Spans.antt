@@ -5,8 +5,8 @@ use Rattle.std.specs.List.{list_all}
 use Rattle.imap_syntax.specs.Faults.{begins_in}
 use Rattle.imap_grammar.specs.Reading.{span, is_nil, run_at}
 use Rattle.imap_syntax.specs.Strings.{is_in, is_pattern_octet, run}
-use Rattle.imap_syntax.specs.declared.class.Class.{Class}
-use Rattle.imap_syntax.specs.declared.class.Class.TheVariants.{Tag, Atom, Astring, Pattern, Digit, Item}
+use Rattle.imap_syntax.specs.declared.octet_class.OctetClass.{OctetClass}
+use Rattle.imap_syntax.specs.declared.octet_class.OctetClass.TheVariants.{Tag, Atom, Astring, Pattern, Digit, Item}
 use Rattle.imap_grammar.proofs.Fronts.{Front, Reads, guarded, some_is, Ends}
 
 pub span_parts : (p : ℕ → Bool) (bs : List ℕ) → bs ≡ (span p bs).0 ++ (span p bs).1
@@ -17,15 +17,15 @@ pub span_all : (p : ℕ → Bool) (bs : List ℕ) → list_all p (span p bs).0 �
 span_all p [] = refl
 span_all p (b ∷ bs) = elim (cases_Bool (p b)) [ inl t ↦ rw t (and_from _ _ t (span_all p bs)) | inr f ↦ rw f refl ]
 
-pub span_stops : (class : Class) (bs : List ℕ) → begins_in class (span (is_in class) bs).1 ≡ false
+pub span_stops : (class : OctetClass) (bs : List ℕ) → begins_in class (span (is_in class) bs).1 ≡ false
 span_stops class [] = refl
 span_stops class (b ∷ bs) = elim (cases_Bool (is_in class b)) [ inl t ↦ rw t (span_stops class bs) | inr f ↦ rw f f ]
 
-pub span_none : (class : Class) (rest : List ℕ) → begins_in class rest ≡ false → span (is_in class) rest ≡ ([], rest)
+pub span_none : (class : OctetClass) (rest : List ℕ) → begins_in class rest ≡ false → span (is_in class) rest ≡ ([], rest)
 span_none class [] h = refl
 span_none class (b ∷ bs) h = rw h refl
 
-pub span_again : (class : Class) (front rest : List ℕ) → list_all (is_in class) front ≡ true → begins_in class rest ≡ false → span (is_in class) (front ++ rest) ≡ (front, rest)
+pub span_again : (class : OctetClass) (front rest : List ℕ) → list_all (is_in class) front ≡ true → begins_in class rest ≡ false → span (is_in class) (front ++ rest) ≡ (front, rest)
 span_again class [] rest a h = span_none class rest h
 span_again class (b ∷ front) rest a h =
     let p = and_parts (is_in class b) (list_all (is_in class) front) a in
@@ -40,23 +40,23 @@ is_nil-not : (xs : List ℕ) → xs ≢ [] → is_nil xs ≡ false
 is_nil-not [] h = absurd (h refl)
 is_nil-not (x ∷ xs) h = refl
 
-StopsAt : Class → List ℕ → Type 0
+StopsAt : OctetClass → List ℕ → Type 0
 StopsAt class rest = begins_in class rest ≡ false
 
-pub run_takes : (class : Class) (octets : List ℕ) (x : List ℕ × List ℕ) → run_at class octets ≡ Some x → Front (run class x.0) octets x.1
+pub run_takes : (class : OctetClass) (octets : List ℕ) (x : List ℕ × List ℕ) → run_at class octets ≡ Some x → Front (run class x.0) octets x.1
 run_takes class octets x h =
     let g = guarded (is_nil (span (is_in class) octets).0) (Some (span (is_in class) octets)) x h in
     subst (λ (y : List ℕ × List ℕ). Front (run class y.0) octets y.1) (some_is (span (is_in class) octets) x g.1)
     ((span (is_in class) octets).0, (not_nil _ g.0, span_all (is_in class) octets, refl), span_parts (is_in class) octets)
 
-pub run_again : (class : Class) (octets rest value : List ℕ) → Front (run class value) octets rest → begins_in class rest ≡ false → run_at class octets ≡ Some (value, rest)
+pub run_again : (class : OctetClass) (octets rest value : List ℕ) → Front (run class value) octets rest → begins_in class rest ≡ false → run_at class octets ≡ Some (value, rest)
 run_again class octets rest value f s =
     let e : octets ≡ value ++ rest = f.2 ∙ ap (λ xs. xs ++ rest) f.1.2 in
     let g : span (is_in class) octets ≡ (value, rest) = ap (span (is_in class)) e ∙ span_again class value rest f.1.1 s in
     ap (λ (y : List ℕ × List ℕ). cond (is_nil y.0) None (Some y)) g ∙ ap (λ b. cond b None (Some (value, rest))) (is_nil-not value f.1.0)
 
 -- every class has pattern octets alone
-pub pattern_octet : (class : Class) (b : ℕ) → is_in class b ≡ true → is_pattern_octet b ≡ true
+pub pattern_octet : (class : OctetClass) (b : ℕ) → is_in class b ≡ true → is_pattern_octet b ≡ true
 pattern_octet Tag b h = grind (arith, nat_tests)
 pattern_octet Atom b h = grind (arith, nat_tests)
 pattern_octet Astring b h = grind (arith, nat_tests)
@@ -64,9 +64,9 @@ pattern_octet Pattern b h = h
 pattern_octet Digit b h = grind (arith, nat_tests)
 pattern_octet Item b h = grind (arith, nat_tests)
 
-pub ends_stop : (class : Class) (rest : List ℕ) → Ends rest → begins_in class rest ≡ false
+pub ends_stop : (class : OctetClass) (rest : List ℕ) → Ends rest → begins_in class rest ≡ false
 ends_stop class [] h = refl
 ends_stop class (b ∷ bs) h = elim (cases_Bool (is_in class b)) [ inl t ↦ absurd (let e : not true ≡ true = subst (λ c. not c ≡ true) (pattern_octet class b t) h in cc) | inr f ↦ f ]
 
-pub run_reads : (class : Class) → Reads (run_at class) (run class) Ends
+pub run_reads : (class : OctetClass) → Reads (run_at class) (run class) Ends
 run_reads class = record { takes = run_takes class; again = λ octets rest value f s. run_again class octets rest value f (ends_stop class rest s) }

@@ -4,12 +4,12 @@ use Rattle.std.proofs.lemmas.List.{take_at, drop_at, take-append-drop, length-ta
 use Rattle.std.proofs.lemmas.Bool.Decides.{nat_tests}
 use Rattle.std.specs.List.{list_all}
 use Rattle.imap_syntax.specs.Languages.{exactly}
-use Rattle.imap_syntax.specs.Strings.{is_in, is_quotable, escaped, quoted, literal, number, number_of, optional_plus, run, text_of, mailbox}
-use Rattle.imap_types.specs.Names.{folded_name}
+use Rattle.imap_syntax.specs.Strings.{is_in, is_quotable, quoted_escape, quoted, literal, number, number_of, optional_plus, run, text_of, mailbox}
+use Rattle.imap_types.specs.Names.{fold_inbox}
 use Rattle.imap_syntax.specs.Faults.{begins_in}
 use Rattle.imap_grammar.specs.Reading.{◌>>=◌, mailbox_at, after, after_plus, with_front, quoted_at, run_at, literal_at, octets_at, text_at}
-use Rattle.imap_syntax.specs.declared.class.Class.{Class}
-use Rattle.imap_syntax.specs.declared.class.Class.TheVariants.{Tag, Atom, Astring, Pattern, Digit, Item}
+use Rattle.imap_syntax.specs.declared.octet_class.OctetClass.{OctetClass}
+use Rattle.imap_syntax.specs.declared.octet_class.OctetClass.TheVariants.{Tag, Atom, Astring, Pattern, Digit, Item}
 use Rattle.imap_grammar.proofs.Fronts.{Front, Reads, Ends, made_reads, joined, parted, bind_some, chosen, guarded, some_is, after_takes}
 use Rattle.imap_grammar.proofs.Spans.{run_takes, run_again, ends_stop}
 
@@ -22,7 +22,7 @@ special_quotable : (b : ℕ) → ((eqb b 34) || (eqb b 92)) ≡ true → is_quot
 special_quotable b h = grind (arith, nat_tests)
 
 Inside : List ℕ → List ℕ → List ℕ → Type 0
-Inside octets value rest = (list_all is_quotable value ≡ true) × (octets ≡ escaped value ++ 34 ∷ rest)
+Inside octets value rest = (list_all is_quotable value ≡ true) × (octets ≡ quoted_escape value ++ 34 ∷ rest)
 
 special_step : (b : ℕ) (bs v r v' r' : List ℕ) → ((eqb b 34) || (eqb b 92)) ≡ true → v ≡ b ∷ v' → r ≡ r' → Inside bs v' r' → Inside (92 ∷ b ∷ bs) v r
 unfolding Inside
@@ -65,7 +65,7 @@ quoted_takes false (b ∷ bs) x h =
       ]
     ]
 
-quoted_again : (value rest : List ℕ) → list_all is_quotable value ≡ true → quoted_at false (escaped value ++ 34 ∷ rest) ≡ Some (value, rest)
+quoted_again : (value rest : List ℕ) → list_all is_quotable value ≡ true → quoted_at false (quoted_escape value ++ 34 ∷ rest) ≡ Some (value, rest)
 quoted_again [] rest h = refl
 quoted_again (b ∷ value) rest h =
     let p = and_parts (is_quotable b) (list_all is_quotable value) h in
@@ -84,12 +84,12 @@ pub quoted_front_takes : (bs : List ℕ) (x : List ℕ × List ℕ) → quoted_a
 unfolding Inside
 quoted_front_takes bs x h =
     let t = quoted_takes false bs x h in
-    (34 ∷ (escaped x.0 ++ 34 ∷ []), (t.0, refl), ap (λ xs. 34 ∷ xs) (t.1 ∙ sym (append_assoc (escaped x.0) (34 ∷ []) x.1)))
+    (34 ∷ (quoted_escape x.0 ++ 34 ∷ []), (t.0, refl), ap (λ xs. 34 ∷ xs) (t.1 ∙ sym (append_assoc (quoted_escape x.0) (34 ∷ []) x.1)))
 
 pub quoted_front_again : (octets rest value : List ℕ) → Front (quoted value) octets rest → (inner : List ℕ) × (octets ≡ 34 ∷ inner) × (quoted_at false inner ≡ Some (value, rest))
 quoted_front_again octets rest value f =
-    let e : octets ≡ 34 ∷ (escaped value ++ 34 ∷ rest) = f.2 ∙ ap (λ xs. xs ++ rest) f.1.1 ∙ ap (λ xs. 34 ∷ xs) (append_assoc (escaped value) (34 ∷ []) rest) in
-    (escaped value ++ 34 ∷ rest, e, quoted_again value rest f.1.0)
+    let e : octets ≡ 34 ∷ (quoted_escape value ++ 34 ∷ rest) = f.2 ∙ ap (λ xs. xs ++ rest) f.1.1 ∙ ap (λ xs. 34 ∷ xs) (append_assoc (quoted_escape value) (34 ∷ []) rest) in
+    (quoted_escape value ++ 34 ∷ rest, e, quoted_again value rest f.1.0)
 
 -- so many octets
 pub octets_takes : (n : ℕ) (octets : List ℕ) (x : List ℕ × List ℕ) → octets_at n octets ≡ Some x → (length x.0 ≡ n) × (octets ≡ x.0 ++ x.1)
@@ -160,7 +160,7 @@ literal_again octets rest value f =
     )
 
 -- the three forms
-pub text_takes : (class : Class) (octets : List ℕ) (x : List ℕ × List ℕ) → text_at class octets ≡ Some x → Front (text_of class x.0) octets x.1
+pub text_takes : (class : OctetClass) (octets : List ℕ) (x : List ℕ × List ℕ) → text_at class octets ≡ Some x → Front (text_of class x.0) octets x.1
 text_takes class [] x h = cc
 text_takes class (b ∷ bs) x h =
     elim (chosen (eqb b 34) (quoted_at false bs) (cond (eqb b 123) (literal_at bs) (run_at class (b ∷ bs))) (Some x) h) [
@@ -177,7 +177,7 @@ text_takes class (b ∷ bs) x h =
       ]
     ]
 
-plain_first : (class : Class) (b : ℕ) (bs : List ℕ) → is_in class b ≡ true → text_at class (b ∷ bs) ≡ run_at class (b ∷ bs)
+plain_first : (class : OctetClass) (b : ℕ) (bs : List ℕ) → is_in class b ≡ true → text_at class (b ∷ bs) ≡ run_at class (b ∷ bs)
 plain_first Tag b bs h = let q : eqb b 34 ≡ false = grind (arith, nat_tests) in let l : eqb b 123 ≡ false = grind (arith, nat_tests) in rw (q, l) refl
 plain_first Atom b bs h = let q : eqb b 34 ≡ false = grind (arith, nat_tests) in let l : eqb b 123 ≡ false = grind (arith, nat_tests) in rw (q, l) refl
 plain_first Astring b bs h = let q : eqb b 34 ≡ false = grind (arith, nat_tests) in let l : eqb b 123 ≡ false = grind (arith, nat_tests) in rw (q, l) refl
@@ -185,14 +185,14 @@ plain_first Pattern b bs h = let q : eqb b 34 ≡ false = grind (arith, nat_test
 plain_first Digit b bs h = let q : eqb b 34 ≡ false = grind (arith, nat_tests) in let l : eqb b 123 ≡ false = grind (arith, nat_tests) in rw (q, l) refl
 plain_first Item b bs h = let q : eqb b 34 ≡ false = grind (arith, nat_tests) in let l : eqb b 123 ≡ false = grind (arith, nat_tests) in rw (q, l) refl
 
-plain_again : (class : Class) (octets rest value : List ℕ) → Front (run class value) octets rest → Ends rest → text_at class octets ≡ Some (value, rest)
+plain_again : (class : OctetClass) (octets rest value : List ℕ) → Front (run class value) octets rest → Ends rest → text_at class octets ≡ Some (value, rest)
 plain_again class octets rest [] f s = absurd (f.1.0 refl)
 plain_again class octets rest (b ∷ value) f s =
     let e : octets ≡ b ∷ (value ++ rest) = f.2 ∙ ap (λ xs. xs ++ rest) f.1.2 in
     let p = and_parts (is_in class b) (list_all (is_in class) value) f.1.1 in
     ap (text_at class) e ∙ plain_first class b (value ++ rest) p.0 ∙ ap (run_at class) (sym e) ∙ run_again class octets rest (b ∷ value) f (ends_stop class rest s)
 
-pub text_again : (class : Class) (octets rest value : List ℕ) → Front (text_of class value) octets rest → Ends rest → text_at class octets ≡ Some (value, rest)
+pub text_again : (class : OctetClass) (octets rest value : List ℕ) → Front (text_of class value) octets rest → Ends rest → text_at class octets ≡ Some (value, rest)
 text_again class octets rest value f s = elim f.1 [
   | inl r ↦ plain_again class octets rest value (f.0, r, f.2) s
   | inr t ↦ elim t [
@@ -201,9 +201,9 @@ text_again class octets rest value f s = elim f.1 [
   ]
 ]
 
-pub text_reads : (class : Class) → Reads (text_at class) (text_of class) Ends
+pub text_reads : (class : OctetClass) → Reads (text_at class) (text_of class) Ends
 text_reads class = record { takes = text_takes class; again = text_again class }
 
 -- a name
 pub mailbox_reads : Reads mailbox_at mailbox Ends
-mailbox_reads = made_reads (text_reads Astring) folded_name mailbox (λ value text h. (value, h, refl)) (λ it text h. (h.0, h.1, h.2))
+mailbox_reads = made_reads (text_reads Astring) fold_inbox mailbox (λ value text h. (value, h, refl)) (λ it text h. (h.0, h.1, h.2))

@@ -6,7 +6,7 @@ use Rattle.std.proofs.lemmas.Slice.Eq.{bytes_eq-Decides}
 use Rattle.std.specs.Char.{to_ascii_lowercase}
 use Rattle.std.specs.List.{list_all}
 use Rattle.std.specs.Str.{bytes_eq}
-use Rattle.imap_types.specs.Keywords.{lowered, is_atom_octet}
+use Rattle.imap_types.specs.Keywords.{to_lower_case, is_atom_octet}
 use Rattle.imap_syntax.specs.Languages.{word}
 use Rattle.imap_syntax.specs.Words.{command_word, command_words, status_word, status_items}
 use Rattle.imap_grammar.specs.Reading.{after_word, is_nil, named, named_at, span, ◌>>=◌}
@@ -15,7 +15,7 @@ use Rattle.imap_syntax.specs.declared.word.CommandWord.TheVariants.{Capability, 
 use Rattle.imap_syntax.specs.Commands.{status_item}
 use Rattle.imap_syntax.specs.Faults.{begins_in}
 use Rattle.imap_syntax.specs.Strings.{begins, is_in}
-use Rattle.imap_syntax.specs.declared.class.Class.TheVariants.{Item}
+use Rattle.imap_syntax.specs.declared.octet_class.OctetClass.TheVariants.{Item}
 use Rattle.imap_syntax.specs.declared.status.StatusItem.{StatusItem}
 use Rattle.imap_syntax.specs.declared.status.StatusItem.TheVariants as status
 use Rattle.imap_grammar.proofs.Fronts.{Front, Reads, Ends, bind_some, chosen, some_is, stopping}
@@ -25,23 +25,23 @@ module _ {W : Type 0} (word_of : W → List ℕ) where
   pub named_takes : (ws : List W) (text : List ℕ) (w : W) → named word_of ws text ≡ Some w → word (word_of w) text
   named_takes [] text w h = cc
   named_takes (v ∷ vs) text w h =
-      elim (chosen (bytes_eq (lowered text) (lowered (word_of v))) (Some v) (named word_of vs text) (Some w) h) [
-        | inl t ↦ (bytes_eq-Decides _ _).0 t.0 ∙ ap (λ u. lowered (word_of u)) (some_is v w t.1)
+      elim (chosen (bytes_eq (to_lower_case text) (to_lower_case (word_of v))) (Some v) (named word_of vs text) (Some w) h) [
+        | inl t ↦ (bytes_eq-Decides _ _).0 t.0 ∙ ap (λ u. to_lower_case (word_of u)) (some_is v w t.1)
         | inr f ↦ named_takes vs text w f.1
       ]
 
   -- texts that differ by case alone
-  named_same : (ws : List W) (text other : List ℕ) → lowered text ≡ lowered other → named word_of ws text ≡ named word_of ws other
+  named_same : (ws : List W) (text other : List ℕ) → to_lower_case text ≡ to_lower_case other → named word_of ws text ≡ named word_of ws other
   named_same [] text other h = refl
   named_same (v ∷ vs) text other h =
-      ap (λ t. cond (bytes_eq t (lowered (word_of v))) (Some v) (named word_of vs text)) h
-      ∙ ap (λ r. cond (bytes_eq (lowered other) (lowered (word_of v))) (Some v) r) (named_same vs text other h)
+      ap (λ t. cond (bytes_eq t (to_lower_case (word_of v))) (Some v) (named word_of vs text)) h
+      ∙ ap (λ r. cond (bytes_eq (to_lower_case other) (to_lower_case (word_of v))) (Some v) r) (named_same vs text other h)
 
   pub named_again : (ws : List W) (text : List ℕ) (w : W) → named word_of ws (word_of w) ≡ Some w → word (word_of w) text → named word_of ws text ≡ Some w
   named_again ws text w h e = named_same ws text (word_of w) e ∙ h
 
 -- each word of a command is found, and its octets are atom octets
-is_command_word : (w : CommandWord) → (named command_word command_words (command_word w) ≡ Some w) × (list_all is_atom_octet (lowered (command_word w)) ≡ true)
+is_command_word : (w : CommandWord) → (named command_word command_words (command_word w) ≡ Some w) × (list_all is_atom_octet (to_lower_case (command_word w)) ≡ true)
 is_command_word Capability = (refl, refl)
 is_command_word Noop = (refl, refl)
 is_command_word Logout = (refl, refl)
@@ -78,41 +78,41 @@ command_again text w e = named_again command_word command_words text w (is_comma
 atom_lower : (b : ℕ) → is_atom_octet (to_ascii_lowercase b) ≡ true → is_atom_octet b ≡ true
 atom_lower b h = grind (arith, nat_tests)
 
-atoms_lower : (text : List ℕ) → list_all is_atom_octet (lowered text) ≡ true → list_all is_atom_octet text ≡ true
+atoms_lower : (text : List ℕ) → list_all is_atom_octet (to_lower_case text) ≡ true → list_all is_atom_octet text ≡ true
 atoms_lower [] h = refl
 atoms_lower (b ∷ bs) h = let p = and_parts _ _ h in and_from _ _ (atom_lower b p.0) (atoms_lower bs p.1)
 
 -- a word's octets are atom octets
-pub word_atoms : (letters text : List ℕ) → list_all is_atom_octet (lowered letters) ≡ true → word letters text → list_all is_atom_octet text ≡ true
+pub word_atoms : (letters text : List ℕ) → list_all is_atom_octet (to_lower_case letters) ≡ true → word letters text → list_all is_atom_octet text ≡ true
 word_atoms letters text h e = atoms_lower text (ap (list_all is_atom_octet) e ∙ h)
 
-pub command_atoms : (w : CommandWord) → list_all is_atom_octet (lowered (command_word w)) ≡ true
+pub command_atoms : (w : CommandWord) → list_all is_atom_octet (to_lower_case (command_word w)) ≡ true
 command_atoms w = (is_command_word w).1
 
 -- words as the arguments have them, which `[` ends too
 item_octet : (b : ℕ) → is_in Item (to_ascii_lowercase b) ≡ true → is_in Item b ≡ true
 item_octet b h = grind (arith, nat_tests)
 
-items_lower : (text : List ℕ) → list_all (is_in Item) (lowered text) ≡ true → list_all (is_in Item) text ≡ true
+items_lower : (text : List ℕ) → list_all (is_in Item) (to_lower_case text) ≡ true → list_all (is_in Item) text ≡ true
 items_lower [] h = refl
 items_lower (b ∷ bs) h = let p = and_parts _ _ h in and_from _ _ (item_octet b p.0) (items_lower bs p.1)
 
 abbrev pub NoItem : List ℕ → Type 0
 NoItem rest = begins_in Item rest ≡ false
 
-pub item_span : (letters octets rest : List ℕ) → list_all (is_in Item) (lowered letters) ≡ true → (f : Front (word letters) octets rest) → NoItem rest → span (is_in Item) octets ≡ (f.0, rest)
+pub item_span : (letters octets rest : List ℕ) → list_all (is_in Item) (to_lower_case letters) ≡ true → (f : Front (word letters) octets rest) → NoItem rest → span (is_in Item) octets ≡ (f.0, rest)
 item_span letters octets rest h f s = ap (span (is_in Item)) f.2 ∙ span_again Item f.0 rest (items_lower f.0 (ap (list_all (is_in Item)) f.1 ∙ h)) s
 
 pub after_word_takes : (letters octets rest : List ℕ) → after_word letters octets ≡ Some rest → Front (word letters) octets rest
 after_word_takes letters octets rest h =
-    elim (chosen (bytes_eq (lowered (span (is_in Item) octets).0) (lowered letters)) (Some (span (is_in Item) octets).1) None (Some rest) h) [
+    elim (chosen (bytes_eq (to_lower_case (span (is_in Item) octets).0) (to_lower_case letters)) (Some (span (is_in Item) octets).1) None (Some rest) h) [
       | inl t ↦ ((span (is_in Item) octets).0, (bytes_eq-Decides _ _).0 t.0, span_parts (is_in Item) octets ∙ ap (λ xs. (span (is_in Item) octets).0 ++ xs) (some_is (span (is_in Item) octets).1 rest t.1))
       | inr n ↦ absurd cc
     ]
 
-pub after_word_again : (letters octets rest : List ℕ) → list_all (is_in Item) (lowered letters) ≡ true → Front (word letters) octets rest → NoItem rest → after_word letters octets ≡ Some rest
+pub after_word_again : (letters octets rest : List ℕ) → list_all (is_in Item) (to_lower_case letters) ≡ true → Front (word letters) octets rest → NoItem rest → after_word letters octets ≡ Some rest
 after_word_again letters octets rest h f s =
-    ap (λ (y : List ℕ × List ℕ). cond (bytes_eq (lowered y.0) (lowered letters)) (Some y.1) None) (item_span letters octets rest h f s)
+    ap (λ (y : List ℕ × List ℕ). cond (bytes_eq (to_lower_case y.0) (to_lower_case letters)) (Some y.1) None) (item_span letters octets rest h f s)
     ∙ ap (λ b. cond b (Some rest) None) ((bytes_eq-Decides _ _).1 f.1)
 
 -- tables of words
@@ -122,13 +122,13 @@ named_at_takes {W} word_of values octets x h =
     let a = bind_some (named word_of values cut.0) _ x h in
     subst (λ (y : W × List ℕ). Front (word (word_of y.0)) octets y.1) (some_is (a.0, cut.1) x a.2) (cut.0, named_takes word_of values cut.0 a.0 a.1, span_parts (is_in Item) octets)
 
-pub named_at_again : {W : Type 0} (word_of : W → List ℕ) (values : List W) (w : W) (octets rest : List ℕ) → named word_of values (word_of w) ≡ Some w → list_all (is_in Item) (lowered (word_of w)) ≡ true
+pub named_at_again : {W : Type 0} (word_of : W → List ℕ) (values : List W) (w : W) (octets rest : List ℕ) → named word_of values (word_of w) ≡ Some w → list_all (is_in Item) (to_lower_case (word_of w)) ≡ true
     → Front (word (word_of w)) octets rest → NoItem rest → named_at word_of values octets ≡ Some (w, rest)
 named_at_again {W} word_of values w octets rest e h f s =
     ap (λ (y : List ℕ × List ℕ). named word_of values y.0 >>= λ v. Some (v, y.1)) (item_span (word_of w) octets rest h f s)
     ∙ ap (λ o. o >>= λ v. Some (v, rest)) (named_again word_of values f.0 w e f.1)
 
-pub table_reads : {W : Type 0} (word_of : W → List ℕ) (values : List W) → ((w : W) → named word_of values (word_of w) ≡ Some w) → ((w : W) → list_all (is_in Item) (lowered (word_of w)) ≡ true)
+pub table_reads : {W : Type 0} (word_of : W → List ℕ) (values : List W) → ((w : W) → named word_of values (word_of w) ≡ Some w) → ((w : W) → list_all (is_in Item) (to_lower_case (word_of w)) ≡ true)
     → Reads (named_at word_of values) (λ w. word (word_of w)) NoItem
 table_reads word_of values found letters = record {
   takes = named_at_takes word_of values;
@@ -147,7 +147,7 @@ status_found status.Deleted = refl
 status_found status.Size = refl
 status_found status.HighestModSeq = refl
 
-status_letters : (w : StatusItem) → list_all (is_in Item) (lowered (status_word w)) ≡ true
+status_letters : (w : StatusItem) → list_all (is_in Item) (to_lower_case (status_word w)) ≡ true
 status_letters status.Messages = refl
 status_letters status.UidNext = refl
 status_letters status.UidValidity = refl
@@ -162,12 +162,12 @@ status_reads = stopping (table_reads status_word status_items status_found statu
 item_not : (b m : ℕ) → is_in Item b ≡ true → is_in Item m ≡ false → eqb b m ≡ false
 item_not b m h o = elim (cases_Bool (eqb b m)) [ inl t ↦ absurd (let e : true ≡ false = sym h ∙ ap (is_in Item) (eqb-true b m t) ∙ o in cc) | inr f ↦ f ]
 
-word_begins : (letters text octets rest : List ℕ) (m : ℕ) → list_all (is_in Item) (lowered letters) ≡ true → is_nil (lowered letters) ≡ false → is_in Item m ≡ false → word letters text → octets ≡ text ++ rest → begins m octets ≡ false
+word_begins : (letters text octets rest : List ℕ) (m : ℕ) → list_all (is_in Item) (to_lower_case letters) ≡ true → is_nil (to_lower_case letters) ≡ false → is_in Item m ≡ false → word letters text → octets ≡ text ++ rest → begins m octets ≡ false
 word_begins letters [] octets rest m h n o w e = absurd (let k : true ≡ false = ap is_nil w ∙ n in cc)
 word_begins letters (b ∷ text) octets rest m h n o w e =
     let i = items_lower (b ∷ text) (ap (list_all (is_in Item)) w ∙ h) in
     ap (begins m) e ∙ item_not b m (and_parts (is_in Item b) (list_all (is_in Item) text) i).0 o
 
 -- the first octet of a word is an octet of words
-pub word_first : (letters octets rest : List ℕ) (m : ℕ) → list_all (is_in Item) (lowered letters) ≡ true → is_nil (lowered letters) ≡ false → is_in Item m ≡ false → Front (word letters) octets rest → begins m octets ≡ false
+pub word_first : (letters octets rest : List ℕ) (m : ℕ) → list_all (is_in Item) (to_lower_case letters) ≡ true → is_nil (to_lower_case letters) ≡ false → is_in Item m ≡ false → Front (word letters) octets rest → begins m octets ≡ false
 word_first letters octets rest m h n o f = word_begins letters f.0 octets rest m h n o f.1 f.2

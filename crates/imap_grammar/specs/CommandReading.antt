@@ -10,7 +10,7 @@ use Rattle.imap_syntax.specs.declared.fetch.FetchItem.{FetchItem}
 use Rattle.imap_syntax.specs.declared.store.StoreAction.{StoreAction}
 use Rattle.imap_syntax.specs.Strings.{is_in}
 use Rattle.imap_syntax.specs.Words.{command_word, command_words, status_word, status_items, store_actions, store_word, uid_words}
-use Rattle.imap_syntax.specs.declared.class.Class.TheVariants.{Tag, Atom, Astring, Pattern}
+use Rattle.imap_syntax.specs.declared.octet_class.OctetClass.TheVariants.{Tag, Atom, Astring, Pattern}
 use Rattle.imap_syntax.specs.declared.command.Command.{Command}
 use Rattle.imap_syntax.specs.declared.command.Command.TheVariants as commands
 use Rattle.imap_syntax.specs.declared.command.Tagged.{Tagged}

@@ -1,22 +1,22 @@
 -- The parser's own steps for SEARCH. Which text means which keys, `search_keys` of Keys says.
 use Rattle.std.specs.Prelude.{ℕ, zero, suc, Bool, ◌||◌, ◌==◌, List, [], ◌∷◌, ◌++◌, codes, length, Option, Some, None, if◌then◌else◌}
 use Rattle.std.specs.Str.{bytes_eq}
-use Rattle.imap_types.specs.Keywords.{lowered}
+use Rattle.imap_types.specs.Keywords.{to_lower_case}
 use Rattle.imap_syntax.specs.KeyWords.{key_word, key_words, option_word, search_options}
 use Rattle.imap_grammar.specs.Reading.{◌>>=◌, after, before, both, date_at, listed_at, made, named_at, next_at, number_at, parens_at, run_at, set_at, spaced, span, text_at}
 use Rattle.imap_syntax.specs.Strings.{is_in}
-use Rattle.imap_syntax.specs.declared.class.Class.TheVariants.{Astring, Atom, Digit, Item}
+use Rattle.imap_syntax.specs.declared.octet_class.OctetClass.TheVariants.{Astring, Atom, Digit, Item}
 use Rattle.imap_syntax.specs.declared.command.Command.{Command}
 use Rattle.imap_syntax.specs.declared.command.Command.TheVariants as commands
-use Rattle.imap_syntax.specs.declared.search.KeyWord.{KeyWord}
-use Rattle.imap_syntax.specs.declared.search.KeyWord.TheVariants as key
+use Rattle.imap_syntax.specs.declared.search.SearchKeyWord.{SearchKeyWord}
+use Rattle.imap_syntax.specs.declared.search.SearchKeyWord.TheVariants as key
 use Rattle.imap_syntax.specs.declared.search.SearchOption.{SearchOption}
 use Rattle.imap_syntax.specs.declared.search.SearchStep.{SearchStep}
 use Rattle.imap_syntax.specs.declared.search.SearchStep.TheVariants.{Test, Not, Or, And}
 use Rattle.imap_syntax.specs.declared.search.SearchTest.{SearchTest}
 use Rattle.imap_syntax.specs.declared.search.SearchTest.TheVariants as tests
 
-abbrev pub leaf_at : KeyWord → List ℕ → Option (SearchTest × List ℕ)
+abbrev pub leaf_at : SearchKeyWord → List ℕ → Option (SearchTest × List ℕ)
 leaf_at key.All octets = Some (tests.All, octets)
 leaf_at (key.System flag is_set) octets = Some (tests.System flag is_set, octets)
 leaf_at (key.Keyword is_set) octets = made (λ keyword. tests.Keyword keyword is_set) (spaced (run_at Atom)) octets
@@ -42,7 +42,7 @@ more_keys_at (suc n) inner steps octets = next_at 32 inner octets >>= λ next. o
 abbrev pub keys_at : (List ℕ → Option (List SearchStep × List ℕ)) → List ℕ → Option (List SearchStep × List ℕ)
 keys_at inner octets = inner octets >>= λ first. more_keys_at (length octets) inner first.0 first.1
 
-abbrev pub worded_at : (List ℕ → Option (List SearchStep × List ℕ)) → KeyWord → List ℕ → Option (List SearchStep × List ℕ)
+abbrev pub worded_at : (List ℕ → Option (List SearchStep × List ℕ)) → SearchKeyWord → List ℕ → Option (List SearchStep × List ℕ)
 worded_at inner key.Not octets = made (λ steps. steps ++ Not ∷ []) (spaced inner) octets
 worded_at inner key.Or octets = made (λ parts. parts.0 ++ parts.1 ++ Or ∷ []) (spaced (both inner (spaced inner))) octets
 worded_at inner other octets = made (λ test. Test test ∷ []) (leaf_at other) octets
@@ -73,17 +73,17 @@ returned_group_at = before (spaced (parens_at maybe_options_at)) (after (32 ∷ 
 
 abbrev pub returned_at : List ℕ → Option (List SearchOption × List ℕ)
 returned_at octets =
-    if bytes_eq (lowered (span (is_in Item) octets).0) (lowered (codes "RETURN")) then returned_group_at (span (is_in Item) octets).1 else Some ([], octets)
+    if bytes_eq (to_lower_case (span (is_in Item) octets).0) (to_lower_case (codes "RETURN")) then returned_group_at (span (is_in Item) octets).1 else Some ([], octets)
 
 abbrev pub is_charset : List ℕ → Bool
-is_charset name = bytes_eq (lowered name) (lowered (codes "UTF-8")) || bytes_eq (lowered name) (lowered (codes "US-ASCII"))
+is_charset name = bytes_eq (to_lower_case name) (to_lower_case (codes "UTF-8")) || bytes_eq (to_lower_case name) (to_lower_case (codes "US-ASCII"))
 
 abbrev pub charset_name_at : List ℕ → Option (List ℕ)
 charset_name_at octets = spaced (text_at Astring) octets >>= λ name. if is_charset name.0 then after (32 ∷ []) name.1 else None
 
 abbrev pub charset_at : List ℕ → Option (List ℕ)
 charset_at octets =
-    if bytes_eq (lowered (span (is_in Item) octets).0) (lowered (codes "CHARSET")) then charset_name_at (span (is_in Item) octets).1 else Some octets
+    if bytes_eq (to_lower_case (span (is_in Item) octets).0) (to_lower_case (codes "CHARSET")) then charset_name_at (span (is_in Item) octets).1 else Some octets
 
 abbrev pub search_parts_at : List ℕ → Option ((List SearchOption × List SearchStep) × List ℕ)
 search_parts_at = spaced (both returned_at (λ octets. charset_at octets >>= keys_at (below_at 65)))

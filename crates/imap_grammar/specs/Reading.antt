@@ -1,9 +1,9 @@
 -- The parser's own steps, production by production. Which text means what, Strings, Sets, Dates, MessageFlags and Items say.
 use Rattle.std.specs.Prelude.{◌≡◌, ℕ, zero, suc, Bool, true, false, ◌||◌, ◌==◌, nat_lt, List, [], ◌∷◌, codes, length, take, drop, Option, Some, None, Result, if◌then◌else◌, ◌&&◌, not, pos}
 use Rattle.std.specs.Str.{bytes_eq}
-use Rattle.imap_types.specs.Keywords.{lowered, with_text}
-use Rattle.imap_types.specs.Names.{folded_name}
-pub use Rattle.imap_types.specs.Reading.{◌>>=◌, GivesBy, after, with_front}
+use Rattle.imap_types.specs.Keywords.{to_lower_case, with_word}
+use Rattle.imap_types.specs.Names.{fold_inbox}
+pub use Rattle.imap_types.specs.ReaderSteps.{◌>>=◌, GivesBy, after, with_front}
 use Rattle.jiff.specs.Words.{days_in_month}
 use Rattle.imap_types.specs.declared.sequence_set.SequenceBound.{SequenceBound}
 use Rattle.imap_types.specs.declared.sequence_set.SequenceBound.TheVariants.{Number, Greatest}
@@ -26,8 +26,8 @@ use Rattle.imap_syntax.specs.declared.flags.Flag.TheVariants.{System, Keyword}
 use Rattle.imap_syntax.specs.declared.flags.SystemFlag.TheVariants.{Answered, Flagged, Deleted, Seen, Draft}
 use Rattle.imap_syntax.specs.Strings.{begins, is_in, is_quotable, number_of}
 use Rattle.imap_syntax.specs.Words.{fetch_word, fetch_words, section_word, section_words, system_flags, system_word}
-use Rattle.imap_syntax.specs.declared.class.Class.{Class}
-use Rattle.imap_syntax.specs.declared.class.Class.TheVariants.{Atom, Astring, Digit, Item}
+use Rattle.imap_syntax.specs.declared.octet_class.OctetClass.{OctetClass}
+use Rattle.imap_syntax.specs.declared.octet_class.OctetClass.TheVariants.{Atom, Astring, Digit, Item}
 use Rattle.imap_grammar.specs.declared.fault.ParseFault.{ParseFault}
 use Rattle.imap_grammar.specs.declared.fault.ParseFault.TheVariants.{NoMemory, BadSyntax, NotInProfile, NoTag, UnknownCommand}
 
@@ -47,7 +47,7 @@ Gives = GivesBy Fails
 abbrev pub named : {W : Type 0} → (W → List ℕ) → List W → List ℕ → Option W
 named word_of [] text = None
 named word_of (value ∷ values) text =
-    if bytes_eq (lowered text) (lowered (word_of value)) then Some value else named word_of values text
+    if bytes_eq (to_lower_case text) (to_lower_case (word_of value)) then Some value else named word_of values text
 
 -- Whether the calendar has a day, as a test.
 abbrev pub is_date : ℕ → ℕ → ℕ → Bool
@@ -74,7 +74,7 @@ is_nil (octet ∷ octets) = false
 abbrev pub spaced : {A : Type 0} → (List ℕ → Option (A × List ℕ)) → List ℕ → Option (A × List ℕ)
 spaced read octets = after (32 ∷ []) octets >>= read
 
-abbrev pub run_at : Class → List ℕ → Option (List ℕ × List ℕ)
+abbrev pub run_at : OctetClass → List ℕ → Option (List ℕ × List ℕ)
 run_at class octets = if is_nil (span (is_in class) octets).0 then None else Some (span (is_in class) octets)
 
 -- What stands up to the closing quote; the flag says that a `\` went before.
@@ -102,7 +102,7 @@ literal_at octets = do
   rest ← after (125 ∷ 13 ∷ 10 ∷ []) (after_plus digits.1)
   octets_at (number_of 0 digits.0) rest
 
-abbrev pub text_at : Class → List ℕ → Option (List ℕ × List ℕ)
+abbrev pub text_at : OctetClass → List ℕ → Option (List ℕ × List ℕ)
 text_at class [] = None
 text_at class (octet ∷ octets) =
     if octet == 34 then quoted_at false octets
@@ -137,7 +137,7 @@ listed_at separator read octets =
     read octets >>= λ first. more_at (length octets) separator read first.1 >>= λ others. Some (first.0 ∷ others.0, others.1)
 
 abbrev pub mailbox_at : List ℕ → Option (List ℕ × List ℕ)
-mailbox_at = made folded_name (text_at Astring)
+mailbox_at = made fold_inbox (text_at Astring)
 
 -- A value that stops where something has to stand.
 abbrev pub before : {A : Type 0} → (List ℕ → Option (A × List ℕ)) → (List ℕ → Option (List ℕ)) → List ℕ → Option (A × List ℕ)
@@ -154,7 +154,7 @@ parens_at = enclosed_at 40 41
 -- What stands behind a word.
 abbrev pub after_word : List ℕ → List ℕ → Option (List ℕ)
 after_word letters octets =
-    if bytes_eq (lowered (span (is_in Item) octets).0) (lowered letters) then Some (span (is_in Item) octets).1 else None
+    if bytes_eq (to_lower_case (span (is_in Item) octets).0) (to_lower_case letters) then Some (span (is_in Item) octets).1 else None
 
 -- The value whose word stands in front.
 abbrev pub named_at : {W : Type 0} → (W → List ℕ) → List W → List ℕ → Option (W × List ℕ)
@@ -255,7 +255,7 @@ with_flag flags (System Flagged) = record flags { flagged = true }
 with_flag flags (System Deleted) = record flags { deleted = true }
 with_flag flags (System Seen) = record flags { seen = true }
 with_flag flags (System Draft) = record flags { draft = true }
-with_flag flags (Keyword keyword) = record flags { keywords = with_text (lowered keyword) flags.keywords }
+with_flag flags (Keyword keyword) = record flags { keywords = with_word (to_lower_case keyword) flags.keywords }
 
 abbrev pub flags_of : Flags → List Flag → Flags
 flags_of flags [] = flags
@@ -308,7 +308,7 @@ item_at octets = named_at fetch_word fetch_words octets >>= λ found. item_behin
 -- FAST or one item.
 abbrev pub alone_at : List ℕ → Option (List FetchItem × List ℕ)
 alone_at octets =
-    if bytes_eq (lowered (span (is_in Item) octets).0) (lowered (codes "FAST")) then Some (fast_items, (span (is_in Item) octets).1)
+    if bytes_eq (to_lower_case (span (is_in Item) octets).0) (to_lower_case (codes "FAST")) then Some (fast_items, (span (is_in Item) octets).1)
     else made (λ item. item ∷ []) item_at octets
 
 abbrev pub fetched_at : List ℕ → Option (List FetchItem × List ℕ)

@@ -3,8 +3,8 @@ ghost use Rattle.imap_grammar.specs.Reading.{Gives, both, literal_at, spaced, ze
 ghost use Rattle.imap_grammar.specs.CommandReading.{append_at, append_date_at, append_flags_at, date_time_at, literal_text_at};
 
 use crate::fault::ParseFault;
-use crate::flags::{collected, flag_group};
-use crate::modifier::{left_out, peeks};
+use crate::flags::{collect_flags, flag_group};
+use crate::modifier::{left_out_fault, peeks};
 use crate::scan::space;
 use crate::text::{literal, spaced_mailbox};
 use imap_syntax::{Append, Command};
@@ -67,7 +67,7 @@ fn append_flags(alloc: Global, octets: &[u8]) -> Result<(Flags, &[u8]), ParseFau
     }
     let rest = space(octets)?;
     let (written, rest) = flag_group(alloc, rest)?;
-    Ok((collected(alloc, &written)?, rest))
+    Ok((collect_flags(alloc, &written)?, rest))
 }
 
 /// A space and a date-time, or nothing.
@@ -90,14 +90,14 @@ fn date_time(octets: &[u8]) -> Result<(DateTime, &[u8]), ParseFault>
         return Err(ParseFault::BadSyntax);
     }
     let (front, rest) = octets.split_at(28);
-    match DateTime::new(zeroed(front)) {
+    match DateTime::new(zero_for_space(front)) {
         Some(date) => Ok((date, rest)),
         None => Err(ParseFault::BadSyntax),
     }
 }
 
 /// The octets with a zero for a space behind the first quote.
-fn zeroed(octets: &[u8]) -> [u8; 28]
+fn zero_for_space(octets: &[u8]) -> [u8; 28]
     requires { length octets.now ≡ 28 }
     ensures { result ≡ zeroed octets.now }
 {
@@ -116,15 +116,15 @@ fn literal_text(alloc: Global, octets: &[u8]) -> Result<(Text, &[u8]), ParseFaul
     match octets {
         [] => Err(ParseFault::BadSyntax),
         [first, rest @ ..] => match *first {
-            b'{' => shared(alloc, rest),
+            b'{' => shared_text(alloc, rest),
             b'~' => Err(ParseFault::NotInProfile),
-            _ => Err(left_out(octets, &[b"UTF8"])),
+            _ => Err(left_out_fault(octets, &[b"UTF8"])),
         },
     }
 }
 
 /// The text of a literal, whose octets its copies share.
-fn shared(alloc: Global, octets: &[u8]) -> Result<(Text, &[u8]), ParseFault>
+fn shared_text(alloc: Global, octets: &[u8]) -> Result<(Text, &[u8]), ParseFault>
     ensures { Gives (λ x. (x.0, x.1.now)) result (literal_at octets.now) }
 {
     let (octets, rest) = literal(alloc, octets)?;

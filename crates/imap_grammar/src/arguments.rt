@@ -6,7 +6,7 @@ ghost use Rattle.imap_syntax.specs.Words.{command_word, status_items, status_wor
 use crate::append::append;
 use crate::fault::ParseFault;
 use crate::fetch::fetch;
-use crate::listed::{Element, listed};
+use crate::element_list::{ListElement, element_list};
 use crate::listing::list;
 use crate::modifier::modifier_word;
 use crate::scan::{skip, space};
@@ -15,8 +15,8 @@ use crate::sets::spaced_set;
 use crate::status::StatusItems;
 use crate::store::store;
 use crate::text::{plain, spaced_mailbox, spaced_texts};
-use crate::word::named;
-use imap_syntax::{Class, Command, CommandWord, Many, StatusItem, Transfer};
+use crate::grammar_word::leading_word;
+use imap_syntax::{OctetClass, Command, CommandWord, WrittenValues, StatusItem, Transfer};
 use imap_types::{Name, Octets, SequenceSet};
 use std::alloc::Global;
 
@@ -68,26 +68,26 @@ fn login(alloc: Global, octets: &[u8]) -> Result<(Command, &[u8]), ParseFault>
 /// Reads atoms.
 struct Atoms;
 
-impl Element for Atoms {
+impl ListElement for Atoms {
     type Value = Octets;
 
     ghost use Rattle.imap_grammar.specs.Reading.{run_at};
-    ghost use Rattle.imap_syntax.specs.declared.class.Class.TheVariants.{Atom};
+    ghost use Rattle.imap_syntax.specs.declared.octet_class.OctetClass.TheVariants.{Atom};
 
     ghost read_at = { run_at Atom };
 
     fn read(alloc: Global, octets: &[u8]) -> Result<(Octets, &[u8]), ParseFault> {
-        plain(alloc, Class::Atom, octets)
+        plain(alloc, OctetClass::Atom, octets)
     }
 }
 
 fn enable(alloc: Global, octets: &[u8]) -> Result<(Command, &[u8]), ParseFault>
     ensures { Gives (λ x. (x.0, x.1.now)) result (enable_at octets.now) }
 {
-    let (names, rest) = listed::<Atoms>(alloc, b' ', space(octets)?)?;
+    let (names, rest) = element_list::<Atoms>(alloc, b' ', space(octets)?)?;
     Ok((
         Command::Enable {
-            names: Many::new(names),
+            names: WrittenValues::new(names),
         },
         rest,
     ))
@@ -96,19 +96,19 @@ fn enable(alloc: Global, octets: &[u8]) -> Result<(Command, &[u8]), ParseFault>
 fn select(alloc: Global, octets: &[u8]) -> Result<(Command, &[u8]), ParseFault>
     ensures { Gives (λ x. (x.0, x.1.now)) result (select_at octets.now) }
 {
-    let ((name, condstore), rest) = opened(alloc, octets)?;
+    let ((name, condstore), rest) = mailbox_to_open(alloc, octets)?;
     Ok((Command::Select { name, condstore }, rest))
 }
 
 fn examine(alloc: Global, octets: &[u8]) -> Result<(Command, &[u8]), ParseFault>
     ensures { Gives (λ x. (x.0, x.1.now)) result (examine_at octets.now) }
 {
-    let ((name, condstore), rest) = opened(alloc, octets)?;
+    let ((name, condstore), rest) = mailbox_to_open(alloc, octets)?;
     Ok((Command::Examine { name, condstore }, rest))
 }
 
 /// The mailbox to open, and whether CONDSTORE stands behind it.
-fn opened(alloc: Global, octets: &[u8]) -> Result<((Name, bool), &[u8]), ParseFault>
+fn mailbox_to_open(alloc: Global, octets: &[u8]) -> Result<((Name, bool), &[u8]), ParseFault>
     ensures { Gives (λ x. (x.0, x.1.now)) result (opened_at octets.now) }
 {
     let (name, rest) = spaced_mailbox(alloc, octets)?;
@@ -171,7 +171,7 @@ fn status(alloc: Global, octets: &[u8]) -> Result<(Command, &[u8]), ParseFault>
             Err(fault)
         }
         Ok((items, rest)) => {
-            let items = Many::new(items);
+            let items = WrittenValues::new(items);
             Ok((Command::Status { name, items }, rest))
         }
     }
@@ -182,7 +182,7 @@ fn status_items(alloc: Global, octets: &[u8]) -> Result<(Vec<StatusItem>, &[u8])
     ensures { Gives (λ x. (x.0.items, x.1.now)) result (spaced (parens_at (listed_at 32 (named_at status_word status_items))) octets.now) }
 {
     let rest = skip(space(octets)?, b"(")?;
-    let (items, rest) = listed::<StatusItems>(alloc, b' ', rest)?;
+    let (items, rest) = element_list::<StatusItems>(alloc, b' ', rest)?;
     let rest = skip(rest, b")")?;
     Ok((items, rest))
 }
@@ -190,7 +190,7 @@ fn status_items(alloc: Global, octets: &[u8]) -> Result<(Vec<StatusItem>, &[u8])
 fn copy(alloc: Global, by_uid: bool, octets: &[u8]) -> Result<(Command, &[u8]), ParseFault>
     ensures { Gives (λ x. (x.0, x.1.now)) result (copy_at by_uid octets.now) }
 {
-    let ((messages, name), rest) = copied(alloc, octets)?;
+    let ((messages, name), rest) = messages_and_mailbox(alloc, octets)?;
     let transfer = Transfer {
         by_uid,
         messages,
@@ -202,7 +202,7 @@ fn copy(alloc: Global, by_uid: bool, octets: &[u8]) -> Result<(Command, &[u8]), 
 fn move_messages(alloc: Global, by_uid: bool, octets: &[u8]) -> Result<(Command, &[u8]), ParseFault>
     ensures { Gives (λ x. (x.0, x.1.now)) result (move_at by_uid octets.now) }
 {
-    let ((messages, name), rest) = copied(alloc, octets)?;
+    let ((messages, name), rest) = messages_and_mailbox(alloc, octets)?;
     let transfer = Transfer {
         by_uid,
         messages,
@@ -212,7 +212,7 @@ fn move_messages(alloc: Global, by_uid: bool, octets: &[u8]) -> Result<(Command,
 }
 
 /// The messages to copy or move, and the mailbox that they go to.
-fn copied(alloc: Global, octets: &[u8]) -> Result<((SequenceSet, Name), &[u8]), ParseFault>
+fn messages_and_mailbox(alloc: Global, octets: &[u8]) -> Result<((SequenceSet, Name), &[u8]), ParseFault>
     ensures { Gives (λ x. (x.0, x.1.now)) result (copied_at octets.now) }
 {
     let (messages, rest) = spaced_set(alloc, octets)?;
@@ -240,7 +240,7 @@ fn uid(alloc: Global, octets: &[u8]) -> Result<(Command, &[u8]), ParseFault>
 fn uid_word(octets: &[u8]) -> Result<(CommandWord, &[u8]), ParseFault>
     ensures { Gives (λ x. (x.0, x.1.now)) result (named_at command_word uid_words octets.now) }
 {
-    named(&UID_WORDS, octets)
+    leading_word(&UID_WORDS, octets)
 }
 
 fn uid_arguments(

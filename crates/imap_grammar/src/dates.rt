@@ -3,9 +3,9 @@ ghost use Rattle.imap_types.specs.DateTimes.{month_of};
 ghost use Rattle.imap_grammar.specs.Reading.{Gives, date_at, date_text_at, digits_at, month_name_at};
 
 use crate::fault::ParseFault;
-use crate::numbers::saturated;
+use crate::numbers::saturating_number;
 use crate::scan::{run, skip};
-use imap_syntax::Class;
+use imap_syntax::OctetClass;
 use imap_types::Day;
 
 /// The day that a key of SEARCH names, with quotes or without (RFC 9051, section 9, date).
@@ -32,7 +32,7 @@ fn date_text(octets: &[u8]) -> Result<(Day, &[u8]), ParseFault>
     let (day, rest) = digits(octets, 1, 2, 31)?;
     let (month, rest) = month_name(skip(rest, b"-")?)?;
     let (year, rest) = digits(skip(rest, b"-")?, 4, 4, 9999)?;
-    match Day::named(year, month, day as u8) {
+    match Day::from_month_name(year, month, day as u8) {
         Some(day) => Ok((day, rest)),
         None => Err(ParseFault::BadSyntax),
     }
@@ -43,8 +43,8 @@ fn digits(octets: &[u8], least: usize, most: usize, limit: u16) -> Result<(u16, 
     ensures value { Gives (λ x. (x.0, x.1.now)) result (digits_at least most limit octets.now) }
     ensures bound { IfOk result (λ x. x.0 ≤ limit) }
 {
-    let (digits, rest) = run(Class::Digit, octets)?;
-    let value = saturated(digits);
+    let (digits, rest) = run(OctetClass::Digit, octets)?;
+    let value = saturating_number(digits);
     if digits.len() < least || digits.len() > most || value > u64::from(limit) {
         return Err(ParseFault::BadSyntax);
     }

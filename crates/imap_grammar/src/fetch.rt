@@ -6,14 +6,14 @@ ghost use Rattle.imap_syntax.specs.Items.{fast_items};
 ghost use Rattle.imap_grammar.specs.declared.fault.ParseFault.TheVariants.{BadSyntax, NotInProfile};
 
 use crate::fault::ParseFault;
-use crate::listed::{Element, listed};
-use crate::modifier::{changed_since, left_out};
+use crate::element_list::{ListElement, element_list};
+use crate::modifier::{changed_since, left_out_fault};
 use crate::numbers::{number, nz};
 use crate::scan::{skip, space, span};
 use crate::sets::spaced_set;
 use crate::text::text;
-use crate::word::{Word, find};
-use imap_syntax::{Class, Command, Fetch, FetchItem, FetchWord, Many, Partial, SectionWord};
+use crate::grammar_word::{GrammarWord, find};
+use imap_syntax::{OctetClass, Command, Fetch, FetchItem, FetchWord, WrittenValues, Partial, SectionWord};
 use imap_types::{FieldNames, Octets, Section};
 use std::alloc::{AllocError, Global};
 
@@ -27,7 +27,7 @@ const FETCH_WORDS: [FetchWord; 7] = [
     FetchWord::BodyPeek,
 ];
 
-impl Word for FetchWord {
+impl GrammarWord for FetchWord {
     ghost use Rattle.imap_syntax.specs.Words.{fetch_word};
 
     ghost word_of = { fetch_word };
@@ -52,7 +52,7 @@ const SECTION_WORDS: [SectionWord; 4] = [
     SectionWord::FieldsNot,
 ];
 
-impl Word for SectionWord {
+impl GrammarWord for SectionWord {
     ghost use Rattle.imap_syntax.specs.Words.{section_word};
 
     ghost word_of = { section_word };
@@ -72,26 +72,26 @@ pub fn fetch(alloc: Global, by_uid: bool, octets: &[u8]) -> Result<(Command, &[u
     ensures { Gives (λ x. (x.0, x.1.now)) result (fetch_at by_uid octets.now) }
 {
     let (messages, rest) = spaced_set(alloc, octets)?;
-    let (mut items, rest) = fetched(alloc, space(rest)?)?;
+    let (mut items, rest) = fetch_items(alloc, space(rest)?)?;
     items.shrink_to_fit();
     let (changed_since, rest) = changed_since(rest)?;
     let fetch = Fetch {
         by_uid,
         messages,
-        items: Many::new(items),
+        items: WrittenValues::new(items),
         changed_since,
     };
     Ok((Command::Fetch(fetch), rest))
 }
 
-fn fetched(alloc: Global, octets: &[u8]) -> Result<(Vec<FetchItem>, &[u8]), ParseFault>
+fn fetch_items(alloc: Global, octets: &[u8]) -> Result<(Vec<FetchItem>, &[u8]), ParseFault>
     ensures { Gives (λ x. (x.0.items, x.1.now)) result (fetched_at octets.now) }
 {
     match octets {
         [] => Err(ParseFault::BadSyntax),
         [first, rest @ ..] => {
             if *first == b'(' {
-                let (items, rest) = listed::<Items>(alloc, b' ', rest)?;
+                let (items, rest) = element_list::<Items>(alloc, b' ', rest)?;
                 let rest = skip(rest, b")")?;
                 return Ok((items, rest));
             }
@@ -104,7 +104,7 @@ fn fetched(alloc: Global, octets: &[u8]) -> Result<(Vec<FetchItem>, &[u8]), Pars
 fn alone(alloc: Global, octets: &[u8]) -> Result<(Vec<FetchItem>, &[u8]), ParseFault>
     ensures { Gives (λ x. (x.0.items, x.1.now)) result (alone_at octets.now) }
 {
-    let (letters, rest) = span(Class::Item, octets);
+    let (letters, rest) = span(OctetClass::Item, octets);
     if letters.eq_ignore_ascii_case(b"FAST") {
         return Ok((fast(alloc)?, rest));
     }
@@ -128,7 +128,7 @@ fn fast(alloc: Global) -> Result<Vec<FetchItem>, AllocError>
 /// Reads items.
 struct Items;
 
-impl Element for Items {
+impl ListElement for Items {
     type Value = FetchItem;
 
     ghost use Rattle.imap_grammar.specs.Reading.{item_at};
@@ -151,10 +151,10 @@ fn item(alloc: Global, octets: &[u8]) -> Result<(FetchItem, &[u8]), ParseFault>
 fn fetch_word(octets: &[u8]) -> Result<(FetchWord, &[u8]), ParseFault>
     ensures { Gives (λ x. (x.0, x.1.now)) result (named_at fetch_word fetch_words octets.now) }
 {
-    let (letters, rest) = span(Class::Item, octets);
+    let (letters, rest) = span(OctetClass::Item, octets);
     match find(&FETCH_WORDS, letters) {
         Some(word) => Ok((word, rest)),
-        None => Err(left_out(
+        None => Err(left_out_fault(
             octets,
             &[
                 b"ENVELOPE",
@@ -193,7 +193,7 @@ fn item_behind(
 fn body(alloc: Global, peek: bool, octets: &[u8]) -> Result<(FetchItem, &[u8]), ParseFault>
     ensures { Gives (λ x. (x.0, x.1.now)) result (body_at peek octets.now) }
 {
-    let (section, rest) = bracketed(alloc, peek, octets)?;
+    let (section, rest) = bracketed_section(alloc, peek, octets)?;
     let (partial, rest) = partial_range(rest)?;
     Ok((
         FetchItem::Body {
@@ -206,7 +206,7 @@ fn body(alloc: Global, peek: bool, octets: &[u8]) -> Result<(FetchItem, &[u8]), 
 }
 
 /// A section between brackets.
-fn bracketed(alloc: Global, peek: bool, octets: &[u8]) -> Result<(Section, &[u8]), ParseFault>
+fn bracketed_section(alloc: Global, peek: bool, octets: &[u8]) -> Result<(Section, &[u8]), ParseFault>
     ensures { Gives (λ x. (x.0, x.1.now)) result (bracketed_at octets.now) }
 {
     match octets {
@@ -252,15 +252,15 @@ fn section(alloc: Global, octets: &[u8]) -> Result<(Section, &[u8]), ParseFault>
 fn section_word(octets: &[u8]) -> Result<(SectionWord, &[u8]), ParseFault>
     ensures { Gives (λ x. (x.0, x.1.now)) result (named_at section_word section_words octets.now) }
 {
-    let (letters, rest) = span(Class::Item, octets);
+    let (letters, rest) = span(OctetClass::Item, octets);
     match find(&SECTION_WORDS, letters) {
         Some(word) => Ok((word, rest)),
         None => {
-            let (digits, _) = span(Class::Digit, octets);
+            let (digits, _) = span(OctetClass::Digit, octets);
             if !digits.is_empty() {
                 return Err(ParseFault::NotInProfile);
             }
-            Err(left_out(octets, &[b"MIME"]))
+            Err(left_out_fault(octets, &[b"MIME"]))
         }
     }
 }
@@ -289,16 +289,16 @@ fn section_behind(
 /// Reads astrings.
 struct Astrings;
 
-impl Element for Astrings {
+impl ListElement for Astrings {
     type Value = Octets;
 
     ghost use Rattle.imap_grammar.specs.Reading.{text_at};
-    ghost use Rattle.imap_syntax.specs.declared.class.Class.TheVariants.{Astring};
+    ghost use Rattle.imap_syntax.specs.declared.octet_class.OctetClass.TheVariants.{Astring};
 
     ghost read_at = { text_at Astring };
 
     fn read(alloc: Global, octets: &[u8]) -> Result<(Octets, &[u8]), ParseFault> {
-        text(alloc, Class::Astring, octets)
+        text(alloc, OctetClass::Astring, octets)
     }
 }
 
@@ -307,7 +307,7 @@ fn field_names(alloc: Global, octets: &[u8]) -> Result<(FieldNames, &[u8]), Pars
     ensures { Gives (λ x. (x.0, x.1.now)) result (field_names_at octets.now) }
 {
     let rest = skip(space(octets)?, b"(")?;
-    let (names, rest) = listed::<Astrings>(alloc, b' ', rest)?;
+    let (names, rest) = element_list::<Astrings>(alloc, b' ', rest)?;
     let rest = skip(rest, b")")?;
     Ok((FieldNames::new(names), rest))
 }

@@ -3,11 +3,11 @@ ghost use Rattle.imap_grammar.specs.Reading.{Gives, flag_at, flag_group_at, flag
 ghost use Rattle.imap_syntax.specs.Words.{system_flags, system_word};
 
 use crate::fault::ParseFault;
-use crate::listed::{Element, listed};
+use crate::element_list::{ListElement, element_list};
 use crate::scan::{skip, span};
 use crate::text::plain;
-use crate::word::{Word, find};
-use imap_syntax::{Class, Flag, SystemFlag};
+use crate::grammar_word::{GrammarWord, find};
+use imap_syntax::{OctetClass, Flag, SystemFlag};
 use imap_types::{Flags, Octets};
 use std::alloc::{AllocError, Global};
 
@@ -19,7 +19,7 @@ const SYSTEM_FLAGS: [SystemFlag; 5] = [
     SystemFlag::Draft,
 ];
 
-impl Word for SystemFlag {
+impl GrammarWord for SystemFlag {
     ghost use Rattle.imap_syntax.specs.Words.{system_word};
 
     ghost word_of = { system_word };
@@ -38,7 +38,7 @@ impl Word for SystemFlag {
 /// Reads flags.
 struct FlagTexts;
 
-impl Element for FlagTexts {
+impl ListElement for FlagTexts {
     type Value = Flag;
 
     ghost use Rattle.imap_grammar.specs.Reading.{flag_at};
@@ -60,7 +60,7 @@ fn one_flag(alloc: Global, octets: &[u8]) -> Result<(Flag, &[u8]), ParseFault>
                 let (known, rest) = system_flag(rest)?;
                 return Ok((Flag::System(known), rest));
             }
-            let (keyword, rest) = plain(alloc, Class::Atom, octets)?;
+            let (keyword, rest) = plain(alloc, OctetClass::Atom, octets)?;
             Ok((Flag::Keyword(keyword), rest))
         }
     }
@@ -70,7 +70,7 @@ fn one_flag(alloc: Global, octets: &[u8]) -> Result<(Flag, &[u8]), ParseFault>
 fn system_flag(octets: &[u8]) -> Result<(SystemFlag, &[u8]), ParseFault>
     ensures { Gives (λ x. (x.0, x.1.now)) result (named_at system_word system_flags octets.now) }
 {
-    let (letters, rest) = span(Class::Item, octets);
+    let (letters, rest) = span(OctetClass::Item, octets);
     match find(&SYSTEM_FLAGS, letters) {
         Some(known) => Ok((known, rest)),
         None => {
@@ -83,11 +83,11 @@ fn system_flag(octets: &[u8]) -> Result<(SystemFlag, &[u8]), ParseFault>
 }
 
 /// Flags between parentheses, or one or more without (RFC 9051, section 9, store-att-flags).
-pub fn stored(alloc: Global, octets: &[u8]) -> Result<(Flags, &[u8]), ParseFault>
+pub fn store_flags(alloc: Global, octets: &[u8]) -> Result<(Flags, &[u8]), ParseFault>
     ensures { Gives (λ x. (x.0, x.1.now)) result (stored_at octets.now) }
 {
     let (written, rest) = stored_texts(alloc, octets)?;
-    Ok((collected(alloc, &written)?, rest))
+    Ok((collect_flags(alloc, &written)?, rest))
 }
 
 fn stored_texts(alloc: Global, octets: &[u8]) -> Result<(Vec<Flag>, &[u8]), ParseFault>
@@ -99,7 +99,7 @@ fn stored_texts(alloc: Global, octets: &[u8]) -> Result<(Vec<Flag>, &[u8]), Pars
             if *first == b'(' {
                 return flag_group(alloc, octets);
             }
-            listed::<FlagTexts>(alloc, b' ', octets)
+            element_list::<FlagTexts>(alloc, b' ', octets)
         }
     }
 }
@@ -123,13 +123,13 @@ fn maybe_flags(alloc: Global, octets: &[u8]) -> Result<(Vec<Flag>, &[u8]), Parse
             if *first == b')' {
                 return Ok((Vec::new(alloc), octets));
             }
-            listed::<FlagTexts>(alloc, b' ', octets)
+            element_list::<FlagTexts>(alloc, b' ', octets)
         }
     }
 }
 
 /// The set of these flags.
-pub fn collected(alloc: Global, written: &[Flag]) -> Result<Flags, AllocError>
+pub fn collect_flags(alloc: Global, written: &[Flag]) -> Result<Flags, AllocError>
     ensures { IfOk result (λ flags. flags ≡ flags_of no_flags written.now) }
 {
     let mut flags = Flags::none(alloc);

@@ -3,105 +3,105 @@ ghost use Rattle.imap_grammar.specs.KeyReading.{below_at, keys_at, leaf_at, leve
 ghost use Rattle.imap_syntax.specs.KeyWords.{key_word, key_words};
 ghost use Rattle.imap_grammar.specs.Reading.{Gives, made, named_at, next_at, number_at, spaced};
 ghost use Rattle.imap_grammar.specs.declared.fault.ParseFault.TheVariants.{BadSyntax, NotInProfile};
-ghost use Rattle.imap_syntax.specs.declared.search.KeyWord.TheVariants as key;
+ghost use Rattle.imap_syntax.specs.declared.search.SearchKeyWord.TheVariants as key;
 ghost use Rattle.imap_syntax.specs.declared.search.SearchStep.TheVariants.{And, Or, Test};
 
 use crate::class::is_in;
 use crate::dates::date;
 use crate::fault::ParseFault;
-use crate::modifier::left_out;
+use crate::modifier::left_out_fault;
 use crate::numbers::number;
 use crate::scan::{skip, space, span};
 use crate::sets::{set, spaced_set};
 use crate::text::{plain, spaced_text, spaced_texts};
-use crate::word::find;
-use imap_syntax::{Class, DayOrder, KeyWord, SearchStep, SearchTest, SystemFlag, TextPlace};
+use crate::grammar_word::find;
+use imap_syntax::{OctetClass, DateRelation, SearchKeyWord, SearchStep, SearchTest, SystemFlag, TextPlace};
 use std::alloc::{AllocError, Global};
 
 /// The greatest number of octets and the greatest mod-sequence: 2^63 - 1.
 const GREATEST: u64 = 9_223_372_036_854_775_807;
 
-const KEY_WORDS: [KeyWord; 30] = [
-    KeyWord::All,
-    KeyWord::System {
+const KEY_WORDS: [SearchKeyWord; 30] = [
+    SearchKeyWord::All,
+    SearchKeyWord::System {
         flag: SystemFlag::Answered,
         is_set: true,
     },
-    KeyWord::System {
+    SearchKeyWord::System {
         flag: SystemFlag::Answered,
         is_set: false,
     },
-    KeyWord::System {
+    SearchKeyWord::System {
         flag: SystemFlag::Flagged,
         is_set: true,
     },
-    KeyWord::System {
+    SearchKeyWord::System {
         flag: SystemFlag::Flagged,
         is_set: false,
     },
-    KeyWord::System {
+    SearchKeyWord::System {
         flag: SystemFlag::Deleted,
         is_set: true,
     },
-    KeyWord::System {
+    SearchKeyWord::System {
         flag: SystemFlag::Deleted,
         is_set: false,
     },
-    KeyWord::System {
+    SearchKeyWord::System {
         flag: SystemFlag::Seen,
         is_set: true,
     },
-    KeyWord::System {
+    SearchKeyWord::System {
         flag: SystemFlag::Seen,
         is_set: false,
     },
-    KeyWord::System {
+    SearchKeyWord::System {
         flag: SystemFlag::Draft,
         is_set: true,
     },
-    KeyWord::System {
+    SearchKeyWord::System {
         flag: SystemFlag::Draft,
         is_set: false,
     },
-    KeyWord::Keyword { is_set: true },
-    KeyWord::Keyword { is_set: false },
-    KeyWord::Place {
+    SearchKeyWord::Keyword { is_set: true },
+    SearchKeyWord::Keyword { is_set: false },
+    SearchKeyWord::Place {
         place: TextPlace::Bcc,
     },
-    KeyWord::Place {
+    SearchKeyWord::Place {
         place: TextPlace::Cc,
     },
-    KeyWord::Place {
+    SearchKeyWord::Place {
         place: TextPlace::From,
     },
-    KeyWord::Place {
+    SearchKeyWord::Place {
         place: TextPlace::Subject,
     },
-    KeyWord::Place {
+    SearchKeyWord::Place {
         place: TextPlace::To,
     },
-    KeyWord::Place {
+    SearchKeyWord::Place {
         place: TextPlace::Body,
     },
-    KeyWord::Place {
+    SearchKeyWord::Place {
         place: TextPlace::Text,
     },
-    KeyWord::Header,
-    KeyWord::Dated {
-        order: DayOrder::Before,
+    SearchKeyWord::Header,
+    SearchKeyWord::Dated {
+        order: DateRelation::Before,
     },
-    KeyWord::Dated {
-        order: DayOrder::On,
+    SearchKeyWord::Dated {
+        order: DateRelation::On,
     },
-    KeyWord::Dated {
-        order: DayOrder::Since,
+    SearchKeyWord::Dated {
+        order: DateRelation::Since,
     },
-    KeyWord::Larger,
-    KeyWord::Smaller,
-    KeyWord::ModSeq,
-    KeyWord::Uid,
-    KeyWord::Not,
-    KeyWord::Or,
+    SearchKeyWord::Larger,
+    SearchKeyWord::Smaller,
+    SearchKeyWord::ModSeq,
+    SearchKeyWord::Uid,
+    SearchKeyWord::Not,
+    SearchKeyWord::Or,
 ];
 
 /// A key below so many levels, of NOT, OR and parentheses, that may still be opened, itself included.
@@ -135,11 +135,11 @@ fn level(
                 let rest = skip(rest, b")")?;
                 return Ok((steps, rest));
             }
-            if is_in(Class::Digit, *first) || *first == b'*' {
+            if is_in(OctetClass::Digit, *first) || *first == b'*' {
                 return numbers(alloc, octets);
             }
             let (word, rest) = key_word(octets)?;
-            worded(alloc, levels, word, rest)
+            key_of_word(alloc, levels, word, rest)
         }
     }
 }
@@ -161,10 +161,10 @@ fn alone(alloc: Global, test: SearchTest) -> Result<Vec<SearchStep>, AllocError>
 }
 
 /// The word that begins a key.
-fn key_word(octets: &[u8]) -> Result<(KeyWord, &[u8]), ParseFault>
+fn key_word(octets: &[u8]) -> Result<(SearchKeyWord, &[u8]), ParseFault>
     ensures { Gives (λ x. (x.0, x.1.now)) result (named_at key_word key_words octets.now) }
 {
-    let (letters, rest) = span(Class::Item, octets);
+    let (letters, rest) = span(OctetClass::Item, octets);
     match find(&KEY_WORDS, letters) {
         Some(word) => Ok((word, rest)),
         None => Err(no_key(octets)),
@@ -178,25 +178,25 @@ fn no_key(octets: &[u8]) -> ParseFault
     if octets.starts_with(b"$") {
         return ParseFault::NotInProfile;
     }
-    left_out(octets, &[b"SENTBEFORE", b"SENTON", b"SENTSINCE"])
+    left_out_fault(octets, &[b"SENTBEFORE", b"SENTON", b"SENTSINCE"])
 }
 
 #[cycle(keys)]
-fn worded(
+fn key_of_word(
     alloc: Global,
     levels: usize,
-    word: KeyWord,
+    word: SearchKeyWord,
     octets: &[u8],
 ) -> Result<(Vec<SearchStep>, &[u8]), ParseFault>
     ensures { Gives (λ x. (x.0.items, x.1.now)) result (worded_at (below_at levels) word octets.now) }
 {
     match word {
-        KeyWord::Not => {
+        SearchKeyWord::Not => {
             let (mut steps, rest) = spaced_key(alloc, levels, octets)?;
             steps.push(SearchStep::Not)?;
             Ok((steps, rest))
         }
-        KeyWord::Or => {
+        SearchKeyWord::Or => {
             let (mut steps, rest) = spaced_key(alloc, levels, octets)?;
             let (second, rest) = spaced_key(alloc, levels, rest)?;
             or_key(&mut steps, second)?;
@@ -221,7 +221,7 @@ fn spaced_key(
 /// A key that holds no other.
 fn leaf_key(
     alloc: Global,
-    word: KeyWord,
+    word: SearchKeyWord,
     octets: &[u8],
 ) -> Result<(Vec<SearchStep>, &[u8]), ParseFault>
     ensures { Gives (λ x. (x.0.items, x.1.now)) result (made (λ test. Test test ∷ []) (leaf_at word) octets.now) }
@@ -291,33 +291,33 @@ fn next_key(
 }
 
 /// What a key's word has behind it.
-fn leaf(alloc: Global, word: KeyWord, octets: &[u8]) -> Result<(SearchTest, &[u8]), ParseFault>
+fn leaf(alloc: Global, word: SearchKeyWord, octets: &[u8]) -> Result<(SearchTest, &[u8]), ParseFault>
     ensures { Gives (λ x. (x.0, x.1.now)) result (leaf_at word octets.now) }
 {
     match word {
-        KeyWord::All => Ok((SearchTest::All, octets)),
-        KeyWord::System { flag, is_set } => Ok((SearchTest::System { flag, is_set }, octets)),
-        KeyWord::Keyword { is_set } => keyword(alloc, is_set, octets),
-        KeyWord::Place { place } => held(alloc, place, octets),
-        KeyWord::Header => header(alloc, octets),
-        KeyWord::Dated { order } => dated(order, octets),
-        KeyWord::Larger => larger(octets),
-        KeyWord::Smaller => smaller(octets),
-        KeyWord::ModSeq => since(octets),
-        KeyWord::Uid => uids(alloc, octets),
-        KeyWord::Not => Err(ParseFault::BadSyntax),
-        KeyWord::Or => Err(ParseFault::BadSyntax),
+        SearchKeyWord::All => Ok((SearchTest::All, octets)),
+        SearchKeyWord::System { flag, is_set } => Ok((SearchTest::System { flag, is_set }, octets)),
+        SearchKeyWord::Keyword { is_set } => keyword(alloc, is_set, octets),
+        SearchKeyWord::Place { place } => text_key(alloc, place, octets),
+        SearchKeyWord::Header => header(alloc, octets),
+        SearchKeyWord::Dated { order } => date_key(order, octets),
+        SearchKeyWord::Larger => larger(octets),
+        SearchKeyWord::Smaller => smaller(octets),
+        SearchKeyWord::ModSeq => since(octets),
+        SearchKeyWord::Uid => uids(alloc, octets),
+        SearchKeyWord::Not => Err(ParseFault::BadSyntax),
+        SearchKeyWord::Or => Err(ParseFault::BadSyntax),
     }
 }
 
 fn keyword(alloc: Global, is_set: bool, octets: &[u8]) -> Result<(SearchTest, &[u8]), ParseFault>
     ensures { Gives (λ x. (x.0, x.1.now)) result (leaf_at (key.Keyword is_set) octets.now) }
 {
-    let (keyword, rest) = plain(alloc, Class::Atom, space(octets)?)?;
+    let (keyword, rest) = plain(alloc, OctetClass::Atom, space(octets)?)?;
     Ok((SearchTest::Keyword { keyword, is_set }, rest))
 }
 
-fn held(alloc: Global, place: TextPlace, octets: &[u8]) -> Result<(SearchTest, &[u8]), ParseFault>
+fn text_key(alloc: Global, place: TextPlace, octets: &[u8]) -> Result<(SearchTest, &[u8]), ParseFault>
     ensures { Gives (λ x. (x.0, x.1.now)) result (leaf_at (key.Place place) octets.now) }
 {
     let (text, rest) = spaced_text(alloc, octets)?;
@@ -331,7 +331,7 @@ fn header(alloc: Global, octets: &[u8]) -> Result<(SearchTest, &[u8]), ParseFaul
     Ok((SearchTest::Header { name, text }, rest))
 }
 
-fn dated(order: DayOrder, octets: &[u8]) -> Result<(SearchTest, &[u8]), ParseFault>
+fn date_key(order: DateRelation, octets: &[u8]) -> Result<(SearchTest, &[u8]), ParseFault>
     ensures { Gives (λ x. (x.0, x.1.now)) result (leaf_at (key.Dated order) octets.now) }
 {
     let (day, rest) = date(space(octets)?)?;

@@ -12,11 +12,11 @@ mod fetch;
 mod flags;
 mod idle;
 mod keys;
-mod listed;
+mod element_list;
 mod listing;
 mod modifier;
 mod numbers;
-mod reading;
+mod frame_parser;
 mod scan;
 mod search;
 mod searching;
@@ -24,13 +24,13 @@ mod sets;
 mod status;
 mod store;
 mod text;
-mod word;
+mod grammar_word;
 
 pub use fault::ParseFault;
 pub use idle::idle_line;
 pub use imap_syntax::{
-    Append, Command, CommandWord, DayOrder, Fetch, FetchItem, Flag, IdleLine, ListNames, Many,
+    Append, Command, CommandWord, DateRelation, Fetch, FetchItem, Flag, IdleLine, ListNames, WrittenValues,
     Partial, Search, SearchOption, SearchStep, SearchTest, StatusItem, Store, StoreAction,
     StoreMode, SystemFlag, Tagged, TextPlace, Transfer,
 };
-pub use reading::{one_reading, parse, tag_of};
+pub use frame_parser::{one_reading, parse, tag_of};

@@ -1,12 +1,12 @@
 ghost use Rattle.std.specs.Prelude.{◌≡◌, codes};
 ghost use Rattle.imap_grammar.specs.Reading.{Gives, after_word, text_at};
 ghost use Rattle.imap_grammar.specs.CommandReading.{list_at, options_at, options_inner_at, returns_at, selection_at};
-ghost use Rattle.imap_syntax.specs.declared.class.Class.TheVariants.{Pattern};
+ghost use Rattle.imap_syntax.specs.declared.octet_class.OctetClass.TheVariants.{Pattern};
 
 use crate::fault::ParseFault;
 use crate::scan::{skip, skip_word, space, span};
 use crate::text::text;
-use imap_syntax::{Class, Command, ListNames};
+use imap_syntax::{OctetClass, Command, ListNames};
 use imap_types::Octets;
 use std::alloc::Global;
 
@@ -15,7 +15,7 @@ pub fn list(alloc: Global, octets: &[u8]) -> Result<(Command, &[u8]), ParseFault
     ensures { Gives (λ x. (x.0, x.1.now)) result (list_at octets.now) }
 {
     let (subscribed_only, rest) = selection(space(octets)?)?;
-    let (reference, rest) = text(alloc, Class::Astring, rest)?;
+    let (reference, rest) = text(alloc, OctetClass::Astring, rest)?;
     let (pattern, rest) = pattern(alloc, space(rest)?)?;
     let (return_subscribed, rest) = returns(rest)?;
     let list = ListNames {
@@ -35,7 +35,7 @@ fn pattern(alloc: Global, octets: &[u8]) -> Result<(Octets, &[u8]), ParseFault>
         [] => Err(ParseFault::BadSyntax),
         [first, ..] => match *first {
             b'(' => Err(ParseFault::NotInProfile),
-            _ => text(alloc, Class::Pattern, octets),
+            _ => text(alloc, OctetClass::Pattern, octets),
         },
     }
 }
@@ -91,7 +91,7 @@ fn options_inner(octets: &[u8]) -> Result<(bool, &[u8]), ParseFault>
             if *first == b')' {
                 return Ok((false, rest));
             }
-            let rest = subscribed(octets)?;
+            let rest = subscribed_option(octets)?;
             let rest = skip(rest, b")")?;
             Ok((true, rest))
         }
@@ -99,10 +99,10 @@ fn options_inner(octets: &[u8]) -> Result<(bool, &[u8]), ParseFault>
 }
 
 /// The one option. Any other word is an option that this server leaves out.
-fn subscribed(octets: &[u8]) -> Result<&[u8], ParseFault>
+fn subscribed_option(octets: &[u8]) -> Result<&[u8], ParseFault>
     ensures { Gives (λ rest. rest.now) result (after_word (codes "SUBSCRIBED") octets.now) }
 {
-    let (letters, rest) = span(Class::Item, octets);
+    let (letters, rest) = span(OctetClass::Item, octets);
     if letters.eq_ignore_ascii_case(b"SUBSCRIBED") {
         return Ok(rest);
     }

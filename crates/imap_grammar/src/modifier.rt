@@ -5,7 +5,7 @@ ghost use Rattle.imap_grammar.specs.declared.fault.ParseFault.TheVariants.{BadSy
 use crate::fault::ParseFault;
 use crate::numbers::number;
 use crate::scan::{skip, space, span};
-use imap_syntax::Class;
+use imap_syntax::OctetClass;
 
 /// The greatest mod-sequence (RFC 7162, section 7, mod-sequence-value).
 const MAX_MODSEQ: u64 = 9_223_372_036_854_775_807;
@@ -61,18 +61,18 @@ fn modifier_group<'a>(letters: &[u8], octets: &'a [u8]) -> Result<(u64, &'a [u8]
 pub fn modifier_word<'a>(letters: &[u8], octets: &'a [u8]) -> Result<&'a [u8], ParseFault>
     ensures { Gives (λ rest. rest.now) result (after_word letters.now octets.now) }
 {
-    let (front, rest) = span(Class::Item, octets);
+    let (front, rest) = span(OctetClass::Item, octets);
     if front.eq_ignore_ascii_case(letters) {
         return Ok(rest);
     }
-    Err(left_out(octets, &[b"VANISHED", b"QRESYNC"]))
+    Err(left_out_fault(octets, &[b"VANISHED", b"QRESYNC"]))
 }
 
 /// The fault where one of these words stands in front, or none.
-pub fn left_out(octets: &[u8], words: &[&[u8]]) -> ParseFault
+pub fn left_out_fault(octets: &[u8], words: &[&[u8]]) -> ParseFault
     ensures { (result ≡ BadSyntax) ⊎ (result ≡ NotInProfile) }
 {
-    let (letters, _) = span(Class::Item, octets);
+    let (letters, _) = span(OctetClass::Item, octets);
     for word in words {
         if letters.eq_ignore_ascii_case(word) {
             return ParseFault::NotInProfile;

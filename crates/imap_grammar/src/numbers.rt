@@ -4,15 +4,15 @@ ghost use Rattle.imap_syntax.specs.Strings.{begins, number_of};
 
 use crate::fault::ParseFault;
 use crate::scan::run;
-use imap_syntax::Class;
+use imap_syntax::OctetClass;
 
 /// A number up to a limit (RFC 9051, section 9, number64).
 pub fn number(octets: &[u8], limit: u64) -> Result<(u64, &[u8]), ParseFault>
     requires { limit < 2 ^ 64 - 1 }
     ensures { Gives (λ x. (x.0, x.1.now)) result (number_at limit octets.now) }
 {
-    let (digits, rest) = run(Class::Digit, octets)?;
-    let value = saturated(digits);
+    let (digits, rest) = run(OctetClass::Digit, octets)?;
+    let value = saturating_number(digits);
     if value > limit {
         return Err(ParseFault::BadSyntax);
     }
@@ -23,8 +23,8 @@ pub fn number(octets: &[u8], limit: u64) -> Result<(u64, &[u8]), ParseFault>
 pub fn nz(octets: &[u8]) -> Result<(u32, &[u8]), ParseFault>
     ensures { Gives (λ x. (x.0, x.1.now)) result (nz_at octets.now) }
 {
-    let (digits, rest) = run(Class::Digit, octets)?;
-    let value = saturated(digits);
+    let (digits, rest) = run(OctetClass::Digit, octets)?;
+    let value = saturating_number(digits);
     if begins_with_zero(digits) || value > 4_294_967_295 {
         return Err(ParseFault::BadSyntax);
     }
@@ -41,7 +41,7 @@ fn begins_with_zero(digits: &[u8]) -> bool
 }
 
 /// The number that the digits write, or the greatest `u64` where it is greater.
-pub fn saturated(digits: &[u8]) -> u64
+pub fn saturating_number(digits: &[u8]) -> u64
     ensures { result ≡ min (number_of 0 digits.now) (2 ^ 64 - 1) }
 {
     let mut number: u64 = 0;

@@ -4,10 +4,10 @@ ghost use Rattle.imap_grammar.specs.Reading.{Gives, after, after_word, run_at, s
 
 use crate::class::is_in;
 use crate::fault::ParseFault;
-use imap_syntax::Class;
+use imap_syntax::OctetClass;
 
 /// The longest front of octets of a class, and the rest.
-pub fn span(class: Class, octets: &[u8]) -> (&[u8], &[u8])
+pub fn span(class: OctetClass, octets: &[u8]) -> (&[u8], &[u8])
     ensures { (result.0.now, result.1.now) ≡ span (is_in class) octets.now }
 {
     let mut len = 0;
@@ -21,7 +21,7 @@ pub fn span(class: Class, octets: &[u8]) -> (&[u8], &[u8])
 }
 
 /// One or more octets of a class, and the rest.
-pub fn run(class: Class, octets: &[u8]) -> Result<(&[u8], &[u8]), ParseFault>
+pub fn run(class: OctetClass, octets: &[u8]) -> Result<(&[u8], &[u8]), ParseFault>
     ensures { Gives (λ x. (x.0.now, x.1.now)) result (run_at class octets.now) }
 {
     let (front, rest) = span(class, octets);
@@ -61,7 +61,7 @@ pub fn space(octets: &[u8]) -> Result<&[u8], ParseFault>
 pub fn skip_word<'a>(octets: &'a [u8], letters: &[u8]) -> Result<&'a [u8], ParseFault>
     ensures { Gives (λ rest. rest.now) result (after_word letters.now octets.now) }
 {
-    let (front, rest) = span(Class::Item, octets);
+    let (front, rest) = span(OctetClass::Item, octets);
     if !front.eq_ignore_ascii_case(letters) {
         return Err(ParseFault::BadSyntax);
     }

@@ -1,10 +1,10 @@
 ghost use Rattle.std.specs.Prelude.{◌≡◌};
 ghost use Rattle.imap_syntax.specs.KeyWords.{flag_key, order_key, place_key};
 
-use crate::word::Word;
-use imap_syntax::{DayOrder, KeyWord, SearchOption, SystemFlag, TextPlace};
+use crate::grammar_word::GrammarWord;
+use imap_syntax::{DateRelation, SearchKeyWord, SearchOption, SystemFlag, TextPlace};
 
-impl Word for SearchOption {
+impl GrammarWord for SearchOption {
     ghost use Rattle.imap_syntax.specs.KeyWords.{option_word};
 
     ghost word_of = { option_word };
@@ -19,25 +19,25 @@ impl Word for SearchOption {
     }
 }
 
-impl Word for KeyWord {
+impl GrammarWord for SearchKeyWord {
     ghost use Rattle.imap_syntax.specs.KeyWords.{key_word};
 
     ghost word_of = { key_word };
 
     fn text(self) -> &'static [u8] {
         match self {
-            KeyWord::All => b"ALL",
-            KeyWord::System { flag, is_set } => flag_key(flag, is_set),
-            KeyWord::Keyword { is_set } => { if is_set { b"KEYWORD" } else { b"UNKEYWORD" } }
-            KeyWord::Place { place } => place_key(place),
-            KeyWord::Header => b"HEADER",
-            KeyWord::Dated { order } => order_key(order),
-            KeyWord::Larger => b"LARGER",
-            KeyWord::Smaller => b"SMALLER",
-            KeyWord::ModSeq => b"MODSEQ",
-            KeyWord::Uid => b"UID",
-            KeyWord::Not => b"NOT",
-            KeyWord::Or => b"OR",
+            SearchKeyWord::All => b"ALL",
+            SearchKeyWord::System { flag, is_set } => flag_key(flag, is_set),
+            SearchKeyWord::Keyword { is_set } => { if is_set { b"KEYWORD" } else { b"UNKEYWORD" } }
+            SearchKeyWord::Place { place } => place_key(place),
+            SearchKeyWord::Header => b"HEADER",
+            SearchKeyWord::Dated { order } => order_key(order),
+            SearchKeyWord::Larger => b"LARGER",
+            SearchKeyWord::Smaller => b"SMALLER",
+            SearchKeyWord::ModSeq => b"MODSEQ",
+            SearchKeyWord::Uid => b"UID",
+            SearchKeyWord::Not => b"NOT",
+            SearchKeyWord::Or => b"OR",
         }
     }
 }
@@ -78,12 +78,12 @@ fn place_key(place: TextPlace) -> &'static [u8]
     }
 }
 
-fn order_key(order: DayOrder) -> &'static [u8]
+fn order_key(order: DateRelation) -> &'static [u8]
     ensures { result.now ≡ order_key order }
 {
     match order {
-        DayOrder::Before => b"BEFORE",
-        DayOrder::On => b"ON",
-        DayOrder::Since => b"SINCE",
+        DateRelation::Before => b"BEFORE",
+        DateRelation::On => b"ON",
+        DateRelation::Since => b"SINCE",
     }
 }

@@ -5,12 +5,12 @@ ghost use Rattle.imap_grammar.specs.Reading.{Gives, named_at};
 
 use crate::fault::ParseFault;
 use crate::keys::keys;
-use crate::listed::{Element, listed};
-use crate::modifier::left_out;
+use crate::element_list::{ListElement, element_list};
+use crate::modifier::left_out_fault;
 use crate::scan::{skip, space, span};
 use crate::text::spaced_text;
-use crate::word::find;
-use imap_syntax::{Class, Command, Many, Search, SearchOption, SearchSteps};
+use crate::grammar_word::find;
+use imap_syntax::{OctetClass, Command, WrittenValues, Search, SearchOption, SearchSteps};
 use std::alloc::Global;
 
 /// How deep NOT, OR and parentheses may stand in one another.
@@ -27,12 +27,12 @@ const SEARCH_OPTIONS: [SearchOption; 4] = [
 pub fn search(alloc: Global, by_uid: bool, octets: &[u8]) -> Result<(Command, &[u8]), ParseFault>
     ensures { Gives (λ x. (x.0, x.1.now)) result (search_at by_uid octets.now) }
 {
-    let (options, rest) = returned(alloc, space(octets)?)?;
+    let (options, rest) = return_clause(alloc, space(octets)?)?;
     let rest = charset(alloc, rest)?;
     let (steps, rest) = key(alloc, rest)?;
     let search = Search {
         by_uid,
-        options: Many::new(options),
+        options: WrittenValues::new(options),
         steps,
     };
     Ok((Command::Search(search), rest))
@@ -47,10 +47,10 @@ fn key(alloc: Global, octets: &[u8]) -> Result<(SearchSteps, &[u8]), ParseFault>
 }
 
 /// RETURN with its options and a space, or nothing.
-fn returned(alloc: Global, octets: &[u8]) -> Result<(Vec<SearchOption>, &[u8]), ParseFault>
+fn return_clause(alloc: Global, octets: &[u8]) -> Result<(Vec<SearchOption>, &[u8]), ParseFault>
     ensures { Gives (λ x. (x.0.items, x.1.now)) result (returned_at octets.now) }
 {
-    let (letters, rest) = span(Class::Item, octets);
+    let (letters, rest) = span(OctetClass::Item, octets);
     if !letters.eq_ignore_ascii_case(b"RETURN") {
         return Ok((Vec::new(alloc), octets));
     }
@@ -76,7 +76,7 @@ fn maybe_options(alloc: Global, octets: &[u8]) -> Result<(Vec<SearchOption>, &[u
             if *first == b')' {
                 return Ok((Vec::new(alloc), octets));
             }
-            listed::<Options>(alloc, b' ', octets)
+            element_list::<Options>(alloc, b' ', octets)
         }
     }
 }
@@ -84,7 +84,7 @@ fn maybe_options(alloc: Global, octets: &[u8]) -> Result<(Vec<SearchOption>, &[u
 /// Reads options.
 struct Options;
 
-impl Element for Options {
+impl ListElement for Options {
     type Value = SearchOption;
 
     ghost use Rattle.imap_syntax.specs.KeyWords.{option_word, search_options};
@@ -101,10 +101,10 @@ impl Element for Options {
 fn search_option(octets: &[u8]) -> Result<(SearchOption, &[u8]), ParseFault>
     ensures { Gives (λ x. (x.0, x.1.now)) result (named_at option_word search_options octets.now) }
 {
-    let (letters, rest) = span(Class::Item, octets);
+    let (letters, rest) = span(OctetClass::Item, octets);
     match find(&SEARCH_OPTIONS, letters) {
         Some(option) => Ok((option, rest)),
-        None => Err(left_out(octets, &[b"SAVE"])),
+        None => Err(left_out_fault(octets, &[b"SAVE"])),
     }
 }
 
@@ -112,7 +112,7 @@ fn search_option(octets: &[u8]) -> Result<(SearchOption, &[u8]), ParseFault>
 fn charset(alloc: Global, octets: &[u8]) -> Result<&[u8], ParseFault>
     ensures { Gives (λ rest. rest.now) result (charset_at octets.now) }
 {
-    let (letters, rest) = span(Class::Item, octets);
+    let (letters, rest) = span(OctetClass::Item, octets);
     if !letters.eq_ignore_ascii_case(b"CHARSET") {
         return Ok(octets);
     }

@@ -2,7 +2,7 @@ ghost use Rattle.std.specs.Prelude.{◌≡◌};
 ghost use Rattle.imap_grammar.specs.Reading.{Gives, bound_at, range_at, ranged_at, set_at, spaced};
 
 use crate::fault::ParseFault;
-use crate::listed::{Element, listed};
+use crate::element_list::{ListElement, element_list};
 use crate::numbers::nz;
 use crate::scan::space;
 use imap_types::{SequenceBound, SequenceRange, SequenceSet};
@@ -12,7 +12,7 @@ use std::alloc::Global;
 pub fn set(alloc: Global, octets: &[u8]) -> Result<(SequenceSet, &[u8]), ParseFault>
     ensures { Gives (λ x. (x.0, x.1.now)) result (set_at octets.now) }
 {
-    let (mut ranges, rest) = listed::<Ranges>(alloc, b',', octets)?;
+    let (mut ranges, rest) = element_list::<Ranges>(alloc, b',', octets)?;
     ranges.shrink_to_fit();
     Ok((SequenceSet::new(ranges), rest))
 }
@@ -27,7 +27,7 @@ pub fn spaced_set(alloc: Global, octets: &[u8]) -> Result<(SequenceSet, &[u8]), 
 /// Reads the ranges of a set.
 struct Ranges;
 
-impl Element for Ranges {
+impl ListElement for Ranges {
     type Value = SequenceRange;
 
     ghost use Rattle.imap_grammar.specs.Reading.{range_at};
@@ -43,11 +43,11 @@ fn range(octets: &[u8]) -> Result<(SequenceRange, &[u8]), ParseFault>
     ensures { Gives (λ x. (x.0, x.1.now)) result (range_at octets.now) }
 {
     let (first, rest) = bound(octets)?;
-    ranged(first, rest)
+    range_from(first, rest)
 }
 
 /// The range that begins with this bound.
-fn ranged(first: SequenceBound, octets: &[u8]) -> Result<(SequenceRange, &[u8]), ParseFault>
+fn range_from(first: SequenceBound, octets: &[u8]) -> Result<(SequenceRange, &[u8]), ParseFault>
     ensures { Gives (λ x. (x.0, x.1.now)) result (ranged_at first octets.now) }
 {
     match octets {

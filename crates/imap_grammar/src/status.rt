@@ -3,8 +3,8 @@ ghost use Rattle.imap_grammar.specs.Reading.{Gives, named_at};
 ghost use Rattle.imap_syntax.specs.Words.{status_items, status_word};
 
 use crate::fault::ParseFault;
-use crate::listed::Element;
-use crate::word::{Word, named};
+use crate::element_list::ListElement;
+use crate::grammar_word::{GrammarWord, leading_word};
 use imap_syntax::StatusItem;
 use std::alloc::Global;
 
@@ -18,7 +18,7 @@ const STATUS_ITEMS: [StatusItem; 7] = [
     StatusItem::HighestModSeq,
 ];
 
-impl Word for StatusItem {
+impl GrammarWord for StatusItem {
     ghost use Rattle.imap_syntax.specs.Words.{status_word};
 
     ghost word_of = { status_word };
@@ -39,7 +39,7 @@ impl Word for StatusItem {
 /// Reads what STATUS asks.
 pub struct StatusItems;
 
-impl Element for StatusItems {
+impl ListElement for StatusItems {
     type Value = StatusItem;
 
     ghost use Rattle.imap_grammar.specs.Reading.{named_at};
@@ -55,5 +55,5 @@ impl Element for StatusItems {
 fn status_item(octets: &[u8]) -> Result<(StatusItem, &[u8]), ParseFault>
     ensures { Gives (λ x. (x.0, x.1.now)) result (named_at status_word status_items octets.now) }
 {
-    named(&STATUS_ITEMS, octets)
+    leading_word(&STATUS_ITEMS, octets)
 }

@@ -4,16 +4,16 @@ ghost use Rattle.imap_grammar.specs.CommandReading.{store_at};
 ghost use Rattle.imap_syntax.specs.Words.{store_actions, store_word};
 
 use crate::fault::ParseFault;
-use crate::flags::stored;
+use crate::flags::store_flags;
 use crate::modifier::unchanged_since;
 use crate::scan::space;
 use crate::sets::spaced_set;
-use crate::word::{Word, named};
+use crate::grammar_word::{GrammarWord, leading_word};
 use imap_syntax::{Command, Store, StoreAction, StoreMode};
 use imap_types::Flags;
 use std::alloc::Global;
 
-impl Word for StoreAction {
+impl GrammarWord for StoreAction {
     ghost use Rattle.imap_syntax.specs.Words.{store_word};
 
     ghost word_of = { store_word };
@@ -77,7 +77,7 @@ pub fn store(alloc: Global, by_uid: bool, octets: &[u8]) -> Result<(Command, &[u
     ensures { Gives (λ x. (x.0, x.1.now)) result (store_at by_uid octets.now) }
 {
     let (messages, rest) = spaced_set(alloc, octets)?;
-    match change(alloc, rest) {
+    match store_change(alloc, rest) {
         Err(fault) => {
             drop(messages);
             Err(fault)
@@ -96,7 +96,7 @@ pub fn store(alloc: Global, by_uid: bool, octets: &[u8]) -> Result<(Command, &[u
 }
 
 /// The change of each message.
-fn change(
+fn store_change(
     alloc: Global,
     octets: &[u8],
 ) -> Result<((Option<u64>, (StoreAction, Flags)), &[u8]), ParseFault>
@@ -104,12 +104,12 @@ fn change(
 {
     let (unchanged_since, rest) = unchanged_since(octets)?;
     let (action, rest) = store_action(space(rest)?)?;
-    let (flags, rest) = stored(alloc, space(rest)?)?;
+    let (flags, rest) = store_flags(alloc, space(rest)?)?;
     Ok(((unchanged_since, (action, flags)), rest))
 }
 
 fn store_action(octets: &[u8]) -> Result<(StoreAction, &[u8]), ParseFault>
     ensures { Gives (λ x. (x.0, x.1.now)) result (named_at store_word store_actions octets.now) }
 {
-    named(&STORE_ACTIONS, octets)
+    leading_word(&STORE_ACTIONS, octets)
 }

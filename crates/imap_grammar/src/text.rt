@@ -1,23 +1,23 @@
 ghost use Rattle.std.specs.Prelude.{◌≡◌, ◌<◌, ◌≤◌, ◌-◌, ◌^◌, length, min, true, false};
 ghost use Rattle.imap_syntax.specs.Strings.{is_quotable, number_of};
 ghost use Rattle.imap_grammar.specs.Reading.{Gives, both, literal_at, mailbox_at, octets_at, quoted_at, run_at, spaced, text_at, after_plus};
-ghost use Rattle.imap_syntax.specs.declared.class.Class.TheVariants.{Astring};
+ghost use Rattle.imap_syntax.specs.declared.octet_class.OctetClass.TheVariants.{Astring};
 
 use crate::fault::ParseFault;
-use crate::numbers::saturated;
+use crate::numbers::saturating_number;
 use crate::scan::{run, skip, space};
-use imap_syntax::Class;
+use imap_syntax::OctetClass;
 use imap_types::{Name, Octets};
 use std::alloc::Global;
 
 /// An astring or a pattern (RFC 9051, section 9): octets of the class as they stand, or a string in either form.
-pub fn text(alloc: Global, class: Class, octets: &[u8]) -> Result<(Octets, &[u8]), ParseFault>
+pub fn text(alloc: Global, class: OctetClass, octets: &[u8]) -> Result<(Octets, &[u8]), ParseFault>
     ensures { Gives (λ x. (x.0, x.1.now)) result (text_at class octets.now) }
 {
     match octets {
         [] => Err(ParseFault::BadSyntax),
         [first, rest @ ..] => match *first {
-            b'"' => quoted(alloc, rest),
+            b'"' => quoted_string(alloc, rest),
             b'{' => literal(alloc, rest),
             _ => plain(alloc, class, octets),
         },
@@ -28,7 +28,7 @@ pub fn text(alloc: Global, class: Class, octets: &[u8]) -> Result<(Octets, &[u8]
 pub fn spaced_text(alloc: Global, octets: &[u8]) -> Result<(Octets, &[u8]), ParseFault>
     ensures { Gives (λ x. (x.0, x.1.now)) result (spaced (text_at Astring) octets.now) }
 {
-    text(alloc, Class::Astring, space(octets)?)
+    text(alloc, OctetClass::Astring, space(octets)?)
 }
 
 /// Two astrings, with a space in front of each.
@@ -41,19 +41,19 @@ pub fn spaced_texts(alloc: Global, octets: &[u8]) -> Result<((Octets, Octets), &
 }
 
 /// One or more octets of a class as they stand.
-pub fn plain(alloc: Global, class: Class, octets: &[u8]) -> Result<(Octets, &[u8]), ParseFault>
+pub fn plain(alloc: Global, class: OctetClass, octets: &[u8]) -> Result<(Octets, &[u8]), ParseFault>
     ensures { Gives (λ x. (x.0, x.1.now)) result (run_at class octets.now) }
 {
     let (front, rest) = run(class, octets)?;
-    Ok((Octets::copied_from(alloc, front)?, rest))
+    Ok((Octets::from_slice(alloc, front)?, rest))
 }
 
 /// A mailbox name (RFC 9051, section 9, mailbox), with INBOX of any case in capitals.
 pub fn mailbox(alloc: Global, octets: &[u8]) -> Result<(Name, &[u8]), ParseFault>
     ensures { Gives (λ x. (x.0, x.1.now)) result (mailbox_at octets.now) }
 {
-    let (written, rest) = text(alloc, Class::Astring, octets)?;
-    Ok((Name::new(written.into_vec()).folded(), rest))
+    let (written, rest) = text(alloc, OctetClass::Astring, octets)?;
+    Ok((Name::new(written.into_vec()).fold_inbox(), rest))
 }
 
 /// A space and a mailbox name.
@@ -64,7 +64,7 @@ pub fn spaced_mailbox(alloc: Global, octets: &[u8]) -> Result<(Name, &[u8]), Par
 }
 
 /// What stands up to the closing quote, without the escapes.
-fn quoted(alloc: Global, octets: &[u8]) -> Result<(Octets, &[u8]), ParseFault>
+fn quoted_string(alloc: Global, octets: &[u8]) -> Result<(Octets, &[u8]), ParseFault>
     ensures { Gives (λ x. (x.0, x.1.now)) result (quoted_at false octets.now) }
 {
     let mut value = Vec::new(alloc);
@@ -103,9 +103,9 @@ fn is_quotable(octet: u8) -> bool
 pub fn literal(alloc: Global, octets: &[u8]) -> Result<(Octets, &[u8]), ParseFault>
     ensures { Gives (λ x. (x.0, x.1.now)) result (literal_at octets.now) }
 {
-    let (digits, rest) = run(Class::Digit, octets)?;
+    let (digits, rest) = run(OctetClass::Digit, octets)?;
     let rest = skip(after_plus(rest), b"}\r\n")?;
-    counted(alloc, digits, rest)
+    counted_octets(alloc, digits, rest)
 }
 
 fn after_plus(octets: &[u8]) -> &[u8]
@@ -118,17 +118,17 @@ fn after_plus(octets: &[u8]) -> &[u8]
 }
 
 /// As many octets as the digits say.
-fn counted<'a>(
+fn counted_octets<'a>(
     alloc: Global,
     digits: &[u8],
     octets: &'a [u8],
 ) -> Result<(Octets, &'a [u8]), ParseFault>
     ensures { Gives (λ x. (x.0, x.1.now)) result (octets_at (number_of 0 digits.now) octets.now) }
 {
-    let count = saturated(digits);
+    let count = saturating_number(digits);
     if (octets.len() as u64) < count {
         return Err(ParseFault::BadSyntax);
     }
     let (value, rest) = octets.split_at(count as usize);
-    Ok((Octets::copied_from(alloc, value)?, rest))
+    Ok((Octets::from_slice(alloc, value)?, rest))
 }

@@ -2,7 +2,7 @@ use Rattle.std.proofs.Common.{◌≡◌, ℕ, ◌-◌, true, false, eqb, List, [
 use Rattle.std.proofs.lemmas.Bool.{cases_Bool, and_parts, and_from, eqb-true, eq-eqb}
 use Rattle.std.proofs.lemmas.List.{get_or_push, length_push, same_from_push}
 use Rattle.imap_lex.specs.Frames.{HasNoCrlf, HasNoNul, IsLine}
-use Rattle.imap_lex.specs.Reading.{is_end}
+use Rattle.imap_lex.specs.Framing.{is_end}
 
 -- A list is empty or has a last element.
 last_of : {X : Type 0} (xs : List X) → (xs ≡ []) ⊎ ((ys : List X) × (y : X) × (xs ≡ ys ++ y ∷ []))

@@ -5,7 +5,7 @@ use Rattle.std.proofs.lemmas.Bool.{cases_Bool, and_parts, and_from, eqb-true, eq
 use Rattle.std.proofs.lemmas.List.{at_drop_more, take-append-drop, take_at, drop_at}
 use Rattle.std.proofs.lemmas.Slice.Eq.{bytes_eq-Decides}
 use Rattle.imap_lex.specs.Marks.{AreDigits, IsNumber, IsMarked, IsUnmarked, closing, value_of}
-use Rattle.imap_lex.specs.MarkReading.{closing_at, digits_at, mark_at, mark_behind, numbered, or_else}
+use Rattle.imap_lex.specs.MarkReading.{closing_at, digits_at, mark_at, mark_behind, mark_of_number, or_else}
 
 -- Digits make a number no smaller.
 pub grows : (n : ℕ) (ds : List ℕ) → n ≤ value_of n ds
@@ -61,7 +61,7 @@ closing_found : (plus : Bool) → closing_at (closing plus) ≡ Some plus
 closing_found true = refl
 closing_found false = refl
 
-numbered_is : (v n : ℕ) (plus : Bool) (o : Option Bool) → numbered v o ≡ Some (n, plus) → (v ≡ n) × (o ≡ Some plus)
+numbered_is : (v n : ℕ) (plus : Bool) (o : Option Bool) → mark_of_number v o ≡ Some (n, plus) → (v ≡ n) × (o ≡ Some plus)
 numbered_is v n plus None h = absurd cc
 numbered_is v n plus (Some q) h = let e : ◌≡◌ {A = ℕ × Bool} (v, q) (n, plus) = cc in (ap (λ m. m.0) e, ap (λ m. Some m.1) e)
 
@@ -71,7 +71,7 @@ behind_is text n plus h =
     elim (cases_Bool (eqb (digits_at text) 0)) [
       | inl t ↦ let k : ◌≡◌ {A = Option (ℕ × Bool)} None (Some (n, plus)) = rw t at h in absurd cc
       | inr f ↦
-          let k : numbered (value_of 0 (take (digits_at text) text)) (closing_at (drop (digits_at text) text)) ≡ Some (n, plus) = rw f at h in
+          let k : mark_of_number (value_of 0 (take (digits_at text) text)) (closing_at (drop (digits_at text) text)) ≡ Some (n, plus) = rw f at h in
           let p = numbered_is (value_of 0 (take (digits_at text) text)) n plus (closing_at (drop (digits_at text) text)) k in
           let c : drop (digits_at text) text ≡ closing plus = closing_is (drop (digits_at text) text) plus p.1 in
           let whole : take (digits_at text) text ++ drop (digits_at text) text ≡ text = take-append-drop (digits_at text) text in (

@@ -4,15 +4,15 @@ use Rattle.std.specs.Option.{option_to_list}
 use Rattle.std.proofs.lemmas.Bool.{cases_Bool, cases_lt, cases_eq}
 use Rattle.std.proofs.lemmas.List.{append-nil, length_push}
 use Rattle.std.proofs.lemmas.List.Concat.{flat_map-append}
-use Rattle.imap_lex.specs.declared.fault.Fault.{Fault}
-use Rattle.imap_lex.specs.declared.fault.Fault.TheVariants.{LineTooLong, LiteralTooLong, NulByte}
+use Rattle.imap_lex.specs.declared.fault.FrameFaultKind.{FrameFaultKind}
+use Rattle.imap_lex.specs.declared.fault.FrameFaultKind.TheVariants.{LineTooLong, LiteralTooLong, NulByte}
 use Rattle.imap_lex.specs.declared.item.Item.{Item}
 use Rattle.imap_lex.specs.declared.item.Item.TheVariants.{Frame, Refused}
 use Rattle.imap_lex.specs.declared.limits.Limits.{Limits}
 use Rattle.imap_lex.specs.Marks.{IsMarked}
-use Rattle.imap_lex.specs.Frames.{AreCommands, AreFrames, ArePartsOfCommand, AreTaken, FailsAt, HasNoCrlf, HasNoNul, IsFrame, IsLine, IsOpenLine, IsOpenLiteral, IsPart, IsRefusedFront, MakesFault, Part, announced_of, octets_of, outside_of, readies, ready}
+use Rattle.imap_lex.specs.Frames.{AreCommands, AreFrames, ArePartsOfCommand, KeepLimits, FailsAt, HasNoCrlf, HasNoNul, IsFrame, IsLine, IsOpenLine, IsOpenLiteral, IsPart, IsRefusedFront, MakesFault, Part, announced_octets, octets_of, octets_outside, readies, ready}
 use Rattle.imap_lex.specs.MarkReading.{mark_at}
-use Rattle.imap_lex.specs.Reading.{Cut, Progress, after_octet, goes_on, is_end, octets_so_far, ready_item, start, with_items}
+use Rattle.imap_lex.specs.Framing.{Cut, FrameProgress, after_octet, cut_onward, is_end, octets_so_far, ready_item, start, with_items}
 use Rattle.imap_lex.proofs.CutLemmas.{goes_on-fault}
 use Rattle.imap_lex.proofs.LineLemmas.{end_parts, ended_line, no_nul_both, open_more}
 use Rattle.imap_lex.proofs.MarkLemmas.{mark_is, unmarked_is}
@@ -20,13 +20,13 @@ use Rattle.imap_lex.proofs.StepLemmas.{announced_of-push, at_line, at_literal, e
 use Rattle.imap_lex.proofs.RunLemmas.{run_step}
 
 -- A rest, with what the framer keeps of it.
-abbrev pub IsKept : Limits → List ℕ → List Item → Progress → Type 0
+abbrev pub IsKept : Limits → List ℕ → List Item → FrameProgress → Type 0
 IsKept limits rest items p =
     ((o : IsOpenLine limits rest items) × (p ≡ at_line o.parts o.line))
     ⊎ ((o : IsOpenLiteral limits rest items) × (p ≡ at_literal o.parts o.line o.n o.literal))
 
 -- A stream that gave these items, with what the framer keeps.
-pub record HasRead (limits : Limits) (stream : List ℕ) (items : List Item) (p : Progress) : Type 0 where
+pub record HasRead (limits : Limits) (stream : List ℕ) (items : List Item) (p : FrameProgress) : Type 0 where
   pub commands : List (List ℕ × List Item)
   pub last : List Item
   pub rest : List ℕ
@@ -39,10 +39,10 @@ flat_map-push : {X A : Type 0} (f : X → List A) (xs : List X) (x : X) → flat
 flat_map-push f xs x = append-nil (flat_map f (xs ++ x ∷ [])) ∙ flat_map-append f xs (x ∷ []) ∙ ap (λ t. flat_map f xs ++ t) (append-nil (f x))
 
 -- What an octet does to a rest: it goes on, a command or a refused front is whole, or there is a fault.
-pub data Change (limits : Limits) (rest : List ℕ) (items : List Item) (p : Progress) (octet : ℕ) : Type 0 where
-  longer : (item : Option Item) (q : Progress) → after_octet limits p octet ≡ Ok (item, q) → IsKept limits (rest ++ octet ∷ []) (items ++ option_to_list item) q → Change limits rest items p octet
+pub data Change (limits : Limits) (rest : List ℕ) (items : List Item) (p : FrameProgress) (octet : ℕ) : Type 0 where
+  longer : (item : Option Item) (q : FrameProgress) → after_octet limits p octet ≡ Ok (item, q) → IsKept limits (rest ++ octet ∷ []) (items ++ option_to_list item) q → Change limits rest items p octet
   finished : (item : Item) → after_octet limits p octet ≡ Ok (Some item, start) → IsFrame limits (rest ++ octet ∷ []) (items ++ item ∷ []) ⊎ IsRefusedFront limits (rest ++ octet ∷ []) (items ++ item ∷ []) → Change limits rest items p octet
-  failed : (why : Fault) → after_octet limits p octet ≡ Err why → MakesFault limits rest octet why → Change limits rest items p octet
+  failed : (why : FrameFaultKind) → after_octet limits p octet ≡ Err why → MakesFault limits rest octet why → Change limits rest items p octet
 
 empty_is_open : HasNoCrlf []
 empty_is_open [] back e = cc
@@ -53,7 +53,7 @@ parts_push [] part h k = (k, tt)
 parts_push (p ∷ ps) part h k = (h.0, parts_push ps part h.1 k)
 
 -- One octet more of a line.
-taken_more : (limits : Limits) (parts : List Part) (line : List ℕ) (octet : ℕ) → AreTaken limits parts line → octet ≢ 0 → outside_of parts + length line < limits.line → AreTaken limits parts (line ++ octet ∷ [])
+taken_more : (limits : Limits) (parts : List Part) (line : List ℕ) (octet : ℕ) → KeepLimits limits parts line → octet ≢ 0 → octets_outside parts + length line < limits.line → KeepLimits limits parts (line ++ octet ∷ [])
 taken_more limits parts line octet h nul l =
     let n = length_push line octet in
     record {
@@ -64,7 +64,7 @@ taken_more limits parts line octet h nul l =
     }
 
 -- One part more.
-taken_part : (limits : Limits) (parts : List Part) (part : Part) → AreTaken limits parts part.line → IsPart part → announced_of parts + length part.literal ≤ limits.literals → HasNoNul part.literal → AreTaken limits (parts ++ part ∷ []) []
+taken_part : (limits : Limits) (parts : List Part) (part : Part) → KeepLimits limits parts part.line → IsPart part → announced_octets parts + length part.literal ≤ limits.literals → HasNoNul part.literal → KeepLimits limits (parts ++ part ∷ []) []
 taken_part limits parts part h is_part fits nul =
     let o = outside_of-push parts part in
     let a = announced_of-push parts part in
@@ -80,7 +80,7 @@ taken_part limits parts part h is_part fits nul =
     }
 
 -- Behind a line with a mark comes an open literal, or where it is whole an open line.
-literal_kept : (limits : Limits) (parts : List Part) (line : List ℕ) (n : ℕ) (plus : Bool) (literal rest : List ℕ) (items : List Item) → AreTaken limits parts line → IsLine line → IsMarked n plus line → announced_of parts + n ≤ limits.literals → length literal ≤ n → HasNoNul literal → rest ≡ octets_of parts ++ (line ++ literal) → items ≡ readies parts ++ ready plus → IsKept limits rest items (at_literal parts line n literal)
+literal_kept : (limits : Limits) (parts : List Part) (line : List ℕ) (n : ℕ) (plus : Bool) (literal rest : List ℕ) (items : List Item) → KeepLimits limits parts line → IsLine line → IsMarked n plus line → announced_octets parts + n ≤ limits.literals → length literal ≤ n → HasNoNul literal → rest ≡ octets_of parts ++ (line ++ literal) → items ≡ readies parts ++ ready plus → IsKept limits rest items (at_literal parts line n literal)
 literal_kept limits parts line n plus literal rest items taken ends mark fits l nul e f =
     elim (cases_lt (length literal) n) [
       | inl short ↦ inr (
@@ -105,16 +105,16 @@ literal_kept limits parts line n plus literal rest items taken ends mark fits l 
     ]
 
 -- LF behind CR.
-end_change : (limits : Limits) (rest : List ℕ) (items : List Item) (o : IsOpenLine limits rest items) → outside_of o.parts + length o.line < limits.line → is_end o.line 10 ≡ true → (m : Option (ℕ × Bool)) → mark_at (o.line ++ 10 ∷ []) ≡ m → Change limits rest items (at_line o.parts o.line) 10
+end_change : (limits : Limits) (rest : List ℕ) (items : List Item) (o : IsOpenLine limits rest items) → octets_outside o.parts + length o.line < limits.line → is_end o.line 10 ≡ true → (m : Option (ℕ × Bool)) → mark_at (o.line ++ 10 ∷ []) ≡ m → Change limits rest items (at_line o.parts o.line) 10
 end_change limits rest items o l e m k =
     let s = end_parts o.line 10 e in
     let text : List ℕ = o.line ++ 10 ∷ [] in
     let ends : IsLine text = ended_line o.line s.0 o.open_line s.2 in
-    let taken : AreTaken limits o.parts text = taken_more limits o.parts o.line 10 o.taken (λ z. omega arith) l in
+    let taken : KeepLimits limits o.parts text = taken_more limits o.parts o.line 10 o.taken (λ z. omega arith) l in
     let whole : rest ++ 10 ∷ [] ≡ octets_of o.parts ++ text = ap (λ t. t ++ 10 ∷ []) o.text_is ∙ append_assoc (octets_of o.parts) o.line (10 ∷ []) in
     let step : after_octet limits (at_line o.parts o.line) 10 ≡ ended limits o.parts text = step_end limits o.parts o.line l e in
     by_mark m k ends taken whole step where
-      too_long : (n : ℕ) (plus : Bool) → IsMarked n plus (o.line ++ 10 ∷ []) → limits.literals - announced_of o.parts < n → IsLine (o.line ++ 10 ∷ []) → AreTaken limits o.parts (o.line ++ 10 ∷ []) → rest ++ 10 ∷ [] ≡ octets_of o.parts ++ (o.line ++ 10 ∷ []) → after_octet limits (at_line o.parts o.line) 10 ≡ ended limits o.parts (o.line ++ 10 ∷ []) → Change limits rest items (at_line o.parts o.line) 10
+      too_long : (n : ℕ) (plus : Bool) → IsMarked n plus (o.line ++ 10 ∷ []) → limits.literals - announced_octets o.parts < n → IsLine (o.line ++ 10 ∷ []) → KeepLimits limits o.parts (o.line ++ 10 ∷ []) → rest ++ 10 ∷ [] ≡ octets_of o.parts ++ (o.line ++ 10 ∷ []) → after_octet limits (at_line o.parts o.line) 10 ≡ ended limits o.parts (o.line ++ 10 ∷ []) → Change limits rest items (at_line o.parts o.line) 10
       too_long n true mark long ends taken whole step =
           let a = taken.announced in
           failed LiteralTooLong (step ∙ ended_too_long limits o.parts (o.line ++ 10 ∷ []) n true mark long)
@@ -125,7 +125,7 @@ end_change limits rest items o l e m k =
           (step ∙ ended_too_long limits o.parts (o.line ++ 10 ∷ []) n false mark long ∙ ap (λ t. Ok (Some (Refused t), start)) (sym whole))
           (inr (record { parts = o.parts; line = o.line ++ 10 ∷ []; n = n; taken = taken; ends = ends; mark = mark; too_long = omega arith; text_is = whole; items_are = ap (λ t. t ++ Refused (rest ++ 10 ∷ []) ∷ []) o.items_are }))
 
-      by_mark : (m : Option (ℕ × Bool)) → mark_at (o.line ++ 10 ∷ []) ≡ m → IsLine (o.line ++ 10 ∷ []) → AreTaken limits o.parts (o.line ++ 10 ∷ []) → rest ++ 10 ∷ [] ≡ octets_of o.parts ++ (o.line ++ 10 ∷ []) → after_octet limits (at_line o.parts o.line) 10 ≡ ended limits o.parts (o.line ++ 10 ∷ []) → Change limits rest items (at_line o.parts o.line) 10
+      by_mark : (m : Option (ℕ × Bool)) → mark_at (o.line ++ 10 ∷ []) ≡ m → IsLine (o.line ++ 10 ∷ []) → KeepLimits limits o.parts (o.line ++ 10 ∷ []) → rest ++ 10 ∷ [] ≡ octets_of o.parts ++ (o.line ++ 10 ∷ []) → after_octet limits (at_line o.parts o.line) 10 ≡ ended limits o.parts (o.line ++ 10 ∷ []) → Change limits rest items (at_line o.parts o.line) 10
       by_mark None k ends taken whole step =
           let unmarked = unmarked_is (o.line ++ 10 ∷ []) k in
           finished (Frame (rest ++ 10 ∷ []))
@@ -133,7 +133,7 @@ end_change limits rest items o l e m k =
           (inl (record { parts = o.parts; line = o.line ++ 10 ∷ []; taken = taken; ends = ends; unmarked = unmarked; text_is = whole; items_are = ap (λ t. t ++ Frame (rest ++ 10 ∷ []) ∷ []) o.items_are }))
       by_mark (Some (n, plus)) k ends taken whole step =
           let mark = mark_is (o.line ++ 10 ∷ []) n plus k in
-          elim (cases_lt (limits.literals - announced_of o.parts) n) [
+          elim (cases_lt (limits.literals - announced_octets o.parts) n) [
             | inl long ↦ too_long n plus mark long ends taken whole step
             | inr short ↦
                 let a = taken.announced in
@@ -147,7 +147,7 @@ end_change limits rest items o l e m k =
 line_change : (limits : Limits) (rest : List ℕ) (items : List Item) (octet : ℕ) (o : IsOpenLine limits rest items) → octet ≢ 0 → Change limits rest items (at_line o.parts o.line) octet
 line_change limits rest items octet o nul =
     let l = o.taken.outside in
-    elim (cases_lt (outside_of o.parts + length o.line) limits.line) [
+    elim (cases_lt (octets_outside o.parts + length o.line) limits.line) [
       | inr full ↦ failed LineTooLong (step_full limits o.parts o.line octet nul full) (nul, record { parts = o.parts; line = o.line; taken = o.taken; open_line = o.open_line; full = omega arith; rest_is = o.text_is })
       | inl room ↦ elim (cases_Bool (is_end o.line octet)) [
         | inl t ↦
@@ -178,22 +178,22 @@ literal_change limits rest items octet o nul =
     (ap (λ t. t ++ octet ∷ []) o.text_is ∙ append_assoc (octets_of o.parts) (o.line ++ o.literal) (octet ∷ []) ∙ ap (λ t. octets_of o.parts ++ t) (append_assoc o.line o.literal (octet ∷ [])))
     (append-nil items ∙ o.items_are))
 
-change : (limits : Limits) (rest : List ℕ) (items : List Item) (p : Progress) (octet : ℕ) → IsKept limits rest items p → Change limits rest items p octet
+change : (limits : Limits) (rest : List ℕ) (items : List Item) (p : FrameProgress) (octet : ℕ) → IsKept limits rest items p → Change limits rest items p octet
 change limits rest items p octet kept =
     elim (cases_eq octet 0) [
       | inl e ↦ failed NulByte (step_nul limits p octet e) e
       | inr nul ↦ elim kept [
-        | inl o ↦ subst (λ (p : Progress). Change limits rest items p octet) (sym o.1) (line_change limits rest items octet o.0 nul)
-        | inr o ↦ subst (λ (p : Progress). Change limits rest items p octet) (sym o.1) (literal_change limits rest items octet o.0 nul)
+        | inl o ↦ subst (λ (p : FrameProgress). Change limits rest items p octet) (sym o.1) (line_change limits rest items octet o.0 nul)
+        | inr o ↦ subst (λ (p : FrameProgress). Change limits rest items p octet) (sym o.1) (literal_change limits rest items octet o.0 nul)
       ]
     ]
 
 -- The same of equal texts.
-reread : (limits : Limits) (stream stream' : List ℕ) (items items' : List Item) (p : Progress) → stream' ≡ stream → items' ≡ items → HasRead limits stream items p → HasRead limits stream' items' p
+reread : (limits : Limits) (stream stream' : List ℕ) (items items' : List Item) (p : FrameProgress) → stream' ≡ stream → items' ≡ items → HasRead limits stream items p → HasRead limits stream' items' p
 reread limits stream stream' items items' p e f h =
     record { commands = h.commands; last = h.last; rest = h.rest; are_commands = h.are_commands; kept = h.kept; stream_is = e ∙ h.stream_is; items_are = f ∙ h.items_are }
 
-frames_of : (limits : Limits) (stream : List ℕ) (items : List Item) (p : Progress) (h : HasRead limits stream items p) → AreFrames limits stream items h.rest
+frames_of : (limits : Limits) (stream : List ℕ) (items : List Item) (p : FrameProgress) (h : HasRead limits stream items p) → AreFrames limits stream items h.rest
 frames_of limits stream items p h =
     record {
       commands = h.commands;
@@ -204,11 +204,11 @@ frames_of limits stream items p h =
       items_are = h.items_are;
     }
 
-refail : (limits : Limits) (stream stream' : List ℕ) (items items' : List Item) (why : Fault) → stream' ≡ stream → items' ≡ items → FailsAt limits stream items why → FailsAt limits stream' items' why
+refail : (limits : Limits) (stream stream' : List ℕ) (items items' : List Item) (why : FrameFaultKind) → stream' ≡ stream → items' ≡ items → FailsAt limits stream items why → FailsAt limits stream' items' why
 refail limits stream stream' items items' why e f h =
     record { front = h.front; octet = h.octet; behind = h.behind; rest = h.rest; stream_is = e ∙ h.stream_is; before = subst (λ (xs : List Item). AreFrames limits h.front xs h.rest) (sym f) h.before; fault = h.fault }
 
-kept_octets : (limits : Limits) (rest : List ℕ) (items : List Item) (p : Progress) → IsKept limits rest items p → rest ≡ octets_so_far p
+kept_octets : (limits : Limits) (rest : List ℕ) (items : List Item) (p : FrameProgress) → IsKept limits rest items p → rest ≡ octets_so_far p
 kept_octets limits rest items p kept =
     elim kept [
       | inl o ↦ o.0.text_is ∙ ap octets_so_far (sym o.1)
@@ -234,12 +234,12 @@ nothing_kept limits = inl (
 )
 
 -- One octet of a stream: it is read, or makes a fault.
-abbrev pub ReadsOctet : (limits : Limits) (stream : List ℕ) (items : List Item) (p : Progress) (rest : List ℕ) (octet : ℕ) → Type 0
+abbrev pub ReadsOctet : (limits : Limits) (stream : List ℕ) (items : List Item) (p : FrameProgress) (rest : List ℕ) (octet : ℕ) → Type 0
 ReadsOctet limits stream items p rest octet =
-    ((item : Option Item) × (q : Progress) × (after_octet limits p octet ≡ Ok (item, q)) × HasRead limits (stream ++ octet ∷ []) (items ++ option_to_list item) q)
-    ⊎ ((why : Fault) × (after_octet limits p octet ≡ Err why) × MakesFault limits rest octet why)
+    ((item : Option Item) × (q : FrameProgress) × (after_octet limits p octet ≡ Ok (item, q)) × HasRead limits (stream ++ octet ∷ []) (items ++ option_to_list item) q)
+    ⊎ ((why : FrameFaultKind) × (after_octet limits p octet ≡ Err why) × MakesFault limits rest octet why)
 
-read_octet : (limits : Limits) (stream : List ℕ) (items : List Item) (p : Progress) (octet : ℕ) (h : HasRead limits stream items p) → ReadsOctet limits stream items p h.rest octet
+read_octet : (limits : Limits) (stream : List ℕ) (items : List Item) (p : FrameProgress) (octet : ℕ) (h : HasRead limits stream items p) → ReadsOctet limits stream items p h.rest octet
 read_octet limits stream items p octet h =
     let text : stream ++ octet ∷ [] ≡ flat_map (λ c. c.0) h.commands ++ (h.rest ++ octet ∷ []) =
     ap (λ t. t ++ octet ∷ []) h.stream_is ∙ append_assoc (flat_map (λ c. c.0) h.commands) h.rest (octet ∷ [])
@@ -282,18 +282,18 @@ read_octet limits stream items p octet h =
     ]
 
 -- A stretch of a stream: it is read, or an octet of it makes a fault.
-abbrev pub ReadsStretch : (limits : Limits) (past : List ℕ) (items : List Item) (p : Progress) (octets : List ℕ) → Type 0
+abbrev pub ReadsStretch : (limits : Limits) (past : List ℕ) (items : List Item) (p : FrameProgress) (octets : List ℕ) → Type 0
 ReadsStretch limits past items p octets =
-    ((more : List Item) × (q : Progress) × (goes_on limits (Ok p) octets ≡ (more, Ok q)) × HasRead limits (past ++ octets) (items ++ more) q)
-    ⊎ ((more : List Item) × (why : Fault) × (goes_on limits (Ok p) octets ≡ (more, Err why)) × FailsAt limits (past ++ octets) (items ++ more) why)
+    ((more : List Item) × (q : FrameProgress) × (cut_onward limits (Ok p) octets ≡ (more, Ok q)) × HasRead limits (past ++ octets) (items ++ more) q)
+    ⊎ ((more : List Item) × (why : FrameFaultKind) × (cut_onward limits (Ok p) octets ≡ (more, Err why)) × FailsAt limits (past ++ octets) (items ++ more) why)
 
-read_stretch : (limits : Limits) (past : List ℕ) (items : List Item) (p : Progress) (octets : List ℕ) → HasRead limits past items p → ReadsStretch limits past items p octets
+read_stretch : (limits : Limits) (past : List ℕ) (items : List Item) (p : FrameProgress) (octets : List ℕ) → HasRead limits past items p → ReadsStretch limits past items p octets
 read_stretch limits past items p [] h = inl ([], p, refl, reread limits past (past ++ []) items (items ++ []) p (append-nil past) (append-nil items) h)
 read_stretch limits past items p (b ∷ bs) h =
     elim (read_octet limits past items p b h) [
       | inl s ↦
           let given_items : List Item = option_to_list s.0 in
-          let step : goes_on limits (Ok p) (b ∷ bs) ≡ with_items given_items (goes_on limits (Ok s.1) bs) = run_step limits p b bs (Ok (s.0, s.1)) s.2 in
+          let step : cut_onward limits (Ok p) (b ∷ bs) ≡ with_items given_items (cut_onward limits (Ok s.1) bs) = run_step limits p b bs (Ok (s.0, s.1)) s.2 in
           elim (read_stretch limits (past ++ b ∷ []) (items ++ given_items) s.1 bs s.3) [
             | inl r ↦ inl (
               given_items ++ r.0,
@@ -333,35 +333,35 @@ read_all limits stream =
     (record { commands = []; last = []; rest = []; are_commands = tt; kept = nothing_kept limits; stream_is = refl; items_are = refl })
 
 -- What is given without a fault are frames.
-pub frames_by_given : (limits : Limits) (stream : List ℕ) (items : List Item) (p : Progress) → goes_on limits (Ok start) stream ≡ (items, Ok p) → AreFrames limits stream items (octets_so_far p)
+pub frames_by_given : (limits : Limits) (stream : List ℕ) (items : List Item) (p : FrameProgress) → cut_onward limits (Ok start) stream ≡ (items, Ok p) → AreFrames limits stream items (octets_so_far p)
 frames_by_given limits stream items p e =
     elim (read_all limits stream) [
       | inl r ↦
           let k : ◌≡◌ {A = Cut} (r.0, Ok r.1) (items, Ok p) = sym r.2 ∙ e in
           let xs : r.0 ≡ items = ap (λ c. c.0) k in
-          let state : ◌≡◌ {A = Result Progress Fault} (Ok r.1) (Ok p) = ap (λ c. c.1) k in
+          let state : ◌≡◌ {A = Result FrameProgress FrameFaultKind} (Ok r.1) (Ok p) = ap (λ c. c.1) k in
           let q : r.1 ≡ p = cc in
           let rest : r.3.rest ≡ octets_so_far p = kept_octets limits r.3.rest r.3.last r.1 r.3.kept ∙ ap octets_so_far q in
           subst (λ (xs : List Item). AreFrames limits stream xs (octets_so_far p)) xs
           (subst (λ (t : List ℕ). AreFrames limits stream r.0 t) rest (frames_of limits stream r.0 r.1 r.3))
       | inr r ↦
           let k : ◌≡◌ {A = Cut} (r.0, Err r.1) (items, Ok p) = sym r.2 ∙ e in
-          let state : ◌≡◌ {A = Result Progress Fault} (Err r.1) (Ok p) = ap (λ c. c.1) k in
+          let state : ◌≡◌ {A = Result FrameProgress FrameFaultKind} (Err r.1) (Ok p) = ap (λ c. c.1) k in
           absurd cc
     ]
 
 -- What ends in a fault fails at an octet.
-pub fault_by_given : (limits : Limits) (stream : List ℕ) (items : List Item) (why : Fault) → goes_on limits (Ok start) stream ≡ (items, Err why) → FailsAt limits stream items why
+pub fault_by_given : (limits : Limits) (stream : List ℕ) (items : List Item) (why : FrameFaultKind) → cut_onward limits (Ok start) stream ≡ (items, Err why) → FailsAt limits stream items why
 fault_by_given limits stream items why e =
     elim (read_all limits stream) [
       | inl r ↦
           let k : ◌≡◌ {A = Cut} (r.0, Ok r.1) (items, Err why) = sym r.2 ∙ e in
-          let state : ◌≡◌ {A = Result Progress Fault} (Ok r.1) (Err why) = ap (λ c. c.1) k in
+          let state : ◌≡◌ {A = Result FrameProgress FrameFaultKind} (Ok r.1) (Err why) = ap (λ c. c.1) k in
           absurd cc
       | inr r ↦
           let k : ◌≡◌ {A = Cut} (r.0, Err r.1) (items, Err why) = sym r.2 ∙ e in
           let xs : r.0 ≡ items = ap (λ c. c.0) k in
-          let state : ◌≡◌ {A = Result Progress Fault} (Err r.1) (Err why) = ap (λ c. c.1) k in
+          let state : ◌≡◌ {A = Result FrameProgress FrameFaultKind} (Err r.1) (Err why) = ap (λ c. c.1) k in
           let q : r.1 ≡ why = cc in
-          subst (λ (w : Fault). FailsAt limits stream items w) q (subst (λ (xs : List Item). FailsAt limits stream xs r.1) xs r.3)
+          subst (λ (w : FrameFaultKind). FailsAt limits stream items w) q (subst (λ (xs : List Item). FailsAt limits stream xs r.1) xs r.3)
     ]

@@ -1,7 +1,7 @@
 use Rattle.std.specs.Prelude.{◌≡◌, ◌≢◌, ℕ, ◌+◌, ◌<◌, ◌≤◌, Bool, true, false, List, [], ◌∷◌, ◌++◌, ◌⊎◌, length, sum_by}
 use Rattle.std.specs.List.{flat_map}
-use Rattle.imap_lex.specs.declared.fault.Fault.{Fault}
-use Rattle.imap_lex.specs.declared.fault.Fault.TheVariants.{LineTooLong, LiteralTooLong, NulByte, NoMemory, Failed}
+use Rattle.imap_lex.specs.declared.fault.FrameFaultKind.{FrameFaultKind}
+use Rattle.imap_lex.specs.declared.fault.FrameFaultKind.TheVariants.{LineTooLong, LiteralTooLong, NulByte, NoMemory, Failed}
 use Rattle.imap_lex.specs.declared.item.Item.{Item}
 use Rattle.imap_lex.specs.declared.item.Item.TheVariants.{Ready, Frame, Refused}
 use Rattle.imap_lex.specs.declared.limits.Limits.{Limits}
@@ -43,12 +43,12 @@ abbrev pub octets_of : List Part → List ℕ
 octets_of parts = flat_map (λ part. part.line ++ part.literal) parts
 
 -- How many of them stand outside literals.
-abbrev pub outside_of : List Part → ℕ
-outside_of parts = sum_by (λ part. length part.line) parts
+abbrev pub octets_outside : List Part → ℕ
+octets_outside parts = sum_by (λ part. length part.line) parts
 
 -- How many of them stand in literals.
-abbrev pub announced_of : List Part → ℕ
-announced_of parts = sum_by (λ part. length part.literal) parts
+abbrev pub announced_octets : List Part → ℕ
+announced_octets parts = sum_by (λ part. length part.literal) parts
 
 -- Behind a mark `{n}` the client waits for leave to go on; behind `{n+}` it doesn't (RFC 9051, section 4.3).
 abbrev pub ready : Bool → List Item
@@ -60,17 +60,17 @@ abbrev pub readies : List Part → List Item
 readies parts = flat_map (λ part. ready part.plus) parts
 
 -- Parts and a line behind them that keep the limits and have no NUL.
-pub record AreTaken (limits : Limits) (parts : List Part) (line : List ℕ) : Type 0 where
+pub record KeepLimits (limits : Limits) (parts : List Part) (line : List ℕ) : Type 0 where
   pub are_parts : ArePartsOfCommand parts
-  pub outside : outside_of parts + length line ≤ limits.line
-  pub announced : announced_of parts ≤ limits.literals
+  pub outside : octets_outside parts + length line ≤ limits.line
+  pub announced : announced_octets parts ≤ limits.literals
   pub no_nul : HasNoNul (octets_of parts ++ line)
 
 -- A whole command: parts, and a line that ends with no mark (RFC 9051, section 2.2.2).
 pub record IsFrame (limits : Limits) (text : List ℕ) (items : List Item) : Type 0 where
   pub parts : List Part
   pub line : List ℕ
-  pub taken : AreTaken limits parts line
+  pub taken : KeepLimits limits parts line
   pub ends : IsLine line
   pub unmarked : IsUnmarked line
   pub text_is : text ≡ octets_of parts ++ line
@@ -81,10 +81,10 @@ pub record IsRefusedFront (limits : Limits) (text : List ℕ) (items : List Item
   pub parts : List Part
   pub line : List ℕ
   pub n : ℕ
-  pub taken : AreTaken limits parts line
+  pub taken : KeepLimits limits parts line
   pub ends : IsLine line
   pub mark : IsMarked n false line
-  pub too_long : limits.literals < announced_of parts + n
+  pub too_long : limits.literals < announced_octets parts + n
   pub text_is : text ≡ octets_of parts ++ line
   pub items_are : items ≡ readies parts ++ Refused text ∷ []
 
@@ -92,7 +92,7 @@ pub record IsRefusedFront (limits : Limits) (text : List ℕ) (items : List Item
 pub record IsOpenLine (limits : Limits) (text : List ℕ) (items : List Item) : Type 0 where
   pub parts : List Part
   pub line : List ℕ
-  pub taken : AreTaken limits parts line
+  pub taken : KeepLimits limits parts line
   pub open_line : HasNoCrlf line
   pub text_is : text ≡ octets_of parts ++ line
   pub items_are : items ≡ readies parts
@@ -104,10 +104,10 @@ pub record IsOpenLiteral (limits : Limits) (text : List ℕ) (items : List Item)
   pub n : ℕ
   pub plus : Bool
   pub literal : List ℕ
-  pub taken : AreTaken limits parts line
+  pub taken : KeepLimits limits parts line
   pub ends : IsLine line
   pub mark : IsMarked n plus line
-  pub fits : announced_of parts + n ≤ limits.literals
+  pub fits : announced_octets parts + n ≤ limits.literals
   pub short : length literal < n
   pub no_nul : HasNoNul literal
   pub text_is : text ≡ octets_of parts ++ (line ++ literal)
@@ -136,9 +136,9 @@ pub record AreFrames (limits : Limits) (stream : List ℕ) (items : List Item) (
 pub record IsFullLine (limits : Limits) (rest : List ℕ) : Type 0 where
   pub parts : List Part
   pub line : List ℕ
-  pub taken : AreTaken limits parts line
+  pub taken : KeepLimits limits parts line
   pub open_line : HasNoCrlf line
-  pub full : outside_of parts + length line ≡ limits.line
+  pub full : octets_outside parts + length line ≡ limits.line
   pub rest_is : rest ≡ octets_of parts ++ line
 
 -- Behind this rest LF ends a line with a mark `{n+}` that announces more than the limit leaves.
@@ -146,14 +146,14 @@ pub record IsTooLongAtLf (limits : Limits) (rest : List ℕ) : Type 0 where
   pub parts : List Part
   pub line : List ℕ
   pub n : ℕ
-  pub taken : AreTaken limits parts (line ++ 10 ∷ [])
+  pub taken : KeepLimits limits parts (line ++ 10 ∷ [])
   pub ends : IsLine (line ++ 10 ∷ [])
   pub mark : IsMarked n true (line ++ 10 ∷ [])
-  pub too_long : limits.literals < announced_of parts + n
+  pub too_long : limits.literals < announced_octets parts + n
   pub rest_is : rest ≡ octets_of parts ++ line
 
 -- The octet makes this fault behind this rest.
-abbrev pub MakesFault : Limits → List ℕ → ℕ → Fault → Type 0
+abbrev pub MakesFault : Limits → List ℕ → ℕ → FrameFaultKind → Type 0
 MakesFault limits rest octet NulByte = octet ≡ 0
 MakesFault limits rest octet LineTooLong = (octet ≢ 0) × IsFullLine limits rest
 MakesFault limits rest octet LiteralTooLong = (octet ≡ 10) × IsTooLongAtLf limits rest
@@ -161,7 +161,7 @@ MakesFault limits rest octet NoMemory = ⊥
 MakesFault limits rest octet Failed = ⊥
 
 -- The stream's first octet that makes a fault makes this one; these are the items before it.
-pub record FailsAt (limits : Limits) (stream : List ℕ) (items : List Item) (why : Fault) : Type 0 where
+pub record FailsAt (limits : Limits) (stream : List ℕ) (items : List Item) (why : FrameFaultKind) : Type 0 where
   pub front : List ℕ
   pub octet : ℕ
   pub behind : List ℕ

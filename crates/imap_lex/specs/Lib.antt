@@ -1,4 +1,4 @@
 pub mod Frames
 pub mod MarkReading
 pub mod Marks
-pub mod Reading
+pub mod Framing

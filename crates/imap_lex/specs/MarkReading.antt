@@ -2,9 +2,9 @@ use Rattle.std.specs.Prelude.{ℕ, ◌^◌, Bool, true, false, ◌==◌, nat_lt,
 use Rattle.std.specs.Char.{is_ascii_digit}
 use Rattle.std.specs.List.{prefix_len}
 use Rattle.std.specs.Str.{bytes_eq}
-use Rattle.imap_lex.specs.declared.mark.Ending.{Ending}
-use Rattle.imap_lex.specs.declared.mark.Ending.TheVariants.{Whole, Literal, TooLong}
-use Rattle.imap_lex.specs.declared.mark.Mark.{Mark}
+use Rattle.imap_lex.specs.declared.literal_mark.LineEffect.{LineEffect}
+use Rattle.imap_lex.specs.declared.literal_mark.LineEffect.TheVariants.{Whole, Literal, TooLong}
+use Rattle.imap_lex.specs.declared.literal_mark.Mark.{Mark}
 use Rattle.imap_lex.specs.Marks.{value_of}
 
 -- How the mark at a line's end is read: what the framer computes. `Marks` says what it means.
@@ -15,9 +15,9 @@ closing_at text =
     if bytes_eq text (125 ∷ 13 ∷ 10 ∷ []) then Some false else (if bytes_eq text (43 ∷ 125 ∷ 13 ∷ 10 ∷ []) then Some true else None)
 
 -- This number with what closes its mark.
-abbrev pub numbered : ℕ → Option Bool → Option (ℕ × Bool)
-numbered n None = None
-numbered n (Some plus) = Some (n, plus)
+abbrev pub mark_of_number : ℕ → Option Bool → Option (ℕ × Bool)
+mark_of_number n None = None
+mark_of_number n (Some plus) = Some (n, plus)
 
 -- How many digits stand at the front of a text.
 abbrev pub digits_at : List ℕ → ℕ
@@ -26,7 +26,7 @@ digits_at text = prefix_len is_ascii_digit text
 -- The mark whose brace stands before this text: the octets that it announces, and whether it is `{n+}`.
 abbrev pub mark_behind : List ℕ → Option (ℕ × Bool)
 mark_behind text =
-    if digits_at text == 0 then None else numbered (value_of 0 (take (digits_at text) text)) (closing_at (drop (digits_at text) text))
+    if digits_at text == 0 then None else mark_of_number (value_of 0 (take (digits_at text) text)) (closing_at (drop (digits_at text) text))
 
 -- The first mark, or where there is none the other.
 abbrev pub or_else : Option (ℕ × Bool) → Option (ℕ × Bool) → Option (ℕ × Bool)
@@ -39,15 +39,15 @@ mark_at [] = None
 mark_at (octet ∷ octets) = if octet == 123 then or_else (mark_behind octets) (mark_at octets) else mark_at octets
 
 -- The mark as the program keeps it: a number that 64 bits don't hold is more than any limit.
-abbrev pub fitted : Option (ℕ × Bool) → Option Mark
-fitted None = None
-fitted (Some mark) = Some (record { octets = if nat_lt mark.0 (2 ^ 64) then Some mark.0 else None; plus = mark.1 })
+abbrev pub fit_to_limit : Option (ℕ × Bool) → Option Mark
+fit_to_limit None = None
+fit_to_limit (Some mark) = Some (record { octets = if nat_lt mark.0 (2 ^ 64) then Some mark.0 else None; plus = mark.1 })
 
 -- What a line's end brings, where literals have so much room.
-abbrev pub ending_by : Option (ℕ × Bool) → ℕ → Ending
-ending_by None room = Whole
-ending_by (Some mark) room = if nat_le mark.0 room then Literal mark.0 mark.1 else TooLong mark.1
+abbrev pub line_effect_by : Option (ℕ × Bool) → ℕ → LineEffect
+line_effect_by None room = Whole
+line_effect_by (Some mark) room = if nat_le mark.0 room then Literal mark.0 mark.1 else TooLong mark.1
 
 -- What the end of this line brings.
-abbrev pub ending_of : List ℕ → ℕ → Ending
-ending_of line room = ending_by (mark_at line) room
+abbrev pub line_effect_of : List ℕ → ℕ → LineEffect
+line_effect_of line room = line_effect_by (mark_at line) room

@@ -8,7 +8,7 @@ use thiserror::Error;
 
 /// Why the framer failed. It answers `Failed` from then on.
 #[derive(Clone, Copy, Debug, PartialEq, Eq, Error)]
-pub enum Fault {
+pub enum FrameFaultKind {
     /// A command has more octets outside its literals than the limit.
     #[error("line too long")]
     LineTooLong,
@@ -33,25 +33,25 @@ pub struct FrameFault {
     /// octets.
     pub items: Vec<Item>,
     /// Which fault.
-    pub why: Fault,
+    pub why: FrameFaultKind,
 }
 
-impl From<AllocError> for Fault {
-    ghost use Rattle.imap_lex.specs.declared.fault.Fault.TheVariants.{NoMemory};
+impl From<AllocError> for FrameFaultKind {
+    ghost use Rattle.imap_lex.specs.declared.fault.FrameFaultKind.TheVariants.{NoMemory};
 
     ghost from_gives = { λ _ why. why ≡ NoMemory };
 
-    fn from(_: AllocError) -> Fault {
-        Fault::NoMemory
+    fn from(_: AllocError) -> FrameFaultKind {
+        FrameFaultKind::NoMemory
     }
 }
 
-impl<T: Drop> From<AllocFailed<T>> for Fault {
-    ghost use Rattle.imap_lex.specs.declared.fault.Fault.TheVariants.{NoMemory};
+impl<T: Drop> From<AllocFailed<T>> for FrameFaultKind {
+    ghost use Rattle.imap_lex.specs.declared.fault.FrameFaultKind.TheVariants.{NoMemory};
 
     ghost from_gives = { λ _ why. why ≡ NoMemory };
 
-    fn from(_: AllocFailed<T>) -> Fault {
-        Fault::NoMemory
+    fn from(_: AllocFailed<T>) -> FrameFaultKind {
+        FrameFaultKind::NoMemory
     }
 }

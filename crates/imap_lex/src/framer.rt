@@ -2,11 +2,11 @@
 
 ghost use Rattle.std.specs.Prelude.{◌≡◌, OnOk, IfOk, IfErr, IsOk, Ok};
 
-use crate::cut::cut_into;
-use crate::fault::{Fault, FrameFault};
+use crate::cutting::cut_piece;
+use crate::fault::{FrameFaultKind, FrameFault};
 use crate::item::Item;
 use crate::limits::Limits;
-use crate::progress::Progress;
+use crate::progress::FrameProgress;
 use std::alloc::Global;
 use std::marker::Model;
 
@@ -15,20 +15,20 @@ use std::marker::Model;
 #[derive(Drop)]
 pub struct Framer {
     limits: Limits,
-    progress: Progress,
-    fault: Option<Fault>,
+    progress: FrameProgress,
+    fault: Option<FrameFaultKind>,
 }
 
 impl Model for Framer {
-    ghost use Rattle.imap_lex.specs.Reading.{Framing, state_of};
+    ghost use Rattle.imap_lex.specs.Framing.{FramerState, state_of};
 
-    ghost Value = { Framing };
+    ghost Value = { FramerState };
 
     ghost view = { λ f. record { limits = f.limits; state = state_of f.fault f.progress } };
 }
 
 impl Framer {
-    ghost use Rattle.imap_lex.specs.Reading.{FaultsNow, goes_on, start};
+    ghost use Rattle.imap_lex.specs.Framing.{FaultsNow, cut_onward, start};
 
     /// A framer at the beginning of a stream.
     pub fn new(alloc: Global, limits: Limits) -> Framer
@@ -36,7 +36,7 @@ impl Framer {
     {
         Framer {
             limits,
-            progress: Progress::new(alloc),
+            progress: FrameProgress::new(alloc),
             fault: None,
         }
     }
@@ -50,18 +50,18 @@ impl Framer {
     /// completes), and every later call answers `Failed`.
     pub fn feed(&mut self, alloc: Global, piece: &[u8]) -> Result<Vec<Item>, FrameFault>
         ensures limits { self.new.limits ≡ self.old.limits }
-        ensures ok { IfOk result (λ items. goes_on self.old.limits self.old.state piece.now ≡ (items.items, self.new.state)) }
+        ensures ok { IfOk result (λ items. cut_onward self.old.limits self.old.state piece.now ≡ (items.items, self.new.state)) }
         ensures going { OnOk result (IsOk self.new.state) }
-        ensures err { IfErr result (λ fault. FaultsNow fault.why fault.items.items self.old.state self.new.state (goes_on self.old.limits self.old.state piece.now)) }
+        ensures err { IfErr result (λ fault. FaultsNow fault.why fault.items.items self.old.state self.new.state (cut_onward self.old.limits self.old.state piece.now)) }
     {
         let mut items = Vec::new(alloc);
         if self.fault.is_some() {
             return Err(FrameFault {
                 items,
-                why: Fault::Failed,
+                why: FrameFaultKind::Failed,
             });
         }
-        match cut_into(alloc, self.limits, &mut self.progress, &mut items, piece) {
+        match cut_piece(alloc, self.limits, &mut self.progress, &mut items, piece) {
             Ok(()) => Ok(items),
             Err(why) => {
                 self.fault = Some(why);

@@ -5,16 +5,16 @@
 //! input; `specs/Frames.antt` says what the commands of a stream are, and `laws` that the framer gives those.
 #![tactic(auto)]
 
-mod cut;
+mod cutting;
 mod fault;
 mod framer;
 mod item;
 mod laws;
 mod limits;
-mod mark;
+mod literal_mark;
 mod progress;
 
-pub use fault::{Fault, FrameFault};
+pub use fault::{FrameFaultKind, FrameFault};
 pub use framer::Framer;
 pub use item::{Frame, Item};
 pub use laws::{any_cuts, faults_come_first, frames_are_given, given_are_frames};

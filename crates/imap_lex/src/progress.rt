@@ -1,19 +1,19 @@
 //! What has come of the next command.
 
 ghost use Rattle.std.specs.Prelude.{◌≡◌, ◌⊎◌, ◌+◌, ◌-◌, ◌^◌, ◌<◌, ◌≤◌, ◌++◌, true, false, length, IfOk, IfErr, OnOk, Ok, Err};
-ghost use Rattle.imap_lex.specs.declared.fault.Fault.TheVariants.{NoMemory, NulByte};
+ghost use Rattle.imap_lex.specs.declared.fault.FrameFaultKind.TheVariants.{NoMemory, NulByte};
 
-use crate::fault::Fault;
+use crate::fault::FrameFaultKind;
 use crate::item::{Frame, Item};
 use crate::limits::Limits;
-use crate::mark::{Ending, read_ending};
+use crate::literal_mark::{LineEffect, read_line_effect};
 use std::alloc::Global;
 use std::marker::Model;
 use std::mem;
 
 /// What has come of the next command.
 #[derive(Drop)]
-pub(crate) struct Progress {
+pub(crate) struct FrameProgress {
     /// Its lines that ended with a mark, with the octets of their literals.
     front: Vec<u8>,
     /// The octets behind them, of a line that hasn't ended.
@@ -26,23 +26,23 @@ pub(crate) struct Progress {
     awaited: usize,
 }
 
-impl Model for Progress {
-    ghost use Rattle.imap_lex.specs.Reading.{Progress};
+impl Model for FrameProgress {
+    ghost use Rattle.imap_lex.specs.Framing.{FrameProgress};
 
-    ghost Value = { Progress };
+    ghost Value = { FrameProgress };
 
     ghost view = { λ p. record { front = p.front.items; line = p.line.items; outside = p.outside; announced = p.announced; awaited = p.awaited } };
 }
 
-impl Progress {
-    ghost use Rattle.imap_lex.specs.MarkReading.{ending_of};
-    ghost use Rattle.imap_lex.specs.Reading.{start, has_nul, after_literal, after_octet, after_line_octet, after_ending, with_octets};
+impl FrameProgress {
+    ghost use Rattle.imap_lex.specs.MarkReading.{line_effect_of};
+    ghost use Rattle.imap_lex.specs.Framing.{start, has_nul, after_literal, after_octet, after_line_octet, after_ending, with_octets};
 
     /// Nothing has come.
-    pub(crate) fn new(alloc: Global) -> Progress
+    pub(crate) fn new(alloc: Global) -> FrameProgress
         ensures { result ≡ start }
     {
-        Progress {
+        FrameProgress {
             front: Vec::new(alloc),
             line: Vec::new(alloc),
             outside: 0,
@@ -52,20 +52,20 @@ impl Progress {
     }
 
     /// How many octets of a literal are still to come.
-    pub(crate) fn awaited(&self) -> usize
+    pub(crate) fn awaited_octets(&self) -> usize
         ensures { result ≡ self.now.awaited }
     {
         self.awaited
     }
 
     /// Takes the next octets of a literal, all at once. Behind an `Err` it is of no further use.
-    pub(crate) fn take_literal(&mut self, octets: &[u8]) -> Result<(), Fault>
+    pub(crate) fn take_literal(&mut self, octets: &[u8]) -> Result<(), FrameFaultKind>
         requires { length octets.now ≤ self.old.awaited }
         ensures ok { OnOk result ((has_nul octets.now ≡ false) × (self.new ≡ after_literal self.old octets.now)) }
         ensures err { IfErr result (λ why. (why ≡ NoMemory) ⊎ ((why ≡ NulByte) × (has_nul octets.now ≡ true))) }
     {
         if octets.contains(&0) {
-            return Err(Fault::NulByte);
+            return Err(FrameFaultKind::NulByte);
         }
         self.front.extend_from_slice(octets)?;
         self.awaited -= octets.len();
@@ -80,7 +80,7 @@ impl Progress {
     }
 
     /// Takes octets of a line, none of which ends it, all at once. Behind an `Err` it is of no further use.
-    pub(crate) fn take_inside(&mut self, octets: &[u8]) -> Result<(), Fault>
+    pub(crate) fn take_inside(&mut self, octets: &[u8]) -> Result<(), FrameFaultKind>
         requires { self.old.outside + length octets.now < 2 ^ 64 }
         ensures ok { OnOk result (self.new ≡ with_octets self.old octets.now) }
         ensures err { IfErr result (λ why. why ≡ NoMemory) }
@@ -96,13 +96,13 @@ impl Progress {
         alloc: Global,
         limits: Limits,
         octet: u8,
-    ) -> Result<Option<Item>, Fault>
+    ) -> Result<Option<Item>, FrameFaultKind>
         requires { self.old.awaited ≡ 0 }
         ensures ok { IfOk result (λ item. after_octet limits self.old octet ≡ Ok (item, self.new)) }
         ensures err { IfErr result (λ why. (why ≡ NoMemory) ⊎ (after_octet limits self.old octet ≡ Err why)) }
     {
         if octet == 0 {
-            return Err(Fault::NulByte);
+            return Err(FrameFaultKind::NulByte);
         }
         self.take_line_octet(alloc, limits, octet)
     }
@@ -113,12 +113,12 @@ impl Progress {
         alloc: Global,
         limits: Limits,
         octet: u8,
-    ) -> Result<Option<Item>, Fault>
+    ) -> Result<Option<Item>, FrameFaultKind>
         ensures ok { IfOk result (λ item. after_line_octet limits self.old octet ≡ Ok (item, self.new)) }
         ensures err { IfErr result (λ why. (why ≡ NoMemory) ⊎ (after_line_octet limits self.old octet ≡ Err why)) }
     {
         if self.outside >= limits.line {
-            return Err(Fault::LineTooLong);
+            return Err(FrameFaultKind::LineTooLong);
         }
         let ends = octet == b'\n' && self.line.last() == Some(&b'\r');
         self.line.push(octet)?;
@@ -130,22 +130,22 @@ impl Progress {
     }
 
     /// Ends the line that has come, whose last octets are CRLF.
-    fn end_line(&mut self, alloc: Global, limits: Limits) -> Result<Option<Item>, Fault>
-        ensures ok { IfOk result (λ item. after_ending self.old (ending_of self.old.line (limits.literals - self.old.announced)) ≡ Ok (item, self.new)) }
-        ensures err { IfErr result (λ why. (why ≡ NoMemory) ⊎ (after_ending self.old (ending_of self.old.line (limits.literals - self.old.announced)) ≡ Err why)) }
+    fn end_line(&mut self, alloc: Global, limits: Limits) -> Result<Option<Item>, FrameFaultKind>
+        ensures ok { IfOk result (λ item. after_ending self.old (line_effect_of self.old.line (limits.literals - self.old.announced)) ≡ Ok (item, self.new)) }
+        ensures err { IfErr result (λ why. (why ≡ NoMemory) ⊎ (after_ending self.old (line_effect_of self.old.line (limits.literals - self.old.announced)) ≡ Err why)) }
     {
-        match read_ending(&self.line, limits.literals.saturating_sub(self.announced)) {
-            Ending::Whole => Ok(Some(Item::Frame(self.finish(alloc)?))),
-            Ending::Literal { octets, plus } => {
+        match read_line_effect(&self.line, limits.literals.saturating_sub(self.announced)) {
+            LineEffect::Whole => Ok(Some(Item::Frame(self.finish(alloc)?))),
+            LineEffect::Literal { octets, plus } => {
                 self.front.extend_from_slice(&self.line)?;
                 self.line.clear();
                 self.announced += octets;
                 self.awaited = octets;
                 Ok(if plus { None } else { Some(Item::Ready) })
             }
-            Ending::TooLong { plus } => {
+            LineEffect::TooLong { plus } => {
                 if plus {
-                    return Err(Fault::LiteralTooLong);
+                    return Err(FrameFaultKind::LiteralTooLong);
                 }
                 Ok(Some(Item::Refused(self.finish(alloc)?)))
             }
@@ -153,11 +153,11 @@ impl Progress {
     }
 
     /// Gives the octets that have come, and begins anew.
-    fn finish(&mut self, alloc: Global) -> Result<Frame, Fault>
+    fn finish(&mut self, alloc: Global) -> Result<Frame, FrameFaultKind>
         ensures ok { IfOk result (λ frame. (frame ≡ self.old.front ++ self.old.line) × (self.new ≡ start)) }
         ensures err { IfErr result (λ why. why ≡ NoMemory) }
     {
-        let Progress { front, line, .. } = mem::replace(self, Progress::new(alloc));
+        let FrameProgress { front, line, .. } = mem::replace(self, FrameProgress::new(alloc));
         if front.is_empty() {
             return Ok(Frame::new(line));
         }

@@ -3,16 +3,16 @@ use Rattle.std.specs.Prelude.{Ok}
 use Rattle.std.proofs.Math.Seq.{take-length}
 use Rattle.std.proofs.lemmas.Bool.{false≢true}
 use Rattle.std.proofs.lemmas.Bool.Decides.{eqb_tells}
-use Rattle.causal_inbox.specs.Received.{HasGrown}
-use Rattle.causal_inbox.specs.declared.answers.Arrival.{Arrival}
+use Rattle.causal_inbox.specs.ReceivedSets.{HasGrown}
+use Rattle.causal_inbox.specs.declared.delivery.Arrival.{Arrival}
 use Rattle.causal_inbox.proofs.Union.{arrival_grows, arrival_start, releases_grow, releases_start}
 use Rattle.crdt_ops.specs.declared.kind.Kind.{Kind}
 use Rattle.crdt_ops.specs.declared.op.Op.{Op}
 use Rattle.imap_answers.specs.declared.answer.Answer.{Answer}
-use Rattle.imap_answers.specs.declared.words.Refusal.{Refusal}
+use Rattle.imap_answers.specs.declared.fixed_words.Refusal.{Refusal}
 use Rattle.imap_answers.specs.Printable.{Each}
-use Rattle.imap_commands.specs.Selecting.{SelectTells, closed_answers, flags_in_use, mailbox_answers, select_tells}
-use Rattle.imap_commands.specs.Told.{Telling}
+use Rattle.imap_commands.specs.Selecting.{IsSelectReport, closed_answers, flags_in_use, mailbox_answers, select_report}
+use Rattle.imap_commands.specs.Report.{CommandReport}
 use Rattle.imap_types.specs.declared.flags.Flags.{Flags}
 use Rattle.imap_commands.specs.declared.session.Session.{Session}
 use Rattle.imap_commands.specs.declared.session.State.{State}
@@ -20,38 +20,38 @@ use Rattle.imap_commands.specs.declared.session.State.TheVariants.{NotAuthentica
 use Rattle.imap_commands.proofs.PrintSelected.{each_append}
 use Rattle.imap_syntax.specs.declared.command.Command.{Command}
 use Rattle.imap_syntax.specs.declared.command.Command.TheVariants as commands
-use Rattle.imap_query.specs.declared.mailbox_status.Marks.{Marks}
-use Rattle.mail_listing.specs.Listed.{Listed}
-use Rattle.mail_listing.specs.Listing.{AreRisingRows, beyond}
+use Rattle.imap_query.specs.declared.mailbox_status.MailboxCounters.{MailboxCounters}
+use Rattle.mailbox_rows.specs.ListedMessage.{ListedMessage}
+use Rattle.mailbox_rows.specs.RowViews.{AreRisingRows, rows_after_uid}
 use Rattle.merge_laws.specs.Orders.{IsIn}
-use Rattle.session_view.specs.Replay.{after_answers, replayed}
-use Rattle.session_view.specs.Seen.{Seen}
-use Rattle.session_view.specs.Sync.{synced}
+use Rattle.session_view.specs.Replay.{after_answers, view_after_reply}
+use Rattle.session_view.specs.ViewState.{ViewState}
+use Rattle.session_view.specs.Sync.{view_after_sync}
 use Rattle.session_view.specs.Views.{AreRising, Knows, entries_of}
-use Rattle.session_view.specs.declared.entry.Entry.{Entry}
-use Rattle.session_view.specs.declared.entry.SyncKind.{SyncKind}
-use Rattle.session_view.specs.declared.entry.SyncKind.TheVariants.{Full, Partial}
-use Rattle.session_view.specs.declared.replaying.Silent.{Silent}
+use Rattle.session_view.specs.declared.view_entry.ViewEntry.{ViewEntry}
+use Rattle.session_view.specs.declared.view_entry.SyncKind.{SyncKind}
+use Rattle.session_view.specs.declared.view_entry.SyncKind.TheVariants.{Full, Partial}
+use Rattle.session_view.specs.declared.reply_replay.SilentFlags.{SilentFlags}
 use Rattle.session_view.proofs.ReplayLemmas.{replay_rising}
 use Rattle.session_view.proofs.SyncLemmas.{full_shows}
-use Rattle.uid_projection.specs.declared.start.Start.{Start}
+use Rattle.uid_projection.specs.declared.first_numbers.Counters.{Counters}
 use Rattle.uid_projection.specs.Applied.{IsApplied}
 use Rattle.uid_projection.specs.Exhaustion.{Exhausts}
-use Rattle.uid_projection.specs.Incarnations.{is_there, uidvalidity_of}
-use Rattle.uid_projection.specs.Lines.{uidnext_of}
+use Rattle.uid_projection.specs.Incarnations.{folder_exists, uidvalidity_of}
+use Rattle.uid_projection.specs.UidsAndModSeqs.{uidnext_of}
 use Rattle.uid_projection.specs.Listing.{listing}
 use Rattle.uid_projection.proofs.Presence.{applied_front}
-use Rattle.imap_node.specs.Commands.{Tells, is_selected, is_selecting, moves_to, notice, sync_of}
+use Rattle.imap_node.specs.Commands.{IsCommandReport, is_selected, is_selecting, state_after_command, condstore_answer, sync_of}
 use Rattle.imap_node.specs.Deliveries.{Delivers, Drains}
-use Rattle.imap_node.specs.Endings.{Course, ending, ending_of, synced_by}
-use Rattle.session_view.specs.Changes.{uids_of}
-use Rattle.imap_node.specs.GoingBack.{GoesBack, ViewsGoBack, is_full, tells_all, tells_all_of}
+use Rattle.imap_node.specs.InputEffects.{InputEffect, sync_result, sync_result_of, entries_after_sync}
+use Rattle.session_view.specs.NoteChanges.{uids_of}
+use Rattle.imap_node.specs.GoingBack.{IsOlderView, AreOlderViews, is_full, tells_all, tells_all_of}
 use Rattle.imap_node.specs.Issues.{issued_by}
-use Rattle.imap_node.specs.Mailboxes.{marks_of, rows_for, validity_of}
-use Rattle.imap_node.specs.Nodes.{NodeState, closed, received}
+use Rattle.imap_node.specs.Mailboxes.{counters_of, rows_for, validity_of}
+use Rattle.imap_node.specs.Nodes.{NodeState, with_session_closed, received_ops}
 use Rattle.imap_node.specs.Replays.{ViewsAscend, selects, view_at, view_in, view_of}
-use Rattle.imap_node.specs.Respond.{Responds, TakesCourse, course_of, idle_tail, is_on, left, session_after, synced_course, wants_of}
-use Rattle.imap_node.specs.Sessions.{IsOpen, Opens, Places, opened}
+use Rattle.imap_node.specs.Responses.{Responds, IsInputEffect, command_effect, tagged_lines_of_idle, condstore_is_on, session_after_refusal, session_after, sync_effect, input_intent}
+use Rattle.imap_node.specs.Sessions.{IsOpen, Opens, Places, new_session}
 use Rattle.imap_node.specs.declared.input.Input.{Input}
 use Rattle.imap_node.specs.declared.input.Input.TheVariants as inputs
 use Rattle.imap_node.specs.declared.reply.Reply.{Reply}
@@ -68,57 +68,57 @@ use Rattle.imap_node.proofs.UidLemmas.{IsKnown, IsQuiet, beyond_first, knows_all
 use Rattle.crdt_ops.specs.Ops.{clock_of, id_of}
 
 -- a view goes back, and its UIDs ascend
-pub record IsFine (start : Start) (ops : List Op) (view : Seen) : Type 0 where
-  pub back : GoesBack start ops view
+pub record IsFine (start : Counters) (ops : List Op) (view : ViewState) : Type 0 where
+  pub back : IsOlderView start ops view
   pub rising : AreRising 1 view.entries
 
 -- and shows the listing
-abbrev pub ShowsAll : Start → List Op → Seen → Type 0
+abbrev pub ShowsAll : Counters → List Op → ViewState → Type 0
 ShowsAll start ops view = view.entries ≡ entries_of (rows_for start ops view)
 
-module _ (start : Start) (ops : List Op) (l : 1 ≤ start.uid) (a : IsApplied ops) where
-  listed_from_one : (low : ℕ) (rows : List Listed) (row : Listed) → AreRisingRows low rows → IsIn row rows → low ≤ row.uid
+module _ (start : Counters) (ops : List Op) (l : 1 ≤ start.uid) (a : IsApplied ops) where
+  listed_from_one : (low : ℕ) (rows : List ListedMessage) (row : ListedMessage) → AreRisingRows low rows → IsIn row rows → low ≤ row.uid
   listed_from_one low [] row r i = absurd i
   listed_from_one low (x ∷ rows) row r i =
       let first = r.0 in
       elim i [
-        | inl e ↦ subst (λ (y : Listed). low ≤ y.uid) e first
+        | inl e ↦ subst (λ (y : ListedMessage). low ≤ y.uid) e first
         | inr t ↦ let next = listed_from_one (x.uid + 1) rows row r.1 t in omega (arith, first, next)
       ]
 
-  module _ (view : Seen) (fine : IsFine start ops view) (silent : List Silent) (own : List Answer) (q : Each IsQuiet own) where
-    same_uids : uids_of (replayed (rows_for start ops view) view.entries silent own) ≡ uids_of view.entries
+  module _ (view : ViewState) (fine : IsFine start ops view) (silent : List SilentFlags) (own : List Answer) (q : Each IsQuiet own) where
+    same_uids : uids_of (view_after_reply (rows_for start ops view) view.entries silent own) ≡ uids_of view.entries
     same_uids = replayed_uids (rows_for start ops view) view.entries silent own q
 
-    seen_known : uidvalidity_of start view.name ops ≡ Some view.uidvalidity → (row : Listed) → IsIn row (listing start view.name ops) → IsKnown (uids_of (replayed (rows_for start ops view) view.entries silent own)) row.uid
+    seen_known : uidvalidity_of start view.name ops ≡ Some view.uidvalidity → (row : ListedMessage) → IsIn row (listing start view.name ops) → IsKnown (uids_of (view_after_reply (rows_for start ops view) view.entries silent own)) row.uid
     seen_known e row i = subst (λ (us : List ℕ). IsKnown us row.uid) (sym same_uids) (known start ops view a fine.back e row i)
 
     listing_rises : uidvalidity_of start view.name ops ≡ Some view.uidvalidity → AreRisingRows 1 (listing start view.name ops)
     listing_rises e = subst (AreRisingRows 1) (rows_are start ops view e) (rows_rising start ops view l a)
 
-    seen_knows : Knows (replayed (rows_for start ops view) view.entries silent own) (rows_for start ops view)
+    seen_knows : Knows (view_after_reply (rows_for start ops view) view.entries silent own) (rows_for start ops view)
     seen_knows =
-        under_knows view.uidvalidity (uidvalidity_of start view.name ops) (listing start view.name ops) (replayed (rows_for start ops view) view.entries silent own)
-        (λ e. knows_all 1 (listing start view.name ops) (replayed (rows_for start ops view) view.entries silent own) (omega arith) (listing_rises e) (seen_known e))
+        under_knows view.uidvalidity (uidvalidity_of start view.name ops) (listing start view.name ops) (view_after_reply (rows_for start ops view) view.entries silent own)
+        (λ e. knows_all 1 (listing start view.name ops) (view_after_reply (rows_for start ops view) view.entries silent own) (omega arith) (listing_rises e) (seen_known e))
 
     -- behind a full sync the view is the listing
-    full_is : synced Full (rows_for start ops view) (replayed (rows_for start ops view) view.entries silent own) ≡ entries_of (rows_for start ops view)
+    full_is : view_after_sync Full (rows_for start ops view) (view_after_reply (rows_for start ops view) view.entries silent own) ≡ entries_of (rows_for start ops view)
     full_is =
-        full_shows (rows_for start ops view) (replayed (rows_for start ops view) view.entries silent own) (rows_rising start ops view l a)
+        full_shows (rows_for start ops view) (view_after_reply (rows_for start ops view) view.entries silent own) (rows_rising start ops view l a)
         (replay_rising (rows_for start ops view) view.entries silent own (rows_rising start ops view l a) fine.rising) seen_knows
 
-    listed_back : (es : List Entry) → es ≡ entries_of (rows_for start ops view) → GoesBack start ops (record view { entries = es })
+    listed_back : (es : List ViewEntry) → es ≡ entries_of (rows_for start ops view) → IsOlderView start ops (record view { entries = es })
     listed_back es is =
         brought_back start ops view es fine.back
-        (λ e row i. subst (λ (xs : List Entry). IsIn row.uid (uids_of xs)) (sym (is ∙ ap entries_of (rows_are start ops view e))) (listed_uid row (listing start view.name ops) i))
+        (λ e row i. subst (λ (xs : List ViewEntry). IsIn row.uid (uids_of xs)) (sym (is ∙ ap entries_of (rows_are start ops view e))) (listed_uid row (listing start view.name ops) i))
         (λ e uid i.
-        let w = uid_listed uid (listing start view.name ops) (subst (λ (xs : List Entry). IsIn uid (uids_of xs)) (is ∙ ap entries_of (rows_are start ops view e)) i) in
+        let w = uid_listed uid (listing start view.name ops) (subst (λ (xs : List ViewEntry). IsIn uid (uids_of xs)) (is ∙ ap entries_of (rows_are start ops view e)) i) in
         subst (λ (u : ℕ). u < uidnext_of start view.name ops) w.2 (row_below start view.name ops w.0 a w.1))
 
-    partial_back : GoesBack start ops (record view { entries = synced Partial (rows_for start ops view) (replayed (rows_for start ops view) view.entries silent own) })
+    partial_back : IsOlderView start ops (record view { entries = view_after_sync Partial (rows_for start ops view) (view_after_reply (rows_for start ops view) view.entries silent own) })
     partial_back =
-        let now = replayed (rows_for start ops view) view.entries silent own in
-        brought_back start ops view (synced Partial (rows_for start ops view) now) fine.back
+        let now = view_after_reply (rows_for start ops view) view.entries silent own in
+        brought_back start ops view (view_after_sync Partial (rows_for start ops view) now) fine.back
         (λ e row i.
         let from = listed_from_one 1 (listing start view.name ops) row (listing_rises e) i in
         partial_has (rows_for start ops view) now row (omega (arith, from)) (subst (IsIn row) (sym (rows_are start ops view e)) i) (seen_known e row i))
@@ -132,73 +132,73 @@ module _ (start : Start) (ops : List Op) (l : 1 ≤ start.uid) (a : IsApplied op
         ])
 
     -- what any sync leaves
-    synced_back : (sync : Option SyncKind) → GoesBack start ops (record view { entries = synced_by sync (rows_for start ops view) (replayed (rows_for start ops view) view.entries silent own) })
-    synced_back None = back_by_uids start ops view (replayed (rows_for start ops view) view.entries silent own) same_uids fine.back
-    synced_back (Some Full) = listed_back (synced Full (rows_for start ops view) (replayed (rows_for start ops view) view.entries silent own)) full_is
+    synced_back : (sync : Option SyncKind) → IsOlderView start ops (record view { entries = entries_after_sync sync (rows_for start ops view) (view_after_reply (rows_for start ops view) view.entries silent own) })
+    synced_back None = back_by_uids start ops view (view_after_reply (rows_for start ops view) view.entries silent own) same_uids fine.back
+    synced_back (Some Full) = listed_back (view_after_sync Full (rows_for start ops view) (view_after_reply (rows_for start ops view) view.entries silent own)) full_is
     synced_back (Some Partial) = partial_back
 
-    synced_shows : (sync : Option SyncKind) → is_full sync ≡ true → synced_by sync (rows_for start ops view) (replayed (rows_for start ops view) view.entries silent own) ≡ entries_of (rows_for start ops view)
+    synced_shows : (sync : Option SyncKind) → is_full sync ≡ true → entries_after_sync sync (rows_for start ops view) (view_after_reply (rows_for start ops view) view.entries silent own) ≡ entries_of (rows_for start ops view)
     synced_shows None t = absurd (false≢true t)
     synced_shows (Some Full) t = full_is
     synced_shows (Some Partial) t = absurd (false≢true t)
 
   -- ---- an input that selects no mailbox
 
-  not_some : {X : Type 0} (view : Seen) → ◌≡◌ {A = Option Seen} None (Some view) → X
+  not_some : {X : Type 0} (view : ViewState) → ◌≡◌ {A = Option ViewState} None (Some view) → X
   not_some view e = absurd cc
 
-  abbrev Ends : Option SyncKind → Option Seen → Type 0
-  Ends sync o = (view : Seen) → o ≡ Some view → GoesBack start ops view × (is_full sync ≡ true → ShowsAll start ops view)
+  abbrev Ends : Option SyncKind → Option ViewState → Type 0
+  Ends sync o = (view : ViewState) → o ≡ Some view → IsOlderView start ops view × (is_full sync ≡ true → ShowsAll start ops view)
 
-  one_ends : (sync : Option SyncKind) (view : Seen) → GoesBack start ops view → (is_full sync ≡ true → ShowsAll start ops view) → Ends sync (Some view)
-  one_ends sync view g s = λ v e. let k : view ≡ v = cc in subst (λ (x : Seen). GoesBack start ops x × (is_full sync ≡ true → ShowsAll start ops x)) k (g, s)
+  one_ends : (sync : Option SyncKind) (view : ViewState) → IsOlderView start ops view → (is_full sync ≡ true → ShowsAll start ops view) → Ends sync (Some view)
+  one_ends sync view g s = λ v e. let k : view ≡ v = cc in subst (λ (x : ViewState). IsOlderView start ops x × (is_full sync ≡ true → ShowsAll start ops x)) k (g, s)
 
-  ends_back : (sync : Option SyncKind) (modseq : Bool) (silent : List Silent) (own : List Answer) → Each IsQuiet own → (state : State) → ((view : Seen) → view_of state ≡ Some view → IsFine start ops view)
-      → Ends sync (view_of (ending start ops sync modseq state silent own).state)
+  ends_back : (sync : Option SyncKind) (modseq : Bool) (silent : List SilentFlags) (own : List Answer) → Each IsQuiet own → (state : State) → ((view : ViewState) → view_of state ≡ Some view → IsFine start ops view)
+      → Ends sync (view_of (sync_result start ops sync modseq state silent own).state)
   ends_back sync modseq silent own q (NotAuthenticated credentials) h = λ view e. not_some view e
   ends_back sync modseq silent own q Authenticated h = λ view e. not_some view e
   ends_back sync modseq silent own q LoggedOut h = λ view e. not_some view e
   ends_back sync modseq silent own q (Selected view read_only) h =
-      one_ends sync (record view { entries = synced_by sync (rows_for start ops view) (replayed (rows_for start ops view) view.entries silent own) })
+      one_ends sync (record view { entries = entries_after_sync sync (rows_for start ops view) (view_after_reply (rows_for start ops view) view.entries silent own) })
       (synced_back view (h view refl) silent own q sync) (synced_shows view (h view refl) silent own q sync)
 
   -- ---- a mailbox that is selected
 
-  take_length : (xs : List Listed) → take (length xs - 0) xs ≡ xs
+  take_length : (xs : List ListedMessage) → take (length xs - 0) xs ≡ xs
   take_length xs = let k : length xs - 0 ≡ length xs = omega arith in rw (k, take-length xs) refl
 
-  all_rows : (rows listed : List Listed) → rows ≡ listed → AreRisingRows 1 rows → entries_of (take (length listed - 0) (beyond 0 rows)) ≡ entries_of rows
+  all_rows : (rows listed : List ListedMessage) → rows ≡ listed → AreRisingRows 1 rows → entries_of (take (length listed - 0) (rows_after_uid 0 rows)) ≡ entries_of rows
   all_rows rows listed e r =
-      ap (λ (x : List Listed). entries_of (take (length x - 0) (beyond 0 rows))) (sym e) ∙ ap (λ (x : List Listed). entries_of (take (length rows - 0) x)) (beyond_first 0 1 rows (omega arith) r)
+      ap (λ (x : List ListedMessage). entries_of (take (length x - 0) (rows_after_uid 0 rows))) (sym e) ∙ ap (λ (x : List ListedMessage). entries_of (take (length rows - 0) x)) (beyond_first 0 1 rows (omega arith) r)
       ∙ ap entries_of (take_length rows)
 
-  told_rows : (rows : List Listed) (was read_only : Bool) (name : List ℕ) (marks : Marks) (listed : List Listed) (flags : Flags) → rows ≡ listed → AreRisingRows 1 rows
+  told_rows : (rows : List ListedMessage) (was read_only : Bool) (name : List ℕ) (marks : MailboxCounters) (listed : List ListedMessage) (flags : Flags) → rows ≡ listed → AreRisingRows 1 rows
       → after_answers rows [] (closed_answers was ++ mailbox_answers read_only name marks (length listed) flags) ≡ entries_of rows
   told_rows rows true read_only name marks listed flags e r = all_rows rows listed e r
   told_rows rows false read_only name marks listed flags e r = all_rows rows listed e r
 
-  abbrev selected_view : List ℕ → Seen
+  abbrev selected_view : List ℕ → ViewState
   selected_view name = record { name = name; uidvalidity = validity_of start name ops; entries = [] }
 
-  select_back : (was read_only : Bool) (name : List ℕ) (flags : Flags) → is_there name ops ≡ true
-      → (view : Seen) → ◌≡◌ {A = Option Seen} (Some (record (selected_view name) { entries = after_answers (rows_for start ops (selected_view name)) [] (closed_answers was ++ mailbox_answers read_only name (marks_of start name ops) (length (listing start name ops)) flags) })) (Some view)
-      → GoesBack start ops view × ShowsAll start ops view
+  select_back : (was read_only : Bool) (name : List ℕ) (flags : Flags) → folder_exists name ops ≡ true
+      → (view : ViewState) → ◌≡◌ {A = Option ViewState} (Some (record (selected_view name) { entries = after_answers (rows_for start ops (selected_view name)) [] (closed_answers was ++ mailbox_answers read_only name (counters_of start name ops) (length (listing start name ops)) flags) })) (Some view)
+      → IsOlderView start ops view × ShowsAll start ops view
   select_back was read_only name flags t view e =
       let v = validity_is start name ops t in
       let own = rows_are start ops (selected_view name) v in
-      let es = after_answers (rows_for start ops (selected_view name)) [] (closed_answers was ++ mailbox_answers read_only name (marks_of start name ops) (length (listing start name ops)) flags) in
+      let es = after_answers (rows_for start ops (selected_view name)) [] (closed_answers was ++ mailbox_answers read_only name (counters_of start name ops) (length (listing start name ops)) flags) in
       let is : es ≡ entries_of (rows_for start ops (selected_view name)) =
-      told_rows (rows_for start ops (selected_view name)) was read_only name (marks_of start name ops) (listing start name ops) flags own (rows_rising start ops (selected_view name) l a) in
+      told_rows (rows_for start ops (selected_view name)) was read_only name (counters_of start name ops) (listing start name ops) flags own (rows_rising start ops (selected_view name) l a) in
       let k : record (selected_view name) { entries = es } ≡ view = cc in
-      subst (λ (x : Seen). GoesBack start ops x × ShowsAll start ops x) k (
+      subst (λ (x : ViewState). IsOlderView start ops x × ShowsAll start ops x) k (
         record {
           front = ops;
           back = [];
           split = sym (append-nil ops);
           there = v;
-          has = λ e row i. subst (λ (xs : List Entry). IsIn row.uid (uids_of xs)) (sym (is ∙ ap entries_of own)) (listed_uid row (listing start name ops) i);
+          has = λ e row i. subst (λ (xs : List ViewEntry). IsIn row.uid (uids_of xs)) (sym (is ∙ ap entries_of own)) (listed_uid row (listing start name ops) i);
           below = λ e uid i.
-              let w = uid_listed uid (listing start name ops) (subst (λ (xs : List Entry). IsIn uid (uids_of xs)) (is ∙ ap entries_of own) i) in
+              let w = uid_listed uid (listing start name ops) (subst (λ (xs : List ViewEntry). IsIn uid (uids_of xs)) (is ∙ ap entries_of own) i) in
               subst (λ (u : ℕ). u < uidnext_of start name ops) w.2 (row_below start name ops w.0 a w.1);
         },
         is,
@@ -206,28 +206,28 @@ module _ (start : Start) (ops : List Op) (l : 1 ≤ start.uid) (a : IsApplied op
 
   -- ---- a command
 
-  select_notice : (state : State) (name : List ℕ) (condstore asked : Bool) → notice start ops state condstore (commands.Select name asked) ≡ []
+  select_notice : (state : State) (name : List ℕ) (condstore asked : Bool) → condstore_answer start ops state condstore (commands.Select name asked) ≡ []
   select_notice state name true asked = refl
   select_notice state name false true = refl
   select_notice state name false false = refl
 
-  examine_notice : (state : State) (name : List ℕ) (condstore asked : Bool) → notice start ops state condstore (commands.Examine name asked) ≡ []
+  examine_notice : (state : State) (name : List ℕ) (condstore asked : Bool) → condstore_answer start ops state condstore (commands.Examine name asked) ≡ []
   examine_notice state name true asked = refl
   examine_notice state name false true = refl
   examine_notice state name false false = refl
 
   -- what is seen behind some first answers, and a telling
-  abbrev Shown : List ℕ → Seen → List Answer → Telling → Type 0
+  abbrev Shown : List ℕ → ViewState → List Answer → CommandReport → Type 0
   Shown name view first told =
-      ◌≡◌ {A = Option Seen} (Some (record (selected_view name) { entries = replayed (rows_for start ops (selected_view name)) [] told.silent (first ++ told.own) })) (Some view)
+      ◌≡◌ {A = Option ViewState} (Some (record (selected_view name) { entries = view_after_reply (rows_for start ops (selected_view name)) [] told.silent (first ++ told.own) })) (Some view)
 
-  selected_by : (was read_only : Bool) (name : List ℕ) (view : Seen) (first : List Answer) (told : Telling) → is_there name ops ≡ true → first ≡ []
-      → SelectTells was read_only name (marks_of start name ops) (listing start name ops) told → Shown name view first told → GoesBack start ops view × ShowsAll start ops view
+  selected_by : (was read_only : Bool) (name : List ℕ) (view : ViewState) (first : List Answer) (told : CommandReport) → folder_exists name ops ≡ true → first ≡ []
+      → IsSelectReport was read_only name (counters_of start name ops) (listing start name ops) told → Shown name view first told → IsOlderView start ops view × ShowsAll start ops view
   selected_by was read_only name view first told t f s e =
-      let told_then = select_tells was read_only name (marks_of start name ops) (listing start name ops) s.keywords in
+      let told_then = select_report was read_only name (counters_of start name ops) (listing start name ops) s.keywords in
       select_back was read_only name (flags_in_use s.keywords) t view (subst (λ (as_first : List Answer). Shown name view as_first told_then) f (subst (Shown name view first) s.only e))
 
-  moved_from : (command : Command) (state : State) (view : Seen) → is_selecting command ≡ false → view_of (moves_to start ops state command) ≡ Some view → view_of state ≡ Some view
+  moved_from : (command : Command) (state : State) (view : ViewState) → is_selecting command ≡ false → view_of (state_after_command start ops state command) ≡ Some view → view_of state ≡ Some view
   moved_from (commands.Login user password) state view s e = not_some view e
   moved_from (commands.Select name condstore) state view s e = absurd (false≢true (sym s))
   moved_from (commands.Examine name condstore) state view s e = absurd (false≢true (sym s))
@@ -240,23 +240,23 @@ module _ (start : Start) (ops : List Op) (l : 1 ≤ start.uid) (a : IsApplied op
   or_none true c f h = refl
   or_none false c f h = absurd (false≢true (sym f ∙ h))
 
-  module _ (before : List Op) (session : Session) (fine : (view : Seen) → view_of session.state ≡ Some view → IsFine start ops view) where
+  module _ (before : List Op) (session : Session) (fine : (view : ViewState) → view_of session.state ≡ Some view → IsFine start ops view) where
     -- a command that selects no mailbox
-    stays_back : (tag : List ℕ) (command : Command) (told : Telling) → is_selecting command ≡ false → Tells start before ops session.state (is_on session command) tag command told
-        → (view : Seen) → view_of (ending_of start ops (course_of start ops session tag command told)).state ≡ Some view → GoesBack start ops view × (tells_all_of command ≡ true → ShowsAll start ops view)
+    stays_back : (tag : List ℕ) (command : Command) (told : CommandReport) → is_selecting command ≡ false → IsCommandReport start before ops session.state (condstore_is_on session command) tag command told
+        → (view : ViewState) → view_of (sync_result_of start ops (command_effect start ops session tag command told)).state ≡ Some view → IsOlderView start ops view × (tells_all_of command ≡ true → ShowsAll start ops view)
     stays_back tag command told s t view e =
-        let own = each_append IsQuiet (notice start ops session.state session.condstore command) told.own (notice_quiet start ops session.state session.condstore command) (tells_quiet start before ops command session.state (is_on session command) tag told s t) in
-        let ends = ends_back (sync_of command) (is_on session command) told.silent (notice start ops session.state session.condstore command ++ told.own) own (moves_to start ops session.state command)
+        let own = each_append IsQuiet (condstore_answer start ops session.state session.condstore command) told.own (notice_quiet start ops session.state session.condstore command) (tells_quiet start before ops command session.state (condstore_is_on session command) tag told s t) in
+        let ends = ends_back (sync_of command) (condstore_is_on session command) told.silent (condstore_answer start ops session.state session.condstore command ++ told.own) own (state_after_command start ops session.state command)
         (λ v k. fine v (moved_from command session.state v s k)) view e in
         (ends.0, λ h. ends.1 (or_none (is_full (sync_of command)) (is_selecting command) s h))
 
-    command_back : (tag : List ℕ) (command : Command) (told : Telling) → NamesThere ops command session.state → Tells start before ops session.state (is_on session command) tag command told
-        → (view : Seen) → view_of (ending_of start ops (course_of start ops session tag command told)).state ≡ Some view → GoesBack start ops view × (tells_all_of command ≡ true → ShowsAll start ops view)
+    command_back : (tag : List ℕ) (command : Command) (told : CommandReport) → NamesThere ops command session.state → IsCommandReport start before ops session.state (condstore_is_on session command) tag command told
+        → (view : ViewState) → view_of (sync_result_of start ops (command_effect start ops session tag command told)).state ≡ Some view → IsOlderView start ops view × (tells_all_of command ≡ true → ShowsAll start ops view)
     command_back tag (commands.Select name condstore) told n t view e =
-        let b = selected_by (is_selected session.state) false name view (notice start ops session.state session.condstore (commands.Select name condstore)) told n (select_notice session.state name session.condstore condstore) t e in
+        let b = selected_by (is_selected session.state) false name view (condstore_answer start ops session.state session.condstore (commands.Select name condstore)) told n (select_notice session.state name session.condstore condstore) t e in
         (b.0, λ h. b.1)
     command_back tag (commands.Examine name condstore) told n t view e =
-        let b = selected_by (is_selected session.state) true name view (notice start ops session.state session.condstore (commands.Examine name condstore)) told n (examine_notice session.state name session.condstore condstore) t e in
+        let b = selected_by (is_selected session.state) true name view (condstore_answer start ops session.state session.condstore (commands.Examine name condstore)) told n (examine_notice session.state name session.condstore condstore) t e in
         (b.0, λ h. b.1)
     command_back tag commands.Capability told n t view e = stays_back tag commands.Capability told refl t view e
     command_back tag commands.Noop told n t view e = stays_back tag commands.Noop told refl t view e
@@ -283,116 +283,116 @@ module _ (start : Start) (ops : List Op) (l : 1 ≤ start.uid) (a : IsApplied op
     command_back tag (commands.Move asked) told n t view e = stays_back tag (commands.Move asked) told refl t view e
 
     -- a line in IDLE, and a poll
-    synced_course_back : (tail : List Answer) (view : Seen) → view_of (ending_of start ops (synced_course session tail)).state ≡ Some view → GoesBack start ops view × ShowsAll start ops view
+    synced_course_back : (tail : List Answer) (view : ViewState) → view_of (sync_result_of start ops (sync_effect session tail)).state ≡ Some view → IsOlderView start ops view × ShowsAll start ops view
     synced_course_back tail view e =
         let ends = ends_back (Some Full) session.condstore [] [] tt session.state fine view e in
         (ends.0, ends.1 refl)
 
-    input_back : (stamp : List ℕ) (wanted : List Kind) (issued : List Op) (input : Input) (course : Course) → before ++ issued ≡ ops → map (λ (o : Op). o.kind) issued ≡ wanted → wants_of start before stamp session.state input ≡ Ok wanted
-        → TakesCourse start before ops session input course → (view : Seen) → view_of (ending_of start ops course).state ≡ Some view → GoesBack start ops view × (tells_all input ≡ true → ShowsAll start ops view)
+    input_back : (stamp : List ℕ) (wanted : List Kind) (issued : List Op) (input : Input) (course : InputEffect) → before ++ issued ≡ ops → map (λ (o : Op). o.kind) issued ≡ wanted → input_intent start before stamp session.state input ≡ Ok wanted
+        → IsInputEffect start before ops session input course → (view : ViewState) → view_of (sync_result_of start ops course).state ≡ Some view → IsOlderView start ops view × (tells_all input ≡ true → ShowsAll start ops view)
     input_back stamp wanted issued (inputs.Command moment tagged) course o m w (told, t, is) view e =
         let whole = subst IsApplied (sym o) a in
         let there : NamesThere ops tagged.command session.state =
         subst (λ (os : List Op). NamesThere os tagged.command session.state) o (names_there start before issued stamp wanted whole (applied_front before issued whole) m tagged.command session.state w) in
-        command_back tagged.tag tagged.command told there t view (subst (λ (c : Course). view_of (ending_of start ops c).state ≡ Some view) is e)
+        command_back tagged.tag tagged.command told there t view (subst (λ (c : InputEffect). view_of (sync_result_of start ops c).state ≡ Some view) is e)
     input_back stamp wanted issued (inputs.Line line) course o m w is view e =
-        let b = synced_course_back (idle_tail session.idling) view (subst (λ (c : Course). view_of (ending_of start ops c).state ≡ Some view) is e) in (b.0, λ h. b.1)
+        let b = synced_course_back (tagged_lines_of_idle session.idling) view (subst (λ (c : InputEffect). view_of (sync_result_of start ops c).state ≡ Some view) is e) in (b.0, λ h. b.1)
     input_back stamp wanted issued inputs.Poll course o m w is view e =
-        let b = synced_course_back [] view (subst (λ (c : Course). view_of (ending_of start ops c).state ≡ Some view) is e) in (b.0, λ h. b.1)
+        let b = synced_course_back [] view (subst (λ (c : InputEffect). view_of (sync_result_of start ops c).state ≡ Some view) is e) in (b.0, λ h. b.1)
 
 -- ---- nodes
 
-abbrev IsBack : Input → Start → List Op → Seen → Type 0
-IsBack input start ops view = GoesBack start ops view × (tells_all input ≡ true → ShowsAll start ops view)
+abbrev IsBack : Input → Counters → List Op → ViewState → Type 0
+IsBack input start ops view = IsOlderView start ops view × (tells_all input ≡ true → ShowsAll start ops view)
 
-module _ (old new : NodeState) (n : ℕ) (input : Input) (l : 1 ≤ old.start.uid) (b : IsApplied old.applied) (rising : ViewsAscend old.sessions) (back : ViewsGoBack old.start old.applied old.sessions) where
-  spoken_back : (answers : List Answer) (silent : List Silent) (issued : List Op) → Responds old n input (Done answers silent issued) new → (view : Seen) → view_at new.sessions n ≡ Some view → IsBack input new.start new.applied view
+module _ (old new : NodeState) (n : ℕ) (input : Input) (l : 1 ≤ old.start.uid) (b : IsApplied old.applied) (rising : ViewsAscend old.sessions) (back : AreOlderViews old.start old.applied old.sessions) where
+  spoken_back : (answers : List Answer) (silent : List SilentFlags) (issued : List Op) → Responds old n input (Done answers silent issued) new → (view : ViewState) → view_at new.sessions n ≡ Some view → IsBack input new.start new.applied view
   spoken_back answers silent issued r view e =
       let (session, at, c) = r in
       let issues = issues_well old new n input (Done answers silent issued) b r in
       let ops = old.applied ++ issued in
       let whole : IsApplied ops = subst IsApplied c.becomes.applied issues.whole in
-      let fine : (v : Seen) → view_of session.state ≡ Some v → IsFine old.start ops v = λ v k.
+      let fine : (v : ViewState) → view_of session.state ≡ Some v → IsFine old.start ops v = λ v k.
       let here : view_at old.sessions n ≡ Some v = ap view_in at ∙ k in
       record { back = goes_on old.start old.applied issued v whole (back n v here); rising = rising n v here } in
       let seen = sym (seen_now old new issued n session (session_after old.start ops session input c.course) at c.becomes) ∙ e in
-      subst (λ (s : Start). IsBack input s new.applied view) (sym c.becomes.start)
+      subst (λ (s : Counters). IsBack input s new.applied view) (sym c.becomes.start)
       (subst (λ (os : List Op). IsBack input old.start os view) (sym c.becomes.applied)
       (input_back old.start ops l whole old.applied session fine c.stamp c.kinds issued input c.course refl c.next.of_kinds c.wanted c.taken view seen))
 
   -- the sessions that weren't spoken to
-  other_back : (reply : Reply) → Responds old n input reply new → (m : ℕ) → (m ≡ n → ⊥) → (view : Seen) → view_at new.sessions m ≡ Some view → GoesBack new.start new.applied view
+  other_back : (reply : Reply) → Responds old n input reply new → (m : ℕ) → (m ≡ n → ⊥) → (view : ViewState) → view_at new.sessions m ≡ Some view → IsOlderView new.start new.applied view
   other_back reply r m d view e =
       let issues = issues_well old new n input reply b r in
       let whole : IsApplied (old.applied ++ issued_by reply) = subst IsApplied issues.applied issues.whole in
       let here : view_at old.sessions m ≡ Some view = ap view_in (sym (others_as_before old new n input reply r m d)) ∙ e in
-      subst (λ (s : Start). GoesBack s new.applied view) (sym issues.start)
-      (subst (λ (os : List Op). GoesBack old.start os view) (sym issues.applied) (goes_on old.start old.applied (issued_by reply) view whole (back m view here)))
+      subst (λ (s : Counters). IsOlderView s new.applied view) (sym issues.start)
+      (subst (λ (os : List Op). IsOlderView old.start os view) (sym issues.applied) (goes_on old.start old.applied (issued_by reply) view whole (back m view here)))
 
-  refused_back : (why : Refusal) (closed : Bool) → Responds old n input (Refused why closed) new → (view : Seen) → view_at new.sessions n ≡ Some view → GoesBack new.start new.applied view
-  refused_back why closed (session, at, h) view e =
-      let seen : view_of (left session input why).state ≡ Some view = sym (seen_now old new [] n session (left session input why) at h.2) ∙ e in
+  refused_back : (why : Refusal) (with_session_closed : Bool) → Responds old n input (Refused why with_session_closed) new → (view : ViewState) → view_at new.sessions n ≡ Some view → IsOlderView new.start new.applied view
+  refused_back why with_session_closed (session, at, h) view e =
+      let seen : view_of (session_after_refusal session input why).state ≡ Some view = sym (seen_now old new [] n session (session_after_refusal session input why) at h.2) ∙ e in
       let here : view_at old.sessions n ≡ Some view = ap view_in at ∙ unless_none (selects input) (view_of session.state) view (sym (left_view session input why) ∙ seen) in
-      subst (λ (s : Start). GoesBack s new.applied view) (sym h.2.start) (subst (λ (os : List Op). GoesBack old.start os view) (sym (h.2.applied ∙ append-nil old.applied)) (back n view here))
+      subst (λ (s : Counters). IsOlderView s new.applied view) (sym h.2.start) (subst (λ (os : List Op). IsOlderView old.start os view) (sym (h.2.applied ∙ append-nil old.applied)) (back n view here))
     where
-      unless_none : (c : Bool) (o : Option Seen) (v : Seen) → (if c then None else o) ≡ Some v → o ≡ Some v
-      unless_none true o v k = let x : ◌≡◌ {A = Option Seen} None (Some v) = k in cc
+      unless_none : (c : Bool) (o : Option ViewState) (v : ViewState) → (if c then None else o) ≡ Some v → o ≡ Some v
+      unless_none true o v k = let x : ◌≡◌ {A = Option ViewState} None (Some v) = k in cc
       unless_none false o v k = k
 
-  here_back : (reply : Reply) → Responds old n input reply new → (view : Seen) → view_at new.sessions n ≡ Some view → GoesBack new.start new.applied view
+  here_back : (reply : Reply) → Responds old n input reply new → (view : ViewState) → view_at new.sessions n ≡ Some view → IsOlderView new.start new.applied view
   here_back (Done answers silent issued) r view e = (spoken_back answers silent issued r view e).0
-  here_back (Refused why closed) r view e = refused_back why closed r view e
+  here_back (Refused why with_session_closed) r view e = refused_back why with_session_closed r view e
 
-  all_back : (reply : Reply) → Responds old n input reply new → ViewsGoBack new.start new.applied new.sessions
+  all_back : (reply : Reply) → Responds old n input reply new → AreOlderViews new.start new.applied new.sessions
   all_back reply r = λ m view e.
       elim (eqb_tells m n) [
         | inl t ↦ here_back reply r view (subst (λ (k : ℕ). view_at new.sessions k ≡ Some view) t.1 e)
         | inr f ↦ other_back reply r m f.1 view e
       ]
 
-pub inputs_back : (old new : NodeState) (n : ℕ) (input : Input) (reply : Reply) → 1 ≤ old.start.uid → IsApplied old.applied → ViewsAscend old.sessions → ViewsGoBack old.start old.applied old.sessions → Responds old n input reply new → ViewsGoBack new.start new.applied new.sessions
+pub inputs_back : (old new : NodeState) (n : ℕ) (input : Input) (reply : Reply) → 1 ≤ old.start.uid → IsApplied old.applied → ViewsAscend old.sessions → AreOlderViews old.start old.applied old.sessions → Responds old n input reply new → AreOlderViews new.start new.applied new.sessions
 inputs_back old new n input reply l b rising back r = all_back old new n input l b rising back reply r
 
-pub inputs_show : (old new : NodeState) (n : ℕ) (input : Input) (answers : List Answer) (silent : List Silent) (issued : List Op) (view : Seen) → 1 ≤ old.start.uid → IsApplied old.applied → ViewsAscend old.sessions → ViewsGoBack old.start old.applied old.sessions
+pub inputs_show : (old new : NodeState) (n : ℕ) (input : Input) (answers : List Answer) (silent : List SilentFlags) (issued : List Op) (view : ViewState) → 1 ≤ old.start.uid → IsApplied old.applied → ViewsAscend old.sessions → AreOlderViews old.start old.applied old.sessions
     → Responds old n input (Done answers silent issued) new → tells_all input ≡ true → view_at new.sessions n ≡ Some view → view.entries ≡ entries_of (rows_for new.start new.applied view)
 inputs_show old new n input answers silent issued view l b rising back r t e = (spoken_back old new n input l b rising back answers silent issued r view e).1 t
 
 -- ---- nodes and sessions that begin and end, and operations of other replicas
 
-pub begins_back : (start : Start) → ViewsGoBack start [] []
-begins_back start = λ n view e. let k : ◌≡◌ {A = Option Seen} None (Some view) = sym (nothing_seen n) ∙ e in absurd cc
+pub begins_back : (start : Counters) → AreOlderViews start [] []
+begins_back start = λ n view e. let k : ◌≡◌ {A = Option ViewState} None (Some view) = sym (nothing_seen n) ∙ e in absurd cc
 
-pub opens_back : (start : Start) (ops : List Op) (old new : Places) (auth : Auth) (n : ℕ) → Opens old auth n new → ViewsGoBack start ops old → ViewsGoBack start ops new
+pub opens_back : (start : Counters) (ops : List Op) (old new : Places) (auth : Auth) (n : ℕ) → Opens old auth n new → AreOlderViews start ops old → AreOlderViews start ops new
 opens_back start ops old new auth n o h = λ m view e.
     elim (eqb_tells m n) [
       | inl t ↦ opened_nothing auth view (sym (ap view_in o.open_now) ∙ subst (λ (k : ℕ). view_at new k ≡ Some view) t.1 e)
       | inr f ↦ h m view (ap view_in (sym (o.others m f.1)) ∙ e)
     ]
   where
-    opened_nothing : {X : Type 0} (how : Auth) (view : Seen) → view_of (opened how).state ≡ Some view → X
-    opened_nothing Preauth view k = let x : ◌≡◌ {A = Option Seen} None (Some view) = k in absurd cc
-    opened_nothing (Password credentials) view k = let x : ◌≡◌ {A = Option Seen} None (Some view) = k in absurd cc
+    opened_nothing : {X : Type 0} (how : Auth) (view : ViewState) → view_of (new_session how).state ≡ Some view → X
+    opened_nothing Preauth view k = let x : ◌≡◌ {A = Option ViewState} None (Some view) = k in absurd cc
+    opened_nothing (Password credentials) view k = let x : ◌≡◌ {A = Option ViewState} None (Some view) = k in absurd cc
 
-pub closes_back : (start : Start) (ops : List Op) (old : NodeState) (n : ℕ) → IsOpen old.sessions n → ViewsGoBack start ops old.sessions → ViewsGoBack start ops (closed old n).sessions
+pub closes_back : (start : Counters) (ops : List Op) (old : NodeState) (n : ℕ) → IsOpen old.sessions n → AreOlderViews start ops old.sessions → AreOlderViews start ops (with_session_closed old n).sessions
 closes_back start ops old n o h = λ m view e.
     elim (eqb_tells m n) [
-      | inl t ↦ let k : ◌≡◌ {A = Option Seen} None (Some view) = sym (closed_sees old n o) ∙ subst (λ (j : ℕ). view_at (closed old n).sessions j ≡ Some view) t.1 e in absurd cc
+      | inl t ↦ let k : ◌≡◌ {A = Option ViewState} None (Some view) = sym (closed_sees old n o) ∙ subst (λ (j : ℕ). view_at (with_session_closed old n).sessions j ≡ Some view) t.1 e in absurd cc
       | inr f ↦ h m view (ap view_in (sym (closes_alone old n o m f.1)) ∙ e)
     ]
 
 -- more is applied behind
-pub grown_back : (old new : NodeState) → new.start ≡ old.start → new.sessions ≡ old.sessions → HasGrown old.applied new.applied → IsApplied new.applied → ViewsGoBack old.start old.applied old.sessions → ViewsGoBack new.start new.applied new.sessions
+pub grown_back : (old new : NodeState) → new.start ≡ old.start → new.sessions ≡ old.sessions → HasGrown old.applied new.applied → IsApplied new.applied → AreOlderViews old.start old.applied old.sessions → AreOlderViews new.start new.applied new.sessions
 grown_back old new s p g a h = λ m view e.
     let here : view_at old.sessions m ≡ Some view = ap (λ (places : Places). view_at places m) (sym p) ∙ e in
-    subst (λ (x : Start). GoesBack x new.applied view) (sym s)
-    (subst (λ (os : List Op). GoesBack old.start os view) (sym g.1) (goes_on old.start old.applied g.0 view (subst IsApplied g.1 a) (h m view here)))
+    subst (λ (x : Counters). IsOlderView x new.applied view) (sym s)
+    (subst (λ (os : List Op). IsOlderView old.start os view) (sym g.1) (goes_on old.start old.applied g.0 view (subst IsApplied g.1 a) (h m view here)))
 
-pub delivered_back : (old new : NodeState) (op : Op) (came : Arrival) → IsApplied new.applied → Delivers old op came new → ViewsGoBack old.start old.applied old.sessions → ViewsGoBack new.start new.applied new.sessions
+pub delivered_back : (old new : NodeState) (op : Op) (came : Arrival) → IsApplied new.applied → Delivers old op came new → AreOlderViews old.start old.applied old.sessions → AreOlderViews new.start new.applied new.sessions
 delivered_back old new op came a d =
-    grown_back old new (arrival_start id_of clock_of Exhausts (received old) (received new) op came d.arrives) d.sessions
-    (arrival_grows id_of clock_of Exhausts (received old) (received new) op came d.arrives) a
+    grown_back old new (arrival_start id_of clock_of Exhausts (received_ops old) (received_ops new) op came d.arrives) d.sessions
+    (arrival_grows id_of clock_of Exhausts (received_ops old) (received_ops new) op came d.arrives) a
 
-pub drained_back : (old new : NodeState) (count : ℕ) → IsApplied new.applied → Drains old count new → ViewsGoBack old.start old.applied old.sessions → ViewsGoBack new.start new.applied new.sessions
+pub drained_back : (old new : NodeState) (count : ℕ) → IsApplied new.applied → Drains old count new → AreOlderViews old.start old.applied old.sessions → AreOlderViews new.start new.applied new.sessions
 drained_back old new count a d =
-    grown_back old new (releases_start id_of clock_of Exhausts count (received old) (received new) d.released) d.sessions
-    (releases_grow id_of clock_of Exhausts count (received old) (received new) d.released) a
+    grown_back old new (releases_start id_of clock_of Exhausts count (received_ops old) (received_ops new) d.released) d.sessions
+    (releases_grow id_of clock_of Exhausts count (received_ops old) (received_ops new) d.released) a

@@ -7,23 +7,23 @@ use Rattle.std.specs.Prelude.{if◌then◌else◌, ◌+◌, ◌*◌, nat_eq}
 use Rattle.std.proofs.lemmas.Bool.{cases_Bool}
 use Rattle.tags_clocks.specs.declared.id.OpId.{OpId}
 use Rattle.merge_laws.specs.Orders.{IsIn}
-use Rattle.mail_listing.specs.declared.entry.Entry.{Entry as Numbered}
+use Rattle.mailbox_rows.specs.declared.entry.ListingEntry.{ListingEntry}
 use Rattle.crdt_ops.specs.declared.op.Op.{Op}
-use Rattle.crdt_ops.specs.Sets.{Body, body_from, tag_flags_of, versions_of, message_of}
+use Rattle.crdt_ops.specs.Sets.{MessageTagData, tag_data_from, tag_flags_of, versions_of, message_of}
 use Rattle.crdt_ops.specs.Unions.{union_of}
 use Rattle.crdt_ops.proofs.VersionLemmas.{versions_listed}
 use Rattle.imap_types.specs.Names.{inbox}
 use Rattle.imap_types.specs.declared.flags.Flags.{Flags}
-use Rattle.mail_listing.specs.Listed.{Listed}
-use Rattle.session_view.specs.Seen.{rows_under}
+use Rattle.mailbox_rows.specs.ListedMessage.{ListedMessage}
+use Rattle.session_view.specs.ViewState.{rows_under}
 use Rattle.session_view.specs.Views.{entries_of, entry_of}
-use Rattle.session_view.specs.declared.entry.Entry.{Entry}
-use Rattle.uid_projection.specs.declared.start.Start.{Start}
+use Rattle.session_view.specs.declared.view_entry.ViewEntry.{ViewEntry}
+use Rattle.uid_projection.specs.declared.first_numbers.Counters.{Counters}
 use Rattle.uid_projection.specs.Applied.{IsApplied}
-use Rattle.uid_projection.specs.Incarnations.{is_there, k_of, uidvalidity_of}
-use Rattle.uid_projection.specs.Lines.{concerns_by, has_version}
+use Rattle.uid_projection.specs.Incarnations.{folder_exists, k_of, uidvalidity_of}
+use Rattle.uid_projection.specs.UidsAndModSeqs.{kind_names_folder, has_version}
 use Rattle.uid_projection.specs.Listing.{listing}
-use Rattle.uid_projection.specs.Rows.{row_by}
+use Rattle.uid_projection.specs.ChartRows.{row_by}
 use Rattle.uid_projection.proofs.ChartOf.{charted}
 use Rattle.uid_projection.proofs.Presence.{applied_front, other_there, same_bool}
 use Rattle.uid_projection.proofs.RowLemmas.{rows_told}
@@ -40,29 +40,29 @@ flags_later : (folder : List ℕ) (ops more : List Op) (g : OpId) → filter_map
 flags_later folder ops more g =
     filter_map_alike (tag_flags_of ops folder) (tag_flags_of (ops ++ more) folder) (versions_of ops folder g) (λ i t.
     let b = present_carries folder ops i (((versions_listed ops folder g).1 i).0 t).0 in
-    ap (option_map (λ (x : Body). x.flags)) (b.1 ∙ sym (given_more (body_from folder i) ops more b.0 b.1)))
+    ap (option_map (λ (x : MessageTagData). x.flags)) (b.1 ∙ sym (given_more (tag_data_from folder i) ops more b.0 b.1)))
 
 -- a message with the same versions has the same flags later
 pub flags_stay : (folder : List ℕ) (ops more : List Op) (g : OpId) → versions_of (ops ++ more) folder g ≡ versions_of ops folder g → (message_of (ops ++ more) folder g).flags ≡ (message_of ops folder g).flags
 flags_stay folder ops more g e = ap (λ (is : List OpId). union_of (filter_map (tag_flags_of (ops ++ more) folder) is)) e ∙ ap union_of (sym (flags_later folder ops more g))
 
-entries_mapped : (f : Numbered → Option Listed) (es : List Numbered) → entries_of (filter_map f es) ≡ filter_map (λ e. option_map entry_of (f e)) es
+entries_mapped : (f : ListingEntry → Option ListedMessage) (es : List ListingEntry) → entries_of (filter_map f es) ≡ filter_map (λ e. option_map entry_of (f e)) es
 entries_mapped f [] = refl
 entries_mapped f (e ∷ es) = entries_cons (f e) (filter_map f es) (filter_map (λ x. option_map entry_of (f x)) es) (entries_mapped f es)
   where
-    entries_cons : (o : Option Listed) (rows : List Listed) (es : List Entry) → entries_of rows ≡ es → entries_of (cons_option o rows) ≡ cons_option (option_map entry_of o) es
+    entries_cons : (o : Option ListedMessage) (rows : List ListedMessage) (es : List ViewEntry) → entries_of rows ≡ es → entries_of (cons_option o rows) ≡ cons_option (option_map entry_of o) es
     entries_cons None rows es h = h
-    entries_cons (Some row) rows es h = ap (λ (more : List Entry). entry_of row ∷ more) h
+    entries_cons (Some row) rows es h = ap (λ (more : List ViewEntry). entry_of row ∷ more) h
 
 -- what is shown of an entry
-abbrev shown_by : Bool → ℕ → Flags → Option Entry
+abbrev shown_by : Bool → ℕ → Flags → Option ViewEntry
 shown_by true uid flags = Some (record { uid = uid; flags = flags })
 shown_by false uid flags = None
 
-shown_is : (ops : List Op) (folder : List ℕ) (e : Numbered) → option_map entry_of (row_by ops folder e) ≡ shown_by (has_version folder e.origin ops) e.uid (message_of ops folder e.origin).flags
+shown_is : (ops : List Op) (folder : List ℕ) (e : ListingEntry) → option_map entry_of (row_by ops folder e) ≡ shown_by (has_version folder e.origin ops) e.uid (message_of ops folder e.origin).flags
 shown_is ops folder e = elim (cases_Bool (has_version folder e.origin ops)) [ inl t ↦ rw t refl | inr f ↦ rw f refl ]
 
-module _ (start : Start) (folder : List ℕ) (ops : List Op) (o : Op) (a : IsApplied (ops ++ o ∷ [])) (other : concerns_by folder o.kind ≡ false) where
+module _ (start : Counters) (folder : List ℕ) (ops : List Op) (o : Op) (a : IsApplied (ops ++ o ∷ [])) (other : kind_names_folder folder o.kind ≡ false) where
   has_beside : (g : OpId) → has_version folder g (ops ++ o ∷ []) ≡ has_version folder g ops
   has_beside g =
       let l = version_in folder (ops ++ o ∷ []) g in
@@ -74,7 +74,7 @@ module _ (start : Start) (folder : List ℕ) (ops : List Op) (o : Op) (a : IsApp
       (λ h. let v = l.0 h in m.1 (v.0, (q.1 v.0).0 (subst (IsIn v.0) e ((p.1 v.0).1 v.1))))
       (λ h. let v = m.0 h in l.1 (v.0, (p.1 v.0).0 (subst (IsIn v.0) (sym e) ((q.1 v.0).1 v.1))))
 
-  row_beside : (e : Numbered) → option_map entry_of (row_by (ops ++ o ∷ []) folder e) ≡ option_map entry_of (row_by ops folder e)
+  row_beside : (e : ListingEntry) → option_map entry_of (row_by (ops ++ o ∷ []) folder e) ≡ option_map entry_of (row_by ops folder e)
   row_beside e =
       shown_is (ops ++ o ∷ []) folder e
       ∙ (λ i. shown_by (has_beside e.origin i) e.uid (flags_stay folder ops (o ∷ []) e.origin (versions_other folder ops o a e.origin other) i))
@@ -95,18 +95,18 @@ module _ (start : Start) (folder : List ℕ) (ops : List Op) (o : Op) (a : IsApp
   number_by false true k = Some (65536 * k + start.replica)
   number_by false false k = None
 
-  number_is : (list : List Op) → uidvalidity_of start folder list ≡ number_by (bytes_eq folder inbox) (is_there folder list) (k_of start folder list)
+  number_is : (list : List Op) → uidvalidity_of start folder list ≡ number_by (bytes_eq folder inbox) (folder_exists folder list) (k_of start folder list)
   number_is list =
       elim (cases_Bool (bytes_eq folder inbox)) [
         | inl t ↦ rw t refl
-        | inr f ↦ elim (cases_Bool (is_there folder list)) [ inl t ↦ rw (f, t) refl | inr g ↦ rw (f, g) refl ]
+        | inr f ↦ elim (cases_Bool (folder_exists folder list)) [ inl t ↦ rw (f, t) refl | inr g ↦ rw (f, g) refl ]
       ]
 
   pub number_beside : uidvalidity_of start folder (ops ++ o ∷ []) ≡ uidvalidity_of start folder ops
   number_beside =
       let e = other_there folder ops o a other in
       number_is (ops ++ o ∷ [])
-      ∙ elim (cases_Bool (is_there folder (ops ++ o ∷ []))) [
+      ∙ elim (cases_Bool (folder_exists folder (ops ++ o ∷ []))) [
         | inl t ↦ λ i. number_by (bytes_eq folder inbox) (e i) (k_here start folder ops o t i)
         | inr f ↦ (λ i. number_by (bytes_eq folder inbox) (f i) (k_of start folder (ops ++ o ∷ []))) ∙ no_number (bytes_eq folder inbox) ∙ sym (ap (λ (b : Bool). number_by (bytes_eq folder inbox) b (k_of start folder ops)) (sym e ∙ f))
       ]
@@ -117,7 +117,7 @@ module _ (start : Start) (folder : List ℕ) (ops : List Op) (o : Op) (a : IsApp
       no_number false = refl
 
 -- what is shown under a UIDVALIDITY
-shown_under : (uidvalidity : ℕ) (n m : Option ℕ) (rows others : List Listed) → n ≡ m → entries_of rows ≡ entries_of others → entries_of (rows_under uidvalidity n rows) ≡ entries_of (rows_under uidvalidity m others)
+shown_under : (uidvalidity : ℕ) (n m : Option ℕ) (rows others : List ListedMessage) → n ≡ m → entries_of rows ≡ entries_of others → entries_of (rows_under uidvalidity n rows) ≡ entries_of (rows_under uidvalidity m others)
 shown_under uidvalidity n None rows others e h = ap (λ (k : Option ℕ). entries_of (rows_under uidvalidity k rows)) e
 shown_under uidvalidity n (Some m) rows others e h =
     ap (λ (k : Option ℕ). entries_of (rows_under uidvalidity k rows)) e ∙ if_entries (nat_eq m uidvalidity)
@@ -127,7 +127,7 @@ shown_under uidvalidity n (Some m) rows others e h =
     if_entries false = refl
 
 -- operations about other folders leave what is shown
-pub all_beside : (start : Start) (folder : List ℕ) (more ops : List Op) → IsApplied (ops ++ more) → ((o : Op) → IsIn o more → concerns_by folder o.kind ≡ false) → (uidvalidity : ℕ)
+pub all_beside : (start : Counters) (folder : List ℕ) (more ops : List Op) → IsApplied (ops ++ more) → ((o : Op) → IsIn o more → kind_names_folder folder o.kind ≡ false) → (uidvalidity : ℕ)
     → entries_of (rows_under uidvalidity (uidvalidity_of start folder (ops ++ more)) (listing start folder (ops ++ more))) ≡ entries_of (rows_under uidvalidity (uidvalidity_of start folder ops) (listing start folder ops))
 all_beside start folder [] ops a f uidvalidity =
     ap (λ (list : List Op). entries_of (rows_under uidvalidity (uidvalidity_of start folder list) (listing start folder list))) (append-nil ops)

@@ -5,33 +5,33 @@ use Rattle.std.specs.Str.{bytes_eq}
 use Rattle.std.proofs.lemmas.Bool.{and_parts, false≢true}
 use Rattle.std.proofs.lemmas.Slice.Eq.{bytes_eq-Decides}
 use Rattle.std.proofs.lemmas.Str.{IsUtf8-from_ascii}
-use Rattle.causal_inbox.specs.Seen.{IsClockOf}
+use Rattle.causal_inbox.specs.Inbox.{IsClockOf}
 use Rattle.crdt_ops.specs.declared.kind.Kind.{Kind}
 use Rattle.crdt_ops.specs.declared.kind.Kind.TheVariants as kinds
 use Rattle.crdt_ops.specs.declared.op.Op.{Op}
-use Rattle.crdt_ops.specs.Order.{id_order}
-use Rattle.crdt_ops.specs.Sets.{delete_set_of, folder_id, folders_of, subscription_id, subscription_tags_of}
-use Rattle.crdt_ops.specs.Sound.{AreCovered, CoversNamed, IsCount, IsSound}
-use Rattle.crdt_ops.specs.Tags.{FolderTag, MessageTag, SubscriptionTag, Tag, added_by, adds, is_present, is_some_tag, name_of, present_tags, removes}
+use Rattle.crdt_ops.specs.SortedSets.{id_order}
+use Rattle.crdt_ops.specs.Sets.{delete_set_of, folder_tag_or_message_tag_id, folders_of, subscription_id, subscription_tags_of}
+use Rattle.crdt_ops.specs.Sound.{AreCovered, CoversReferenced, IsCount, IsSound}
+use Rattle.crdt_ops.specs.Tags.{FolderTag, MessageTag, SubscriptionTag, Tag, tag_added_by, adds, is_present, is_some_tag, name_of, present_tags, removes}
 use Rattle.crdt_ops.specs.TagLaws.{adds_own, same_tag_is}
 use Rattle.crdt_ops.proofs.MeaningLemmas.{folders_listed}
 use Rattle.crdt_ops.proofs.Members.{any_in}
 use Rattle.crdt_ops.proofs.OrderLemmas.{id_order_total, id_order_same, in_order_lists}
 use Rattle.crdt_ops.proofs.SetLemmas.{delete_set_in, subscription_tags_in}
-use Rattle.imap_answers.specs.declared.words.Refusal.{Refusal}
-use Rattle.imap_answers.specs.declared.words.Refusal.TheVariants as refusals
-use Rattle.imap_commands.specs.Appending.{append_wants, given_date}
-use Rattle.imap_commands.specs.Asked.{AppendAsked}
-use Rattle.imap_commands.specs.Asking.{status_wants}
-use Rattle.imap_commands.specs.Asked.{CopyAsked, FetchAsked, OpenMailbox, StoreAsked}
-use Rattle.imap_commands.specs.Copying.{copy_wants, move_wants}
-use Rattle.imap_commands.specs.Entering.{are_right, login_wants}
-use Rattle.imap_commands.specs.Expunging.{close_wants, expunge_wants, uid_expunge_wants}
-use Rattle.imap_commands.specs.Fetching.{fetch_wants}
-use Rattle.imap_commands.specs.Mailboxes.{create_wants, created_name, delete_wants, is_lawful_name, subscribe_wants, unsubscribe_wants, unsubscribes}
-use Rattle.imap_commands.specs.Searching.{search_wants, step_is_in_range}
-use Rattle.imap_commands.specs.Selecting.{select_wants}
-use Rattle.imap_commands.specs.Storing.{store_wants}
+use Rattle.imap_answers.specs.declared.fixed_words.Refusal.{Refusal}
+use Rattle.imap_answers.specs.declared.fixed_words.Refusal.TheVariants as refusals
+use Rattle.imap_commands.specs.Appending.{append_intent, given_date}
+use Rattle.imap_commands.specs.Arguments.{AppendArgs}
+use Rattle.imap_commands.specs.SimpleCommands.{status_intent}
+use Rattle.imap_commands.specs.Arguments.{CopyArgs, FetchArgs, OpenMailbox, StoreArgs}
+use Rattle.imap_commands.specs.Copying.{copy_intent, move_intent}
+use Rattle.imap_commands.specs.Login.{are_credentials, login_intent}
+use Rattle.imap_commands.specs.Expunging.{close_intent, expunge_intent, uid_expunge_intent}
+use Rattle.imap_commands.specs.Fetching.{fetch_intent}
+use Rattle.imap_commands.specs.Mailboxes.{create_intent, created_name, delete_intent, is_lawful_name, subscribe_intent, unsubscribe_intent, unsubscribes}
+use Rattle.imap_commands.specs.Searching.{search_intent, step_is_in_range}
+use Rattle.imap_commands.specs.Selecting.{select_intent}
+use Rattle.imap_commands.specs.Storing.{store_intent}
 use Rattle.imap_commands.specs.declared.session.Credentials.{Credentials}
 use Rattle.imap_commands.specs.declared.session.State.{State}
 use Rattle.imap_commands.specs.declared.session.State.TheVariants.{NotAuthenticated, Authenticated, Selected, LoggedOut}
@@ -42,23 +42,23 @@ use Rattle.imap_syntax.specs.declared.command.Command.TheVariants as commands
 use Rattle.imap_syntax.specs.declared.idle.IdleLine.TheVariants.{Done as DoneLine, Other}
 use Rattle.imap_node.specs.declared.input.Input.{Input}
 use Rattle.imap_node.specs.declared.input.Input.TheVariants as inputs
-use Rattle.imap_commands.specs.Issued.{AreIssuable, HaveLawfulKeywords, IsIssuable}
+use Rattle.imap_commands.specs.Issuable.{AreIssuable, HaveLawfulKeywords, IsIssuable}
 use Rattle.imap_commands.specs.Lawful.{AreLawfulKinds, IsLawfulKind}
 use Rattle.imap_types.specs.Keywords.{is_lawful_keyword}
 use Rattle.imap_types.specs.Names.{IsLawfulName, inbox}
-use Rattle.mail_listing.specs.Listed.{Listed}
+use Rattle.mailbox_rows.specs.ListedMessage.{ListedMessage}
 use Rattle.merge_laws.specs.Orders.{AreSound, HasId, IsIn}
 use Rattle.tags_clocks.specs.Clock.{IsCause}
 use Rattle.tags_clocks.specs.declared.id.OpId.{OpId}
-use Rattle.session_view.specs.Seen.{Seen, rows_under}
+use Rattle.session_view.specs.ViewState.{ViewState, rows_under}
 use Rattle.session_view.specs.Sets.{is_in_range}
-use Rattle.imap_node.specs.Commands.{is_known, wants, when_known, when_new, when_selected}
+use Rattle.imap_node.specs.Commands.{is_known, command_intent, when_known, when_new, when_selected}
 use Rattle.imap_node.specs.Mailboxes.{is_subscribed, mailbox_in, rows_for}
 use Rattle.imap_node.specs.Operations.{CanIssue, CanIssueAll}
-use Rattle.imap_node.specs.Respond.{wants_of}
-use Rattle.uid_projection.specs.declared.start.Start.{Start}
+use Rattle.imap_node.specs.Responses.{input_intent}
+use Rattle.uid_projection.specs.declared.first_numbers.Counters.{Counters}
 use Rattle.uid_projection.specs.Applied.{IsApplied}
-use Rattle.uid_projection.specs.Incarnations.{is_there, uidvalidity_of}
+use Rattle.uid_projection.specs.Incarnations.{folder_exists, uidvalidity_of}
 use Rattle.uid_projection.specs.Listing.{listing}
 use Rattle.uid_projection.proofs.Listed.{row_in}
 use Rattle.uid_projection.proofs.ListingLaws.{keywords_lawful, names_applied}
@@ -83,7 +83,7 @@ tag_name (FolderTag folder id) = folder
 tag_name (MessageTag folder id) = folder
 tag_name (SubscriptionTag name id) = name
 
-named_by : (t : Tag) (id : OpId) (kind : Kind) → is_some_tag t (added_by id kind) ≡ true → tag_name t ≡ name_of kind
+named_by : (t : Tag) (id : OpId) (kind : Kind) → is_some_tag t (tag_added_by id kind) ≡ true → tag_name t ≡ name_of kind
 unfolding tag_name
 named_by t id (kinds.Create folder) h = ap tag_name (same_tag_is t (FolderTag folder id) h)
 named_by t id (kinds.Delete folder seen) h = absurd (false≢true h)
@@ -111,13 +111,13 @@ folder_lawful ops name sound i =
       ]
     ]
 
-pub there_lawful : (ops : List Op) (name : List ℕ) → AreSound IsSound ops → is_there name ops ≡ true → IsLawfulName name
+pub there_lawful : (ops : List Op) (name : List ℕ) → AreSound IsSound ops → folder_exists name ops ≡ true → IsLawfulName name
 there_lawful ops name sound h =
     let w = (any_in (bytes_eq name) (folders_of ops)).0 h in
     subst IsLawfulName (sym ((bytes_eq-Decides name w.0).0 w.2)) (folder_lawful ops w.0 sound w.1)
 
 -- a folder with a message has a lawful name
-listed_lawful : (start : Start) (folder : List ℕ) (ops : List Op) (row : Listed) → IsApplied ops → IsIn row (listing start folder ops) → IsLawfulName folder
+listed_lawful : (start : Counters) (folder : List ℕ) (ops : List Op) (row : ListedMessage) → IsApplied ops → IsIn row (listing start folder ops) → IsLawfulName folder
 unfolding tag_name
 listed_lawful start folder ops row a i =
     let w = row_in start folder ops row i in
@@ -143,7 +143,7 @@ added_in ops tag i own p =
 -- each id that a Delete lists is the id of an operation applied
 listed_in : (ops : List Op) (folder : List ℕ) (i : OpId) → IsIn i (delete_set_of ops folder) → HasId id_of ops i
 listed_in ops folder i h =
-    let l = (in_order_lists {order = id_order} id_order_total id_order_same (filter_map (folder_id folder) (present_tags ops))).1 i in
+    let l = (in_order_lists {order = id_order} id_order_total id_order_same (filter_map (folder_tag_or_message_tag_id folder) (present_tags ops))).1 i in
     elim ((delete_set_in ops folder i).0 (l.0 h)) [
       | inl t ↦ added_in ops (FolderTag folder i) i (λ op a. sym (adds_own (FolderTag folder i) op a)) t
       | inr t ↦ added_in ops (MessageTag folder i) i (λ op a. sym (adds_own (MessageTag folder i) op a)) t
@@ -166,7 +166,7 @@ unsubscribe_covered ops name clock counts = covered_from clock (subscription_tag
 
 -- each kind covers only what was applied
 abbrev Covers : List Op → List Kind → Type 0
-Covers ops given = (kind : Kind) → IsIn kind given → (clock : List (ℕ × ℕ)) → IsClockOf id_of ops clock → CoversNamed clock kind
+Covers ops given = (kind : Kind) → IsIn kind given → (clock : List (ℕ × ℕ)) → IsClockOf id_of ops clock → CoversReferenced clock kind
 
 lawful_in : (given : List Kind) (kind : Kind) → AreLawfulKinds given → IsIn kind given → IsLawfulKind kind
 lawful_in [] kind h i = absurd i
@@ -181,8 +181,8 @@ can_none ops = λ kind i. absurd i
 pub covers_none : (ops : List Op) → Covers ops []
 covers_none ops = λ kind i. absurd i
 
-covers_one : (ops : List Op) (kind : Kind) → ((clock : List (ℕ × ℕ)) → IsClockOf id_of ops clock → CoversNamed clock kind) → Covers ops (kind ∷ [])
-covers_one ops kind h = λ k i. elim i [ inl e ↦ λ clock counts. subst (λ (x : Kind). CoversNamed clock x) e (h clock counts) | inr t ↦ absurd t ]
+covers_one : (ops : List Op) (kind : Kind) → ((clock : List (ℕ × ℕ)) → IsClockOf id_of ops clock → CoversReferenced clock kind) → Covers ops (kind ∷ [])
+covers_one ops kind h = λ k i. elim i [ inl e ↦ λ clock counts. subst (λ (x : Kind). CoversReferenced clock x) e (h clock counts) | inr t ↦ absurd t ]
 
 pub ok_is : (wanted given : List Kind) → ◌≡◌ {A = Result (List Kind) Refusal} (Ok wanted) (Ok given) → wanted ≡ given
 ok_is wanted given e = cc
@@ -199,13 +199,13 @@ pub where_false : (test : Bool) (want : Result (List Kind) Refusal) (why : Refus
 where_false true want why given e = not_ok why given e
 where_false false want why given e = (refl, e)
 
-pub create_covers : (ops : List Op) (there : Bool) (name : List ℕ) (given : List Kind) → create_wants there name ≡ Ok given → Covers ops given
+pub create_covers : (ops : List Op) (there : Bool) (name : List ℕ) (given : List Kind) → create_intent there name ≡ Ok given → Covers ops given
 create_covers ops there name given e =
     let lawful = where_true (is_lawful_name (created_name name)) _ _ given e in
     let absent = where_false there _ _ given lawful.1 in
     subst (Covers ops) (ok_is (kinds.Create (created_name name) ∷ []) given absent.1) (covers_one ops (kinds.Create (created_name name)) (λ clock counts. tt))
 
-pub delete_covers : (ops : List Op) (there : Bool) (name : List ℕ) (given : List Kind) → delete_wants there (delete_set_of ops name) name ≡ Ok given → Covers ops given
+pub delete_covers : (ops : List Op) (there : Bool) (name : List ℕ) (given : List Kind) → delete_intent there (delete_set_of ops name) name ≡ Ok given → Covers ops given
 delete_covers ops there name given e =
     let found = where_true there _ _ given e in
     let other = where_false (bytes_eq name inbox) _ _ given found.1 in
@@ -216,7 +216,7 @@ subscribe_by : (ops : List Op) (subscribed : Bool) (name : List ℕ) → Covers 
 subscribe_by ops true name = covers_none ops
 subscribe_by ops false name = covers_one ops (kinds.Subscribe name) (λ clock counts. tt)
 
-pub subscribe_covers : (ops : List Op) (subscribed : Bool) (name : List ℕ) (given : List Kind) → subscribe_wants subscribed name ≡ Ok given → Covers ops given
+pub subscribe_covers : (ops : List Op) (subscribed : Bool) (name : List ℕ) (given : List Kind) → subscribe_intent subscribed name ≡ Ok given → Covers ops given
 subscribe_covers ops subscribed name given e =
     let lawful = where_true (is_lawful_name name) _ _ given e in
     subst (Covers ops) (ok_is (if subscribed then [] else kinds.Subscribe name ∷ []) given lawful.1) (subscribe_by ops subscribed name)
@@ -225,12 +225,12 @@ unsubscribe_by : (ops : List Op) (seen : List OpId) (name : List ℕ) → ((cloc
 unsubscribe_by ops [] name h = covers_none ops
 unsubscribe_by ops (i ∷ is) name h = covers_one ops (kinds.Unsubscribe name (i ∷ is)) h
 
-pub unsubscribe_covers : (ops : List Op) (name : List ℕ) (given : List Kind) → unsubscribe_wants (subscription_tags_of ops name) name ≡ Ok given → Covers ops given
+pub unsubscribe_covers : (ops : List Op) (name : List ℕ) (given : List Kind) → unsubscribe_intent (subscription_tags_of ops name) name ≡ Ok given → Covers ops given
 unsubscribe_covers ops name given e =
     let lawful = where_true (is_lawful_name name) _ _ given e in
     subst (Covers ops) (ok_is (unsubscribes (subscription_tags_of ops name) name) given lawful.1) (unsubscribe_by ops (subscription_tags_of ops name) name (unsubscribe_covered ops name))
 
-pub append_covers : (ops : List Op) (there : Bool) (stamp : List ℕ) (asked : AppendAsked) (given : List Kind) → append_wants there stamp asked ≡ Ok given → (there ≡ true) × Covers ops given
+pub append_covers : (ops : List Op) (there : Bool) (stamp : List ℕ) (asked : AppendArgs) (given : List Kind) → append_intent there stamp asked ≡ Ok given → (there ≡ true) × Covers ops given
 append_covers ops there stamp asked given e =
     let found = where_true there _ _ given e in
     let short = where_true (list_all is_lawful_keyword asked.flags.keywords) _ _ given found.1 in
@@ -238,38 +238,38 @@ append_covers ops there stamp asked given e =
     let kind = kinds.Append asked.name asked.flags (given_date asked.date stamp) asked.text in
     (found.0, subst (Covers ops) (ok_is (kind ∷ []) given few.1) (covers_one ops kind (λ clock counts. tt)))
 
-pub deleted_there : (there : Bool) (seen : List OpId) (name : List ℕ) (given : List Kind) → delete_wants there seen name ≡ Ok given → there ≡ true
+pub deleted_there : (there : Bool) (seen : List OpId) (name : List ℕ) (given : List Kind) → delete_intent there seen name ≡ Ok given → there ≡ true
 deleted_there there seen name given e = (where_true there _ _ given e).0
 
 -- ---- what the commands over messages want
 
-chosen : (b : Bool) (rows : List Listed) (row : Listed) → IsIn row (if b then rows else []) → IsIn row rows
+chosen : (b : Bool) (rows : List ListedMessage) (row : ListedMessage) → IsIn row (if b then rows else []) → IsIn row rows
 chosen true rows row i = i
 chosen false rows row i = absurd i
 
-under_in : (uidvalidity : ℕ) (now : Option ℕ) (rows : List Listed) (row : Listed) → IsIn row (rows_under uidvalidity now rows) → IsIn row rows
+under_in : (uidvalidity : ℕ) (now : Option ℕ) (rows : List ListedMessage) (row : ListedMessage) → IsIn row (rows_under uidvalidity now rows) → IsIn row rows
 under_in uidvalidity None rows row i = absurd i
 under_in uidvalidity (Some now) rows row i = chosen (now == uidvalidity) rows row i
 
-module _ (start : Start) (ops : List Op) (a : IsApplied ops) where
-  pub view_row : (view : Seen) (row : Listed) → IsIn row (rows_for start ops view) → IsIn row (listing start view.name ops)
+module _ (start : Counters) (ops : List Op) (a : IsApplied ops) where
+  pub view_row : (view : ViewState) (row : ListedMessage) → IsIn row (rows_for start ops view) → IsIn row (listing start view.name ops)
   view_row view row i = under_in view.uidvalidity (uidvalidity_of start view.name ops) (listing start view.name ops) row i
 
-  pub view_keywords : (view : Seen) → HaveLawfulKeywords (rows_for start ops view)
+  pub view_keywords : (view : ViewState) → HaveLawfulKeywords (rows_for start ops view)
   view_keywords view = λ row i. keywords_lawful start view.name ops row a (view_row view row i)
 
-  module _ (view : Seen) (destination : List ℕ) (lawful : IsLawfulName destination) where
-    name_of_view : (row : Listed) → IsIn row (rows_for start ops view) → IsLawfulName view.name
+  module _ (view : ViewState) (destination : List ℕ) (lawful : IsLawfulName destination) where
+    name_of_view : (row : ListedMessage) → IsIn row (rows_for start ops view) → IsLawfulName view.name
     name_of_view row i = listed_lawful start view.name ops row a (view_row view row i)
 
-    ids_of_row : (row : Listed) → IsIn row (rows_for start ops view)
+    ids_of_row : (row : ListedMessage) → IsIn row (rows_for start ops view)
         → ((id : OpId) → IsIn id row.versions → HasId id_of ops id) × HasId id_of ops row.origin × (1 ≤ length row.versions)
     ids_of_row row i = names_applied start view.name ops row a (view_row view row i)
 
-    versions_covered : (clock : List (ℕ × ℕ)) → IsClockOf id_of ops clock → (row : Listed) → IsIn row (rows_for start ops view) → (olds : List OpId) → olds ≡ row.versions → AreCovered clock olds
+    versions_covered : (clock : List (ℕ × ℕ)) → IsClockOf id_of ops clock → (row : ListedMessage) → IsIn row (rows_for start ops view) → (olds : List OpId) → olds ≡ row.versions → AreCovered clock olds
     versions_covered clock counts row i olds e = subst (AreCovered clock) (sym e) (covered_from clock row.versions (λ id h. (counts id).1 ((ids_of_row row i).0 id h)))
 
-    versions_counted : (row : Listed) → IsIn row (rows_for start ops view) → (olds : List OpId) → olds ≡ row.versions → length olds ≤ 64 → IsCount olds
+    versions_counted : (row : ListedMessage) → IsIn row (rows_for start ops view) → (olds : List OpId) → olds ≡ row.versions → length olds ≤ 64 → IsCount olds
     versions_counted row i olds e few = (subst (λ (ids : List OpId). 1 ≤ length ids) (sym e) (ids_of_row row i).2, few)
 
     issuable_can : (kind : Kind) → IsIssuable view.name destination (rows_for start ops view) kind → CanIssue ops kind
@@ -307,12 +307,12 @@ not_true : (b : Bool) → not b ≡ false → b ≡ true
 not_true true h = refl
 not_true false h = cc
 
-copy_there : (mailbox : OpenMailbox) (asked : CopyAsked) (there : Bool) (given : List Kind) → copy_wants mailbox asked there ≡ Ok given → there ≡ true
+copy_there : (mailbox : OpenMailbox) (asked : CopyArgs) (there : Bool) (given : List Kind) → copy_intent mailbox asked there ≡ Ok given → there ≡ true
 copy_there mailbox asked there given e =
     let in_range = where_false (not (is_in_range asked.by_uid asked.messages mailbox.view)) _ _ given e in
     not_true there (where_false (not there) _ _ given in_range.1).0
 
-move_there : (mailbox : OpenMailbox) (asked : CopyAsked) (there : Bool) (given : List Kind) → move_wants mailbox asked there ≡ Ok given → there ≡ true
+move_there : (mailbox : OpenMailbox) (asked : CopyArgs) (there : Bool) (given : List Kind) → move_intent mailbox asked there ≡ Ok given → there ≡ true
 move_there mailbox asked there given e =
     let in_range = where_false (not (is_in_range asked.by_uid asked.messages mailbox.view)) _ _ given e in
     let writable = where_false mailbox.read_only _ _ given in_range.1 in
@@ -323,7 +323,7 @@ move_there mailbox asked there given e =
 pub known_wants : (state : State) (want : Result (List Kind) Refusal) (given : List Kind) → when_known state want ≡ Ok given → want ≡ Ok given
 known_wants state want given e = (where_true (is_known state) want refusals.NotNow given e).1
 
-pub selected_wants : (state : State) (want : Seen → Bool → Result (List Kind) Refusal) (given : List Kind) → when_selected state want ≡ Ok given → (view : Seen) × (read_only : Bool) × (want view read_only ≡ Ok given)
+pub selected_wants : (state : State) (want : ViewState → Bool → Result (List Kind) Refusal) (given : List Kind) → when_selected state want ≡ Ok given → (view : ViewState) × (read_only : Bool) × (want view read_only ≡ Ok given)
 selected_wants (NotAuthenticated credentials) want given e = not_ok refusals.NotNow given e
 selected_wants Authenticated want given e = not_ok refusals.NotNow given e
 selected_wants (Selected view read_only) want given e = (view, read_only, e)
@@ -341,80 +341,80 @@ nothing_wanted ops given e = subst (CanIssueAll ops) (ok_is [] given e) (can_non
 nothing_where : (ops : List Op) (test : Bool) (why : Refusal) (given : List Kind) → (if test then Ok [] else Err why) ≡ Ok given → CanIssueAll ops given
 nothing_where ops test why given e = nothing_wanted ops given (where_true test (Ok []) why given e).1
 
-module _ (start : Start) (ops : List Op) (a : IsApplied ops) (stamp : List ℕ) (state : State) where
+module _ (start : Counters) (ops : List Op) (a : IsApplied ops) (stamp : List ℕ) (state : State) where
   -- what a command wants may be issued
-  pub wanted_can : (command : Command) (given : List Kind) → wants start ops stamp state command ≡ Ok given → CanIssueAll ops given
+  pub wanted_can : (command : Command) (given : List Kind) → command_intent start ops stamp state command ≡ Ok given → CanIssueAll ops given
   wanted_can commands.Capability given e = nothing_wanted ops given e
   wanted_can commands.Noop given e = nothing_wanted ops given e
   wanted_can commands.Logout given e = nothing_wanted ops given e
   wanted_can (commands.Login user password) given e =
-      let w = new_wants state (λ credentials. login_wants credentials user password) given e in
-      nothing_where ops (are_right w.0 user password) refusals.LoginFailed given w.1
+      let w = new_wants state (λ credentials. login_intent credentials user password) given e in
+      nothing_where ops (are_credentials w.0 user password) refusals.LoginFailed given w.1
   wanted_can (commands.Enable names) given e = nothing_wanted ops given (known_wants state (Ok []) given e)
-  wanted_can (commands.Select name condstore) given e = nothing_where ops (is_there name ops) refusals.NoSuchMailbox given (known_wants state (select_wants (is_there name ops)) given e)
-  wanted_can (commands.Examine name condstore) given e = nothing_where ops (is_there name ops) refusals.NoSuchMailbox given (known_wants state (select_wants (is_there name ops)) given e)
+  wanted_can (commands.Select name condstore) given e = nothing_where ops (folder_exists name ops) refusals.NoSuchMailbox given (known_wants state (select_intent (folder_exists name ops)) given e)
+  wanted_can (commands.Examine name condstore) given e = nothing_where ops (folder_exists name ops) refusals.NoSuchMailbox given (known_wants state (select_intent (folder_exists name ops)) given e)
   wanted_can (commands.Create name) given e =
-      let there = is_there (created_name name) ops in
-      let w = known_wants state (create_wants there name) given e in
+      let there = folder_exists (created_name name) ops in
+      let w = known_wants state (create_intent there name) given e in
       can_all ops given (create_lawful there name given w) (create_covers ops there name given w)
   wanted_can (commands.Delete name) given e =
-      let there = is_there name ops in
+      let there = folder_exists name ops in
       let seen = delete_set_of ops name in
-      let w = known_wants state (delete_wants there seen name) given e in
+      let w = known_wants state (delete_intent there seen name) given e in
       can_all ops given (delete_lawful there seen name given (there_lawful ops name a.sound (deleted_there there seen name given w)) w) (delete_covers ops there name given w)
   wanted_can (commands.Subscribe name) given e =
       let subscribed = is_subscribed name ops in
-      let w = known_wants state (subscribe_wants subscribed name) given e in
+      let w = known_wants state (subscribe_intent subscribed name) given e in
       can_all ops given (subscribe_lawful subscribed name given w) (subscribe_covers ops subscribed name given w)
   wanted_can (commands.Unsubscribe name) given e =
       let seen = subscription_tags_of ops name in
-      let w = known_wants state (unsubscribe_wants seen name) given e in
+      let w = known_wants state (unsubscribe_intent seen name) given e in
       can_all ops given (unsubscribe_lawful seen name given w) (unsubscribe_covers ops name given w)
   wanted_can (commands.ListNames asked) given e = nothing_wanted ops given (known_wants state (Ok []) given e)
   wanted_can commands.Namespace given e = nothing_wanted ops given (known_wants state (Ok []) given e)
-  wanted_can (commands.Status name items) given e = nothing_where ops (is_there name ops) refusals.NoSuchMailbox given (known_wants state (status_wants (is_there name ops)) given e)
+  wanted_can (commands.Status name items) given e = nothing_where ops (folder_exists name ops) refusals.NoSuchMailbox given (known_wants state (status_intent (folder_exists name ops)) given e)
   wanted_can (commands.Append append) given e =
-      let there = is_there append.name ops in
-      let asked : AppendAsked = record { name = append.name; flags = append.flags; date = append.date; text = append.text } in
-      let w = known_wants state (append_wants there stamp asked) given e in
+      let there = folder_exists append.name ops in
+      let asked : AppendArgs = record { name = append.name; flags = append.flags; date = append.date; text = append.text } in
+      let w = known_wants state (append_intent there stamp asked) given e in
       let c = append_covers ops there stamp asked given w in
       can_all ops given (append_lawful there stamp asked given (there_lawful ops append.name a.sound c.0) w) c.1
   wanted_can commands.Idle given e = nothing_wanted ops given (known_wants state (Ok []) given e)
   wanted_can commands.Close given e =
-      let w = selected_wants state (λ view read_only. close_wants (mailbox_in start ops view read_only)) given e in
+      let w = selected_wants state (λ view read_only. close_intent (mailbox_in start ops view read_only)) given e in
       issuable_all start ops a w.0 inbox inbox_lawful given (close_wants_issuable (mailbox_in start ops w.0 w.1) inbox given w.2)
   wanted_can commands.Unselect given e = nothing_wanted ops given (selected_wants state (λ view read_only. Ok []) given e).2
   wanted_can commands.Expunge given e =
-      let w = selected_wants state (λ view read_only. expunge_wants (mailbox_in start ops view read_only)) given e in
+      let w = selected_wants state (λ view read_only. expunge_intent (mailbox_in start ops view read_only)) given e in
       issuable_all start ops a w.0 inbox inbox_lawful given (expunge_wants_issuable (mailbox_in start ops w.0 w.1) inbox given w.2)
   wanted_can (commands.UidExpunge uids) given e =
-      let w = selected_wants state (λ view read_only. uid_expunge_wants (mailbox_in start ops view read_only) uids) given e in
+      let w = selected_wants state (λ view read_only. uid_expunge_intent (mailbox_in start ops view read_only) uids) given e in
       issuable_all start ops a w.0 inbox inbox_lawful given (uid_expunge_wants_issuable (mailbox_in start ops w.0 w.1) inbox uids given w.2)
   wanted_can (commands.Search asked) given e =
-      let w = selected_wants state (λ view read_only. search_wants view.entries asked.steps) given e in
+      let w = selected_wants state (λ view read_only. search_intent view.entries asked.steps) given e in
       nothing_where ops (list_all (step_is_in_range w.0.entries) asked.steps) refusals.NoSuchMessage given w.2
   wanted_can (commands.Fetch fetch) given e =
-      let asked : FetchAsked = record { by_uid = fetch.by_uid; messages = fetch.messages; items = fetch.items; changed_since = fetch.changed_since } in
-      let w = selected_wants state (λ view read_only. fetch_wants (mailbox_in start ops view read_only) asked) given e in
+      let asked : FetchArgs = record { by_uid = fetch.by_uid; messages = fetch.messages; items = fetch.items; changed_since = fetch.changed_since } in
+      let w = selected_wants state (λ view read_only. fetch_intent (mailbox_in start ops view read_only) asked) given e in
       issuable_all start ops a w.0 inbox inbox_lawful given (fetch_wants_issuable (mailbox_in start ops w.0 w.1) inbox asked given (view_keywords start ops a w.0) w.2)
   wanted_can (commands.Store store) given e =
-      let asked : StoreAsked = record { by_uid = store.by_uid; messages = store.messages; unchanged_since = store.unchanged_since; action = store.action; flags = store.flags } in
-      let w = selected_wants state (λ view read_only. store_wants (mailbox_in start ops view read_only) asked) given e in
+      let asked : StoreArgs = record { by_uid = store.by_uid; messages = store.messages; unchanged_since = store.unchanged_since; action = store.action; flags = store.flags } in
+      let w = selected_wants state (λ view read_only. store_intent (mailbox_in start ops view read_only) asked) given e in
       issuable_all start ops a w.0 inbox inbox_lawful given (store_wants_issuable (mailbox_in start ops w.0 w.1) inbox asked given (view_keywords start ops a w.0) w.2)
   wanted_can (commands.Copy transfer) given e =
-      let there = is_there transfer.name ops in
-      let asked : CopyAsked = record { by_uid = transfer.by_uid; messages = transfer.messages; destination = transfer.name } in
-      let w = selected_wants state (λ view read_only. copy_wants (mailbox_in start ops view read_only) asked there) given e in
+      let there = folder_exists transfer.name ops in
+      let asked : CopyArgs = record { by_uid = transfer.by_uid; messages = transfer.messages; destination = transfer.name } in
+      let w = selected_wants state (λ view read_only. copy_intent (mailbox_in start ops view read_only) asked there) given e in
       issuable_all start ops a w.0 transfer.name (there_lawful ops transfer.name a.sound (copy_there (mailbox_in start ops w.0 w.1) asked there given w.2)) given
       (copy_wants_issuable (mailbox_in start ops w.0 w.1) asked there given (view_keywords start ops a w.0) w.2)
   wanted_can (commands.Move transfer) given e =
-      let there = is_there transfer.name ops in
-      let asked : CopyAsked = record { by_uid = transfer.by_uid; messages = transfer.messages; destination = transfer.name } in
-      let w = selected_wants state (λ view read_only. move_wants (mailbox_in start ops view read_only) asked there) given e in
+      let there = folder_exists transfer.name ops in
+      let asked : CopyArgs = record { by_uid = transfer.by_uid; messages = transfer.messages; destination = transfer.name } in
+      let w = selected_wants state (λ view read_only. move_intent (mailbox_in start ops view read_only) asked there) given e in
       issuable_all start ops a w.0 transfer.name (there_lawful ops transfer.name a.sound (move_there (mailbox_in start ops w.0 w.1) asked there given w.2)) given
       (move_wants_issuable (mailbox_in start ops w.0 w.1) asked there given (view_keywords start ops a w.0) w.2)
 
-  pub input_can : (input : Input) (given : List Kind) → wants_of start ops stamp state input ≡ Ok given → CanIssueAll ops given
+  pub input_can : (input : Input) (given : List Kind) → input_intent start ops stamp state input ≡ Ok given → CanIssueAll ops given
   input_can (inputs.Command moment tagged) given e = wanted_can tagged.command given e
   input_can (inputs.Line DoneLine) given e = nothing_wanted ops given e
   input_can (inputs.Line Other) given e = not_ok refusals.DoneExpected given e

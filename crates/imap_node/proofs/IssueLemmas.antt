@@ -1,5 +1,5 @@
 use Rattle.std.proofs.Common.{inl, inr, ℕ, ◌+◌, List, [], ◌∷◌, ◌++◌, map, append-nil, refl, sym, ap, ◌∙◌, subst}
-use Rattle.causal_inbox.specs.Seen.{AreKept, IsClockOf}
+use Rattle.causal_inbox.specs.Inbox.{AreHeldStill, IsClockOf}
 use Rattle.crdt_ops.specs.Sound.{IsSound}
 use Rattle.crdt_ops.specs.declared.kind.Kind.{Kind}
 use Rattle.crdt_ops.specs.declared.op.Op.{Op}
@@ -9,7 +9,7 @@ use Rattle.tags_clocks.specs.Clock.{count_of}
 use Rattle.imap_node.specs.Issues.{Issues, issued_by}
 use Rattle.imap_node.specs.Nodes.{NodeState}
 use Rattle.imap_node.specs.Operations.{AreNext, CanIssue, CanIssueAll, CanIssueBy, IsFresh, IsNext}
-use Rattle.imap_node.specs.Respond.{KeepsHeld, Responds}
+use Rattle.imap_node.specs.Responses.{AreHeldAfter, Responds}
 use Rattle.imap_node.specs.declared.input.Input.{Input}
 use Rattle.imap_node.specs.declared.reply.Reply.{Reply}
 use Rattle.imap_node.specs.declared.reply.Reply.TheVariants.{Done, Refused}
@@ -53,7 +53,7 @@ next_fresh replica applied kinds ops can h op i =
       fresh = λ has. (next_ripe replica (applied ++ cut.0) op n).1 (id_in_front id_of op.id applied cut.0 has);
     }
 
-kept_always : (ops old new : List Op) → KeepsHeld ops old new → AreKept id_of ops old new
+kept_always : (ops old new : List Op) → AreHeldAfter ops old new → AreHeldStill id_of ops old new
 kept_always [] old new h = λ o. (λ i. (subst (IsIn o) h i, λ none. none), λ p. subst (IsIn o) (sym h) p.0)
 kept_always (op ∷ ops) old new h = h
 

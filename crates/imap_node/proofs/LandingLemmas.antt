@@ -6,8 +6,8 @@ use Rattle.std.proofs.Common.{◌≡◌, ◌↔◌, ◌⊎◌, inl, inr, ℕ, �
 use Rattle.std.proofs.lemmas.Bool.{and_from, and_parts, cases_Bool, false≢true, false_from_ne_true}
 use Rattle.std.proofs.lemmas.Bool.Decides.{nat_tests}
 use Rattle.imap_answers.specs.Printable.{Each, Where}
-use Rattle.mail_listing.specs.Listed.{Listed}
-use Rattle.mail_listing.specs.Listing.{AreRisingRows, beyond, row_of}
+use Rattle.mailbox_rows.specs.ListedMessage.{ListedMessage}
+use Rattle.mailbox_rows.specs.RowViews.{AreRisingRows, rows_after_uid, row_of}
 use Rattle.merge_laws.specs.Orders.{IsIn}
 use Rattle.tags_clocks.proofs.Decide.{ids_decide}
 use Rattle.tags_clocks.specs.declared.id.OpId.{OpId}
@@ -17,23 +17,23 @@ use Rattle.crdt_ops.specs.declared.kind.Kind.{Kind}
 use Rattle.crdt_ops.specs.declared.kind.Kind.TheVariants as kinds
 use Rattle.crdt_ops.specs.declared.op.Op.{Op}
 use Rattle.crdt_ops.specs.Meanings.{IsVersion}
-use Rattle.crdt_ops.specs.Order.{same_id}
-use Rattle.crdt_ops.specs.Sets.{Body, body_by}
+use Rattle.crdt_ops.specs.SortedSets.{same_id}
+use Rattle.crdt_ops.specs.Sets.{MessageTagData, tag_data_by}
 use Rattle.crdt_ops.specs.TagLaws.{adds_own, same_id_is}
-use Rattle.crdt_ops.specs.Tags.{MessageTag, added_by, adds, is_some_tag, removed_by, removes, same_tag}
-use Rattle.imap_commands.specs.Copying.{append_of, appends_of, removal_of, removals_of}
-use Rattle.imap_commands.specs.Named.{name_at, those_there}
-use Rattle.imap_commands.specs.Asked.{CopyAsked, OpenMailbox}
+use Rattle.crdt_ops.specs.Tags.{MessageTag, tag_added_by, adds, is_some_tag, tags_removed_by, removes, same_tag}
+use Rattle.imap_commands.specs.Copying.{append_of, appends_of, expunge_of_moved, expunges_of_moved}
+use Rattle.imap_commands.specs.MessageNames.{name_at, existing_messages}
+use Rattle.imap_commands.specs.Arguments.{CopyArgs, OpenMailbox}
 use Rattle.imap_commands.specs.Printing.{AreAsMany}
-use Rattle.imap_commands.specs.Told.{entry_at, is_gone, message_at, row_for}
+use Rattle.imap_commands.specs.Report.{entry_at, is_gone, message_at, row_for}
 use Rattle.imap_commands.proofs.PrintSelected.{each_append, each_in}
-use Rattle.session_view.specs.Sets.{resolved}
-use Rattle.session_view.specs.declared.entry.Entry.{Entry as Seen}
-use Rattle.uid_projection.specs.declared.start.Start.{Start}
+use Rattle.session_view.specs.Sets.{numbers_in_set}
+use Rattle.session_view.specs.declared.view_entry.ViewEntry.{ViewEntry}
+use Rattle.uid_projection.specs.declared.first_numbers.Counters.{Counters}
 use Rattle.uid_projection.specs.Applied.{IsApplied}
-use Rattle.uid_projection.specs.Incarnations.{is_there}
-use Rattle.uid_projection.specs.Lines.{concerns_by, has_version, origin_added, uid_of, uidnext_of}
-use Rattle.uid_projection.specs.Listing.{listed_of, listing}
+use Rattle.uid_projection.specs.Incarnations.{folder_exists}
+use Rattle.uid_projection.specs.UidsAndModSeqs.{kind_names_folder, has_version, origin_added, uid_of, uidnext_of}
+use Rattle.uid_projection.specs.Listing.{listed_message_of, listing}
 use Rattle.uid_projection.proofs.HistoryLemmas.{once}
 use Rattle.uid_projection.proofs.Keeping.{apart}
 use Rattle.uid_projection.proofs.Listed.{row_from, row_in}
@@ -41,7 +41,7 @@ use Rattle.uid_projection.proofs.Presence.{adds_about, applied_front, removed_ab
 use Rattle.uid_projection.proofs.Steps.{uid_kept, uid_new, uidnext_here}
 use Rattle.uid_projection.proofs.Versions.{begun_added, origin_applied, origin_new, version_cases, version_in, version_kept}
 use Rattle.imap_node.proofs.ThereLemmas.{IsNoDelete, added_there, kept_one, mapped_in}
-use Rattle.imap_node.specs.Mailboxes.{landing_in}
+use Rattle.imap_node.specs.Mailboxes.{copy_target_in}
 use Rattle.crdt_ops.specs.Ops.{id_of}
 
 -- ---- operations that copy
@@ -70,7 +70,7 @@ copying_stays before (kinds.Store name flags olds origin) h = tt
 copying_stays before (kinds.Subscribe name) h = tt
 copying_stays before (kinds.Unsubscribe name seen) h = tt
 
-elsewhere : (folder : List ℕ) (kind : Kind) → concerns_by folder kind ≡ false → appends_to folder kind ≡ false
+elsewhere : (folder : List ℕ) (kind : Kind) → kind_names_folder folder kind ≡ false → appends_to folder kind ≡ false
 elsewhere folder (kinds.Create name) h = refl
 elsewhere folder (kinds.Delete name seen) h = refl
 elsewhere folder (kinds.Append name flags date text) h = h
@@ -82,15 +82,15 @@ elsewhere folder (kinds.Unsubscribe name seen) h = refl
 -- what an Append to the folder is
 record Puts (folder : List ℕ) (id : OpId) (kind : Kind) : Type 0 where
   counted : appends_to folder kind ≡ true
-  own : is_some_tag (MessageTag folder id) (added_by id kind) ≡ true
-  origin : option_map (λ (b : Body). b.origin) (body_by id kind) ≡ Some id
-  keeps : (i : OpId) → list_any (same_tag (MessageTag folder i)) (removed_by kind) ≡ false
+  own : is_some_tag (MessageTag folder id) (tag_added_by id kind) ≡ true
+  origin : option_map (λ (b : MessageTagData). b.origin) (tag_data_by id kind) ≡ Some id
+  keeps : (i : OpId) → list_any (same_tag (MessageTag folder i)) (tags_removed_by kind) ≡ false
 
 -- and what an Expunge in it
 record Takes (before : List Op) (folder : List ℕ) (id : OpId) (kind : Kind) : Type 0 where
   counted : appends_to folder kind ≡ false
-  adds_none : (i : OpId) → is_some_tag (MessageTag folder i) (added_by id kind) ≡ false
-  earlier : (i : OpId) → list_any (same_tag (MessageTag folder i)) (removed_by kind) ≡ true → Has before i
+  adds_none : (i : OpId) → is_some_tag (MessageTag folder i) (tag_added_by id kind) ≡ false
+  earlier : (i : OpId) → list_any (same_tag (MessageTag folder i)) (tags_removed_by kind) ≡ true → Has before i
 
 or_parts : (a b : Bool) → (a || b) ≡ true → (a ≡ true) ⊎ (b ≡ true)
 or_parts true b h = inl refl
@@ -105,7 +105,7 @@ removed_in folder name i (old ∷ olds) h =
       | inr t ↦ inr (removed_in folder name i olds t)
     ]
 
-parts_of : (before : List Op) (folder : List ℕ) (id : OpId) (kind : Kind) → IsCopying before kind → concerns_by folder kind ≡ true → Puts folder id kind ⊎ Takes before folder id kind
+parts_of : (before : List Op) (folder : List ℕ) (id : OpId) (kind : Kind) → IsCopying before kind → kind_names_folder folder kind ≡ true → Puts folder id kind ⊎ Takes before folder id kind
 parts_of before folder id (kinds.Create name) h c = absurd h
 parts_of before folder id (kinds.Delete name seen) h c = absurd h
 parts_of before folder id (kinds.Append name flags date text) h c =
@@ -232,7 +232,7 @@ not_begun false y q = refl
 same_some : (i j : OpId) → ◌≡◌ {A = Option OpId} (Some i) (Some j) → i ≡ j
 same_some i j h = cc
 
-module _ (start : Start) (folder : List ℕ) (before : List Op) (first : ℕ) where
+module _ (start : Counters) (folder : List ℕ) (before : List Op) (first : ℕ) where
   -- the message of this origin is there, under a UID from the first one on
   abbrev Lands : List Op → OpId → Type 0
   Lands ops g = (has_version folder g ops ≡ true) × (first ≤ uid_of start folder ops g)
@@ -244,7 +244,7 @@ module _ (start : Start) (folder : List ℕ) (before : List Op) (first : ℕ) wh
     new : (g i : OpId) → IsVersion ops folder g i → first ≤ uid_of start folder ops g → Has before i → ⊥
     next : first ≤ uidnext_of start folder ops
 
-  module _ (ops : List Op) (o : Op) (a : IsApplied (ops ++ o ∷ [])) (earlier : (i : OpId) → Has before i → Has ops i) (t : is_there folder (ops ++ o ∷ []) ≡ true) where
+  module _ (ops : List Op) (o : Op) (a : IsApplied (ops ++ o ∷ [])) (earlier : (i : OpId) → Has before i → Has ops i) (t : folder_exists folder (ops ++ o ∷ []) ≡ true) where
     uid_stays : (g : OpId) → has_version folder g ops ≡ true → uid_of start folder (ops ++ o ∷ []) g ≡ uid_of start folder ops g
     uid_stays g b = uid_kept start folder ops o g t (not_begun (has_version folder g (ops ++ o ∷ [])) (has_version folder g ops) b)
 
@@ -276,7 +276,7 @@ module _ (start : Start) (folder : List ℕ) (before : List Op) (first : ℕ) wh
 
     -- an Append's message is its own origin
     put_origin : Puts folder o.id o.kind → origin_added folder o ≡ Some o.id
-    put_origin puts = ap (option_map (λ (b : Body). b.origin)) (ap (λ (b : Bool). cond {A = Option Body} b (body_by o.id o.kind) None) puts.own) ∙ puts.origin
+    put_origin puts = ap (option_map (λ (b : MessageTagData). b.origin)) (ap (λ (b : Bool). cond {A = Option MessageTagData} b (tag_data_by o.id o.kind) None) puts.own) ∙ puts.origin
 
     -- an Append lands one message, under UIDNEXT
     landed_put : (origins : List OpId) → Puts folder o.id o.kind → Landed ops origins → Landed (ops ++ o ∷ []) (origins ++ o.id ∷ [])
@@ -335,7 +335,7 @@ module _ (start : Start) (folder : List ℕ) (before : List Op) (first : ℕ) wh
 
     pub landed_one : (origins : List OpId) → IsCopying before o.kind → Landed ops origins → Landed (ops ++ o ∷ []) (origins ++ landing_by (appends_to folder o.kind) o.id)
     landed_one origins c l =
-        elim (cases_Bool (concerns_by folder o.kind)) [
+        elim (cases_Bool (kind_names_folder folder o.kind)) [
           | inl about ↦ elim (parts_of before folder o.id o.kind c about) [
             | inl puts ↦ subst (λ (b : Bool). Landed (ops ++ o ∷ []) (origins ++ landing_by b o.id)) (sym puts.counted) (landed_put origins puts l)
             | inr takes ↦
@@ -357,7 +357,7 @@ module _ (start : Start) (folder : List ℕ) (before : List Op) (first : ℕ) wh
         next = omega (arith, e);
       }
 
-  landed_all : (more ops : List Op) (origins : List OpId) → IsApplied (ops ++ more) → ((i : OpId) → Has before i → Has ops i) → is_there folder ops ≡ true → ((o : Op) → IsIn o more → IsCopying before o.kind) → Landed ops origins
+  landed_all : (more ops : List Op) (origins : List OpId) → IsApplied (ops ++ more) → ((i : OpId) → Has before i → Has ops i) → folder_exists folder ops ≡ true → ((o : Op) → IsIn o more → IsCopying before o.kind) → Landed ops origins
       → Landed (ops ++ more) (origins ++ landing folder more)
   landed_all [] ops origins a earlier t c l = subst (λ (xs : List Op). Landed xs (origins ++ [])) (sym (append-nil ops)) (subst (Landed ops) (sym (append-nil origins)) l)
   landed_all (o ∷ more) ops origins a earlier t c l =
@@ -373,21 +373,21 @@ module _ (start : Start) (folder : List ℕ) (before : List Op) (first : ℕ) wh
 
 -- ---- the rows behind them
 
-abbrev uid_in : Listed → ℕ
+abbrev uid_in : ListedMessage → ℕ
 uid_in row = row.uid
 
 -- the rows beyond a UID ascend
-beyond_rises : (low least : ℕ) (rows : List Listed) → AreRisingRows least rows → Rises uid_in least (beyond low rows)
+beyond_rises : (low least : ℕ) (rows : List ListedMessage) → AreRisingRows least rows → Rises uid_in least (rows_after_uid low rows)
 beyond_rises low least [] h = tt
 beyond_rises low least (row ∷ rows) h =
     let from : least ≤ row.uid = h.0 in
     let rest = beyond_rises low (row.uid + 1) rows h.1 in
     elim (cases_Bool (nat_lt low row.uid)) [
       | inl t ↦ rw t (from, rest)
-      | inr f ↦ rw f (rises_lower uid_in least (row.uid + 1) (beyond low rows) (omega (arith, from)) rest)
+      | inr f ↦ rw f (rises_lower uid_in least (row.uid + 1) (rows_after_uid low rows) (omega (arith, from)) rest)
     ]
 
-listed_rises : (start : Start) (folder : List ℕ) (ops : List Op) (low : ℕ) (origins : List OpId) → Rises (uid_of start folder ops) low origins → Rises uid_in low (map (listed_of start folder ops) origins)
+listed_rises : (start : Counters) (folder : List ℕ) (ops : List Op) (low : ℕ) (origins : List OpId) → Rises (uid_of start folder ops) low origins → Rises uid_in low (map (listed_message_of start folder ops) origins)
 listed_rises start folder ops low [] h = tt
 listed_rises start folder ops low (g ∷ origins) h = (h.0, listed_rises start folder ops (uid_of start folder ops g + 1) origins h.1)
 
@@ -402,42 +402,42 @@ from_over : (first n : ℕ) → 1 ≤ first → nat_lt (first - 1) n ≡ true �
 from_over first n l h = grind (arith, nat_tests)
 
 -- they are those of the messages
-beyond_lands : (start : Start) (folder : List ℕ) (before ops : List Op) (first : ℕ) (origins : List OpId) (row : Listed) → 1 ≤ first → ((g : OpId) → IsIn g origins ↔ Lands start folder before first ops g)
-    → IsIn row (beyond (first - 1) (listing start folder ops)) ↔ IsIn row (map (listed_of start folder ops) origins)
+beyond_lands : (start : Counters) (folder : List ℕ) (before ops : List Op) (first : ℕ) (origins : List OpId) (row : ListedMessage) → 1 ≤ first → ((g : OpId) → IsIn g origins ↔ Lands start folder before first ops g)
+    → IsIn row (rows_after_uid (first - 1) (listing start folder ops)) ↔ IsIn row (map (listed_message_of start folder ops) origins)
 beyond_lands start folder before ops first origins row least are =
-    let over : Listed → Bool = λ (x : Listed). nat_lt (first - 1) x.uid in
+    let over : ListedMessage → Bool = λ (x : ListedMessage). nat_lt (first - 1) x.uid in
     let f = in_filter over (listing start folder ops) row in
-    let m = in_map (listed_of start folder ops) origins row in (
+    let m = in_map (listed_message_of start folder ops) origins row in (
       λ i.
           let w = f.0 i in
           let r = row_in start folder ops row w.0 in
           let from : first ≤ row.uid = from_over first row.uid least w.1 in
-          m.1 (r.0, (are r.0).1 (r.1, subst (λ (x : Listed). first ≤ x.uid) (sym r.2) from), r.2),
+          m.1 (r.0, (are r.0).1 (r.1, subst (λ (x : ListedMessage). first ≤ x.uid) (sym r.2) from), r.2),
       λ i.
           let w = m.0 i in
           let l = (are w.0).0 w.1 in
-          f.1 (subst (λ (x : Listed). IsIn x (listing start folder ops)) w.2 (row_from start folder ops w.0 l.0), is_over first row.uid least (subst (λ (x : Listed). first ≤ x.uid) w.2 l.1)),
+          f.1 (subst (λ (x : ListedMessage). IsIn x (listing start folder ops)) w.2 (row_from start folder ops w.0 l.0), is_over first row.uid least (subst (λ (x : ListedMessage). first ≤ x.uid) w.2 l.1)),
     )
 
 -- the rows with UIDs from the former UIDNEXT on are, in their order, those of the messages that were appended
-pub rows_are_landed : (start : Start) (folder : List ℕ) (before issued : List Op) → 1 ≤ uidnext_of start folder before → IsApplied (before ++ issued) → AreRisingRows 1 (listing start folder (before ++ issued)) → is_there folder before ≡ true
+pub rows_are_landed : (start : Counters) (folder : List ℕ) (before issued : List Op) → 1 ≤ uidnext_of start folder before → IsApplied (before ++ issued) → AreRisingRows 1 (listing start folder (before ++ issued)) → folder_exists folder before ≡ true
     → ((o : Op) → IsIn o issued → IsCopying before o.kind)
-    → beyond (uidnext_of start folder before - 1) (listing start folder (before ++ issued)) ≡ map (listed_of start folder (before ++ issued)) (landing folder issued)
+    → rows_after_uid (uidnext_of start folder before - 1) (listing start folder (before ++ issued)) ≡ map (listed_message_of start folder (before ++ issued)) (landing folder issued)
 rows_are_landed start folder before issued least a r t c =
     let first = uidnext_of start folder before in
     let ops = before ++ issued in
     let origins = landing folder issued in
     let l = landed_all start folder before first issued before [] a (λ i h. h) t c (landed_first start folder before first (applied_front before issued a) refl) in
-    same_rising uid_in 1 first (beyond (first - 1) (listing start folder ops)) (map (listed_of start folder ops) origins) (beyond_rises (first - 1) 1 (listing start folder ops) r) (listed_rises start folder ops first origins l.rises)
+    same_rising uid_in 1 first (rows_after_uid (first - 1) (listing start folder ops)) (map (listed_message_of start folder ops) origins) (beyond_rises (first - 1) 1 (listing start folder ops) r) (listed_rises start folder ops first origins l.rises)
     (λ row. beyond_lands start folder before ops first origins row least l.are)
 
 -- so they are as many
-rows_landed : (start : Start) (folder : List ℕ) (before issued : List Op) → 1 ≤ uidnext_of start folder before → IsApplied (before ++ issued) → AreRisingRows 1 (listing start folder (before ++ issued)) → is_there folder before ≡ true
+rows_landed : (start : Counters) (folder : List ℕ) (before issued : List Op) → 1 ≤ uidnext_of start folder before → IsApplied (before ++ issued) → AreRisingRows 1 (listing start folder (before ++ issued)) → folder_exists folder before ≡ true
     → ((o : Op) → IsIn o issued → IsCopying before o.kind)
-    → length (beyond (uidnext_of start folder before - 1) (listing start folder (before ++ issued))) ≡ length (filter (λ (o : Op). appends_to folder o.kind) issued)
+    → length (rows_after_uid (uidnext_of start folder before - 1) (listing start folder (before ++ issued))) ≡ length (filter (λ (o : Op). appends_to folder o.kind) issued)
 rows_landed start folder before issued least a r t c =
-    ap (λ (rows : List Listed). length rows) (rows_are_landed start folder before issued least a r t c)
-    ∙ mapped_length (listed_of start folder (before ++ issued)) (landing folder issued)
+    ap (λ (rows : List ListedMessage). length rows) (rows_are_landed start folder before issued least a r t c)
+    ∙ mapped_length (listed_message_of start folder (before ++ issued)) (landing folder issued)
     ∙ mapped_length id_of (filter (λ (o : Op). appends_to folder o.kind) issued)
 
 -- ---- what COPY and MOVE issue
@@ -450,13 +450,13 @@ kinds_counted folder (o ∷ issued) =
     let c = kinds_counted folder issued in
     omega (arith, a, b, c)
 
-append_counted : (folder : List ℕ) (m : Option Listed) → length (filter (appends_to folder) (append_of folder m)) ≡ once (not (is_gone m))
+append_counted : (folder : List ℕ) (m : Option ListedMessage) → length (filter (appends_to folder) (append_of folder m)) ≡ once (not (is_gone m))
 append_counted folder None = refl
 append_counted folder (Some row) =
     let own : bytes_eq folder folder ≡ true = (bytes_eq-Decides folder folder).1 refl in
     rw own refl
 
-pub appends_counted : (folder : List ℕ) (rows : List Listed) (view : List Seen) (numbers : List ℕ) → length (filter (appends_to folder) (appends_of folder rows view numbers)) ≡ length (those_there rows view numbers)
+pub appends_counted : (folder : List ℕ) (rows : List ListedMessage) (view : List ViewEntry) (numbers : List ℕ) → length (filter (appends_to folder) (appends_of folder rows view numbers)) ≡ length (existing_messages rows view numbers)
 appends_counted folder rows view [] = refl
 appends_counted folder rows view (n ∷ numbers) =
     let m = message_at rows view n in
@@ -466,28 +466,28 @@ appends_counted folder rows view (n ∷ numbers) =
     let d = one_counted (λ k. not (is_gone (message_at rows view k))) n numbers in
     omega (arith, a, b, c, d)
 
-removal_counted : (folder destination : List ℕ) (m : Option Listed) → length (filter (appends_to destination) (removal_of folder m)) ≡ 0
+removal_counted : (folder destination : List ℕ) (m : Option ListedMessage) → length (filter (appends_to destination) (expunge_of_moved folder m)) ≡ 0
 removal_counted folder destination None = refl
 removal_counted folder destination (Some row) = refl
 
-pub removals_counted : (folder destination : List ℕ) (rows : List Listed) (view : List Seen) (numbers : List ℕ) → length (filter (appends_to destination) (removals_of folder rows view numbers)) ≡ 0
+pub removals_counted : (folder destination : List ℕ) (rows : List ListedMessage) (view : List ViewEntry) (numbers : List ℕ) → length (filter (appends_to destination) (expunges_of_moved folder rows view numbers)) ≡ 0
 removals_counted folder destination rows view [] = refl
 removals_counted folder destination rows view (n ∷ numbers) =
     let m = message_at rows view n in
-    let a = more_counted (appends_to destination) (removal_of folder m) (removals_of folder rows view numbers) in
+    let a = more_counted (appends_to destination) (expunge_of_moved folder m) (expunges_of_moved folder rows view numbers) in
     let b = removal_counted folder destination m in
     let c = removals_counted folder destination rows view numbers in
     omega (arith, a, b, c)
 
-append_copying : (before : List Op) (folder : List ℕ) (m : Option Listed) → Each (IsCopying before) (append_of folder m)
+append_copying : (before : List Op) (folder : List ℕ) (m : Option ListedMessage) → Each (IsCopying before) (append_of folder m)
 append_copying before folder None = tt
 append_copying before folder (Some row) = (tt, tt)
 
-removal_copying : (before : List Op) (folder : List ℕ) (m : Option Listed) → Where (λ (row : Listed). HasAll before row.versions) m → Each (IsCopying before) (removal_of folder m)
+removal_copying : (before : List Op) (folder : List ℕ) (m : Option ListedMessage) → Where (λ (row : ListedMessage). HasAll before row.versions) m → Each (IsCopying before) (expunge_of_moved folder m)
 removal_copying before folder None h = tt
 removal_copying before folder (Some row) h = (h, tt)
 
-row_where : (P : Listed → Type 0) (uid : ℕ) (rows : List Listed) → ((row : Listed) → IsIn row rows → P row) → Where P (row_of uid rows)
+row_where : (P : ListedMessage → Type 0) (uid : ℕ) (rows : List ListedMessage) → ((row : ListedMessage) → IsIn row rows → P row) → Where P (row_of uid rows)
 row_where P uid [] h = tt
 row_where P uid (row ∷ rows) h =
     elim (cases_Bool (nat_eq row.uid uid)) [
@@ -495,43 +495,43 @@ row_where P uid (row ∷ rows) h =
       | inr f ↦ rw f (row_where P uid rows (λ x i. h x (inr i)))
     ]
 
-message_where : (P : Listed → Type 0) (rows : List Listed) (e : Option Seen) → ((row : Listed) → IsIn row rows → P row) → Where P (row_for rows e)
+message_where : (P : ListedMessage → Type 0) (rows : List ListedMessage) (e : Option ViewEntry) → ((row : ListedMessage) → IsIn row rows → P row) → Where P (row_for rows e)
 message_where P rows None h = tt
 message_where P rows (Some e) h = row_where P e.uid rows h
 
-pub appends_copying : (before : List Op) (folder : List ℕ) (rows : List Listed) (view : List Seen) (numbers : List ℕ) → Each (IsCopying before) (appends_of folder rows view numbers)
+pub appends_copying : (before : List Op) (folder : List ℕ) (rows : List ListedMessage) (view : List ViewEntry) (numbers : List ℕ) → Each (IsCopying before) (appends_of folder rows view numbers)
 appends_copying before folder rows view [] = tt
 appends_copying before folder rows view (n ∷ numbers) =
     each_append (IsCopying before) (append_of folder (message_at rows view n)) (appends_of folder rows view numbers) (append_copying before folder (message_at rows view n)) (appends_copying before folder rows view numbers)
 
-pub removals_copying : (before : List Op) (folder : List ℕ) (rows : List Listed) (view : List Seen) (numbers : List ℕ) → ((row : Listed) → IsIn row rows → HasAll before row.versions) → Each (IsCopying before) (removals_of folder rows view numbers)
+pub removals_copying : (before : List Op) (folder : List ℕ) (rows : List ListedMessage) (view : List ViewEntry) (numbers : List ℕ) → ((row : ListedMessage) → IsIn row rows → HasAll before row.versions) → Each (IsCopying before) (expunges_of_moved folder rows view numbers)
 removals_copying before folder rows view [] h = tt
 removals_copying before folder rows view (n ∷ numbers) h =
-    each_append (IsCopying before) (removal_of folder (message_at rows view n)) (removals_of folder rows view numbers)
-    (removal_copying before folder (message_at rows view n) (message_where (λ (row : Listed). HasAll before row.versions) rows (entry_at view n) h)) (removals_copying before folder rows view numbers h)
+    each_append (IsCopying before) (expunge_of_moved folder (message_at rows view n)) (expunges_of_moved folder rows view numbers)
+    (removal_copying before folder (message_at rows view n) (message_where (λ (row : ListedMessage). HasAll before row.versions) rows (entry_at view n) h)) (removals_copying before folder rows view numbers h)
 
 mapped_copying : (before issued : List Op) (wanted : List Kind) → map (λ (o : Op). o.kind) issued ≡ wanted → Each (IsCopying before) wanted → (o : Op) → IsIn o issued → IsCopying before o.kind
 mapped_copying before issued wanted e h o i = each_in (IsCopying before) wanted o.kind h (subst (IsIn o.kind) e (mapped_in issued o i))
 
 -- kinds that copy land as many rows as they append
-pub kinds_landed : (start : Start) (folder : List ℕ) (before issued : List Op) (wanted : List Kind) → 1 ≤ uidnext_of start folder before → IsApplied (before ++ issued) → AreRisingRows 1 (listing start folder (before ++ issued))
-    → is_there folder before ≡ true
+pub kinds_landed : (start : Counters) (folder : List ℕ) (before issued : List Op) (wanted : List Kind) → 1 ≤ uidnext_of start folder before → IsApplied (before ++ issued) → AreRisingRows 1 (listing start folder (before ++ issued))
+    → folder_exists folder before ≡ true
     → map (λ (o : Op). o.kind) issued ≡ wanted → Each (IsCopying before) wanted
-    → length (beyond (uidnext_of start folder before - 1) (listing start folder (before ++ issued))) ≡ length (filter (appends_to folder) wanted)
+    → length (rows_after_uid (uidnext_of start folder before - 1) (listing start folder (before ++ issued))) ≡ length (filter (appends_to folder) wanted)
 kinds_landed start folder before issued wanted least a r t e c =
     rows_landed start folder before issued least a r t (mapped_copying before issued wanted e c) ∙ kinds_counted folder issued ∙ ap (λ ks. length (filter (appends_to folder) ks)) e
 
 -- as many come into the destination as have sources
-pub copies_landed : (start : Start) (folder : List ℕ) (before issued : List Op) (wanted : List Kind) (mailbox : OpenMailbox) (asked : CopyAsked)
-    → 1 ≤ uidnext_of start folder before → IsApplied (before ++ issued) → AreRisingRows 1 (listing start folder (before ++ issued)) → is_there folder before ≡ true → map (λ (o : Op). o.kind) issued ≡ wanted → Each (IsCopying before) wanted
-    → length (filter (appends_to folder) wanted) ≡ length (those_there mailbox.rows mailbox.view (resolved asked.by_uid asked.messages mailbox.view))
-    → AreAsMany mailbox asked (landing_in start before (before ++ issued) folder)
+pub copies_landed : (start : Counters) (folder : List ℕ) (before issued : List Op) (wanted : List Kind) (mailbox : OpenMailbox) (asked : CopyArgs)
+    → 1 ≤ uidnext_of start folder before → IsApplied (before ++ issued) → AreRisingRows 1 (listing start folder (before ++ issued)) → folder_exists folder before ≡ true → map (λ (o : Op). o.kind) issued ≡ wanted → Each (IsCopying before) wanted
+    → length (filter (appends_to folder) wanted) ≡ length (existing_messages mailbox.rows mailbox.view (numbers_in_set asked.by_uid asked.messages mailbox.view))
+    → AreAsMany mailbox asked (copy_target_in start before (before ++ issued) folder)
 copies_landed start folder before issued wanted mailbox asked least a r t e c n =
     let rows = mailbox.rows in
     let view = mailbox.view in
-    let numbers = resolved asked.by_uid asked.messages view in
+    let numbers = numbers_in_set asked.by_uid asked.messages view in
     let low = uidnext_of start folder before - 1 in
     let landed = kinds_landed start folder before issued wanted least a r t e c in
-    let x = mapped_length (name_at true view) (those_there rows view numbers) in
-    let y = mapped_length (λ (row : Listed). row.uid) (beyond low (listing start folder (before ++ issued))) in
+    let x = mapped_length (name_at true view) (existing_messages rows view numbers) in
+    let y = mapped_length (λ (row : ListedMessage). row.uid) (rows_after_uid low (listing start folder (before ++ issued))) in
     omega (arith, landed, x, y, n)

@@ -1,25 +1,25 @@
 use Rattle.std.proofs.Common.{◌≡◌, inl, inr, ℕ, zero, suc, List, [], ◌∷◌, ◌++◌, append_assoc, append-nil, refl, sym, ap, subst}
 use Rattle.causal_inbox.specs.Delivery.{Arrives}
-use Rattle.causal_inbox.specs.Seen.{AreReleased, Seen}
-use Rattle.causal_inbox.specs.declared.answers.Arrival.{Arrival}
-use Rattle.causal_inbox.specs.declared.answers.Arrival.TheVariants.{Applied, Held, Repeat}
+use Rattle.causal_inbox.specs.Inbox.{AreReleasedInTurn, ReceivedOps}
+use Rattle.causal_inbox.specs.declared.delivery.Arrival.{Arrival}
+use Rattle.causal_inbox.specs.declared.delivery.Arrival.TheVariants.{Applied, Held, Repeat}
 use Rattle.crdt_ops.specs.declared.op.Op.{Op}
 use Rattle.imap_node.specs.Deliveries.{Delivers, Drains}
 use Rattle.imap_node.specs.Issues.{issued_by}
-use Rattle.imap_node.specs.Nodes.{NodeState, received}
-use Rattle.imap_node.specs.Respond.{Responds}
+use Rattle.imap_node.specs.Nodes.{NodeState, received_ops}
+use Rattle.imap_node.specs.Responses.{Responds}
 use Rattle.imap_node.specs.declared.input.Input.{Input}
 use Rattle.imap_node.specs.declared.reply.Reply.{Reply}
 use Rattle.imap_node.proofs.IssueLemmas.{issues_well}
 use Rattle.imap_node.proofs.NextLemmas.{last_cut, no_cut}
-use Rattle.uid_projection.specs.declared.start.Start.{Start}
+use Rattle.uid_projection.specs.declared.first_numbers.Counters.{Counters}
 use Rattle.uid_projection.specs.Applied.{IsApplied}
 use Rattle.uid_projection.specs.Bounds.{IsLasting}
 use Rattle.uid_projection.specs.Exhaustion.{Exhausts, IsExhausted}
 use Rattle.crdt_ops.specs.Ops.{clock_of, id_of}
 
 -- one operation more, for which no counter was at its end
-lasts_one : (start : Start) (ops : List Op) (o : Op) → (Exhausts start [] ops → ⊥) → (Exhausts start ops (o ∷ []) → ⊥) → Exhausts start [] (ops ++ o ∷ []) → ⊥
+lasts_one : (start : Counters) (ops : List Op) (o : Op) → (Exhausts start [] ops → ⊥) → (Exhausts start ops (o ∷ []) → ⊥) → Exhausts start [] (ops ++ o ∷ []) → ⊥
 lasts_one start ops o l n (front, p, back, e, x) =
     elim (last_cut ops front back o p e) [
       | inl t ↦
@@ -29,7 +29,7 @@ lasts_one start ops o l n (front, p, back, e, x) =
     ]
 
 -- and several
-lasts_more : (start : Start) (more ops : List Op) → (Exhausts start [] ops → ⊥) → (Exhausts start ops more → ⊥) → Exhausts start [] (ops ++ more) → ⊥
+lasts_more : (start : Counters) (more ops : List Op) → (Exhausts start [] ops → ⊥) → (Exhausts start ops more → ⊥) → Exhausts start [] (ops ++ more) → ⊥
 lasts_more start [] ops l n = subst (λ (xs : List Op). Exhausts start [] xs → ⊥) (sym (append-nil ops)) l
 lasts_more start (o ∷ more) ops l n =
     let one = lasts_one start ops o l (λ (front, p, back, e, x). n (first_of front p back e x)) in
@@ -42,17 +42,17 @@ lasts_more start (o ∷ more) ops l n =
     first_of (y ∷ []) p back e x = absurd cc
     first_of (y ∷ z ∷ front) p back e x = absurd cc
 
-released_lasts : (count : ℕ) (old new : Seen Start Op) → AreReleased id_of clock_of Exhausts count old new → (Exhausts old.start [] old.applied → ⊥) → Exhausts new.start [] new.applied → ⊥
-released_lasts zero old new h l = subst (λ (s : Seen Start Op). Exhausts s.start [] s.applied → ⊥) (sym h) l
+released_lasts : (count : ℕ) (old new : ReceivedOps Counters Op) → AreReleasedInTurn id_of clock_of Exhausts count old new → (Exhausts old.start [] old.applied → ⊥) → Exhausts new.start [] new.applied → ⊥
+released_lasts zero old new h l = subst (λ (s : ReceivedOps Counters Op). Exhausts s.start [] s.applied → ⊥) (sym h) l
 released_lasts (suc count) old new (before, r, s) l =
     let early = released_lasts count old before r l in
-    subst (λ (x : Start). Exhausts x [] new.applied → ⊥) (sym s.start)
+    subst (λ (x : Counters). Exhausts x [] new.applied → ⊥) (sym s.start)
     (subst (λ (xs : List Op). Exhausts before.start [] xs → ⊥) (sym s.applied) (lasts_one before.start before.applied s.op early s.in_reach))
 
-arrived_lasts : (old new : Seen Start Op) (op : Op) (came : Arrival) → Arrives id_of clock_of Exhausts old op came new → (Exhausts old.start [] old.applied → ⊥) → Exhausts new.start [] new.applied → ⊥
-arrived_lasts old new op Repeat h l = subst (λ (s : Seen Start Op). Exhausts s.start [] s.applied → ⊥) (sym h.1) l
+arrived_lasts : (old new : ReceivedOps Counters Op) (op : Op) (came : Arrival) → Arrives id_of clock_of Exhausts old op came new → (Exhausts old.start [] old.applied → ⊥) → Exhausts new.start [] new.applied → ⊥
+arrived_lasts old new op Repeat h l = subst (λ (s : ReceivedOps Counters Op). Exhausts s.start [] s.applied → ⊥) (sym h.1) l
 arrived_lasts old new op Held (is_new, holds, start, applied, held) l =
-    subst (λ (x : Start). Exhausts x [] new.applied → ⊥) (sym start) (subst (λ (xs : List Op). Exhausts old.start [] xs → ⊥) (sym applied) l)
+    subst (λ (x : Counters). Exhausts x [] new.applied → ⊥) (sym start) (subst (λ (xs : List Op). Exhausts old.start [] xs → ⊥) (sym applied) l)
 arrived_lasts old new op (Applied n) (is_new, applies, released) l =
     released_lasts released.0 (record { start = old.start; applied = old.applied ++ op ∷ []; held = old.held }) new released.2 (lasts_one old.start old.applied op l applies.1)
 
@@ -62,17 +62,17 @@ input_lasts old new n input reply l r =
     record {
       applied = issues.whole;
       lasts =
-          subst (λ (x : Start). Exhausts x [] new.applied → ⊥) (sym issues.start)
+          subst (λ (x : Counters). Exhausts x [] new.applied → ⊥) (sym issues.start)
           (subst (λ (xs : List Op). Exhausts old.start [] xs → ⊥) (sym issues.applied) (lasts_more old.start (issued_by reply) old.applied l.lasts issues.lasts));
     }
 
 pub delivery_lasts : (old new : NodeState) (op : Op) (came : Arrival) → IsApplied new.applied → IsLasting old.start old.applied → Delivers old op came new → IsLasting new.start new.applied
-delivery_lasts old new op came a l d = record { applied = a; lasts = arrived_lasts (received old) (received new) op came d.arrives l.lasts }
+delivery_lasts old new op came a l d = record { applied = a; lasts = arrived_lasts (received_ops old) (received_ops new) op came d.arrives l.lasts }
 
 pub drain_lasts : (old new : NodeState) (count : ℕ) → IsApplied new.applied → IsLasting old.start old.applied → Drains old count new → IsLasting new.start new.applied
-drain_lasts old new count a l d = record { applied = a; lasts = released_lasts count (received old) (received new) d.released l.lasts }
+drain_lasts old new count a l d = record { applied = a; lasts = released_lasts count (received_ops old) (received_ops new) d.released l.lasts }
 
-pub begins_lasting : (start : Start) → IsLasting start []
+pub begins_lasting : (start : Counters) → IsLasting start []
 begins_lasting start = record {
   applied = record { sound = λ o i. absurd i; causal = λ front o back e. absurd (no_cut front o back e) };
   lasts = λ (front, o, back, k, x). absurd (no_cut front o back k);

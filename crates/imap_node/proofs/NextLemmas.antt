@@ -3,11 +3,11 @@ use Rattle.std.proofs.Common.{max, if◌then◌else◌}
 use Rattle.std.proofs.Math.Dec.{eqb}
 use Rattle.std.proofs.lemmas.Bool.{cases_lt}
 use Rattle.std.proofs.lemmas.Bool.Decides.{eqb_tells}
-use Rattle.crdt_ops.specs.Sound.{AreCovered, CoversNamed, IsSound}
+use Rattle.crdt_ops.specs.Sound.{AreCovered, CoversReferenced, IsSound}
 use Rattle.crdt_ops.specs.declared.kind.Kind.{Kind}
 use Rattle.crdt_ops.specs.declared.kind.Kind.TheVariants.{Append, Create, Delete, Expunge, Store, Subscribe, Unsubscribe}
 use Rattle.crdt_ops.specs.declared.op.Op.{Op}
-use Rattle.causal_inbox.specs.Seen.{AreIssued, IsClockOf}
+use Rattle.causal_inbox.specs.Inbox.{AreIssued, IsClockOf}
 use Rattle.merge_laws.specs.Orders.{AreSound, IsCausal, IsIn, IsRipe}
 use Rattle.merge_laws.proofs.Causal.{causal_append}
 use Rattle.merge_laws.proofs.Lists.{id_in_front}
@@ -83,7 +83,7 @@ covered_more clock more [] w h = tt
 covered_more clock more (i ∷ ids) w h = (w i h.0, covered_more clock more ids w h.1)
 
 -- a clock that counts more covers more
-pub covers_more : (clock more : List (ℕ × ℕ)) (kind : Kind) → ((i : OpId) → IsCause clock i → IsCause more i) → CoversNamed clock kind → CoversNamed more kind
+pub covers_more : (clock more : List (ℕ × ℕ)) (kind : Kind) → ((i : OpId) → IsCause clock i → IsCause more i) → CoversReferenced clock kind → CoversReferenced more kind
 covers_more clock more (Create folder) w h = tt
 covers_more clock more (Delete folder seen) w h = covered_more clock more seen w h
 covers_more clock more (Append folder flags date text) w h = tt

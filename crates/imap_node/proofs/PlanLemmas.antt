@@ -3,43 +3,43 @@ use Rattle.std.specs.Prelude.{Result, Ok, Err, MatchResult, OnErr, ◌&&◌, if�
 use Rattle.std.specs.Prelude.{length, ◌==◌}
 use Rattle.std.proofs.lemmas.Bool.{false≢true}
 use Rattle.std.proofs.lemmas.List.{length-append}
-use Rattle.causal_inbox.specs.Seen.{AreIssued, AreKept}
+use Rattle.causal_inbox.specs.Inbox.{AreIssued, AreHeldStill}
 use Rattle.crdt_ops.specs.declared.kind.Kind.{Kind}
 use Rattle.crdt_ops.specs.declared.op.Op.{Op}
-use Rattle.imap_answers.specs.declared.words.Refusal.{Refusal}
-use Rattle.imap_answers.specs.declared.words.Refusal.TheVariants.{NoMemory}
-use Rattle.imap_commands.specs.Gives.{Gives}
-use Rattle.imap_commands.specs.declared.found.Wanted.{Wanted}
+use Rattle.imap_answers.specs.declared.fixed_words.Refusal.{Refusal}
+use Rattle.imap_answers.specs.declared.fixed_words.Refusal.TheVariants.{NoMemory}
+use Rattle.imap_commands.specs.Gives.{GivesOrLacksMemory}
+use Rattle.imap_commands.specs.declared.intent.Intent.{Intent}
 use Rattle.imap_commands.specs.declared.session.Session.{Session}
 use Rattle.imap_commands.specs.declared.session.State.{State}
 use Rattle.imap_commands.specs.declared.session.State.TheVariants.{Authenticated}
 use Rattle.imap_node.specs.declared.input.Input.{Input}
 use Rattle.imap_node.specs.declared.input.Input.TheVariants as inputs
-use Rattle.imap_node.specs.declared.planning.Next.TheVariants.{Goes, Leaves, Stays, Wakes}
-use Rattle.imap_node.specs.declared.planning.Prepared.{Prepared}
-use Rattle.imap_node.specs.Endings.{Course, answers_of_course}
-use Rattle.imap_node.specs.declared.planning.Answered.{Answered}
-use Rattle.imap_node.specs.Nodes.{NodeKept, NodeState}
+use Rattle.imap_node.specs.declared.plan.SessionStep.TheVariants.{Goes, Leaves, Stays, Wakes}
+use Rattle.imap_node.specs.declared.plan.PreparedInput.{PreparedInput}
+use Rattle.imap_node.specs.InputEffects.{InputEffect, answers_of_effect}
+use Rattle.imap_node.specs.declared.plan.PreparedReply.{PreparedReply}
+use Rattle.imap_node.specs.Nodes.{NodeWithRoom, NodeState}
 use Rattle.imap_node.specs.Rooms.{HasRoomFor}
 use Rattle.imap_node.proofs.NextLemmas.{no_cut}
 use Rattle.imap_node.specs.Commands.{is_selected, is_selecting}
 use Rattle.imap_node.specs.Operations.{CanIssueAll, IsNotReady}
-use Rattle.imap_node.specs.Feeds.{IsNews}
-use Rattle.imap_node.specs.Going.{CanGo, gone_on}
-use Rattle.imap_node.specs.Plans.{CanStep, IsAnswered, IsPlanned, Planned, Prepares, done_plan, next_left, place_next, plan_by, session_next}
-use Rattle.imap_node.specs.Respond.{Carries, Holds, IsRefused, IsStamp, KeepsHeld, TakesCourse, ends_idling, leaves, left, session_after, wants_of}
+use Rattle.imap_node.specs.SessionFeeds.{AreChangeNotes}
+use Rattle.imap_node.specs.SessionChanges.{CanChangeSession, changed_session}
+use Rattle.imap_node.specs.Plans.{CanStep, IsPreparedReply, IsPlanned, IsPlanOf, IsPreparedInput, plan_of_prepared, step_of_refusal, place_after_step, plan_by, session_after_step}
+use Rattle.imap_node.specs.Responses.{CarriesOut, IsNodeAfter, IsRefused, IsStamp, AreHeldAfter, IsInputEffect, ends_idling, leaves_mailbox, session_after_refusal, session_after, input_intent}
 use Rattle.imap_node.specs.Sessions.{IsOpen, Places, session_at, with_session}
 use Rattle.causal_inbox.specs.Delivery.{Arrives, Refuses}
-use Rattle.causal_inbox.specs.Received.{HasGrown}
-use Rattle.causal_inbox.specs.Seen.{Seen}
-use Rattle.causal_inbox.specs.declared.answers.Arrival.{Arrival}
-use Rattle.causal_inbox.specs.declared.answers.Arrival.TheVariants.{Applied, Held, Repeat}
-use Rattle.causal_inbox.specs.declared.answers.DeliverFault.{DeliverFault}
+use Rattle.causal_inbox.specs.ReceivedSets.{HasGrown}
+use Rattle.causal_inbox.specs.Inbox.{ReceivedOps}
+use Rattle.causal_inbox.specs.declared.delivery.Arrival.{Arrival}
+use Rattle.causal_inbox.specs.declared.delivery.Arrival.TheVariants.{Applied, Held, Repeat}
+use Rattle.causal_inbox.specs.declared.delivery.DeliverFault.{DeliverFault}
 use Rattle.causal_inbox.proofs.Union.{arrival_grows, arrival_start, releases_grow}
 use Rattle.uid_projection.specs.Exhaustion.{Exhausts}
 use Rattle.imap_node.proofs.CanLemmas.{input_can}
 use Rattle.imap_node.proofs.FeedLemmas.{no_news}
-use Rattle.uid_projection.specs.declared.start.Start.{Start}
+use Rattle.uid_projection.specs.declared.first_numbers.Counters.{Counters}
 use Rattle.uid_projection.specs.Applied.{IsApplied}
 use Rattle.crdt_ops.specs.Ops.{clock_of, id_of}
 
@@ -49,40 +49,40 @@ match_weaker (Ok t) P P' Q Q' f g h = f t h
 match_weaker (Err e) P P' Q Q' f g h = g e h
 
 -- what is kept where something is issued
-pub kept_some : (ops old new : List Op) → (ops ≡ [] → ⊥) → AreKept id_of ops old new → KeepsHeld ops old new
+pub kept_some : (ops old new : List Op) → (ops ≡ [] → ⊥) → AreHeldStill id_of ops old new → AreHeldAfter ops old new
 kept_some [] old new n h = absurd (n refl)
 kept_some (op ∷ ops) old new n h = h
 
-pub kept_none : (ops old : List Op) → ops ≡ [] → KeepsHeld ops old old
-kept_none ops old e = subst (λ (os : List Op). KeepsHeld os old old) (sym e) refl
+pub kept_none : (ops old : List Op) → ops ≡ [] → AreHeldAfter ops old old
+kept_none ops old e = subst (λ (os : List Op). AreHeldAfter os old old) (sym e) refl
 
 module _ (session : Session) where
-  left_command : (b : Bool) → Some (session_next session (if b then Leaves else Stays)) ≡ Some (record { state = if b then Authenticated else session.state; condstore = session.condstore; idling = session.idling })
+  left_command : (b : Bool) → Some (session_after_step session (if b then Leaves else Stays)) ≡ Some (record { state = if b then Authenticated else session.state; condstore = session.condstore; idling = session.idling })
   left_command true = refl
   left_command false = refl
 
-  left_line : (b : Bool) → Some (session_next session (if b then Wakes else Stays)) ≡ Some (record { state = session.state; condstore = session.condstore; idling = if b then None else session.idling })
+  left_line : (b : Bool) → Some (session_after_step session (if b then Wakes else Stays)) ≡ Some (record { state = session.state; condstore = session.condstore; idling = if b then None else session.idling })
   left_line true = refl
   left_line false = refl
 
   -- a refused input leaves the session that its plan says
-  left_by : (input : Input) (why : Refusal) → place_next (Some session) (next_left session.state input why) ≡ Some (left session input why)
+  left_by : (input : Input) (why : Refusal) → place_after_step (Some session) (step_of_refusal session.state input why) ≡ Some (session_after_refusal session input why)
   left_by (inputs.Command moment tagged) why = left_command (is_selected session.state && is_selecting tagged.command)
   left_by (inputs.Line line) why = left_line (ends_idling (inputs.Line line) why)
   left_by inputs.Poll why = refl
 
 module _ (old : NodeState) (n : ℕ) (session : Session) (input : Input) (at : session_at old.sessions n ≡ Some session) where
-  left_next : (why : Refusal) → place_next (session_at old.sessions n) (next_left session.state input why) ≡ Some (left session input why)
-  left_next why = ap (λ (s : Option Session). place_next s (next_left session.state input why)) at ∙ left_by session input why
+  left_next : (why : Refusal) → place_after_step (session_at old.sessions n) (step_of_refusal session.state input why) ≡ Some (session_after_refusal session input why)
+  left_next why = ap (λ (s : Option Session). place_after_step s (step_of_refusal session.state input why)) at ∙ left_by session input why
 
-  done_responds : (p : Prepared) → Prepares old.start old.applied session input p → Planned old n input (done_plan n p)
+  done_responds : (p : PreparedInput) → IsPreparedInput old.start old.applied session input p → IsPlanOf old n input (plan_of_prepared n p)
   done_responds p h = λ new k.
       let after : Session = session_after old.start (old.applied ++ p.ops) session input h.answered.course in
-      let place : place_next (session_at old.sessions n) (Goes p.answered.going) ≡ Some after =
-      ap (λ (s : Option Session). place_next s (Goes p.answered.going)) at ∙ ap (λ (s : Session). Some s) h.answered.becomes in (
+      let place : place_after_step (session_at old.sessions n) (Goes p.answered.going) ≡ Some after =
+      ap (λ (s : Option Session). place_after_step s (Goes p.answered.going)) at ∙ ap (λ (s : Session). Some s) h.answered.becomes in (
         session,
         at,
-        subst (λ (os : List Op). Carries old n session input p.answered.answers p.answered.silent os new) (sym h.copies)
+        subst (λ (os : List Op). CarriesOut old n session input p.answered.answers p.answered.silent os new) (sym h.copies)
             (record {
               stamp = h.stamp;
               stamped = h.stamped;
@@ -94,90 +94,90 @@ module _ (old : NodeState) (n : ℕ) (session : Session) (input : Input) (at : s
               taken = h.answered.taken;
               answers_are = h.answered.answers;
               silent_is = h.answered.silent;
-              becomes = subst (λ (s : Option Session). Holds old p.ops (with_session old.sessions n s) new) place k;
+              becomes = subst (λ (s : Option Session). IsNodeAfter old p.ops (with_session old.sessions n s) new) place k;
             }),
       )
 
-  refused_responds : (why : Refusal) → IsRefused old.start old.applied session.state input why → Planned old n input (plan_by n session.state input (Err why))
-  refused_responds why h = λ new k. (session, at, (h, refl, subst (λ (s : Option Session). Holds old [] (with_session old.sessions n s) new) (left_next why) k))
+  refused_responds : (why : Refusal) → IsRefused old.start old.applied session.state input why → IsPlanOf old n input (plan_by n session.state input (Err why))
+  refused_responds why h = λ new k. (session, at, (h, refl, subst (λ (s : Option Session). IsNodeAfter old [] (with_session old.sessions n s) new) (left_next why) k))
 
-  pub plan_responds : (outcome : Result Prepared Refusal) → IfOk outcome (λ p. Prepares old.start old.applied session input p) → IfErr outcome (λ why. IsRefused old.start old.applied session.state input why)
-      → Planned old n input (plan_by n session.state input outcome)
+  pub plan_responds : (outcome : Result PreparedInput Refusal) → IfOk outcome (λ p. IsPreparedInput old.start old.applied session input p) → IfErr outcome (λ why. IsRefused old.start old.applied session.state input why)
+      → IsPlanOf old n input (plan_by n session.state input outcome)
   plan_responds (Ok p) h k = done_responds p h
   plan_responds (Err why) h k = refused_responds why k
 
 -- what an input wants may be issued
-pub gives_can : (start : Start) (ops : List Op) (a : IsApplied ops) (stamp : List ℕ) (state : State) (input : Input) (r : Result Wanted Refusal) → Gives (λ wanted. wanted.kinds.items) r (wants_of start ops stamp state input) → IfOk r (λ wanted. CanIssueAll ops wanted.kinds.items)
+pub gives_can : (start : Counters) (ops : List Op) (a : IsApplied ops) (stamp : List ℕ) (state : State) (input : Input) (r : Result Intent Refusal) → GivesOrLacksMemory (λ wanted. wanted.kinds.items) r (input_intent start ops stamp state input) → IfOk r (λ wanted. CanIssueAll ops wanted.kinds.items)
 gives_can start ops a stamp state input (Ok given) g = input_can start ops a stamp state input given.kinds.items g
 gives_can start ops a stamp state input (Err why) g = tt
 
 -- why an input is refused by what it wants
-pub refused_by_want : (start : Start) (ops : List Op) (stamp : List ℕ) (state : State) (input : Input) (why : Refusal) → IsStamp input stamp
-    → (why ≡ NoMemory) ⊎ (wants_of start ops stamp state input ≡ Err why) → IsRefused start ops state input why
+pub refused_by_want : (start : Counters) (ops : List Op) (stamp : List ℕ) (state : State) (input : Input) (why : Refusal) → IsStamp input stamp
+    → (why ≡ NoMemory) ⊎ (input_intent start ops stamp state input ≡ Err why) → IsRefused start ops state input why
 refused_by_want start ops stamp state input why s h = elim h [ inl e ↦ inl e | inr e ↦ inr (stamp, s, inl e) ]
 
 -- and by what can't be made ready
-pub refused_by_end : (start : Start) (ops : List Op) (stamp : List ℕ) (state : State) (input : Input) (given : List Kind) (why : Refusal) → IsStamp input stamp → wants_of start ops stamp state input ≡ Ok given
+pub refused_by_end : (start : Counters) (ops : List Op) (stamp : List ℕ) (state : State) (input : Input) (given : List Kind) (why : Refusal) → IsStamp input stamp → input_intent start ops stamp state input ≡ Ok given
     → IsNotReady start ops given why → IsRefused start ops state input why
 refused_by_end start ops stamp state input given why s w h = elim h [ inl e ↦ inl e | inr e ↦ inr (stamp, s, inr (e.0, given, w, e.1)) ]
 
 -- what an input that follows this course is answered
-pub answered_by : {E : Type 0} (start : Start) (before after : List Op) (session : Session) (input : Input) (course : Course) → TakesCourse start before after session input course → (r : Result Answered E)
-    → IfOk r (λ a. a.answers ≡ answers_of_course start after course) → IfOk r (λ a. a.silent ≡ course.silent) → IfOk r (λ a. gone_on session a.going ≡ session_after start after session input course)
-    → IfOk r (λ a. IsAnswered start before after session input a)
+pub answered_by : {E : Type 0} (start : Counters) (before after : List Op) (session : Session) (input : Input) (course : InputEffect) → IsInputEffect start before after session input course → (r : Result PreparedReply E)
+    → IfOk r (λ a. a.answers ≡ answers_of_effect start after course) → IfOk r (λ a. a.silent ≡ course.silent) → IfOk r (λ a. changed_session session a.going ≡ session_after start after session input course)
+    → IfOk r (λ a. IsPreparedReply start before after session input a)
 answered_by start before after session input course taken (Ok a) p q s = record { course = course; taken = taken; answers = p; silent = q; becomes = s }
 answered_by start before after session input course taken (Err e) p q s = tt
 
 -- the next step of a session whose input was refused
-left_steps : (start : Start) (ops : List Op) (session : Session) (a b : Bool) → CanStep start ops session (if a then Leaves else (if b then Wakes else Stays))
+left_steps : (start : Counters) (ops : List Op) (session : Session) (a b : Bool) → CanStep start ops session (if a then Leaves else (if b then Wakes else Stays))
 left_steps start ops session true b = tt
 left_steps start ops session false true = tt
 left_steps start ops session false false = tt
 
 -- a plan can be committed
-pub plan_planned : (node : NodeKept) (n : ℕ) (state : State) (input : Input) (outcome : Result Prepared Refusal) → IsOpen node.state.sessions n
+pub plan_planned : (node : NodeWithRoom) (n : ℕ) (state : State) (input : Input) (outcome : Result PreparedInput Refusal) → IsOpen node.state.sessions n
     → IfOk outcome (λ p. AreIssued id_of clock_of node.state.applied p.ops) → IfOk outcome (λ p. (p.ops ≡ [] → ⊥) → HasRoomFor node.state.applied node.room p.ops)
-    → IfOk outcome (λ p. IsNews node.state.start node.state.applied (node.state.applied ++ p.ops) p.news)
-    → ((s : Session) → session_at node.state.sessions n ≡ Some s → IfOk outcome (λ p. CanGo node.state.start (node.state.applied ++ p.ops) s.state p.answered.going.onward)) → IsPlanned node (plan_by n state input outcome)
-plan_planned node n state input (Ok p) opened i r w c = record { is_open = opened; issued = i; room = r; news = w; can = c }
+    → IfOk outcome (λ p. AreChangeNotes node.state.start node.state.applied (node.state.applied ++ p.ops) p.change_notes)
+    → ((s : Session) → session_at node.state.sessions n ≡ Some s → IfOk outcome (λ p. CanChangeSession node.state.start (node.state.applied ++ p.ops) s.state p.answered.going.onward)) → IsPlanned node (plan_by n state input outcome)
+plan_planned node n state input (Ok p) opened i r w c = record { is_open = opened; issued = i; room = r; change_notes = w; can = c }
 plan_planned node n state input (Err why) opened i r w c = record {
   is_open = opened;
   issued = λ front o back e. absurd (no_cut front o back e);
   room = λ f. absurd (f refl);
-  news = subst (λ (list : List Op). IsNews node.state.start node.state.applied list []) (sym (append-nil node.state.applied)) (no_news node.state.start node.state.applied);
-  can = λ s e. left_steps node.state.start (node.state.applied ++ []) s (leaves state input) (ends_idling input why);
+  change_notes = subst (λ (list : List Op). AreChangeNotes node.state.start node.state.applied list []) (sym (append-nil node.state.applied)) (no_news node.state.start node.state.applied);
+  can = λ s e. left_steps node.state.start (node.state.applied ++ []) s (leaves_mailbox state input) (ends_idling input why);
 }
 
 -- the same where the room was made behind
-pub plan_planned_behind : (start : Start) (applied : List Op) (places : Places) (node : NodeKept) (n : ℕ) (state : State) (input : Input) (outcome : Result Prepared Refusal) → node.state.start ≡ start → node.state.applied ≡ applied → node.state.sessions ≡ places
-    → IsOpen places n → IfOk outcome (λ p. AreIssued id_of clock_of applied p.ops) → IfOk outcome (λ p. (p.ops ≡ [] → ⊥) → HasRoomFor node.state.applied node.room p.ops) → IfOk outcome (λ p. IsNews start applied (applied ++ p.ops) p.news)
-    → ((s : Session) → session_at places n ≡ Some s → IfOk outcome (λ p. CanGo start (applied ++ p.ops) s.state p.answered.going.onward)) → IsPlanned node (plan_by n state input outcome)
+pub plan_planned_behind : (start : Counters) (applied : List Op) (places : Places) (node : NodeWithRoom) (n : ℕ) (state : State) (input : Input) (outcome : Result PreparedInput Refusal) → node.state.start ≡ start → node.state.applied ≡ applied → node.state.sessions ≡ places
+    → IsOpen places n → IfOk outcome (λ p. AreIssued id_of clock_of applied p.ops) → IfOk outcome (λ p. (p.ops ≡ [] → ⊥) → HasRoomFor node.state.applied node.room p.ops) → IfOk outcome (λ p. AreChangeNotes start applied (applied ++ p.ops) p.change_notes)
+    → ((s : Session) → session_at places n ≡ Some s → IfOk outcome (λ p. CanChangeSession start (applied ++ p.ops) s.state p.answered.going.onward)) → IsPlanned node (plan_by n state input outcome)
 plan_planned_behind start applied places node n state input outcome e f g opened i r w c =
     plan_planned node n state input outcome
     (subst (λ (ps : Places). IsOpen ps n) (sym g) opened)
     (subst (λ (os : List Op). IfOk outcome (λ p. AreIssued id_of clock_of os p.ops)) (sym f) i)
     r
-    (subst (λ (x : Start). IfOk outcome (λ p. IsNews x node.state.applied (node.state.applied ++ p.ops) p.news)) (sym e) (subst (λ (os : List Op). IfOk outcome (λ p. IsNews start os (os ++ p.ops) p.news)) (sym f) w))
+    (subst (λ (x : Counters). IfOk outcome (λ p. AreChangeNotes x node.state.applied (node.state.applied ++ p.ops) p.change_notes)) (sym e) (subst (λ (os : List Op). IfOk outcome (λ p. AreChangeNotes start os (os ++ p.ops) p.change_notes)) (sym f) w))
     (λ s at.
-    subst (λ (x : Start). IfOk outcome (λ p. CanGo x (node.state.applied ++ p.ops) s.state p.answered.going.onward)) (sym e)
-    (subst (λ (os : List Op). IfOk outcome (λ p. CanGo start (os ++ p.ops) s.state p.answered.going.onward)) (sym f) (c s (ap (λ (ps : Places). session_at ps n) (sym g) ∙ at))))
+    subst (λ (x : Counters). IfOk outcome (λ p. CanChangeSession x (node.state.applied ++ p.ops) s.state p.answered.going.onward)) (sym e)
+    (subst (λ (os : List Op). IfOk outcome (λ p. CanChangeSession start (os ++ p.ops) s.state p.answered.going.onward)) (sym f) (c s (ap (λ (ps : Places). session_at ps n) (sym g) ∙ at))))
 
 -- what a delivery applies
-pub deliver_grown : {T : Type 0} (arrival : T → Arrival) (old new : Seen Start Op) (op : Op) (r : Result T DeliverFault)
+pub deliver_grown : {T : Type 0} (arrival : T → Arrival) (old new : ReceivedOps Counters Op) (op : Op) (r : Result T DeliverFault)
     → MatchResult r (λ d. Arrives id_of clock_of Exhausts old op (arrival d) new) (λ e. Refuses id_of clock_of Exhausts old op e) → OnErr r (new ≡ old) → HasGrown old.applied new.applied × (new.start ≡ old.start)
 deliver_grown arrival old new op (Ok d) h e = (
   arrival_grows id_of clock_of Exhausts old new op (arrival d) h,
   arrival_start id_of clock_of Exhausts old new op (arrival d) h,
 )
-deliver_grown arrival old new op (Err x) h e = (([], ap (λ (s : Seen Start Op). s.applied) e ∙ sym (append-nil old.applied)), ap (λ (s : Seen Start Op). s.start) e)
+deliver_grown arrival old new op (Err x) h e = (([], ap (λ (s : ReceivedOps Counters Op). s.applied) e ∙ sym (append-nil old.applied)), ap (λ (s : ReceivedOps Counters Op). s.start) e)
 
 -- what a delivery applies that applies one operation
 none_more : {X : Type 0} (xs : List X) → length xs ≡ 0 → xs ≡ []
 none_more [] l = refl
 none_more (x ∷ xs) l = absurd (omega (arith, l))
 
-arrive_one : (old new : Seen Start Op) (op : Op) (came : Arrival) → Arrives id_of clock_of Exhausts old op came new → length new.applied ≡ length old.applied + 1 → new.applied ≡ old.applied ++ op ∷ []
-arrive_one old new op Repeat h l = let e = ap (λ (s : Seen Start Op). length s.applied) h.1 in absurd (omega (arith, e, l))
+arrive_one : (old new : ReceivedOps Counters Op) (op : Op) (came : Arrival) → Arrives id_of clock_of Exhausts old op came new → length new.applied ≡ length old.applied + 1 → new.applied ≡ old.applied ++ op ∷ []
+arrive_one old new op Repeat h l = let e = ap (λ (s : ReceivedOps Counters Op). length s.applied) h.1 in absurd (omega (arith, e, l))
 arrive_one old new op Held h l = let e = ap (λ (ops : List Op). length ops) h.3 in absurd (omega (arith, e, l))
 arrive_one old new op (Applied n) h l =
     let g = releases_grow id_of clock_of Exhausts h.2.0 (record old { applied = old.applied ++ op ∷ [] }) new h.2.2 in
@@ -186,11 +186,11 @@ arrive_one old new op (Applied n) h l =
     let d = length-append old.applied (op ∷ []) in
     g.1 ∙ ap (λ (more : List Op). (old.applied ++ op ∷ []) ++ more) (none_more g.0 (omega (arith, a, b, d, l))) ∙ append-nil (old.applied ++ op ∷ [])
 
-pub deliver_one : {T : Type 0} (arrival : T → Arrival) (old new : Seen Start Op) (op : Op) (r : Result T DeliverFault)
+pub deliver_one : {T : Type 0} (arrival : T → Arrival) (old new : ReceivedOps Counters Op) (op : Op) (r : Result T DeliverFault)
     → MatchResult r (λ d. Arrives id_of clock_of Exhausts old op (arrival d) new) (λ e. Refuses id_of clock_of Exhausts old op e) → OnErr r (new ≡ old)
     → length new.applied ≡ length old.applied + 1 → new.applied ≡ old.applied ++ op ∷ []
 deliver_one arrival old new op (Ok d) h e l = arrive_one old new op (arrival d) h l
-deliver_one arrival old new op (Err x) h e l = let k = ap (λ (s : Seen Start Op). length s.applied) e in absurd (omega (arith, k, l))
+deliver_one arrival old new op (Err x) h e l = let k = ap (λ (s : ReceivedOps Counters Op). length s.applied) e in absurd (omega (arith, k, l))
 
 -- nothing is there where it was found that something is
 pub not_empty : (ops os : List Op) (b : Bool) → b ≡ false → b ≡ (length os == 0) → os ≡ ops → ops ≡ [] → ⊥

@@ -1,17 +1,17 @@
 -- What an input that can be carried out comes to, behind operations that are ready.
 use Rattle.std.proofs.Common.{◌≡◌, ℕ, ◌+◌, List, ◌++◌, sym, ap, ◌∙◌, subst}
 use Rattle.std.specs.Prelude.{Ok}
-use Rattle.causal_inbox.specs.Seen.{AreIssued}
+use Rattle.causal_inbox.specs.Inbox.{AreIssued}
 use Rattle.crdt_ops.specs.declared.kind.Kind.{Kind}
 use Rattle.crdt_ops.specs.declared.op.Op.{Op}
 use Rattle.imap_commands.specs.declared.session.Session.{Session}
 use Rattle.imap_node.specs.declared.input.Input.{Input}
-use Rattle.imap_node.specs.declared.planning.Prepared.{Prepared}
+use Rattle.imap_node.specs.declared.plan.PreparedInput.{PreparedInput}
 use Rattle.imap_node.specs.Operations.{AreNext, CanFollow, clock_of, id_of}
-use Rattle.imap_node.specs.Plans.{IsAnswered, Prepares}
-use Rattle.imap_node.specs.Respond.{IsStamp, wants_of}
+use Rattle.imap_node.specs.Plans.{IsPreparedReply, IsPreparedInput}
+use Rattle.imap_node.specs.Responses.{IsStamp, input_intent}
 use Rattle.tags_clocks.specs.Clock.{count_of}
-use Rattle.uid_projection.specs.declared.start.Start.{Start}
+use Rattle.uid_projection.specs.declared.first_numbers.Counters.{Counters}
 use Rattle.uid_projection.specs.Exhaustion.{Exhausts}
 
 -- operations that come next are issued behind what was applied
@@ -21,9 +21,9 @@ issued_next replica applied kinds ops h = λ front o back e.
     (n.clock, ap (λ (r : ℕ). count_of o.clock r + 1) n.own ∙ sym n.number)
 
 -- an input can be carried out so, where the replica has what it had before when the input is answered
-pub prepares : (start start' : Start) (applied applied' : List Op) (session : Session) (input : Input) (stamp : List ℕ) (kinds : List Kind) (ops : List Op) (prepared : Prepared) → start' ≡ start → applied' ≡ applied → IsStamp input stamp
-    → wants_of start applied stamp session.state input ≡ Ok kinds → AreNext start.replica applied kinds ops → CanFollow start' applied' ops → IsAnswered start' applied' (applied' ++ ops) session input prepared.answered
-    → prepared.ops ≡ ops → prepared.copies ≡ ops → Prepares start applied session input prepared
+pub prepares : (start start' : Counters) (applied applied' : List Op) (session : Session) (input : Input) (stamp : List ℕ) (kinds : List Kind) (ops : List Op) (prepared : PreparedInput) → start' ≡ start → applied' ≡ applied → IsStamp input stamp
+    → input_intent start applied stamp session.state input ≡ Ok kinds → AreNext start.replica applied kinds ops → CanFollow start' applied' ops → IsPreparedReply start' applied' (applied' ++ ops) session input prepared.answered
+    → prepared.ops ≡ ops → prepared.copies ≡ ops → IsPreparedInput start applied session input prepared
 prepares start start' applied applied' session input stamp kinds ops prepared s a stamped wanted next follow answered o copies =
     record {
       stamp = stamp;
@@ -31,10 +31,10 @@ prepares start start' applied applied' session input stamp kinds ops prepared s 
       kinds = kinds;
       wanted = wanted;
       next = subst (λ (xs : List Op). AreNext start.replica applied kinds xs) (sym o) next;
-      lasts = subst (λ (xs : List Op). Exhausts start applied xs → ⊥) (sym o) (subst (λ (b : Start). Exhausts b applied ops → ⊥) s (subst (λ (list : List Op). Exhausts start' list ops → ⊥) a follow.lasts));
+      lasts = subst (λ (xs : List Op). Exhausts start applied xs → ⊥) (sym o) (subst (λ (b : Counters). Exhausts b applied ops → ⊥) s (subst (λ (list : List Op). Exhausts start' list ops → ⊥) a follow.lasts));
       answered =
-          subst (λ (xs : List Op). IsAnswered start applied (applied ++ xs) session input prepared.answered) (sym o)
-          (subst (λ (b : Start). IsAnswered b applied (applied ++ ops) session input prepared.answered) s
-          (subst (λ (list : List Op). IsAnswered start' list (list ++ ops) session input prepared.answered) a answered));
+          subst (λ (xs : List Op). IsPreparedReply start applied (applied ++ xs) session input prepared.answered) (sym o)
+          (subst (λ (b : Counters). IsPreparedReply b applied (applied ++ ops) session input prepared.answered) s
+          (subst (λ (list : List Op). IsPreparedReply start' list (list ++ ops) session input prepared.answered) a answered));
       copies = copies ∙ sym o;
     }

@@ -2,26 +2,26 @@
 use Rattle.std.proofs.Common.{◌≡◌, ◌⊎◌, inl, inr, ap, sym, refl, subst, ℕ, Bool, true, false, List, [], ◌∷◌, ◌++◌, Option, Some, None, append-nil}
 use Rattle.std.specs.Option.{unwrap_or}
 use Rattle.std.specs.Prelude.{Ok}
-use Rattle.causal_inbox.specs.Seen.{AreIssued}
+use Rattle.causal_inbox.specs.Inbox.{AreIssued}
 use Rattle.crdt_ops.specs.declared.op.Op.{Op}
 use Rattle.idle_feed.specs.Feeds.{Pending}
-use Rattle.imap_commands.specs.Told.{nothing_told}
+use Rattle.imap_commands.specs.Report.{empty_report}
 use Rattle.imap_commands.specs.declared.session.Session.{Session}
 use Rattle.imap_commands.specs.declared.session.State.{State}
-use Rattle.imap_node.specs.Endings.{Course, FrontOf, ending_behind}
-use Rattle.imap_node.specs.Feeds.{FolderNoted, IsNews, IsNotedFor, IsSettled}
-use Rattle.imap_node.specs.Going.{CanGo, state_with}
+use Rattle.imap_node.specs.InputEffects.{InputEffect, SyncInput, sync_result_after}
+use Rattle.imap_node.specs.SessionFeeds.{MailboxNotes, AreChangeNotes, IsNotedFor, IsSettled}
+use Rattle.imap_node.specs.SessionChanges.{CanChangeSession, state_with}
 use Rattle.imap_node.specs.Operations.{clock_of, id_of}
-use Rattle.imap_node.specs.Plans.{IsAnswered, Prepares}
+use Rattle.imap_node.specs.Plans.{IsPreparedReply, IsPreparedInput}
 use Rattle.imap_node.specs.Replays.{view_of}
-use Rattle.imap_node.specs.Respond.{course_of}
+use Rattle.imap_node.specs.Responses.{command_effect}
 use Rattle.imap_node.specs.Resting.{HasNothing, IsAtRest, IsNoop, noop_at_rest}
 use Rattle.imap_node.specs.declared.input.Input.{Input}
 use Rattle.imap_node.specs.declared.input.Input.TheVariants.{Command}
 use Rattle.imap_syntax.specs.declared.command.Command.TheVariants.{Noop}
-use Rattle.session_view.specs.Seen.{Seen}
-use Rattle.session_view.specs.declared.entry.SyncKind.TheVariants.{Full}
-use Rattle.uid_projection.specs.declared.start.Start.{Start}
+use Rattle.session_view.specs.ViewState.{ViewState}
+use Rattle.session_view.specs.declared.view_entry.SyncKind.TheVariants.{Full}
+use Rattle.uid_projection.specs.declared.first_numbers.Counters.{Counters}
 use Rattle.uid_projection.specs.Exhaustion.{Exhausts}
 use Rattle.imap_node.proofs.GoingLemmas.{shown_as_before}
 use Rattle.imap_node.proofs.NextLemmas.{no_cut}
@@ -31,24 +31,24 @@ pub none_issued : (applied : List Op) → AreIssued id_of clock_of applied []
 none_issued applied = λ front o back e. absurd (no_cut front o back e)
 
 -- nothing is news
-pub none_new : (start : Start) (applied : List Op) → IsNews start applied (applied ++ []) []
-none_new start applied = subst (λ (after : List Op). IsNews start applied after []) (sym (append-nil applied)) (λ name uidvalidity uid. inl refl)
+pub none_new : (start : Counters) (applied : List Op) → AreChangeNotes start applied (applied ++ []) []
+none_new start applied = subst (λ (after : List Op). AreChangeNotes start applied after []) (sym (append-nil applied)) (λ name uidvalidity uid. inl refl)
 
 -- what the session is told, and where it stands
-unmoved : (start : Start) (applied : List Op) (state : State) (pending : Pending) (modseq : Bool) → ((view : Seen) → view_of state ≡ Some view → IsNotedFor start applied pending view) → HasNothing state pending
-    → ([] ≡ (ending_behind start (applied ++ []) state (record { silent = []; own = []; sync = Some Full; modseq = modseq })).answers) × (state_with state None ≡ (ending_behind start (applied ++ []) state (record { silent = []; own = []; sync = Some Full; modseq = modseq })).state)
+unmoved : (start : Counters) (applied : List Op) (state : State) (pending : Pending) (modseq : Bool) → ((view : ViewState) → view_of state ≡ Some view → IsNotedFor start applied pending view) → HasNothing state pending
+    → ([] ≡ (sync_result_after start (applied ++ []) state (record { silent = []; own = []; sync = Some Full; modseq = modseq })).answers) × (state_with state None ≡ (sync_result_after start (applied ++ []) state (record { silent = []; own = []; sync = Some Full; modseq = modseq })).state)
 unmoved start applied state pending modseq noted settled =
-    shown_as_before start applied (applied ++ []) state (record { pending = pending; news = [] }) (record { silent = []; own = []; sync = Some Full; modseq = modseq }) [] refl (λ view is. refl) refl noted (none_new start applied) (inr settled)
+    shown_as_before start applied (applied ++ []) state (record { pending = pending; change_notes = [] }) (record { silent = []; own = []; sync = Some Full; modseq = modseq }) [] refl (λ view is. refl) refl noted (none_new start applied) (inr settled)
 
-answered : (start : Start) (applied : List Op) (state : State) (condstore : Bool) (idling : Option (List ℕ)) (pending : Pending) (moment : ℕ) (tag : List ℕ)
-    → ((view : Seen) → view_of state ≡ Some view → IsNotedFor start applied pending view) → HasNothing state pending
-    → IsAnswered start applied (applied ++ []) (record { state = state; condstore = condstore; idling = idling }) (Command moment (record { tag = tag; command = Noop })) (noop_at_rest (record { state = state; condstore = condstore; idling = idling }) tag).answered
+answered : (start : Counters) (applied : List Op) (state : State) (condstore : Bool) (idling : Option (List ℕ)) (pending : Pending) (moment : ℕ) (tag : List ℕ)
+    → ((view : ViewState) → view_of state ≡ Some view → IsNotedFor start applied pending view) → HasNothing state pending
+    → IsPreparedReply start applied (applied ++ []) (record { state = state; condstore = condstore; idling = idling }) (Command moment (record { tag = tag; command = Noop })) (noop_at_rest (record { state = state; condstore = condstore; idling = idling }) tag).answered
 answered start applied state true idling pending moment tag noted settled =
     let session : Session = record { state = state; condstore = true; idling = idling } in
     let same = unmoved start applied state pending true noted settled in
     record {
-      course = course_of start (applied ++ []) session tag Noop nothing_told;
-      taken = (nothing_told, refl, refl);
+      course = command_effect start (applied ++ []) session tag Noop empty_report;
+      taken = (empty_report, refl, refl);
       answers = λ i. same.0 i ++ (noop_at_rest session tag).answered.answers;
       silent = refl;
       becomes = λ i. record { state = same.1 i; condstore = true; idling = None };
@@ -57,17 +57,17 @@ answered start applied state false idling pending moment tag noted settled =
     let session : Session = record { state = state; condstore = false; idling = idling } in
     let same = unmoved start applied state pending false noted settled in
     record {
-      course = course_of start (applied ++ []) session tag Noop nothing_told;
-      taken = (nothing_told, refl, refl);
+      course = command_effect start (applied ++ []) session tag Noop empty_report;
+      taken = (empty_report, refl, refl);
       answers = λ i. same.0 i ++ (noop_at_rest session tag).answered.answers;
       silent = refl;
       becomes = λ i. record { state = same.1 i; condstore = false; idling = None };
     }
 
-pub at_rest : (start : Start) (applied : List Op) (session : Session) (pending : Pending) (input : Input) (tag : List ℕ) → ((view : Seen) → view_of session.state ≡ Some view → IsNotedFor start applied pending view) → IsAtRest session.state pending input tag
-    → Prepares start applied session input (noop_at_rest session tag)
+pub at_rest : (start : Counters) (applied : List Op) (session : Session) (pending : Pending) (input : Input) (tag : List ℕ) → ((view : ViewState) → view_of session.state ≡ Some view → IsNotedFor start applied pending view) → IsAtRest session.state pending input tag
+    → IsPreparedInput start applied session input (noop_at_rest session tag)
 at_rest start applied session pending input tag noted rests =
-    subst (λ (i : Input). Prepares start applied session i (noop_at_rest session tag)) (sym rests.0.1)
+    subst (λ (i : Input). IsPreparedInput start applied session i (noop_at_rest session tag)) (sym rests.0.1)
     (record {
       stamp = [];
       stamped = tt;
@@ -80,9 +80,9 @@ at_rest start applied session pending input tag noted rests =
     })
 
 -- a session that is settled has nothing to be told
-pub nothing_untold : (state : State) (pending : Pending) (news : List FolderNoted) → news ≡ [] → (Some Full ≡ None) ⊎ ((view : Seen) → view_of state ≡ Some view → IsSettled (record { pending = pending; news = news }) view) → HasNothing state pending
+pub nothing_untold : (state : State) (pending : Pending) (news : List MailboxNotes) → news ≡ [] → (Some Full ≡ None) ⊎ ((view : ViewState) → view_of state ≡ Some view → IsSettled (record { pending = pending; change_notes = news }) view) → HasNothing state pending
 nothing_untold state pending news e (inl n) = absurd cc
-nothing_untold state pending news e (inr settled) = λ view is. subst (λ (ns : List FolderNoted). IsSettled (record { pending = pending; news = ns }) view) e (settled view is)
+nothing_untold state pending news e (inr settled) = λ view is. subst (λ (ns : List MailboxNotes). IsSettled (record { pending = pending; change_notes = ns }) view) e (settled view is)
 
 pub found_tag : (found tag : List ℕ) (input : Input) → Some found ≡ Some tag → IsNoop input found → IsNoop input tag
 found_tag found tag input e noop = subst (IsNoop input) (ap (λ (o : Option (List ℕ)). unwrap_or o found) e) noop

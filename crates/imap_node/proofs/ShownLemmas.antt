@@ -5,7 +5,7 @@ use Rattle.std.proofs.Common.{◌≡◌, inl, inr, ℕ, ◌+◌, ◌*◌, true, 
 use Rattle.std.proofs.lemmas.Bool.{and_parts, cases_Bool, false≢true}
 use Rattle.imap_answers.specs.Printable.{Each, IsAtom, IsFolded, IsModSeq, IsNonzero}
 use Rattle.imap_types.specs.Names.{inbox}
-use Rattle.mail_listing.specs.Listed.{Listed}
+use Rattle.mailbox_rows.specs.ListedMessage.{ListedMessage}
 use Rattle.merge_laws.specs.Orders.{AreSound, IsIn}
 use Rattle.merge_laws.proofs.Lists.{in_front}
 use Rattle.tags_clocks.specs.declared.id.OpId.{OpId}
@@ -15,22 +15,22 @@ use Rattle.crdt_ops.specs.declared.kind.Kind.{Kind}
 use Rattle.crdt_ops.specs.declared.kind.Kind.TheVariants as kinds
 use Rattle.crdt_ops.specs.declared.op.Op.{Op}
 use Rattle.crdt_ops.specs.Form.{is_word}
-use Rattle.crdt_ops.specs.Sets.{folders_of, subscribed_of}
+use Rattle.crdt_ops.specs.Sets.{folders_of, subscribed_names_of}
 use Rattle.crdt_ops.specs.Sound.{IsSound}
 use Rattle.crdt_ops.specs.TagLaws.{same_tag_is}
-use Rattle.crdt_ops.specs.Tags.{FolderTag, MessageTag, SubscriptionTag, Tag, added_by, adds, is_present, is_some_tag, name_of, removes}
-use Rattle.session_view.specs.Seen.{Seen, rows_under}
+use Rattle.crdt_ops.specs.Tags.{FolderTag, MessageTag, SubscriptionTag, Tag, tag_added_by, adds, is_present, is_some_tag, name_of, removes}
+use Rattle.session_view.specs.ViewState.{ViewState, rows_under}
 use Rattle.imap_commands.specs.Printing.{AreNonzeroMarks, AreShowable}
-use Rattle.imap_commands.specs.Printing.{IsShowable as IsRowShowable}
+use Rattle.imap_commands.specs.Printing.{IsShowable}
 use Rattle.imap_commands.proofs.PrintSelected.{each_of}
-use Rattle.uid_projection.specs.declared.start.Start.{Start}
-use Rattle.uid_projection.specs.Incarnations.{is_there, k_of, uidvalidity_of}
-use Rattle.uid_projection.specs.Lines.{uidnext_of}
+use Rattle.uid_projection.specs.declared.first_numbers.Counters.{Counters}
+use Rattle.uid_projection.specs.Incarnations.{folder_exists, k_of, uidvalidity_of}
+use Rattle.uid_projection.specs.UidsAndModSeqs.{uidnext_of}
 use Rattle.uid_projection.specs.Listing.{listing}
 use Rattle.uid_projection.proofs.BoundLemmas.{bounds, rows_written}
 use Rattle.uid_projection.proofs.Noted.{validity_inbox, validity_there}
 use Rattle.uid_projection.proofs.Presence.{applied_front}
-use Rattle.imap_node.specs.Mailboxes.{marks_of, rows_for, validity_of}
+use Rattle.imap_node.specs.Mailboxes.{counters_of, rows_for, validity_of}
 use Rattle.imap_node.specs.Printing.{IsPresentable}
 
 -- ---- listings
@@ -39,13 +39,13 @@ words_atoms : (keywords : List (List ℕ)) → list_all is_word keywords ≡ tru
 words_atoms [] h = tt
 words_atoms (keyword ∷ keywords) h = let both = and_parts (is_word keyword) (list_all is_word keywords) h in (both.0, words_atoms keywords both.1)
 
-pub listing_showable : (start : Start) (name : List ℕ) (ops : List Op) → IsPresentable start ops → AreShowable (listing start name ops)
+pub listing_showable : (start : Counters) (name : List ℕ) (ops : List Op) → IsPresentable start ops → AreShowable (listing start name ops)
 listing_showable start name ops p =
     let b = bounds start name ops p.lawful p.lasting in
     let count = p.count in
     let next = b.uidnext in
     record {
-      each = each_of IsRowShowable (listing start name ops) (λ row i.
+      each = each_of IsShowable (listing start name ops) (λ row i.
           let w = b.rows row i in
           let f = rows_written start name ops row p.writable i in
           let first = w.uid_from in
@@ -62,7 +62,7 @@ listing_showable start name ops p =
       rising = b.rising;
     }
 
-under_showable : (uidvalidity : ℕ) (now : Option ℕ) (rows : List Listed) → AreShowable rows → AreShowable (rows_under uidvalidity now rows)
+under_showable : (uidvalidity : ℕ) (now : Option ℕ) (rows : List ListedMessage) → AreShowable rows → AreShowable (rows_under uidvalidity now rows)
 under_showable uidvalidity None rows h = record { each = tt; rising = tt }
 under_showable uidvalidity (Some now) rows h =
     elim (cases_Bool (nat_eq now uidvalidity)) [
@@ -70,19 +70,19 @@ under_showable uidvalidity (Some now) rows h =
       | inr f ↦ rw f (record { each = tt; rising = tt })
     ]
 
-pub rows_showable : (start : Start) (ops : List Op) (view : Seen) → IsPresentable start ops → AreShowable (rows_for start ops view)
+pub rows_showable : (start : Counters) (ops : List Op) (view : ViewState) → IsPresentable start ops → AreShowable (rows_for start ops view)
 rows_showable start ops view p = under_showable view.uidvalidity (uidvalidity_of start view.name ops) (listing start view.name ops) (listing_showable start view.name ops p)
 
 -- ---- a mailbox's numbers
 
-pub next_nonzero : (start : Start) (name : List ℕ) (ops : List Op) → IsPresentable start ops → IsNonzero (uidnext_of start name ops)
+pub next_nonzero : (start : Counters) (name : List ℕ) (ops : List Op) → IsPresentable start ops → IsNonzero (uidnext_of start name ops)
 next_nonzero start name ops p =
     let b = bounds start name ops p.lawful p.lasting in
     let first = b.uidnext_from in
     let last = b.uidnext in
     (omega (arith, first), omega (arith, last))
 
-validity_by : (start : Start) (name : List ℕ) (ops : List Op) (o : Option ℕ) (u : ℕ) → IsPresentable start ops → uidvalidity_of start name ops ≡ o → o ≡ Some u → IsNonzero (unwrap_or o 0)
+validity_by : (start : Counters) (name : List ℕ) (ops : List Op) (o : Option ℕ) (u : ℕ) → IsPresentable start ops → uidvalidity_of start name ops ≡ o → o ≡ Some u → IsNonzero (unwrap_or o 0)
 validity_by start name ops None u p e s = absurd (none s)
   where
     none : ◌≡◌ {A = Option ℕ} None (Some u) → ⊥
@@ -94,14 +94,14 @@ validity_by start name ops (Some v) u p e s =
     (omega (arith, first), omega (arith, last))
 
 -- a mailbox that is there has a UIDVALIDITY
-pub validity_nonzero : (start : Start) (name : List ℕ) (ops : List Op) → IsPresentable start ops → is_there name ops ≡ true → IsNonzero (validity_of start name ops)
+pub validity_nonzero : (start : Counters) (name : List ℕ) (ops : List Op) → IsPresentable start ops → folder_exists name ops ≡ true → IsNonzero (validity_of start name ops)
 validity_nonzero start name ops p t =
     elim (cases_Bool (bytes_eq name inbox)) [
       | inl own ↦ validity_by start name ops (uidvalidity_of start name ops) start.replica p refl (sym (validity_inbox start ops name own))
       | inr other ↦ validity_by start name ops (uidvalidity_of start name ops) (65536 * k_of start name ops + start.replica) p refl (sym (validity_there start ops name other t (k_of start name ops) refl))
     ]
 
-pub highest_nonzero : (start : Start) (name : List ℕ) (ops : List Op) → IsPresentable start ops → IsModSeq (marks_of start name ops).highest_modseq
+pub highest_nonzero : (start : Counters) (name : List ℕ) (ops : List Op) → IsPresentable start ops → IsModSeq (counters_of start name ops).highest_modseq
 highest_nonzero start name ops p =
     let b = bounds start name ops p.lawful p.lasting in
     let first = b.highest_from in
@@ -109,12 +109,12 @@ highest_nonzero start name ops p =
     let count = p.count in
     (omega (arith, first), omega (arith, last, count))
 
-pub marks_nonzero : (start : Start) (name : List ℕ) (ops : List Op) → IsPresentable start ops → is_there name ops ≡ true → AreNonzeroMarks (marks_of start name ops)
+pub marks_nonzero : (start : Counters) (name : List ℕ) (ops : List Op) → IsPresentable start ops → folder_exists name ops ≡ true → AreNonzeroMarks (counters_of start name ops)
 marks_nonzero start name ops p t = record { uidnext = next_nonzero start name ops p; uidvalidity = validity_nonzero start name ops p t; highest = highest_nonzero start name ops p }
 
 -- ---- what was there before
 
-pub shown_before : (start : Start) (ops more : List Op) → IsPresentable start (ops ++ more) → IsPresentable start ops
+pub shown_before : (start : Counters) (ops more : List Op) → IsPresentable start (ops ++ more) → IsPresentable start ops
 shown_before start ops more p =
     let count = p.count in
     let l = length-append ops more in
@@ -135,7 +135,7 @@ tag_name (FolderTag folder id) = folder
 tag_name (MessageTag folder id) = folder
 tag_name (SubscriptionTag name id) = name
 
-named_by : (t : Tag) (id : OpId) (kind : Kind) → is_some_tag t (added_by id kind) ≡ true → tag_name t ≡ name_of kind
+named_by : (t : Tag) (id : OpId) (kind : Kind) → is_some_tag t (tag_added_by id kind) ≡ true → tag_name t ≡ name_of kind
 unfolding tag_name
 named_by t id (kinds.Create folder) h = ap tag_name (same_tag_is t (FolderTag folder id) h)
 named_by t id (kinds.Delete folder seen) h = absurd (false≢true h)
@@ -162,12 +162,12 @@ folder_folded ops name sound i =
       ]
     ]
 
-subscription_folded : (ops : List Op) (name : List ℕ) → AreSound IsSound ops → IsIn name (subscribed_of ops) → IsFolded name
+subscription_folded : (ops : List Op) (name : List ℕ) → AreSound IsSound ops → IsIn name (subscribed_names_of ops) → IsFolded name
 unfolding tag_name
 subscription_folded ops name sound i = let t = ((subscribed_listed ops).1 name).0 i in tag_folded ops (SubscriptionTag name t.0) sound t.1
 
 pub folders_folded : (ops : List Op) → AreSound IsSound ops → Each IsFolded (folders_of ops)
 folders_folded ops sound = each_of IsFolded (folders_of ops) (λ name i. folder_folded ops name sound i)
 
-pub subscriptions_folded : (ops : List Op) → AreSound IsSound ops → Each IsFolded (subscribed_of ops)
-subscriptions_folded ops sound = each_of IsFolded (subscribed_of ops) (λ name i. subscription_folded ops name sound i)
+pub subscriptions_folded : (ops : List Op) → AreSound IsSound ops → Each IsFolded (subscribed_names_of ops)
+subscriptions_folded ops sound = each_of IsFolded (subscribed_names_of ops) (λ name i. subscription_folded ops name sound i)

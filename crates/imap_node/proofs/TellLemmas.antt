@@ -2,14 +2,14 @@ use Rattle.std.proofs.Common.{◌≡◌, ◌∙◌, ap, sym, ◌+◌, Bool, true
 use Rattle.std.proofs.lemmas.Bool.Decides.{nat_tests}
 use Rattle.std.specs.Prelude.{Result, Ok, Err}
 use Rattle.crdt_ops.specs.declared.op.Op.{Op}
-use Rattle.imap_commands.specs.Asked.{OpenMailbox}
-use Rattle.imap_commands.specs.Found.{Found}
+use Rattle.imap_commands.specs.Arguments.{OpenMailbox}
+use Rattle.imap_commands.specs.NamedMessages.{NamedMessages}
 use Rattle.imap_commands.specs.declared.session.State.{State}
 use Rattle.imap_commands.specs.declared.session.State.TheVariants.{Selected}
-use Rattle.imap_node.specs.Commands.{found_selected}
+use Rattle.imap_node.specs.Commands.{messages_named_if_selected}
 use Rattle.imap_node.specs.Mailboxes.{mailbox_in}
-use Rattle.session_view.specs.Seen.{Seen}
-use Rattle.uid_projection.specs.declared.start.Start.{Start}
+use Rattle.session_view.specs.ViewState.{ViewState}
+use Rattle.uid_projection.specs.declared.first_numbers.Counters.{Counters}
 
 -- what an Ok holds is also this
 pub if_ok_is : {T E : Type 0} (r : Result T E) (x y : T) → x ≡ y → IfOk r (λ t. t ≡ x) → IfOk r (λ t. t ≡ y)
@@ -22,9 +22,9 @@ none_there [] h = refl
 none_there (x ∷ xs) h = let none : length xs + 1 ≡ 0 = grind (arith, nat_tests) in absurd (omega (arith, none))
 
 -- what a command found of the mailbox that is selected, by the mailbox
-pub found_there : (start : Start) (ops : List Op) (state : State) (view : Seen) (read_only : Bool) (mailbox : OpenMailbox) (find : OpenMailbox → Found) (found : Found) → state ≡ Selected view read_only → mailbox ≡ mailbox_in start ops view read_only
-    → found ≡ found_selected state (λ view read_only. find (mailbox_in start ops view read_only)) → found ≡ find mailbox
+pub found_there : (start : Counters) (ops : List Op) (state : State) (view : ViewState) (read_only : Bool) (mailbox : OpenMailbox) (find : OpenMailbox → NamedMessages) (found : NamedMessages) → state ≡ Selected view read_only → mailbox ≡ mailbox_in start ops view read_only
+    → found ≡ messages_named_if_selected state (λ view read_only. find (mailbox_in start ops view read_only)) → found ≡ find mailbox
 found_there start ops state view read_only mailbox find found selected there f =
     f
-    ∙ ap (λ (s : State). found_selected s (λ (view : Seen) (read_only : Bool). find (mailbox_in start ops view read_only))) selected
+    ∙ ap (λ (s : State). messages_named_if_selected s (λ (view : ViewState) (read_only : Bool). find (mailbox_in start ops view read_only))) selected
     ∙ ap find (sym there)

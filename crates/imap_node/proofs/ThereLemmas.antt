@@ -8,15 +8,15 @@ use Rattle.tags_clocks.specs.declared.id.OpId.{OpId}
 use Rattle.crdt_ops.specs.declared.kind.Kind.{Kind}
 use Rattle.crdt_ops.specs.declared.kind.Kind.TheVariants as kinds
 use Rattle.crdt_ops.specs.declared.op.Op.{Op}
-use Rattle.crdt_ops.specs.Order.{same_id}
-use Rattle.crdt_ops.specs.Tags.{FolderTag, MessageTag, Tag, added_by, adds, is_present, is_some_tag, removes}
-use Rattle.imap_answers.specs.declared.words.Refusal.{Refusal}
-use Rattle.imap_answers.specs.declared.words.Refusal.TheVariants.{KeywordTooLong, NoDestination, NoSuchMailbox, NoSuchMessage, NotNow, ReadOnly, TooManyKeywords}
+use Rattle.crdt_ops.specs.SortedSets.{same_id}
+use Rattle.crdt_ops.specs.Tags.{FolderTag, MessageTag, Tag, tag_added_by, adds, is_present, is_some_tag, removes}
+use Rattle.imap_answers.specs.declared.fixed_words.Refusal.{Refusal}
+use Rattle.imap_answers.specs.declared.fixed_words.Refusal.TheVariants.{KeywordTooLong, NoDestination, NoSuchMailbox, NoSuchMessage, NotNow, ReadOnly, TooManyKeywords}
 use Rattle.imap_commands.specs.Limits.{within_limits}
 use Rattle.imap_commands.proofs.IssuedLemmas.{within_is}
 use Rattle.uid_projection.specs.Applied.{IsApplied}
-use Rattle.uid_projection.specs.Incarnations.{is_there}
-use Rattle.uid_projection.specs.Lines.{concerns_by}
+use Rattle.uid_projection.specs.Incarnations.{folder_exists}
+use Rattle.uid_projection.specs.UidsAndModSeqs.{kind_names_folder}
 use Rattle.uid_projection.proofs.Presence.{applied_front, other_there, presence_step, there_tags}
 
 -- ---- a folder stays there but for a Delete
@@ -26,9 +26,9 @@ IsNoDelete (kinds.Delete folder seen) = ⊥
 IsNoDelete _ = Unit {0}
 
 abbrev HasOwnTag : List ℕ → OpId → Kind → Type 0
-HasOwnTag name id kind = (is_some_tag (FolderTag name id) (added_by id kind) ≡ true) ⊎ (is_some_tag (MessageTag name id) (added_by id kind) ≡ true)
+HasOwnTag name id kind = (is_some_tag (FolderTag name id) (tag_added_by id kind) ≡ true) ⊎ (is_some_tag (MessageTag name id) (tag_added_by id kind) ≡ true)
 
-own_tag : (name : List ℕ) (id : OpId) (kind : Kind) → IsNoDelete kind → concerns_by name kind ≡ true → HasOwnTag name id kind
+own_tag : (name : List ℕ) (id : OpId) (kind : Kind) → IsNoDelete kind → kind_names_folder name kind ≡ true → HasOwnTag name id kind
 own_tag name id (kinds.Create folder) k h = inl (and_from (bytes_eq name folder) (same_id id id) h ((ids_decide id id).1 refl))
 own_tag name id (kinds.Delete folder seen) k h = absurd k
 own_tag name id (kinds.Append folder flags date text) k h = inr (and_from (bytes_eq name folder) (same_id id id) h ((ids_decide id id).1 refl))
@@ -40,9 +40,9 @@ own_tag name id (kinds.Unsubscribe folder seen) k h = absurd (false≢true h)
 pub added_there : (ops : List Op) (o : Op) (t : Tag) → IsApplied (ops ++ o ∷ []) → adds t o ≡ true → is_present (ops ++ o ∷ []) t ≡ true
 added_there ops o t a e = presence_step ops o t a ∙ ap (λ b. b || (not (removes t o) && is_present ops t)) e
 
-pub kept_one : (name : List ℕ) (ops : List Op) (o : Op) → IsApplied (ops ++ o ∷ []) → IsNoDelete o.kind → is_there name ops ≡ true → is_there name (ops ++ o ∷ []) ≡ true
+pub kept_one : (name : List ℕ) (ops : List Op) (o : Op) → IsApplied (ops ++ o ∷ []) → IsNoDelete o.kind → folder_exists name ops ≡ true → folder_exists name (ops ++ o ∷ []) ≡ true
 kept_one name ops o a k t =
-    elim (cases_Bool (concerns_by name o.kind)) [
+    elim (cases_Bool (kind_names_folder name o.kind)) [
       | inl about ↦ elim (own_tag name o.id o.kind k about) [
         | inl e ↦ (there_tags name (ops ++ o ∷ [])).1 (inr (o.id, inl (added_there ops o (FolderTag name o.id) a e)))
         | inr e ↦ (there_tags name (ops ++ o ∷ [])).1 (inr (o.id, inr (added_there ops o (MessageTag name o.id) a e)))
@@ -50,12 +50,12 @@ kept_one name ops o a k t =
       | inr other ↦ other_there name ops o a other ∙ t
     ]
 
-kept_all : (name : List ℕ) (more ops : List Op) → IsApplied (ops ++ more) → ((o : Op) → IsIn o more → IsNoDelete o.kind) → is_there name ops ≡ true → is_there name (ops ++ more) ≡ true
-kept_all name [] ops a k t = ap (is_there name) (append-nil ops) ∙ t
+kept_all : (name : List ℕ) (more ops : List Op) → IsApplied (ops ++ more) → ((o : Op) → IsIn o more → IsNoDelete o.kind) → folder_exists name ops ≡ true → folder_exists name (ops ++ more) ≡ true
+kept_all name [] ops a k t = ap (folder_exists name) (append-nil ops) ∙ t
 kept_all name (o ∷ more) ops a k t =
     let same = append_assoc ops (o ∷ []) more in
     let b : IsApplied ((ops ++ o ∷ []) ++ more) = subst IsApplied (sym same) a in
-    ap (is_there name) (sym same) ∙ kept_all name more (ops ++ o ∷ []) b (λ p i. k p (inr i)) (kept_one name ops o (applied_front (ops ++ o ∷ []) more b) (k o (inl refl)) t)
+    ap (folder_exists name) (sym same) ∙ kept_all name more (ops ++ o ∷ []) b (λ p i. k p (inr i)) (kept_one name ops o (applied_front (ops ++ o ∷ []) more b) (k o (inl refl)) t)
 
 pub mapped_in : (ops : List Op) (o : Op) → IsIn o ops → IsIn o.kind (map (λ (x : Op). x.kind) ops)
 mapped_in [] o i = absurd i
@@ -63,7 +63,7 @@ mapped_in (x ∷ ops) o i = elim i [ inl e ↦ inl (ap (λ (x : Op). x.kind) e) 
 
 -- what is issued by kinds that delete nothing
 pub stays_there : (name : List ℕ) (before issued : List Op) (wanted : List Kind) → IsApplied (before ++ issued) → map (λ (o : Op). o.kind) issued ≡ wanted → ((kind : Kind) → IsIn kind wanted → IsNoDelete kind)
-    → is_there name before ≡ true → is_there name (before ++ issued) ≡ true
+    → folder_exists name before ≡ true → folder_exists name (before ++ issued) ≡ true
 stays_there name before issued wanted a e k t = kept_all name issued before a (λ o i. k o.kind (subst (IsIn o.kind) e (mapped_in issued o i))) t
 
 -- ---- what was wanted was there

@@ -1,40 +1,40 @@
 use Rattle.std.specs.Prelude.{◌≡◌, ◌==◌, ℕ, Bool, true, false, not, ◌&&◌, List, [], ◌∷◌, Option, Some, None, is_some, Result, Ok, Err, if◌then◌else◌}
 use Rattle.crdt_ops.specs.declared.kind.Kind.{Kind}
 use Rattle.crdt_ops.specs.declared.op.Op.{Op}
-use Rattle.crdt_ops.specs.Sets.{delete_set_of, folders_of, subscribed_of, subscription_tags_of}
+use Rattle.crdt_ops.specs.Sets.{delete_set_of, folders_of, subscribed_names_of, subscription_tags_of}
 use Rattle.imap_answers.specs.declared.answer.Answer.{Answer}
 use Rattle.imap_answers.specs.declared.answer.Answer.TheVariants.{Tell}
 use Rattle.imap_answers.specs.declared.codes.Notice.TheVariants.{HighestModSeq}
-use Rattle.imap_answers.specs.declared.words.CommandWord.{CommandWord}
-use Rattle.imap_answers.specs.declared.words.CommandWord.TheVariants as words
-use Rattle.imap_answers.specs.declared.words.Refusal.{Refusal}
-use Rattle.imap_answers.specs.declared.words.Refusal.TheVariants.{NotNow}
-use Rattle.imap_commands.specs.Appending.{append_tells, append_wants}
-use Rattle.imap_commands.specs.Asked.{SearchAsked}
-use Rattle.imap_commands.specs.Asking.{ListTells, capability_tells, idle_tells, logout_tells, namespace_tells, status_tells, status_wants}
-use Rattle.imap_commands.specs.Copying.{copy_tells, copy_wants, move_tells, move_wants}
-use Rattle.imap_commands.specs.Enabling.{asks_condstore, enable_tells, fetch_asks_modseq, search_asks_modseq, status_asks_modseq}
-use Rattle.imap_commands.specs.Entering.{login_wants}
-use Rattle.imap_commands.specs.Expunging.{close_wants, expunge_wants, uid_expunge_tells, uid_expunge_wants}
-use Rattle.imap_commands.specs.Fetching.{fetch_tells, fetch_wants}
-use Rattle.imap_commands.specs.Found.{Found, named_found, nothing_found, store_found}
-use Rattle.imap_commands.specs.Mailboxes.{create_wants, created_name, delete_wants, subscribe_wants, unsubscribe_wants}
-use Rattle.imap_commands.specs.Searching.{SearchTells, search_wants}
-use Rattle.imap_commands.specs.Selecting.{SelectTells, select_wants}
-use Rattle.imap_commands.specs.Storing.{store_tells, store_wants}
-use Rattle.imap_commands.specs.Told.{Telling, nothing_told}
+use Rattle.imap_answers.specs.declared.fixed_words.CompletedWord.{CompletedWord}
+use Rattle.imap_answers.specs.declared.fixed_words.CompletedWord.TheVariants as words
+use Rattle.imap_answers.specs.declared.fixed_words.Refusal.{Refusal}
+use Rattle.imap_answers.specs.declared.fixed_words.Refusal.TheVariants.{NotNow}
+use Rattle.imap_commands.specs.Appending.{append_report, append_intent}
+use Rattle.imap_commands.specs.Arguments.{SearchArgs}
+use Rattle.imap_commands.specs.SimpleCommands.{IsListReport, capability_report, idle_report, logout_report, namespace_report, status_report, status_intent}
+use Rattle.imap_commands.specs.Copying.{copy_report, copy_intent, move_report, move_intent}
+use Rattle.imap_commands.specs.Enabling.{asks_condstore, enable_report, fetch_asks_modseq, search_asks_modseq, status_asks_modseq}
+use Rattle.imap_commands.specs.Login.{login_intent}
+use Rattle.imap_commands.specs.Expunging.{close_intent, expunge_intent, uid_expunge_report, uid_expunge_intent}
+use Rattle.imap_commands.specs.Fetching.{fetch_report, fetch_intent}
+use Rattle.imap_commands.specs.NamedMessages.{NamedMessages, messages_named_by, no_messages_named, messages_stored_by}
+use Rattle.imap_commands.specs.Mailboxes.{create_intent, created_name, delete_intent, subscribe_intent, unsubscribe_intent}
+use Rattle.imap_commands.specs.Searching.{IsSearchReport, search_intent}
+use Rattle.imap_commands.specs.Selecting.{IsSelectReport, select_intent}
+use Rattle.imap_commands.specs.Storing.{store_report, store_intent}
+use Rattle.imap_commands.specs.Report.{CommandReport, empty_report}
 use Rattle.imap_commands.specs.declared.session.Credentials.{Credentials}
 use Rattle.imap_commands.specs.declared.session.State.{State}
 use Rattle.imap_commands.specs.declared.session.State.TheVariants.{NotAuthenticated, Authenticated, Selected, LoggedOut}
 use Rattle.imap_syntax.specs.declared.command.Command.{Command}
 use Rattle.imap_syntax.specs.declared.command.Command.TheVariants as commands
-use Rattle.session_view.specs.Seen.{Seen}
-use Rattle.session_view.specs.declared.entry.SyncKind.{SyncKind}
-use Rattle.session_view.specs.declared.entry.SyncKind.TheVariants.{Full, Partial}
-use Rattle.imap_node.specs.Mailboxes.{is_subscribed, landing_in, mailbox_in, marks_of, rows_for, validity_of}
-use Rattle.uid_projection.specs.declared.start.Start.{Start}
-use Rattle.uid_projection.specs.Incarnations.{is_there, uidvalidity_of}
-use Rattle.uid_projection.specs.Lines.{highest_modseq_of, uidnext_of}
+use Rattle.session_view.specs.ViewState.{ViewState}
+use Rattle.session_view.specs.declared.view_entry.SyncKind.{SyncKind}
+use Rattle.session_view.specs.declared.view_entry.SyncKind.TheVariants.{Full, Partial}
+use Rattle.imap_node.specs.Mailboxes.{is_subscribed, copy_target_in, mailbox_in, counters_of, rows_for, validity_of}
+use Rattle.uid_projection.specs.declared.first_numbers.Counters.{Counters}
+use Rattle.uid_projection.specs.Incarnations.{folder_exists, uidvalidity_of}
+use Rattle.uid_projection.specs.UidsAndModSeqs.{highest_modseq_of, uidnext_of}
 use Rattle.uid_projection.specs.Listing.{listing}
 
 -- ---- the states that commands want (RFC 9051, section 3)
@@ -60,7 +60,7 @@ abbrev pub when_known : {X : Type 0} → State → Result X Refusal → Result X
 when_known state want = if is_known state then want else Err NotNow
 
 -- In a session that has selected a mailbox.
-abbrev pub when_selected : {X : Type 0} → State → (Seen → Bool → Result X Refusal) → Result X Refusal
+abbrev pub when_selected : {X : Type 0} → State → (ViewState → Bool → Result X Refusal) → Result X Refusal
 when_selected (Selected view read_only) want = want view read_only
 when_selected _ want = Err NotNow
 
@@ -68,37 +68,37 @@ when_selected _ want = Err NotNow
 
 -- What a command issues behind these operations, or the first reason that stands against it. The stamp is the date-time of the
 -- command's moment.
-abbrev pub wants : Start → List Op → List ℕ → State → Command → Result (List Kind) Refusal
-wants start ops stamp state commands.Capability = Ok []
-wants start ops stamp state commands.Noop = Ok []
-wants start ops stamp state commands.Logout = Ok []
-wants start ops stamp state (commands.Login user password) = when_new state (λ credentials. login_wants credentials user password)
-wants start ops stamp state (commands.Enable names) = when_known state (Ok [])
-wants start ops stamp state (commands.Select name condstore) = when_known state (select_wants (is_there name ops))
-wants start ops stamp state (commands.Examine name condstore) = when_known state (select_wants (is_there name ops))
-wants start ops stamp state (commands.Create name) = when_known state (create_wants (is_there (created_name name) ops) name)
-wants start ops stamp state (commands.Delete name) = when_known state (delete_wants (is_there name ops) (delete_set_of ops name) name)
-wants start ops stamp state (commands.Subscribe name) = when_known state (subscribe_wants (is_subscribed name ops) name)
-wants start ops stamp state (commands.Unsubscribe name) = when_known state (unsubscribe_wants (subscription_tags_of ops name) name)
-wants start ops stamp state (commands.ListNames asked) = when_known state (Ok [])
-wants start ops stamp state commands.Namespace = when_known state (Ok [])
-wants start ops stamp state (commands.Status name items) = when_known state (status_wants (is_there name ops))
-wants start ops stamp state (commands.Append asked) = when_known state (append_wants (is_there asked.name ops) stamp (record { name = asked.name; flags = asked.flags; date = asked.date; text = asked.text }))
-wants start ops stamp state commands.Idle = when_known state (Ok [])
-wants start ops stamp state commands.Close = when_selected state (λ view read_only. close_wants (mailbox_in start ops view read_only))
-wants start ops stamp state commands.Unselect = when_selected state (λ view read_only. Ok [])
-wants start ops stamp state commands.Expunge = when_selected state (λ view read_only. expunge_wants (mailbox_in start ops view read_only))
-wants start ops stamp state (commands.UidExpunge uids) =
-    when_selected state (λ view read_only. uid_expunge_wants (mailbox_in start ops view read_only) uids)
-wants start ops stamp state (commands.Search asked) = when_selected state (λ view read_only. search_wants view.entries asked.steps)
-wants start ops stamp state (commands.Fetch asked) =
-    when_selected state (λ view read_only. fetch_wants (mailbox_in start ops view read_only) (record { by_uid = asked.by_uid; messages = asked.messages; items = asked.items; changed_since = asked.changed_since }))
-wants start ops stamp state (commands.Store asked) =
-    when_selected state (λ view read_only. store_wants (mailbox_in start ops view read_only) (record { by_uid = asked.by_uid; messages = asked.messages; unchanged_since = asked.unchanged_since; action = asked.action; flags = asked.flags }))
-wants start ops stamp state (commands.Copy asked) =
-    when_selected state (λ view read_only. copy_wants (mailbox_in start ops view read_only) (record { by_uid = asked.by_uid; messages = asked.messages; destination = asked.name }) (is_there asked.name ops))
-wants start ops stamp state (commands.Move asked) =
-    when_selected state (λ view read_only. move_wants (mailbox_in start ops view read_only) (record { by_uid = asked.by_uid; messages = asked.messages; destination = asked.name }) (is_there asked.name ops))
+abbrev pub command_intent : Counters → List Op → List ℕ → State → Command → Result (List Kind) Refusal
+command_intent start ops stamp state commands.Capability = Ok []
+command_intent start ops stamp state commands.Noop = Ok []
+command_intent start ops stamp state commands.Logout = Ok []
+command_intent start ops stamp state (commands.Login user password) = when_new state (λ credentials. login_intent credentials user password)
+command_intent start ops stamp state (commands.Enable names) = when_known state (Ok [])
+command_intent start ops stamp state (commands.Select name condstore) = when_known state (select_intent (folder_exists name ops))
+command_intent start ops stamp state (commands.Examine name condstore) = when_known state (select_intent (folder_exists name ops))
+command_intent start ops stamp state (commands.Create name) = when_known state (create_intent (folder_exists (created_name name) ops) name)
+command_intent start ops stamp state (commands.Delete name) = when_known state (delete_intent (folder_exists name ops) (delete_set_of ops name) name)
+command_intent start ops stamp state (commands.Subscribe name) = when_known state (subscribe_intent (is_subscribed name ops) name)
+command_intent start ops stamp state (commands.Unsubscribe name) = when_known state (unsubscribe_intent (subscription_tags_of ops name) name)
+command_intent start ops stamp state (commands.ListNames asked) = when_known state (Ok [])
+command_intent start ops stamp state commands.Namespace = when_known state (Ok [])
+command_intent start ops stamp state (commands.Status name items) = when_known state (status_intent (folder_exists name ops))
+command_intent start ops stamp state (commands.Append asked) = when_known state (append_intent (folder_exists asked.name ops) stamp (record { name = asked.name; flags = asked.flags; date = asked.date; text = asked.text }))
+command_intent start ops stamp state commands.Idle = when_known state (Ok [])
+command_intent start ops stamp state commands.Close = when_selected state (λ view read_only. close_intent (mailbox_in start ops view read_only))
+command_intent start ops stamp state commands.Unselect = when_selected state (λ view read_only. Ok [])
+command_intent start ops stamp state commands.Expunge = when_selected state (λ view read_only. expunge_intent (mailbox_in start ops view read_only))
+command_intent start ops stamp state (commands.UidExpunge uids) =
+    when_selected state (λ view read_only. uid_expunge_intent (mailbox_in start ops view read_only) uids)
+command_intent start ops stamp state (commands.Search asked) = when_selected state (λ view read_only. search_intent view.entries asked.steps)
+command_intent start ops stamp state (commands.Fetch asked) =
+    when_selected state (λ view read_only. fetch_intent (mailbox_in start ops view read_only) (record { by_uid = asked.by_uid; messages = asked.messages; items = asked.items; changed_since = asked.changed_since }))
+command_intent start ops stamp state (commands.Store asked) =
+    when_selected state (λ view read_only. store_intent (mailbox_in start ops view read_only) (record { by_uid = asked.by_uid; messages = asked.messages; unchanged_since = asked.unchanged_since; action = asked.action; flags = asked.flags }))
+command_intent start ops stamp state (commands.Copy asked) =
+    when_selected state (λ view read_only. copy_intent (mailbox_in start ops view read_only) (record { by_uid = asked.by_uid; messages = asked.messages; destination = asked.name }) (folder_exists asked.name ops))
+command_intent start ops stamp state (commands.Move asked) =
+    when_selected state (λ view read_only. move_intent (mailbox_in start ops view read_only) (record { by_uid = asked.by_uid; messages = asked.messages; destination = asked.name }) (folder_exists asked.name ops))
 
 -- A command that names messages of the selected mailbox, and tells what became of them.
 abbrev pub names_messages : Command → Bool
@@ -116,76 +116,76 @@ asks_mailbox commands.Expunge = true
 asks_mailbox command = names_messages command
 
 -- What a command finds in a mailbox that is selected, and nothing where none is.
-abbrev pub found_selected : State → (Seen → Bool → Found) → Found
-found_selected (Selected view read_only) find = find view read_only
-found_selected _ find = nothing_found
+abbrev pub messages_named_if_selected : State → (ViewState → Bool → NamedMessages) → NamedMessages
+messages_named_if_selected (Selected view read_only) find = find view read_only
+messages_named_if_selected _ find = no_messages_named
 
 -- What a command finds behind these operations, before its own: the messages that it names.
-abbrev pub found_of : Start → List Op → State → Command → Found
-found_of start ops state (commands.UidExpunge uids) = found_selected state (λ view read_only. named_found true uids view.entries)
-found_of start ops state (commands.Fetch asked) = found_selected state (λ view read_only. named_found asked.by_uid asked.messages view.entries)
-found_of start ops state (commands.Store asked) =
-    found_selected state (λ view read_only. store_found (mailbox_in start ops view read_only) (record { by_uid = asked.by_uid; messages = asked.messages; unchanged_since = asked.unchanged_since; action = asked.action; flags = asked.flags }))
-found_of start ops state (commands.Copy asked) = found_selected state (λ view read_only. named_found asked.by_uid asked.messages view.entries)
-found_of start ops state (commands.Move asked) = found_selected state (λ view read_only. named_found asked.by_uid asked.messages view.entries)
-found_of start ops state _ = nothing_found
+abbrev pub messages_named_by_command : Counters → List Op → State → Command → NamedMessages
+messages_named_by_command start ops state (commands.UidExpunge uids) = messages_named_if_selected state (λ view read_only. messages_named_by true uids view.entries)
+messages_named_by_command start ops state (commands.Fetch asked) = messages_named_if_selected state (λ view read_only. messages_named_by asked.by_uid asked.messages view.entries)
+messages_named_by_command start ops state (commands.Store asked) =
+    messages_named_if_selected state (λ view read_only. messages_stored_by (mailbox_in start ops view read_only) (record { by_uid = asked.by_uid; messages = asked.messages; unchanged_since = asked.unchanged_since; action = asked.action; flags = asked.flags }))
+messages_named_by_command start ops state (commands.Copy asked) = messages_named_if_selected state (λ view read_only. messages_named_by asked.by_uid asked.messages view.entries)
+messages_named_by_command start ops state (commands.Move asked) = messages_named_if_selected state (λ view read_only. messages_named_by asked.by_uid asked.messages view.entries)
+messages_named_by_command start ops state _ = no_messages_named
 
 -- What a command tells of a mailbox that is selected, and nothing where none is.
-abbrev pub tells_selected : State → (Seen → Bool → Telling) → Telling
-tells_selected (Selected view read_only) tell = tell view read_only
-tells_selected _ tell = nothing_told
+abbrev pub report_if_selected : State → (ViewState → Bool → CommandReport) → CommandReport
+report_if_selected (Selected view read_only) tell = tell view read_only
+report_if_selected _ tell = empty_report
 
 -- What a command itself tells, by the operations before it and those with its own; SELECT, EXAMINE, LIST and SEARCH aside.
-abbrev pub tells : Start → List Op → List Op → State → Bool → Command → Telling
-tells start before after state modseq commands.Capability = capability_tells
-tells start before after state modseq commands.Namespace = namespace_tells
-tells start before after state modseq commands.Logout = logout_tells
-tells start before after state modseq commands.Idle = idle_tells
-tells start before after state modseq (commands.Enable names) = enable_tells names
-tells start before after state modseq (commands.Status name items) =
-    status_tells name items (marks_of start name after) (listing start name after)
-tells start before after state modseq (commands.Append asked) = append_tells (validity_of start asked.name after) (uidnext_of start asked.name before)
-tells start before after state modseq (commands.UidExpunge uids) =
-    tells_selected state (λ view read_only. uid_expunge_tells (mailbox_in start before view read_only) uids)
-tells start before after state modseq (commands.Fetch asked) =
-    tells_selected state (λ view read_only. fetch_tells (mailbox_in start before view read_only) (rows_for start after view) modseq (record { by_uid = asked.by_uid; messages = asked.messages; items = asked.items; changed_since = asked.changed_since }))
-tells start before after state modseq (commands.Store asked) =
-    tells_selected state (λ view read_only. store_tells (mailbox_in start before view read_only) (rows_for start after view) modseq (record { by_uid = asked.by_uid; messages = asked.messages; unchanged_since = asked.unchanged_since; action = asked.action; flags = asked.flags }))
-tells start before after state modseq (commands.Copy asked) =
-    tells_selected state (λ view read_only. copy_tells (mailbox_in start before view read_only) (record { by_uid = asked.by_uid; messages = asked.messages; destination = asked.name }) (landing_in start before after asked.name))
-tells start before after state modseq (commands.Move asked) =
-    tells_selected state (λ view read_only. move_tells (mailbox_in start before view read_only) (record { by_uid = asked.by_uid; messages = asked.messages; destination = asked.name }) (landing_in start before after asked.name))
-tells start before after state modseq _ = nothing_told
+abbrev pub command_report : Counters → List Op → List Op → State → Bool → Command → CommandReport
+command_report start before after state modseq commands.Capability = capability_report
+command_report start before after state modseq commands.Namespace = namespace_report
+command_report start before after state modseq commands.Logout = logout_report
+command_report start before after state modseq commands.Idle = idle_report
+command_report start before after state modseq (commands.Enable names) = enable_report names
+command_report start before after state modseq (commands.Status name items) =
+    status_report name items (counters_of start name after) (listing start name after)
+command_report start before after state modseq (commands.Append asked) = append_report (validity_of start asked.name after) (uidnext_of start asked.name before)
+command_report start before after state modseq (commands.UidExpunge uids) =
+    report_if_selected state (λ view read_only. uid_expunge_report (mailbox_in start before view read_only) uids)
+command_report start before after state modseq (commands.Fetch asked) =
+    report_if_selected state (λ view read_only. fetch_report (mailbox_in start before view read_only) (rows_for start after view) modseq (record { by_uid = asked.by_uid; messages = asked.messages; items = asked.items; changed_since = asked.changed_since }))
+command_report start before after state modseq (commands.Store asked) =
+    report_if_selected state (λ view read_only. store_report (mailbox_in start before view read_only) (rows_for start after view) modseq (record { by_uid = asked.by_uid; messages = asked.messages; unchanged_since = asked.unchanged_since; action = asked.action; flags = asked.flags }))
+command_report start before after state modseq (commands.Copy asked) =
+    report_if_selected state (λ view read_only. copy_report (mailbox_in start before view read_only) (record { by_uid = asked.by_uid; messages = asked.messages; destination = asked.name }) (copy_target_in start before after asked.name))
+command_report start before after state modseq (commands.Move asked) =
+    report_if_selected state (λ view read_only. move_report (mailbox_in start before view read_only) (record { by_uid = asked.by_uid; messages = asked.messages; destination = asked.name }) (copy_target_in start before after asked.name))
+command_report start before after state modseq _ = empty_report
 
-abbrev pub SearchTellsSelected : Start → List Op → State → List ℕ → SearchAsked → Telling → Type 0
-SearchTellsSelected start ops (Selected view read_only) tag asked told = SearchTells (mailbox_in start ops view read_only) tag asked told
-SearchTellsSelected start ops _ tag asked told = told ≡ nothing_told
+abbrev pub IsSearchReportIfSelected : Counters → List Op → State → List ℕ → SearchArgs → CommandReport → Type 0
+IsSearchReportIfSelected start ops (Selected view read_only) tag asked told = IsSearchReport (mailbox_in start ops view read_only) tag asked told
+IsSearchReportIfSelected start ops _ tag asked told = told ≡ empty_report
 
 -- What a command itself tells: SELECT, EXAMINE, LIST and SEARCH what the rules for them allow, which is one telling each.
-abbrev pub Tells : Start → List Op → List Op → State → Bool → List ℕ → Command → Telling → Type 0
-Tells start before after state modseq tag (commands.Select name condstore) told =
-    SelectTells (is_selected state) false name (marks_of start name after) (listing start name after) told
-Tells start before after state modseq tag (commands.Examine name condstore) told =
-    SelectTells (is_selected state) true name (marks_of start name after) (listing start name after) told
-Tells start before after state modseq tag (commands.ListNames asked) told =
-    ListTells (record { subscribed_only = asked.subscribed_only; return_subscribed = asked.return_subscribed }) asked.reference asked.pattern (folders_of before) (subscribed_of before) told
-Tells start before after state modseq tag (commands.Search asked) told =
-    SearchTellsSelected start after state tag (record { by_uid = asked.by_uid; options = asked.options; steps = asked.steps }) told
-Tells start before after state modseq tag command told = told ≡ tells start before after state modseq command
+abbrev pub IsCommandReport : Counters → List Op → List Op → State → Bool → List ℕ → Command → CommandReport → Type 0
+IsCommandReport start before after state modseq tag (commands.Select name condstore) told =
+    IsSelectReport (is_selected state) false name (counters_of start name after) (listing start name after) told
+IsCommandReport start before after state modseq tag (commands.Examine name condstore) told =
+    IsSelectReport (is_selected state) true name (counters_of start name after) (listing start name after) told
+IsCommandReport start before after state modseq tag (commands.ListNames asked) told =
+    IsListReport (record { subscribed_only = asked.subscribed_only; return_subscribed = asked.return_subscribed }) asked.reference asked.pattern (folders_of before) (subscribed_names_of before) told
+IsCommandReport start before after state modseq tag (commands.Search asked) told =
+    IsSearchReportIfSelected start after state tag (record { by_uid = asked.by_uid; options = asked.options; steps = asked.steps }) told
+IsCommandReport start before after state modseq tag command told = told ≡ command_report start before after state modseq command
 
 -- The state behind a command, before its answers are replayed. It shows no messages of a mailbox that is selected anew.
-abbrev pub moves_to : Start → List Op → State → Command → State
-moves_to start ops state (commands.Login user password) = Authenticated
-moves_to start ops state (commands.Select name condstore) = Selected (record { name = name; uidvalidity = validity_of start name ops; entries = [] }) false
-moves_to start ops state (commands.Examine name condstore) = Selected (record { name = name; uidvalidity = validity_of start name ops; entries = [] }) true
-moves_to start ops state commands.Logout = LoggedOut
-moves_to start ops state commands.Unselect = Authenticated
-moves_to start ops state commands.Close = Authenticated
-moves_to start ops state _ = state
+abbrev pub state_after_command : Counters → List Op → State → Command → State
+state_after_command start ops state (commands.Login user password) = Authenticated
+state_after_command start ops state (commands.Select name condstore) = Selected (record { name = name; uidvalidity = validity_of start name ops; entries = [] }) false
+state_after_command start ops state (commands.Examine name condstore) = Selected (record { name = name; uidvalidity = validity_of start name ops; entries = [] }) true
+state_after_command start ops state commands.Logout = LoggedOut
+state_after_command start ops state commands.Unselect = Authenticated
+state_after_command start ops state commands.Close = Authenticated
+state_after_command start ops state _ = state
 
 -- Whether messages are named by their numbers, which an EXPUNGE would shift (RFC 9051, section 7.5.1).
-abbrev pub by_kind : Bool → SyncKind
-by_kind by_uid = if by_uid then Full else Partial
+abbrev pub sync_kind_by : Bool → SyncKind
+sync_kind_by by_uid = if by_uid then Full else Partial
 
 -- How much the sync behind a command tells, if there is one.
 abbrev pub sync_of : Command → Option SyncKind
@@ -196,9 +196,9 @@ sync_of (commands.Examine name condstore) = None
 sync_of commands.Idle = None
 sync_of commands.Unselect = None
 sync_of commands.Close = None
-sync_of (commands.Search asked) = Some (by_kind asked.by_uid)
-sync_of (commands.Fetch asked) = Some (by_kind asked.by_uid)
-sync_of (commands.Store asked) = Some (by_kind asked.by_uid)
+sync_of (commands.Search asked) = Some (sync_kind_by asked.by_uid)
+sync_of (commands.Fetch asked) = Some (sync_kind_by asked.by_uid)
+sync_of (commands.Store asked) = Some (sync_kind_by asked.by_uid)
 sync_of _ = Some Full
 
 -- The commands that turn mod-sequences on (RFC 7162, section 3.1).
@@ -224,7 +224,7 @@ is_idle commands.Idle = true
 is_idle _ = false
 
 -- The word of the tagged line.
-abbrev pub word_of : Command → CommandWord
+abbrev pub word_of : Command → CompletedWord
 word_of commands.Capability = words.Capability
 word_of commands.Noop = words.Noop
 word_of commands.Logout = words.Logout
@@ -254,18 +254,18 @@ word_of (commands.Move asked) = if asked.by_uid then words.UidMove else words.Mo
 -- ---- mod-sequences (RFC 7162, section 3.1)
 
 -- HIGHESTMODSEQ of a view's mailbox, where its incarnation hasn't ended.
-abbrev pub highest_told : ℕ → Option ℕ → ℕ → List Answer
-highest_told uidvalidity None highest = []
-highest_told uidvalidity (Some now) highest = if now == uidvalidity then Tell (HighestModSeq highest) ∷ [] else []
+abbrev pub highest_answer : ℕ → Option ℕ → ℕ → List Answer
+highest_answer uidvalidity None highest = []
+highest_answer uidvalidity (Some now) highest = if now == uidvalidity then Tell (HighestModSeq highest) ∷ [] else []
 
-abbrev pub highest_of : Start → List Op → State → List Answer
-highest_of start ops (Selected view read_only) = highest_told view.uidvalidity (uidvalidity_of start view.name ops) (highest_modseq_of view.name ops)
-highest_of start ops _ = []
+abbrev pub highest_answer_of : Counters → List Op → State → List Answer
+highest_answer_of start ops (Selected view read_only) = highest_answer view.uidvalidity (uidvalidity_of start view.name ops) (highest_modseq_of view.name ops)
+highest_answer_of start ops _ = []
 
 -- A command turns mod-sequences on that weren't, and tells HIGHESTMODSEQ first; SELECT tells it anyway.
-abbrev pub turns_on : Bool → Command → Bool
-turns_on condstore command = not condstore && (is_enabling command && not (is_selecting command))
+abbrev pub enables_condstore : Bool → Command → Bool
+enables_condstore condstore command = not condstore && (is_enabling command && not (is_selecting command))
 
 -- What such a command tells first while a mailbox is selected.
-abbrev pub notice : Start → List Op → State → Bool → Command → List Answer
-notice start ops state condstore command = if turns_on condstore command then highest_of start ops state else []
+abbrev pub condstore_answer : Counters → List Op → State → Bool → Command → List Answer
+condstore_answer start ops state condstore command = if enables_condstore condstore command then highest_answer_of start ops state else []

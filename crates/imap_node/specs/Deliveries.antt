@@ -1,40 +1,40 @@
 use Rattle.std.specs.Prelude.{◌≡◌, ℕ, Option}
 use Rattle.causal_inbox.specs.Delivery.{Arrives, Refuses}
-use Rattle.causal_inbox.specs.Seen.{AreReleased, IsLawful, IsStalled}
-use Rattle.causal_inbox.specs.declared.answers.Arrival.{Arrival}
+use Rattle.causal_inbox.specs.Inbox.{AreReleasedInTurn, IsLawfulInbox, IsStalled}
+use Rattle.causal_inbox.specs.declared.delivery.Arrival.{Arrival}
 use Rattle.causal_inbox.specs.Stalls.{StallsFor}
-use Rattle.causal_inbox.specs.declared.answers.DeliverFault.{DeliverFault}
-use Rattle.causal_inbox.specs.declared.answers.Stall.{Stall}
+use Rattle.causal_inbox.specs.declared.delivery.DeliverFault.{DeliverFault}
+use Rattle.causal_inbox.specs.declared.delivery.Stall.{Stall}
 use Rattle.crdt_ops.specs.declared.op.Op.{Op}
-use Rattle.imap_node.specs.Nodes.{NodeState, received}
+use Rattle.imap_node.specs.Nodes.{NodeState, received_ops}
 use Rattle.imap_node.specs.Operations.{clock_of, id_of}
 use Rattle.uid_projection.specs.Exhaustion.{Exhausts}
 
 -- What holds of a node whatever came: the operations applied are a causal list, no id stands both among them and among those
 -- held, an id determines the operation, and those held ascend by their ids and are no more than the limit.
 abbrev pub IsOrderly : NodeState → Type 0
-IsOrderly node = IsLawful id_of clock_of (received node)
+IsOrderly node = IsLawfulInbox id_of clock_of (received_ops node)
 
 -- A node takes a delivered operation: it applies it and those that waited for it, or holds it, or has it already. Its
 -- sessions stay.
 pub record Delivers (old : NodeState) (op : Op) (arrival : Arrival) (new : NodeState) : Type 0 where
   pub sessions : new.sessions ≡ old.sessions
-  pub arrives : Arrives id_of clock_of Exhausts (received old) op arrival (received new)
+  pub arrives : Arrives id_of clock_of Exhausts (received_ops old) op arrival (received_ops new)
 
 -- A delivered operation is refused.
 abbrev pub IsRefusedAt : NodeState → Op → DeliverFault → Type 0
-IsRefusedAt node op why = Refuses id_of clock_of Exhausts (received node) op why
+IsRefusedAt node op why = Refuses id_of clock_of Exhausts (received_ops node) op why
 
 -- An operation is held all of whose causes were applied.
 abbrev pub HoldsRipe : NodeState → Type 0
-HoldsRipe node = IsStalled id_of clock_of (received node)
+HoldsRipe node = IsStalled id_of clock_of (received_ops node)
 
 -- Why a ripe operation is held, if one is: the next to be released needs a number that a counter lacks, or only memory was wanting.
 abbrev pub StallsAt : NodeState → Option Stall → Type 0
-StallsAt node why = StallsFor id_of clock_of Exhausts (received node) why
+StallsAt node why = StallsFor id_of clock_of Exhausts (received_ops node) why
 
 -- A node goes on with held operations whose causes were applied: so many are, each as it is the ripe one of the least id. Its sessions
 -- stay.
 pub record Drains (old : NodeState) (count : ℕ) (new : NodeState) : Type 0 where
   pub sessions : new.sessions ≡ old.sessions
-  pub released : AreReleased id_of clock_of Exhausts count (received old) (received new)
+  pub released : AreReleasedInTurn id_of clock_of Exhausts count (received_ops old) (received_ops new)

@@ -1,35 +1,35 @@
 use Rattle.std.specs.Prelude.{◌≡◌, ℕ, ◌<◌, Bool, true, false, ◌||◌, List, ◌++◌, Option, Some, None}
 use Rattle.crdt_ops.specs.declared.op.Op.{Op}
 use Rattle.imap_syntax.specs.declared.command.Command.{Command}
-use Rattle.mail_listing.specs.Listed.{Listed}
+use Rattle.mailbox_rows.specs.ListedMessage.{ListedMessage}
 use Rattle.merge_laws.specs.Orders.{IsIn}
-use Rattle.session_view.specs.Changes.{uids_of}
-use Rattle.session_view.specs.Seen.{Seen}
-use Rattle.session_view.specs.declared.entry.SyncKind.{SyncKind}
-use Rattle.session_view.specs.declared.entry.SyncKind.TheVariants.{Full, Partial}
+use Rattle.session_view.specs.NoteChanges.{uids_of}
+use Rattle.session_view.specs.ViewState.{ViewState}
+use Rattle.session_view.specs.declared.view_entry.SyncKind.{SyncKind}
+use Rattle.session_view.specs.declared.view_entry.SyncKind.TheVariants.{Full, Partial}
 use Rattle.imap_node.specs.Commands.{is_selecting, sync_of}
 use Rattle.imap_node.specs.Replays.{view_at}
 use Rattle.imap_node.specs.Sessions.{Places}
 use Rattle.imap_node.specs.declared.input.Input.{Input}
 use Rattle.imap_node.specs.declared.input.Input.TheVariants as inputs
-use Rattle.uid_projection.specs.declared.start.Start.{Start}
+use Rattle.uid_projection.specs.declared.first_numbers.Counters.{Counters}
 use Rattle.uid_projection.specs.Incarnations.{uidvalidity_of}
-use Rattle.uid_projection.specs.Lines.{uidnext_of}
+use Rattle.uid_projection.specs.UidsAndModSeqs.{uidnext_of}
 use Rattle.uid_projection.specs.Listing.{listing}
 
 -- A view goes back to an earlier moment of its mailbox's incarnation: as long as that incarnation goes on, the view has each message that
 -- was listed at the moment, and no UID but those that were given before it (RFC 9051, section 2.3.1.1).
-pub record GoesBack (start : Start) (ops : List Op) (view : Seen) : Type 0 where
+pub record IsOlderView (start : Counters) (ops : List Op) (view : ViewState) : Type 0 where
   pub front : List Op
   pub back : List Op
   pub split : ops ≡ front ++ back
   pub there : uidvalidity_of start view.name front ≡ Some view.uidvalidity
-  pub has : uidvalidity_of start view.name ops ≡ Some view.uidvalidity → (row : Listed) → IsIn row (listing start view.name front) → IsIn row.uid (uids_of view.entries)
+  pub has : uidvalidity_of start view.name ops ≡ Some view.uidvalidity → (row : ListedMessage) → IsIn row (listing start view.name front) → IsIn row.uid (uids_of view.entries)
   pub below : uidvalidity_of start view.name ops ≡ Some view.uidvalidity → (uid : ℕ) → IsIn uid (uids_of view.entries) → uid < uidnext_of start view.name front
 
 -- The view of each session does.
-abbrev pub ViewsGoBack : Start → List Op → Places → Type 0
-ViewsGoBack start ops places = (n : ℕ) (view : Seen) → view_at places n ≡ Some view → GoesBack start ops view
+abbrev pub AreOlderViews : Counters → List Op → Places → Type 0
+AreOlderViews start ops places = (n : ℕ) (view : ViewState) → view_at places n ≡ Some view → IsOlderView start ops view
 
 -- A full sync.
 abbrev pub is_full : Option SyncKind → Bool

@@ -1,5 +1,5 @@
 use Rattle.std.specs.Prelude.{◌≡◌, List, [], ◌++◌}
-use Rattle.causal_inbox.specs.Seen.{AreIssued, AreKept}
+use Rattle.causal_inbox.specs.Inbox.{AreIssued, AreHeldStill}
 use Rattle.crdt_ops.specs.declared.kind.Kind.{Kind}
 use Rattle.crdt_ops.specs.declared.op.Op.{Op}
 use Rattle.imap_node.specs.Nodes.{NodeState}
@@ -21,7 +21,7 @@ issued_by (Refused why closed) = []
 pub record Issues (old : NodeState) (ops : List Op) (new : NodeState) : Type 0 where
   pub start : new.start ≡ old.start
   pub applied : new.applied ≡ old.applied ++ ops
-  pub held : AreKept id_of ops old.held new.held
+  pub held : AreHeldStill id_of ops old.held new.held
   pub issued : AreIssued id_of clock_of old.applied ops
   pub kinds : List Kind
   pub next : AreNext old.start.replica old.applied kinds ops

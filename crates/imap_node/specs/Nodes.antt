@@ -1,56 +1,56 @@
 use Rattle.std.specs.Prelude.{◌≡◌, ℕ, List, [], Some, None, IsSome}
-use Rattle.causal_inbox.specs.Seen.{Seen}
+use Rattle.causal_inbox.specs.Inbox.{ReceivedOps}
 use Rattle.crdt_ops.specs.declared.op.Op.{Op}
 use Rattle.imap_commands.specs.declared.session.Session.{Session}
 use Rattle.imap_commands.specs.declared.session.State.TheVariants.{LoggedOut}
 use Rattle.imap_node.specs.Operations.{CanFollow}
 use Rattle.imap_node.specs.Rooms.{HasRoomFor, Room}
 use Rattle.imap_node.specs.Sessions.{Places, session_at, with_session}
-use Rattle.uid_projection.specs.declared.start.Start.{Start}
+use Rattle.uid_projection.specs.declared.first_numbers.Counters.{Counters}
 
 -- A node: its name and the first numbers of its counters, the operations that it applied, in their order, those that it holds until
 -- their causes come, and its sessions.
 pub record NodeState : Type 0 where
-  pub start : Start
+  pub start : Counters
   pub applied : List Op
   pub held : List Op
   pub sessions : Places
 
 -- A node that has received nothing, without sessions, and with these first numbers.
-abbrev pub unused_node : Start → NodeState
+abbrev pub unused_node : Counters → NodeState
 unused_node start = record { start = start; applied = []; held = []; sessions = [] }
 
 -- What the counters of a replica that joins begin with: its UIDs and its incarnations count from 1.
-abbrev pub first_numbers : ℕ → Start
+abbrev pub first_numbers : ℕ → Counters
 first_numbers name = record { replica = name; uid = 1; k = 1 }
 
 -- A replica of this name that joined with these operations: they are its list, as if each had been delivered to it. It holds nothing and has no sessions.
-abbrev pub joined : ℕ → List Op → NodeState
-joined name ops = record { start = first_numbers name; applied = ops; held = []; sessions = [] }
+abbrev pub joined_node : ℕ → List Op → NodeState
+joined_node name ops = record { start = first_numbers name; applied = ops; held = []; sessions = [] }
 
 -- A node with the room that was made in it.
-pub record NodeKept : Type 0 where
+pub record NodeWithRoom : Type 0 where
   pub state : NodeState
   pub room : Room
 
 -- A replica without its sessions, with the room that was made in it.
-pub record ReplicaKept : Type 0 where
-  pub start : Start
+pub record ReplicaWithRoom : Type 0 where
+  pub start : Counters
   pub applied : List Op
   pub held : List Op
   pub room : Room
 
 -- What was received: the operations applied, and those held.
-abbrev pub received : NodeState → Seen Start Op
-received node = record { start = node.start; applied = node.applied; held = node.held }
+abbrev pub received_ops : NodeState → ReceivedOps Counters Op
+received_ops node = record { start = node.start; applied = node.applied; held = node.held }
 
 -- The replica can issue these operations: they come behind those applied, no counter is at its end for them, and where there are any there is room.
-pub record IsReady (replica : ReplicaKept) (ops : List Op) : Type 0 where
+pub record IsReady (replica : ReplicaWithRoom) (ops : List Op) : Type 0 where
   pub follow : CanFollow replica.start replica.applied ops
   pub room : (ops ≡ [] → ⊥) → HasRoomFor replica.applied replica.room ops
 
 -- What a replica received.
-abbrev pub replica_received : ReplicaKept → Seen Start Op
+abbrev pub replica_received : ReplicaWithRoom → ReceivedOps Counters Op
 replica_received replica = record { start = replica.start; applied = replica.applied; held = replica.held }
 
 -- The session idles: a DONE is awaited, and nothing else.
@@ -70,5 +70,5 @@ abbrev pub IsGoing : NodeState → ℕ → Type 0
 IsGoing node n = (session : Session) × (session_at node.sessions n ≡ Some session) × ((session.state ≡ LoggedOut) → ⊥)
 
 -- The node with this session closed.
-abbrev pub closed : NodeState → ℕ → NodeState
-closed node n = record node { sessions = with_session node.sessions n None }
+abbrev pub with_session_closed : NodeState → ℕ → NodeState
+with_session_closed node n = record node { sessions = with_session node.sessions n None }

@@ -1,15 +1,15 @@
 use Rattle.std.specs.Prelude.{◌≡◌, ◌⊎◌, ℕ, ◌+◌, ◌<◌, List, ◌∷◌, ◌++◌, length, map}
-use Rattle.causal_inbox.specs.Seen.{IsClockOf}
+use Rattle.causal_inbox.specs.Inbox.{IsClockOf}
 use Rattle.crdt_ops.specs.declared.kind.Kind.{Kind}
 use Rattle.crdt_ops.specs.declared.op.Op.{Op}
 pub use Rattle.crdt_ops.specs.Ops.{clock_of, id_of}
-use Rattle.crdt_ops.specs.Sound.{CoversNamed, IsSound}
-use Rattle.imap_answers.specs.declared.words.Refusal.{Refusal}
-use Rattle.imap_answers.specs.declared.words.Refusal.TheVariants.{NoMemory, NumberUsedUp}
+use Rattle.crdt_ops.specs.Sound.{CoversReferenced, IsSound}
+use Rattle.imap_answers.specs.declared.fixed_words.Refusal.{Refusal}
+use Rattle.imap_answers.specs.declared.fixed_words.Refusal.TheVariants.{NoMemory, NumberUsedUp}
 use Rattle.imap_commands.specs.Lawful.{IsLawfulKind}
 use Rattle.merge_laws.specs.Orders.{HasId, IsIn}
 use Rattle.tags_clocks.specs.Clock.{count_of}
-use Rattle.uid_projection.specs.declared.start.Start.{Start}
+use Rattle.uid_projection.specs.declared.first_numbers.Counters.{Counters}
 use Rattle.uid_projection.specs.Applied.{IsApplied}
 use Rattle.uid_projection.specs.Exhaustion.{Exhausts}
 
@@ -26,34 +26,34 @@ pub record AreNext (replica : ℕ) (applied : List Op) (kinds : List Kind) (ops 
   pub next : (front : List Op) (op : Op) (back : List Op) → ops ≡ front ++ op ∷ back → IsNext replica (applied ++ front) op
 
 -- The replica's own numbers, which end at 4,294,967,295, don't suffice for operations of these kinds.
-abbrev pub NumbersEnd : ℕ → List Op → List Kind → Type 0
-NumbersEnd replica applied kinds =
+abbrev pub OwnNumbersEnd : ℕ → List Op → List Kind → Type 0
+OwnNumbersEnd replica applied kinds =
     (clock : List (ℕ × ℕ)) × IsClockOf id_of applied clock × (4294967295 < count_of clock replica + length kinds)
 
 -- A counter is at its end for one of these: the replica's own numbers, a folder's UIDs or the UIDVALIDITY's.
-abbrev pub IsUsedUp : Start → List Op → List Kind → Type 0
+abbrev pub IsUsedUp : Counters → List Op → List Kind → Type 0
 IsUsedUp start applied kinds =
-    NumbersEnd start.replica applied kinds ⊎ ((ops : List Op) × AreNext start.replica applied kinds ops × Exhausts start applied ops)
+    OwnNumbersEnd start.replica applied kinds ⊎ ((ops : List Op) × AreNext start.replica applied kinds ops × Exhausts start applied ops)
 
 -- These operations can be applied behind the list, and no counter is at its end for them.
-pub record CanFollow (start : Start) (applied ops : List Op) : Type 0 where
+pub record CanFollow (start : Counters) (applied ops : List Op) : Type 0 where
   pub causal : IsApplied (applied ++ ops)
   pub lasts : Exhausts start applied ops → ⊥
 
 -- Why operations of these kinds can't be made ready.
-abbrev pub IsNotReady : Start → List Op → List Kind → Refusal → Type 0
+abbrev pub IsNotReady : Counters → List Op → List Kind → Refusal → Type 0
 IsNotReady start applied kinds why = (why ≡ NoMemory) ⊎ ((why ≡ NumberUsedUp) × IsUsedUp start applied kinds)
 
 -- The replica may issue an operation of this kind: its name and flags are lawful, it doesn't delete INBOX, and it names only
 -- what was applied.
 pub record CanIssue (applied : List Op) (kind : Kind) : Type 0 where
   pub lawful : IsLawfulKind kind
-  pub covered : (clock : List (ℕ × ℕ)) → IsClockOf id_of applied clock → CoversNamed clock kind
+  pub covered : (clock : List (ℕ × ℕ)) → IsClockOf id_of applied clock → CoversReferenced clock kind
 
 -- Behind what this clock counts, it may issue an operation of this kind.
 pub record CanIssueBy (clock : List (ℕ × ℕ)) (kind : Kind) : Type 0 where
   pub lawful : IsLawfulKind kind
-  pub covered : CoversNamed clock kind
+  pub covered : CoversReferenced clock kind
 
 -- It may issue operations of all these kinds.
 abbrev pub CanIssueAll : List Op → List Kind → Type 0

@@ -6,12 +6,12 @@ use Rattle.imap_commands.specs.Printing.{IsNumbered}
 use Rattle.imap_commands.specs.declared.session.Session.{Session}
 use Rattle.imap_commands.specs.declared.session.State.{State}
 use Rattle.imap_commands.specs.declared.session.State.TheVariants.{Selected}
-use Rattle.uid_projection.specs.declared.start.Start.{Start}
+use Rattle.uid_projection.specs.declared.first_numbers.Counters.{Counters}
 use Rattle.uid_projection.specs.Bounds.{AreWritable, IsLasting, IsLawfulStart}
 use Rattle.imap_node.specs.Sessions.{Places, with_session}
 
 -- What a node has applied can be shown: its counters began lawfully and none was at its end, and its operations can be written and counted.
-pub record IsPresentable (start : Start) (ops : List Op) : Type 0 where
+pub record IsPresentable (start : Counters) (ops : List Op) : Type 0 where
   pub lawful : IsLawfulStart start
   pub lasting : IsLasting start ops
   pub writable : AreWritable ops

@@ -6,10 +6,10 @@ use Rattle.imap_commands.specs.declared.session.State.{State}
 use Rattle.imap_commands.specs.declared.session.State.TheVariants.{Selected}
 use Rattle.imap_syntax.specs.declared.command.Command.{Command}
 use Rattle.imap_syntax.specs.declared.command.Command.TheVariants as commands
-use Rattle.session_view.specs.Replay.{replayed}
-use Rattle.session_view.specs.Seen.{Seen}
+use Rattle.session_view.specs.Replay.{view_after_reply}
+use Rattle.session_view.specs.ViewState.{ViewState}
 use Rattle.session_view.specs.Views.{AreRising}
-use Rattle.session_view.specs.declared.replaying.Silent.{Silent}
+use Rattle.session_view.specs.declared.reply_replay.SilentFlags.{SilentFlags}
 use Rattle.imap_node.specs.Commands.{is_selecting}
 use Rattle.imap_node.specs.Mailboxes.{rows_for, validity_of}
 use Rattle.imap_node.specs.Sessions.{Places, session_at}
@@ -17,40 +17,40 @@ use Rattle.imap_node.specs.declared.input.Input.{Input}
 use Rattle.imap_node.specs.declared.input.Input.TheVariants as inputs
 use Rattle.imap_node.specs.declared.reply.Reply.{Reply}
 use Rattle.imap_node.specs.declared.reply.Reply.TheVariants.{Done, Refused}
-use Rattle.uid_projection.specs.declared.start.Start.{Start}
+use Rattle.uid_projection.specs.declared.first_numbers.Counters.{Counters}
 
 -- What a session sees in this state: nothing where no mailbox is selected.
-abbrev pub view_of : State → Option Seen
+abbrev pub view_of : State → Option ViewState
 view_of (Selected view read_only) = Some view
 view_of _ = None
 
-abbrev pub view_in : Option Session → Option Seen
+abbrev pub view_in : Option Session → Option ViewState
 view_in None = None
 view_in (Some session) = view_of session.state
 
 -- What the session with this number sees: nothing where it isn't open, or has no mailbox selected.
-abbrev pub view_at : Places → ℕ → Option Seen
+abbrev pub view_at : Places → ℕ → Option ViewState
 view_at places n = view_in (session_at places n)
 
 -- The view on which the answers of a command that is carried out are replayed: of a mailbox that is selected anew one without messages;
 -- none behind CLOSE, UNSELECT and LOGOUT (RFC 9051, sections 6.1.3, 6.3.2, 6.4.1 and 6.4.2); else the view before.
-abbrev pub base_of : Start → List Op → Option Seen → Command → Option Seen
-base_of start ops view (commands.Select name condstore) = Some (record { name = name; uidvalidity = validity_of start name ops; entries = [] })
-base_of start ops view (commands.Examine name condstore) = Some (record { name = name; uidvalidity = validity_of start name ops; entries = [] })
-base_of start ops view commands.Logout = None
-base_of start ops view commands.Unselect = None
-base_of start ops view commands.Close = None
-base_of start ops view _ = view
+abbrev pub replay_base_of_command : Counters → List Op → Option ViewState → Command → Option ViewState
+replay_base_of_command start ops view (commands.Select name condstore) = Some (record { name = name; uidvalidity = validity_of start name ops; entries = [] })
+replay_base_of_command start ops view (commands.Examine name condstore) = Some (record { name = name; uidvalidity = validity_of start name ops; entries = [] })
+replay_base_of_command start ops view commands.Logout = None
+replay_base_of_command start ops view commands.Unselect = None
+replay_base_of_command start ops view commands.Close = None
+replay_base_of_command start ops view _ = view
 
-abbrev pub based : Start → List Op → Option Seen → Input → Option Seen
-based start ops view (inputs.Command moment tagged) = base_of start ops view tagged.command
-based start ops view (inputs.Line line) = view
-based start ops view inputs.Poll = view
+abbrev pub replay_base_of : Counters → List Op → Option ViewState → Input → Option ViewState
+replay_base_of start ops view (inputs.Command moment tagged) = replay_base_of_command start ops view tagged.command
+replay_base_of start ops view (inputs.Line line) = view
+replay_base_of start ops view inputs.Poll = view
 
 -- A view with flags set in silence and answers replayed, over what its mailbox has now.
-abbrev pub replayed_on : Start → List Op → Option Seen → List Silent → List Answer → Option Seen
-replayed_on start ops None silent answers = None
-replayed_on start ops (Some view) silent answers = Some (record view { entries = replayed (rows_for start ops view) view.entries silent answers })
+abbrev pub view_after_replies : Counters → List Op → Option ViewState → List SilentFlags → List Answer → Option ViewState
+view_after_replies start ops None silent answers = None
+view_after_replies start ops (Some view) silent answers = Some (record view { entries = view_after_reply (rows_for start ops view) view.entries silent answers })
 
 -- A SELECT or an EXAMINE, which leaves the selected mailbox also where it is refused (RFC 9051, section 6.3.2).
 abbrev pub selects : Input → Bool
@@ -59,10 +59,10 @@ selects (inputs.Line line) = false
 selects inputs.Poll = false
 
 -- What a reply to an input makes of a view, by these operations: its silent flags and answers, replayed.
-abbrev pub view_behind : Start → List Op → Option Seen → Input → Reply → Option Seen
-view_behind start ops view input (Done answers silent issued) = replayed_on start ops (based start ops view input) silent answers
-view_behind start ops view input (Refused why closed) = if selects input then None else view
+abbrev pub view_after_input : Counters → List Op → Option ViewState → Input → Reply → Option ViewState
+view_after_input start ops view input (Done answers silent issued) = view_after_replies start ops (replay_base_of start ops view input) silent answers
+view_after_input start ops view input (Refused why closed) = if selects input then None else view
 
 -- The UIDs of each session's view ascend strictly (RFC 9051, section 2.3.1.1).
 abbrev pub ViewsAscend : Places → Type 0
-ViewsAscend places = (n : ℕ) (view : Seen) → view_at places n ≡ Some view → AreRising 1 view.entries
+ViewsAscend places = (n : ℕ) (view : ViewState) → view_at places n ≡ Some view → AreRising 1 view.entries

@@ -2,16 +2,16 @@
 use Rattle.std.specs.Prelude.{◌≡◌, ℕ, List, [], ◌∷◌, None, Some}
 use Rattle.idle_feed.specs.Feeds.{Pending}
 use Rattle.imap_answers.specs.declared.answer.Answer.TheVariants.{Completed}
-use Rattle.imap_answers.specs.declared.words.CommandWord.TheVariants as words
+use Rattle.imap_answers.specs.declared.fixed_words.CompletedWord.TheVariants as words
 use Rattle.imap_commands.specs.declared.session.Session.{Session}
 use Rattle.imap_commands.specs.declared.session.State.{State}
 use Rattle.imap_syntax.specs.declared.command.Command.TheVariants.{Noop}
-use Rattle.session_view.specs.Seen.{Seen}
-use Rattle.imap_node.specs.declared.going.Onward.TheVariants.{Stays}
+use Rattle.session_view.specs.ViewState.{ViewState}
+use Rattle.imap_node.specs.declared.session_change.StateChange.TheVariants.{Stays}
 use Rattle.imap_node.specs.declared.input.Input.{Input}
 use Rattle.imap_node.specs.declared.input.Input.TheVariants.{Command}
-use Rattle.imap_node.specs.declared.planning.Prepared.{Prepared}
-use Rattle.imap_node.specs.Feeds.{IsSettled}
+use Rattle.imap_node.specs.declared.plan.PreparedInput.{PreparedInput}
+use Rattle.imap_node.specs.SessionFeeds.{IsSettled}
 use Rattle.imap_node.specs.Replays.{view_of}
 
 -- The input is a NOOP with this tag.
@@ -20,13 +20,13 @@ IsNoop input tag = (moment : ℕ) × (input ≡ Command moment (record { tag = t
 
 -- Nothing is still to be told of the mailbox that is selected, if one is.
 abbrev pub HasNothing : State → Pending → Type 0
-HasNothing state pending = (view : Seen) → view_of state ≡ Some view → IsSettled (record { pending = pending; news = [] }) view
+HasNothing state pending = (view : ViewState) → view_of state ≡ Some view → IsSettled (record { pending = pending; change_notes = [] }) view
 
 abbrev pub IsAtRest : State → Pending → Input → List ℕ → Type 0
 IsAtRest state pending input tag = IsNoop input tag × HasNothing state pending
 
 -- What comes of it: its end alone is told, nothing is issued, and the session stays as it is.
-abbrev pub noop_at_rest : Session → List ℕ → Prepared
+abbrev pub noop_at_rest : Session → List ℕ → PreparedInput
 noop_at_rest session tag = record {
   answered = record {
     answers = Completed tag None words.Noop ∷ [];
@@ -35,5 +35,5 @@ noop_at_rest session tag = record {
   };
   ops = [];
   copies = [];
-  news = [];
+  change_notes = [];
 }

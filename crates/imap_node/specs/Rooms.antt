@@ -1,9 +1,9 @@
 use Rattle.std.specs.Prelude.{List}
-use Rattle.causal_inbox.specs.Kept.{IsReadied, Room as RoomOf}
+use Rattle.causal_inbox.specs.InboxState.{IsReadied, InboxRoom}
 use Rattle.crdt_ops.specs.declared.op.Op.{Op}
 use Rattle.folder_state.specs.Tables.{IsPrepared as AreFoldersPrepared}
 use Rattle.folder_state.specs.declared.folders.Folders.{Folders}
-use Rattle.merge_laws.specs.declared.pair.OnFirst.{OnFirst}
+use Rattle.merge_laws.specs.declared.pair.FirstFollower.{FirstFollower}
 use Rattle.merge_laws.specs.declared.pair.Pair.{Pair}
 use Rattle.subs_state.specs.Table.{IsPrepared as AreSubsPrepared}
 use Rattle.subs_state.specs.declared.subs.Subs.{Subs}
@@ -13,14 +13,14 @@ use Rattle.imap_node.specs.Operations.{clock_of, id_of}
 
 -- The room that was made in a replica: its folders and subscriptions, and the charts of its folders.
 abbrev pub Room : Type 0
-Room = RoomOf (Pair Folders Subs) (OnFirst Charts)
+Room = InboxRoom (Pair Folders Subs) (FirstFollower Charts)
 
 -- Folders and subscriptions can apply the operations with no more memory.
 abbrev pub ArePrepared : Pair Folders Subs → List Op → Type 0
 ArePrepared value ops = AreFoldersPrepared value.first ops × AreSubsPrepared value.second ops
 
 -- The charts can note the second list's operations behind the first list with no more memory.
-abbrev pub AreNoted : OnFirst Charts → List Op → List Op → Type 0
+abbrev pub AreNoted : FirstFollower Charts → List Op → List Op → Type 0
 AreNoted charts list ops = IsReadyFor charts.follower list ops
 
 -- The replica can apply these operations behind those applied with no more memory.

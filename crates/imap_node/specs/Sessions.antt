@@ -26,8 +26,8 @@ with_session places n place = slice_set places (n - 1) place
 abbrev pub unselected : Session → Session
 unselected session = record session { state = Authenticated }
 
-abbrev pub awake : Session → Session
-awake session = record session { idling = None }
+abbrev pub without_idle : Session → Session
+without_idle session = record session { idling = None }
 
 -- The places with one session changed.
 abbrev pub with_changed : Places → ℕ → (Session → Session) → Places
@@ -38,14 +38,14 @@ abbrev pub OthersStay : Places → ℕ → Places → Type 0
 OthersStay old n new = (m : ℕ) → m ≢ n → session_at new m ≡ session_at old m
 
 -- A session as it begins: the user is known already, or has to log in.
-abbrev pub opened : Auth → Session
-opened Preauth = record { state = Authenticated; condstore = false; idling = None }
-opened (Password credentials) = record { state = NotAuthenticated credentials; condstore = false; idling = None }
+abbrev pub new_session : Auth → Session
+new_session Preauth = record { state = Authenticated; condstore = false; idling = None }
+new_session (Password credentials) = record { state = NotAuthenticated credentials; condstore = false; idling = None }
 
 -- The least number that no open session has is open now, and nothing else changed.
 pub record Opens (old : Places) (auth : Auth) (n : ℕ) (new : Places) : Type 0 where
   pub positive : 0 < n
   pub vacant : IsNone (session_at old n)
   pub least : (m : ℕ) → 0 < m → m < n → IsOpen old m
-  pub open_now : session_at new n ≡ Some (opened auth)
+  pub open_now : session_at new n ≡ Some (new_session auth)
   pub others : OthersStay old n new

@@ -1,10 +1,10 @@
 use Rattle.std.specs.Prelude.{◌≡◌, ◌↔◌, ℕ, ◌<◌, ◌≤◌, IsTrue, Result, Ok, Err}
-use Rattle.causal_inbox.specs.declared.answers.DeliverFault.{DeliverFault}
-use Rattle.causal_inbox.specs.declared.answers.Delivered.{Delivered}
-use Rattle.causal_inbox.specs.declared.answers.Drained.{Drained}
+use Rattle.causal_inbox.specs.declared.delivery.DeliverFault.{DeliverFault}
+use Rattle.causal_inbox.specs.declared.delivery.Delivered.{Delivered}
+use Rattle.causal_inbox.specs.declared.delivery.Drained.{Drained}
 use Rattle.crdt_ops.specs.declared.op.Op.{Op}
 use Rattle.imap_node.specs.Deliveries.{Delivers, Drains, HoldsRipe, IsRefusedAt}
-use Rattle.imap_node.specs.Nodes.{NodeState, closed}
+use Rattle.imap_node.specs.Nodes.{NodeState, with_session_closed}
 use Rattle.imap_node.specs.Sessions.{IsOpen, Opens}
 use Rattle.imap_node.specs.declared.sessions.Auth.{Auth}
 use Rattle.imap_node.specs.declared.sessions.OpenFault.{OpenFault}
@@ -34,7 +34,7 @@ DrainsAt old drained new = Drains old drained.applied new × (IsTrue drained.sta
 
 -- A session that is open closes.
 abbrev pub ClosesAt : NodeState → ℕ → NodeState → Type 0
-ClosesAt old n new = IsOpen old.sessions n × (new ≡ closed old n)
+ClosesAt old n new = IsOpen old.sessions n × (new ≡ with_session_closed old n)
 
 -- No session of this number is open, and nothing changes.
 abbrev pub IsAwayAt : NodeState → ℕ → NodeState → Type 0

@@ -6,24 +6,24 @@
 //! own answers, and what they make of their session.
 #![tactic(auto)]
 
-mod course;
-mod ending;
+mod input_effect;
+mod sync_and_state;
 mod feeds;
-mod going;
+mod session_change;
 mod input;
-mod issuing;
+mod ready_ops;
 mod laws;
-mod news;
+mod change_notes;
 mod node;
-mod planning;
+mod plan;
 mod printable;
 mod replica;
 mod reply;
 mod sessions;
 mod shared_list;
-mod tables;
-mod telling;
-mod wanting;
+mod command_tables;
+mod reports;
+mod intents;
 
 pub use imap_commands::{Credentials, Session, State};
 pub use input::Input;
@@ -32,8 +32,8 @@ pub use laws::{
     replies_replay, views_ascend, views_go_back,
 };
 pub use node::Node;
-pub use planning::Plan;
+pub use plan::Plan;
 pub use printable::{answers_are_printable, listings_are_showable};
-pub use replica::Replica;
+pub use replica::ReplicaState;
 pub use reply::{Answers, Issued, Reply, Silents};
 pub use sessions::{Auth, MAX_SESSIONS, OpenFault, SessionNo};

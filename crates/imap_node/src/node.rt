@@ -2,36 +2,36 @@
 
 ghost use Rattle.std.specs.Prelude.{◌≡◌, ◌≢◌, ◌↔◌, ℕ, ◌<◌, ◌≤◌, ◌++◌, false, List, [], Err, IfOk, IsNone, IsSome, IsTrue, MatchResult, None, OnErr, Some, length, take, ◌∷◌, ◌+◌};
 ghost use Rattle.std.specs.Option.{option_copied};
-ghost use Rattle.causal_inbox.specs.Seen.{AreIssued, IsClockOf, held_limit, uncovered};
-ghost use Rattle.crdt_ops.specs.Sets.{delete_set_of, folder_tags_of, folders_of, messages_of, subscribed_of, subscription_tags_of};
-ghost use Rattle.crdt_ops.specs.declared.op.Op.{Op as Operation};
+ghost use Rattle.causal_inbox.specs.Inbox.{AreIssued, IsClockOf, held_limit, uncovered_ops};
+ghost use Rattle.crdt_ops.specs.Sets.{delete_set_of, folder_tags_of, folders_of, messages_of, subscribed_names_of, subscription_tags_of};
+ghost use Rattle.crdt_ops.specs.declared.op.Op.{Op};
 ghost use Rattle.folder_state.specs.Contents.{IsMadeBy};
 ghost use Rattle.folder_state.specs.Tables.{contents_of};
-ghost use Rattle.imap_commands.specs.declared.session.Session.{Session as One};
+ghost use Rattle.imap_commands.specs.declared.session.Session.{Session};
 ghost use Rattle.crdt_ops.specs.Tags.{name_of};
-ghost use Rattle.imap_node.specs.Feeds.{AreAllNoted, IsCurrent, pending_at};
-ghost use Rattle.imap_node.specs.News.{IsAheadOf};
+ghost use Rattle.imap_node.specs.SessionFeeds.{AreAllNoted, IsCurrent, pending_at};
+ghost use Rattle.imap_node.specs.ChangeNotes.{IsSnapshotOf};
 ghost use Rattle.imap_node.specs.Operations.{clock_of, id_of};
-ghost use Rattle.imap_node.specs.Plans.{CanStep, done_plan, next_left, place_next, plan_by};
+ghost use Rattle.imap_node.specs.Plans.{CanStep, plan_of_prepared, step_of_refusal, place_after_step, plan_by};
 ghost use Rattle.imap_node.specs.Replays.{view_at};
-ghost use Rattle.imap_node.specs.Respond.{KeepsHeld};
+ghost use Rattle.imap_node.specs.Responses.{AreHeldAfter};
 ghost use Rattle.imap_node.specs.Sessions.{IsOpen, session_at, with_session};
 ghost use Rattle.imap_node.specs.Rooms.{HasRoomFor};
 ghost use Rattle.imap_node.specs.declared.input.Input.TheVariants as inputs;
-ghost use Rattle.session_view.specs.Seen.{Seen};
+ghost use Rattle.session_view.specs.ViewState.{ViewState};
 ghost use Rattle.subs_state.specs.Subscriptions.{IsMadeBy as AreMadeBy};
 ghost use Rattle.subs_state.specs.Table.{subscriptions_of};
-ghost use Rattle.uid_projection.specs.declared.start.Start.{Start as First};
+ghost use Rattle.uid_projection.specs.declared.first_numbers.Counters.{Counters};
 
 use crate::feeds::{Feeds, may_be_told};
 use crate::input::Input;
-use crate::issuing::ReadyOps;
-use crate::news::{Ahead, News, ahead_of, coarse_news, delivered_news};
-use crate::planning::{Answered, Next, Plan, Prepared, prepare_for};
-use crate::replica::Replica;
+use crate::ready_ops::ReadyOps;
+use crate::change_notes::{MailboxSnapshot, ChangeNotes, snapshot_of, coarse_change_notes, change_notes_of_delivery};
+use crate::plan::{PreparedReply, SessionStep, Plan, PreparedInput, prepare_for};
+use crate::replica::ReplicaState;
 use crate::reply::Reply;
 use crate::sessions::{Auth, OpenFault, SessionNo, Sessions};
-use crate::tables::{closes, ends_idling, leaves};
+use crate::command_tables::{closes, ends_idling, leaves};
 use causal_inbox::{DeliverFault, Delivered, Drained, HeldOps, Stall};
 use crdt_ops::SoundOp;
 use folder_state::Folders;
@@ -39,17 +39,17 @@ use imap_answers::Refusal;
 use imap_commands::{Session, State};
 use imap_syntax::{IdleLine, Tagged};
 use imap_types::{Moment, Name};
-use mail_listing::Rows;
+use mailbox_rows::Rows;
 use std::alloc::{AllocError, Global};
 use std::marker::Model;
 use std::slice;
 use subs_state::Subs;
 use tags_clocks::{Clock, ReplicaId};
-use uid_projection::Start;
+use uid_projection::Counters;
 
 /// A replica with its sessions. It answers from its own state alone.
 pub struct Node {
-    replica: Replica,
+    replica: ReplicaState,
     sessions: Sessions,
     /// What each session is still to be told.
     feeds: Feeds,
@@ -69,10 +69,10 @@ impl Drop for Node {
 impl Model for Node {
     ghost use Rattle.indexmap.specs.Layout.{hash_map_code, hash_set_code};
     ghost use Rattle.std.specs.Coded.{codes};
-    ghost use Rattle.imap_node.specs.Feeds.{AreAllNoted};
-    ghost use Rattle.imap_node.specs.Nodes.{NodeKept};
+    ghost use Rattle.imap_node.specs.SessionFeeds.{AreAllNoted};
+    ghost use Rattle.imap_node.specs.Nodes.{NodeWithRoom};
 
-    ghost Value = { NodeKept };
+    ghost Value = { NodeWithRoom };
 
     ghost coded = { Prim.hlevel (codes, hash_map_code, hash_set_code) };
 
@@ -84,9 +84,9 @@ impl Model for Node {
 impl Node {
     ghost use Rattle.crdt_ops.specs.Sound.{IsSound};
     ghost use Rattle.imap_node.specs.Deliveries.{Delivers, Drains, HoldsRipe, IsOrderly, IsRefusedAt, StallsAt};
-    ghost use Rattle.imap_node.specs.Nodes.{Idles, closed};
-    ghost use Rattle.imap_node.specs.Plans.{CommitsTo, IsPlanned, Planned};
-    ghost use Rattle.imap_node.specs.Respond.{Responds};
+    ghost use Rattle.imap_node.specs.Nodes.{Idles, with_session_closed};
+    ghost use Rattle.imap_node.specs.Plans.{CommitsTo, IsPlanned, IsPlanOf};
+    ghost use Rattle.imap_node.specs.Responses.{Responds};
     ghost use Rattle.imap_node.specs.Sessions.{IsOpen, Opens, session_at};
     ghost use Rattle.imap_node.specs.declared.sessions.OpenFault.TheVariants.{TooManySessions};
     ghost use Rattle.merge_laws.specs.Orders.{AreSound};
@@ -94,12 +94,12 @@ impl Node {
 
     /// A replica of this name that has received nothing, without sessions, and with these first numbers, UIDs from 1 on; `Err` where there is no memory for
     /// it.
-    pub fn new(alloc: Global, start: Start) -> Result<Node, AllocError>
+    pub fn new(alloc: Global, start: Counters) -> Result<Node, AllocError>
         requires { 1 ≤ start.uid }
         ensures { IfOk result (λ node. node.state ≡ record { start = start; applied = []; held = []; sessions = [] }) }
     {
         Ok(Node {
-            replica: Replica::new(alloc, start)?,
+            replica: ReplicaState::new(alloc, start)?,
             sessions: Sessions::new(alloc),
             feeds: Feeds::new(alloc),
         })
@@ -134,10 +134,10 @@ impl Node {
     /// Whether the session may have something to be told of its mailbox: `false` only where what it sees of any message is what the mailbox's listing has of it,
     /// and where it isn't open or has none selected. A look at its feed.
     pub fn may_be_behind(&self, session: SessionNo) -> bool
-        ensures { result ≡ false → (view : Seen) → view_at self.now.state.sessions session ≡ Some view → IsCurrent self.now.state.start self.now.state.applied view }
+        ensures { result ≡ false → (view : ViewState) → view_at self.now.state.sessions session ≡ Some view → IsCurrent self.now.state.start self.now.state.applied view }
     {
         match self.session(session) {
-            Some(found) => may_be_told(&found.state, self.feeds.of(session)),
+            Some(found) => may_be_told(&found.state, self.feeds.feed_of(session)),
             None => false,
         }
     }
@@ -167,7 +167,7 @@ impl Node {
     /// Closes the session.
     pub fn close(&mut self, session: SessionNo)
         requires { IsOpen self.old.state.sessions session }
-        ensures { self.new.state ≡ closed self.old.state session }
+        ensures { self.new.state ≡ with_session_closed self.old.state session }
     {
         self.sessions.set(session, None);
     }
@@ -220,7 +220,7 @@ impl Node {
         requires { IsOpen self.old.state.sessions session }
         ensures same { self.new.state ≡ self.old.state }
         ensures planned { IsPlanned self.new result }
-        ensures responds { Planned self.old.state session input result }
+        ensures responds { IsPlanOf self.old.state session input result }
     {
         let plan = self.plan_for(alloc, session, &input);
         drop(input);
@@ -232,7 +232,7 @@ impl Node {
         requires { IsOpen self.old.state.sessions session }
         ensures same { self.new.state ≡ self.old.state }
         ensures planned { IsPlanned self.new result }
-        ensures responds { Planned self.old.state session input.now result }
+        ensures responds { IsPlanOf self.old.state session input.now result }
     {
         let outcome = prepare_for(
             alloc,
@@ -259,11 +259,11 @@ impl Node {
             number,
             reply,
             ops,
-            news,
+            change_notes: change_notes,
             next,
         } = plan;
         issue(&mut self.replica, ops);
-        self.feeds.note(&self.sessions, &news);
+        self.feeds.note(&self.sessions, &change_notes);
         set_next(&mut self.sessions, &mut self.feeds, number, next);
         reply
     }
@@ -281,8 +281,8 @@ impl Node {
         ensures stalled { IfOk result (λ d. IsTrue d.stalled ↔ HoldsRipe self.new.state) }
         ensures err { OnErr result (self.new.state ≡ self.old.state) }
     {
-        let count = self.replica.applied().len();
-        let ahead = ahead_of(alloc, &self.replica, slice::from_ref(&op));
+        let count = self.replica.op_list().len();
+        let ahead = snapshot_of(alloc, &self.replica, slice::from_ref(&op));
         let delivered = self.replica.deliver(alloc, op);
         note_delivered(
             alloc,
@@ -302,7 +302,7 @@ impl Node {
         ensures stalled { IsTrue result.stalled ↔ HoldsRipe self.new.state }
         ensures at_most { result.applied ≤ held_limit }
     {
-        let count = self.replica.applied().len();
+        let count = self.replica.op_list().len();
         let drained = self.replica.drain(alloc);
         note_since(alloc, &self.replica, count, &self.sessions, &mut self.feeds);
         drained
@@ -323,7 +323,7 @@ impl Node {
         ensures orderly { IsOrderly self.now.state }
         ensures sound { AreSound IsSound self.now.state.applied }
     {
-        self.replica.applied()
+        self.replica.op_list()
     }
 
     /// The operations held until their causes come, by ascending ids. They are sound.
@@ -344,7 +344,7 @@ impl Node {
 
     /// Copies of the operations applied that the clock doesn't cover, in their order; `Err` where there is no memory for them.
     pub fn ops_since(&self, alloc: Global, clock: &Clock) -> Result<Vec<SoundOp>, AllocError>
-        ensures { IfOk result (λ ops. ops.items ≡ uncovered id_of clock.now self.now.state.applied) }
+        ensures { IfOk result (λ ops. ops.items ≡ uncovered_ops id_of clock.now self.now.state.applied) }
     {
         self.replica.ops_since(alloc, clock)
     }
@@ -371,7 +371,7 @@ impl Node {
     }
 
     /// The replica's part of the node: what its operations lead to.
-    pub fn replica(&self) -> &Replica
+    pub fn replica(&self) -> &ReplicaState
         ensures start { result.now.start ≡ self.now.state.start }
         ensures applied { result.now.applied ≡ self.now.state.applied }
         ensures held { result.now.held ≡ self.now.state.held }
@@ -381,12 +381,12 @@ impl Node {
 }
 
 /// Issues the operations, if there are any.
-fn issue(replica: &mut Replica, ops: ReadyOps)
+fn issue(replica: &mut ReplicaState, ops: ReadyOps)
     requires room { (ops ≡ [] → ⊥) → HasRoomFor replica.old.applied replica.old.room ops }
     requires issued { AreIssued id_of clock_of replica.old.applied ops }
     ensures start { replica.new.start ≡ replica.old.start }
     ensures applied { replica.new.applied ≡ replica.old.applied ++ ops }
-    ensures held { KeepsHeld ops replica.old.held replica.new.held }
+    ensures held { AreHeldAfter ops replica.old.held replica.new.held }
 {
     if ops.as_slice().is_empty() {
         drop(ops);
@@ -400,51 +400,51 @@ fn make_room(
     feeds: &mut Feeds,
     sessions: &Sessions,
     session: SessionNo,
-    outcome: &Result<Prepared, Refusal>,
+    outcome: &Result<PreparedInput, Refusal>,
 )
     ensures { (n : ℕ) → pending_at feeds.new n ≡ pending_at feeds.old n }
 {
     feeds.open(session);
     match outcome {
-        Ok(prepared) => feeds.ready(sessions, &prepared.news),
+        Ok(prepared) => feeds.ready(sessions, &prepared.change_notes),
         Err(_) => {}
     }
 }
 
 /// Makes of an open session what was planned.
-fn set_next(sessions: &mut Sessions, feeds: &mut Feeds, number: SessionNo, next: Next)
+fn set_next(sessions: &mut Sessions, feeds: &mut Feeds, number: SessionNo, next: SessionStep)
     requires opened { IsOpen sessions.old number }
-    requires can { (start : First) × (ops : List Operation) × ((s : One) → session_at sessions.old number ≡ Some s → CanStep start ops s next) }
-    ensures sessions { sessions.new ≡ with_session sessions.old number (place_next (session_at sessions.old number) next) }
-    ensures noted { (start : First) (ops : List Operation) → ((s : One) → session_at sessions.old number ≡ Some s → CanStep start ops s next) → AreAllNoted start ops sessions.old feeds.old → AreAllNoted start ops sessions.new feeds.new }
+    requires can { (start : Counters) × (ops : List Op) × ((s : Session) → session_at sessions.old number ≡ Some s → CanStep start ops s next) }
+    ensures sessions { sessions.new ≡ with_session sessions.old number (place_after_step (session_at sessions.old number) next) }
+    ensures noted { (start : Counters) (ops : List Op) → ((s : Session) → session_at sessions.old number ≡ Some s → CanStep start ops s next) → AreAllNoted start ops sessions.old feeds.old → AreAllNoted start ops sessions.new feeds.new }
 {
     match next {
-        Next::Stays => {}
-        Next::Leaves => sessions.leave(number),
-        Next::Wakes => sessions.wake(number),
-        Next::Goes { going } => feeds.go(sessions, number, going),
+        SessionStep::Stays => {}
+        SessionStep::Leaves => sessions.leave(number),
+        SessionStep::Wakes => sessions.wake(number),
+        SessionStep::Goes { going } => feeds.advance(sessions, number, going),
     }
 }
 
 /// Notes what a delivered operation changed, of which this was known before it; those that waited for it are noted as `note_since` says.
 fn note_delivered(
     alloc: Global,
-    replica: &Replica,
+    replica: &ReplicaState,
     count: usize,
-    ahead: Result<Ahead, AllocError>,
+    ahead: Result<MailboxSnapshot, AllocError>,
     sessions: &Sessions,
     feeds: &mut Feeds,
 )
     requires count { count ≤ length replica.now.applied }
-    requires ahead { IfOk ahead (λ a. (op : Operation) × IsAheadOf replica.now.start (take count replica.now.applied) (op ∷ []) (name_of op.kind) a × (length replica.now.applied ≡ count + 1 → replica.now.applied ≡ take count replica.now.applied ++ op ∷ [])) }
+    requires ahead { IfOk ahead (λ a. (op : Op) × IsSnapshotOf replica.now.start (take count replica.now.applied) (op ∷ []) (name_of op.kind) a × (length replica.now.applied ≡ count + 1 → replica.now.applied ≡ take count replica.now.applied ++ op ∷ [])) }
     ensures { AreAllNoted replica.now.start (take count replica.now.applied) sessions.now feeds.old → AreAllNoted replica.now.start replica.now.applied sessions.now feeds.new }
 {
-    if replica.applied().len() - count == 1 {
+    if replica.op_list().len() - count == 1 {
         if let Ok(ahead) = ahead {
-            match delivered_news(alloc, replica, ahead) {
-                Ok(news) => {
-                    feeds.ready(sessions, &news);
-                    feeds.note(sessions, &news);
+            match change_notes_of_delivery(alloc, replica, ahead) {
+                Ok(change_notes) => {
+                    feeds.ready(sessions, &change_notes);
+                    feeds.note(sessions, &change_notes);
                 }
                 Err(_) => feeds.miss_all(),
             }
@@ -457,22 +457,22 @@ fn note_delivered(
 /// Notes what the operations changed that were applied since there were so many.
 fn note_since(
     alloc: Global,
-    replica: &Replica,
+    replica: &ReplicaState,
     count: usize,
     sessions: &Sessions,
     feeds: &mut Feeds,
 )
     requires { count ≤ length replica.now.applied }
-    ensures { (start : First) → AreAllNoted start (take count replica.now.applied) sessions.now feeds.old → AreAllNoted start replica.now.applied sessions.now feeds.new }
+    ensures { (start : Counters) → AreAllNoted start (take count replica.now.applied) sessions.now feeds.old → AreAllNoted start replica.now.applied sessions.now feeds.new }
 {
-    let ops = replica.applied();
+    let ops = replica.op_list();
     if count == ops.len() {
         return;
     }
-    match coarse_news(alloc, &ops[count..]) {
-        Ok(news) => {
-            feeds.ready(sessions, &news);
-            feeds.note(sessions, &news);
+    match coarse_change_notes(alloc, &ops[count..]) {
+        Ok(change_notes) => {
+            feeds.ready(sessions, &change_notes);
+            feeds.note(sessions, &change_notes);
         }
         Err(_) => feeds.miss_all(),
     }
@@ -484,12 +484,12 @@ fn plan_by(
     number: SessionNo,
     state: &State,
     input: &Input,
-    outcome: Result<Prepared, Refusal>,
+    outcome: Result<PreparedInput, Refusal>,
 ) -> Plan
     ensures { result ≡ plan_by number state.now input.now outcome }
 {
     match outcome {
-        Ok(prepared) => done_plan(number, prepared),
+        Ok(prepared) => plan_of_prepared(number, prepared),
         Err(why) => Plan {
             number,
             reply: Reply::Refused {
@@ -497,23 +497,23 @@ fn plan_by(
                 closed: closes(state, input, why),
             },
             ops: ReadyOps::new(Vec::new(alloc)),
-            news: News::none(alloc),
-            next: next_left(state, input, why),
+            change_notes: ChangeNotes::none(alloc),
+            next: step_of_refusal(state, input, why),
         },
     }
 }
 
 /// The plan of an input that can be carried out.
-fn done_plan(number: SessionNo, prepared: Prepared) -> Plan
-    ensures { result ≡ done_plan number prepared }
+fn plan_of_prepared(number: SessionNo, prepared: PreparedInput) -> Plan
+    ensures { result ≡ plan_of_prepared number prepared }
 {
-    let Prepared {
+    let PreparedInput {
         answered,
         ops,
         copies,
-        news,
+        change_notes: change_notes,
     } = prepared;
-    let Answered {
+    let PreparedReply {
         answers,
         silent,
         going,
@@ -526,21 +526,21 @@ fn done_plan(number: SessionNo, prepared: Prepared) -> Plan
             issued: copies,
         },
         ops,
-        news,
-        next: Next::Goes { going },
+        change_notes: change_notes,
+        next: SessionStep::Goes { going },
     }
 }
 
 /// What becomes of the session of a refused input.
-fn next_left(state: &State, input: &Input, why: Refusal) -> Next
-    ensures { result ≡ next_left state.now input.now why }
+fn step_of_refusal(state: &State, input: &Input, why: Refusal) -> SessionStep
+    ensures { result ≡ step_of_refusal state.now input.now why }
 {
     if leaves(state, input) {
-        return Next::Leaves;
+        return SessionStep::Leaves;
     }
     if ends_idling(input, why) {
-        Next::Wakes
+        SessionStep::Wakes
     } else {
-        Next::Stays
+        SessionStep::Stays
     }
 }

@@ -2,10 +2,10 @@
 
 ghost use Rattle.std.specs.Prelude.{◌≡◌, ◌↔◌, ◌≤◌, ◌++◌, [], IfOk, OnOk, OnErr, IsTrue, Err, MatchResult};
 ghost use Rattle.causal_inbox.specs.Delivery.{Arrives, Refuses};
-ghost use Rattle.causal_inbox.specs.Seen.{AreIssued, AreKept, AreReleased, IsClockOf, IsLawful, IsStalled, held_limit, uncovered};
+ghost use Rattle.causal_inbox.specs.Inbox.{AreIssued, AreHeldStill, AreReleasedInTurn, IsClockOf, IsLawfulInbox, IsStalled, held_limit, uncovered_ops};
 ghost use Rattle.causal_inbox.specs.Stalls.{StallsFor};
-ghost use Rattle.causal_inbox.specs.declared.answers.IssueFault.TheVariants.{Exhausted as UsedUp};
-ghost use Rattle.crdt_ops.specs.Sets.{delete_set_of, folder_tags_of, folders_of, messages_of, subscribed_of, subscription_tags_of};
+ghost use Rattle.causal_inbox.specs.declared.delivery.IssueFault.TheVariants.{Exhausted as UsedUp};
+ghost use Rattle.crdt_ops.specs.Sets.{delete_set_of, folder_tags_of, folders_of, messages_of, subscribed_names_of, subscription_tags_of};
 ghost use Rattle.crdt_ops.specs.Sound.{IsSound};
 ghost use Rattle.folder_state.specs.Contents.{IsMadeBy};
 ghost use Rattle.folder_state.specs.Tables.{contents_of};
@@ -17,51 +17,51 @@ ghost use Rattle.subs_state.specs.Subscriptions.{IsMadeBy as AreMadeBy};
 ghost use Rattle.subs_state.specs.Table.{subscriptions_of};
 ghost use Rattle.uid_projection.specs.Applied.{IsApplied};
 ghost use Rattle.uid_projection.specs.Exhaustion.{Exhausts};
-ghost use Rattle.uid_projection.specs.Touched.{StayBut};
+ghost use Rattle.uid_projection.specs.TouchedMessages.{RowsStayExcept};
 ghost use Rattle.uid_projection.specs.Following.{Follows};
-ghost use Rattle.uid_projection.specs.Incarnations.{is_there, uidvalidity_of};
-ghost use Rattle.uid_projection.specs.Lines.{highest_modseq_of, uidnext_of};
+ghost use Rattle.uid_projection.specs.Incarnations.{folder_exists, uidvalidity_of};
+ghost use Rattle.uid_projection.specs.UidsAndModSeqs.{highest_modseq_of, uidnext_of};
 ghost use Rattle.uid_projection.specs.Listing.{listing};
 
 use causal_inbox::{DeliverFault, Delivered, Drained, HeldOps, Inbox, IssueFault, Stall};
 use crdt_ops::{Ids, Message, SoundOp};
 use folder_state::Folders;
 use imap_types::Name;
-use mail_listing::Rows;
-use merge_laws::{OnFirst, Pair};
+use mailbox_rows::Rows;
+use merge_laws::{FirstFollower, Pair};
 use std::alloc::{AllocError, Global};
 use std::marker::Model;
 use subs_state::Subs;
 use tags_clocks::{Clock, ReplicaId};
-use uid_projection::{Charts, Start};
+use uid_projection::{Charts, Counters};
 
 /// A replica without its sessions.
-pub struct Replica {
-    inbox: Inbox<Pair<Folders, Subs>, OnFirst<Charts>>,
+pub struct ReplicaState {
+    inbox: Inbox<Pair<Folders, Subs>, FirstFollower<Charts>>,
 }
 
 // By hand, so that crates above let it go as a whole.
-impl Drop for Replica {
+impl Drop for ReplicaState {
     fn drop(self) {
         let Self { inbox: _ } = self;
     }
 }
 
-impl Model for Replica {
+impl Model for ReplicaState {
     ghost use Rattle.indexmap.specs.Layout.{hash_map_code, hash_set_code};
     ghost use Rattle.std.specs.Coded.{codes};
-    ghost use Rattle.imap_node.specs.Nodes.{ReplicaKept};
+    ghost use Rattle.imap_node.specs.Nodes.{ReplicaWithRoom};
 
-    ghost Value = { ReplicaKept };
+    ghost Value = { ReplicaWithRoom };
 
     ghost coded = { Prim.hlevel (codes, hash_map_code, hash_set_code) };
 
     ghost view = { λ r. record { start = r.inbox.seen.start; applied = r.inbox.seen.applied; held = r.inbox.seen.held; room = r.inbox.room } };
 }
 
-impl Replica {
+impl ReplicaState {
     /// A replica of this name and these first numbers that has received nothing; `Err` where there is no memory for it.
-    pub fn new(alloc: Global, start: Start) -> Result<Replica, AllocError>
+    pub fn new(alloc: Global, start: Counters) -> Result<ReplicaState, AllocError>
         requires { 1 ≤ start.uid }
         ensures start { IfOk result (λ replica. replica.start ≡ start) }
         ensures applied { IfOk result (λ replica. replica.applied ≡ []) }
@@ -71,10 +71,10 @@ impl Replica {
             first: Folders::new(alloc),
             second: Subs::new(alloc),
         };
-        let follower = OnFirst {
+        let follower = FirstFollower {
             follower: Charts::new(alloc, start)?,
         };
-        Ok(Replica {
+        Ok(ReplicaState {
             inbox: Inbox::new(alloc, value, follower)?,
         })
     }
@@ -87,9 +87,9 @@ impl Replica {
     }
 
     /// The operations applied, in their order, which is causal.
-    pub fn applied(&self) -> &[SoundOp]
+    pub fn op_list(&self) -> &[SoundOp]
         ensures applied { result.now ≡ self.now.applied }
-        ensures lawful { IsLawful id_of clock_of (replica_received self.now) }
+        ensures lawful { IsLawfulInbox id_of clock_of (replica_received self.now) }
         ensures sound { AreSound IsSound self.now.applied }
     {
         self.inbox.op_list()
@@ -98,7 +98,7 @@ impl Replica {
     /// The operations held, by ascending ids.
     pub fn held(&self) -> HeldOps<'_, SoundOp>
         ensures held { result ≡ self.now.held }
-        ensures lawful { IsLawful id_of clock_of (replica_received self.now) }
+        ensures lawful { IsLawfulInbox id_of clock_of (replica_received self.now) }
         ensures sound { AreSound IsSound self.now.held }
     {
         let _list = self.inbox.op_list();
@@ -114,7 +114,7 @@ impl Replica {
 
     /// Copies of the operations applied that the clock doesn't cover, in their order; `Err` where there is no memory for them.
     pub fn ops_since(&self, alloc: Global, clock: &Clock) -> Result<Vec<SoundOp>, AllocError>
-        ensures { IfOk result (λ ops. ops.items ≡ uncovered id_of clock.now self.now.applied) }
+        ensures { IfOk result (λ ops. ops.items ≡ uncovered_ops id_of clock.now self.now.applied) }
     {
         self.inbox.ops_since(alloc, clock)
     }
@@ -137,7 +137,7 @@ impl Replica {
         requires issued { AreIssued id_of clock_of self.old.applied ops.items }
         ensures start { self.new.start ≡ self.old.start }
         ensures applied { self.new.applied ≡ self.old.applied ++ ops.items }
-        ensures held { AreKept id_of ops.items self.old.held self.new.held }
+        ensures held { AreHeldStill id_of ops.items self.old.held self.new.held }
     {
         self.inbox.issue(ops);
     }
@@ -154,7 +154,7 @@ impl Replica {
 
     /// Applies held operations whose causes were all applied, the least id first, until there is none or one is refused.
     pub fn drain(&mut self, alloc: Global) -> Drained
-        ensures released { AreReleased id_of clock_of Exhausts result.applied (replica_received self.old) (replica_received self.new) }
+        ensures released { AreReleasedInTurn id_of clock_of Exhausts result.applied (replica_received self.old) (replica_received self.new) }
         ensures stalled { IsTrue result.stalled ↔ IsStalled id_of clock_of (replica_received self.new) }
         ensures at_most { result.applied ≤ held_limit }
     {
@@ -173,7 +173,7 @@ impl Replica {
 
     /// Whether the mailbox is there. INBOX always is. Takes no memory.
     pub fn exists(&self, name: &Name) -> bool
-        ensures { result ≡ is_there name.now self.now.applied }
+        ensures { result ≡ folder_exists name.now self.now.applied }
     {
         self.folders_now().exists(name)
     }
@@ -208,8 +208,8 @@ impl Replica {
     }
 
     /// The names that are subscribed to, ascending, none twice; `Err` where there is no memory for them.
-    pub fn subscribed(&self, alloc: Global) -> Result<Vec<Name>, AllocError>
-        ensures { IfOk result (λ names. names.items ≡ subscribed_of self.now.applied) }
+    pub fn subscribed_names(&self, alloc: Global) -> Result<Vec<Name>, AllocError>
+        ensures { IfOk result (λ names. names.items ≡ subscribed_names_of self.now.applied) }
     {
         self.subs_now().names(alloc)
     }
@@ -244,16 +244,16 @@ impl Replica {
     }
 
     /// The UIDs of the mailbox's messages that these operations change or expunge, applied next; `Err` where there is no memory for them.
-    pub fn touched(
+    pub fn touched_uids(
         &self,
         alloc: Global,
         name: &Name,
         ops: &[SoundOp],
     ) -> Result<Vec<u32>, AllocError>
         ensures { IsApplied (self.now.applied ++ ops.now) → uidvalidity_of self.now.start name.now (self.now.applied ++ ops.now) ≡ uidvalidity_of self.now.start name.now self.now.applied
-            → IfOk result (λ uids. StayBut uids.items (uidnext_of self.now.start name.now self.now.applied) (listing self.now.start name.now self.now.applied) (listing self.now.start name.now (self.now.applied ++ ops.now))) }
+            → IfOk result (λ uids. RowsStayExcept uids.items (uidnext_of self.now.start name.now self.now.applied) (listing self.now.start name.now self.now.applied) (listing self.now.start name.now (self.now.applied ++ ops.now))) }
     {
-        self.charts_now().touched(alloc, name, ops)
+        self.charts_now().touched_uids(alloc, name, ops)
     }
 
     /// The mailbox's listing; `Err` where there is no memory for it.

@@ -7,7 +7,7 @@ use crate::shared_list::SharedList;
 use crdt_ops::SoundOp;
 use imap_answers::{Answer, Refusal};
 use merge_laws::Caused;
-use session_view::Silent;
+use session_view::SilentFlags;
 use std::alloc::{AllocError, Global};
 use std::marker::Model;
 
@@ -61,7 +61,7 @@ impl Answers {
 
 /// Flags that a session set in silence, in their order (RFC 9051, section 6.4.6). Copies share one memory.
 pub struct Silents {
-    silents: SharedList<Silent>,
+    silents: SharedList<SilentFlags>,
 }
 
 // By hand, so that crates above let it go as a whole.
@@ -73,16 +73,16 @@ impl Drop for Silents {
 
 impl Model for Silents {
     ghost use Rattle.std.specs.Prelude.{List};
-    ghost use Rattle.session_view.specs.declared.replaying.Silent.{Silent};
+    ghost use Rattle.session_view.specs.declared.reply_replay.SilentFlags.{SilentFlags};
 
-    ghost Value = { List Silent };
+    ghost Value = { List SilentFlags };
 
     ghost view = { λ s. s.silents };
 }
 
 impl Silents {
     /// These, whose memory it takes over; `Err` where there is no memory to share them.
-    pub fn new(silents: Vec<Silent>) -> Result<Silents, AllocError>
+    pub fn new(silents: Vec<SilentFlags>) -> Result<Silents, AllocError>
         ensures { IfOk result (λ shared. shared ≡ silents.items) }
     {
         Ok(Silents {
@@ -91,7 +91,7 @@ impl Silents {
     }
 
     /// The flags in order.
-    pub fn as_slice(&self) -> &[Silent]
+    pub fn as_slice(&self) -> &[SilentFlags]
         ensures { result.now ≡ self.now }
     {
         self.silents.as_slice()

@@ -1,6 +1,6 @@
 ghost use Rattle.std.specs.Prelude.{◌≡◌, ◌≢◌, ◌+◌, ◌-◌, ◌<◌, ◌≤◌, ◌↔◌, ◌++◌, ◌∷◌, [], ℕ, IsTrue, IsNone, IsSome, None, Some, Err, IfOk, IfErr, OnOk, OnErr, SomeIff, length, max, ◌==◌, if◌then◌else◌, slice_index_or, slice_set};
 ghost use Rattle.std.specs.Option.{option_copied, option_map};
-ghost use Rattle.imap_node.specs.Sessions.{IsOpen, awake, opened, session_at, unselected, with_changed};
+ghost use Rattle.imap_node.specs.Sessions.{IsOpen, without_idle, new_session, session_at, unselected, with_changed};
 ghost use Rattle.imap_node.specs.declared.sessions.OpenFault.TheVariants.{NoMemory, TooManySessions};
 
 use imap_commands::{Credentials, Session, State};
@@ -137,7 +137,7 @@ impl Sessions {
         if vacant >= MAX_SESSIONS {
             return Err(OpenFault::TooManySessions);
         }
-        open_in(&mut self.places, vacant, opened(auth))
+        open_in(&mut self.places, vacant, new_session(auth))
     }
 
     /// Changes an open session, or closes it by `None`.
@@ -159,15 +159,15 @@ impl Sessions {
     /// Ends the IDLE of an open session.
     pub fn wake(&mut self, session: SessionNo)
         requires { IsOpen self.old session }
-        ensures { self.new ≡ with_changed self.old session awake }
+        ensures { self.new ≡ with_changed self.old session without_idle }
     {
         wake_in(&mut self.places, session);
     }
 }
 
 /// A session as it begins.
-fn opened(auth: Auth) -> Session
-    ensures { result ≡ opened auth }
+fn new_session(auth: Auth) -> Session
+    ensures { result ≡ new_session auth }
 {
     let state = match auth {
         Auth::Preauth => State::Authenticated,
@@ -201,7 +201,7 @@ fn unselect(place: &mut Option<Session>)
 
 fn wake_in(places: &mut Vec<Option<Session>>, session: SessionNo)
     requires { IsOpen places.old.items session }
-    ensures { places.new.items ≡ with_changed places.old.items session awake }
+    ensures { places.new.items ≡ with_changed places.old.items session without_idle }
 {
     let place = session.get() - 1;
     if place < places.len() {
@@ -211,7 +211,7 @@ fn wake_in(places: &mut Vec<Option<Session>>, session: SessionNo)
 
 /// The session doesn't idle, and nothing else of it changes.
 fn wake(place: &mut Option<Session>)
-    ensures { place.new ≡ option_map awake place.old }
+    ensures { place.new ≡ option_map without_idle place.old }
 {
     if let Some(session) = place {
         session.idling = None;

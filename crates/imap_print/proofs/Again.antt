@@ -10,14 +10,14 @@ use Rattle.imap_types.specs.DateTimes.{is_digit}
 use Rattle.imap_types.specs.Keywords.{is_astring_octet}
 use Rattle.imap_print.specs.Appending.{spaced}
 use Rattle.imap_print.specs.Reading.{◌>>=◌, after, counted, field_at, is_in, lead, literal_at, number_from, numbers_where, or_else, quoted_from, run_at, run_or, runs_at, runs_on, set_at, small, span, string_at, string_or, with_front, with_octet}
-use Rattle.imap_answers.specs.Strings.{escaped_octet, field_text, has_line_octet, is_plain, literal_text, name_text, quoted_text, run_text, separated, set_text}
+use Rattle.imap_answers.specs.Strings.{escaped_octet, field_text, has_line_octet, is_plain, literal_text, name_text, quoted_string, run_text, separated_by, set_text}
 use Rattle.imap_answers.specs.Printable.{IsSet}
 use Rattle.imap_types.proofs.NumbersLemmas.{greatest-runs, numbers_in-runs_of, runs_of-are_runs, test_from_runs}
 use Rattle.imap_types.specs.Numbers.{AreRunsFrom, are_runs_from, greatest, numbers_in, runs_of}
 use Rattle.imap_types.specs.declared.number_set.Run.{Run}
-use Rattle.imap_types.specs.Names.{folded_name, inbox, is_inbox}
-use Rattle.imap_print.specs.declared.scan.Class.{Class}
-use Rattle.imap_print.specs.declared.scan.Class.TheVariants.{Astring}
+use Rattle.imap_types.specs.Names.{fold_inbox, inbox, is_inbox}
+use Rattle.imap_print.specs.declared.scanner.ScanClass.{ScanClass}
+use Rattle.imap_print.specs.declared.scanner.ScanClass.TheVariants.{Astring}
 
 -- a prefix is there
 pub after-again : (ps rest : List ℕ) → after ps (ps ++ rest) ≡ Some rest
@@ -59,7 +59,7 @@ apart-more (l ∷ ls) (m ∷ ms) rest h =
     ]
 
 -- the octets of a class, up to one that isn't
-pub span-again : (class : Class) (front rest : List ℕ) → list_all (is_in class) front ≡ true → span (is_in class) rest ≡ ([], rest) → span (is_in class) (front ++ rest) ≡ (front, rest)
+pub span-again : (class : ScanClass) (front rest : List ℕ) → list_all (is_in class) front ≡ true → span (is_in class) rest ≡ ([], rest) → span (is_in class) (front ++ rest) ≡ (front, rest)
 span-again class [] rest a h = h
 span-again class (b ∷ front) rest a h =
     let p = and_parts (is_in class b) (list_all (is_in class) front) a in
@@ -151,19 +151,19 @@ plain-again string rest h s =
     let p = plain_parts string h in
     subst (λ (x : List ℕ). string_at (x ++ rest) ≡ Some (x, rest)) (sym p.2) (unquoted p.0 p.1 rest p.3 (subst (λ (x : List ℕ). list_all is_astring_octet x ≡ true) p.2 p.4) s)
 
-quotes-again : (string rest : List ℕ) → string_at (quoted_text string ++ rest) ≡ Some (string, rest)
+quotes-again : (string rest : List ℕ) → string_at (quoted_string string ++ rest) ≡ Some (string, rest)
 quotes-again string rest = ap (quoted_from false) (append_assoc (flat_map escaped_octet string) (34 ∷ []) rest) ∙ quoted-again string rest
 
-plain_or_quoted : (b : Bool) (name rest : List ℕ) → is_plain name ≡ b → span (is_in Astring) rest ≡ ([], rest) → string_at (cond b name (quoted_text name) ++ rest) ≡ Some (name, rest)
+plain_or_quoted : (b : Bool) (name rest : List ℕ) → is_plain name ≡ b → span (is_in Astring) rest ≡ ([], rest) → string_at (cond b name (quoted_string name) ++ rest) ≡ Some (name, rest)
 plain_or_quoted true name rest e s = plain-again name rest e s
 plain_or_quoted false name rest e s = quotes-again name rest
 
-name_by : (b : Bool) (name rest : List ℕ) → is_inbox name ≡ b → cond b inbox name ≡ name → span (is_in Astring) rest ≡ ([], rest) → string_at (cond b inbox (cond (is_plain name) name (quoted_text name)) ++ rest) ≡ Some (name, rest)
+name_by : (b : Bool) (name rest : List ℕ) → is_inbox name ≡ b → cond b inbox name ≡ name → span (is_in Astring) rest ≡ ([], rest) → string_at (cond b inbox (cond (is_plain name) name (quoted_string name)) ++ rest) ≡ Some (name, rest)
 name_by true name rest e f s = plain-again inbox rest refl s ∙ ap (λ (n : List ℕ). Some (n, rest)) f
 name_by false name rest e f s = plain_or_quoted (is_plain name) name rest refl s
 
 -- a name, up to what ends it
-pub name-again : (name rest : List ℕ) → folded_name name ≡ name → span (is_in Astring) rest ≡ ([], rest) → string_at (name_text name ++ rest) ≡ Some (name, rest)
+pub name-again : (name rest : List ℕ) → fold_inbox name ≡ name → span (is_in Astring) rest ≡ ([], rest) → string_at (name_text name ++ rest) ≡ Some (name, rest)
 name-again name rest f s = name_by (is_inbox name) name rest refl f s
 
 -- a literal
@@ -182,7 +182,7 @@ literal-again string rest l =
     ∙ counted-again string rest
 
 -- the name of a header field
-field_or : (b d : Bool) (name rest : List ℕ) → is_plain name ≡ b → length name < 2 ^ 64 → span (is_in Astring) rest ≡ ([], rest) → field_at (cond b name (cond d (literal_text name) (quoted_text name)) ++ rest) ≡ Some (name, rest)
+field_or : (b d : Bool) (name rest : List ℕ) → is_plain name ≡ b → length name < 2 ^ 64 → span (is_in Astring) rest ≡ ([], rest) → field_at (cond b name (cond d (literal_text name) (quoted_string name)) ++ rest) ≡ Some (name, rest)
 unfolding field_at literal_at
 field_or true d name rest e l s =
     let p = plain_parts name e in
@@ -233,7 +233,7 @@ AreSmallRuns : List Run → Type 0
 AreSmallRuns [] = Unit {0}
 AreSmallRuns (r ∷ rs) = (r.first ≤ r.last) × (r.last < 2 ^ 32) × AreSmallRuns rs
 
-runs-again : (fuel : ℕ) (r : Run) (rs : List Run) (rest : List ℕ) → length (r ∷ rs) ≤ fuel → AreSmallRuns (r ∷ rs) → EndsSet rest → runs_at fuel (separated 44 (map run_text (r ∷ rs)) ++ rest) ≡ Some (r ∷ rs, rest)
+runs-again : (fuel : ℕ) (r : Run) (rs : List Run) (rest : List ℕ) → length (r ∷ rs) ≤ fuel → AreSmallRuns (r ∷ rs) → EndsSet rest → runs_at fuel (separated_by 44 (map run_text (r ∷ rs)) ++ rest) ≡ Some (r ∷ rs, rest)
 unfolding AreSmallRuns
 runs-again zero r rs rest l a e = absurd (omega arith)
 runs-again (suc fuel) r [] rest l a e =
@@ -242,9 +242,9 @@ runs-again (suc fuel) r [] rest l a e =
     ap (λ (x : Run × List ℕ). runs_on x.0 (after (codes ",") x.1) x.1 (runs_at fuel)) read
     ∙ ap (λ o. runs_on r o rest (runs_at fuel)) e.comma
 runs-again (suc fuel) r (s ∷ rs) rest l a e =
-    let more = separated 44 (map run_text (s ∷ rs)) ++ rest in
-    let whole : (run_text r ++ (44 ∷ separated 44 (map run_text (s ∷ rs)))) ++ rest ≡ run_text r ++ (44 ∷ more) = append_assoc (run_text r) (44 ∷ separated 44 (map run_text (s ∷ rs))) rest in
-    let read : run_at ((run_text r ++ (44 ∷ separated 44 (map run_text (s ∷ rs)))) ++ rest) ≡ (r, 44 ∷ more) = ap run_at whole ∙ run-again r (44 ∷ more) a.0 a.1 (λ n. refl) refl in
+    let more = separated_by 44 (map run_text (s ∷ rs)) ++ rest in
+    let whole : (run_text r ++ (44 ∷ separated_by 44 (map run_text (s ∷ rs)))) ++ rest ≡ run_text r ++ (44 ∷ more) = append_assoc (run_text r) (44 ∷ separated_by 44 (map run_text (s ∷ rs))) rest in
+    let read : run_at ((run_text r ++ (44 ∷ separated_by 44 (map run_text (s ∷ rs)))) ++ rest) ≡ (r, 44 ∷ more) = ap run_at whole ∙ run-again r (44 ∷ more) a.0 a.1 (λ n. refl) refl in
     ap (λ (x : Run × List ℕ). runs_on x.0 (after (codes ",") x.1) x.1 (runs_at fuel)) read
     ∙ ap (with_front (r ∷ [])) (runs-again fuel s rs rest (omega arith) a.2 e)
 
@@ -254,11 +254,11 @@ run_filled r l = elim (cases_Bool (eqb r.first r.last)) [
   | inr f ↦ rw f (omega (arith, decimal_nonempty r.first (omega arith), length-append (decimal r.first ++ codes ":") (decimal r.last), length-append (decimal r.first) (codes ":")))
 ]
 
-runs_fit : (r : Run) (rs : List Run) (rest : List ℕ) → AreSmallRuns (r ∷ rs) → length (r ∷ rs) ≤ length (separated 44 (map run_text (r ∷ rs)) ++ rest)
+runs_fit : (r : Run) (rs : List Run) (rest : List ℕ) → AreSmallRuns (r ∷ rs) → length (r ∷ rs) ≤ length (separated_by 44 (map run_text (r ∷ rs)) ++ rest)
 unfolding AreSmallRuns
 runs_fit r [] rest a = omega (arith, run_filled r (omega (arith, a.0, a.1)), length-append (run_text r ++ []) rest, length-append (run_text r) [])
 runs_fit r (s ∷ rs) rest a =
-    omega (arith, runs_fit s rs rest a.2, run_filled r (omega (arith, a.0, a.1)), length-append (run_text r ++ (44 ∷ separated 44 (map run_text (s ∷ rs)))) rest, length-append (run_text r) (44 ∷ separated 44 (map run_text (s ∷ rs))), length-append (separated 44 (map run_text (s ∷ rs))) rest)
+    omega (arith, runs_fit s rs rest a.2, run_filled r (omega (arith, a.0, a.1)), length-append (run_text r ++ (44 ∷ separated_by 44 (map run_text (s ∷ rs)))) rest, length-append (run_text r) (44 ∷ separated_by 44 (map run_text (s ∷ rs))), length-append (separated_by 44 (map run_text (s ∷ rs))) rest)
 
 small_runs : (low : ℕ) (rs : List Run) → AreRunsFrom low rs → greatest (numbers_in rs) < 2 ^ 32 → AreSmallRuns rs
 unfolding AreSmallRuns
@@ -267,12 +267,12 @@ small_runs low (r ∷ rs) h g =
     let k : greatest (numbers_in (r ∷ rs)) ≡ max r.last (greatest (numbers_in rs)) = greatest-runs r rs h.1 in
     (h.1, omega arith, small_runs (r.last + 2) rs h.2 (omega arith))
 
-set_by : (numbers : List ℕ) (rs : List Run) (rest : List ℕ) → AreRunsFrom 1 rs → numbers_in rs ≡ numbers → 0 < length numbers → greatest numbers < 2 ^ 32 → EndsSet rest → set_at (separated 44 (map run_text rs) ++ rest) ≡ Some (numbers, rest)
+set_by : (numbers : List ℕ) (rs : List Run) (rest : List ℕ) → AreRunsFrom 1 rs → numbers_in rs ≡ numbers → 0 < length numbers → greatest numbers < 2 ^ 32 → EndsSet rest → set_at (separated_by 44 (map run_text rs) ++ rest) ≡ Some (numbers, rest)
 unfolding set_at
 set_by numbers [] rest a n f g e = absurd (omega (arith, ap length n))
 set_by numbers (r ∷ rs) rest a n f g e =
     let fits : AreSmallRuns (r ∷ rs) = small_runs 1 (r ∷ rs) a (subst (λ (x : List ℕ). greatest x < 2 ^ 32) (sym n) g) in
-    let bytes = separated 44 (map run_text (r ∷ rs)) ++ rest in
+    let bytes = separated_by 44 (map run_text (r ∷ rs)) ++ rest in
     ap (λ o. o >>= λ runs. numbers_where (are_runs_from 1 runs.0) runs.0 runs.1) (runs-again (length bytes) r rs rest (runs_fit r rs rest fits) fits e)
     ∙ ap (λ b. numbers_where b (r ∷ rs) rest) (test_from_runs 1 (r ∷ rs) a)
     ∙ ap (λ (x : List ℕ). Some (x, rest)) n
@@ -282,7 +282,7 @@ pub set-again : (numbers rest : List ℕ) → IsSet numbers → EndsSet rest →
 set-again numbers rest s e = set_by numbers (runs_of numbers) rest (runs_of-are_runs 1 numbers s.rising) (numbers_in-runs_of 1 numbers s.rising) s.filled s.small e
 
 -- the name of a header field doesn't begin with a parenthesis
-field_apart_by : (b d : Bool) (name : List ℕ) → is_plain name ≡ b → apart (41 ∷ []) (cond b name (cond d (literal_text name) (quoted_text name))) ≡ true
+field_apart_by : (b d : Bool) (name : List ℕ) → is_plain name ≡ b → apart (41 ∷ []) (cond b name (cond d (literal_text name) (quoted_string name))) ≡ true
 field_apart_by true d name e =
     let p = plain_parts name e in
     ap (apart (41 ∷ [])) p.2 ∙ ap (λ b. cond b (apart [] p.1) true) (not_octet 41 p.0 refl p.3)
@@ -292,7 +292,7 @@ field_apart_by false false name e = refl
 pub field_apart : (name : List ℕ) → apart (41 ∷ []) (field_text name) ≡ true
 field_apart name = field_apart_by (is_plain name) (has_line_octet name) name refl
 
-field_filled_by : (b d : Bool) (name : List ℕ) → is_plain name ≡ b → 0 < length (cond b name (cond d (literal_text name) (quoted_text name)))
+field_filled_by : (b d : Bool) (name : List ℕ) → is_plain name ≡ b → 0 < length (cond b name (cond d (literal_text name) (quoted_string name)))
 field_filled_by true d name e =
     let p = plain_parts name e in
     let l : length name ≡ suc (length p.1) = ap length p.2 in

@@ -3,7 +3,7 @@ use Rattle.std.proofs.lemmas.Bool.{ne_eqb}
 use Rattle.std.proofs.lemmas.Fmt.{decimal_by_steps}
 use Rattle.std.specs.Fmt.{decimal}
 use Rattle.imap_types.specs.Keywords.{is_tag_octet}
-use Rattle.imap_types.specs.declared.flags.Flags.{Flags as FlagSet}
+use Rattle.imap_types.specs.declared.flags.Flags.{Flags}
 use Rattle.imap_answers.specs.declared.answer.Answer.{Answer}
 use Rattle.imap_answers.specs.declared.answer.Answer.TheVariants as answer
 use Rattle.imap_answers.specs.declared.codes.Code.{Code}
@@ -14,26 +14,26 @@ use Rattle.imap_answers.specs.declared.mailbox.MailboxState.{MailboxState}
 use Rattle.imap_answers.specs.declared.mailbox.MailboxState.TheVariants as state
 use Rattle.imap_answers.specs.declared.mailbox.SearchResults.{SearchResults}
 use Rattle.imap_answers.specs.declared.mailbox.StatusItems.{StatusItems}
-use Rattle.imap_answers.specs.declared.fetched.FetchItems.{FetchItems}
-use Rattle.imap_print.specs.declared.scan.Class.TheVariants.{Tag}
-use Rattle.imap_answers.specs.declared.words.Login.{Login}
-use Rattle.imap_answers.specs.declared.words.Login.TheVariants as login
-use Rattle.imap_answers.specs.declared.words.Continuation.{Continuation}
-use Rattle.imap_answers.specs.declared.words.Continuation.TheVariants as continuation
-use Rattle.imap_answers.specs.declared.words.Enabled.{Enabled}
-use Rattle.imap_answers.specs.declared.words.Enabled.TheVariants as enabled
-use Rattle.imap_answers.specs.declared.words.ByeReason.{ByeReason}
-use Rattle.imap_answers.specs.declared.words.ByeReason.TheVariants as bye
-use Rattle.imap_answers.specs.declared.words.Refusal.{Refusal}
-use Rattle.imap_answers.specs.declared.words.Refusal.TheVariants as refusal
-use Rattle.imap_answers.specs.declared.words.CommandWord.{CommandWord}
-use Rattle.imap_answers.specs.declared.words.CommandWord.TheVariants as command
+use Rattle.imap_answers.specs.declared.fetch_items.FetchItems.{FetchItems}
+use Rattle.imap_print.specs.declared.scanner.ScanClass.TheVariants.{Tag}
+use Rattle.imap_answers.specs.declared.fixed_words.Login.{Login}
+use Rattle.imap_answers.specs.declared.fixed_words.Login.TheVariants as login
+use Rattle.imap_answers.specs.declared.fixed_words.Continuation.{Continuation}
+use Rattle.imap_answers.specs.declared.fixed_words.Continuation.TheVariants as continuation
+use Rattle.imap_answers.specs.declared.fixed_words.EnabledExtensions.{EnabledExtensions}
+use Rattle.imap_answers.specs.declared.fixed_words.EnabledExtensions.TheVariants as enabled
+use Rattle.imap_answers.specs.declared.fixed_words.ByeReason.{ByeReason}
+use Rattle.imap_answers.specs.declared.fixed_words.ByeReason.TheVariants as bye
+use Rattle.imap_answers.specs.declared.fixed_words.Refusal.{Refusal}
+use Rattle.imap_answers.specs.declared.fixed_words.Refusal.TheVariants as refusal
+use Rattle.imap_answers.specs.declared.fixed_words.CompletedWord.{CompletedWord}
+use Rattle.imap_answers.specs.declared.fixed_words.CompletedWord.TheVariants as command
 use Rattle.imap_print.specs.Appending.{spaced}
 use Rattle.imap_answers.specs.Printable.{AreFetchItems, AreFlags, AreResults, AreStatusItems, IsCode, IsFolded, IsNotice, IsPrintable, IsSet, IsSmall, IsTag, Where}
-use Rattle.imap_answers.specs.Printed.{answer_text, code_before, code_text, fetch_texts, notice_text, permanent_text, printed, results_text, sets_text, status_texts, uid_mark}
+use Rattle.imap_answers.specs.Printed.{line_of_answer, code_before, code_text, fetch_texts, notice_text, permanent_text, text_of_answer, results_text, sets_text, status_texts, uid_mark}
 use Rattle.imap_print.specs.Reading.{◌>>=◌, after, followed, is_in, number_from, set_at, small, span, within, word_at}
 use Rattle.imap_print.specs.ReadingAnswers.{answer_at, appended_at, behind, code_at, code_before_at, code_or, coded_at, completed_at, copied_at, done_at, fetch_at, fixed_at, last_set_at, line_at, list_at, modified_at, notice_at, numbered_at, permanent_at, permanent_notice_at, search_at, search_from, sets_at, star_at, status_at, status_items_at, status_list_at, tagged_at, tell_at, untagged_at, worded_at}
-use Rattle.imap_answers.specs.Strings.{crlf, name_text, separated, set_text}
+use Rattle.imap_answers.specs.Strings.{crlf, name_text, separated_by, set_text}
 use Rattle.imap_print.specs.Tables.{commands}
 use Rattle.imap_answers.specs.Words.{attributes_text, bye_text, command_text, continuation_text, enabled_text, greeting_text, refusal_text}
 use Rattle.imap_print.proofs.Again.{name-again, number-again, set-again, small-again, span-again, word_parts}
@@ -74,7 +74,7 @@ copied-again u s c rest h i j =
     ∙ ap (λ k. Some ((k, s, c), rest)) (small-again u h)
 
 -- the flags that can be changed for good
-permanent-notice-again : (flags : Option FlagSet) (rest : List ℕ) → Where AreFlags flags → permanent_notice_at (permanent_text flags ++ (93 ∷ rest)) ≡ Some (notice.PermanentFlags flags, rest)
+permanent-notice-again : (flags : Option Flags) (rest : List ℕ) → Where AreFlags flags → permanent_notice_at (permanent_text flags ++ (93 ∷ rest)) ≡ Some (notice.PermanentFlags flags, rest)
 unfolding permanent_notice_at
 permanent-notice-again flags rest h = ap (λ o. o >>= λ flags. followed (notice.PermanentFlags flags.0) (after (codes "]") flags.1)) (permanent-again flags (93 ∷ rest) h)
 
@@ -137,7 +137,7 @@ code-before-again (Some c) rest h n =
     ∙ ap (λ o. o >>= λ code. followed (Some code.0) (after (codes " ") code.1)) (code-again c (32 ∷ rest) h)
 
 -- the words of commands
-word-again : (w : CommandWord) (rest : List ℕ) → word_at command_text commands (command_text w ++ rest) ≡ Some (w, rest)
+word-again : (w : CompletedWord) (rest : List ℕ) → word_at command_text commands (command_text w ++ rest) ≡ Some (w, rest)
 word-again command.Capability rest = refl
 word-again command.Noop rest = refl
 word-again command.Logout rest = refl
@@ -169,7 +169,7 @@ word-again command.UidCopy rest = refl
 word-again command.UidMove rest = refl
 word-again command.UidExpunge rest = refl
 
-no_code : (w : CommandWord) (rest : List ℕ) → after (codes "[") (command_text w ++ rest) ≡ None
+no_code : (w : CompletedWord) (rest : List ℕ) → after (codes "[") (command_text w ++ rest) ≡ None
 no_code command.Capability rest = refl
 no_code command.Noop rest = refl
 no_code command.Logout rest = refl
@@ -224,11 +224,11 @@ refused-again tag refusal.NotNow rest = refl
 refused-again tag refusal.NoSuchMessage rest = refl
 refused-again tag refusal.DoneExpected rest = refl
 
-command-done-again : (w : CommandWord) (rest : List ℕ) → done_at (command_text w ++ (codes " completed" ++ rest)) ≡ Some (w, rest)
+command-done-again : (w : CompletedWord) (rest : List ℕ) → done_at (command_text w ++ (codes " completed" ++ rest)) ≡ Some (w, rest)
 unfolding done_at
 command-done-again w rest = ap (λ o. o >>= λ command. followed command.0 (after (codes " completed") command.1)) (word-again w (codes " completed" ++ rest))
 
-completed-again : (tag : List ℕ) (c : Option Code) (w : CommandWord) (rest : List ℕ) → Where IsCode c → completed_at tag (code_before c ++ (command_text w ++ (codes " completed" ++ rest))) ≡ Some (answer.Completed tag c w, rest)
+completed-again : (tag : List ℕ) (c : Option Code) (w : CompletedWord) (rest : List ℕ) → Where IsCode c → completed_at tag (code_before c ++ (command_text w ++ (codes " completed" ++ rest))) ≡ Some (answer.Completed tag c w, rest)
 unfolding completed_at
 completed-again tag c w rest h =
     let more = command_text w ++ (codes " completed" ++ rest) in
@@ -277,7 +277,7 @@ unfolding answer_at star_at
 continuation-again continuation.Ready rest = refl
 continuation-again continuation.Idling rest = refl
 
-enabled-again : (x : Enabled) (rest : List ℕ) → answer_at (enabled_text x ++ (13 ∷ 10 ∷ rest)) ≡ Some (answer.Enabled x, 13 ∷ 10 ∷ rest)
+enabled-again : (x : EnabledExtensions) (rest : List ℕ) → answer_at (enabled_text x ++ (13 ∷ 10 ∷ rest)) ≡ Some (answer.Enabled x, 13 ∷ 10 ∷ rest)
 unfolding answer_at star_at
 enabled-again enabled.Nothing rest = refl
 enabled-again enabled.Condstore rest = refl
@@ -382,8 +382,8 @@ unfolding tagged_at
 done_again tag more = refl
 
 -- an answer, up to the end of its line
-answer-again : (a : Answer) (rest : List ℕ) → IsPrintable a → answer_at (answer_text a ++ (13 ∷ 10 ∷ rest)) ≡ Some (a, 13 ∷ 10 ∷ rest)
-unfolding answer_text answer_at star_at untagged_at worded_at fixed_at
+answer-again : (a : Answer) (rest : List ℕ) → IsPrintable a → answer_at (line_of_answer a ++ (13 ∷ 10 ∷ rest)) ≡ Some (a, 13 ∷ 10 ∷ rest)
+unfolding line_of_answer answer_at star_at untagged_at worded_at fixed_at
 answer-again (answer.Greeting login) rest h = greeting-again login rest
 answer-again (answer.Continue awaited) rest h = continuation-again awaited rest
 answer-again answer.Capability rest h = refl
@@ -402,7 +402,7 @@ answer-again (answer.Tell n) rest h =
     let whole : (notice_text n ++ codes " ok") ++ (13 ∷ 10 ∷ rest) ≡ notice_text n ++ (codes " ok" ++ (13 ∷ 10 ∷ rest)) = append_assoc (notice_text n) (codes " ok") (13 ∷ 10 ∷ rest) in
     ap (λ (x : List ℕ). answer_at (codes "* OK " ++ x)) whole ∙ told n (codes " ok" ++ (13 ∷ 10 ∷ rest)) ∙ tell-again n (13 ∷ 10 ∷ rest) h
 answer-again (answer.Status name items) rest h =
-    let texts = separated 32 (status_texts items) in
+    let texts = separated_by 32 (status_texts items) in
     let whole : (name_text name ++ codes " (" ++ texts ++ codes ")") ++ (13 ∷ 10 ∷ rest) ≡ name_text name ++ (codes " (" ++ (texts ++ (41 ∷ 13 ∷ 10 ∷ rest))) =
     append_assoc (name_text name ++ codes " (" ++ texts) (codes ")") (13 ∷ 10 ∷ rest) ∙ append_assoc (name_text name ++ codes " (") texts (41 ∷ 13 ∷ 10 ∷ rest) ∙ append_assoc (name_text name) (codes " (") (texts ++ (41 ∷ 13 ∷ 10 ∷ rest)) in
     ap status_at whole ∙ status-again name items (13 ∷ 10 ∷ rest) h.0 h.1
@@ -411,7 +411,7 @@ answer-again (answer.Search tag by_uid results) rest h =
     append_assoc (tag ++ uid_mark by_uid) (results_text results) (13 ∷ 10 ∷ rest) ∙ append_assoc tag (uid_mark by_uid) (results_text results ++ (13 ∷ 10 ∷ rest)) in
     ap search_at whole ∙ search-again tag by_uid results (10 ∷ rest) h.0 h.1
 answer-again (answer.Fetch number items) rest h =
-    let texts = separated 32 (fetch_texts items) in
+    let texts = separated_by 32 (fetch_texts items) in
     let whole : (decimal number ++ codes " FETCH (" ++ texts ++ codes ")") ++ (13 ∷ 10 ∷ rest) ≡ decimal number ++ (codes " FETCH (" ++ (texts ++ (41 ∷ 13 ∷ 10 ∷ rest))) =
     append_assoc (decimal number ++ codes " FETCH (" ++ texts) (codes ")") (13 ∷ 10 ∷ rest) ∙ append_assoc (decimal number ++ codes " FETCH (") texts (41 ∷ 13 ∷ 10 ∷ rest) ∙ append_assoc (decimal number) (codes " FETCH (") (texts ++ (41 ∷ 13 ∷ 10 ∷ rest)) in
     ap (λ (x : List ℕ). answer_at (42 ∷ 32 ∷ x)) whole ∙ fetch-again number items (13 ∷ 10 ∷ rest) h.0.1 h.1
@@ -432,8 +432,8 @@ answer-again (answer.Refused tag reason) rest h =
     ap answer_at whole ∙ tagged-again tag (refusal_text reason ++ (13 ∷ 10 ∷ rest)) h ∙ refused-again tag reason (13 ∷ 10 ∷ rest)
 
 -- what is printed is read, whatever follows it
-pub line-again : (a : Answer) (rest : List ℕ) → IsPrintable a → line_at (printed a ++ rest) ≡ Some (a, rest)
+pub line-again : (a : Answer) (rest : List ℕ) → IsPrintable a → line_at (text_of_answer a ++ rest) ≡ Some (a, rest)
 unfolding line_at
 line-again a rest h =
-    ap line_at (append_assoc (answer_text a) crlf rest)
+    ap line_at (append_assoc (line_of_answer a) crlf rest)
     ∙ ap (λ o. o >>= λ found. followed found.0 (after crlf found.1)) (answer-again a rest h)

@@ -7,7 +7,7 @@ use Rattle.std.specs.List.{list_all}
 use Rattle.imap_types.specs.DateTimeTests.{is_date_time}
 use Rattle.imap_types.specs.DateTimes.{IsDateTime}
 use Rattle.imap_types.specs.declared.date_time.DateTime.{DateTime}
-use Rattle.imap_types.specs.declared.flags.Flags.{Flags as FlagSet}
+use Rattle.imap_types.specs.declared.flags.Flags.{Flags}
 use Rattle.imap_types.specs.declared.section.Section.{Section}
 use Rattle.imap_types.specs.declared.section.Section.TheVariants as section
 use Rattle.imap_types.proofs.DateTimeLemmas.{test_from_date_time}
@@ -16,12 +16,12 @@ use Rattle.imap_answers.specs.Printable.{AreFetchItems, AreFlags, AreHits, AreRe
 use Rattle.imap_answers.specs.Printed.{all_text, body_text, date_item, fetch_texts, flags_item, flags_text, modseq_item, origin_text, results_text, section_text, status_texts}
 use Rattle.imap_print.specs.Reading.{◌>>=◌, Listed, after, counted, field_at, is_in, item_at, lead, literal_at, number_from, small, span, with_front, within}
 use Rattle.imap_print.specs.ReadingAnswers.{all_or, bodies_at, bodies_on, body_at, data_at, date_at, date_or, fetch_items_at, fields_at, fields_on, flags_or, modseq_or, origin_or, results_at, section_at, small_option, status_items_at}
-use Rattle.imap_answers.specs.Strings.{field_text, item, labelled, literal_text, separated, set_text}
-use Rattle.imap_answers.specs.declared.fetched.FetchItems.{FetchItems}
-use Rattle.imap_answers.specs.declared.fetched.SectionData.{SectionData}
+use Rattle.imap_answers.specs.Strings.{field_text, item, labelled_number, literal_text, separated_by, set_text}
+use Rattle.imap_answers.specs.declared.fetch_items.FetchItems.{FetchItems}
+use Rattle.imap_answers.specs.declared.fetch_items.SectionData.{SectionData}
 use Rattle.imap_answers.specs.declared.mailbox.SearchResults.{SearchResults}
 use Rattle.imap_answers.specs.declared.mailbox.StatusItems.{StatusItems}
-use Rattle.imap_print.specs.declared.scan.Class.TheVariants.{Astring}
+use Rattle.imap_print.specs.declared.scanner.ScanClass.TheVariants.{Astring}
 use Rattle.imap_print.proofs.Again.{EndsSet, after-apart, apart, apart-more, counted-again, field-again, field-filled, field_apart, literal-again, not_begun, number-again, set-again, small-again, spaced-front}
 use Rattle.imap_print.proofs.AgainLists.{flags-again, item-again, lead-again, lead-open, lead-parts, not_first, still_first}
 
@@ -135,11 +135,11 @@ fields_filled : (names : List (List ℕ)) → Each (λ (t : List ℕ). 0 < lengt
 fields_filled [] = tt
 fields_filled (name ∷ names) = (field-filled name, fields_filled names)
 
-fields_listed : (names : List (List ℕ)) (rest : List ℕ) → Each (λ (name : List ℕ). IsWide (length name)) names → fields_at (length ((separated 32 (map field_text names) ++ (41 ∷ [])) ++ rest) + 1) true ((separated 32 (map field_text names) ++ (41 ∷ [])) ++ rest) ≡ Some (names, rest)
+fields_listed : (names : List (List ℕ)) (rest : List ℕ) → Each (λ (name : List ℕ). IsWide (length name)) names → fields_at (length ((separated_by 32 (map field_text names) ++ (41 ∷ [])) ++ rest) + 1) true ((separated_by 32 (map field_text names) ++ (41 ∷ [])) ++ rest) ≡ Some (names, rest)
 fields_listed names rest w =
-    let whole : (separated 32 (map field_text names) ++ (41 ∷ [])) ++ rest ≡ spaced true (map field_text names) ++ (41 ∷ rest) = append_assoc (separated 32 (map field_text names)) (41 ∷ []) rest in
-    let fits : length names < length ((separated 32 (map field_text names) ++ (41 ∷ [])) ++ rest) + 1 = omega (arith, ap length whole, texts_fit true (map field_text names) (41 ∷ rest) (fields_filled names), length-map names field_text) in
-    ap (fields_at (length ((separated 32 (map field_text names) ++ (41 ∷ [])) ++ rest) + 1) true) whole ∙ fields-again _ true names rest w fits
+    let whole : (separated_by 32 (map field_text names) ++ (41 ∷ [])) ++ rest ≡ spaced true (map field_text names) ++ (41 ∷ rest) = append_assoc (separated_by 32 (map field_text names)) (41 ∷ []) rest in
+    let fits : length names < length ((separated_by 32 (map field_text names) ++ (41 ∷ [])) ++ rest) + 1 = omega (arith, ap length whole, texts_fit true (map field_text names) (41 ∷ rest) (fields_filled names), length-map names field_text) in
+    ap (fields_at (length ((separated_by 32 (map field_text names) ++ (41 ∷ [])) ++ rest) + 1) true) whole ∙ fields-again _ true names rest w fits
 
 -- a section, up to its bracket
 section-again : (s : Section) (rest : List ℕ) → IsSection s → section_at (section_text s ++ (93 ∷ rest)) ≡ Some (s, 93 ∷ rest)
@@ -200,7 +200,7 @@ bodies_filled [] = tt
 bodies_filled (part ∷ parts) = (omega arith, bodies_filled parts)
 
 -- texts of FETCH that don't begin alike
-pub apart_flags : (l : List ℕ) (flags : Option FlagSet) (ts : List (List ℕ)) → ((x : List ℕ) → apart l (codes "FLAGS " ++ x) ≡ true) → list_all (apart l) ts ≡ true → list_all (apart l) (flags_item flags ++ ts) ≡ true
+pub apart_flags : (l : List ℕ) (flags : Option Flags) (ts : List (List ℕ)) → ((x : List ℕ) → apart l (codes "FLAGS " ++ x) ≡ true) → list_all (apart l) ts ≡ true → list_all (apart l) (flags_item flags ++ ts) ≡ true
 apart_flags l None ts h a = a
 apart_flags l (Some flags) ts h a = and_from _ (list_all (apart l) ts) (h _) a
 
@@ -217,7 +217,7 @@ apart_bodies l [] h = refl
 apart_bodies l (part ∷ parts) h = and_from _ (list_all (apart l) (map body_text parts)) (h _) (apart_bodies l parts h)
 
 -- the flags of a message
-pub flags-item-again : (f : Bool) (flags : Option FlagSet) (ts : List (List ℕ)) (end : List ℕ) → Where AreFlags flags → list_all (apart (codes "FLAGS ")) ts ≡ true → after (lead f (codes "FLAGS ")) end ≡ None → flags_or f (after (lead f (codes "FLAGS ")) (spaced f (flags_item flags ++ ts) ++ end)) (spaced f (flags_item flags ++ ts) ++ end) ≡ Some (flags, f && has_none (flags_item flags), spaced (f && has_none (flags_item flags)) ts ++ end)
+pub flags-item-again : (f : Bool) (flags : Option Flags) (ts : List (List ℕ)) (end : List ℕ) → Where AreFlags flags → list_all (apart (codes "FLAGS ")) ts ≡ true → after (lead f (codes "FLAGS ")) end ≡ None → flags_or f (after (lead f (codes "FLAGS ")) (spaced f (flags_item flags ++ ts) ++ end)) (spaced f (flags_item flags ++ ts) ++ end) ≡ Some (flags, f && has_none (flags_item flags), spaced (f && has_none (flags_item flags)) ts ++ end)
 flags-item-again f None ts end h a n =
     ap (λ o. flags_or f o (spaced f ts ++ end)) (not_begun f (codes "FLAGS ") ts end a n)
     ∙ (λ k. Some (None, sym (still_first f) k, spaced (sym (still_first f) k) ts ++ end))
@@ -338,7 +338,7 @@ all_item : List ℕ → List (List ℕ)
 all_item [] = []
 all_item (hit ∷ hits) = (codes "ALL " ++ set_text (hit ∷ hits)) ∷ []
 
-labelled_item : (label : List ℕ) (n : Option ℕ) → labelled (32 ∷ label) n ≡ spaced false (item label n)
+labelled_item : (label : List ℕ) (n : Option ℕ) → labelled_number (32 ∷ label) n ≡ spaced false (item label n)
 labelled_item label None = refl
 labelled_item label (Some n) = sym (append_none (32 ∷ (label ++ decimal n)))
 

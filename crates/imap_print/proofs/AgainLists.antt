@@ -5,15 +5,15 @@ use Rattle.std.specs.Fmt.{decimal}
 use Rattle.std.specs.List.{list_all}
 use Rattle.imap_types.specs.Flags.{flag_texts, where_there}
 use Rattle.imap_types.specs.Keywords.{are_keywords, is_atom_octet}
-use Rattle.imap_types.specs.declared.flags.Flags.{Flags as FlagSet}
+use Rattle.imap_types.specs.declared.flags.Flags.{Flags}
 use Rattle.imap_types.proofs.KeywordLemmas.{test_from_keywords}
 use Rattle.imap_print.specs.Appending.{has_none, spaced}
 use Rattle.imap_answers.specs.Printable.{AreFlags, Each, IsAtom, IsWide, Where}
 use Rattle.imap_answers.specs.Printed.{flags_text, permanent_text}
 use Rattle.imap_print.specs.Reading.{◌>>=◌, Listed, after, flag_at, flag_or, followed, is_in, item_at, item_or, lead, number_from, span, with_front, words_at, words_on}
 use Rattle.imap_print.specs.ReadingAnswers.{flags_at, flags_from, permanent_at, permanent_from, permanent_or}
-use Rattle.imap_answers.specs.Strings.{item, separated}
-use Rattle.imap_print.specs.declared.scan.Class.TheVariants.{Atom}
+use Rattle.imap_answers.specs.Strings.{item, separated_by}
+use Rattle.imap_print.specs.declared.scanner.ScanClass.TheVariants.{Atom}
 use Rattle.imap_print.proofs.ListsLemmas.{has_none-append, spaced-append}
 use Rattle.imap_print.proofs.Again.{after-again, apart, not_begun, number-again, span-again, spaced-front, word_parts}
 
@@ -145,17 +145,17 @@ length_none [] = refl
 length_none (k ∷ ks) = ne_eqb (suc (length ks)) 0 (λ e. absurd (omega arith))
 
 -- Whether no flags are there.
-pub still_of : FlagSet → Bool
+pub still_of : Flags → Bool
 still_of flags =
     ((((((true && has_none (where_there flags.answered (codes "\\Answered"))) && has_none (where_there flags.flagged (codes "\\Flagged"))) && has_none (where_there flags.deleted (codes "\\Deleted"))) && has_none (where_there flags.seen (codes "\\Seen"))) && has_none (where_there flags.draft (codes "\\Draft"))) && has_none flags.keywords)
 
 -- The flags that these readings make.
-abbrev finished : Listed Bool → Listed Bool → Listed Bool → Listed Bool → Listed Bool → Option (List (List ℕ) × List ℕ) → Option (Listed FlagSet)
+abbrev finished : Listed Bool → Listed Bool → Listed Bool → Listed Bool → Listed Bool → Option (List (List ℕ) × List ℕ) → Option (Listed Flags)
 finished a b c d e o =
     o >>= λ words.
-    (cond {A = Option (Listed FlagSet)} (are_keywords words.0) (Some (record { answered = a.0; flagged = b.0; deleted = c.0; seen = d.0; draft = e.0; keywords = words.0 }, e.1 && eqb (length words.0) 0, words.1)) None)
+    (cond {A = Option (Listed Flags)} (are_keywords words.0) (Some (record { answered = a.0; flagged = b.0; deleted = c.0; seen = d.0; draft = e.0; keywords = words.0 }, e.1 && eqb (length words.0) 0, words.1)) None)
 
-pub flags-from-again : (flags : FlagSet) (end : List ℕ) → AreFlags flags → EndsFlags (still_of flags) end → flags_from (spaced true (flag_texts flags) ++ end) ≡ Some (flags, still_of flags, end)
+pub flags-from-again : (flags : Flags) (end : List ℕ) → AreFlags flags → EndsFlags (still_of flags) end → flags_from (spaced true (flag_texts flags) ++ end) ≡ Some (flags, still_of flags, end)
 unfolding flags_from still_of
 flags-from-again flags end h e =
     let w2 = where_there flags.flagged (codes "\\Flagged") in
@@ -185,10 +185,10 @@ flags-from-again flags end h e =
     let fits : length ks < length bytes + 1 = omega (arith, ap length texts, length-append (spaced true (w1 ++ w2 ++ w3 ++ w4 ++ w5)) (spaced (true && has_none (w1 ++ w2 ++ w3 ++ w4 ++ w5)) ks ++ end), words_fit (true && has_none (w1 ++ w2 ++ w3 ++ w4 ++ w5)) ks end h.1) in
     let q = ap (λ (x : Listed Bool). words_at (length bytes + 1) x.1 x.2) p5 ∙ words-again (length bytes + 1) f5 ks end h.1 fits e.atoms e.stop in
     (λ k. finished (p1 k) (p2 k) (p3 k) (p4 k) (p5 k) (q k))
-    ∙ ap (λ b. cond {A = Option (Listed FlagSet)} b (Some (flags, f5 && eqb (length ks) 0, end)) None) (test_from_keywords ks h.0)
+    ∙ ap (λ b. cond {A = Option (Listed Flags)} b (Some (flags, f5 && eqb (length ks) 0, end)) None) (test_from_keywords ks h.0)
     ∙ ap (λ b. Some (flags, f5 && b, end)) (length_none ks)
 
-still_is : (flags : FlagSet) → (true && has_none (flag_texts flags)) ≡ still_of flags
+still_is : (flags : Flags) → (true && has_none (flag_texts flags)) ≡ still_of flags
 unfolding still_of
 still_is flags =
     let w1 = where_there flags.answered (codes "\\Answered") in
@@ -249,14 +249,14 @@ any_ends g rest = record {
 }
 
 -- flags in parentheses
-pub flags-again : (flags : FlagSet) (rest : List ℕ) → AreFlags flags → flags_at (flags_text flags ++ rest) ≡ Some (flags, rest)
+pub flags-again : (flags : Flags) (rest : List ℕ) → AreFlags flags → flags_at (flags_text flags ++ rest) ≡ Some (flags, rest)
 unfolding flags_at
 flags-again flags rest h =
-    let whole : (separated 32 (flag_texts flags) ++ (41 ∷ [])) ++ rest ≡ spaced true (flag_texts flags) ++ (41 ∷ rest) = append_assoc (separated 32 (flag_texts flags)) (41 ∷ []) rest in
+    let whole : (separated_by 32 (flag_texts flags) ++ (41 ∷ [])) ++ rest ≡ spaced true (flag_texts flags) ++ (41 ∷ rest) = append_assoc (separated_by 32 (flag_texts flags)) (41 ∷ []) rest in
     ap (λ (x : List ℕ). flags_from x >>= λ flags. followed flags.0 (after (codes ")") flags.2)) whole
     ∙ ap (λ o. o >>= λ flags. followed flags.0 (after (codes ")") flags.2)) (flags-from-again flags (41 ∷ rest) h (closes (still_of flags) rest))
 
-not_closed : (flags : FlagSet) → AreFlags flags → list_all (apart (41 ∷ [])) (flag_texts flags) ≡ true
+not_closed : (flags : Flags) → AreFlags flags → list_all (apart (41 ∷ [])) (flag_texts flags) ≡ true
 not_closed flags h =
     let w1 = where_there flags.answered (codes "\\Answered") in
     let w2 = where_there flags.flagged (codes "\\Flagged") in
@@ -273,16 +273,16 @@ any_apart true rest = refl
 any_apart false rest = refl
 
 -- the flags that can be changed for good
-pub permanent-again : (flags : Option FlagSet) (rest : List ℕ) → Where AreFlags flags → permanent_at (permanent_text flags ++ rest) ≡ Some (flags, rest)
+pub permanent-again : (flags : Option Flags) (rest : List ℕ) → Where AreFlags flags → permanent_at (permanent_text flags ++ rest) ≡ Some (flags, rest)
 unfolding permanent_from
 permanent-again None rest h = refl
 permanent-again (Some flags) rest h =
     let ts = flag_texts flags in
     let g = still_of flags in
     let end = lead g (codes "\\*") ++ (41 ∷ rest) in
-    let listed : separated 32 (ts ++ codes "\\*" ∷ []) ≡ spaced true ts ++ spaced g (codes "\\*" ∷ []) = spaced-append true ts (codes "\\*" ∷ []) ∙ ap (λ b. spaced true ts ++ spaced b (codes "\\*" ∷ [])) (still_is flags) in
-    let whole : (separated 32 (ts ++ codes "\\*" ∷ []) ++ (41 ∷ [])) ++ rest ≡ spaced true ts ++ end =
-    append_assoc (separated 32 (ts ++ codes "\\*" ∷ [])) (41 ∷ []) rest
+    let listed : separated_by 32 (ts ++ codes "\\*" ∷ []) ≡ spaced true ts ++ spaced g (codes "\\*" ∷ []) = spaced-append true ts (codes "\\*" ∷ []) ∙ ap (λ b. spaced true ts ++ spaced b (codes "\\*" ∷ [])) (still_is flags) in
+    let whole : (separated_by 32 (ts ++ codes "\\*" ∷ []) ++ (41 ∷ [])) ++ rest ≡ spaced true ts ++ end =
+    append_assoc (separated_by 32 (ts ++ codes "\\*" ∷ [])) (41 ∷ []) rest
     ∙ ap (λ (x : List ℕ). x ++ (41 ∷ rest)) listed
     ∙ append_assoc (spaced true ts) (spaced g (codes "\\*" ∷ [])) (41 ∷ rest)
     ∙ ap (λ (x : List ℕ). spaced true ts ++ x) (spaced-front g (codes "\\*") [] (41 ∷ rest) ∙ ap (λ (x : List ℕ). lead g (codes "\\*") ++ x) refl) in

@@ -5,10 +5,10 @@ use Rattle.std.specs.Prelude.{codes, decimal}
 use Rattle.imap_types.specs.Flags.{flag_texts}
 use Rattle.imap_types.specs.declared.flags.Flags.{Flags}
 use Rattle.imap_answers.specs.declared.answer.Answer.TheVariants.{Completed, Fetch}
-use Rattle.imap_answers.specs.declared.fetched.FetchItems.{FetchItems}
-use Rattle.imap_answers.specs.declared.words.CommandWord.{CommandWord}
-use Rattle.imap_answers.specs.Printed.{answer_text, printed}
-use Rattle.imap_answers.specs.Strings.{crlf, separated}
+use Rattle.imap_answers.specs.declared.fetch_items.FetchItems.{FetchItems}
+use Rattle.imap_answers.specs.declared.fixed_words.CompletedWord.{CompletedWord}
+use Rattle.imap_answers.specs.Printed.{line_of_answer, text_of_answer}
+use Rattle.imap_answers.specs.Strings.{crlf, separated_by}
 use Rattle.imap_answers.specs.Words.{command_text}
 use Rattle.imap_print.specs.Appending.{StartsWith}
 use Rattle.imap_print.specs.Lines.{EndsFlags, done_line, flags_end, numbered_line, only_flags}
@@ -16,18 +16,18 @@ use Rattle.imap_print.specs.Lines.{EndsFlags, done_line, flags_end, numbered_lin
 joined : (digits front label texts end line : List ℕ) → (((digits ++ front) ++ ((label ++ texts ++ end) ++ [])) ++ end) ++ line ≡ digits ++ (front ++ (label ++ (texts ++ (end ++ (end ++ line)))))
 joined digits front label texts end line = simp (append_assoc, append-nil)
 
-flags_line_is : (number : ℕ) (flags : Flags) → numbered_line number (flags_end flags) ≡ printed (Fetch number (only_flags flags))
-unfolding answer_text
-flags_line_is number flags = ap (λ text. codes "* " ++ text) (sym (joined (decimal number) (codes " FETCH (") (codes "FLAGS (") (separated 32 (flag_texts flags)) (codes ")") crlf))
+flags_line_is : (number : ℕ) (flags : Flags) → numbered_line number (flags_end flags) ≡ text_of_answer (Fetch number (only_flags flags))
+unfolding line_of_answer
+flags_line_is number flags = ap (λ text. codes "* " ++ text) (sym (joined (decimal number) (codes " FETCH (") (codes "FLAGS (") (separated_by 32 (flag_texts flags)) (codes ")") crlf))
 
-pub line_is : (number : ℕ) (items : FetchItems) (end : List ℕ) → EndsFlags items end → numbered_line number end ≡ printed (Fetch number items)
-line_is number items end told = ap (numbered_line number) told.2 ∙ flags_line_is number told.0 ∙ ap (λ (i : FetchItems). printed (Fetch number i)) (sym told.1)
+pub line_is : (number : ℕ) (items : FetchItems) (end : List ℕ) → EndsFlags items end → numbered_line number end ≡ text_of_answer (Fetch number items)
+line_is number items end told = ap (numbered_line number) told.2 ∙ flags_line_is number told.0 ∙ ap (λ (i : FetchItems). text_of_answer (Fetch number i)) (sym told.1)
 
 done_joined : (tag ok word end line : List ℕ) → (tag ++ ok ++ [] ++ word ++ end) ++ line ≡ tag ++ ok ++ word ++ (end ++ line)
 done_joined tag ok word end line = simp (append_assoc, append-nil)
 
-pub done_line_is : (tag : List ℕ) (command : CommandWord) → done_line tag (command_text command) ≡ printed (Completed tag None command)
-unfolding answer_text
+pub done_line_is : (tag : List ℕ) (command : CompletedWord) → done_line tag (command_text command) ≡ text_of_answer (Completed tag None command)
+unfolding line_of_answer
 done_line_is tag command = sym (done_joined tag (codes " OK ") (command_text command) (codes " completed") crlf)
 
 -- ---- a beginning of a line

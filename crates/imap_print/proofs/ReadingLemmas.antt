@@ -2,10 +2,10 @@ use Rattle.std.proofs.lemmas.Bool.{leb-true}
 use Rattle.std.proofs.lemmas.List.{length-take-le}
 use Rattle.std.proofs.Common.{◌≡◌, ℕ, zero, suc, ◌+◌, ◌-◌, ◌<◌, ◌≤◌, leb, take, Bool, true, false, eqb, cond, List, [], ◌∷◌, ◌++◌, length, drop, codes, Option, None, Some, refl, ap, sym, ◌∙◌, append_assoc, arith}
 use Rattle.imap_types.specs.declared.number_set.Run.{Run}
-use Rattle.imap_print.specs.declared.scan.Class.TheVariants.{Atom}
+use Rattle.imap_print.specs.declared.scanner.ScanClass.TheVariants.{Atom}
 use Rattle.imap_print.specs.declared.fault.ReadFault.{ReadFault}
 use Rattle.imap_print.specs.declared.fault.ReadFault.TheVariants.{NoMemory, NotPrinted}
-use Rattle.imap_answers.specs.declared.fetched.SectionData.{SectionData}
+use Rattle.imap_answers.specs.declared.fetch_items.SectionData.{SectionData}
 use Rattle.imap_print.specs.ReadingAnswers.{bodies_at, bodies_on, body_at, fields_at, fields_on, next_field_at}
 use Rattle.imap_print.specs.Reading.{◌>>=◌, Fails, after, counted, is_in, lead, run_at, runs_at, runs_on, span, with_front, words_at, words_on}
 

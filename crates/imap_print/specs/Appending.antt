@@ -1,5 +1,5 @@
 use Rattle.std.specs.Prelude.{◌≡◌, ℕ, Bool, true, false, ◌&&◌, List, [], ◌∷◌, ◌++◌, flat_map, length, take}
-use Rattle.imap_answers.specs.Strings.{separated}
+use Rattle.imap_answers.specs.Strings.{separated_by}
 
 -- A text was put behind what was there.
 abbrev pub Appends : List ℕ → List ℕ → List ℕ → Type 0
@@ -16,7 +16,7 @@ has_none (text ∷ texts) = false
 
 -- Texts that go on a list: a space (32) before each but the first of the list.
 abbrev pub spaced : Bool → List (List ℕ) → List ℕ
-spaced true texts = separated 32 texts
+spaced true texts = separated_by 32 texts
 spaced false texts = flat_map (λ next. 32 ∷ next) texts
 
 -- These texts were put on a list, and whether the list is still empty.

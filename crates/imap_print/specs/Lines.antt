@@ -1,8 +1,8 @@
 use Rattle.std.specs.Prelude.{◌≡◌, ℕ, List, [], ◌++◌, codes, decimal, Some, None}
 use Rattle.imap_types.specs.Flags.{flag_texts}
 use Rattle.imap_types.specs.declared.flags.Flags.{Flags}
-use Rattle.imap_answers.specs.declared.fetched.FetchItems.{FetchItems}
-use Rattle.imap_answers.specs.Strings.{separated}
+use Rattle.imap_answers.specs.declared.fetch_items.FetchItems.{FetchItems}
+use Rattle.imap_answers.specs.Strings.{separated_by}
 
 -- A message's flags, and nothing else of it.
 abbrev pub only_flags : Flags → FetchItems
@@ -10,7 +10,7 @@ only_flags flags = record { uid = None; flags = Some flags; date = None; size = 
 
 -- What stands behind its number in the line that tells them (RFC 9051, section 7.5.2).
 abbrev pub flags_end : Flags → List ℕ
-flags_end flags = codes " FETCH (FLAGS (" ++ separated 32 (flag_texts flags) ++ codes "))\r\n"
+flags_end flags = codes " FETCH (FLAGS (" ++ separated_by 32 (flag_texts flags) ++ codes "))\r\n"
 
 -- This is that end, where FETCH tells a message's flags and nothing else.
 abbrev pub EndsFlags : FetchItems → List ℕ → Type 0

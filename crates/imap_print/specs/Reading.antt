@@ -3,12 +3,12 @@ use Rattle.std.specs.Prelude.{◌≡◌, ℕ, zero, suc, ◌+◌, ◌-◌, ◌*�
 use Rattle.imap_types.specs.DateTimes.{is_digit}
 use Rattle.imap_types.specs.Keywords.{is_astring_octet, is_atom_octet, is_tag_octet}
 use Rattle.imap_types.specs.Numbers.{are_runs_from, numbers_in}
-pub use Rattle.imap_types.specs.Reading.{◌>>=◌, GivesBy, after, with_front}
+pub use Rattle.imap_types.specs.ReaderSteps.{◌>>=◌, GivesBy, after, with_front}
 use Rattle.imap_types.specs.declared.number_set.Run.{Run}
 use Rattle.imap_print.specs.declared.fault.ReadFault.{ReadFault}
 use Rattle.imap_print.specs.declared.fault.ReadFault.TheVariants.{NoMemory, NotPrinted}
-use Rattle.imap_print.specs.declared.scan.Class.{Class}
-use Rattle.imap_print.specs.declared.scan.Class.TheVariants.{Tag, Astring, Atom}
+use Rattle.imap_print.specs.declared.scanner.ScanClass.{ScanClass}
+use Rattle.imap_print.specs.declared.scanner.ScanClass.TheVariants.{Tag, Astring, Atom}
 
 -- What a function returned, seen by view, is what reading gives, unless memory ran out.
 abbrev pub Fails : {Y : Type 0} → ReadFault → Option Y → Type 0
@@ -48,7 +48,7 @@ span p [] = ([], [])
 span p (b ∷ bs) = if p b then (b ∷ (span p bs).0, (span p bs).1) else ([], b ∷ bs)
 
 -- Whether an octet is of a class.
-abbrev pub is_in : Class → ℕ → Bool
+abbrev pub is_in : ScanClass → ℕ → Bool
 is_in Tag octet = is_tag_octet octet
 is_in Astring octet = is_astring_octet octet
 is_in Atom octet = is_atom_octet octet

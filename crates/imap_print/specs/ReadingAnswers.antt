@@ -2,7 +2,7 @@
 use Rattle.std.specs.Prelude.{ℕ, zero, suc, ◌+◌, Bool, true, false, ◌&&◌, ◌==◌, List, [], ◌∷◌, length, codes, Option, Some, None, if◌then◌else◌}
 use Rattle.imap_types.specs.DateTimeTests.{is_date_time}
 use Rattle.imap_types.specs.Keywords.{are_keywords}
-use Rattle.imap_types.specs.declared.flags.Flags.{Flags as FlagSet}
+use Rattle.imap_types.specs.declared.flags.Flags.{Flags}
 use Rattle.imap_types.specs.declared.section.Section.{Section}
 use Rattle.imap_types.specs.declared.section.Section.TheVariants as section
 use Rattle.imap_answers.specs.declared.answer.Answer.{Answer}
@@ -11,19 +11,19 @@ use Rattle.imap_answers.specs.declared.codes.Code.{Code}
 use Rattle.imap_answers.specs.declared.codes.Code.TheVariants as code
 use Rattle.imap_answers.specs.declared.codes.Notice.{Notice}
 use Rattle.imap_answers.specs.declared.codes.Notice.TheVariants as notice
-use Rattle.imap_answers.specs.declared.words.CommandWord.{CommandWord}
-use Rattle.imap_answers.specs.declared.fetched.FetchItems.{FetchItems}
-use Rattle.imap_answers.specs.declared.fetched.SectionData.{SectionData}
+use Rattle.imap_answers.specs.declared.fixed_words.CompletedWord.{CompletedWord}
+use Rattle.imap_answers.specs.declared.fetch_items.FetchItems.{FetchItems}
+use Rattle.imap_answers.specs.declared.fetch_items.SectionData.{SectionData}
 use Rattle.imap_answers.specs.declared.mailbox.SearchResults.{SearchResults}
 use Rattle.imap_answers.specs.declared.mailbox.StatusItems.{StatusItems}
-use Rattle.imap_print.specs.declared.scan.Class.TheVariants.{Tag}
+use Rattle.imap_print.specs.declared.scanner.ScanClass.TheVariants.{Tag}
 use Rattle.imap_print.specs.Reading.{◌>>=◌, Listed, after, counted, field_at, flag_at, followed, is_in, item_at, lead, literal_at, number_from, or_else, set_at, small, span, string_at, with_front, within, word_at, words_at}
 use Rattle.imap_answers.specs.Strings.{crlf}
 use Rattle.imap_print.specs.Tables.{all_attributes, bye_reasons, commands, continuations, enabled_words, logins, refusals}
 use Rattle.imap_answers.specs.Words.{attributes_text, bye_text, command_text, continuation_text, enabled_text, greeting_text, refusal_text}
 
 -- The flags, and whether there are none.
-unfoldable pub flags_from : List ℕ → Option (Listed FlagSet)
+unfoldable pub flags_from : List ℕ → Option (Listed Flags)
 flags_from bytes =
     let answered = flag_at true (codes "\\Answered") bytes in
     let flagged = flag_at answered.1 (codes "\\Flagged") answered.2 in
@@ -36,24 +36,24 @@ flags_from bytes =
     else None)
 
 -- Flags in parentheses.
-unfoldable pub flags_at : List ℕ → Option (FlagSet × List ℕ)
+unfoldable pub flags_at : List ℕ → Option (Flags × List ℕ)
 flags_at bytes = do
   opened ← after (codes "(") bytes
   flags ← flags_from opened
   followed flags.0 (after (codes ")") flags.2)
 
 -- The flags that can be changed for good, behind the parenthesis.
-unfoldable pub permanent_from : List ℕ → Option (Option FlagSet × List ℕ)
+unfoldable pub permanent_from : List ℕ → Option (Option Flags × List ℕ)
 permanent_from bytes = do
   flags ← flags_from bytes
   any ← after (lead flags.1 (codes "\\*")) flags.2
   followed (Some flags.0) (after (codes ")") any)
 
-abbrev pub permanent_or : Option (List ℕ) → List ℕ → Option (Option FlagSet × List ℕ)
+abbrev pub permanent_or : Option (List ℕ) → List ℕ → Option (Option Flags × List ℕ)
 permanent_or None bytes = after (codes "(") bytes >>= permanent_from
 permanent_or (Some rest) bytes = Some (None, rest)
 
-abbrev pub permanent_at : List ℕ → Option (Option FlagSet × List ℕ)
+abbrev pub permanent_at : List ℕ → Option (Option Flags × List ℕ)
 permanent_at bytes = permanent_or (after (codes "()") bytes) bytes
 
 -- Two sets, behind a UIDVALIDITY.
@@ -217,7 +217,7 @@ bodies_at zero is_first bytes = None
 bodies_at (suc fuel) is_first bytes = bodies_on (after (lead is_first (codes "BODY[")) bytes) bytes (bodies_at fuel false)
 
 -- The flags of a message, where they are told.
-abbrev pub flags_or : Bool → Option (List ℕ) → List ℕ → Option (Listed (Option FlagSet))
+abbrev pub flags_or : Bool → Option (List ℕ) → List ℕ → Option (Listed (Option Flags))
 flags_or is_first None bytes = Some (None, is_first, bytes)
 flags_or is_first (Some rest) bytes = flags_at rest >>= λ flags. Some (Some flags.0, false, flags.1)
 
@@ -328,13 +328,13 @@ star_at bytes =
     (after (codes "* ") bytes >>= untagged_at))))
 
 -- The command that is done.
-unfoldable pub done_at : List ℕ → Option (CommandWord × List ℕ)
+unfoldable pub done_at : List ℕ → Option (CompletedWord × List ℕ)
 done_at bytes = do
   command ← word_at command_text commands bytes
   followed command.0 (after (codes " completed") command.1)
 
 -- The same with the tag.
-abbrev pub tagged_done_at : List ℕ → List ℕ → Option ((List ℕ × CommandWord) × List ℕ)
+abbrev pub tagged_done_at : List ℕ → List ℕ → Option ((List ℕ × CompletedWord) × List ℕ)
 tagged_done_at tag bytes = done_at bytes >>= λ command. Some ((tag, command.0), command.1)
 
 -- The tagged line of a command that is done, behind the OK.

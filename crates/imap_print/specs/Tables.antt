@@ -1,18 +1,18 @@
 use Rattle.std.specs.Prelude.{true, false, List, [], ◌∷◌}
-use Rattle.imap_answers.specs.declared.words.Login.{Login}
-use Rattle.imap_answers.specs.declared.words.Login.TheVariants as login
-use Rattle.imap_answers.specs.declared.words.Continuation.{Continuation}
-use Rattle.imap_answers.specs.declared.words.Continuation.TheVariants as continuation
-use Rattle.imap_answers.specs.declared.words.Enabled.{Enabled}
-use Rattle.imap_answers.specs.declared.words.Enabled.TheVariants as enabled
-use Rattle.imap_answers.specs.declared.words.ByeReason.{ByeReason}
-use Rattle.imap_answers.specs.declared.words.ByeReason.TheVariants as bye
-use Rattle.imap_answers.specs.declared.words.Refusal.{Refusal}
-use Rattle.imap_answers.specs.declared.words.Refusal.TheVariants as refusal
-use Rattle.imap_answers.specs.declared.words.CommandWord.{CommandWord}
-use Rattle.imap_answers.specs.declared.words.CommandWord.TheVariants as command
+use Rattle.imap_answers.specs.declared.fixed_words.Login.{Login}
+use Rattle.imap_answers.specs.declared.fixed_words.Login.TheVariants as login
+use Rattle.imap_answers.specs.declared.fixed_words.Continuation.{Continuation}
+use Rattle.imap_answers.specs.declared.fixed_words.Continuation.TheVariants as continuation
+use Rattle.imap_answers.specs.declared.fixed_words.EnabledExtensions.{EnabledExtensions}
+use Rattle.imap_answers.specs.declared.fixed_words.EnabledExtensions.TheVariants as enabled
+use Rattle.imap_answers.specs.declared.fixed_words.ByeReason.{ByeReason}
+use Rattle.imap_answers.specs.declared.fixed_words.ByeReason.TheVariants as bye
+use Rattle.imap_answers.specs.declared.fixed_words.Refusal.{Refusal}
+use Rattle.imap_answers.specs.declared.fixed_words.Refusal.TheVariants as refusal
+use Rattle.imap_answers.specs.declared.fixed_words.CompletedWord.{CompletedWord}
+use Rattle.imap_answers.specs.declared.fixed_words.CompletedWord.TheVariants as command
 use Rattle.imap_answers.specs.declared.mailbox.MailboxState.TheVariants as state
-use Rattle.imap_print.specs.declared.tables.Attributes.{Attributes}
+use Rattle.imap_print.specs.declared.fixed_texts.Attributes.{Attributes}
 
 -- The values that a reader tries, in this order: of two whose texts begin alike, the longer first.
 abbrev pub logins : List Login
@@ -23,7 +23,7 @@ abbrev pub continuations : List Continuation
 continuations =
     continuation.Ready ∷ continuation.Idling ∷ []
 
-abbrev pub enabled_words : List Enabled
+abbrev pub enabled_words : List EnabledExtensions
 enabled_words =
     enabled.CondstoreImap4Rev2 ∷ enabled.Imap4Rev2Condstore ∷ enabled.Condstore ∷ enabled.Imap4Rev2 ∷ enabled.Nothing ∷ []
 
@@ -35,7 +35,7 @@ abbrev pub refusals : List Refusal
 refusals =
     refusal.NoSuchMailbox ∷ refusal.NoDestination ∷ refusal.MailboxExists ∷ refusal.NameNotAllowed ∷ refusal.InboxStays ∷ refusal.NotInProfile ∷ refusal.LoginFailed ∷ refusal.ReadOnly ∷ refusal.TooManyKeywords ∷ refusal.TooManyVersions ∷ refusal.KeywordTooLong ∷ refusal.NumberUsedUp ∷ refusal.LiteralTooLong ∷ refusal.NoMemory ∷ refusal.UnknownCommand ∷ refusal.BadSyntax ∷ refusal.NotNow ∷ refusal.NoSuchMessage ∷ refusal.DoneExpected ∷ []
 
-abbrev pub commands : List CommandWord
+abbrev pub commands : List CompletedWord
 commands =
     command.Capability ∷ command.Noop ∷ command.Logout ∷ command.Login ∷ command.Enable ∷ command.Select ∷ command.Examine ∷ command.Create ∷ command.Delete ∷ command.Subscribe ∷ command.Unsubscribe ∷ command.List ∷ command.Namespace ∷ command.Status ∷ command.Append ∷ command.Idle ∷ command.Close ∷ command.Unselect ∷ command.Expunge ∷ command.Search ∷ command.Fetch ∷ command.Store ∷ command.Copy ∷ command.Move ∷ command.UidFetch ∷ command.UidStore ∷ command.UidSearch ∷ command.UidCopy ∷ command.UidMove ∷ command.UidExpunge ∷ []
 

@@ -2,20 +2,20 @@
 #![tactic(auto)]
 
 mod fault;
-mod items;
-mod lists;
-mod parts;
+mod item_readers;
+mod list_printers;
+mod part_printers;
 mod printable;
 mod printer;
-mod readers;
-mod reading;
-mod scan;
+mod line_readers;
+mod answer_reader;
+mod scanner;
 mod strings;
-mod tables;
+mod fixed_texts;
 
 pub use imap_answers::{
-    Answer, ByeReason, Code, CommandWord, Continuation, Enabled, FetchItems, Login, MailboxState,
+    Answer, ByeReason, Code, CompletedWord, Continuation, EnabledExtensions, FetchItems, Login, MailboxState,
     Notice, Refusal, SearchResults, SectionData, Sections, StatusItems,
 };
 pub use printer::print;
-pub use reading::{one_reading, read};
+pub use answer_reader::{one_reading, read};

@@ -9,7 +9,7 @@ ghost use Rattle.imap_types.specs.Numbers.{AreRisingFrom, greatest, numbers_in};
 ghost use Rattle.imap_answers.specs.Printable.{AreFetchItems, AreFieldNames, AreFlags, AreResults, AreStatusItems, Each, IsAtom, IsCode, IsCopied, IsFolded, IsModSeq, IsNonzero, IsNotice, IsPart, IsPrintable, IsSection, IsSet, IsSmall, IsTag, IsWide, Where, tells_of_mailbox, tells_of_message};
 ghost use Rattle.imap_print.specs.Reading.{is_in};
 
-use crate::scan::Class;
+use crate::scanner::ScanClass;
 use imap_answers::{Answer, Code, FetchItems, Notice, SearchResults, SectionData, StatusItems};
 use imap_types::{DateTime, Flags, Name, NumberSet, Octets, Run, Section, Text};
 
@@ -223,23 +223,23 @@ fn are_atoms(words: &[Octets]) -> bool
 fn is_atom(word: &Octets) -> bool
     ensures { IsTrue result ↔ IsAtom word.now }
 {
-    is_word(Class::Atom, word.as_bytes())
+    is_word(ScanClass::Atom, word.as_bytes())
 }
 
 fn is_tag(tag: &Octets) -> bool
     ensures { IsTrue result ↔ IsTag tag.now }
 {
-    is_word(Class::Tag, tag.as_bytes())
+    is_word(ScanClass::Tag, tag.as_bytes())
 }
 
 /// Whether there are octets, all of a class.
-fn is_word(class: Class, word: &[u8]) -> bool
+fn is_word(class: ScanClass, word: &[u8]) -> bool
     ensures { result ≡ (not (length word.now == 0) && list_all (is_in class) word.now) }
 {
     !word.is_empty() && are_in(class, word)
 }
 
-fn are_in(class: Class, octets: &[u8]) -> bool
+fn are_in(class: ScanClass, octets: &[u8]) -> bool
     ensures { result ≡ list_all (is_in class) octets.now }
 {
     for octet in octets {

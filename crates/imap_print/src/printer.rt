@@ -2,13 +2,13 @@ ghost use Rattle.std.specs.Prelude.{◌≡◌, ◌++◌, codes, decimal, IfSome,
 ghost use Rattle.imap_print.specs.Appending.{Appends, StartsWith};
 ghost use Rattle.imap_print.specs.Lines.{EndsFlags, done_line, flags_end, numbered_line, only_flags};
 ghost use Rattle.imap_answers.specs.Words.{refusal_text};
-ghost use Rattle.imap_answers.specs.Printed.{answer_text, completed_text, fetch_text, list_text, notice_text, printed, search_text, status_text, uid_mark};
+ghost use Rattle.imap_answers.specs.Printed.{line_of_answer, completed_text, fetch_text, list_text, notice_text, text_of_answer, search_text, status_text, uid_mark};
 
-use crate::lists::{push_fetch_items, push_status_items};
-use crate::parts::{push_code_before, push_flags, push_notice, push_results};
+use crate::list_printers::{push_fetch_items, push_status_items};
+use crate::part_printers::{push_code_before, push_flags, push_notice, push_results};
 use crate::strings::{push_label, push_name, push_text};
 use imap_answers::{
-    Answer, Code, CommandWord, FetchItems, MailboxState, Notice, Refusal, SearchResults,
+    Answer, Code, CompletedWord, FetchItems, MailboxState, Notice, Refusal, SearchResults,
     StatusItems,
 };
 use imap_types::{Flags, Name, Octets};
@@ -21,7 +21,7 @@ const USUAL_LINE: usize = 128;
 /// Puts an answer's text with its line end behind what is there. `Err` where there is no memory for it, and then
 /// nothing is changed.
 pub fn print(answer: &Answer, out: &mut Vec<u8>) -> Result<(), AllocError>
-    ensures ok { OnOk result (out.new.items ≡ out.old.items ++ printed answer.now) }
+    ensures ok { OnOk result (out.new.items ≡ out.old.items ++ text_of_answer answer.now) }
     ensures err { OnErr result (out.new.items ≡ out.old.items) }
 {
     let before = out.len();
@@ -36,7 +36,7 @@ pub fn print(answer: &Answer, out: &mut Vec<u8>) -> Result<(), AllocError>
 
 /// The same, of which an `Err` may leave a beginning. The usual lines are put there by few texts.
 fn push_line(answer: &Answer, out: &mut Vec<u8>) -> Result<(), AllocError>
-    ensures ok { OnOk result (Appends out.old.items out.new.items (printed answer.now)) }
+    ensures ok { OnOk result (Appends out.old.items out.new.items (text_of_answer answer.now)) }
     ensures err { OnErr result (StartsWith out.old.items out.new.items) }
 {
     match answer {
@@ -145,7 +145,7 @@ fn push_done_line(tag: &[u8], word: &[u8], out: &mut Vec<u8>) -> Result<(), Allo
 /// Any other line, by memory of its own, so that an `Err` leaves all as it was.
 #[tactic(auto, using(crate::proofs::LineLemmas::starts_same))]
 fn push_apart(answer: &Answer, out: &mut Vec<u8>) -> Result<(), AllocError>
-    ensures ok { OnOk result (Appends out.old.items out.new.items (printed answer.now)) }
+    ensures ok { OnOk result (Appends out.old.items out.new.items (text_of_answer answer.now)) }
     ensures err { OnErr result (StartsWith out.old.items out.new.items) }
 {
     let mut line = Vec::with_capacity(*out.allocator(), USUAL_LINE)?;
@@ -155,15 +155,15 @@ fn push_apart(answer: &Answer, out: &mut Vec<u8>) -> Result<(), AllocError>
 }
 
 fn push_any_line(answer: &Answer, out: &mut Vec<u8>) -> Result<(), AllocError>
-    ensures { OnOk result (Appends out.old.items out.new.items (printed answer.now)) }
+    ensures { OnOk result (Appends out.old.items out.new.items (text_of_answer answer.now)) }
 {
     push_answer(answer, out)?;
     push_text(b"\r\n", out)
 }
 
-#[tactic(auto, unfolding(imap_answers::specs::Printed::answer_text))]
+#[tactic(auto, unfolding(imap_answers::specs::Printed::line_of_answer))]
 fn push_answer(answer: &Answer, out: &mut Vec<u8>) -> Result<(), AllocError>
-    ensures { OnOk result (Appends out.old.items out.new.items (answer_text answer.now)) }
+    ensures { OnOk result (Appends out.old.items out.new.items (line_of_answer answer.now)) }
 {
     match answer {
         Answer::Greeting { login } => push_text(login.text(), out),
@@ -179,7 +179,7 @@ fn push_answer(answer: &Answer, out: &mut Vec<u8>) -> Result<(), AllocError>
             state,
             subscribed,
         } => push_list(name, *state, *subscribed, out),
-        Answer::Tell { notice } => push_told(notice, out),
+        Answer::Tell { notice } => push_notice_line(notice, out),
         Answer::Status { name, items } => push_status(name, items, out),
         Answer::Search {
             tag,
@@ -195,7 +195,7 @@ fn push_answer(answer: &Answer, out: &mut Vec<u8>) -> Result<(), AllocError>
     }
 }
 
-fn push_told(notice: &Notice, out: &mut Vec<u8>) -> Result<(), AllocError>
+fn push_notice_line(notice: &Notice, out: &mut Vec<u8>) -> Result<(), AllocError>
     ensures { OnOk result (Appends out.old.items out.new.items (codes "* OK " ++ notice_text notice.now ++ codes " ok")) }
 {
     push_text(b"* OK ", out)?;
@@ -278,7 +278,7 @@ fn push_fetch(number: u32, items: &FetchItems, out: &mut Vec<u8>) -> Result<(), 
 fn push_completed(
     tag: &Octets,
     code: &Option<Code>,
-    command: CommandWord,
+    command: CompletedWord,
     out: &mut Vec<u8>,
 ) -> Result<(), AllocError>
     ensures { OnOk result (Appends out.old.items out.new.items (completed_text tag.now code.now command)) }

@@ -5,7 +5,7 @@ ghost use Rattle.std.specs.Prelude.{◌≡◌, ◌++◌, [], ◌∷◌, codes, d
 ghost use Rattle.std.specs.List.{list_all, list_any};
 ghost use Rattle.imap_types.specs.Keywords.{is_astring_octet};
 ghost use Rattle.imap_print.specs.Appending.{Appends};
-ghost use Rattle.imap_answers.specs.Strings.{escaped_octet, field_text, has_line_octet, is_plain, labelled, literal_text, name_text, quoted_text, run_text, separated, set_text};
+ghost use Rattle.imap_answers.specs.Strings.{escaped_octet, field_text, has_line_octet, is_plain, labelled_number, literal_text, name_text, quoted_string, run_text, separated_by, set_text};
 
 use imap_types::{Name, NumberSet, Run, is_astring_octet};
 use itoa::Buffer;
@@ -35,7 +35,7 @@ pub fn push_label(label: &[u8], number: u64, out: &mut Vec<u8>) -> Result<(), Al
 
 /// A label and its number, where there is one.
 pub fn push_labelled(label: &[u8], number: Option<u64>, out: &mut Vec<u8>) -> Result<(), AllocError>
-    ensures { OnOk result (Appends out.old.items out.new.items (labelled label.now number)) }
+    ensures { OnOk result (Appends out.old.items out.new.items (labelled_number label.now number)) }
 {
     match number {
         None => Ok(()),
@@ -80,7 +80,7 @@ pub fn push_literal(string: &[u8], out: &mut Vec<u8>) -> Result<(), AllocError>
 }
 
 fn push_quoted(string: &[u8], out: &mut Vec<u8>) -> Result<(), AllocError>
-    ensures { OnOk result (Appends out.old.items out.new.items (quoted_text string.now)) }
+    ensures { OnOk result (Appends out.old.items out.new.items (quoted_string string.now)) }
 {
     push_text(b"\"", out)?;
     push_escaped(string, out)?;
@@ -107,7 +107,7 @@ fn push_escaped_octet(octet: u8, out: &mut Vec<u8>) -> Result<(), AllocError>
 }
 
 /// What writes the text of one value.
-pub trait Writer {
+pub trait TextWriter {
     type Value;
 
     ghost use Rattle.std.specs.Prelude.{ℕ, List, OnOk};
@@ -121,12 +121,12 @@ pub trait Writer {
 }
 
 /// The texts of values, with an octet between any two.
-pub fn push_separated<W: Writer>(
+pub fn push_separated<W: TextWriter>(
     between: u8,
     values: &[W::Value],
     out: &mut Vec<u8>,
 ) -> Result<(), AllocError>
-    ensures { OnOk result (Appends out.old.items out.new.items (separated between (map W.text_of values.now))) }
+    ensures { OnOk result (Appends out.old.items out.new.items (separated_by between (map W.text_of values.now))) }
 {
     if let [first, rest @ ..] = values {
         W::push(first, out)?;
@@ -136,7 +136,7 @@ pub fn push_separated<W: Writer>(
 }
 
 /// The texts of values, with an octet before each.
-fn push_behind<W: Writer>(
+fn push_behind<W: TextWriter>(
     between: u8,
     values: &[W::Value],
     out: &mut Vec<u8>,
@@ -153,7 +153,7 @@ fn push_behind<W: Writer>(
 /// Writes runs of numbers.
 struct Runs;
 
-impl Writer for Runs {
+impl TextWriter for Runs {
     type Value = Run;
 
     ghost use Rattle.imap_answers.specs.Strings.{run_text};

@@ -3,17 +3,17 @@ use Rattle.std.proofs.Common.{◌≡◌, inl, inr, ℕ, ◌+◌, ◌<◌, ◌≤
 use Rattle.std.proofs.lemmas.Bool.{cases_Bool}
 use Rattle.std.proofs.lemmas.Bool.Decides.{nat_tests}
 use Rattle.imap_syntax.specs.declared.fetch.FetchItem.{FetchItem}
-use Rattle.mail_listing.specs.Listed.{Listed}
-use Rattle.mail_listing.specs.Listing.{AreRisingRows, changed_since, row_of}
-use Rattle.imap_query.specs.Fetching.{answer_of, fetch_answers, is_kept}
+use Rattle.mailbox_rows.specs.ListedMessage.{ListedMessage}
+use Rattle.mailbox_rows.specs.RowViews.{AreRisingRows, changed_since, row_of}
+use Rattle.imap_query.specs.Fetching.{answer_of, fetch_answers, is_above_changed_since}
 use Rattle.imap_query.specs.declared.fetching.FetchMode.{FetchMode}
-use Rattle.imap_query.specs.declared.shown.Shown.{Shown}
+use Rattle.imap_query.specs.declared.viewed_message.ViewedMessage.{ViewedMessage}
 
 pub if_ok : {T E : Type 0} {P Q : T → Type 0} (r : Result T E) → ((x : T) → P x → Q x) → IfOk r P → IfOk r Q
 if_ok (Ok x) f h = f x h
 if_ok (Err e) f h = h
 
-none_under : (uid low : ℕ) (rows : List Listed) → uid < low → AreRisingRows low rows → row_of uid rows ≡ None
+none_under : (uid low : ℕ) (rows : List ListedMessage) → uid < low → AreRisingRows low rows → row_of uid rows ≡ None
 none_under uid low [] k h = refl
 none_under uid low (row ∷ rows) k h =
     let first : low ≤ row.uid = h.0 in
@@ -21,11 +21,11 @@ none_under uid low (row ∷ rows) k h =
     rw is (none_under uid (row.uid + 1) rows (omega (arith, k, first)) h.1)
 
 -- A message, where its mod-sequence is above this one.
-abbrev above : ℕ → Option Listed → Option Listed
+abbrev above : ℕ → Option ListedMessage → Option ListedMessage
 above modseq None = None
 above modseq (Some row) = if nat_lt modseq row.modseq then Some row else None
 
-row_of_changed : (modseq uid low : ℕ) (rows : List Listed) → AreRisingRows low rows → row_of uid (changed_since modseq rows) ≡ above modseq (row_of uid rows)
+row_of_changed : (modseq uid low : ℕ) (rows : List ListedMessage) → AreRisingRows low rows → row_of uid (changed_since modseq rows) ≡ above modseq (row_of uid rows)
 row_of_changed modseq uid low [] h = refl
 row_of_changed modseq uid low (row ∷ rows) h =
     let rest = row_of_changed modseq uid (row.uid + 1) rows h.1 in
@@ -42,17 +42,17 @@ row_of_changed modseq uid low (row ∷ rows) h =
       ]
     ]
 
-above_alike : (items : List FetchItem) (mode : FetchMode) (modseq : ℕ) (shown : Shown) (o : Option Listed) → mode.changed_since ≡ Some modseq → answer_of items mode shown (above modseq o) (above modseq o) ≡ answer_of items mode shown o o
+above_alike : (items : List FetchItem) (mode : FetchMode) (modseq : ℕ) (shown : ViewedMessage) (o : Option ListedMessage) → mode.changed_since ≡ Some modseq → answer_of items mode shown (above modseq o) (above modseq o) ≡ answer_of items mode shown o o
 above_alike items mode modseq shown None e = refl
 above_alike items mode modseq shown (Some row) e =
     elim (cases_Bool (nat_lt modseq row.modseq)) [
       | inl t ↦ rw t refl
       | inr f ↦
-          let gone : is_kept mode.changed_since row ≡ false = ap (λ c. is_kept c row) e ∙ f in
+          let gone : is_above_changed_since mode.changed_since row ≡ false = ap (λ c. is_above_changed_since c row) e ∙ f in
           rw f (rw gone refl)
     ]
 
-pub changed_alike : (items : List FetchItem) (mode : FetchMode) (modseq : ℕ) (rows : List Listed) (named : List Shown) → mode.changed_since ≡ Some modseq → AreRisingRows 1 rows → fetch_answers items mode (changed_since modseq rows) (changed_since modseq rows) named ≡ fetch_answers items mode rows rows named
+pub changed_alike : (items : List FetchItem) (mode : FetchMode) (modseq : ℕ) (rows : List ListedMessage) (named : List ViewedMessage) → mode.changed_since ≡ Some modseq → AreRisingRows 1 rows → fetch_answers items mode (changed_since modseq rows) (changed_since modseq rows) named ≡ fetch_answers items mode rows rows named
 changed_alike items mode modseq rows [] e h = refl
 changed_alike items mode modseq rows (shown ∷ named) e h =
     let changed = changed_since modseq rows in

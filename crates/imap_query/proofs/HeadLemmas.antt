@@ -3,25 +3,25 @@ use Rattle.std.proofs.Common.{◌≡◌, ◌∙◌, ap, sym, refl, ℕ, ◌+◌,
 use Rattle.std.proofs.lemmas.Bool.{and_parts, false≢true}
 use Rattle.std.specs.List.{fold, list_any}
 use Rattle.std.specs.Prelude.{IfSome}
-use Rattle.imap_types.specs.Keywords.{with_text}
-use Rattle.imap_types.specs.Unions.{united}
+use Rattle.imap_types.specs.Keywords.{with_word}
+use Rattle.imap_types.specs.Unions.{united_flags}
 use Rattle.imap_types.specs.declared.flags.Flags.{Flags}
 use Rattle.imap_types.specs.declared.version.Version.{Version}
 use Rattle.imap_syntax.specs.declared.fetch.FetchItem.{FetchItem}
 use Rattle.imap_syntax.specs.declared.search.SearchStep.{SearchStep}
 use Rattle.imap_syntax.specs.declared.search.SearchStep.TheVariants.{Test}
 use Rattle.imap_syntax.specs.declared.search.SearchTest.TheVariants.{System}
-use Rattle.mail_listing.specs.Listed.{Head, Listed}
-use Rattle.mail_listing.specs.Listing.{head_of, row_of}
+use Rattle.mailbox_rows.specs.ListedMessage.{ListedHead, ListedMessage}
+use Rattle.mailbox_rows.specs.RowViews.{head_of, row_of}
 use Rattle.imap_answers.specs.declared.answer.Answer.{Answer}
 use Rattle.imap_answers.specs.declared.answer.Answer.TheVariants.{Fetch}
-use Rattle.imap_query.specs.Fetching.{answer_of, asks, fetch_answers, is_kept, is_marked, items_of, parts_of, sets_seen, tells_flags, tells_modseq, where_told}
+use Rattle.imap_query.specs.Fetching.{answer_of, asks_part, fetch_answers, is_above_changed_since, is_seen_set, items_of, parts_of, sets_seen, tells_flags, tells_modseq, if_told}
 use Rattle.imap_query.specs.Heads.{are_of_heads, flag_key, head_answer, head_hit, head_items, is_kept_head}
 use Rattle.imap_query.specs.Search.{hit_of}
 use Rattle.imap_query.specs.declared.fetching.FetchMode.{FetchMode}
 use Rattle.imap_query.specs.declared.fetching.Part.TheVariants as part
 use Rattle.imap_query.specs.declared.keys.FlagTest.{FlagTest}
-use Rattle.imap_query.specs.declared.shown.Shown.{Shown}
+use Rattle.imap_query.specs.declared.viewed_message.ViewedMessage.{ViewedMessage}
 use Rattle.imap_query.proofs.HitLemmas.{drop_at}
 use Rattle.imap_query.proofs.SectionLemmas.{no_sections}
 
@@ -38,38 +38,38 @@ none_marked true true sets e = refl
 none_marked true false sets e = e
 none_marked false seen sets e = refl
 
-kept_alike : (since : Option ℕ) (row : Listed) → is_kept_head since (head_of row) ≡ is_kept since row
+kept_alike : (since : Option ℕ) (row : ListedMessage) → is_kept_head since (head_of row) ≡ is_above_changed_since since row
 kept_alike None row = refl
 kept_alike (Some modseq) row = refl
 
-flags_alike : (items : List FetchItem) (mode : FetchMode) (row : Listed) → list_any sets_seen items ≡ false → asks part.Flags items ≡ tells_flags items mode row
-flags_alike items mode row n = sym (ap (λ b. asks part.Flags items || b) (none_marked mode.writable row.flags.seen (list_any sets_seen items) n) ∙ or_none (asks part.Flags items))
+flags_alike : (items : List FetchItem) (mode : FetchMode) (row : ListedMessage) → list_any sets_seen items ≡ false → asks_part part.Flags items ≡ tells_flags items mode row
+flags_alike items mode row n = sym (ap (λ b. asks_part part.Flags items || b) (none_marked mode.writable row.flags.seen (list_any sets_seen items) n) ∙ or_none (asks_part part.Flags items))
 
-items_alike : (items : List FetchItem) (mode : FetchMode) (row : Listed) → are_of_heads (parts_of items) ≡ true → head_items items mode (head_of row) ≡ items_of items mode row row
+items_alike : (items : List FetchItem) (mode : FetchMode) (row : ListedMessage) → are_of_heads (parts_of items) ≡ true → head_items items mode (head_of row) ≡ items_of items mode row row
 items_alike items mode row h =
-    let date = and_parts (not (asks part.Date items)) _ h in
-    let size = and_parts (not (asks part.Size items)) _ date.1 in
-    let sections = and_parts (not (asks part.Section items)) _ size.1 in
-    let no_date : None ≡ where_told (asks part.Date items) row.date = ap (λ b. where_told b row.date) (sym (off (asks part.Date items) date.0)) in
-    let no_size : None ≡ where_told (asks part.Size items) (length row.text) = ap (λ b. where_told b (length row.text)) (sym (off (asks part.Size items) size.0)) in
-    let none = no_sections row.text items (off (asks part.Section items) sections.0) in
+    let date = and_parts (not (asks_part part.Date items)) _ h in
+    let size = and_parts (not (asks_part part.Size items)) _ date.1 in
+    let sections = and_parts (not (asks_part part.Section items)) _ size.1 in
+    let no_date : None ≡ if_told (asks_part part.Date items) row.date = ap (λ b. if_told b row.date) (sym (off (asks_part part.Date items) date.0)) in
+    let no_size : None ≡ if_told (asks_part part.Size items) (length row.text) = ap (λ b. if_told b (length row.text)) (sym (off (asks_part part.Size items) size.0)) in
+    let none = no_sections row.text items (off (asks_part part.Section items) sections.0) in
     let flags = flags_alike items mode row (off (list_any sets_seen items) sections.1) in
     λ i. record {
-      uid = where_told (mode.by_uid || asks part.Uid items) row.uid;
-      flags = where_told (flags i) row.flags;
+      uid = if_told (mode.by_uid || asks_part part.Uid items) row.uid;
+      flags = if_told (flags i) row.flags;
       date = no_date i;
       size = no_size i;
-      modseq = where_told (tells_modseq items mode (flags i)) row.modseq;
+      modseq = if_told (tells_modseq items mode (flags i)) row.modseq;
       sections = none i;
     }
 
-answer_alike : (items : List FetchItem) (mode : FetchMode) (shown : Shown) (o : Option Listed) → are_of_heads (parts_of items) ≡ true → head_answer items mode shown (option_map head_of o) ≡ answer_of items mode shown o o
+answer_alike : (items : List FetchItem) (mode : FetchMode) (shown : ViewedMessage) (o : Option ListedMessage) → are_of_heads (parts_of items) ≡ true → head_answer items mode shown (option_map head_of o) ≡ answer_of items mode shown o o
 answer_alike items mode shown None h = refl
 answer_alike items mode shown (Some row) h =
     λ i. if kept_alike mode.changed_since row i then Fetch shown.number (items_alike items mode row h i) ∷ [] else []
 
 -- One message more that FETCH tells.
-pub answers_more : (items : List FetchItem) (mode : FetchMode) (rows : List Listed) (named : List Shown) (k : ℕ) (d : Shown) (found new total : List Answer) → are_of_heads (parts_of items) ≡ true → k < length named
+pub answers_more : (items : List FetchItem) (mode : FetchMode) (rows : List ListedMessage) (named : List ViewedMessage) (k : ℕ) (d : ViewedMessage) (found new total : List Answer) → are_of_heads (parts_of items) ≡ true → k < length named
     → new ≡ found ++ head_answer items mode (get_or named k d) (option_map head_of (row_of (get_or named k d).uid rows))
     → found ++ fetch_answers items mode rows rows (drop k named) ≡ total → new ++ fetch_answers items mode rows rows (drop (k + 1) named) ≡ total
 answers_more items mode rows named k d found new total h l n i =
@@ -81,7 +81,7 @@ answers_more items mode rows named k d found new total h l n i =
     ∙ i
 
 -- A hit by the head of a row is one by the row.
-pub hit_alike : (by_uid : Bool) (test : FlagTest) (last shown : Shown) (o : Option Listed) → head_hit by_uid test shown (option_map head_of o) ≡ hit_of by_uid (flag_key test) last shown o
+pub hit_alike : (by_uid : Bool) (test : FlagTest) (last shown : ViewedMessage) (o : Option ListedMessage) → head_hit by_uid test shown (option_map head_of o) ≡ hit_of by_uid (flag_key test) last shown o
 hit_alike by_uid test last shown None = refl
 hit_alike by_uid test last shown (Some row) = refl
 
@@ -93,15 +93,15 @@ flag_steps found test steps e h = subst (λ (o : Option FlagTest). IfSome o (λ 
 abbrev pub plain : Flags → Flags
 plain flags = record { answered = flags.answered; flagged = flags.flagged; deleted = flags.deleted; seen = flags.seen; draft = flags.draft; keywords = [] }
 
-one_plain : (version : Version) → version.flags.keywords ≡ [] → plain version.flags ≡ united (version ∷ [])
+one_plain : (version : Version) → version.flags.keywords ≡ [] → plain version.flags ≡ united_flags (version ∷ [])
 one_plain version k = λ i. record {
   answered = sym (or_none version.flags.answered) i;
   flagged = sym (or_none version.flags.flagged) i;
   deleted = sym (or_none version.flags.deleted) i;
   seen = sym (or_none version.flags.seen) i;
   draft = sym (or_none version.flags.draft) i;
-  keywords = sym (ap (λ (ws : List (List ℕ)). fold (λ done word. with_text word done) [] (ws ++ [])) k) i;
+  keywords = sym (ap (λ (ws : List (List ℕ)). fold (λ done word. with_word word done) [] (ws ++ [])) k) i;
 }
 
-pub plain_united : (versions : List Version) (version : Version) → versions ≡ version ∷ [] → version.flags.keywords ≡ [] → plain version.flags ≡ united versions
-plain_united versions version e k = one_plain version k ∙ ap united (sym e)
+pub plain_united : (versions : List Version) (version : Version) → versions ≡ version ∷ [] → version.flags.keywords ≡ [] → plain version.flags ≡ united_flags versions
+plain_united versions version e k = one_plain version k ∙ ap united_flags (sym e)

@@ -5,11 +5,11 @@ use Rattle.imap_syntax.specs.declared.search.SearchStep.{SearchStep}
 use Rattle.imap_syntax.specs.declared.search.SearchStep.TheVariants.{Not, Or, And}
 use Rattle.imap_types.specs.Numbers.{AreRisingFrom, greatest}
 use Rattle.imap_query.specs.Hits.{MayAdd, last_number, step_names_modseq}
-use Rattle.imap_query.specs.Keys.{Asks, Both, Either, Key, Lacks, steps_of}
-use Rattle.mail_listing.specs.Listed.{Listed}
-use Rattle.mail_listing.specs.Listing.{row_of}
-use Rattle.imap_query.specs.Search.{asks_modseq, hit_of, hits_among, last_hit, last_shown, name_of}
-use Rattle.imap_query.specs.declared.shown.Shown.{Shown}
+use Rattle.imap_query.specs.KeyHits.{Asks, Both, Either, Key, Lacks, steps_of}
+use Rattle.mailbox_rows.specs.ListedMessage.{ListedMessage}
+use Rattle.mailbox_rows.specs.RowViews.{row_of}
+use Rattle.imap_query.specs.Search.{asks_modseq, hit_of, hits_of_rows, last_hit, last_shown, number_or_uid}
+use Rattle.imap_query.specs.declared.viewed_message.ViewedMessage.{ViewedMessage}
 use Rattle.imap_query.specs.declared.searching.Hit.{Hit}
 
 abbrev numbers_of_hits : List Hit → List ℕ
@@ -82,7 +82,7 @@ last_number_at other (a ∷ b ∷ hits) d h =
     let n : suc (suc (length hits)) - 1 ≡ suc (suc (length hits) - 1) = omega arith in
     ap (λ k. (get_or (a ∷ b ∷ hits) k d).number) n ∙ last_number_at a.number (b ∷ hits) d (omega arith)
 
-pub last_shown_at : (view : List Shown) (d : Shown) → 0 < length view → get_or view (length view - 1) d ≡ last_shown view
+pub last_shown_at : (view : List ViewedMessage) (d : ViewedMessage) → 0 < length view → get_or view (length view - 1) d ≡ last_shown view
 last_shown_at [] d h = absurd (omega arith)
 last_shown_at (a ∷ []) d h = refl
 last_shown_at (a ∷ b ∷ view) d h =
@@ -120,18 +120,18 @@ first_above numbers hits k d l i =
     omega arith
 
 -- one message of the view more
-pub hits_more : (by_uid : Bool) (key : Key) (last other : Shown) (rows : List Listed) (view : List Shown) (k : ℕ) (d : Shown) (found new total : List Hit) → k < length view → last ≡ other
+pub hits_more : (by_uid : Bool) (key : Key) (last other : ViewedMessage) (rows : List ListedMessage) (view : List ViewedMessage) (k : ℕ) (d : ViewedMessage) (found new total : List Hit) → k < length view → last ≡ other
     → new ≡ found ++ hit_of by_uid key last (get_or view k d) (row_of (get_or view k d).uid rows)
-    → found ++ hits_among by_uid key other rows (drop k view) ≡ total → new ++ hits_among by_uid key other rows (drop (k + 1) view) ≡ total
+    → found ++ hits_of_rows by_uid key other rows (drop k view) ≡ total → new ++ hits_of_rows by_uid key other rows (drop (k + 1) view) ≡ total
 hits_more by_uid key last other rows view k d found new total l e n i =
     let shown = get_or view k d in
-    ap (λ xs. xs ++ hits_among by_uid key other rows (drop (k + 1) view)) (n ∙ ap (λ s. found ++ hit_of by_uid key s shown (row_of shown.uid rows)) e)
-    ∙ append_assoc found (hit_of by_uid key other shown (row_of shown.uid rows)) (hits_among by_uid key other rows (drop (k + 1) view))
-    ∙ ap (λ xs. found ++ hits_among by_uid key other rows xs) (sym (drop_at view k d l))
+    ap (λ xs. xs ++ hits_of_rows by_uid key other rows (drop (k + 1) view)) (n ∙ ap (λ s. found ++ hit_of by_uid key s shown (row_of shown.uid rows)) e)
+    ∙ append_assoc found (hit_of by_uid key other shown (row_of shown.uid rows)) (hits_of_rows by_uid key other rows (drop (k + 1) view))
+    ∙ ap (λ xs. found ++ hits_of_rows by_uid key other rows xs) (sym (drop_at view k d l))
     ∙ i
 
-pub names_more : (by_uid : Bool) (view : List Shown) (k : ℕ) (d : Shown) (old new : List ℕ) → k < length view → MayAdd (name_of by_uid (get_or view k d)) old new
-    → AreRisingFrom 1 (old ++ map (name_of by_uid) (drop k view)) → AreRisingFrom 1 (new ++ map (name_of by_uid) (drop (k + 1) view))
+pub names_more : (by_uid : Bool) (view : List ViewedMessage) (k : ℕ) (d : ViewedMessage) (old new : List ℕ) → k < length view → MayAdd (number_or_uid by_uid (get_or view k d)) old new
+    → AreRisingFrom 1 (old ++ map (number_or_uid by_uid) (drop k view)) → AreRisingFrom 1 (new ++ map (number_or_uid by_uid) (drop (k + 1) view))
 names_more by_uid view k d old new l m h =
-    rising_on (name_of by_uid (get_or view k d)) old new (map (name_of by_uid) (drop (k + 1) view)) m
-    (subst (λ xs. AreRisingFrom 1 (old ++ map (name_of by_uid) xs)) (drop_at view k d l) h)
+    rising_on (number_or_uid by_uid (get_or view k d)) old new (map (number_or_uid by_uid) (drop (k + 1) view)) m
+    (subst (λ xs. AreRisingFrom 1 (old ++ map (number_or_uid by_uid) xs)) (drop_at view k d l) h)

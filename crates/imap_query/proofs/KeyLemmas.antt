@@ -3,7 +3,7 @@ use Rattle.std.proofs.lemmas.List.{reverse-append}
 use Rattle.imap_syntax.specs.declared.search.SearchStep.{SearchStep}
 use Rattle.imap_syntax.specs.declared.search.SearchStep.TheVariants.{Test, Not, Or, And}
 use Rattle.imap_syntax.specs.declared.search.SearchTest.{SearchTest}
-use Rattle.imap_query.specs.Keys.{Key, Asks, Lacks, Either, Both, hits, steps_of}
+use Rattle.imap_query.specs.KeyHits.{Key, Asks, Lacks, Either, Both, hits, steps_of}
 use Rattle.imap_query.specs.Runs.{run, built}
 
 -- where the steps of one key, of another and a last one stand in front

@@ -6,12 +6,12 @@ use Rattle.std.proofs.lemmas.Grind.{common_steps}
 use Rattle.std.proofs.lemmas.Bool.Decides.{Decides-eqb}
 use Rattle.std.proofs.lemmas.Slice.Eq.{bytes_eq-Decides}
 use Rattle.std.specs.Str.{bytes_eq}
-use Rattle.imap_types.specs.Names.{folded_name}
-use Rattle.imap_query.specs.Listing.{AreListed, EndsInPercent, IsListed, IsSuperior, Lists}
+use Rattle.imap_types.specs.Names.{fold_inbox}
+use Rattle.imap_query.specs.ListEntries.{AreListEntries, EndsInPercent, IsListEntry, IsSuperior, Lists}
 use Rattle.imap_query.specs.Patterns.{IsIn, IsMatched, is_among, pattern_for}
-use Rattle.imap_query.specs.Placing.{ends_in_percent, found, levels_from, placed_all, shown_among, shown_level, shown_levels, shown_mailboxes}
-use Rattle.imap_query.specs.Rows.{is_shown}
-use Rattle.imap_query.specs.declared.listing.ListEntry.{ListEntry}
+use Rattle.imap_query.specs.Placing.{ends_in_percent, entries_found, levels_from, placed_all, shown_among, shown_level, shown_levels, shown_mailboxes}
+use Rattle.imap_query.specs.PatternRows.{is_shown}
+use Rattle.imap_query.specs.declared.list_entries.ListEntry.{ListEntry}
 use Rattle.imap_query.proofs.MatchLemmas.{match_gives, match_takes, or_cases, or_left, or_right}
 use Rattle.imap_query.proofs.PlacingLemmas.{all_ascending, all_has, all_new, placed_all_joined, same_entries}
 use Rattle.imap_query.proofs.RowLemmas.{chosen_false, chosen_true, either_way}
@@ -31,10 +31,10 @@ in_either x (y ∷ some) more h = elim h [ inl e ↦ inl (inl e) | inr t ↦ eli
 
 -- the test of what is shown
 shown_takes : (pattern name : List ℕ) → is_shown pattern name ≡ true → IsMatched pattern name
-shown_takes pattern name h = match_takes (pattern_for name pattern) (folded_name name) h
+shown_takes pattern name h = match_takes (pattern_for name pattern) (fold_inbox name) h
 
 shown_gives : (pattern name : List ℕ) → IsMatched pattern name → is_shown pattern name ≡ true
-shown_gives pattern name h = match_gives (pattern_for name pattern) (folded_name name) h
+shown_gives pattern name h = match_gives (pattern_for name pattern) (fold_inbox name) h
 
 -- the test of what is a folder
 among_takes : (folders : List (List ℕ)) (name : List ℕ) → is_among folders name ≡ true → IsIn name folders
@@ -99,38 +99,38 @@ mailboxes_give pattern (folder ∷ folders) x m b i =
 
 -- the entry of a superior level
 abbrev IsLevelOf : List ℕ → List (List ℕ) → List ℕ → ListEntry → Type 0
-IsLevelOf pattern folders upper entry = IsMatched pattern entry.name × (entry.is_mailbox ≡ false) × (entry.name ≡ folded_name upper) × (¬ IsIn entry.name folders)
+IsLevelOf pattern folders upper entry = IsMatched pattern entry.name × (entry.is_mailbox ≡ false) × (entry.name ≡ fold_inbox upper) × (¬ IsIn entry.name folders)
 
 level_takes : (pattern : List ℕ) (folders : List (List ℕ)) (upper : List ℕ) (x : ListEntry) → IsIn x (shown_level pattern folders upper) → IsLevelOf pattern folders upper x
 level_takes pattern folders upper x h =
-    elim (either_way (is_among folders (folded_name upper))) [
-      | inl t ↦ absurd (subst (IsIn x) (chosen_true (is_among folders (folded_name upper)) _ _ t) h)
+    elim (either_way (is_among folders (fold_inbox upper))) [
+      | inl t ↦ absurd (subst (IsIn x) (chosen_true (is_among folders (fold_inbox upper)) _ _ t) h)
       | inr f ↦
-          let h' : IsIn x (cond (is_shown pattern (folded_name upper)) ((record { name = folded_name upper; is_mailbox = false }) ∷ []) []) = subst (IsIn x) (chosen_false (is_among folders (folded_name upper)) _ _ f) h in
-          elim (either_way (is_shown pattern (folded_name upper))) [
+          let h' : IsIn x (cond (is_shown pattern (fold_inbox upper)) ((record { name = fold_inbox upper; is_mailbox = false }) ∷ []) []) = subst (IsIn x) (chosen_false (is_among folders (fold_inbox upper)) _ _ f) h in
+          elim (either_way (is_shown pattern (fold_inbox upper))) [
             | inl t ↦
-                let at : IsIn x ((record { name = folded_name upper; is_mailbox = false }) ∷ []) = subst (IsIn x) (chosen_true (is_shown pattern (folded_name upper)) _ _ t) h' in
+                let at : IsIn x ((record { name = fold_inbox upper; is_mailbox = false }) ∷ []) = subst (IsIn x) (chosen_true (is_shown pattern (fold_inbox upper)) _ _ t) h' in
                 elim at [
                   | inl e ↦
-                      let named : folded_name upper ≡ x.name = ap (λ (y : ListEntry). y.name) e in (
-                        subst (IsMatched pattern) named (shown_takes pattern (folded_name upper) t),
+                      let named : fold_inbox upper ≡ x.name = ap (λ (y : ListEntry). y.name) e in (
+                        subst (IsMatched pattern) named (shown_takes pattern (fold_inbox upper) t),
                         sym (ap (λ (y : ListEntry). y.is_mailbox) e),
                         sym named,
-                        λ i. let q : true ≡ false = sym (among_gives folders (folded_name upper) (subst (λ (n : List ℕ). IsIn n folders) (sym named) i)) ∙ f in cc,
+                        λ i. let q : true ≡ false = sym (among_gives folders (fold_inbox upper) (subst (λ (n : List ℕ). IsIn n folders) (sym named) i)) ∙ f in cc,
                       )
                   | inr u ↦ absurd u
                 ]
-            | inr g ↦ absurd (subst (IsIn x) (chosen_false (is_shown pattern (folded_name upper)) _ _ g) h')
+            | inr g ↦ absurd (subst (IsIn x) (chosen_false (is_shown pattern (fold_inbox upper)) _ _ g) h')
           ]
     ]
 
 level_gives : (pattern : List ℕ) (folders : List (List ℕ)) (upper : List ℕ) (x : ListEntry) → IsLevelOf pattern folders upper x → IsIn x (shown_level pattern folders upper)
 level_gives pattern folders upper x h =
-    let f : is_among folders (folded_name upper) ≡ false = not_among folders (folded_name upper) (λ i. h.3 (subst (λ (n : List ℕ). IsIn n folders) (sym h.2) i)) in
-    let t : is_shown pattern (folded_name upper) ≡ true = shown_gives pattern (folded_name upper) (subst (IsMatched pattern) h.2 h.0) in
-    let same : ◌≡◌ {A = ListEntry} (record { name = folded_name upper; is_mailbox = false }) x = λ k. record { name = sym h.2 k; is_mailbox = sym h.1 k } in
-    subst (IsIn x) (sym (chosen_false (is_among folders (folded_name upper)) _ _ f))
-    (subst (IsIn x) (sym (chosen_true (is_shown pattern (folded_name upper)) _ _ t)) (inl same))
+    let f : is_among folders (fold_inbox upper) ≡ false = not_among folders (fold_inbox upper) (λ i. h.3 (subst (λ (n : List ℕ). IsIn n folders) (sym h.2) i)) in
+    let t : is_shown pattern (fold_inbox upper) ≡ true = shown_gives pattern (fold_inbox upper) (subst (IsMatched pattern) h.2 h.0) in
+    let same : ◌≡◌ {A = ListEntry} (record { name = fold_inbox upper; is_mailbox = false }) x = λ k. record { name = sym h.2 k; is_mailbox = sym h.1 k } in
+    subst (IsIn x) (sym (chosen_false (is_among folders (fold_inbox upper)) _ _ f))
+    (subst (IsIn x) (sym (chosen_true (is_shown pattern (fold_inbox upper)) _ _ t)) (inl same))
 
 among_take : (pattern : List ℕ) (folders : List (List ℕ)) (uppers : List (List ℕ)) (x : ListEntry) → IsIn x (shown_among pattern folders uppers) → (upper : List ℕ) × IsIn upper uppers × IsLevelOf pattern folders upper x
 among_take pattern folders [] x h = absurd h
@@ -199,7 +199,7 @@ levels_all_give pattern folders (other ∷ some) x upper folder i s h =
     ]
 
 -- what is found is what is listed
-found_takes : (pattern : List ℕ) (folders : List (List ℕ)) (x : ListEntry) → IsIn x (found pattern folders) → IsListed folders pattern x
+found_takes : (pattern : List ℕ) (folders : List (List ℕ)) (x : ListEntry) → IsIn x (entries_found pattern folders) → IsListEntry folders pattern x
 found_takes pattern folders x h =
     elim (in_either x (shown_mailboxes pattern folders) _ h) [
       | inl t ↦ let one = mailboxes_take pattern folders x t in (one.0, inl (one.1, one.2))
@@ -211,7 +211,7 @@ found_takes pattern folders x h =
       ]
     ]
 
-found_gives : (pattern : List ℕ) (folders : List (List ℕ)) (x : ListEntry) → IsListed folders pattern x → IsIn x (found pattern folders)
+found_gives : (pattern : List ℕ) (folders : List (List ℕ)) (x : ListEntry) → IsListEntry folders pattern x → IsIn x (entries_found pattern folders)
 found_gives pattern folders x h =
     elim h.1 [
       | inl m ↦ in_front x (shown_mailboxes pattern folders) _ (mailboxes_give pattern folders x h.0 m.0 m.1)
@@ -223,7 +223,7 @@ found_gives pattern folders x h =
     ]
 
 -- a name is listed as one entry
-one_entry : (pattern : List ℕ) (folders : List (List ℕ)) (x y : ListEntry) → IsListed folders pattern x → IsListed folders pattern y → x.name ≡ y.name → x ≡ y
+one_entry : (pattern : List ℕ) (folders : List (List ℕ)) (x y : ListEntry) → IsListEntry folders pattern x → IsListEntry folders pattern y → x.name ≡ y.name → x ≡ y
 one_entry pattern folders x y h k e =
     elim h.1 [
       | inl m ↦ elim k.1 [
@@ -236,21 +236,21 @@ one_entry pattern folders x y h k e =
       ]
     ]
 
-pub listed_is : (pattern : List ℕ) (folders : List (List ℕ)) → AreListed folders pattern (placed_all (found pattern folders) [])
+pub listed_is : (pattern : List ℕ) (folders : List (List ℕ)) → AreListEntries folders pattern (placed_all (entries_found pattern folders) [])
 listed_is pattern folders =
-    let P : ListEntry → Type 0 = IsListed folders pattern in
+    let P : ListEntry → Type 0 = IsListEntry folders pattern in
     let one = one_entry pattern folders in
     record {
-      ascending = all_ascending P one (found pattern folders) [] tt;
+      ascending = all_ascending P one (entries_found pattern folders) [] tt;
       exactly = λ x. (
-        λ h. elim (all_has P one x (found pattern folders) [] h) [ inl t ↦ found_takes pattern folders x t | inr u ↦ absurd u ],
-        λ h. all_new P one x (found pattern folders) [] (found_takes pattern folders) (λ y u. absurd u) (found_gives pattern folders x h),
+        λ h. elim (all_has P one x (entries_found pattern folders) [] h) [ inl t ↦ found_takes pattern folders x t | inr u ↦ absurd u ],
+        λ h. all_new P one x (entries_found pattern folders) [] (found_takes pattern folders) (λ y u. absurd u) (found_gives pattern folders x h),
       );
     }
 
-pub lists_is : (reference pattern : List ℕ) (folders : List (List ℕ)) (entries : List ListEntry) → (length pattern == 0) ≡ false → entries ≡ placed_all (found (reference ++ pattern) folders) [] → Lists reference pattern folders entries
+pub lists_is : (reference pattern : List ℕ) (folders : List (List ℕ)) (entries : List ListEntry) → (length pattern == 0) ≡ false → entries ≡ placed_all (entries_found (reference ++ pattern) folders) [] → Lists reference pattern folders entries
 lists_is reference [] folders entries h e = cc
-lists_is reference (octet ∷ pattern) folders entries h e = subst (AreListed folders (reference ++ octet ∷ pattern)) (sym e) (listed_is (reference ++ octet ∷ pattern) folders)
+lists_is reference (octet ∷ pattern) folders entries h e = subst (AreListEntries folders (reference ++ octet ∷ pattern)) (sym e) (listed_is (reference ++ octet ∷ pattern) folders)
 
 -- the last octet, by its place
 pub percent_at : (pattern : List ℕ) (d : ℕ) → 0 < length pattern → (get_or pattern (length pattern - 1) d == 37) ≡ ends_in_percent pattern
@@ -287,8 +287,8 @@ folder_read pattern folders at folder text entries next h is same e =
     ∙ sym (placed_all_joined (shown_among pattern folders (levels_from [] text)) (shown_levels pattern folders (drop (at + 1) folders)) entries)
     ∙ ap (λ some. placed_all (shown_levels pattern folders some) entries) (sym here)
 
-pub lists_when : (reference pattern joined : List ℕ) (folders : List (List ℕ)) (result : Result (Vec ListEntry Global) AllocError) → (length pattern == 0) ≡ false → joined ≡ reference ++ pattern → IfOk result (λ entries. entries.items ≡ placed_all (found joined folders) []) → IfOk result (λ entries. Lists reference pattern folders entries.items)
-lists_when reference pattern joined folders (Ok entries) h j e = lists_is reference pattern folders entries.items h (e ∙ ap (λ p. placed_all (found p folders) []) j)
+pub lists_when : (reference pattern joined : List ℕ) (folders : List (List ℕ)) (result : Result (Vec ListEntry Global) AllocError) → (length pattern == 0) ≡ false → joined ≡ reference ++ pattern → IfOk result (λ entries. entries.items ≡ placed_all (entries_found joined folders) []) → IfOk result (λ entries. Lists reference pattern folders entries.items)
+lists_when reference pattern joined folders (Ok entries) h j e = lists_is reference pattern folders entries.items h (e ∙ ap (λ p. placed_all (entries_found p folders) []) j)
 lists_when reference pattern joined folders (Err error) h j e = e
 
 pub one_listing : (reference pattern : List ℕ) (folders : List (List ℕ)) (entries others : List ListEntry) → Lists reference pattern folders entries → Lists reference pattern folders others → entries ≡ others

@@ -3,7 +3,7 @@ use Rattle.std.proofs.lemmas.Bool.Decides.{Decides-eqb, eqb_tells}
 use Rattle.std.specs.Prelude.{IfOk, Result, Ok, Err}
 use Rattle.std.specs.declared.alloc.AllocError.{AllocError}
 use Rattle.imap_query.specs.Patterns.{Matches, StandsFor}
-use Rattle.imap_query.specs.Rows.{after_octet, after_wildcard, is_match, is_wildcard, may_hold}
+use Rattle.imap_query.specs.PatternRows.{after_octet, after_wildcard, is_match, is_wildcard, may_hold}
 use Rattle.imap_query.proofs.RowLemmas.{chosen_true, chosen_false, either_way}
 
 pub or_cases : (a b : Bool) → (a || b) ≡ true → (a ≡ true) ⊎ (b ≡ true)

@@ -1,11 +1,11 @@
 use Rattle.std.proofs.Common.{◌≡◌, ◌∙◌, ap, sym, refl, subst, arith, ℕ, true, false, ◌==◌, inl, inr, List, [], ◌∷◌, ◌++◌, length, map}
 use Rattle.imap_answers.specs.declared.answer.Answer.{Answer}
-use Rattle.imap_query.specs.Listing.{Lists, names_of}
-use Rattle.imap_query.specs.Naming.{AreSubscribed, ShowsMatched, ShowsNames, name_answer, subscribed_answer}
+use Rattle.imap_query.specs.ListEntries.{Lists, names_of}
+use Rattle.imap_query.specs.ListNames.{AreSubscribedNames, ListsMatching, ListsNames, name_answer, subscribed_answer}
 use Rattle.imap_query.specs.Patterns.{IsIn, IsMatched}
 use Rattle.imap_query.specs.Placing.{placed_all, shown_mailboxes}
-use Rattle.imap_query.specs.declared.listing.ListEntry.{ListEntry}
-use Rattle.imap_query.specs.declared.naming.ListMode.{ListMode}
+use Rattle.imap_query.specs.declared.list_entries.ListEntry.{ListEntry}
+use Rattle.imap_query.specs.declared.list_answers.ListMode.{ListMode}
 use Rattle.imap_query.proofs.ListingLemmas.{IsMailboxOf, mailboxes_give, mailboxes_take}
 use Rattle.imap_query.proofs.PlacingLemmas.{all_ascending, all_has, all_new}
 
@@ -35,7 +35,7 @@ one_mailbox : (pattern : List ℕ) (names : List (List ℕ)) (x y : ListEntry) �
 one_mailbox pattern names x y h k e = λ i. record { name = e i; is_mailbox = (h.1 ∙ sym k.1) i }
 
 -- the subscribed names that are placed are those that match
-subscribed_is : (pattern : List ℕ) (names : List (List ℕ)) → AreSubscribed names pattern (names_of (placed_all (shown_mailboxes pattern names) []))
+subscribed_is : (pattern : List ℕ) (names : List (List ℕ)) → AreSubscribedNames names pattern (names_of (placed_all (shown_mailboxes pattern names) []))
 subscribed_is pattern names =
     let P : ListEntry → Type 0 = IsMailboxOf pattern names in
     let one = one_mailbox pattern names in
@@ -55,19 +55,19 @@ subscribed_is pattern names =
       );
     }
 
-pub shows_root : (mode : ListMode) (reference pattern : List ℕ) (folders subscriptions : List (List ℕ)) (answers : List Answer) → length pattern ≡ 0 → ShowsNames mode [] [] folders subscriptions answers → ShowsNames mode reference pattern folders subscriptions answers
+pub shows_root : (mode : ListMode) (reference pattern : List ℕ) (folders subscriptions : List (List ℕ)) (answers : List Answer) → length pattern ≡ 0 → ListsNames mode [] [] folders subscriptions answers → ListsNames mode reference pattern folders subscriptions answers
 shows_root mode reference [] folders subscriptions answers l h = h
 shows_root mode reference (octet ∷ pattern) folders subscriptions answers l h = absurd (omega arith)
 
 pub shows_subscribed : (mode : ListMode) (reference pattern : List ℕ) (folders subscriptions : List (List ℕ)) (answers : List Answer) → (length pattern == 0) ≡ false → mode.subscribed_only ≡ true
-    → answers ≡ map (subscribed_answer folders) (names_of (placed_all (shown_mailboxes (reference ++ pattern) subscriptions) [])) → ShowsNames mode reference pattern folders subscriptions answers
+    → answers ≡ map (subscribed_answer folders) (names_of (placed_all (shown_mailboxes (reference ++ pattern) subscriptions) [])) → ListsNames mode reference pattern folders subscriptions answers
 shows_subscribed mode reference [] folders subscriptions answers l t e = absurd cc
 shows_subscribed mode reference (octet ∷ pattern) folders subscriptions answers l t e =
-    subst (λ only. ShowsMatched only mode.return_subscribed (reference ++ octet ∷ pattern) folders subscriptions answers) (sym t)
+    subst (λ only. ListsMatching only mode.return_subscribed (reference ++ octet ∷ pattern) folders subscriptions answers) (sym t)
     (names_of (placed_all (shown_mailboxes (reference ++ octet ∷ pattern) subscriptions) []), subscribed_is (reference ++ octet ∷ pattern) subscriptions, e)
 
 pub shows_listed : (mode : ListMode) (reference pattern : List ℕ) (folders subscriptions : List (List ℕ)) (entries : List ListEntry) (answers : List Answer) → (length pattern == 0) ≡ false → mode.subscribed_only ≡ false
-    → Lists reference pattern folders entries → answers ≡ map (name_answer mode.return_subscribed subscriptions) entries → ShowsNames mode reference pattern folders subscriptions answers
+    → Lists reference pattern folders entries → answers ≡ map (name_answer mode.return_subscribed subscriptions) entries → ListsNames mode reference pattern folders subscriptions answers
 shows_listed mode reference [] folders subscriptions entries answers l f h e = absurd cc
 shows_listed mode reference (octet ∷ pattern) folders subscriptions entries answers l f h e =
-    subst (λ only. ShowsMatched only mode.return_subscribed (reference ++ octet ∷ pattern) folders subscriptions answers) (sym f) (entries, h, e)
+    subst (λ only. ListsMatching only mode.return_subscribed (reference ++ octet ∷ pattern) folders subscriptions answers) (sym f) (entries, h, e)

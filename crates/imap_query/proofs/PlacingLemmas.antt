@@ -4,25 +4,25 @@ use Rattle.std.specs.declared.cmp.Ordering.TheVariants.{Less, Equal, Greater}
 use Rattle.std.specs.Ordering.{ordering_reverse}
 use Rattle.std.proofs.lemmas.Cmp.{nat_list_cmp_total, tied_itself}
 use Rattle.std.proofs.lemmas.Map.Lookups.{exact_bytes}
-use Rattle.imap_types.specs.Ascending.{AreAscending, ComesBefore, compared}
-use Rattle.imap_query.specs.Listing.{names_of}
+use Rattle.imap_types.specs.Ascending.{AreAscending, ComesBefore, octet_order}
+use Rattle.imap_query.specs.ListEntries.{names_of}
 use Rattle.imap_query.specs.Patterns.{IsIn}
-use Rattle.imap_query.specs.Placing.{placed, placed_all, placed_by}
-use Rattle.imap_query.specs.declared.listing.ListEntry.{ListEntry}
+use Rattle.imap_query.specs.Placing.{insert_entry, placed_all, placed_by}
+use Rattle.imap_query.specs.declared.list_entries.ListEntry.{ListEntry}
 
 pub placed_all_joined : (some more entries : List ListEntry) → placed_all (some ++ more) entries ≡ placed_all more (placed_all some entries)
 placed_all_joined [] more entries = refl
-placed_all_joined (entry ∷ some) more entries = placed_all_joined some more (placed entry entries)
+placed_all_joined (entry ∷ some) more entries = placed_all_joined some more (insert_entry entry entries)
 
 -- the order of names
-greater_flips : (a b : List ℕ) → compared a b ≡ Greater → ComesBefore b a
+greater_flips : (a b : List ℕ) → octet_order a b ≡ Greater → ComesBefore b a
 greater_flips a b h = nat_list_cmp_total.antisymm b a ∙ ap ordering_reverse h
 
-equal_names : (a b : List ℕ) → compared a b ≡ Equal → a ≡ b
+equal_names : (a b : List ℕ) → octet_order a b ≡ Equal → a ≡ b
 equal_names a b h = exact_bytes a b h
 
 not_before_itself : (a : List ℕ) → ComesBefore a a → ⊥
-not_before_itself a h = let e : compared a a ≡ Equal = tied_itself nat_list_cmp_total a in let q : Equal ≡ Less = sym e ∙ h in cc
+not_before_itself a h = let e : octet_order a a ≡ Equal = tied_itself nat_list_cmp_total a in let q : Equal ≡ Less = sym e ∙ h in cc
 
 before_before : (a b c : List ℕ) → ComesBefore a b → ComesBefore b c → ComesBefore a c
 before_before a b c h k = nat_list_cmp_total.trans a b c h k
@@ -33,22 +33,22 @@ behind_by Less first entry next others behind lt below k = (lt, k)
 behind_by Equal first entry next others behind lt below k = (below, k)
 behind_by Greater first entry next others behind lt below k = (below, k)
 
-behind_first : (first entry : ListEntry) (others : List ListEntry) → ComesBefore first.name entry.name → AreAscending (names_of (first ∷ others)) → AreAscending (names_of (placed entry others)) → AreAscending (names_of (first ∷ placed entry others))
+behind_first : (first entry : ListEntry) (others : List ListEntry) → ComesBefore first.name entry.name → AreAscending (names_of (first ∷ others)) → AreAscending (names_of (insert_entry entry others)) → AreAscending (names_of (first ∷ insert_entry entry others))
 behind_first first entry [] lt h k = (lt, k)
-behind_first first entry (next ∷ others) lt h k = behind_by (compared entry.name next.name) first entry next others (placed entry others) lt h.0 k
+behind_first first entry (next ∷ others) lt h k = behind_by (octet_order entry.name next.name) first entry next others (insert_entry entry others) lt h.0 k
 
 tail_ascending : (first : ListEntry) (others : List ListEntry) → AreAscending (names_of (first ∷ others)) → AreAscending (names_of others)
 tail_ascending first [] h = tt
 tail_ascending first (next ∷ others) h = h.1
 
-ascending_by : (order : Ordering) (entry other : ListEntry) (others : List ListEntry) → compared entry.name other.name ≡ order → AreAscending (names_of (other ∷ others)) → AreAscending (names_of (placed entry others)) → AreAscending (names_of (placed_by order entry other others (placed entry others)))
+ascending_by : (order : Ordering) (entry other : ListEntry) (others : List ListEntry) → octet_order entry.name other.name ≡ order → AreAscending (names_of (other ∷ others)) → AreAscending (names_of (insert_entry entry others)) → AreAscending (names_of (placed_by order entry other others (insert_entry entry others)))
 ascending_by Less entry other others e h k = (e, h)
 ascending_by Equal entry other others e h k = h
 ascending_by Greater entry other others e h k = behind_first other entry others (greater_flips entry.name other.name e) h k
 
-ascending_placed : (entry : ListEntry) (entries : List ListEntry) → AreAscending (names_of entries) → AreAscending (names_of (placed entry entries))
+ascending_placed : (entry : ListEntry) (entries : List ListEntry) → AreAscending (names_of entries) → AreAscending (names_of (insert_entry entry entries))
 ascending_placed entry [] h = tt
-ascending_placed entry (other ∷ others) h = ascending_by (compared entry.name other.name) entry other others refl h (ascending_placed entry others (tail_ascending other others h))
+ascending_placed entry (other ∷ others) h = ascending_by (octet_order entry.name other.name) entry other others refl h (ascending_placed entry others (tail_ascending other others h))
 
 -- what is there once an entry is put in
 has_by : (order : Ordering) (x entry other : ListEntry) (others behind : List ListEntry) → (IsIn x behind → (entry ≡ x) ⊎ IsIn x others) → IsIn x (placed_by order entry other others behind) → (entry ≡ x) ⊎ IsIn x (other ∷ others)
@@ -56,54 +56,54 @@ has_by Less x entry other others behind more h = h
 has_by Equal x entry other others behind more h = inr h
 has_by Greater x entry other others behind more h = elim h [ inl e ↦ inr (inl e) | inr t ↦ elim (more t) [ inl e ↦ inl e | inr u ↦ inr (inr u) ] ]
 
-placed_has : (x entry : ListEntry) (entries : List ListEntry) → IsIn x (placed entry entries) → (entry ≡ x) ⊎ IsIn x entries
+placed_has : (x entry : ListEntry) (entries : List ListEntry) → IsIn x (insert_entry entry entries) → (entry ≡ x) ⊎ IsIn x entries
 placed_has x entry [] h = h
-placed_has x entry (other ∷ others) h = has_by (compared entry.name other.name) x entry other others (placed entry others) (placed_has x entry others) h
+placed_has x entry (other ∷ others) h = has_by (octet_order entry.name other.name) x entry other others (insert_entry entry others) (placed_has x entry others) h
 
 keeps_by : (order : Ordering) (x entry other : ListEntry) (others behind : List ListEntry) → (IsIn x others → IsIn x behind) → IsIn x (other ∷ others) → IsIn x (placed_by order entry other others behind)
 keeps_by Less x entry other others behind more h = inr h
 keeps_by Equal x entry other others behind more h = h
 keeps_by Greater x entry other others behind more h = elim h [ inl e ↦ inl e | inr t ↦ inr (more t) ]
 
-placed_keeps : (x entry : ListEntry) (entries : List ListEntry) → IsIn x entries → IsIn x (placed entry entries)
+placed_keeps : (x entry : ListEntry) (entries : List ListEntry) → IsIn x entries → IsIn x (insert_entry entry entries)
 placed_keeps x entry [] h = absurd h
-placed_keeps x entry (other ∷ others) h = keeps_by (compared entry.name other.name) x entry other others (placed entry others) (placed_keeps x entry others) h
+placed_keeps x entry (other ∷ others) h = keeps_by (octet_order entry.name other.name) x entry other others (insert_entry entry others) (placed_keeps x entry others) h
 
-new_by : (order : Ordering) (entry other : ListEntry) (others behind : List ListEntry) → compared entry.name other.name ≡ order → (other.name ≡ entry.name → other ≡ entry) → IsIn entry behind → IsIn entry (placed_by order entry other others behind)
+new_by : (order : Ordering) (entry other : ListEntry) (others behind : List ListEntry) → octet_order entry.name other.name ≡ order → (other.name ≡ entry.name → other ≡ entry) → IsIn entry behind → IsIn entry (placed_by order entry other others behind)
 new_by Less entry other others behind e one more = inl refl
 new_by Equal entry other others behind e one more = inl (one (sym (equal_names entry.name other.name e)))
 new_by Greater entry other others behind e one more = inr more
 
-placed_new : (entry : ListEntry) (entries : List ListEntry) → ((y : ListEntry) → IsIn y entries → y.name ≡ entry.name → y ≡ entry) → IsIn entry (placed entry entries)
+placed_new : (entry : ListEntry) (entries : List ListEntry) → ((y : ListEntry) → IsIn y entries → y.name ≡ entry.name → y ≡ entry) → IsIn entry (insert_entry entry entries)
 placed_new entry [] one = inl refl
-placed_new entry (other ∷ others) one = new_by (compared entry.name other.name) entry other others (placed entry others) refl (one other (inl refl)) (placed_new entry others (λ y t. one y (inr t)))
+placed_new entry (other ∷ others) one = new_by (octet_order entry.name other.name) entry other others (insert_entry entry others) refl (one other (inl refl)) (placed_new entry others (λ y t. one y (inr t)))
 
 -- where a name determines the entry, all are there, in order
 module _ (P : ListEntry → Type 0) (one : (x y : ListEntry) → P x → P y → x.name ≡ y.name → x ≡ y) where
   pub all_ascending : (more entries : List ListEntry) → AreAscending (names_of entries) → AreAscending (names_of (placed_all more entries))
   all_ascending [] entries h = h
-  all_ascending (entry ∷ more) entries h = all_ascending more (placed entry entries) (ascending_placed entry entries h)
+  all_ascending (entry ∷ more) entries h = all_ascending more (insert_entry entry entries) (ascending_placed entry entries h)
 
   pub all_has : (x : ListEntry) (more entries : List ListEntry) → IsIn x (placed_all more entries) → IsIn x more ⊎ IsIn x entries
   all_has x [] entries h = inr h
   all_has x (entry ∷ more) entries h =
-      elim (all_has x more (placed entry entries) h) [
+      elim (all_has x more (insert_entry entry entries) h) [
         | inl t ↦ inl (inr t)
         | inr u ↦ elim (placed_has x entry entries u) [ inl e ↦ inl (inl e) | inr w ↦ inr w ]
       ]
 
   all_keeps : (x : ListEntry) (more entries : List ListEntry) → IsIn x entries → IsIn x (placed_all more entries)
   all_keeps x [] entries h = h
-  all_keeps x (entry ∷ more) entries h = all_keeps x more (placed entry entries) (placed_keeps x entry entries h)
+  all_keeps x (entry ∷ more) entries h = all_keeps x more (insert_entry entry entries) (placed_keeps x entry entries h)
 
   pub all_new : (x : ListEntry) (more entries : List ListEntry) → ((y : ListEntry) → IsIn y more → P y) → ((y : ListEntry) → IsIn y entries → P y) → IsIn x more → IsIn x (placed_all more entries)
   all_new x [] entries ps qs h = absurd h
   all_new x (entry ∷ more) entries ps qs h =
       let p : P entry = ps entry (inl refl) in
-      let now : IsIn entry (placed entry entries) = placed_new entry entries (λ y t. one y entry (qs y t) p) in
+      let now : IsIn entry (insert_entry entry entries) = placed_new entry entries (λ y t. one y entry (qs y t) p) in
       elim h [
-        | inl e ↦ all_keeps x more (placed entry entries) (subst (λ (y : ListEntry). IsIn y (placed entry entries)) e now)
-        | inr t ↦ all_new x more (placed entry entries) (λ y u. ps y (inr u)) (λ y u. elim (placed_has y entry entries u) [ inl e ↦ subst P e p | inr w ↦ qs y w ]) t
+        | inl e ↦ all_keeps x more (insert_entry entry entries) (subst (λ (y : ListEntry). IsIn y (insert_entry entry entries)) e now)
+        | inr t ↦ all_new x more (insert_entry entry entries) (λ y u. ps y (inr u)) (λ y u. elim (placed_has y entry entries u) [ inl e ↦ subst P e p | inr w ↦ qs y w ]) t
       ]
 
 -- the first of ascending entries comes before the others

@@ -1,7 +1,7 @@
 use Rattle.std.proofs.Common.{◌≡◌, ℕ, suc, ◌-◌, ◌<◌, ◌==◌, ◌⊎◌, inl, inr, Bool, true, false, not, ◌&&◌, ◌||◌, cond, List, [], ◌∷◌, length, get_or, sym, refl, ap, ◌∙◌, arith}
 use Rattle.std.proofs.Math.ListN.{replicate}
 use Rattle.std.specs.List.{list_all}
-use Rattle.imap_query.specs.Rows.{after_octet, after_wildcard, answer_after, cell, cells, is_match, is_unset, is_wildcard, last_of, may_hold}
+use Rattle.imap_query.specs.PatternRows.{after_octet, after_wildcard, answer_after, cell, cells, is_match, is_unset, is_wildcard, last_of, may_hold}
 
 -- a choice whose test is known
 pub chosen_true : {A : Type 0} (test : Bool) (x y : A) → test ≡ true → cond test x y ≡ x

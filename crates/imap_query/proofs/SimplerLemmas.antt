@@ -1,6 +1,6 @@
 use Rattle.std.proofs.Common.{◌≡◌, ◌∙◌, ap, sym, refl, arith, ℕ, suc, ◌-◌, ◌==◌, inl, inr, Bool, true, false, ◌&&◌, ◌||◌, List, [], ◌∷◌, ◌++◌, length, slice_set, append_assoc, cond, get_or, ◌<◌}
 use Rattle.std.proofs.lemmas.Bool.{eqb-false}
-use Rattle.imap_query.specs.Rows.{after_octet, after_wildcard, is_match, is_wildcard, may_hold}
+use Rattle.imap_query.specs.PatternRows.{after_octet, after_wildcard, is_match, is_wildcard, may_hold}
 use Rattle.imap_query.specs.Simpler.{Adds, ends_wild}
 use Rattle.imap_query.proofs.RowLemmas.{chosen_true}
 use Rattle.imap_query.proofs.MatchLemmas.{which}

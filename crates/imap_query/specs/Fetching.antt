@@ -2,22 +2,22 @@ use Rattle.std.specs.Prelude.{ℕ, Bool, true, false, not, ◌&&◌, ◌||◌, �
 use Rattle.std.specs.List.{list_any}
 use Rattle.imap_answers.specs.declared.answer.Answer.{Answer}
 use Rattle.imap_answers.specs.declared.answer.Answer.TheVariants.{Fetch}
-use Rattle.imap_answers.specs.declared.fetched.FetchItems.{FetchItems}
-use Rattle.imap_answers.specs.declared.fetched.SectionData.{SectionData}
+use Rattle.imap_answers.specs.declared.fetch_items.FetchItems.{FetchItems}
+use Rattle.imap_answers.specs.declared.fetch_items.SectionData.{SectionData}
 use Rattle.imap_syntax.specs.declared.fetch.FetchItem.{FetchItem}
 use Rattle.imap_syntax.specs.declared.fetch.FetchItem.TheVariants as item
 use Rattle.imap_syntax.specs.declared.fetch.Partial.{Partial}
 use Rattle.imap_types.specs.declared.section.Section.{Section}
 use Rattle.imap_types.specs.declared.section.Section.TheVariants as section
-use Rattle.mail_listing.specs.Listed.{Listed}
-use Rattle.mail_listing.specs.Listing.{row_of}
-use Rattle.mail_text.specs.Fields.{fields_of}
-use Rattle.mail_text.specs.Parts.{body_of, header_of, partial_of}
+use Rattle.mailbox_rows.specs.ListedMessage.{ListedMessage}
+use Rattle.mailbox_rows.specs.RowViews.{row_of}
+use Rattle.mail_text.specs.HeaderFields.{fields_of}
+use Rattle.mail_text.specs.HeaderAndBody.{body_of, header_of, partial_of}
 use Rattle.imap_query.specs.declared.fetching.FetchMode.{FetchMode}
 use Rattle.imap_query.specs.declared.fetching.Part.{Part}
 use Rattle.imap_query.specs.declared.fetching.Part.TheVariants as part
-use Rattle.imap_query.specs.declared.fetching.Parts.{Parts}
-use Rattle.imap_query.specs.declared.shown.Shown.{Shown}
+use Rattle.imap_query.specs.declared.fetching.FetchParts.{FetchParts}
+use Rattle.imap_query.specs.declared.viewed_message.ViewedMessage.{ViewedMessage}
 
 -- What an item asks.
 abbrev pub part_of : FetchItem → Part
@@ -38,8 +38,8 @@ part_number part.ModSeq = 4
 part_number part.Section = 5
 
 -- Whether a part is asked.
-abbrev pub asks : Part → List FetchItem → Bool
-asks part items = list_any (λ item. part_number (part_of item) == part_number part) items
+abbrev pub asks_part : Part → List FetchItem → Bool
+asks_part part items = list_any (λ item. part_number (part_of item) == part_number part) items
 
 -- Whether an item sets `\Seen`: a section without PEEK (RFC 9051, section 6.4.5.1).
 abbrev pub sets_seen : FetchItem → Bool
@@ -51,31 +51,31 @@ sets_seen item.ModSeq = false
 sets_seen (item.Body peek section partial) = not peek
 
 -- Which parts are asked, and whether `\Seen` is set.
-abbrev pub parts_of : List FetchItem → Parts
+abbrev pub parts_of : List FetchItem → FetchParts
 parts_of items = record {
-  uid = asks part.Uid items;
-  flags = asks part.Flags items;
-  date = asks part.Date items;
-  size = asks part.Size items;
-  modseq = asks part.ModSeq items;
-  sections = asks part.Section items;
+  uid = asks_part part.Uid items;
+  flags = asks_part part.Flags items;
+  date = asks_part part.Date items;
+  size = asks_part part.Size items;
+  modseq = asks_part part.ModSeq items;
+  sections = asks_part part.Section items;
   seen = list_any sets_seen items;
 }
 
 -- Whether FETCH sets `\Seen` on a message that was so before.
-abbrev pub is_marked : List FetchItem → FetchMode → Listed → Bool
-is_marked items mode old = mode.writable && (not old.flags.seen && list_any sets_seen items)
+abbrev pub is_seen_set : List FetchItem → FetchMode → ListedMessage → Bool
+is_seen_set items mode old = mode.writable && (not old.flags.seen && list_any sets_seen items)
 
 -- Whether flags are told: where they are asked, or where `\Seen` is set (RFC 9051, section 6.4.5.1).
-abbrev pub tells_flags : List FetchItem → FetchMode → Listed → Bool
-tells_flags items mode old = asks part.Flags items || is_marked items mode old
+abbrev pub tells_flags : List FetchItem → FetchMode → ListedMessage → Bool
+tells_flags items mode old = asks_part part.Flags items || is_seen_set items mode old
 
 -- Whether the mod-sequence is told: where it is asked, by CHANGEDSINCE too, or with flags where CONDSTORE is on (RFC 7162, section 3.1).
 abbrev pub tells_modseq : List FetchItem → FetchMode → Bool → Bool
-tells_modseq items mode with_flags = asks part.ModSeq items || (is_some mode.changed_since || (mode.condstore && with_flags))
+tells_modseq items mode with_flags = asks_part part.ModSeq items || (is_some mode.changed_since || (mode.condstore && with_flags))
 
-abbrev pub where_told : {A : Type 0} → Bool → A → Option A
-where_told told value = if told then Some value else None
+abbrev pub if_told : {A : Type 0} → Bool → A → Option A
+if_told told value = if told then Some value else None
 
 -- The octets of a section (RFC 9051, section 6.4.5.1).
 abbrev pub section_of : Section → List ℕ → List ℕ
@@ -86,9 +86,9 @@ section_of (section.Fields names) text = fields_of true names text
 section_of (section.FieldsNot names) text = fields_of false names text
 
 -- Those of them that a partial asks, and where these begin.
-abbrev pub cut : Option Partial → List ℕ → List ℕ
-cut None octets = octets
-cut (Some range) octets = partial_of range.start range.count octets
+abbrev pub partial_octets : Option Partial → List ℕ → List ℕ
+partial_octets None octets = octets
+partial_octets (Some range) octets = partial_of range.start range.count octets
 
 abbrev pub origin_of : Option Partial → Option ℕ
 origin_of None = None
@@ -101,34 +101,34 @@ section_part text item.Flags = []
 section_part text item.InternalDate = []
 section_part text item.Size = []
 section_part text item.ModSeq = []
-section_part text (item.Body peek section partial) = record { section = section; origin = origin_of partial; octets = cut partial (section_of section text) } ∷ []
+section_part text (item.Body peek section partial) = record { section = section; origin = origin_of partial; octets = partial_octets partial (section_of section text) } ∷ []
 
 -- The sections that are asked, in order.
 abbrev pub are_sections : List ℕ → List FetchItem → List SectionData
 are_sections text items = flat_map (section_part text) items
 
 -- What is told of a message that was `old` before the command and is `row` after it.
-abbrev pub items_of : List FetchItem → FetchMode → Listed → Listed → FetchItems
+abbrev pub items_of : List FetchItem → FetchMode → ListedMessage → ListedMessage → FetchItems
 items_of items mode old row = record {
-  uid = where_told (mode.by_uid || asks part.Uid items) row.uid;
-  flags = where_told (tells_flags items mode old) row.flags;
-  date = where_told (asks part.Date items) row.date;
-  size = where_told (asks part.Size items) (length row.text);
-  modseq = where_told (tells_modseq items mode (tells_flags items mode old)) row.modseq;
+  uid = if_told (mode.by_uid || asks_part part.Uid items) row.uid;
+  flags = if_told (tells_flags items mode old) row.flags;
+  date = if_told (asks_part part.Date items) row.date;
+  size = if_told (asks_part part.Size items) (length row.text);
+  modseq = if_told (tells_modseq items mode (tells_flags items mode old)) row.modseq;
   sections = are_sections row.text items;
 }
 
 -- Whether a message that was so before the command changed since (RFC 7162, section 3.1.4.1).
-abbrev pub is_kept : Option ℕ → Listed → Bool
-is_kept None old = true
-is_kept (Some modseq) old = nat_lt modseq old.modseq
+abbrev pub is_above_changed_since : Option ℕ → ListedMessage → Bool
+is_above_changed_since None old = true
+is_above_changed_since (Some modseq) old = nat_lt modseq old.modseq
 
 -- What FETCH tells of one message that a view shows: nothing where it is gone.
-abbrev pub answer_of : List FetchItem → FetchMode → Shown → Option Listed → Option Listed → List Answer
+abbrev pub answer_of : List FetchItem → FetchMode → ViewedMessage → Option ListedMessage → Option ListedMessage → List Answer
 answer_of items mode shown None row = []
 answer_of items mode shown (Some old) None = []
-answer_of items mode shown (Some old) (Some row) = if is_kept mode.changed_since old then Fetch shown.number (items_of items mode old row) ∷ [] else []
+answer_of items mode shown (Some old) (Some row) = if is_above_changed_since mode.changed_since old then Fetch shown.number (items_of items mode old row) ∷ [] else []
 
 -- What FETCH tells of the named messages, from the listings before and after the command (RFC 9051, section 6.4.5).
-abbrev pub fetch_answers : List FetchItem → FetchMode → List Listed → List Listed → List Shown → List Answer
+abbrev pub fetch_answers : List FetchItem → FetchMode → List ListedMessage → List ListedMessage → List ViewedMessage → List Answer
 fetch_answers items mode before after named = flat_map (λ shown. answer_of items mode shown (row_of shown.uid before) (row_of shown.uid after)) named

@@ -2,7 +2,7 @@ use Rattle.std.specs.Prelude.{Bool, not, if◌then◌else◌}
 use Rattle.imap_types.specs.declared.flags.Flags.{Flags}
 use Rattle.imap_syntax.specs.declared.flags.SystemFlag.{SystemFlag}
 use Rattle.imap_syntax.specs.declared.flags.SystemFlag.TheVariants.{Answered, Flagged, Deleted, Seen, Draft}
-use Rattle.mail_listing.specs.Listed.{Listed}
+use Rattle.mailbox_rows.specs.ListedMessage.{ListedMessage}
 
 -- Whether a system flag is set (RFC 9051, section 2.3.2).
 abbrev pub has_flag : SystemFlag → Flags → Bool
@@ -17,5 +17,5 @@ abbrev pub is_as : Bool → Bool → Bool
 is_as wanted is = if wanted then is else not is
 
 -- Whether a message has a system flag, or lacks it.
-abbrev pub is_flagged : SystemFlag → Bool → Listed → Bool
+abbrev pub is_flagged : SystemFlag → Bool → ListedMessage → Bool
 is_flagged flag is_set row = is_as is_set (has_flag flag row.flags)

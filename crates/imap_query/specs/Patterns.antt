@@ -2,7 +2,7 @@ use Rattle.std.specs.Prelude.{◌≡◌, ◌≢◌, ℕ, Bool, ◌⊎◌, List, 
 use Rattle.std.specs.Char.{to_ascii_uppercase}
 use Rattle.std.specs.List.{list_any}
 use Rattle.std.specs.Str.{bytes_eq}
-use Rattle.imap_types.specs.Names.{folded_name, is_inbox}
+use Rattle.imap_types.specs.Names.{fold_inbox, is_inbox}
 
 -- A value is one of a list's.
 abbrev pub IsIn : {X : Type 0} → X → List X → Type 0
@@ -35,4 +35,4 @@ pattern_for name pattern = if is_inbox name then map to_ascii_uppercase pattern 
 
 -- A name that a pattern matches, where INBOX as a whole name matches without case (RFC 9051, sections 5.1 and 6.3.9).
 abbrev pub IsMatched : List ℕ → List ℕ → Type 0
-IsMatched pattern name = Matches (pattern_for name pattern) (folded_name name)
+IsMatched pattern name = Matches (pattern_for name pattern) (fold_inbox name)

@@ -2,11 +2,11 @@
 use Rattle.std.specs.Prelude.{ℕ, Bool, true, false, ◌==◌, List, [], ◌∷◌, ◌++◌, if◌then◌else◌}
 use Rattle.std.specs.declared.cmp.Ordering.{Ordering}
 use Rattle.std.specs.declared.cmp.Ordering.TheVariants.{Less, Equal, Greater}
-use Rattle.imap_types.specs.Ascending.{compared}
-use Rattle.imap_types.specs.Names.{folded_name}
+use Rattle.imap_types.specs.Ascending.{octet_order}
+use Rattle.imap_types.specs.Names.{fold_inbox}
 use Rattle.imap_query.specs.Patterns.{is_among}
-use Rattle.imap_query.specs.Rows.{is_shown}
-use Rattle.imap_query.specs.declared.listing.ListEntry.{ListEntry}
+use Rattle.imap_query.specs.PatternRows.{is_shown}
+use Rattle.imap_query.specs.declared.list_entries.ListEntry.{ListEntry}
 
 -- An entry put before another, left out, or put behind it.
 abbrev pub placed_by : Ordering → ListEntry → ListEntry → List ListEntry → List ListEntry → List ListEntry
@@ -15,14 +15,14 @@ placed_by Equal entry other others behind = other ∷ others
 placed_by Greater entry other others behind = other ∷ behind
 
 -- The entries with one more, by name, unless there is one of its name.
-abbrev pub placed : ListEntry → List ListEntry → List ListEntry
-placed entry [] = entry ∷ []
-placed entry (other ∷ others) = placed_by (compared entry.name other.name) entry other others (placed entry others)
+abbrev pub insert_entry : ListEntry → List ListEntry → List ListEntry
+insert_entry entry [] = entry ∷ []
+insert_entry entry (other ∷ others) = placed_by (octet_order entry.name other.name) entry other others (insert_entry entry others)
 
 -- The entries with more, one after another.
 abbrev pub placed_all : List ListEntry → List ListEntry → List ListEntry
 placed_all [] entries = entries
-placed_all (entry ∷ more) entries = placed_all more (placed entry entries)
+placed_all (entry ∷ more) entries = placed_all more (insert_entry entry entries)
 
 -- The entries of the mailboxes that a pattern matches.
 abbrev pub shown_mailboxes : List ℕ → List (List ℕ) → List ListEntry
@@ -31,7 +31,7 @@ shown_mailboxes pattern (folder ∷ folders) = if is_shown pattern folder then (
 
 -- The entry of a superior level that a pattern matches and that is none of the folders.
 abbrev pub shown_level : List ℕ → List (List ℕ) → List ℕ → List ListEntry
-shown_level pattern folders upper = if is_among folders (folded_name upper) then [] else (if is_shown pattern (folded_name upper) then (record { name = folded_name upper; is_mailbox = false }) ∷ [] else [])
+shown_level pattern folders upper = if is_among folders (fold_inbox upper) then [] else (if is_shown pattern (fold_inbox upper) then (record { name = fold_inbox upper; is_mailbox = false }) ∷ [] else [])
 
 -- The entries of such levels among some.
 abbrev pub shown_among : List ℕ → List (List ℕ) → List (List ℕ) → List ListEntry
@@ -59,5 +59,5 @@ abbrev pub found_levels : List ℕ → List (List ℕ) → List ListEntry
 found_levels pattern folders = if ends_in_percent pattern then shown_levels pattern folders folders else []
 
 -- The entries that a pattern lists, in the order in which they are found.
-abbrev pub found : List ℕ → List (List ℕ) → List ListEntry
-found pattern folders = shown_mailboxes pattern folders ++ found_levels pattern folders
+abbrev pub entries_found : List ℕ → List (List ℕ) → List ListEntry
+entries_found pattern folders = shown_mailboxes pattern folders ++ found_levels pattern folders

@@ -2,7 +2,7 @@ use Rattle.std.specs.Prelude.{Bool, not, ◌&&◌, ◌||◌, List, [], ◌∷◌
 use Rattle.imap_syntax.specs.declared.search.SearchStep.{SearchStep}
 use Rattle.imap_syntax.specs.declared.search.SearchStep.TheVariants.{Test, Not, Or, And}
 use Rattle.imap_syntax.specs.declared.search.SearchTest.{SearchTest}
-use Rattle.imap_query.specs.Keys.{Key, Asks, Lacks, Either, Both}
+use Rattle.imap_query.specs.KeyHits.{Key, Asks, Lacks, Either, Both}
 
 -- What a step makes of the results so far, the last of them first.
 abbrev pub after_step : (SearchTest → Bool) → SearchStep → List Bool → List Bool

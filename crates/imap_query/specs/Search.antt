@@ -6,39 +6,39 @@ use Rattle.imap_syntax.specs.declared.search.SearchOption.{SearchOption}
 use Rattle.imap_syntax.specs.declared.search.SearchOption.TheVariants.{Min, Max, All, Count}
 use Rattle.imap_syntax.specs.declared.search.SearchTest.{SearchTest}
 use Rattle.imap_syntax.specs.declared.search.SearchTest.TheVariants as tests
-use Rattle.mail_listing.specs.Listed.{Listed}
-use Rattle.mail_listing.specs.Listing.{row_of}
-use Rattle.imap_query.specs.Keys.{Asks, Both, Either, Key, Lacks, hits}
-use Rattle.imap_query.specs.Tests.{is_so}
+use Rattle.mailbox_rows.specs.ListedMessage.{ListedMessage}
+use Rattle.mailbox_rows.specs.RowViews.{row_of}
+use Rattle.imap_query.specs.KeyHits.{Asks, Both, Either, Key, Lacks, hits}
+use Rattle.imap_query.specs.Tests.{test_holds}
 use Rattle.imap_query.specs.declared.searching.Hit.{Hit}
-use Rattle.imap_query.specs.declared.shown.Shown.{Shown}
+use Rattle.imap_query.specs.declared.viewed_message.ViewedMessage.{ViewedMessage}
 
 -- The last message that a view shows.
-abbrev pub last_shown : List Shown → Shown
+abbrev pub last_shown : List ViewedMessage → ViewedMessage
 last_shown [] = record { number = 0; uid = 0 }
 last_shown (shown ∷ []) = shown
 last_shown (shown ∷ next ∷ view) = last_shown (next ∷ view)
 
 -- The number by which a search names a message.
-abbrev pub name_of : Bool → Shown → ℕ
-name_of by_uid shown = if by_uid then shown.uid else shown.number
+abbrev pub number_or_uid : Bool → ViewedMessage → ℕ
+number_or_uid by_uid shown = if by_uid then shown.uid else shown.number
 
 -- What a message tells that hits.
-abbrev pub hit_by : Bool → Key → Shown → Shown → Listed → List Hit
+abbrev pub hit_by : Bool → Key → ViewedMessage → ViewedMessage → ListedMessage → List Hit
 hit_by by_uid key last shown row =
-    if hits (is_so last shown row) key then record { number = name_of by_uid shown; modseq = row.modseq } ∷ [] else []
+    if hits (test_holds last shown row) key then record { number = number_or_uid by_uid shown; modseq = row.modseq } ∷ [] else []
 
 -- The same of a message that may be gone: such a one never hits.
-abbrev pub hit_of : Bool → Key → Shown → Shown → Option Listed → List Hit
+abbrev pub hit_of : Bool → Key → ViewedMessage → ViewedMessage → Option ListedMessage → List Hit
 hit_of by_uid key last shown None = []
 hit_of by_uid key last shown (Some row) = hit_by by_uid key last shown row
 
 -- The messages of a listing that a view shows and that hit, in the view's order.
-abbrev pub hits_among : Bool → Key → Shown → List Listed → List Shown → List Hit
-hits_among by_uid key last rows view = flat_map (λ shown. hit_of by_uid key last shown (row_of shown.uid rows)) view
+abbrev pub hits_of_rows : Bool → Key → ViewedMessage → List ListedMessage → List ViewedMessage → List Hit
+hits_of_rows by_uid key last rows view = flat_map (λ shown. hit_of by_uid key last shown (row_of shown.uid rows)) view
 
-abbrev pub hits_in : Bool → Key → List Listed → List Shown → List Hit
-hits_in by_uid key rows view = hits_among by_uid key (last_shown view) rows view
+abbrev pub hits_in : Bool → Key → List ListedMessage → List ViewedMessage → List Hit
+hits_in by_uid key rows view = hits_of_rows by_uid key (last_shown view) rows view
 
 -- Whether a key names a mod-sequence, wherever it stands (RFC 7162, section 3.1.5).
 abbrev pub names_modseq : SearchTest → Bool
@@ -67,16 +67,16 @@ option_number Max = 1
 option_number All = 2
 option_number Count = 3
 
-abbrev pub wants : SearchOption → List SearchOption → Bool
-wants option options = list_any (λ other. option_number other == option_number option) options
+abbrev pub asks_option : SearchOption → List SearchOption → Bool
+asks_option option options = list_any (λ other. option_number other == option_number option) options
 
 -- Whether all hits are asked: by ALL, or by no option at all (RFC 9051, section 6.4.4).
-abbrev pub wants_all : List SearchOption → Bool
-wants_all options = (length options == 0) || wants All options
+abbrev pub asks_all : List SearchOption → Bool
+asks_all options = (length options == 0) || asks_option All options
 
 -- Whether there are options, and each is MIN or MAX.
-abbrev pub wants_ends : List SearchOption → Bool
-wants_ends options = not (wants_all options) && not (wants Count options)
+abbrev pub asks_min_or_max_alone : List SearchOption → Bool
+asks_min_or_max_alone options = not (asks_all options) && not (asks_option Count options)
 
 -- The first and the last hit.
 abbrev pub first_hit : List Hit → Option Hit
@@ -97,23 +97,23 @@ abbrev pub modseq_in : Option Hit → ℕ
 modseq_in None = 0
 modseq_in (Some hit) = hit.modseq
 
-abbrev pub where_wanted : {A : Type 0} → Bool → Option A → Option A
-where_wanted wanted found = if wanted then found else None
+abbrev pub number_where_asked : {A : Type 0} → Bool → Option A → Option A
+number_where_asked wanted found = if wanted then found else None
 
 -- The greatest mod-sequence of the hits named: of the first and the last as far as they are asked, where nothing else is, and of all hits
 -- else (RFC 7162, section 3.1.5).
-abbrev pub told_modseq : List SearchOption → List Hit → ℕ
-told_modseq options hits =
-    if wants_ends options
-    then greatest (modseq_in (where_wanted (wants Min options) (first_hit hits)) ∷ modseq_in (where_wanted (wants Max options) (last_hit hits)) ∷ [])
+abbrev pub modseq_of_result : List SearchOption → List Hit → ℕ
+modseq_of_result options hits =
+    if asks_min_or_max_alone options
+    then greatest (modseq_in (number_where_asked (asks_option Min options) (first_hit hits)) ∷ modseq_in (number_where_asked (asks_option Max options) (last_hit hits)) ∷ [])
     else greatest (map (λ hit. hit.modseq) hits)
 
 -- What SEARCH tells of hits, which ascend: without any only how many there are (RFC 9051, section 6.4.4; RFC 7162, section 3.1.5).
 abbrev pub results_of : List SearchOption → Bool → List Hit → SearchResults
 results_of options with_modseq hits = record {
-  min = where_wanted (wants Min options) (number_in (first_hit hits));
-  max = where_wanted (wants Max options) (number_in (last_hit hits));
-  all = if wants_all options then map (λ hit. hit.number) hits else [];
-  count = where_wanted (wants Count options) (Some (length hits));
-  modseq = where_wanted (with_modseq && not (length hits == 0)) (Some (told_modseq options hits));
+  min = number_where_asked (asks_option Min options) (number_in (first_hit hits));
+  max = number_where_asked (asks_option Max options) (number_in (last_hit hits));
+  all = if asks_all options then map (λ hit. hit.number) hits else [];
+  count = number_where_asked (asks_option Count options) (Some (length hits));
+  modseq = number_where_asked (with_modseq && not (length hits == 0)) (Some (modseq_of_result options hits));
 }

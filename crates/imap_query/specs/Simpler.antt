@@ -1,7 +1,7 @@
 -- Patterns that match the same names; the code makes one with fewer wildcards.
 use Rattle.std.specs.Prelude.{◌≡◌, ℕ, Bool, false, List, [], ◌∷◌, ◌++◌, map}
 use Rattle.std.specs.Char.{to_ascii_uppercase}
-use Rattle.imap_query.specs.Rows.{is_match, is_wildcard}
+use Rattle.imap_query.specs.PatternRows.{is_match, is_wildcard}
 
 -- Two patterns match the same names.
 abbrev pub IsAlike : List ℕ → List ℕ → Type 0

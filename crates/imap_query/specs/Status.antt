@@ -4,9 +4,9 @@ use Rattle.imap_answers.specs.declared.mailbox.StatusItems.{StatusItems}
 use Rattle.imap_syntax.specs.declared.flags.SystemFlag.TheVariants.{Deleted, Seen}
 use Rattle.imap_syntax.specs.declared.status.StatusItem.{StatusItem}
 use Rattle.imap_syntax.specs.declared.status.StatusItem.TheVariants.{Messages, UidNext, UidValidity, Unseen, Deleted as DeletedItem, Size, HighestModSeq}
-use Rattle.mail_listing.specs.Listed.{Listed}
+use Rattle.mailbox_rows.specs.ListedMessage.{ListedMessage}
 use Rattle.imap_query.specs.Messages.{is_flagged}
-use Rattle.imap_query.specs.declared.mailbox_status.Marks.{Marks}
+use Rattle.imap_query.specs.declared.mailbox_status.MailboxCounters.{MailboxCounters}
 
 -- The place of an item among those that STATUS knows.
 abbrev pub item_number : StatusItem → ℕ
@@ -23,22 +23,22 @@ abbrev pub is_asked : StatusItem → List StatusItem → Bool
 is_asked item items = list_any (λ other. item_number other == item_number item) items
 
 -- A number where its item was asked.
-abbrev pub where_asked : StatusItem → List StatusItem → ℕ → Option ℕ
-where_asked item items number = if is_asked item items then Some number else None
+abbrev pub if_asked : StatusItem → List StatusItem → ℕ → Option ℕ
+if_asked item items number = if is_asked item items then Some number else None
 
 -- The octets of a message.
-abbrev pub size_of : Listed → ℕ
+abbrev pub size_of : ListedMessage → ℕ
 size_of row = length row.text
 
 -- What STATUS tells of a mailbox's listing and of its marks, each item that was asked once; the octets of all messages stop at the
 -- greatest number of 64 bits (RFC 9051, section 6.3.11; RFC 7162, section 3.1.7).
-abbrev pub status_of : List StatusItem → Marks → List Listed → StatusItems
+abbrev pub status_of : List StatusItem → MailboxCounters → List ListedMessage → StatusItems
 status_of items marks rows = record {
-  messages = where_asked Messages items (length rows);
-  uidnext = where_asked UidNext items marks.uidnext;
-  uidvalidity = where_asked UidValidity items marks.uidvalidity;
-  unseen = where_asked Unseen items (length (filter (is_flagged Seen false) rows));
-  deleted = where_asked DeletedItem items (length (filter (is_flagged Deleted true) rows));
-  size = where_asked Size items (min (sum_by size_of rows) 18446744073709551615);
-  highest_modseq = where_asked HighestModSeq items marks.highest_modseq;
+  messages = if_asked Messages items (length rows);
+  uidnext = if_asked UidNext items marks.uidnext;
+  uidvalidity = if_asked UidValidity items marks.uidvalidity;
+  unseen = if_asked Unseen items (length (filter (is_flagged Seen false) rows));
+  deleted = if_asked DeletedItem items (length (filter (is_flagged Deleted true) rows));
+  size = if_asked Size items (min (sum_by size_of rows) 18446744073709551615);
+  highest_modseq = if_asked HighestModSeq items marks.highest_modseq;
 }

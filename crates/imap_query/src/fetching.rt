@@ -1,18 +1,18 @@
 ghost use Rattle.std.specs.Prelude.{◌≡◌, ◌||◌, ◌++◌, ◌∷◌, [], true, false, IfOk, OnOk};
 ghost use Rattle.imap_answers.specs.declared.answer.Answer.TheVariants.{Fetch};
 ghost use Rattle.std.specs.List.{list_any};
-ghost use Rattle.imap_query.specs.Fetching.{answer_of, are_sections, asks, cut, fetch_answers, is_kept, is_marked, items_of, origin_of, part_of, parts_of, section_of, section_part, sets_seen, tells_flags, tells_modseq, where_told};
+ghost use Rattle.imap_query.specs.Fetching.{answer_of, are_sections, asks_part, partial_octets, fetch_answers, is_above_changed_since, is_seen_set, items_of, origin_of, part_of, parts_of, section_of, section_part, sets_seen, tells_flags, tells_modseq, if_told};
 ghost use Rattle.imap_query.specs.declared.fetching.Part.TheVariants as part;
-ghost use Rattle.mail_listing.specs.Listing.{listed, row_of};
-ghost use Rattle.mail_text.specs.Fields.{fields_of};
+ghost use Rattle.mailbox_rows.specs.RowViews.{listed_message, row_of};
+ghost use Rattle.mail_text.specs.HeaderFields.{fields_of};
 
-use crate::heads::{fetch_heads, tell_all};
-use crate::room::make_room;
-use crate::shown::Shown;
+use crate::heads::{fetch_heads, are_answerable_by_heads};
+use crate::answer_room::make_room;
+use crate::viewed_message::ViewedMessage;
 use imap_answers::{Answer, FetchItems, SectionData, Sections};
 use imap_syntax::{FetchItem, Partial};
 use imap_types::{DateTime, Flags, Octets, Section, Text};
-use mail_listing::{Row, Rows};
+use mailbox_rows::{Row, Rows};
 use mail_text::{body, fields, header, other_fields, partial};
 use std::alloc::{AllocError, Global};
 
@@ -31,16 +31,16 @@ pub struct FetchMode {
 
 /// What FETCH asks of each message, and how.
 #[derive(Clone, Copy)]
-pub(crate) struct Asked<'a> {
+pub(crate) struct FetchSpec<'a> {
     pub(crate) items: &'a [FetchItem],
     pub(crate) mode: FetchMode,
     /// What the items ask, found out once for all messages.
-    pub(crate) parts: Parts,
+    pub(crate) parts: FetchParts,
 }
 
 /// Which parts the items of a FETCH ask.
 #[derive(Clone, Copy, Debug, PartialEq, Eq)]
-pub(crate) struct Parts {
+pub(crate) struct FetchParts {
     pub(crate) uid: bool,
     pub(crate) flags: bool,
     pub(crate) date: bool,
@@ -67,7 +67,7 @@ enum Part {
 /// copy of what is told of it. `Err` where there is no memory for it.
 pub fn fetch(
     alloc: Global,
-    named: &[Shown],
+    named: &[ViewedMessage],
     before: &Rows<'_>,
     after: &Rows<'_>,
     items: &[FetchItem],
@@ -87,7 +87,7 @@ pub fn fetch(
 /// CHANGEDSINCE at those alone that changed, which the listing finds by their mod-sequences. `Err` where there is no memory for it.
 pub fn fetch_unchanged(
     alloc: Global,
-    named: &[Shown],
+    named: &[ViewedMessage],
     rows: &Rows<'_>,
     items: &[FetchItem],
     mode: FetchMode,
@@ -105,7 +105,7 @@ pub fn fetch_unchanged(
 }
 
 /// For how many answers room is made at once: each message's, and the line that ends the command; of those that changed since, few are told.
-pub(crate) fn answers_at_once(named: &[Shown], mode: FetchMode) -> usize {
+pub(crate) fn answers_at_once(named: &[ViewedMessage], mode: FetchMode) -> usize {
     match mode.changed_since {
         None => named.len().saturating_add(1),
         Some(_) => 0,
@@ -115,7 +115,7 @@ pub(crate) fn answers_at_once(named: &[Shown], mode: FetchMode) -> usize {
 /// What FETCH tells of the named messages out of one listing.
 fn fetch_in(
     alloc: Global,
-    named: &[Shown],
+    named: &[ViewedMessage],
     rows: &Rows<'_>,
     items: &[FetchItem],
     mode: FetchMode,
@@ -123,7 +123,7 @@ fn fetch_in(
     ensures { IfOk result (λ answers. answers.items ≡ fetch_answers items.now mode rows.now rows.now named.now) }
 {
     let asked = asked_of(items, mode);
-    if tell_all(asked.parts) {
+    if are_answerable_by_heads(asked.parts) {
         return fetch_heads(alloc, named, rows, asked);
     }
     let mut answers = Vec::with_capacity(alloc, answers_at_once(named, mode))?;
@@ -134,25 +134,25 @@ fn fetch_in(
 }
 
 /// These items and this mode, with the parts that the items ask.
-fn asked_of(items: &[FetchItem], mode: FetchMode) -> Asked<'_>
+fn asked_of(items: &[FetchItem], mode: FetchMode) -> FetchSpec<'_>
     ensures items { result.items.now ≡ items.now }
     ensures mode { result.mode ≡ mode }
     ensures parts { result.parts ≡ parts_of items.now }
 {
     let parts = parts_of(items);
-    Asked { items, mode, parts }
+    FetchSpec { items, mode, parts }
 }
 
-fn parts_of(items: &[FetchItem]) -> Parts
+fn parts_of(items: &[FetchItem]) -> FetchParts
     ensures { result ≡ parts_of items.now }
 {
-    Parts {
-        uid: asks(items, Part::Uid),
-        flags: asks(items, Part::Flags),
-        date: asks(items, Part::Date),
-        size: asks(items, Part::Size),
-        modseq: asks(items, Part::ModSeq),
-        sections: asks(items, Part::Section),
+    FetchParts {
+        uid: asks_part(items, Part::Uid),
+        flags: asks_part(items, Part::Flags),
+        date: asks_part(items, Part::Date),
+        size: asks_part(items, Part::Size),
+        modseq: asks_part(items, Part::ModSeq),
+        sections: asks_part(items, Part::Section),
         seen: set_seen(items),
     }
 }
@@ -161,8 +161,8 @@ fn parts_of(items: &[FetchItem]) -> Parts
 fn push_unchanged(
     alloc: Global,
     rows: &Rows<'_>,
-    asked: Asked<'_>,
-    shown: Shown,
+    asked: FetchSpec<'_>,
+    shown: ViewedMessage,
     answers: &mut Vec<Answer>,
 ) -> Result<(), AllocError>
     requires { asked.parts ≡ parts_of asked.items.now }
@@ -185,8 +185,8 @@ fn push_answer(
     alloc: Global,
     before: &Rows<'_>,
     after: &Rows<'_>,
-    asked: Asked<'_>,
-    shown: Shown,
+    asked: FetchSpec<'_>,
+    shown: ViewedMessage,
     answers: &mut Vec<Answer>,
 ) -> Result<(), AllocError>
     requires { asked.parts ≡ parts_of asked.items.now }
@@ -223,7 +223,7 @@ pub(crate) fn push_fetch(
 
 /// Whether a message changed since: its mod-sequence is above this one, or none is asked (RFC 7162, section 3.1.4.1).
 pub fn is_kept(changed_since: Option<u64>, old: &Row<'_>) -> bool
-    ensures { result ≡ is_kept changed_since (listed old.now) }
+    ensures { result ≡ is_above_changed_since changed_since (listed_message old.now) }
 {
     match changed_since {
         None => true,
@@ -234,12 +234,12 @@ pub fn is_kept(changed_since: Option<u64>, old: &Row<'_>) -> bool
 /// What is told of a message that was `old` and is `row`.
 fn items_of(
     alloc: Global,
-    asked: Asked<'_>,
+    asked: FetchSpec<'_>,
     old: &Row<'_>,
     row: &Row<'_>,
 ) -> Result<FetchItems, AllocError>
     requires { asked.parts ≡ parts_of asked.items.now }
-    ensures { IfOk result (λ told. told ≡ items_of asked.entry.items.now asked.entry.mode (listed old.now) (listed row.now)) }
+    ensures { IfOk result (λ told. told ≡ items_of asked.entry.items.now asked.entry.mode (listed_message old.now) (listed_message row.now)) }
 {
     let sections = sections_where(alloc, asked, row)?;
     let tells_flags = tells_flags(asked, old);
@@ -255,21 +255,21 @@ fn items_of(
 }
 
 #[inline(always)]
-pub(crate) fn tells_uid(asked: Asked<'_>) -> bool
+pub(crate) fn tells_uid(asked: FetchSpec<'_>) -> bool
     requires { asked.parts ≡ parts_of asked.items.now }
-    ensures { result ≡ (asked.entry.mode.by_uid || asks part.Uid asked.entry.items.now) }
+    ensures { result ≡ (asked.entry.mode.by_uid || asks_part part.Uid asked.entry.items.now) }
 {
     asked.mode.by_uid || asked.parts.uid
 }
 
 fn date_where(told: bool, row: &Row<'_>) -> Option<DateTime>
-    ensures { result ≡ where_told told (listed row.now).date }
+    ensures { result ≡ if_told told (listed_message row.now).date }
 {
     if told { Some(row.shown_date()) } else { None }
 }
 
 fn flags_where(alloc: Global, told: bool, row: &Row<'_>) -> Result<Option<Flags>, AllocError>
-    ensures { IfOk result (λ flags. flags ≡ where_told told (listed row.now).flags) }
+    ensures { IfOk result (λ flags. flags ≡ if_told told (listed_message row.now).flags) }
 {
     if !told {
         return Ok(None);
@@ -278,25 +278,25 @@ fn flags_where(alloc: Global, told: bool, row: &Row<'_>) -> Result<Option<Flags>
 }
 
 /// Whether flags are told: where they are asked, or where reading a section sets `\Seen`.
-fn tells_flags(asked: Asked<'_>, old: &Row<'_>) -> bool
+fn tells_flags(asked: FetchSpec<'_>, old: &Row<'_>) -> bool
     requires { asked.parts ≡ parts_of asked.items.now }
-    ensures { result ≡ tells_flags asked.entry.items.now asked.entry.mode (listed old.now) }
+    ensures { result ≡ tells_flags asked.entry.items.now asked.entry.mode (listed_message old.now) }
 {
-    asked.parts.flags || marks(asked, old)
+    asked.parts.flags || sets_seen_on(asked, old)
 }
 
-/// The same as `is_marked`.
-fn marks(asked: Asked<'_>, old: &Row<'_>) -> bool
+/// The same as `is_seen_set`.
+fn sets_seen_on(asked: FetchSpec<'_>, old: &Row<'_>) -> bool
     requires { asked.parts ≡ parts_of asked.items.now }
-    ensures { result ≡ is_marked asked.entry.items.now asked.entry.mode (listed old.now) }
+    ensures { result ≡ is_seen_set asked.entry.items.now asked.entry.mode (listed_message old.now) }
 {
     asked.mode.writable && asked.parts.seen && !old.versions.seen()
 }
 
 /// Whether reading a section sets `\Seen` on this message: in a read-write mailbox, if it lacks it and an item asks without PEEK
 /// (RFC 9051, section 6.4.5.1).
-pub fn is_marked(items: &[FetchItem], mode: FetchMode, old: &Row<'_>) -> bool
-    ensures { result ≡ is_marked items.now mode (listed old.now) }
+pub fn is_seen_set(items: &[FetchItem], mode: FetchMode, old: &Row<'_>) -> bool
+    ensures { result ≡ is_seen_set items.now mode (listed_message old.now) }
 {
     mode.writable && !old.versions.seen() && set_seen(items)
 }
@@ -323,7 +323,7 @@ fn sets_seen(item: &FetchItem) -> bool
 }
 
 #[inline(always)]
-pub(crate) fn tells_modseq(asked: Asked<'_>, tells_flags: bool) -> bool
+pub(crate) fn tells_modseq(asked: FetchSpec<'_>, tells_flags: bool) -> bool
     requires { asked.parts ≡ parts_of asked.items.now }
     ensures { result ≡ tells_modseq asked.entry.items.now asked.entry.mode tells_flags }
 {
@@ -332,8 +332,8 @@ pub(crate) fn tells_modseq(asked: Asked<'_>, tells_flags: bool) -> bool
         || (asked.mode.condstore && tells_flags)
 }
 
-fn asks(items: &[FetchItem], part: Part) -> bool
-    ensures { result ≡ asks part items.now }
+fn asks_part(items: &[FetchItem], part: Part) -> bool
+    ensures { result ≡ asks_part part items.now }
 {
     for item in items {
         if part_of(item) == part {
@@ -357,9 +357,9 @@ fn part_of(item: &FetchItem) -> Part
 }
 
 /// The sections, where some are asked.
-fn sections_where(alloc: Global, asked: Asked<'_>, row: &Row<'_>) -> Result<Sections, AllocError>
+fn sections_where(alloc: Global, asked: FetchSpec<'_>, row: &Row<'_>) -> Result<Sections, AllocError>
     requires { asked.parts ≡ parts_of asked.items.now }
-    ensures { IfOk result (λ sections. sections ≡ are_sections (listed row.now).text asked.entry.items.now) }
+    ensures { IfOk result (λ sections. sections ≡ are_sections (listed_message row.now).text asked.entry.items.now) }
 {
     if !asked.parts.sections {
         return Ok(Sections::new(Vec::new(alloc)));
@@ -369,7 +369,7 @@ fn sections_where(alloc: Global, asked: Asked<'_>, row: &Row<'_>) -> Result<Sect
 
 /// The sections that are asked, in order, in no more memory than they take: a journal keeps them for good.
 fn sections(alloc: Global, row: &Row<'_>, items: &[FetchItem]) -> Result<Sections, AllocError>
-    ensures { IfOk result (λ sections. sections ≡ are_sections (listed row.now).text items.now) }
+    ensures { IfOk result (λ sections. sections ≡ are_sections (listed_message row.now).text items.now) }
 {
     let mut found = Vec::new(alloc);
     for item in items {
@@ -385,7 +385,7 @@ fn push_section(
     item: &FetchItem,
     found: &mut Vec<SectionData>,
 ) -> Result<(), AllocError>
-    ensures { OnOk result (found.new.items ≡ found.old.items ++ section_part (listed row.now).text item.now) }
+    ensures { OnOk result (found.new.items ≡ found.old.items ++ section_part (listed_message row.now).text item.now) }
 {
     match item {
         FetchItem::Body {
@@ -414,12 +414,12 @@ fn section_of(
     partial: Option<Partial>,
     row: &Row<'_>,
 ) -> Result<Text, AllocError>
-    ensures { IfOk result (λ octets. octets ≡ cut partial (section_of section.now (listed row.now).text)) }
+    ensures { IfOk result (λ octets. octets ≡ partial_octets partial (section_of section.now (listed_message row.now).text)) }
 {
     match section {
         Section::Whole => whole(alloc, row, partial),
-        Section::Header => Text::copied_from(alloc, cut(header(row.shown_text()), partial)),
-        Section::Text => Text::copied_from(alloc, cut(body(row.shown_text()), partial)),
+        Section::Header => Text::from_slice(alloc, partial_octets(header(row.shown_text()), partial)),
+        Section::Text => Text::from_slice(alloc, partial_octets(body(row.shown_text()), partial)),
         Section::Fields { names } => named_fields(alloc, names.names(), partial, row),
         Section::FieldsNot { names } => unnamed_fields(alloc, names.names(), partial, row),
     }
@@ -427,11 +427,11 @@ fn section_of(
 
 /// The octets that are told of the whole text: shared with the message where all are asked.
 fn whole(alloc: Global, row: &Row<'_>, partial: Option<Partial>) -> Result<Text, AllocError>
-    ensures { IfOk result (λ octets. octets ≡ cut partial (listed row.now).text) }
+    ensures { IfOk result (λ octets. octets ≡ partial_octets partial (listed_message row.now).text) }
 {
     match partial {
         None => row.copied_text(alloc),
-        Some(_) => Text::copied_from(alloc, cut(row.shown_text(), partial)),
+        Some(_) => Text::from_slice(alloc, partial_octets(row.shown_text(), partial)),
     }
 }
 
@@ -441,10 +441,10 @@ fn named_fields(
     partial: Option<Partial>,
     row: &Row<'_>,
 ) -> Result<Text, AllocError>
-    ensures { IfOk result (λ octets. octets ≡ cut partial (fields_of true names.now (listed row.now).text)) }
+    ensures { IfOk result (λ octets. octets ≡ partial_octets partial (fields_of true names.now (listed_message row.now).text)) }
 {
     let chosen = fields(alloc, row.shown_text(), names)?;
-    Text::copied_from(alloc, cut(&chosen, partial))
+    Text::from_slice(alloc, partial_octets(&chosen, partial))
 }
 
 fn unnamed_fields(
@@ -453,14 +453,14 @@ fn unnamed_fields(
     partial: Option<Partial>,
     row: &Row<'_>,
 ) -> Result<Text, AllocError>
-    ensures { IfOk result (λ octets. octets ≡ cut partial (fields_of false names.now (listed row.now).text)) }
+    ensures { IfOk result (λ octets. octets ≡ partial_octets partial (fields_of false names.now (listed_message row.now).text)) }
 {
     let chosen = other_fields(alloc, row.shown_text(), names)?;
-    Text::copied_from(alloc, cut(&chosen, partial))
+    Text::from_slice(alloc, partial_octets(&chosen, partial))
 }
 
-fn cut(octets: &[u8], range: Option<Partial>) -> &[u8]
-    ensures { result.now ≡ cut range octets.now }
+fn partial_octets(octets: &[u8], range: Option<Partial>) -> &[u8]
+    ensures { result.now ≡ partial_octets range octets.now }
 {
     match range {
         None => octets,

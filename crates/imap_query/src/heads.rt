@@ -2,26 +2,26 @@
 
 ghost use Rattle.std.specs.Prelude.{◌≡◌, ◌++◌, ◌∷◌, [], map, true, IfOk, IfSome, OnOk, option_map};
 ghost use Rattle.imap_types.specs.Numbers.{AreRisingFrom};
-ghost use Rattle.imap_types.specs.Unions.{united};
-ghost use Rattle.imap_query.specs.Fetching.{fetch_answers, parts_of, where_told};
+ghost use Rattle.imap_types.specs.Unions.{united_flags};
+ghost use Rattle.imap_query.specs.Fetching.{fetch_answers, parts_of, if_told};
 ghost use Rattle.imap_query.specs.Heads.{are_of_heads, flag_key, head_answer, head_hit, head_items, is_kept_head};
 ghost use Rattle.imap_query.specs.Hits.{MayAdd};
-ghost use Rattle.imap_query.specs.Search.{hits_in, name_of};
-ghost use Rattle.mail_listing.specs.Listing.{head_of, headed, row_of};
+ghost use Rattle.imap_query.specs.Search.{hits_in, number_or_uid};
+ghost use Rattle.mailbox_rows.specs.RowViews.{head_of, listed_head, row_of};
 
-use crate::fetching::{Asked, Parts, answers_at_once, push_fetch, tells_modseq, tells_uid};
+use crate::fetching::{FetchSpec, FetchParts, answers_at_once, push_fetch, tells_modseq, tells_uid};
 use crate::keys::FlagTest;
 use crate::messages::{has_flag, is_as};
-use crate::room::make_room;
+use crate::answer_room::make_room;
 use crate::searching::{Hit, name_of};
-use crate::shown::Shown;
+use crate::viewed_message::ViewedMessage;
 use imap_answers::{Answer, FetchItems, Sections};
 use imap_types::{Flags, Keywords, Version, Versions};
-use mail_listing::{RowHead, Rows};
+use mailbox_rows::{RowHead, Rows};
 use std::alloc::{AllocError, Global};
 
 /// Whether heads of rows tell all that is asked.
-pub(crate) fn tell_all(parts: Parts) -> bool
+pub(crate) fn are_answerable_by_heads(parts: FetchParts) -> bool
     ensures { result ≡ are_of_heads parts }
 {
     !parts.date && !parts.size && !parts.sections && !parts.seen
@@ -30,9 +30,9 @@ pub(crate) fn tell_all(parts: Parts) -> bool
 /// What FETCH tells of the named messages out of one listing, where heads of rows tell all that is asked.
 pub(crate) fn fetch_heads(
     alloc: Global,
-    named: &[Shown],
+    named: &[ViewedMessage],
     rows: &Rows<'_>,
-    asked: Asked<'_>,
+    asked: FetchSpec<'_>,
 ) -> Result<Vec<Answer>, AllocError>
     requires parts { asked.parts ≡ parts_of asked.items.now }
     requires heads { are_of_heads asked.parts ≡ true }
@@ -50,8 +50,8 @@ pub(crate) fn fetch_heads(
 fn push_answer(
     alloc: Global,
     rows: &Rows<'_>,
-    asked: Asked<'_>,
-    shown: Shown,
+    asked: FetchSpec<'_>,
+    shown: ViewedMessage,
     answers: &mut Vec<Answer>,
 ) -> Result<(), AllocError>
     requires { asked.parts ≡ parts_of asked.items.now }
@@ -72,7 +72,7 @@ fn push_answer(
 /// Whether a message changed since: its mod-sequence is above this one, or none is asked (RFC 7162, section 3.1.4.1).
 #[inline(always)]
 fn is_kept(changed_since: Option<u64>, head: &RowHead<'_>) -> bool
-    ensures { result ≡ is_kept_head changed_since (headed head.now) }
+    ensures { result ≡ is_kept_head changed_since (listed_head head.now) }
 {
     match changed_since {
         None => true,
@@ -82,9 +82,9 @@ fn is_kept(changed_since: Option<u64>, head: &RowHead<'_>) -> bool
 
 /// What is told of a message.
 #[inline(always)]
-fn items_of(alloc: Global, asked: Asked<'_>, head: &RowHead<'_>) -> Result<FetchItems, AllocError>
+fn items_of(alloc: Global, asked: FetchSpec<'_>, head: &RowHead<'_>) -> Result<FetchItems, AllocError>
     requires { asked.parts ≡ parts_of asked.items.now }
-    ensures { IfOk result (λ told. told ≡ head_items asked.entry.items.now asked.entry.mode (headed head.now)) }
+    ensures { IfOk result (λ told. told ≡ head_items asked.entry.items.now asked.entry.mode (listed_head head.now)) }
 {
     let flags = flags_where(alloc, asked.parts.flags, head.versions)?;
     Ok(FetchItems {
@@ -103,7 +103,7 @@ fn flags_where(
     told: bool,
     versions: Versions<'_>,
 ) -> Result<Option<Flags>, AllocError>
-    ensures { IfOk result (λ flags. flags ≡ where_told told (united versions.entry.list.now)) }
+    ensures { IfOk result (λ flags. flags ≡ if_told told (united_flags versions.entry.list.now)) }
 {
     if !told {
         return Ok(None);
@@ -117,7 +117,7 @@ fn flags_where(
 /// The union of the flags of versions, where there is one without keywords, as most messages have.
 #[inline(always)]
 fn plain_flags(alloc: Global, versions: &[Version]) -> Option<Flags>
-    ensures { IfSome result (λ flags. flags ≡ united versions.now) }
+    ensures { IfSome result (λ flags. flags ≡ united_flags versions.now) }
 {
     match versions {
         [version] => {
@@ -138,14 +138,14 @@ fn plain_flags(alloc: Global, versions: &[Version]) -> Option<Flags>
 }
 
 /// The messages of which a test of a flag holds, in the view's order.
-pub(crate) fn flagged(
+pub(crate) fn flagged_hits(
     alloc: Global,
-    view: &[Shown],
+    view: &[ViewedMessage],
     rows: &Rows<'_>,
     by_uid: bool,
     test: FlagTest,
 ) -> Result<Vec<Hit>, AllocError>
-    requires { AreRisingFrom 1 (map (name_of by_uid) view.now) }
+    requires { AreRisingFrom 1 (map (number_or_uid by_uid) view.now) }
     ensures hits { IfOk result (λ hits. hits.items ≡ hits_in by_uid (flag_key test) rows.now view.now) }
     ensures rising { IfOk result (λ hits. AreRisingFrom 1 (map (λ hit. hit.number) hits.items)) }
 {
@@ -162,11 +162,11 @@ fn push_flagged(
     rows: &Rows<'_>,
     by_uid: bool,
     test: FlagTest,
-    shown: Shown,
+    shown: ViewedMessage,
     found: &mut Vec<Hit>,
 ) -> Result<(), AllocError>
     ensures hits { OnOk result (found.new.items ≡ found.old.items ++ head_hit by_uid test shown (option_map head_of (row_of shown.uid rows.now))) }
-    ensures numbers { OnOk result (MayAdd (name_of by_uid shown) (map (λ hit. hit.number) found.old.items) (map (λ hit. hit.number) found.new.items)) }
+    ensures numbers { OnOk result (MayAdd (number_or_uid by_uid shown) (map (λ hit. hit.number) found.old.items) (map (λ hit. hit.number) found.new.items)) }
 {
     match rows.head_near(shown.place(), shown.uid) {
         None => Ok(()),

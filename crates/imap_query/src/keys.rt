@@ -3,16 +3,16 @@
 ghost use Rattle.std.specs.Prelude.{◌≡◌, ◌∷◌, [], reverse, IfOk, IfSome, OnOk};
 ghost use Rattle.imap_syntax.specs.declared.search.SearchStep.TheVariants.{Test};
 ghost use Rattle.imap_syntax.specs.declared.search.SearchTest.TheVariants.{System};
-ghost use Rattle.imap_query.specs.Keys.{Key, hits, steps_of};
+ghost use Rattle.imap_query.specs.KeyHits.{Key, hits, steps_of};
 ghost use Rattle.imap_query.specs.Runs.{after_step};
-ghost use Rattle.imap_query.specs.Tests.{bound_of, holds_in, is_dated, is_so, range_names, rank, set_names};
-ghost use Rattle.mail_listing.specs.Listing.{listed};
+ghost use Rattle.imap_query.specs.Tests.{bound_of, holds_in, is_date_related, test_holds, range_names, rank, set_names};
+ghost use Rattle.mailbox_rows.specs.RowViews.{listed_message};
 
 use crate::messages::{is_as, is_flagged};
-use crate::shown::Shown;
-use imap_syntax::{DayOrder, SearchStep, SearchTest, SystemFlag, TextPlace};
+use crate::viewed_message::ViewedMessage;
+use imap_syntax::{DateRelation, SearchStep, SearchTest, SystemFlag, TextPlace};
 use imap_types::{DateTime, Day, SequenceBound, SequenceRange};
-use mail_listing::Row;
+use mailbox_rows::Row;
 use mail_text::{body, contains_nocase, field_contains_nocase, written_day};
 use std::alloc::{AllocError, Global};
 
@@ -40,16 +40,16 @@ pub(crate) fn flag_test(steps: &[SearchStep]) -> Option<FlagTest>
 /// Whether a message hits, which a view shows here and of which `last` is the last shown.
 pub(crate) fn hits(
     alloc: Global,
-    last: Shown,
-    shown: Shown,
+    last: ViewedMessage,
+    shown: ViewedMessage,
     row: &Row<'_>,
     steps: &[SearchStep],
 ) -> Result<bool, AllocError>
-    ensures { IfOk result (λ is. (key : Key) → steps.now ≡ steps_of key → is ≡ hits (is_so last shown (listed row.now)) key) }
+    ensures { IfOk result (λ is. (key : Key) → steps.now ≡ steps_of key → is ≡ hits (test_holds last shown (listed_message row.now)) key) }
 {
     // Most keys are one test, which needs no list of results.
     if let Some(test) = one_test(steps) {
-        return is_so(alloc, last, shown, row, test);
+        return test_holds(alloc, last, shown, row, test);
     }
     let mut results: Vec<bool> = Vec::new(alloc);
     for step in steps {
@@ -77,17 +77,17 @@ fn one_test(steps: &[SearchStep]) -> Option<&SearchTest>
 /// What a step makes of the results so far.
 fn take_step(
     alloc: Global,
-    last: Shown,
-    shown: Shown,
+    last: ViewedMessage,
+    shown: ViewedMessage,
     row: &Row<'_>,
     step: &SearchStep,
     results: &mut Vec<bool>,
 ) -> Result<(), AllocError>
-    ensures { OnOk result (reverse results.new.items ≡ after_step (is_so last shown (listed row.now)) step.now (reverse results.old.items)) }
+    ensures { OnOk result (reverse results.new.items ≡ after_step (test_holds last shown (listed_message row.now)) step.now (reverse results.old.items)) }
 {
     match step {
         SearchStep::Test(test) => {
-            let is = is_so(alloc, last, shown, row, test)?;
+            let is = test_holds(alloc, last, shown, row, test)?;
             results.push(is)?;
         }
         SearchStep::Not => {
@@ -114,14 +114,14 @@ fn take_step(
 }
 
 /// Whether a test holds of a message. Time is linear in the text for what looks at texts.
-fn is_so(
+fn test_holds(
     alloc: Global,
-    last: Shown,
-    shown: Shown,
+    last: ViewedMessage,
+    shown: ViewedMessage,
     row: &Row<'_>,
     test: &SearchTest,
 ) -> Result<bool, AllocError>
-    ensures { IfOk result (λ is. is ≡ is_so last shown (listed row.now) test.now) }
+    ensures { IfOk result (λ is. is ≡ test_holds last shown (listed_message row.now) test.now) }
 {
     match test {
         SearchTest::All => Ok(true),
@@ -139,7 +139,7 @@ fn is_so(
         SearchTest::Header { name, text } => {
             field_contains_nocase(alloc, row.shown_text(), name.as_bytes(), text.as_bytes())
         }
-        SearchTest::Dated { order, day } => Ok(is_dated(*order, *day, &row.shown_date())),
+        SearchTest::Dated { order, day } => Ok(is_date_related(*order, *day, &row.shown_date())),
         SearchTest::Larger { octets } => Ok((row.shown_text().len() as u64) > *octets),
         SearchTest::Smaller { octets } => Ok((row.shown_text().len() as u64) < *octets),
         SearchTest::ModSeq { value } => Ok(row.modseq >= *value),
@@ -197,14 +197,14 @@ fn holds_in(alloc: Global, place: TextPlace, word: &[u8], text: &[u8]) -> Result
 }
 
 /// Whether a date-time's day, as it is written, stands so to a day.
-fn is_dated(order: DayOrder, day: Day, date: &DateTime) -> bool
-    ensures { result ≡ is_dated order day date.now }
+fn is_date_related(order: DateRelation, day: Day, date: &DateTime) -> bool
+    ensures { result ≡ is_date_related order day date.now }
 {
     let written = rank(written_day(date));
     match order {
-        DayOrder::Before => written < rank(day),
-        DayOrder::On => written == rank(day),
-        DayOrder::Since => written >= rank(day),
+        DateRelation::Before => written < rank(day),
+        DateRelation::On => written == rank(day),
+        DateRelation::Since => written >= rank(day),
     }
 }
 

@@ -1,7 +1,7 @@
 ghost use Rattle.std.specs.Prelude.{◌≡◌, List, ℕ};
 ghost use Rattle.imap_syntax.specs.Keys.{search_keys};
 ghost use Rattle.imap_syntax.specs.declared.search.SearchStep.{SearchStep};
-ghost use Rattle.imap_query.specs.Keys.{IsKey, Key, steps_of};
+ghost use Rattle.imap_query.specs.KeyHits.{IsKey, Key, steps_of};
 
 /// What SEARCH spells are the steps of a key.
 pub fn spelled_steps_are_a_key()

@@ -7,11 +7,11 @@ ghost use Rattle.imap_query.specs.Status.{is_asked, size_of, status_of};
 use crate::messages::is_flagged;
 use imap_answers::StatusItems;
 use imap_syntax::{StatusItem, SystemFlag};
-use mail_listing::Rows;
+use mailbox_rows::Rows;
 
 /// What a mailbox counts on, beside its listing.
 #[derive(Clone, Copy, Debug, PartialEq, Eq)]
-pub struct Marks {
+pub struct MailboxCounters {
     pub uidvalidity: u32,
     /// The UID that the next message takes.
     pub uidnext: u32,
@@ -21,7 +21,7 @@ pub struct Marks {
 
 /// What STATUS tells of a mailbox, each item that was asked once (RFC 9051, section 6.3.11; RFC 7162, section 3.1.7).
 /// The octets of all messages stop at the greatest `u64`. Time is linear in the listing.
-pub fn status(rows: &Rows<'_>, items: &[StatusItem], marks: Marks) -> StatusItems
+pub fn status(rows: &Rows<'_>, items: &[StatusItem], marks: MailboxCounters) -> StatusItems
     ensures { result ≡ status_of items.now marks rows.now }
 {
     StatusItems {
@@ -57,13 +57,13 @@ fn count(rows: &Rows<'_>, flag: SystemFlag, is_set: bool) -> u32
 {
     let mut count = 0;
     for place in 0..rows.count() {
-        count += counted(rows, place, flag, is_set);
+        count += count_at(rows, place, flag, is_set);
     }
     count
 }
 
 /// One where the message at this place has the flag, or lacks it.
-fn counted(rows: &Rows<'_>, place: u32, flag: SystemFlag, is_set: bool) -> u32
+fn count_at(rows: &Rows<'_>, place: u32, flag: SystemFlag, is_set: bool) -> u32
     ensures counted { result ≡ length (filter (is_flagged flag is_set) (option_to_list (slice_get rows.now place))) }
     ensures bound { result ≤ 1 }
 {

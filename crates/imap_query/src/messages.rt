@@ -2,16 +2,16 @@
 
 ghost use Rattle.std.specs.Prelude.{◌≡◌};
 ghost use Rattle.imap_query.specs.Messages.{has_flag, is_as, is_flagged};
-ghost use Rattle.imap_types.specs.Unions.{united};
-ghost use Rattle.mail_listing.specs.Listing.{listed};
+ghost use Rattle.imap_types.specs.Unions.{united_flags};
+ghost use Rattle.mailbox_rows.specs.RowViews.{listed_message};
 
 use imap_syntax::SystemFlag;
 use imap_types::Versions;
-use mail_listing::Row;
+use mailbox_rows::Row;
 
 /// Whether a message has a flag, or lacks it.
 pub(crate) fn is_flagged(row: &Row<'_>, flag: SystemFlag, is_set: bool) -> bool
-    ensures { result ≡ is_flagged flag is_set (listed row.now) }
+    ensures { result ≡ is_flagged flag is_set (listed_message row.now) }
 {
     is_as(is_set, has_flag(flag, row.versions))
 }
@@ -25,7 +25,7 @@ pub(crate) fn is_as(wanted: bool, is: bool) -> bool
 
 #[inline(always)]
 pub(crate) fn has_flag(flag: SystemFlag, versions: Versions<'_>) -> bool
-    ensures { result ≡ has_flag flag (united versions.entry.list.now) }
+    ensures { result ≡ has_flag flag (united_flags versions.entry.list.now) }
 {
     match flag {
         SystemFlag::Answered => versions.answered(),

@@ -2,17 +2,17 @@ ghost use Rattle.std.specs.Prelude.{◌≡◌, ◌==◌, ◌&&◌, ◌++◌, [],
 ghost use Rattle.std.specs.List.{list_any};
 ghost use Rattle.imap_types.specs.Numbers.{AreRisingFrom, greatest};
 ghost use Rattle.imap_query.specs.Hits.{MayAdd, last_number, step_names_modseq};
-ghost use Rattle.imap_query.specs.Keys.{Key, steps_of};
-ghost use Rattle.imap_query.specs.Search.{asks_modseq, first_hit, hit_of, hits_in, last_hit, last_shown, modseq_in, name_of, number_in, results_of, told_modseq, wants, wants_all, wants_ends, where_wanted};
-ghost use Rattle.mail_listing.specs.Listing.{row_of};
+ghost use Rattle.imap_query.specs.KeyHits.{Key, steps_of};
+ghost use Rattle.imap_query.specs.Search.{asks_modseq, first_hit, hit_of, hits_in, last_hit, last_shown, modseq_in, number_or_uid, number_in, results_of, modseq_of_result, asks_option, asks_all, asks_min_or_max_alone, number_where_asked};
+ghost use Rattle.mailbox_rows.specs.RowViews.{row_of};
 
-use crate::heads::{flagged, push_hit as push_one};
+use crate::heads::{flagged_hits, push_hit as push_one};
 use crate::keys::{flag_test, hits};
-use crate::shown::Shown;
+use crate::viewed_message::ViewedMessage;
 use imap_answers::SearchResults;
 use imap_syntax::{SearchOption, SearchStep, SearchTest};
 use imap_types::NumberSet;
-use mail_listing::Rows;
+use mailbox_rows::Rows;
 use std::alloc::{AllocError, Global};
 
 /// A message that hits.
@@ -31,7 +31,7 @@ struct Sought<'a> {
     /// The key, in steps.
     steps: &'a [SearchStep],
     /// The last message that the view shows.
-    last: Shown,
+    last: ViewedMessage,
 }
 
 /// What SEARCH tells of the messages that a view shows and that the listing has (RFC 9051, section 6.4.4; RFC 7162,
@@ -39,13 +39,13 @@ struct Sought<'a> {
 /// costs one look at each message: its text's length for a key on texts. `Err` where there is no memory for it.
 pub fn search(
     alloc: Global,
-    view: &[Shown],
+    view: &[ViewedMessage],
     rows: &Rows<'_>,
     by_uid: bool,
     steps: &[SearchStep],
     options: &[SearchOption],
 ) -> Result<SearchResults, AllocError>
-    requires { AreRisingFrom 1 (map (name_of by_uid) view.now) }
+    requires { AreRisingFrom 1 (map (number_or_uid by_uid) view.now) }
     ensures { IfOk result (λ results. (key : Key) → steps.now ≡ steps_of key → results ≡ results_of options.now (asks_modseq key) (hits_in by_uid key rows.now view.now)) }
 {
     let hits = hits_in(alloc, view, rows, by_uid, steps)?;
@@ -55,17 +55,17 @@ pub fn search(
 /// The messages that hit, in the view's order.
 fn hits_in(
     alloc: Global,
-    view: &[Shown],
+    view: &[ViewedMessage],
     rows: &Rows<'_>,
     by_uid: bool,
     steps: &[SearchStep],
 ) -> Result<Vec<Hit>, AllocError>
-    requires { AreRisingFrom 1 (map (name_of by_uid) view.now) }
+    requires { AreRisingFrom 1 (map (number_or_uid by_uid) view.now) }
     ensures hits { IfOk result (λ hits. (key : Key) → steps.now ≡ steps_of key → hits.items ≡ hits_in by_uid key rows.now view.now) }
     ensures rising { IfOk result (λ hits. AreRisingFrom 1 (map (λ hit. hit.number) hits.items)) }
 {
     if let Some(test) = flag_test(steps) {
-        return flagged(alloc, view, rows, by_uid, test);
+        return flagged_hits(alloc, view, rows, by_uid, test);
     }
     let last = last_shown(view);
     let sought = Sought {
@@ -81,11 +81,11 @@ fn hits_in(
 }
 
 /// The last message that a view shows.
-fn last_shown(view: &[Shown]) -> Shown
+fn last_shown(view: &[ViewedMessage]) -> ViewedMessage
     ensures { result ≡ last_shown view.now }
 {
     match view {
-        [] => Shown { number: 0, uid: 0 },
+        [] => ViewedMessage { number: 0, uid: 0 },
         [.., last] => *last,
     }
 }
@@ -95,11 +95,11 @@ fn push_hit(
     alloc: Global,
     rows: &Rows<'_>,
     sought: Sought<'_>,
-    shown: Shown,
+    shown: ViewedMessage,
     found: &mut Vec<Hit>,
 ) -> Result<(), AllocError>
     ensures hits { OnOk result ((key : Key) → sought.entry.steps.now ≡ steps_of key → found.new.items ≡ found.old.items ++ hit_of sought.entry.by_uid key sought.entry.last shown (row_of shown.uid rows.now)) }
-    ensures numbers { OnOk result (MayAdd (name_of sought.entry.by_uid shown) (map (λ hit. hit.number) found.old.items) (map (λ hit. hit.number) found.new.items)) }
+    ensures numbers { OnOk result (MayAdd (number_or_uid sought.entry.by_uid shown) (map (λ hit. hit.number) found.old.items) (map (λ hit. hit.number) found.new.items)) }
 {
     match rows.row_near(shown.place(), shown.uid) {
         None => Ok(()),
@@ -120,8 +120,8 @@ fn push_hit(
 
 /// The number by which a search names a message.
 #[inline(always)]
-pub(crate) fn name_of(by_uid: bool, shown: Shown) -> u32
-    ensures { result ≡ name_of by_uid shown }
+pub(crate) fn name_of(by_uid: bool, shown: ViewedMessage) -> u32
+    ensures { result ≡ number_or_uid by_uid shown }
 {
     if by_uid { shown.uid } else { shown.number }
 }
@@ -157,13 +157,13 @@ fn results(
     requires { AreRisingFrom 1 (map (λ hit. hit.number) hits.now) }
     ensures { IfOk result (λ results. results ≡ results_of options.now with_modseq hits.now) }
 {
-    let all = all_numbers(alloc, hits, wants_all(options))?;
+    let all = all_numbers(alloc, hits, asks_all(options))?;
     Ok(SearchResults {
-        min: wanted_number(wants(options, SearchOption::Min), first_hit(hits)),
-        max: wanted_number(wants(options, SearchOption::Max), last_hit(hits)),
+        min: number_if_asked(asks_option(options, SearchOption::Min), first_hit(hits)),
+        max: number_if_asked(asks_option(options, SearchOption::Max), last_hit(hits)),
         all,
-        count: wants(options, SearchOption::Count).then_some(count_of(hits)),
-        modseq: is_told(with_modseq, hits).then_some(told_modseq(options, hits)),
+        count: asks_option(options, SearchOption::Count).then_some(count_of(hits)),
+        modseq: is_modseq_asked(with_modseq, hits).then_some(modseq_of_result(options, hits)),
     })
 }
 
@@ -190,7 +190,7 @@ fn numbers(alloc: Global, hits: &[Hit]) -> Result<NumberSet, AllocError>
 }
 
 /// Whether a mod-sequence is told.
-fn is_told(with_modseq: bool, hits: &[Hit]) -> bool
+fn is_modseq_asked(with_modseq: bool, hits: &[Hit]) -> bool
     ensures { result ≡ (with_modseq && not (length hits.now == 0)) }
 {
     with_modseq && !hits.is_empty()
@@ -215,8 +215,8 @@ fn last_hit(hits: &[Hit]) -> Option<Hit>
 }
 
 /// The number of a hit, where it is wanted.
-fn wanted_number(is_wanted: bool, hit: Option<Hit>) -> Option<u32>
-    ensures { result ≡ where_wanted is_wanted (number_in hit) }
+fn number_if_asked(is_wanted: bool, hit: Option<Hit>) -> Option<u32>
+    ensures { result ≡ number_where_asked is_wanted (number_in hit) }
 {
     if !is_wanted {
         return None;
@@ -228,8 +228,8 @@ fn wanted_number(is_wanted: bool, hit: Option<Hit>) -> Option<u32>
 }
 
 /// The mod-sequence of a hit, where it is wanted, and else 0.
-fn wanted_modseq(is_wanted: bool, hit: Option<Hit>) -> u64
-    ensures { result ≡ modseq_in (where_wanted is_wanted hit) }
+fn modseq_if_asked(is_wanted: bool, hit: Option<Hit>) -> u64
+    ensures { result ≡ modseq_in (number_where_asked is_wanted hit) }
 {
     if !is_wanted {
         return 0;
@@ -263,14 +263,14 @@ fn last_number(hits: &[Hit]) -> u32
 }
 
 /// The greatest mod-sequence that is told of hits.
-fn told_modseq(options: &[SearchOption], hits: &[Hit]) -> u64
-    ensures { result ≡ told_modseq options.now hits.now }
+fn modseq_of_result(options: &[SearchOption], hits: &[Hit]) -> u64
+    ensures { result ≡ modseq_of_result options.now hits.now }
 {
-    if !wants_ends(options) {
+    if !asks_min_or_max_alone(options) {
         return greatest_modseq(hits);
     }
-    let first = wanted_modseq(wants(options, SearchOption::Min), first_hit(hits));
-    let last = wanted_modseq(wants(options, SearchOption::Max), last_hit(hits));
+    let first = modseq_if_asked(asks_option(options, SearchOption::Min), first_hit(hits));
+    let last = modseq_if_asked(asks_option(options, SearchOption::Max), last_hit(hits));
     first.max(last)
 }
 
@@ -285,21 +285,21 @@ fn greatest_modseq(hits: &[Hit]) -> u64
 }
 
 /// Whether all hits are asked: by ALL, or by no option at all.
-fn wants_all(options: &[SearchOption]) -> bool
-    ensures { result ≡ wants_all options.now }
+fn asks_all(options: &[SearchOption]) -> bool
+    ensures { result ≡ asks_all options.now }
 {
-    options.is_empty() || wants(options, SearchOption::All)
+    options.is_empty() || asks_option(options, SearchOption::All)
 }
 
 /// Whether there are options, and each is MIN or MAX.
-fn wants_ends(options: &[SearchOption]) -> bool
-    ensures { result ≡ wants_ends options.now }
+fn asks_min_or_max_alone(options: &[SearchOption]) -> bool
+    ensures { result ≡ asks_min_or_max_alone options.now }
 {
-    !wants_all(options) && !wants(options, SearchOption::Count)
+    !asks_all(options) && !asks_option(options, SearchOption::Count)
 }
 
-fn wants(options: &[SearchOption], option: SearchOption) -> bool
-    ensures { result ≡ wants option options.now }
+fn asks_option(options: &[SearchOption], option: SearchOption) -> bool
+    ensures { result ≡ asks_option option options.now }
 {
     for other in options {
         if *other == option {

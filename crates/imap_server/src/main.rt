@@ -4,5 +4,5 @@
 use std::process::ExitCode;
 
 fn main(rt: HostRuntime) -> ExitCode {
-    ExitCode::from(mail_serving::run(&rt))
+    ExitCode::from(server_runtime::run(&rt))
 }

@@ -7,7 +7,7 @@ use Rattle.imap_syntax.specs.MessageFlags.{stored, append_flags}
 use Rattle.imap_syntax.specs.Sets.{sequence_set}
 use Rattle.imap_syntax.specs.Strings.{run, astring, pattern, mailbox, number_to, literal}
 use Rattle.imap_syntax.specs.Words.{command_word, status_word, store_word}
-use Rattle.imap_syntax.specs.declared.class.Class.TheVariants.{Tag, Atom}
+use Rattle.imap_syntax.specs.declared.octet_class.OctetClass.TheVariants.{Tag, Atom}
 use Rattle.imap_syntax.specs.declared.command.Command.{Command}
 use Rattle.imap_syntax.specs.declared.command.Command.TheVariants as commands
 use Rattle.imap_syntax.specs.declared.command.Tagged.{Tagged}

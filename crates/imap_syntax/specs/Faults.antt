@@ -3,8 +3,8 @@ use Rattle.std.specs.List.{list_all}
 use Rattle.imap_syntax.specs.Languages.{word}
 use Rattle.imap_syntax.specs.Strings.{is_in, run}
 use Rattle.imap_syntax.specs.Words.{command_word}
-use Rattle.imap_syntax.specs.declared.class.Class.{Class}
-use Rattle.imap_syntax.specs.declared.class.Class.TheVariants.{Tag, Atom}
+use Rattle.imap_syntax.specs.declared.octet_class.OctetClass.{OctetClass}
+use Rattle.imap_syntax.specs.declared.octet_class.OctetClass.TheVariants.{Tag, Atom}
 use Rattle.imap_syntax.specs.declared.word.CommandWord.{CommandWord}
 
 -- A frame is a tag, a space and this rest.
@@ -16,7 +16,7 @@ abbrev pub HasTag : List ℕ → Type 0
 HasTag frame = (tag rest : List ℕ) × IsTagged frame tag rest
 
 -- Whether a text begins with an octet of a class.
-abbrev pub begins_in : Class → List ℕ → Bool
+abbrev pub begins_in : OctetClass → List ℕ → Bool
 begins_in class [] = false
 begins_in class (octet ∷ octets) = is_in class octet
 

@@ -1,10 +1,10 @@
 use Rattle.std.specs.Prelude.{ℕ, Bool, true, false, List, [], ◌∷◌, codes}
 use Rattle.imap_syntax.specs.declared.flags.SystemFlag.{SystemFlag}
 use Rattle.imap_syntax.specs.declared.flags.SystemFlag.TheVariants as system
-use Rattle.imap_syntax.specs.declared.search.DayOrder.{DayOrder}
-use Rattle.imap_syntax.specs.declared.search.DayOrder.TheVariants as order
-use Rattle.imap_syntax.specs.declared.search.KeyWord.{KeyWord}
-use Rattle.imap_syntax.specs.declared.search.KeyWord.TheVariants as key
+use Rattle.imap_syntax.specs.declared.search.DateRelation.{DateRelation}
+use Rattle.imap_syntax.specs.declared.search.DateRelation.TheVariants as order
+use Rattle.imap_syntax.specs.declared.search.SearchKeyWord.{SearchKeyWord}
+use Rattle.imap_syntax.specs.declared.search.SearchKeyWord.TheVariants as key
 use Rattle.imap_syntax.specs.declared.search.SearchOption.{SearchOption}
 use Rattle.imap_syntax.specs.declared.search.SearchOption.TheVariants as option
 use Rattle.imap_syntax.specs.declared.search.TextPlace.{TextPlace}
@@ -42,12 +42,12 @@ place_key place.To = codes "TO"
 place_key place.Body = codes "BODY"
 place_key place.Text = codes "TEXT"
 
-abbrev pub order_key : DayOrder → List ℕ
+abbrev pub order_key : DateRelation → List ℕ
 order_key order.Before = codes "BEFORE"
 order_key order.On = codes "ON"
 order_key order.Since = codes "SINCE"
 
-abbrev pub key_word : KeyWord → List ℕ
+abbrev pub key_word : SearchKeyWord → List ℕ
 key_word key.All = codes "ALL"
 key_word (key.System flag is_set) = flag_key flag is_set
 key_word (key.Keyword true) = codes "KEYWORD"
@@ -62,7 +62,7 @@ key_word key.Uid = codes "UID"
 key_word key.Not = codes "NOT"
 key_word key.Or = codes "OR"
 
-abbrev pub key_words : List KeyWord
+abbrev pub key_words : List SearchKeyWord
 key_words =
     key.All
     ∷ key.System system.Answered true

@@ -4,8 +4,8 @@ use Rattle.imap_syntax.specs.KeyWords.{key_word, option_word}
 use Rattle.imap_syntax.specs.Languages.{◌⌢◌, nothing, never, sp, word, in_parens, listed, maybe_listed}
 use Rattle.imap_syntax.specs.Sets.{sequence_set}
 use Rattle.imap_syntax.specs.Strings.{run, astring, number_to}
-use Rattle.imap_syntax.specs.declared.class.Class.TheVariants.{Atom}
-use Rattle.imap_syntax.specs.declared.search.KeyWord.TheVariants as key
+use Rattle.imap_syntax.specs.declared.octet_class.OctetClass.TheVariants.{Atom}
+use Rattle.imap_syntax.specs.declared.search.SearchKeyWord.TheVariants as key
 use Rattle.imap_syntax.specs.declared.search.SearchOption.{SearchOption}
 use Rattle.imap_syntax.specs.declared.search.SearchStep.{SearchStep}
 use Rattle.imap_syntax.specs.declared.search.SearchStep.TheVariants.{Test, Not, Or, And}

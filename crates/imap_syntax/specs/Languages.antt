@@ -1,5 +1,5 @@
 use Rattle.std.specs.Prelude.{codes, ◌≡◌, ℕ, List, [], ◌∷◌, ◌++◌, Option, Some, None}
-use Rattle.imap_types.specs.Keywords.{lowered}
+use Rattle.imap_types.specs.Keywords.{to_lower_case}
 
 infixr 7 ◌⌢◌
 -- A language is a fact about texts. A text of `P ⌢ Q` is a text of P and behind it a text of Q.
@@ -24,7 +24,7 @@ crlf = exactly (codes "\r\n")
 
 -- A word without ASCII case (RFC 9051, section 9, note 1).
 abbrev pub word : List ℕ → List ℕ → Type 0
-word letters text = lowered text ≡ lowered letters
+word letters text = to_lower_case text ≡ to_lower_case letters
 
 -- No text at all.
 abbrev pub never : List ℕ → Type 0

@@ -2,12 +2,12 @@ use Rattle.std.specs.Prelude.{codes, ◌≡◌, ◌⊎◌, ℕ, Bool, true, fals
 use Rattle.std.specs.List.{list_any}
 use Rattle.std.specs.Option.{unwrap_or}
 use Rattle.std.specs.Str.{bytes_eq}
-use Rattle.imap_types.specs.Keywords.{AreKeywords, lowered}
+use Rattle.imap_types.specs.Keywords.{AreKeywords, to_lower_case}
 use Rattle.imap_types.specs.declared.flags.Flags.{Flags}
 use Rattle.imap_syntax.specs.Languages.{◌⌢◌, exactly, sp, word, in_parens, listed, maybe_listed, optional}
 use Rattle.imap_syntax.specs.Strings.{run}
 use Rattle.imap_syntax.specs.Words.{system_word}
-use Rattle.imap_syntax.specs.declared.class.Class.TheVariants.{Atom}
+use Rattle.imap_syntax.specs.declared.octet_class.OctetClass.TheVariants.{Atom}
 use Rattle.imap_syntax.specs.declared.flags.Flag.{Flag}
 use Rattle.imap_syntax.specs.declared.flags.Flag.TheVariants.{System, Keyword}
 use Rattle.imap_syntax.specs.declared.flags.SystemFlag.{SystemFlag}
@@ -30,7 +30,7 @@ is_system _ _ = false
 -- It is this keyword, in any case of letters.
 abbrev pub is_keyword : List ℕ → Flag → Bool
 is_keyword word (System known) = false
-is_keyword word (Keyword keyword) = bytes_eq word (lowered keyword)
+is_keyword word (Keyword keyword) = bytes_eq word (to_lower_case keyword)
 
 -- The set of the flags that are written: each system flag that is, and each keyword that is, once, in lower case (RFC 9051, section 2.3.2).
 -- There is one such set.

@@ -2,17 +2,17 @@ use Rattle.std.specs.Prelude.{codes, ◌≤◌, false, ◌≡◌, ◌≢◌, ◌
 use Rattle.std.specs.List.{list_all}
 use Rattle.imap_types.specs.DateTimes.{is_digit}
 use Rattle.imap_types.specs.Keywords.{is_astring_octet, is_atom_octet, is_tag_octet}
-use Rattle.imap_types.specs.Names.{folded_name}
+use Rattle.imap_types.specs.Names.{fold_inbox}
 use Rattle.imap_syntax.specs.Languages.{◌⌢◌, exactly, nothing}
-use Rattle.imap_syntax.specs.declared.class.Class.{Class}
-use Rattle.imap_syntax.specs.declared.class.Class.TheVariants.{Tag, Atom, Astring, Pattern, Digit, Item}
+use Rattle.imap_syntax.specs.declared.octet_class.OctetClass.{OctetClass}
+use Rattle.imap_syntax.specs.declared.octet_class.OctetClass.TheVariants.{Tag, Atom, Astring, Pattern, Digit, Item}
 
 -- Whether an octet may stand in a pattern without quotes: an astring octet, `%` or `*` (RFC 9051, section 9, list-char).
 abbrev pub is_pattern_octet : ℕ → Bool
 is_pattern_octet octet = is_astring_octet octet || (octet == 37) || (octet == 42)
 
 -- The octets of each class. The words of arguments have atom octets other than `[`.
-abbrev pub is_in : Class → ℕ → Bool
+abbrev pub is_in : OctetClass → ℕ → Bool
 is_in Tag octet = is_tag_octet octet
 is_in Atom octet = is_atom_octet octet
 is_in Astring octet = is_astring_octet octet
@@ -21,13 +21,13 @@ is_in Digit octet = is_digit octet
 is_in Item octet = is_atom_octet octet && not (octet == 91)
 
 -- One or more octets of a class, which stand for themselves.
-abbrev pub run : Class → List ℕ → List ℕ → Type 0
+abbrev pub run : OctetClass → List ℕ → List ℕ → Type 0
 run class value text = (value ≢ []) × IsTrue (list_all (is_in class) value) × (text ≡ value)
 
 -- The text between quotes: `"` (34) and `\` (92) are written `\"` and `\\` (RFC 9051, section 9, QUOTED-CHAR).
-abbrev pub escaped : List ℕ → List ℕ
-escaped [] = []
-escaped (octet ∷ octets) = if (octet == 34) || (octet == 92) then 92 ∷ octet ∷ escaped octets else octet ∷ escaped octets
+abbrev pub quoted_escape : List ℕ → List ℕ
+quoted_escape [] = []
+quoted_escape (octet ∷ octets) = if (octet == 34) || (octet == 92) then 92 ∷ octet ∷ quoted_escape octets else octet ∷ quoted_escape octets
 
 -- Whether an octet may stand between quotes: none of NUL, CR and LF.
 abbrev pub is_quotable : ℕ → Bool
@@ -35,7 +35,7 @@ is_quotable octet = not ((octet == 0) || (octet == 13) || (octet == 10))
 
 -- A quoted string (RFC 9051, section 9, quoted).
 abbrev pub quoted : List ℕ → List ℕ → Type 0
-quoted value text = IsTrue (list_all is_quotable value) × (text ≡ codes "\"" ++ (escaped value ++ codes "\""))
+quoted value text = IsTrue (list_all is_quotable value) × (text ≡ codes "\"" ++ (quoted_escape value ++ codes "\""))
 
 -- The number that decimal digits write, behind a number so far.
 abbrev pub number_of : ℕ → List ℕ → ℕ
@@ -55,7 +55,7 @@ abbrev pub literal : List ℕ → List ℕ → Type 0
 literal value = exactly (codes "{") ⌢ number (length value) ⌢ optional_plus ⌢ exactly (codes "}\r\n") ⌢ exactly value
 
 -- Octets of a class as they stand, or a string in either form.
-abbrev pub text_of : Class → List ℕ → List ℕ → Type 0
+abbrev pub text_of : OctetClass → List ℕ → List ℕ → Type 0
 text_of class value text = run class value text ⊎ (quoted value text ⊎ literal value text)
 
 -- A string or a word of astring octets (RFC 9051, section 9, astring).
@@ -68,7 +68,7 @@ pattern = text_of Pattern
 
 -- A mailbox name: an astring, of which INBOX is meant in any case (RFC 9051, section 9, mailbox).
 abbrev pub mailbox : List ℕ → List ℕ → Type 0
-mailbox name text = (written : List ℕ) × astring written text × (folded_name written ≡ name)
+mailbox name text = (written : List ℕ) × astring written text × (fold_inbox written ≡ name)
 
 -- Whether a text begins with an octet.
 abbrev pub begins : ℕ → List ℕ → Bool

@@ -1,7 +1,7 @@
 //! What commands with several arguments ask.
 
 use crate::fetch::FetchItem;
-use crate::many::Many;
+use crate::written_values::WrittenValues;
 use crate::search::SearchOption;
 use crate::steps::SearchSteps;
 use crate::store::StoreAction;
@@ -54,7 +54,7 @@ impl Drop for Append {
 pub struct Search {
     pub by_uid: bool,
     /// As they were written.
-    pub options: Many<SearchOption>,
+    pub options: WrittenValues<SearchOption>,
     /// Those of a key, in the order in which they are worked off, each behind those that it works on.
     pub steps: SearchSteps,
 }
@@ -76,7 +76,7 @@ pub struct Fetch {
     /// Message numbers, or UIDs where `by_uid` says so.
     pub messages: SequenceSet,
     /// At least one, as they were written, and those of FAST in its place.
-    pub items: Many<FetchItem>,
+    pub items: WrittenValues<FetchItem>,
     /// A mod-sequence up to 2^63 - 1 (RFC 7162, section 3.1.4.1).
     pub changed_since: Option<u64>,
 }

@@ -1,5 +1,5 @@
 use crate::arguments::{Append, Fetch, ListNames, Search, Store, Transfer};
-use crate::many::Many;
+use crate::written_values::WrittenValues;
 use crate::status::StatusItem;
 use imap_types::{Name, Octets, SequenceSet};
 
@@ -24,7 +24,7 @@ pub enum Command {
     /// RFC 9051, section 6.2.3.
     Login { user: Octets, password: Octets },
     /// RFC 9051, section 6.3.1. The names are as they were written.
-    Enable { names: Many<Octets> },
+    Enable { names: WrittenValues<Octets> },
     /// RFC 9051, section 6.3.2; `condstore` turns mod-sequences on (RFC 7162, section 3.1.8).
     Select { name: Name, condstore: bool },
     /// RFC 9051, section 6.3.3; `condstore` as in `Select`.
@@ -42,7 +42,7 @@ pub enum Command {
     /// RFC 9051, section 6.3.10.
     Namespace,
     /// RFC 9051, section 6.3.11. The items are at least one, as they were written.
-    Status { name: Name, items: Many<StatusItem> },
+    Status { name: Name, items: WrittenValues<StatusItem> },
     /// RFC 9051, section 6.3.12.
     Append(Append),
     /// RFC 2177, section 3.

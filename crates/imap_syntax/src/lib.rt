@@ -4,12 +4,12 @@
 #![tactic(auto)]
 
 mod arguments;
-mod class;
+mod octet_class;
 mod command;
 mod fetch;
 mod flags;
 mod idle;
-mod many;
+mod written_values;
 mod search;
 mod status;
 mod steps;
@@ -17,13 +17,13 @@ mod store;
 mod word;
 
 pub use arguments::{Append, Fetch, ListNames, Search, Store, Transfer};
-pub use class::Class;
+pub use octet_class::OctetClass;
 pub use command::{Command, Tagged};
 pub use fetch::{FetchItem, FetchWord, Partial, SectionWord};
 pub use flags::{Flag, SystemFlag};
 pub use idle::IdleLine;
-pub use many::Many;
-pub use search::{DayOrder, KeyWord, SearchOption, SearchStep, SearchTest, TextPlace};
+pub use written_values::WrittenValues;
+pub use search::{DateRelation, SearchKeyWord, SearchOption, SearchStep, SearchTest, TextPlace};
 pub use status::StatusItem;
 pub use steps::SearchSteps;
 pub use store::{StoreAction, StoreMode};

@@ -30,7 +30,7 @@ pub enum TextPlace {
 
 /// How the day of a message's internal date, whatever its zone, stands to the day that a key names.
 #[derive(Clone, Copy, Debug, PartialEq, Eq)]
-pub enum DayOrder {
+pub enum DateRelation {
     /// Earlier.
     Before,
     /// The same.
@@ -51,7 +51,7 @@ pub enum SearchTest {
     /// The text stands in a header field of this name.
     Header { name: Octets, text: Octets },
     /// The day of the internal date stands so to this day, which the calendar has.
-    Dated { order: DayOrder, day: Day },
+    Dated { order: DateRelation, day: Day },
     /// More octets than these, up to 2^63 - 1.
     Larger { octets: u64 },
     /// Fewer octets than these, up to 2^63 - 1.
@@ -109,13 +109,13 @@ impl Drop for SearchStep {
 
 /// The words that begin keys.
 #[derive(Clone, Copy)]
-pub enum KeyWord {
+pub enum SearchKeyWord {
     All,
     System { flag: SystemFlag, is_set: bool },
     Keyword { is_set: bool },
     Place { place: TextPlace },
     Header,
-    Dated { order: DayOrder },
+    Dated { order: DateRelation },
     Larger,
     Smaller,
     ModSeq,

@@ -2,14 +2,14 @@ use Rattle.std.proofs.Common.{◌≡◌, ℕ, zero, suc, ◌<◌, ◌≤◌, tru
 use Rattle.std.proofs.lemmas.Bool.{and_parts, and_from, leb-true, le-leb}
 use Rattle.std.proofs.lemmas.Int.{ints}
 use Rattle.jiff.specs.Words.{IsDate, days_in_month}
-use Rattle.imap_types.specs.DateTimes.{is_pictured, date_time_picture, HasPicture, HasTime, IsDateTime, day_at, month_at, year_at}
-use Rattle.imap_types.specs.DateTimeTests.{is_date_time, is_day, is_time, pictured}
+use Rattle.imap_types.specs.DateTimes.{fits_mark, date_time_picture, HasPicture, HasTime, IsDateTime, day_at, month_at, year_at}
+use Rattle.imap_types.specs.DateTimeTests.{is_date_time, is_day, is_time, matches_picture}
 
-by_place : (mark octet : ℕ) (marks octets : List ℕ) → is_pictured mark octet ≡ true → ((k : ℕ) → k < length marks → IsTrue (is_pictured (get_or marks k 0) (get_or octets k 0))) → (k : ℕ) → k < length (mark ∷ marks) → IsTrue (is_pictured (get_or (mark ∷ marks) k 0) (get_or (octet ∷ octets) k 0))
+by_place : (mark octet : ℕ) (marks octets : List ℕ) → fits_mark mark octet ≡ true → ((k : ℕ) → k < length marks → IsTrue (fits_mark (get_or marks k 0) (get_or octets k 0))) → (k : ℕ) → k < length (mark ∷ marks) → IsTrue (fits_mark (get_or (mark ∷ marks) k 0) (get_or (octet ∷ octets) k 0))
 by_place mark octet marks octets e h zero l = e
 by_place mark octet marks octets e h (suc k) l = h k (omega arith)
 
-picture_takes : (ms bs : List ℕ) → pictured ms bs ≡ true → HasPicture ms bs
+picture_takes : (ms bs : List ℕ) → matches_picture ms bs ≡ true → HasPicture ms bs
 picture_takes [] [] h = (refl, λ k l. absurd (omega arith))
 picture_takes [] (b ∷ bs) h = cc
 picture_takes (m ∷ ms) [] h = cc
@@ -18,7 +18,7 @@ picture_takes (m ∷ ms) (b ∷ bs) h =
     let r = picture_takes ms bs p.1 in
     (ap suc r.0, by_place m b ms bs p.0 r.1)
 
-picture_again : (ms bs : List ℕ) → HasPicture ms bs → pictured ms bs ≡ true
+picture_again : (ms bs : List ℕ) → HasPicture ms bs → matches_picture ms bs ≡ true
 picture_again [] [] h = refl
 picture_again [] (b ∷ bs) h = absurd (omega (arith, h.0))
 picture_again (m ∷ ms) [] h = absurd (omega (arith, h.0))

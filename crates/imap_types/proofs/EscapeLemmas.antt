@@ -2,24 +2,24 @@ use Rattle.std.proofs.Common.{◌≡◌, ◌++◌, ◌+◌, ◌*◌, ◌/◌, �
 use Rattle.std.proofs.lemmas.Bool.{and_parts, and_from, cases_Bool}
 use Rattle.std.proofs.lemmas.Bool.Decides.{nat_tests}
 use Rattle.std.proofs.lemmas.Grind.{common_steps}
-use Rattle.imap_types.specs.Escape.{AreOctets, GivesRead, escaped, escaped_octet, hex_digit, hex_octet, hex_value, is_escape, is_hex, is_plain, unescaped, with_front}
+use Rattle.imap_types.specs.Escape.{AreOctets, GivesRead, escape_text, escape_octet, hex_digit, hex_octet, hex_value, is_escape, is_hex, is_plain, unescape, with_octet_in_front}
 use Rattle.imap_types.specs.declared.escape.Escape.{Escape}
 use Rattle.imap_types.specs.declared.escape.EscapeFault.{EscapeFault}
 use Rattle.imap_types.specs.declared.escape.Escape.TheVariants.{Field, Text}
 
 -- what stands for itself is read so
-pub unescaped_plain : (e : Escape) (b : ℕ) (rest : List ℕ) → is_plain e b ≡ true → unescaped e (b ∷ rest) ≡ with_front (b ∷ []) (unescaped e rest)
+pub unescaped_plain : (e : Escape) (b : ℕ) (rest : List ℕ) → is_plain e b ≡ true → unescape e (b ∷ rest) ≡ with_octet_in_front (b ∷ []) (unescape e rest)
 unescaped_plain e b [] p = rw p refl
 unescaped_plain e b (c ∷ []) p = rw p refl
 unescaped_plain e b (c ∷ d ∷ rest) p = rw p refl
 
-pub unescaped_none : (e : Escape) (b c : ℕ) → is_plain e b ≡ false → (unescaped e (b ∷ []) ≡ None) × (unescaped e (b ∷ c ∷ []) ≡ None)
+pub unescaped_none : (e : Escape) (b c : ℕ) → is_plain e b ≡ false → (unescape e (b ∷ []) ≡ None) × (unescape e (b ∷ c ∷ []) ≡ None)
 unescaped_none e b c p = (rw p refl, rw p refl)
 
-pub unescaped_pair : (e : Escape) (a b c : ℕ) (rest : List ℕ) → is_plain e a ≡ false → is_escape e a b c ≡ true → unescaped e (a ∷ b ∷ c ∷ rest) ≡ with_front (hex_octet b c ∷ []) (unescaped e rest)
+pub unescaped_pair : (e : Escape) (a b c : ℕ) (rest : List ℕ) → is_plain e a ≡ false → is_escape e a b c ≡ true → unescape e (a ∷ b ∷ c ∷ rest) ≡ with_octet_in_front (hex_octet b c ∷ []) (unescape e rest)
 unescaped_pair e a b c rest p q = rw (p, q) refl
 
-pub unescaped_no_pair : (e : Escape) (a b c : ℕ) (rest : List ℕ) → is_plain e a ≡ false → is_escape e a b c ≡ false → unescaped e (a ∷ b ∷ c ∷ rest) ≡ None
+pub unescaped_no_pair : (e : Escape) (a b c : ℕ) (rest : List ℕ) → is_plain e a ≡ false → is_escape e a b c ≡ false → unescape e (a ∷ b ∷ c ∷ rest) ≡ None
 unescaped_no_pair e a b c rest p q = rw (p, q) refl
 
 pub plain_small : (e : Escape) (b : ℕ) → is_plain e b ≡ true → b < 126
@@ -36,10 +36,10 @@ digit_back b h = (grind (arith, nat_tests), grind (arith, nat_tests))
 digit_on : (n : ℕ) → n < 16 → (is_hex (hex_digit n) ≡ true) × (hex_value (hex_digit n) ≡ n)
 digit_on n h = (grind (arith, nat_tests), grind (arith, nat_tests))
 
-pub escaped_plain : (e : Escape) (b : ℕ) → is_plain e b ≡ true → escaped_octet e b ≡ b ∷ []
+pub escaped_plain : (e : Escape) (b : ℕ) → is_plain e b ≡ true → escape_octet e b ≡ b ∷ []
 escaped_plain e b p = rw p refl
 
-pub escaped_other : (e : Escape) (b : ℕ) → is_plain e b ≡ false → escaped_octet e b ≡ 126 ∷ hex_digit (b / 16) ∷ hex_digit (b % 16) ∷ []
+pub escaped_other : (e : Escape) (b : ℕ) → is_plain e b ≡ false → escape_octet e b ≡ 126 ∷ hex_digit (b / 16) ∷ hex_digit (b % 16) ∷ []
 escaped_other e b p = rw p refl
 
 quotient : (h l : ℕ) → l < 16 → ((h * 16 + l) / 16 ≡ h) × ((h * 16 + l) % 16 ≡ l)
@@ -53,7 +53,7 @@ not_true true h = cc
 not_true false h = refl
 
 -- the three octets are those that spell it
-escape_spells : (e : Escape) (a b c : ℕ) → is_escape e a b c ≡ true → (hex_octet b c < 256) × (escaped_octet e (hex_octet b c) ≡ a ∷ b ∷ c ∷ [])
+escape_spells : (e : Escape) (a b c : ℕ) → is_escape e a b c ≡ true → (hex_octet b c < 256) × (escape_octet e (hex_octet b c) ≡ a ∷ b ∷ c ∷ [])
 escape_spells e a b c h =
     let p = and_parts _ _ h in
     let q = and_parts _ _ p.1 in
@@ -75,46 +75,46 @@ spells_escape e octet h p =
     let k : hex_octet (hex_digit (octet / 16)) (hex_digit (octet % 16)) ≡ octet = (λ i. b.1 i * 16 + c.1 i) ∙ back octet in
     (and_from _ _ b.0 (and_from _ _ c.0 (ap (λ n. not (is_plain e n)) k ∙ ap not p)), k)
 
-pub front_some : (front : List ℕ) (r : Option (List ℕ)) (x : List ℕ) → with_front front r ≡ Some x → (y : List ℕ) × (r ≡ Some y) × (x ≡ front ++ y)
+pub front_some : (front : List ℕ) (r : Option (List ℕ)) (x : List ℕ) → with_octet_in_front front r ≡ Some x → (y : List ℕ) × (r ≡ Some y) × (x ≡ front ++ y)
 front_some front None x h = cc
 front_some front (Some y) x h = (y, refl, cc)
 
-one_taken : (e : Escape) (octet : ℕ) (spelling rest octets octets' : List ℕ) → octet < 256 → escaped_octet e octet ≡ spelling → octets ≡ octet ∷ octets' → AreOctets octets' × (rest ≡ escaped e octets') → AreOctets octets × (spelling ++ rest ≡ escaped e octets)
+one_taken : (e : Escape) (octet : ℕ) (spelling rest octets octets' : List ℕ) → octet < 256 → escape_octet e octet ≡ spelling → octets ≡ octet ∷ octets' → AreOctets octets' × (rest ≡ escape_text e octets') → AreOctets octets × (spelling ++ rest ≡ escape_text e octets)
 one_taken e octet spelling rest octets octets' small s o h =
-    subst (λ (os : List ℕ). AreOctets os × (spelling ++ rest ≡ escaped e os)) (sym o) ((small, h.0), (λ i. sym s i ++ h.1 i))
+    subst (λ (os : List ℕ). AreOctets os × (spelling ++ rest ≡ escape_text e os)) (sym o) ((small, h.0), (λ i. sym s i ++ h.1 i))
 
 chosen : {A : Type 0} (b : Bool) (x y z : A) → cond b x y ≡ z → ((b ≡ true) × (x ≡ z)) ⊎ ((b ≡ false) × (y ≡ z))
 chosen true x y z h = inl (refl, h)
 chosen false x y z h = inr (refl, h)
 
-plain_taken : (e : Escape) (a : ℕ) (rest octets octets' : List ℕ) → is_plain e a ≡ true → octets ≡ a ∷ octets' → AreOctets octets' × (rest ≡ escaped e octets') → AreOctets octets × (a ∷ rest ≡ escaped e octets)
+plain_taken : (e : Escape) (a : ℕ) (rest octets octets' : List ℕ) → is_plain e a ≡ true → octets ≡ a ∷ octets' → AreOctets octets' × (rest ≡ escape_text e octets') → AreOctets octets × (a ∷ rest ≡ escape_text e octets)
 plain_taken e a rest octets octets' p o h =
     one_taken e a (a ∷ []) rest octets octets' (let k = plain_small e a p in omega arith) (escaped_plain e a p) o h
 
 -- what is read is spelled so
-pub unescaped_takes : (e : Escape) (text octets : List ℕ) → unescaped e text ≡ Some octets → AreOctets octets × (text ≡ escaped e octets)
+pub unescaped_takes : (e : Escape) (text octets : List ℕ) → unescape e text ≡ Some octets → AreOctets octets × (text ≡ escape_text e octets)
 unescaped_takes e [] octets h =
-    let k : ◌≡◌ {A = List ℕ} [] octets = cc in subst (λ (os : List ℕ). AreOctets os × ([] ≡ escaped e os)) k (tt, refl)
+    let k : ◌≡◌ {A = List ℕ} [] octets = cc in subst (λ (os : List ℕ). AreOctets os × ([] ≡ escape_text e os)) k (tt, refl)
 unescaped_takes e (a ∷ []) octets h =
     elim (chosen (is_plain e a) (Some (a ∷ [])) None (Some octets) h) [
       | inl t ↦ plain_taken e a [] octets [] t.0 (let k : ◌≡◌ {A = List ℕ} (a ∷ []) octets = cc in sym k) (tt, refl)
       | inr f ↦ absurd (let k = f.1 in cc)
     ]
 unescaped_takes e (a ∷ b ∷ []) octets h =
-    elim (chosen (is_plain e a) (with_front (a ∷ []) (unescaped e (b ∷ []))) None (Some octets) h) [
+    elim (chosen (is_plain e a) (with_octet_in_front (a ∷ []) (unescape e (b ∷ []))) None (Some octets) h) [
       | inl t ↦
-          let y = front_some (a ∷ []) (unescaped e (b ∷ [])) octets t.1 in
+          let y = front_some (a ∷ []) (unescape e (b ∷ [])) octets t.1 in
           plain_taken e a (b ∷ []) octets y.0 t.0 y.2 (unescaped_takes e (b ∷ []) y.0 y.1)
       | inr f ↦ absurd (let k = f.1 in cc)
     ]
 unescaped_takes e (a ∷ b ∷ c ∷ rest) octets h =
-    elim (chosen (is_plain e a) (with_front (a ∷ []) (unescaped e (b ∷ c ∷ rest))) (cond (is_escape e a b c) (with_front (hex_octet b c ∷ []) (unescaped e rest)) None) (Some octets) h) [
+    elim (chosen (is_plain e a) (with_octet_in_front (a ∷ []) (unescape e (b ∷ c ∷ rest))) (cond (is_escape e a b c) (with_octet_in_front (hex_octet b c ∷ []) (unescape e rest)) None) (Some octets) h) [
       | inl t ↦
-          let y = front_some (a ∷ []) (unescaped e (b ∷ c ∷ rest)) octets t.1 in
+          let y = front_some (a ∷ []) (unescape e (b ∷ c ∷ rest)) octets t.1 in
           plain_taken e a (b ∷ c ∷ rest) octets y.0 t.0 y.2 (unescaped_takes e (b ∷ c ∷ rest) y.0 y.1)
-      | inr f ↦ elim (chosen (is_escape e a b c) (with_front (hex_octet b c ∷ []) (unescaped e rest)) None (Some octets) f.1) [
+      | inr f ↦ elim (chosen (is_escape e a b c) (with_octet_in_front (hex_octet b c ∷ []) (unescape e rest)) None (Some octets) f.1) [
         | inl t ↦
-            let y = front_some (hex_octet b c ∷ []) (unescaped e rest) octets t.1 in
+            let y = front_some (hex_octet b c ∷ []) (unescape e rest) octets t.1 in
             let s = escape_spells e a b c t.0 in
             one_taken e (hex_octet b c) (a ∷ b ∷ c ∷ []) rest octets y.0 s.0 s.1 y.2 (unescaped_takes e rest y.0 y.1)
         | inr g ↦ absurd (let k = g.1 in cc)
@@ -122,27 +122,27 @@ unescaped_takes e (a ∷ b ∷ c ∷ rest) octets h =
     ]
 
 -- what is spelled so is read
-pub unescaped_again : (e : Escape) (octets : List ℕ) → AreOctets octets → unescaped e (escaped e octets) ≡ Some octets
+pub unescaped_again : (e : Escape) (octets : List ℕ) → AreOctets octets → unescape e (escape_text e octets) ≡ Some octets
 unescaped_again e [] a = refl
 unescaped_again e (octet ∷ octets) a =
     elim (cases_Bool (is_plain e octet)) [
-      | inl p ↦ ap (λ s. unescaped e (s ++ escaped e octets)) (escaped_plain e octet p) ∙ unescaped_plain e octet (escaped e octets) p ∙ ap (with_front (octet ∷ [])) (unescaped_again e octets a.1)
+      | inl p ↦ ap (λ s. unescape e (s ++ escape_text e octets)) (escaped_plain e octet p) ∙ unescaped_plain e octet (escape_text e octets) p ∙ ap (with_octet_in_front (octet ∷ [])) (unescaped_again e octets a.1)
       | inr p ↦
           let s = spells_escape e octet a.0 p in
-          ap (λ s. unescaped e (s ++ escaped e octets)) (escaped_other e octet p)
-          ∙ unescaped_pair e 126 (hex_digit (octet / 16)) (hex_digit (octet % 16)) (escaped e octets) (mark_not_plain e) s.0
-          ∙ (λ i. with_front (s.1 i ∷ []) (unescaped_again e octets a.1 i))
+          ap (λ s. unescape e (s ++ escape_text e octets)) (escaped_other e octet p)
+          ∙ unescaped_pair e 126 (hex_digit (octet / 16)) (hex_digit (octet % 16)) (escape_text e octets) (mark_not_plain e) s.0
+          ∙ (λ i. with_octet_in_front (s.1 i ∷ []) (unescaped_again e octets a.1 i))
     ]
 
-pub found_by : (e : Escape) (text : List ℕ) (r : Result (List ℕ) EscapeFault) → GivesRead (λ o. o) r (unescaped e text) → IfOk r (λ octets. AreOctets octets × (text ≡ escaped e octets))
+pub found_by : (e : Escape) (text : List ℕ) (r : Result (List ℕ) EscapeFault) → GivesRead (λ o. o) r (unescape e text) → IfOk r (λ octets. AreOctets octets × (text ≡ escape_text e octets))
 found_by e text (Ok octets) g = unescaped_takes e text octets g
 found_by e text (Err f) g = tt
 
-pub only_by : (e : Escape) (text : List ℕ) (r : Result (List ℕ) EscapeFault) → GivesRead (λ o. o) r (unescaped e text) → (octets : List ℕ) → AreOctets octets → text ≡ escaped e octets → GivesRead (λ o. o) r (Some octets)
-only_by e text r g octets a k = subst (GivesRead (λ o. o) r) (ap (unescaped e) k ∙ unescaped_again e octets a) g
+pub only_by : (e : Escape) (text : List ℕ) (r : Result (List ℕ) EscapeFault) → GivesRead (λ o. o) r (unescape e text) → (octets : List ℕ) → AreOctets octets → text ≡ escape_text e octets → GivesRead (λ o. o) r (Some octets)
+only_by e text r g octets a k = subst (GivesRead (λ o. o) r) (ap (unescape e) k ∙ unescaped_again e octets a) g
 
 -- one more read octet
-pub front_more : (octets : List ℕ) (octet : ℕ) (r : Option (List ℕ)) → with_front (octets ++ octet ∷ []) r ≡ with_front octets (with_front (octet ∷ []) r)
+pub front_more : (octets : List ℕ) (octet : ℕ) (r : Option (List ℕ)) → with_octet_in_front (octets ++ octet ∷ []) r ≡ with_octet_in_front octets (with_octet_in_front (octet ∷ []) r)
 front_more octets octet None = refl
 front_more octets octet (Some more) = ap (λ (os : List ℕ). Some os) (append_assoc octets (octet ∷ []) more)
 
@@ -150,9 +150,9 @@ front_whole : (rest : List ℕ) → 1 ≤ length rest → get_or rest 0 0 ∷ ta
 front_whole [] h = absurd (omega arith)
 front_whole (b ∷ bs) h = grind (arith, common_steps)
 
-pub read_more : (e : Escape) (text octets octets' rest behind : List ℕ) (octet : ℕ) → 1 ≤ length rest → with_front octets (unescaped e rest) ≡ unescaped e text → octets' ≡ octets ++ octet ∷ [] → unescaped e (get_or rest 0 0 ∷ take (length rest - 1) (drop 1 rest)) ≡ with_front (octet ∷ []) (unescaped e behind) → with_front octets' (unescaped e behind) ≡ unescaped e text
+pub read_more : (e : Escape) (text octets octets' rest behind : List ℕ) (octet : ℕ) → 1 ≤ length rest → with_octet_in_front octets (unescape e rest) ≡ unescape e text → octets' ≡ octets ++ octet ∷ [] → unescape e (get_or rest 0 0 ∷ take (length rest - 1) (drop 1 rest)) ≡ with_octet_in_front (octet ∷ []) (unescape e behind) → with_octet_in_front octets' (unescape e behind) ≡ unescape e text
 read_more e text octets octets' rest behind octet h inv o f =
-    ap (λ (os : List ℕ). with_front os (unescaped e behind)) o
-    ∙ front_more octets octet (unescaped e behind)
-    ∙ ap (with_front octets) (sym f ∙ ap (unescaped e) (front_whole rest h))
+    ap (λ (os : List ℕ). with_octet_in_front os (unescape e behind)) o
+    ∙ front_more octets octet (unescape e behind)
+    ∙ ap (with_octet_in_front octets) (sym f ∙ ap (unescape e) (front_whole rest h))
     ∙ inv

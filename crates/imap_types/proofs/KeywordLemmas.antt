@@ -9,17 +9,17 @@ use Rattle.std.specs.Str.{bytes_eq}
 use Rattle.std.specs.Ordering.{is_lt, match_ordering, ordering_reverse}
 use Rattle.std.specs.declared.cmp.Ordering.{Ordering}
 use Rattle.std.specs.declared.cmp.Ordering.TheVariants.{Less, Equal, Greater}
-use Rattle.imap_types.specs.Ascending.{compared, ComesBefore, AreAscending}
-use Rattle.imap_types.specs.Keywords.{lowered, is_lowered, has_keyword, with_text, are_ascending, are_keywords, AreKeywords}
+use Rattle.imap_types.specs.Ascending.{octet_order, ComesBefore, AreAscending}
+use Rattle.imap_types.specs.Keywords.{to_lower_case, is_lower_case, has_keyword, with_word, are_ascending, are_keywords, AreKeywords}
 
 lower_again : (c : ℕ) → to_ascii_lowercase (to_ascii_lowercase c) ≡ to_ascii_lowercase c
 lower_again c = grind (arith, nat_tests)
 
-lowered_again : (cs : List ℕ) → lowered (lowered cs) ≡ lowered cs
+lowered_again : (cs : List ℕ) → to_lower_case (to_lower_case cs) ≡ to_lower_case cs
 lowered_again [] = refl
 lowered_again (c ∷ cs) = λ k. lower_again c k ∷ lowered_again cs k
 
-is_lowered-lowered : (cs : List ℕ) → is_lowered (lowered cs) ≡ true
+is_lowered-lowered : (cs : List ℕ) → is_lower_case (to_lower_case cs) ≡ true
 is_lowered-lowered cs = (bytes_eq-Decides _ _).1 (lowered_again cs)
 
 all_step : (p : List ℕ → Bool) (w v : List ℕ) (vs rest : List (List ℕ)) (o : Ordering) → p w ≡ true → list_all p (v ∷ vs) ≡ true → list_all p rest ≡ true → list_all p (match_ordering o (w ∷ v ∷ vs) (v ∷ vs) (v ∷ rest)) ≡ true
@@ -27,50 +27,50 @@ all_step p w v vs rest Less h i j = and_from _ _ h i
 all_step p w v vs rest Equal h i j = i
 all_step p w v vs rest Greater h i j = and_from _ _ (and_parts _ _ i).0 j
 
-all_with : (p : List ℕ → Bool) (w : List ℕ) (vs : List (List ℕ)) → p w ≡ true → list_all p vs ≡ true → list_all p (with_text w vs) ≡ true
+all_with : (p : List ℕ → Bool) (w : List ℕ) (vs : List (List ℕ)) → p w ≡ true → list_all p vs ≡ true → list_all p (with_word w vs) ≡ true
 all_with p w [] h i = and_from _ _ h refl
-all_with p w (v ∷ vs) h i = all_step p w v vs (with_text w vs) (compared w v) h i (all_with p w vs h (and_parts _ _ i).1)
+all_with p w (v ∷ vs) h i = all_step p w v vs (with_word w vs) (octet_order w v) h i (all_with p w vs h (and_parts _ _ i).1)
 
-later : (w v : List ℕ) → compared w v ≡ Greater → ComesBefore v w
+later : (w v : List ℕ) → octet_order w v ≡ Greater → ComesBefore v w
 later w v e = nat_list_cmp_total.antisymm v w ∙ ap ordering_reverse e
 
-chain_step : (a w v : List ℕ) (vs rest : List (List ℕ)) (o : Ordering) → compared w v ≡ o → ComesBefore a w → AreAscending (a ∷ v ∷ vs) → (ComesBefore v w → AreAscending (v ∷ rest)) → AreAscending (a ∷ match_ordering o (w ∷ v ∷ vs) (v ∷ vs) (v ∷ rest))
+chain_step : (a w v : List ℕ) (vs rest : List (List ℕ)) (o : Ordering) → octet_order w v ≡ o → ComesBefore a w → AreAscending (a ∷ v ∷ vs) → (ComesBefore v w → AreAscending (v ∷ rest)) → AreAscending (a ∷ match_ordering o (w ∷ v ∷ vs) (v ∷ vs) (v ∷ rest))
 chain_step a w v vs rest Less e b h t = (b, (e, h.1))
 chain_step a w v vs rest Equal e b h t = h
 chain_step a w v vs rest Greater e b h t = (h.0, t (later w v e))
 
-chained : (a w : List ℕ) (vs : List (List ℕ)) → ComesBefore a w → AreAscending (a ∷ vs) → AreAscending (a ∷ with_text w vs)
+chained : (a w : List ℕ) (vs : List (List ℕ)) → ComesBefore a w → AreAscending (a ∷ vs) → AreAscending (a ∷ with_word w vs)
 chained a w [] b h = (b, tt)
-chained a w (v ∷ vs) b h = chain_step a w v vs (with_text w vs) (compared w v) refl b h (λ k. chained v w vs k h.1)
+chained a w (v ∷ vs) b h = chain_step a w v vs (with_word w vs) (octet_order w v) refl b h (λ k. chained v w vs k h.1)
 
-first_step : (w v : List ℕ) (vs rest : List (List ℕ)) (o : Ordering) → compared w v ≡ o → AreAscending (v ∷ vs) → (ComesBefore v w → AreAscending (v ∷ rest)) → AreAscending (match_ordering o (w ∷ v ∷ vs) (v ∷ vs) (v ∷ rest))
+first_step : (w v : List ℕ) (vs rest : List (List ℕ)) (o : Ordering) → octet_order w v ≡ o → AreAscending (v ∷ vs) → (ComesBefore v w → AreAscending (v ∷ rest)) → AreAscending (match_ordering o (w ∷ v ∷ vs) (v ∷ vs) (v ∷ rest))
 first_step w v vs rest Less e h t = (e, h)
 first_step w v vs rest Equal e h t = h
 first_step w v vs rest Greater e h t = t (later w v e)
 
-ascending_with : (w : List ℕ) (vs : List (List ℕ)) → AreAscending vs → AreAscending (with_text w vs)
+ascending_with : (w : List ℕ) (vs : List (List ℕ)) → AreAscending vs → AreAscending (with_word w vs)
 ascending_with w [] h = tt
-ascending_with w (v ∷ vs) h = first_step w v vs (with_text w vs) (compared w v) refl h (λ k. chained v w vs k h)
+ascending_with w (v ∷ vs) h = first_step w v vs (with_word w vs) (octet_order w v) refl h (λ k. chained v w vs k h)
 
 -- a keyword more makes keywords of keywords
-pub keywords_with : (w : List ℕ) (vs : List (List ℕ)) → AreKeywords vs → AreKeywords (with_text (lowered w) vs)
-keywords_with w vs h = (all_with is_lowered (lowered w) vs (is_lowered-lowered w) h.0, ascending_with (lowered w) vs h.1)
+pub keywords_with : (w : List ℕ) (vs : List (List ℕ)) → AreKeywords vs → AreKeywords (with_word (to_lower_case w) vs)
+keywords_with w vs h = (all_with is_lower_case (to_lower_case w) vs (is_lowered-lowered w) h.0, ascending_with (to_lower_case w) vs h.1)
 
 -- the first of what is left
 pub dropped : (ws : List (List ℕ)) (i : ℕ) (w : List ℕ) → i < length ws → w ≡ get_or ws i w → drop i ws ≡ w ∷ drop (i + 1) ws
 dropped ws i w l e = drop-cons ws i w l ∙ ap (λ v. v ∷ drop (suc i) ws) (sym e) ∙ ap (λ j. w ∷ drop j ws) (sym (add-one i))
 
 -- a keyword found
-pub hit : (k w : List ℕ) (ws : List (List ℕ)) (i : ℕ) (b : Bool) → i < length ws → w ≡ get_or ws i w → IsTrue b ↔ (lowered w ≡ lowered k) → b ≡ true → has_keyword k (drop i ws) ≡ has_keyword k ws → true ≡ has_keyword k ws
+pub hit : (k w : List ℕ) (ws : List (List ℕ)) (i : ℕ) (b : Bool) → i < length ws → w ≡ get_or ws i w → IsTrue b ↔ (to_lower_case w ≡ to_lower_case k) → b ≡ true → has_keyword k (drop i ws) ≡ has_keyword k ws → true ≡ has_keyword k ws
 hit k w ws i b l e t h inv =
-    let f : bytes_eq (lowered w) (lowered k) ≡ true = (bytes_eq-Decides _ _).1 (t.0 h) in
+    let f : bytes_eq (to_lower_case w) (to_lower_case k) ≡ true = (bytes_eq-Decides _ _).1 (t.0 h) in
     let g : has_keyword k (w ∷ drop (i + 1) ws) ≡ true = ap (λ c. c || has_keyword k (drop (i + 1) ws)) f in
     sym (sym inv ∙ ap (has_keyword k) (dropped ws i w l e) ∙ g)
 
 -- and one passed over
-pub miss : (k w : List ℕ) (ws : List (List ℕ)) (i : ℕ) (b : Bool) → i < length ws → w ≡ get_or ws i w → IsTrue b ↔ (lowered w ≡ lowered k) → b ≡ false → has_keyword k (drop i ws) ≡ has_keyword k ws → has_keyword k (drop (i + 1) ws) ≡ has_keyword k ws
+pub miss : (k w : List ℕ) (ws : List (List ℕ)) (i : ℕ) (b : Bool) → i < length ws → w ≡ get_or ws i w → IsTrue b ↔ (to_lower_case w ≡ to_lower_case k) → b ≡ false → has_keyword k (drop i ws) ≡ has_keyword k ws → has_keyword k (drop (i + 1) ws) ≡ has_keyword k ws
 miss k w ws i b l e t h inv =
-    let f : bytes_eq (lowered w) (lowered k) ≡ false = same_from_decides _ _ (bytes_eq-Decides (lowered w) (lowered k)) t ∙ h in
+    let f : bytes_eq (to_lower_case w) (to_lower_case k) ≡ false = same_from_decides _ _ (bytes_eq-Decides (to_lower_case w) (to_lower_case k)) t ∙ h in
     let g : has_keyword k (w ∷ drop (i + 1) ws) ≡ has_keyword k (drop (i + 1) ws) = ap (λ c. c || has_keyword k (drop (i + 1) ws)) f in
     sym (sym inv ∙ ap (has_keyword k) (dropped ws i w l e) ∙ g)
 
@@ -82,7 +82,7 @@ ascending_step Greater x h = cc
 ascending_from_test : (ws : List (List ℕ)) → are_ascending ws ≡ true → AreAscending ws
 ascending_from_test [] h = tt
 ascending_from_test (a ∷ []) h = tt
-ascending_from_test (a ∷ b ∷ rest) h = let p = ascending_step (compared a b) _ h in (p.0, ascending_from_test (b ∷ rest) p.1)
+ascending_from_test (a ∷ b ∷ rest) h = let p = ascending_step (octet_order a b) _ h in (p.0, ascending_from_test (b ∷ rest) p.1)
 
 pub keywords_from_test : (ws : List (List ℕ)) → are_keywords ws ≡ true → AreKeywords ws
 keywords_from_test ws h = let p = and_parts _ _ h in (p.0, ascending_from_test ws p.1)

@@ -8,10 +8,10 @@ use Rattle.std.proofs.lemmas.List.Sums.{fold-append}
 use Rattle.std.specs.List.{flat_map, fold, list_all, list_any}
 use Rattle.std.specs.Str.{bytes_eq}
 use Rattle.imap_types.specs.Ascending.{AreAscending}
-use Rattle.imap_types.specs.Keywords.{with_text}
+use Rattle.imap_types.specs.Keywords.{with_word}
 use Rattle.imap_types.specs.declared.flags.Flags.{Flags}
 use Rattle.imap_types.specs.Members.{are_within, holds}
-use Rattle.imap_types.specs.Unions.{union_of, united, with_flags}
+use Rattle.imap_types.specs.Unions.{union_of, united_flags, with_flags}
 use Rattle.imap_types.specs.declared.version.Version.{Version}
 use Rattle.imap_types.proofs.WordLemmas.{all_by, all_held, any_folded, ascending_folded, one_ascending}
 
@@ -33,12 +33,12 @@ union_more fs f =
       seen = any_last (λ (f : Flags). f.seen) fs f j;
       draft = any_last (λ (f : Flags). f.draft) fs f j;
       keywords = (
-          ap (fold (λ done word. with_text word done) []) (flat_map-append (λ (f : Flags). f.keywords) fs (f ∷ []) ∙ ap (λ words. flat_map (λ (f : Flags). f.keywords) fs ++ words) (append-nil f.keywords))
-          ∙ fold-append (λ done word. with_text word done) [] (flat_map (λ (f : Flags). f.keywords) fs) f.keywords
+          ap (fold (λ done word. with_word word done) []) (flat_map-append (λ (f : Flags). f.keywords) fs (f ∷ []) ∙ ap (λ words. flat_map (λ (f : Flags). f.keywords) fs ++ words) (append-nil f.keywords))
+          ∙ fold-append (λ done word. with_word word done) [] (flat_map (λ (f : Flags). f.keywords) fs) f.keywords
           ) j;
     }
 
-pub united_more : (vs : List Version) (old new : Flags) (i : ℕ) (v : Version) → i < length vs → v ≡ get_or vs i v → old ≡ united (take i vs) → new ≡ with_flags old v.flags → new ≡ united (take (i + 1) vs)
+pub united_more : (vs : List Version) (old new : Flags) (i : ℕ) (v : Version) → i < length vs → v ≡ get_or vs i v → old ≡ united_flags (take i vs) → new ≡ with_flags old v.flags → new ≡ united_flags (take (i + 1) vs)
 united_more vs old new i v l e o n =
     let flags : Version → Flags = λ v. v.flags in
     n ∙ (λ j. with_flags (o j) (flags (e j))) ∙ sym (union_more (map flags (take i vs)) (flags (get_or vs i v)))
@@ -57,10 +57,10 @@ any_flat p (v ∷ vs) =
     ∙ ap (λ (b : Bool). list_any p v.flags.keywords || b) (any_flat p vs)
 
 -- a keyword of the union is one of a version's
-pub any_united : (p : List ℕ → Bool) (vs : List Version) → list_any p (united vs).keywords ≡ list_any (λ (v : Version). list_any p v.flags.keywords) vs
+pub any_united : (p : List ℕ → Bool) (vs : List Version) → list_any p (united_flags vs).keywords ≡ list_any (λ (v : Version). list_any p v.flags.keywords) vs
 any_united p vs = any_folded p [] (flat_map (λ (f : Flags). f.keywords) (map (λ (v : Version). v.flags) vs)) ∙ any_flat p vs
 
-ascending_united : (vs : List Version) → AreAscending (united vs).keywords
+ascending_united : (vs : List Version) → AreAscending (united_flags vs).keywords
 ascending_united vs = ascending_folded [] (flat_map (λ (f : Flags). f.keywords) (map (λ (v : Version). v.flags) vs)) tt
 
 -- ---- the tests by which keywords are those of the union
@@ -90,14 +90,14 @@ each_within (v ∷ vs) words f =
     (each_within vs words (λ z i. f z (or_right (holds v.flags.keywords z) (one_holds vs z) i)))
 
 -- where both tests say so, they are the union's
-pub same_from_tests : (vs : List Version) (words : List (List ℕ)) → AreAscending words → all_within vs words ≡ true → list_all (one_holds vs) words ≡ true → (united vs).keywords ≡ words
+pub same_from_tests : (vs : List Version) (words : List (List ℕ)) → AreAscending words → all_within vs words ≡ true → list_all (one_holds vs) words ≡ true → (united_flags vs).keywords ≡ words
 same_from_tests vs words a h k =
-    one_ascending (united vs).keywords words (ascending_united vs) a
+    one_ascending (united_flags vs).keywords words (ascending_united vs) a
     (λ z i. within_each vs words z h (sym (any_united (bytes_eq z) vs) ∙ i))
     (λ z i. any_united (bytes_eq z) vs ∙ all_held (one_holds vs) words z k i)
 
 -- and both say so of the union's
-pub tests_from_same : (vs : List Version) (words : List (List ℕ)) → (united vs).keywords ≡ words → (all_within vs words ≡ true) × (list_all (one_holds vs) words ≡ true)
+pub tests_from_same : (vs : List Version) (words : List (List ℕ)) → (united_flags vs).keywords ≡ words → (all_within vs words ≡ true) × (list_all (one_holds vs) words ≡ true)
 tests_from_same vs words e = (
   each_within vs words (λ z i. sym (ap (λ ws. holds ws z) e) ∙ any_united (bytes_eq z) vs ∙ i),
   all_by (one_holds vs) words (λ z i. sym (any_united (bytes_eq z) vs) ∙ ap (λ ws. holds ws z) e ∙ i),
@@ -107,13 +107,13 @@ tests_from_same vs words e = (
 
 -- the keywords of all versions, one after another, put to ascending ones are the union put to them
 pub united_added : (vs : List Version) (old : List (List ℕ)) → AreAscending old
-    → fold (λ done word. with_text word done) old (flat_map (λ v. v.flags.keywords) vs) ≡ fold (λ done word. with_text word done) old (united vs).keywords
+    → fold (λ done word. with_word word done) old (flat_map (λ v. v.flags.keywords) vs) ≡ fold (λ done word. with_word word done) old (united_flags vs).keywords
 united_added vs old a =
     let words = flat_map (λ (v : Version). v.flags.keywords) vs in
     let same : flat_map (λ (f : Flags). f.keywords) (map (λ (v : Version). v.flags) vs) ≡ words = flat_map-map (λ (f : Flags). f.keywords) (λ (v : Version). v.flags) vs in
-    let both : (p : List ℕ → Bool) → list_any p (fold (λ done word. with_text word done) old words) ≡ list_any p (fold (λ done word. with_text word done) old (united vs).keywords) =
+    let both : (p : List ℕ → Bool) → list_any p (fold (λ done word. with_word word done) old words) ≡ list_any p (fold (λ done word. with_word word done) old (united_flags vs).keywords) =
     λ p. any_folded p old words ∙ ap (λ ws. list_any p old || list_any p ws) (sym same)
-    ∙ sym (any_folded p old (united vs).keywords ∙ ap (λ (b : Bool). list_any p old || b) (any_folded p [] (flat_map (λ (f : Flags). f.keywords) (map (λ (v : Version). v.flags) vs)))) in
-    one_ascending _ _ (ascending_folded old words a) (ascending_folded old (united vs).keywords a)
+    ∙ sym (any_folded p old (united_flags vs).keywords ∙ ap (λ (b : Bool). list_any p old || b) (any_folded p [] (flat_map (λ (f : Flags). f.keywords) (map (λ (v : Version). v.flags) vs)))) in
+    one_ascending _ _ (ascending_folded old words a) (ascending_folded old (united_flags vs).keywords a)
     (λ z i. sym (both (bytes_eq z)) ∙ i)
     (λ z i. both (bytes_eq z) ∙ i)

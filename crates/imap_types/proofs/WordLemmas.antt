@@ -10,13 +10,13 @@ use Rattle.std.specs.Ordering.{match_ordering, ordering_reverse}
 use Rattle.std.specs.Str.{bytes_eq}
 use Rattle.std.specs.declared.cmp.Ordering.{Ordering}
 use Rattle.std.specs.declared.cmp.Ordering.TheVariants.{Less, Equal, Greater}
-use Rattle.imap_types.specs.Ascending.{AreAscending, ComesBefore, compared}
-use Rattle.imap_types.specs.Keywords.{AreKeywords, is_lowered, lowered, with_text}
+use Rattle.imap_types.specs.Ascending.{AreAscending, ComesBefore, octet_order}
+use Rattle.imap_types.specs.Keywords.{AreKeywords, is_lower_case, to_lower_case, with_word}
 use Rattle.imap_types.specs.Members.{holds}
 
 -- ---- what holds of a word, where words are put in their places
 
-same_word : (w v : List ℕ) → compared w v ≡ Equal → w ≡ v
+same_word : (w v : List ℕ) → octet_order w v ≡ Equal → w ≡ v
 same_word w v e = slice_cmp-IsAntisymmetric nat_cmp-IsAntisymmetric w v e
 
 or-none : (a : Bool) → (a || false) ≡ a
@@ -37,47 +37,47 @@ or-moved true true r = refl
 or-moved true false r = refl
 or-moved false s r = refl
 
-any_step : (p : List ℕ → Bool) (w v : List ℕ) (vs rest : List (List ℕ)) (o : Ordering) → compared w v ≡ o → list_any p rest ≡ (p w || list_any p vs) → list_any p (match_ordering o (w ∷ v ∷ vs) (v ∷ vs) (v ∷ rest)) ≡ (p w || (p v || list_any p vs))
+any_step : (p : List ℕ → Bool) (w v : List ℕ) (vs rest : List (List ℕ)) (o : Ordering) → octet_order w v ≡ o → list_any p rest ≡ (p w || list_any p vs) → list_any p (match_ordering o (w ∷ v ∷ vs) (v ∷ vs) (v ∷ rest)) ≡ (p w || (p v || list_any p vs))
 any_step p w v vs rest Less e h = refl
 any_step p w v vs rest Equal e h = sym (ap (λ (u : List ℕ). p u || (p v || list_any p vs)) (same_word w v e) ∙ or-twice (p v) (list_any p vs))
 any_step p w v vs rest Greater e h = ap (λ (b : Bool). p v || b) h ∙ or-turned (p w) (p v) (list_any p vs)
 
 -- with one word more, it holds of that one or of another
-any_with : (p : List ℕ → Bool) (w : List ℕ) (vs : List (List ℕ)) → list_any p (with_text w vs) ≡ (p w || list_any p vs)
+any_with : (p : List ℕ → Bool) (w : List ℕ) (vs : List (List ℕ)) → list_any p (with_word w vs) ≡ (p w || list_any p vs)
 any_with p w [] = refl
-any_with p w (v ∷ vs) = any_step p w v vs (with_text w vs) (compared w v) refl (any_with p w vs)
+any_with p w (v ∷ vs) = any_step p w v vs (with_word w vs) (octet_order w v) refl (any_with p w vs)
 
 -- and so with many
-pub any_folded : (p : List ℕ → Bool) (start words : List (List ℕ)) → list_any p (fold (λ done word. with_text word done) start words) ≡ (list_any p start || list_any p words)
+pub any_folded : (p : List ℕ → Bool) (start words : List (List ℕ)) → list_any p (fold (λ done word. with_word word done) start words) ≡ (list_any p start || list_any p words)
 any_folded p start [] = sym (or-none (list_any p start))
-any_folded p start (w ∷ ws) = any_folded p (with_text w start) ws ∙ ap (λ (b : Bool). b || list_any p ws) (any_with p w start) ∙ or-moved (p w) (list_any p start) (list_any p ws)
+any_folded p start (w ∷ ws) = any_folded p (with_word w start) ws ∙ ap (λ (b : Bool). b || list_any p ws) (any_with p w start) ∙ or-moved (p w) (list_any p start) (list_any p ws)
 
 -- ---- words in their places ascend
 
-later : (w v : List ℕ) → compared w v ≡ Greater → ComesBefore v w
+later : (w v : List ℕ) → octet_order w v ≡ Greater → ComesBefore v w
 later w v e = nat_list_cmp_total.antisymm v w ∙ ap ordering_reverse e
 
-chain_step : (a w v : List ℕ) (vs rest : List (List ℕ)) (o : Ordering) → compared w v ≡ o → ComesBefore a w → AreAscending (a ∷ v ∷ vs) → (ComesBefore v w → AreAscending (v ∷ rest)) → AreAscending (a ∷ match_ordering o (w ∷ v ∷ vs) (v ∷ vs) (v ∷ rest))
+chain_step : (a w v : List ℕ) (vs rest : List (List ℕ)) (o : Ordering) → octet_order w v ≡ o → ComesBefore a w → AreAscending (a ∷ v ∷ vs) → (ComesBefore v w → AreAscending (v ∷ rest)) → AreAscending (a ∷ match_ordering o (w ∷ v ∷ vs) (v ∷ vs) (v ∷ rest))
 chain_step a w v vs rest Less e b h t = (b, (e, h.1))
 chain_step a w v vs rest Equal e b h t = h
 chain_step a w v vs rest Greater e b h t = (h.0, t (later w v e))
 
-chained : (a w : List ℕ) (vs : List (List ℕ)) → ComesBefore a w → AreAscending (a ∷ vs) → AreAscending (a ∷ with_text w vs)
+chained : (a w : List ℕ) (vs : List (List ℕ)) → ComesBefore a w → AreAscending (a ∷ vs) → AreAscending (a ∷ with_word w vs)
 chained a w [] b h = (b, tt)
-chained a w (v ∷ vs) b h = chain_step a w v vs (with_text w vs) (compared w v) refl b h (λ k. chained v w vs k h.1)
+chained a w (v ∷ vs) b h = chain_step a w v vs (with_word w vs) (octet_order w v) refl b h (λ k. chained v w vs k h.1)
 
-first_step : (w v : List ℕ) (vs rest : List (List ℕ)) (o : Ordering) → compared w v ≡ o → AreAscending (v ∷ vs) → (ComesBefore v w → AreAscending (v ∷ rest)) → AreAscending (match_ordering o (w ∷ v ∷ vs) (v ∷ vs) (v ∷ rest))
+first_step : (w v : List ℕ) (vs rest : List (List ℕ)) (o : Ordering) → octet_order w v ≡ o → AreAscending (v ∷ vs) → (ComesBefore v w → AreAscending (v ∷ rest)) → AreAscending (match_ordering o (w ∷ v ∷ vs) (v ∷ vs) (v ∷ rest))
 first_step w v vs rest Less e h t = (e, h)
 first_step w v vs rest Equal e h t = h
 first_step w v vs rest Greater e h t = t (later w v e)
 
-ascending_with : (w : List ℕ) (vs : List (List ℕ)) → AreAscending vs → AreAscending (with_text w vs)
+ascending_with : (w : List ℕ) (vs : List (List ℕ)) → AreAscending vs → AreAscending (with_word w vs)
 ascending_with w [] h = tt
-ascending_with w (v ∷ vs) h = first_step w v vs (with_text w vs) (compared w v) refl h (λ k. chained v w vs k h)
+ascending_with w (v ∷ vs) h = first_step w v vs (with_word w vs) (octet_order w v) refl h (λ k. chained v w vs k h)
 
-pub ascending_folded : (start words : List (List ℕ)) → AreAscending start → AreAscending (fold (λ done word. with_text word done) start words)
+pub ascending_folded : (start words : List (List ℕ)) → AreAscending start → AreAscending (fold (λ done word. with_word word done) start words)
 ascending_folded start [] h = h
-ascending_folded start (w ∷ ws) h = ascending_folded (with_text w start) ws (ascending_with w start h)
+ascending_folded start (w ∷ ws) h = ascending_folded (with_word w start) ws (ascending_with w start h)
 
 -- ---- ascending words with the same members are the same
 
@@ -155,16 +155,16 @@ all_by p (x ∷ xs) f = and_from (p x) (list_all p xs) (f x (holds_first x xs)) 
 -- ---- keywords put to others, one after another
 
 -- a keyword stands in lower case
-lowered_at : (words : List (List ℕ)) (i : ℕ) (d : List ℕ) → list_all is_lowered words ≡ true → i < length words → lowered (get_or words i d) ≡ get_or words i d
+lowered_at : (words : List (List ℕ)) (i : ℕ) (d : List ℕ) → list_all is_lower_case words ≡ true → i < length words → to_lower_case (get_or words i d) ≡ get_or words i d
 lowered_at [] i d h l = absurd (omega arith)
-lowered_at (word ∷ words) zero d h l = (bytes_eq-Decides (lowered word) word).0 (and_parts (is_lowered word) (list_all is_lowered words) h).0
-lowered_at (word ∷ words) (suc i) d h l = lowered_at words i d (and_parts (is_lowered word) (list_all is_lowered words) h).1 (omega arith)
+lowered_at (word ∷ words) zero d h l = (bytes_eq-Decides (to_lower_case word) word).0 (and_parts (is_lower_case word) (list_all is_lower_case words) h).0
+lowered_at (word ∷ words) (suc i) d h l = lowered_at words i d (and_parts (is_lower_case word) (list_all is_lower_case words) h).1 (omega arith)
 
 -- one keyword more
 pub union_step : (more : List (List ℕ)) (start old new : List (List ℕ)) (i : ℕ) (word : List ℕ) → AreKeywords more → i < length more → word ≡ get_or more i word
-    → old ≡ fold (λ done word. with_text word done) start (take i more) → new ≡ with_text (lowered word) old → new ≡ fold (λ done word. with_text word done) start (take (i + 1) more)
+    → old ≡ fold (λ done word. with_word word done) start (take i more) → new ≡ with_word (to_lower_case word) old → new ≡ fold (λ done word. with_word word done) start (take (i + 1) more)
 union_step more start old new i word k l e o n =
-    let low : lowered word ≡ get_or more i word = ap lowered e ∙ lowered_at more i word k.0 l in
-    n ∙ (λ j. with_text (low j) (o j))
-    ∙ sym (fold-append (λ done word. with_text word done) start (take i more) (get_or more i word ∷ []))
-    ∙ ap (fold (λ done word. with_text word done) start) (sym (take-suc more i word l) ∙ ap (λ j. take j more) (sym (add-one i)))
+    let low : to_lower_case word ≡ get_or more i word = ap to_lower_case e ∙ lowered_at more i word k.0 l in
+    n ∙ (λ j. with_word (low j) (o j))
+    ∙ sym (fold-append (λ done word. with_word word done) start (take i more) (get_or more i word ∷ []))
+    ∙ ap (fold (λ done word. with_word word done) start) (sym (take-suc more i word l) ∙ ap (λ j. take j more) (sym (add-one i)))

@@ -5,12 +5,12 @@ use Rattle.std.specs.declared.cmp.Ordering.{Ordering}
 use Rattle.std.specs.declared.cmp.Ordering.TheVariants.{Less}
 
 -- How octet strings compare: by the first octet that differs, a beginning before what it begins.
-abbrev pub compared : List ℕ → List ℕ → Ordering
-compared a b = slice_cmp nat_cmp a b
+abbrev pub octet_order : List ℕ → List ℕ → Ordering
+octet_order a b = slice_cmp nat_cmp a b
 
 -- One octet string stands before another.
 abbrev pub ComesBefore : List ℕ → List ℕ → Type 0
-ComesBefore a b = compared a b ≡ Less
+ComesBefore a b = octet_order a b ≡ Less
 
 -- Octet strings stand in ascending order, none twice.
 abbrev pub AreAscending : List (List ℕ) → Type 0

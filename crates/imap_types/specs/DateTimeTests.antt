@@ -1,13 +1,13 @@
 use Rattle.std.specs.Prelude.{ℕ, Bool, true, false, ◌&&◌, nat_le, List, [], ◌∷◌, pos}
 use Rattle.jiff.specs.Words.{days_in_month}
-use Rattle.imap_types.specs.DateTimes.{date_time_picture, day_at, is_pictured, month_at, two_digits, year_at}
+use Rattle.imap_types.specs.DateTimes.{date_time_picture, day_at, fits_mark, month_at, two_digits, year_at}
 
 -- Whether a text has the form of a picture, octet by octet.
-abbrev pub pictured : List ℕ → List ℕ → Bool
-pictured [] [] = true
-pictured [] (b ∷ bs) = false
-pictured (m ∷ ms) [] = false
-pictured (m ∷ ms) (b ∷ bs) = is_pictured m b && pictured ms bs
+abbrev pub matches_picture : List ℕ → List ℕ → Bool
+matches_picture [] [] = true
+matches_picture [] (b ∷ bs) = false
+matches_picture (m ∷ ms) [] = false
+matches_picture (m ∷ ms) (b ∷ bs) = fits_mark m b && matches_picture ms bs
 
 -- Whether a day exists.
 abbrev pub is_day : ℕ → ℕ → ℕ → Bool
@@ -19,4 +19,4 @@ is_time text = nat_le (two_digits text 13) 23 && nat_le (two_digits text 16) 59 
 
 -- Whether a text is a date-time.
 unfoldable pub is_date_time : List ℕ → Bool
-is_date_time text = pictured date_time_picture text && is_day (year_at text) (month_at text) (day_at text) && is_time text
+is_date_time text = matches_picture date_time_picture text && is_day (year_at text) (month_at text) (day_at text) && is_time text

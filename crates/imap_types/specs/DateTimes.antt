@@ -13,8 +13,8 @@ abbrev pub date_time_picture : List ℕ
 date_time_picture = codes "\"99-mmm-9999 99:99:99 +9999\""
 
 -- Whether an octet may stand where the picture has this mark: `9` is 57, `m` 109, `+` 43, `-` 45.
-abbrev pub is_pictured : ℕ → ℕ → Bool
-is_pictured mark octet =
+abbrev pub fits_mark : ℕ → ℕ → Bool
+fits_mark mark octet =
     if mark == 57 then is_digit octet
     else (if mark == 109 then true else (if mark == 43 then (octet == 43) || (octet == 45) else octet == mark))
 
@@ -22,7 +22,7 @@ is_pictured mark octet =
 abbrev pub HasPicture : List ℕ → List ℕ → Type 0
 HasPicture picture text =
     (length text ≡ length picture)
-    × ((k : ℕ) → k < length picture → IsTrue (is_pictured (slice_index picture k) (slice_index text k)))
+    × ((k : ℕ) → k < length picture → IsTrue (fits_mark (slice_index picture k) (slice_index text k)))
 
 -- The number that the two digits at a place write.
 abbrev pub two_digits : List ℕ → ℕ → ℕ

@@ -15,12 +15,12 @@ abbrev pub hex_digit : ℕ → ℕ
 hex_digit n = if nat_lt n 10 then 48 + n else 55 + n
 
 -- An octet in the escape: itself, or `~` and two hexadecimal digits.
-abbrev pub escaped_octet : Escape → ℕ → List ℕ
-escaped_octet escape octet = if is_plain escape octet then octet ∷ [] else 126 ∷ hex_digit (octet / 16) ∷ hex_digit (octet % 16) ∷ []
+abbrev pub escape_octet : Escape → ℕ → List ℕ
+escape_octet escape octet = if is_plain escape octet then octet ∷ [] else 126 ∷ hex_digit (octet / 16) ∷ hex_digit (octet % 16) ∷ []
 
 -- Octets in the escape, one after another.
-abbrev pub escaped : Escape → List ℕ → List ℕ
-escaped escape octets = flat_map (escaped_octet escape) octets
+abbrev pub escape_text : Escape → List ℕ → List ℕ
+escape_text escape octets = flat_map (escape_octet escape) octets
 
 -- Each of these numbers is an octet.
 abbrev pub AreOctets : List ℕ → Type 0
@@ -44,18 +44,18 @@ abbrev pub is_escape : Escape → ℕ → ℕ → ℕ → Bool
 is_escape escape mark high low = (mark == 126) && (is_hex high && (is_hex low && not (is_plain escape (hex_octet high low))))
 
 -- Octets in front of those that were read.
-abbrev pub with_front : List ℕ → Option (List ℕ) → Option (List ℕ)
-with_front front None = None
-with_front front (Some octets) = Some (front ++ octets)
+abbrev pub with_octet_in_front : List ℕ → Option (List ℕ) → Option (List ℕ)
+with_octet_in_front front None = None
+with_octet_in_front front (Some octets) = Some (front ++ octets)
 
 -- The octets that a text in the escape stands for, if it is one.
-abbrev pub unescaped : Escape → List ℕ → Option (List ℕ)
-unescaped escape [] = Some []
-unescaped escape (a ∷ []) = if is_plain escape a then Some (a ∷ []) else None
-unescaped escape (a ∷ b ∷ []) = if is_plain escape a then with_front (a ∷ []) (unescaped escape (b ∷ [])) else None
-unescaped escape (a ∷ b ∷ c ∷ rest) =
-    if is_plain escape a then with_front (a ∷ []) (unescaped escape (b ∷ c ∷ rest))
-    else (if is_escape escape a b c then with_front (hex_octet b c ∷ []) (unescaped escape rest) else None)
+abbrev pub unescape : Escape → List ℕ → Option (List ℕ)
+unescape escape [] = Some []
+unescape escape (a ∷ []) = if is_plain escape a then Some (a ∷ []) else None
+unescape escape (a ∷ b ∷ []) = if is_plain escape a then with_octet_in_front (a ∷ []) (unescape escape (b ∷ [])) else None
+unescape escape (a ∷ b ∷ c ∷ rest) =
+    if is_plain escape a then with_octet_in_front (a ∷ []) (unescape escape (b ∷ c ∷ rest))
+    else (if is_escape escape a b c then with_octet_in_front (hex_octet b c ∷ []) (unescape escape rest) else None)
 
 -- A fault other than for memory says that nothing could be read.
 abbrev pub FailsToRead : {Y : Type 0} → EscapeFault → Option Y → Type 0

@@ -3,39 +3,39 @@ use Rattle.std.specs.List.{list_all, list_any}
 use Rattle.std.specs.Char.{to_ascii_lowercase}
 use Rattle.std.specs.Ordering.{is_lt, match_ordering}
 use Rattle.std.specs.Str.{bytes_eq}
-use Rattle.imap_types.specs.Ascending.{compared, AreAscending}
+use Rattle.imap_types.specs.Ascending.{octet_order, AreAscending}
 
 -- A text in lower case (ASCII letters alone).
-abbrev pub lowered : List ℕ → List ℕ
-lowered text = map to_ascii_lowercase text
+abbrev pub to_lower_case : List ℕ → List ℕ
+to_lower_case text = map to_ascii_lowercase text
 
 -- Whether a text has no capital letters.
-abbrev pub is_lowered : List ℕ → Bool
-is_lowered text = bytes_eq (lowered text) text
+abbrev pub is_lower_case : List ℕ → Bool
+is_lower_case text = bytes_eq (to_lower_case text) text
 
 -- A set of keywords in its one spelling: in lower case, ascending by octets (RFC 9051, section 2.3.2: keywords have no case).
 abbrev pub AreKeywords : List (List ℕ) → Type 0
-AreKeywords keywords = IsTrue (list_all is_lowered keywords) × AreAscending keywords
+AreKeywords keywords = IsTrue (list_all is_lower_case keywords) × AreAscending keywords
 
 -- Whether octet strings stand in ascending order, none twice.
 abbrev pub are_ascending : List (List ℕ) → Bool
 are_ascending [] = true
 are_ascending (a ∷ []) = true
-are_ascending (a ∷ b ∷ rest) = is_lt (compared a b) && are_ascending (b ∷ rest)
+are_ascending (a ∷ b ∷ rest) = is_lt (octet_order a b) && are_ascending (b ∷ rest)
 
 -- Whether texts are a set of keywords in its one spelling.
 abbrev pub are_keywords : List (List ℕ) → Bool
-are_keywords texts = list_all is_lowered texts && are_ascending texts
+are_keywords texts = list_all is_lower_case texts && are_ascending texts
 
 -- An ascending list with one text more; a text that is there already stays once.
-abbrev pub with_text : List ℕ → List (List ℕ) → List (List ℕ)
-with_text text [] = text ∷ []
-with_text text (next ∷ texts) =
-    match_ordering (compared text next) (text ∷ next ∷ texts) (next ∷ texts) (next ∷ with_text text texts)
+abbrev pub with_word : List ℕ → List (List ℕ) → List (List ℕ)
+with_word text [] = text ∷ []
+with_word text (next ∷ texts) =
+    match_ordering (octet_order text next) (text ∷ next ∷ texts) (next ∷ texts) (next ∷ with_word text texts)
 
 -- Whether a keyword of any case is one of these.
 abbrev pub has_keyword : List ℕ → List (List ℕ) → Bool
-has_keyword keyword keywords = list_any (λ other. bytes_eq (lowered other) (lowered keyword)) keywords
+has_keyword keyword keywords = list_any (λ other. bytes_eq (to_lower_case other) (to_lower_case keyword)) keywords
 
 -- An octet of an atom (RFC 9051, section 9, ATOM-CHAR): from 33 to 126, none of `( ) { % * " \ ]`.
 abbrev pub is_atom_octet : ℕ → Bool

@@ -6,7 +6,7 @@ pub mod Flags
 pub mod Keywords
 pub mod Names
 pub mod Numbers
-pub mod Reading
+pub mod ReaderSteps
 pub mod Sets
 pub mod Unions
 pub mod Members

@@ -12,8 +12,8 @@ abbrev pub is_inbox : List ℕ → Bool
 is_inbox name = bytes_eq (map to_ascii_lowercase name) (codes "inbox")
 
 -- The name with INBOX of any case in capitals, and any other name as it stands (RFC 9051, section 5.1).
-abbrev pub folded_name : List ℕ → List ℕ
-folded_name name = if is_inbox name then inbox else name
+abbrev pub fold_inbox : List ℕ → List ℕ
+fold_inbox name = if is_inbox name then inbox else name
 
 -- An octet that a name may have: no control, no wildcard `%` (37) or `*` (42) (RFC 9051, section 5.1).
 abbrev pub is_name_octet : ℕ → Bool
@@ -34,4 +34,4 @@ pub record IsLawfulName (name : List ℕ) : Type 0 where
   pub utf8 : IsUtf8 name
   pub octets : IsTrue (list_all is_name_octet name)
   pub levels : IsTrue (list_all has_octets (levels_of name))
-  pub folded : folded_name name ≡ name
+  pub folded : fold_inbox name ≡ name

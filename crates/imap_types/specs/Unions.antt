@@ -1,6 +1,6 @@
 use Rattle.std.specs.Prelude.{◌||◌, List, [], map}
 use Rattle.std.specs.List.{flat_map, fold, list_any}
-use Rattle.imap_types.specs.Keywords.{with_text}
+use Rattle.imap_types.specs.Keywords.{with_word}
 use Rattle.imap_types.specs.declared.flags.Flags.{Flags}
 use Rattle.tags_clocks.specs.declared.id.OpId.{OpId}
 use Rattle.imap_types.specs.declared.version.Version.{Version}
@@ -14,7 +14,7 @@ union_of flags = record {
   deleted = list_any (λ f. f.deleted) flags;
   seen = list_any (λ f. f.seen) flags;
   draft = list_any (λ f. f.draft) flags;
-  keywords = fold (λ done word. with_text word done) [] (flat_map (λ f. f.keywords) flags);
+  keywords = fold (λ done word. with_word word done) [] (flat_map (λ f. f.keywords) flags);
 }
 
 -- These flags and the other ones.
@@ -25,7 +25,7 @@ with_flags flags more = record {
   deleted = flags.deleted || more.deleted;
   seen = flags.seen || more.seen;
   draft = flags.draft || more.draft;
-  keywords = fold (λ done word. with_text word done) flags.keywords more.keywords;
+  keywords = fold (λ done word. with_word word done) flags.keywords more.keywords;
 }
 
 -- The ids of versions.
@@ -33,5 +33,5 @@ abbrev pub version_ids : List Version → List OpId
 version_ids versions = map (λ v. v.id) versions
 
 -- The flags of a message with these versions: the union of theirs.
-abbrev pub united : List Version → Flags
-united versions = union_of (map (λ v. v.flags) versions)
+abbrev pub united_flags : List Version → Flags
+united_flags versions = union_of (map (λ v. v.flags) versions)

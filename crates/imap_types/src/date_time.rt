@@ -1,6 +1,6 @@
 ghost use Rattle.std.specs.Prelude.{◌≡◌, ◌↔◌, ◌+◌, ◌<◌, ◌≤◌, length, IfSome, IsSome, IsTrue, pos, codes, slice_index};
 ghost use Rattle.jiff.specs.Words.{IsDate};
-ghost use Rattle.imap_types.specs.DateTimes.{HasPicture, HasTime, IsDateTime, date_time_picture, day_at, is_digit, is_pictured, month_at, month_of, two_digits, year_at};
+ghost use Rattle.imap_types.specs.DateTimes.{HasPicture, HasTime, IsDateTime, date_time_picture, day_at, is_digit, fits_mark, month_at, month_of, two_digits, year_at};
 
 use jiff::civil::Date;
 use std::marker::Model;
@@ -97,15 +97,15 @@ fn has_form(picture: &[u8], octets: &[u8]) -> bool
         return false;
     }
     for i in 0..picture.len() {
-        if !is_pictured(picture[i], octets[i]) {
+        if !matches_picture(picture[i], octets[i]) {
             return false;
         }
     }
     true
 }
 
-fn is_pictured(mark: u8, octet: u8) -> bool
-    ensures { result ≡ is_pictured mark octet }
+fn matches_picture(mark: u8, octet: u8) -> bool
+    ensures { result ≡ fits_mark mark octet }
 {
     match mark {
         b'9' => is_digit(octet),

@@ -18,7 +18,7 @@ pub struct Day {
 impl Day {
     /// The day of a month that three letters of any case name (RFC 9051, section 9, date-month); `None` where the
     /// calendar has no such day.
-    pub fn named(year: u16, month: &[u8], day: u8) -> Option<Day>
+    pub fn from_month_name(year: u16, month: &[u8], day: u8) -> Option<Day>
         ensures exact { IsSome result ↔ IsDate (pos year) (pos (month_of month.now)) (pos day) }
         ensures value { IfSome result (λ made. made ≡ record { year = year; month = month_of month.now; day = day }) }
     {

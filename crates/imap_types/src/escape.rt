@@ -1,7 +1,7 @@
 //! The escape in which lines of text carry any octets.
 
 ghost use Rattle.std.specs.Prelude.{◌≡◌, ◌++◌, ℕ, true, List, [], ◌∷◌, Option, Some, None, IfOk, OnErr, OnOk, ◌<◌, length};
-ghost use Rattle.imap_types.specs.Escape.{AreOctets, GivesRead, escaped, escaped_octet, hex_digit, hex_octet, is_escape, is_hex, is_plain, unescaped, with_front, hex_value};
+ghost use Rattle.imap_types.specs.Escape.{AreOctets, GivesRead, escape_text, escape_octet, hex_digit, hex_octet, is_escape, is_hex, is_plain, unescape, with_octet_in_front, hex_value};
 
 use crate::Octets;
 use std::alloc::{AllocError, AllocFailed, Global};
@@ -51,7 +51,7 @@ impl<T: Drop> From<AllocFailed<T>> for EscapeFault {
 
 /// Appends the octets in the escape; `Err` where there is no memory for it, and then `out` is as it was.
 pub fn write_escaped(escape: Escape, octets: &[u8], out: &mut Vec<u8>) -> Result<(), AllocError>
-    ensures ok { OnOk result (out.new.items ≡ out.old.items ++ escaped escape octets.now) }
+    ensures ok { OnOk result (out.new.items ≡ out.old.items ++ escape_text escape octets.now) }
     ensures err { OnErr result (out.new.items ≡ out.old.items) }
 {
     let start = out.len();
@@ -63,7 +63,7 @@ pub fn write_escaped(escape: Escape, octets: &[u8], out: &mut Vec<u8>) -> Result
 }
 
 fn push_escaped(escape: Escape, octets: &[u8], out: &mut Vec<u8>) -> Result<(), AllocError>
-    ensures ok { OnOk result (out.new.items ≡ out.old.items ++ escaped escape octets.now) }
+    ensures ok { OnOk result (out.new.items ≡ out.old.items ++ escape_text escape octets.now) }
     ensures kept { (more : List ℕ) × (out.new.items ≡ out.old.items ++ more) }
 {
     for octet in octets {
@@ -73,7 +73,7 @@ fn push_escaped(escape: Escape, octets: &[u8], out: &mut Vec<u8>) -> Result<(), 
 }
 
 fn push_octet(escape: Escape, octet: u8, out: &mut Vec<u8>) -> Result<(), AllocError>
-    ensures ok { OnOk result (out.new.items ≡ out.old.items ++ escaped_octet escape octet) }
+    ensures ok { OnOk result (out.new.items ≡ out.old.items ++ escape_octet escape octet) }
     ensures err { OnErr result (out.new.items ≡ out.old.items) }
 {
     if is_plain(escape, octet) {
@@ -106,15 +106,15 @@ fn hex_digit(number: u8) -> u8
 /// The octets that a text in the escape stands for. `NotEscaped` exactly where the escape spells no octets so, and
 /// `NoMemory` where there is no memory for them.
 pub fn read_escaped(alloc: Global, escape: Escape, text: &[u8]) -> Result<Octets, EscapeFault>
-    ensures value { GivesRead (λ octets. octets) result (unescaped escape text.now) }
-    ensures found { IfOk result (λ octets. AreOctets octets × (text.now ≡ escaped escape octets)) }
-    ensures only { (octets : List ℕ) → AreOctets octets → text.now ≡ escaped escape octets → GivesRead (λ o. o) result (Some octets) }
+    ensures value { GivesRead (λ octets. octets) result (unescape escape text.now) }
+    ensures found { IfOk result (λ octets. AreOctets octets × (text.now ≡ escape_text escape octets)) }
+    ensures only { (octets : List ℕ) → AreOctets octets → text.now ≡ escape_text escape octets → GivesRead (λ o. o) result (Some octets) }
 {
     unescape(alloc, escape, text)
 }
 
 fn unescape(alloc: Global, escape: Escape, text: &[u8]) -> Result<Octets, EscapeFault>
-    ensures { GivesRead (λ octets. octets) result (unescaped escape text.now) }
+    ensures { GivesRead (λ octets. octets) result (unescape escape text.now) }
 {
     let mut octets = Vec::new(alloc);
     let mut rest = text;
@@ -128,8 +128,8 @@ fn unescape(alloc: Global, escape: Escape, text: &[u8]) -> Result<Octets, Escape
 
 /// The first octet that the text stands for, and what follows its spelling.
 fn first_octet(escape: Escape, first: u8, tail: &[u8]) -> Result<(u8, &[u8]), EscapeFault>
-    ensures found { IfOk result (λ read. (unescaped escape (first ∷ tail.now) ≡ with_front (read.0 ∷ []) (unescaped escape read.1.now)) × (length read.1.now < length (first ∷ tail.now))) }
-    ensures none { OnErr result (unescaped escape (first ∷ tail.now) ≡ None) }
+    ensures found { IfOk result (λ read. (unescape escape (first ∷ tail.now) ≡ with_octet_in_front (read.0 ∷ []) (unescape escape read.1.now)) × (length read.1.now < length (first ∷ tail.now))) }
+    ensures none { OnErr result (unescape escape (first ∷ tail.now) ≡ None) }
 {
     if is_plain(escape, first) {
         return Ok((first, tail));

@@ -1,6 +1,6 @@
 ghost use Rattle.std.specs.Prelude.{◌≡◌, ◌↔◌, ◌≤◌, ◌==◌, [], length, if◌then◌else◌, IfErr, IfOk, IsTrue, OnErr, OnOk};
 ghost use Rattle.std.specs.List.{insert, list_all};
-ghost use Rattle.imap_types.specs.Keywords.{are_ascending, are_keywords, has_keyword, is_astring_octet, is_atom_octet, is_lawful_keyword, is_lowered, lowered, with_text};
+ghost use Rattle.imap_types.specs.Keywords.{are_ascending, are_keywords, has_keyword, is_astring_octet, is_atom_octet, is_lawful_keyword, is_lower_case, to_lower_case, with_word};
 
 use crate::Octets;
 use smallvec::SmallVec;
@@ -66,10 +66,10 @@ impl Keywords {
     /// Adds a keyword of any case in lower case; one that is there already changes nothing. `Err` where there is no
     /// memory for it, and then nothing is changed.
     pub fn insert(&mut self, alloc: Global, keyword: &[u8]) -> Result<(), AllocError>
-        ensures ok { OnOk result (self.new ≡ with_text (lowered keyword.now) self.old) }
+        ensures ok { OnOk result (self.new ≡ with_word (to_lower_case keyword.now) self.old) }
         ensures err { OnErr result (self.new ≡ self.old) }
     {
-        let word = lowered(alloc, keyword)?;
+        let word = to_lower_case(alloc, keyword)?;
         if let Err(place) = place_of(self.as_slice(), word.as_bytes()) {
             self.words.insert(place, word)?;
         }
@@ -117,13 +117,13 @@ impl Keywords {
         ensures { IfOk result (λ copied. copied ≡ self.now) }
     {
         Ok(Keywords {
-            words: copied(alloc, self.as_slice())?,
+            words: copy_words(alloc, self.as_slice())?,
         })
     }
 }
 
-fn lowered(alloc: Global, text: &[u8]) -> Result<Octets, AllocError>
-    ensures { IfOk result (λ word. word ≡ lowered text.now) }
+fn to_lower_case(alloc: Global, text: &[u8]) -> Result<Octets, AllocError>
+    ensures { IfOk result (λ word. word ≡ to_lower_case text.now) }
 {
     let mut octets = text.to_vec(alloc)?;
     octets.make_ascii_lowercase();
@@ -132,8 +132,8 @@ fn lowered(alloc: Global, text: &[u8]) -> Result<Octets, AllocError>
 
 /// Where the text stands among ascending ones, or at `Err` where it would go.
 fn place_of(texts: &[Octets], text: &[u8]) -> Result<usize, usize>
-    ensures there { IfOk result (λ place. with_text text.now texts.now ≡ texts.now) }
-    ensures absent { IfErr result (λ place. (place ≤ length texts.now) × (with_text text.now texts.now ≡ insert texts.now place text.now)) }
+    ensures there { IfOk result (λ place. with_word text.now texts.now ≡ texts.now) }
+    ensures absent { IfErr result (λ place. (place ≤ length texts.now) × (with_word text.now texts.now ≡ insert texts.now place text.now)) }
 {
     for (place, other) in texts.iter().enumerate() {
         match text.cmp(other.as_bytes()) {
@@ -171,7 +171,7 @@ pub fn are_same(words: &[Octets], others: &[Octets]) -> bool
     true
 }
 
-fn copied(alloc: Global, words: &[Octets]) -> Result<SmallVec<Octets, INLINE>, AllocError>
+fn copy_words(alloc: Global, words: &[Octets]) -> Result<SmallVec<Octets, INLINE>, AllocError>
     ensures { IfOk result (λ copied. copied.items ≡ words.now) }
 {
     let mut copies = SmallVec::new(alloc);
@@ -217,22 +217,22 @@ pub fn is_astring_octet(octet: u8) -> bool
 fn are_keywords(words: &[Octets]) -> bool
     ensures { result ≡ are_keywords words.now }
 {
-    are_lowered(words) && are_ascending(words)
+    are_lower_case(words) && are_ascending(words)
 }
 
-fn are_lowered(words: &[Octets]) -> bool
-    ensures { result ≡ list_all is_lowered words.now }
+fn are_lower_case(words: &[Octets]) -> bool
+    ensures { result ≡ list_all is_lower_case words.now }
 {
     for word in words {
-        if !is_lowered(word.as_bytes()) {
+        if !is_lower_case(word.as_bytes()) {
             return false;
         }
     }
     true
 }
 
-fn is_lowered(word: &[u8]) -> bool
-    ensures { result ≡ is_lowered word.now }
+fn is_lower_case(word: &[u8]) -> bool
+    ensures { result ≡ is_lower_case word.now }
 {
     for octet in word {
         if octet.is_ascii_uppercase() {

@@ -37,5 +37,5 @@ pub use section::{FieldNames, Section};
 pub use sequence_set::{SequenceBound, SequenceRange, SequenceSet};
 pub use text::Text;
 pub use unions::add_flags;
-pub use version::{Version, copied_versions};
+pub use version::{Version, copy_versions};
 pub use versions::Versions;

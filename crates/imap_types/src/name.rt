@@ -1,7 +1,7 @@
-ghost use Rattle.imap_types.specs.Ascending.{compared};
+ghost use Rattle.imap_types.specs.Ascending.{octet_order};
 ghost use Rattle.std.specs.Prelude.{◌≡◌, ◌↔◌, IfOk, IsTrue, map};
 ghost use Rattle.std.specs.Char.{to_ascii_uppercase};
-ghost use Rattle.imap_types.specs.Names.{IsLawfulName, folded_name, has_octets, inbox, is_inbox, is_name_octet, levels_of};
+ghost use Rattle.imap_types.specs.Names.{IsLawfulName, fold_inbox, has_octets, inbox, is_inbox, is_name_octet, levels_of};
 ghost use Rattle.std.specs.List.{list_all};
 ghost use Rattle.std.specs.Str.{IsUtf8};
 
@@ -42,7 +42,7 @@ impl Name {
     }
 
     /// A name of a copy of these octets; `Err` where there is no memory for it.
-    pub fn copied_from(alloc: Global, octets: &[u8]) -> Result<Name, AllocError>
+    pub fn from_slice(alloc: Global, octets: &[u8]) -> Result<Name, AllocError>
         ensures { IfOk result (λ copied. copied ≡ octets.now) }
     {
         Ok(Name {
@@ -54,7 +54,7 @@ impl Name {
     pub fn inbox(alloc: Global) -> Result<Name, AllocError>
         ensures { IfOk result (λ name. name ≡ inbox) }
     {
-        Name::copied_from(alloc, b"INBOX")
+        Name::from_slice(alloc, b"INBOX")
     }
 
     /// The octets, with their memory.
@@ -81,7 +81,7 @@ impl Name {
 
     /// How the octets compare, by the first that differs.
     pub fn compare(&self, other: &Name) -> Ordering
-        ensures { result ≡ compared self.now other.now }
+        ensures { result ≡ octet_order self.now other.now }
     {
         self.as_bytes().cmp(other.as_bytes())
     }
@@ -90,7 +90,7 @@ impl Name {
     pub fn copy(&self, alloc: Global) -> Result<Name, AllocError>
         ensures { IfOk result (λ copied. copied ≡ self.now) }
     {
-        Name::copied_from(alloc, self.as_bytes())
+        Name::from_slice(alloc, self.as_bytes())
     }
 
     /// Whether it is `INBOX` in any case (RFC 9051, section 5.1).
@@ -101,8 +101,8 @@ impl Name {
     }
 
     /// The name with `INBOX` of any case in capitals, and any other name as it stands.
-    pub fn folded(self) -> Name
-        ensures { result ≡ folded_name self }
+    pub fn fold_inbox(self) -> Name
+        ensures { result ≡ fold_inbox self }
     {
         if !self.is_inbox() {
             return self;
@@ -155,7 +155,7 @@ fn has_no_empty_level(octets: &[u8]) -> bool
 
 /// INBOX in capitals, or a name that isn't INBOX in any case.
 fn is_folded(octets: &[u8]) -> bool
-    ensures { IsTrue result ↔ (folded_name octets.now ≡ octets.now) }
+    ensures { IsTrue result ↔ (fold_inbox octets.now ≡ octets.now) }
 {
     octets == b"INBOX".as_slice() || !octets.eq_ignore_ascii_case(b"INBOX")
 }

@@ -1,4 +1,4 @@
-ghost use Rattle.imap_types.specs.Ascending.{compared};
+ghost use Rattle.imap_types.specs.Ascending.{octet_order};
 ghost use Rattle.std.specs.Prelude.{◌≡◌, ◌↔◌, IfOk, IsTrue};
 
 use std::alloc::{AllocError, Global};
@@ -47,7 +47,7 @@ impl Octets {
     }
 
     /// A copy of these octets; `Err` where there is no memory for it.
-    pub fn copied_from(alloc: Global, octets: &[u8]) -> Result<Octets, AllocError>
+    pub fn from_slice(alloc: Global, octets: &[u8]) -> Result<Octets, AllocError>
         ensures { IfOk result (λ copied. copied ≡ octets.now) }
     {
         Ok(Octets {
@@ -79,7 +79,7 @@ impl Octets {
 
     /// How the octets compare, by the first that differs.
     pub fn compare(&self, other: &Octets) -> Ordering
-        ensures { result ≡ compared self.now other.now }
+        ensures { result ≡ octet_order self.now other.now }
     {
         self.as_bytes().cmp(other.as_bytes())
     }
@@ -88,6 +88,6 @@ impl Octets {
     pub fn copy(&self, alloc: Global) -> Result<Octets, AllocError>
         ensures { IfOk result (λ copied. copied ≡ self.now) }
     {
-        Octets::copied_from(alloc, self.as_bytes())
+        Octets::from_slice(alloc, self.as_bytes())
     }
 }

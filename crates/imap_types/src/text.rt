@@ -36,7 +36,7 @@ impl Text {
     }
 
     /// The text of a copy of these octets; `Err` where there is no memory for it.
-    pub fn copied_from(alloc: Global, octets: &[u8]) -> Result<Text, AllocError>
+    pub fn from_slice(alloc: Global, octets: &[u8]) -> Result<Text, AllocError>
         ensures { IfOk result (λ text. text ≡ octets.now) }
     {
         Text::new(octets.to_vec(alloc)?)

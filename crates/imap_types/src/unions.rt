@@ -2,9 +2,9 @@
 
 ghost use Rattle.std.specs.Prelude.{◌≡◌, ◌↔◌, IsTrue, OnOk};
 ghost use Rattle.std.specs.List.{fold, flat_map, list_all, list_any};
-ghost use Rattle.imap_types.specs.Keywords.{with_text};
+ghost use Rattle.imap_types.specs.Keywords.{with_word};
 ghost use Rattle.imap_types.specs.Members.{are_within, holds};
-ghost use Rattle.imap_types.specs.Unions.{united, with_flags};
+ghost use Rattle.imap_types.specs.Unions.{united_flags, with_flags};
 
 use crate::flags::Flags;
 use crate::keywords::Keywords;
@@ -27,7 +27,7 @@ pub fn add_flags(alloc: Global, union: &mut Flags, more: &Flags) -> Result<(), A
 
 /// Puts the other keywords to these.
 fn add_keywords(alloc: Global, union: &mut Keywords, more: &Keywords) -> Result<(), AllocError>
-    ensures { OnOk result (union.new ≡ fold (λ done word. with_text word done) union.old more.now) }
+    ensures { OnOk result (union.new ≡ fold (λ done word. with_word word done) union.old more.now) }
 {
     for word in more.as_slice() {
         union.insert(alloc, word.as_bytes())?;
@@ -41,7 +41,7 @@ pub fn add_version_keywords(
     union: &mut Keywords,
     versions: &[Version],
 ) -> Result<(), AllocError>
-    ensures { OnOk result (union.new ≡ fold (λ done word. with_text word done) union.old (flat_map (λ version. version.flags.keywords) versions.now)) }
+    ensures { OnOk result (union.new ≡ fold (λ done word. with_word word done) union.old (flat_map (λ version. version.flags.keywords) versions.now)) }
 {
     for version in versions {
         add_keywords(alloc, union, &version.flags.keywords)?;
@@ -50,29 +50,29 @@ pub fn add_version_keywords(
 }
 
 /// Whether these are just the keywords of the versions together.
-pub fn have_keywords(versions: &[Version], keywords: &Keywords) -> bool
-    ensures { IsTrue result ↔ ((united versions.now).keywords ≡ keywords.now) }
+pub fn is_keyword_union(versions: &[Version], keywords: &Keywords) -> bool
+    ensures { IsTrue result ↔ ((united_flags versions.now).keywords ≡ keywords.now) }
 {
     let words = keywords.as_slice();
-    have_all_within(versions, words) && have_each(versions, words)
+    all_are_within(versions, words) && each_is_in_a_version(versions, words)
 }
 
 /// Whether each keyword of a version is one of these.
-fn have_all_within(versions: &[Version], words: &[Octets]) -> bool
+fn all_are_within(versions: &[Version], words: &[Octets]) -> bool
     ensures { result ≡ list_all (λ version. are_within version.flags.keywords words.now) versions.now }
 {
     versions.iter().all(|version| are_within(version.flags.keywords.as_slice(), words))
 }
 
 /// Whether each of these keywords is one of a version's.
-fn have_each(versions: &[Version], words: &[Octets]) -> bool
+fn each_is_in_a_version(versions: &[Version], words: &[Octets]) -> bool
     ensures { result ≡ list_all (λ word. list_any (λ version. holds version.flags.keywords word) versions.now) words.now }
 {
-    words.iter().all(|word| have(versions, word))
+    words.iter().all(|word| is_in_a_version(versions, word))
 }
 
 /// Whether a version has this keyword.
-fn have(versions: &[Version], word: &Octets) -> bool
+fn is_in_a_version(versions: &[Version], word: &Octets) -> bool
     ensures { result ≡ list_any (λ version. holds version.flags.keywords word.now) versions.now }
 {
     versions

@@ -34,7 +34,7 @@ impl Version {
 }
 
 /// Copies of the versions, in their order; `Err` where there is no memory for them.
-pub fn copied_versions(alloc: Global, versions: &[Version]) -> Result<Vec<Version>, AllocError>
+pub fn copy_versions(alloc: Global, versions: &[Version]) -> Result<Vec<Version>, AllocError>
     ensures { IfOk result (λ copies. copies.items ≡ versions.now) }
 {
     let mut copies = Vec::with_capacity(alloc, versions.len())?;

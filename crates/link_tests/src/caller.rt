@@ -7,7 +7,7 @@ use crate::told::is_clock;
 use crdt_ops::SoundOp;
 use crossbeam_channel::{Receiver, unbounded};
 use imap_node::Reply;
-use replica_links::{Inbox, Letter, LinkMsg, ReplicaTaker, link_worker};
+use replica_links::{LinkInput, PeerMsg, LinkMsg, ReplicaTaker, link_worker};
 use replica_lock::{Gate, Outcome, Pass, Shared};
 use std::alloc::{AllocError, Global};
 use std::rt::Clock;
@@ -293,7 +293,7 @@ impl<L: Ledger> Caller<L> {
             let Some(session) = self.pass.session() else {
                 return false;
             };
-            let Some(now) = shared.wait_news(mail.rt, session, seen) else {
+            let Some(now) = shared.wait_session_change(mail.rt, session, seen) else {
                 return false;
             };
             if mail.sign(Sign::Over).load(Ordering::SeqCst) != 0 {
@@ -338,7 +338,7 @@ impl<L: Ledger> Caller<L> {
     fn hear<R: Wait + Clock>(
         &mut self,
         station: &Station<'_, L, R>,
-        letters: &Receiver<Letter>,
+        letters: &Receiver<PeerMsg>,
         asks_first: bool,
         rest: u64,
     ) -> bool {
@@ -355,7 +355,7 @@ impl<L: Ledger> Caller<L> {
         }
         let mail = &station.mail;
         let peers = [mail.peer()];
-        let inbox = Inbox {
+        let inbox = LinkInput {
             letters,
             peers: &peers,
             asks_first,

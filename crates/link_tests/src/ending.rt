@@ -5,7 +5,7 @@ use crate::deeds::Ending;
 use crate::told::tell_answers;
 use crdt_ops::SoundOp;
 use merge_laws::Caused;
-use replica_lock::{Book, BookEvent, FinishFault, Lent, Outcome};
+use replica_lock::{Book, BookEvent, FinishFault, EntryRef, Outcome};
 use std::alloc::{AllocError, Global};
 
 /// What is left of a replica: its book, or why it isn't handed out, and what its callers saw.
@@ -189,11 +189,11 @@ fn has_tag(book: &Book, place: u64, tag: &str) -> bool {
     let Some(kept) = book.entry(place) else {
         return false;
     };
-    match kept.lent() {
-        Lent::Noop { tag: found, .. } => found.as_bytes() == tag.as_bytes(),
-        Lent::Closed { .. } => false,
-        Lent::Told { told } => told.tagged.tag.as_bytes() == tag.as_bytes(),
-        Lent::Whole { entry } => match &entry.event {
+    match kept.as_entry() {
+        EntryRef::Noop { tag: found, .. } => found.as_bytes() == tag.as_bytes(),
+        EntryRef::Closed { .. } => false,
+        EntryRef::Told { told } => told.tagged.tag.as_bytes() == tag.as_bytes(),
+        EntryRef::Whole { entry } => match &entry.event {
             BookEvent::Command { tagged, .. } => tagged.tag.as_bytes() == tag.as_bytes(),
             _ => false,
         },

@@ -1,6 +1,6 @@
 //! Replicas, sessions and commands for the tests.
 
-use crdt_ops::{SoundOp, checked, read_op};
+use crdt_ops::{SoundOp, into_sound_op, read_op};
 use imap_grammar::parse;
 use imap_node::{Auth, Node};
 use imap_types::Moment;
@@ -10,7 +10,7 @@ use std::alloc::{AllocError, Global};
 use std::sync::Wait;
 use std::sync::ledger::Ledger;
 use tags_clocks::ReplicaId;
-use uid_projection::Start;
+use uid_projection::Counters;
 
 /// The replica with this number, new, and with this as the first UID of INBOX; `None` for 0.
 pub fn book_from(alloc: Global, number: u32, uid: u32) -> Option<Book> {
@@ -18,7 +18,7 @@ pub fn book_from(alloc: Global, number: u32, uid: u32) -> Option<Book> {
         return None;
     }
     let replica = ReplicaId::new(number)?;
-    let start = Start { replica, uid, k: 1 };
+    let start = Counters { replica, uid, k: 1 };
     match Node::new(alloc, start) {
         Ok(node) => Some(Book::new(alloc, node)),
         Err(_) => None,
@@ -83,7 +83,7 @@ fn push_operations(alloc: Global, lines: &[&str], ops: &mut Vec<SoundOp>) -> boo
 /// The operation that a line spells, if it is sound.
 pub fn operation(alloc: Global, line: &str) -> Option<SoundOp> {
     match read_op(alloc, line.as_bytes()) {
-        Ok(op) => checked(op),
+        Ok(op) => into_sound_op(op),
         Err(_) => None,
     }
 }

@@ -5,7 +5,7 @@ use crate::fixtures::{copies, operations};
 use crate::told::{all_lines, tell_message};
 use crdt_ops::SoundOp;
 use crossbeam_channel::{Receiver, Sender, unbounded};
-use replica_links::{Gate, Letter, LinkMsg, Post};
+use replica_links::{Gate, PeerMsg, LinkMsg, PeerLinks};
 use std::alloc::{AllocError, Global};
 use std::sync::Wait;
 use std::sync::atomic::{AtomicU64, Ordering};
@@ -26,11 +26,11 @@ impl Gate for Open {
 /// Channels to two replicas, and what their callers tell.
 pub struct Lines {
     /// The way to each, by place.
-    links: Vec<Sender<Letter>>,
+    links: Vec<Sender<PeerMsg>>,
     /// Where the letters of the first come.
-    first: Receiver<Letter>,
+    first: Receiver<PeerMsg>,
     /// Where the letters of the second come.
-    second: Receiver<Letter>,
+    second: Receiver<PeerMsg>,
     /// Where callers tell what they saw.
     said: Sender<String>,
     /// What was told, line by line.
@@ -106,7 +106,7 @@ impl<'a, R: Wait> Mail<'a, R> {
     }
 
     /// Where the sender's own letters come.
-    pub fn letters(&self) -> &'a Receiver<Letter> {
+    pub fn letters(&self) -> &'a Receiver<PeerMsg> {
         if self.own == 0 {
             &self.lines.first
         } else {
@@ -127,7 +127,7 @@ impl<'a, R: Wait> Mail<'a, R> {
         } else {
             Ok(String::new(self.alloc))
         };
-        let letter = Letter {
+        let letter = PeerMsg {
             from: self.own,
             message,
         };
@@ -136,7 +136,7 @@ impl<'a, R: Wait> Mail<'a, R> {
     }
 
     /// Puts a letter on the way to the replica at a place.
-    fn put(&self, to: usize, letter: Letter) -> bool {
+    fn put(&self, to: usize, letter: PeerMsg) -> bool {
         match self.lines.links.get(to) {
             Some(link) => link.send(self.rt, letter).is_ok(),
             None => {
@@ -195,7 +195,7 @@ impl<'a, R: Wait> Mail<'a, R> {
 
     /// Takes steps of the link to this replica, one after another, and sends what comes into a channel; what no step takes stays. False where there is no
     /// such message.
-    pub fn sift(&self, steps: &[Step], to: &Sender<Letter>) -> Result<bool, AllocError> {
+    pub fn sift(&self, steps: &[Step], to: &Sender<PeerMsg>) -> Result<bool, AllocError> {
         let mut letters = Vec::new(self.alloc);
         for _ in 0..self.letters().len() {
             if let Ok(letter) = self.letters().try_recv(self.rt) {
@@ -212,8 +212,8 @@ impl<'a, R: Wait> Mail<'a, R> {
     fn take_steps(
         &self,
         steps: &[Step],
-        letters: &mut Vec<Letter>,
-        to: &Sender<Letter>,
+        letters: &mut Vec<PeerMsg>,
+        to: &Sender<PeerMsg>,
     ) -> Result<bool, AllocError> {
         for step in steps {
             let place = step.place();
@@ -233,7 +233,7 @@ impl<'a, R: Wait> Mail<'a, R> {
     }
 
     /// Sends a message and a copy of it into a channel.
-    fn send_twice(&self, letter: Letter, to: &Sender<Letter>) -> Result<(), AllocError> {
+    fn send_twice(&self, letter: PeerMsg, to: &Sender<PeerMsg>) -> Result<(), AllocError> {
         let copied = copy_of(self.alloc, &letter);
         let _ = to.send(self.rt, letter);
         let _ = to.send(self.rt, copied?);
@@ -241,19 +241,19 @@ impl<'a, R: Wait> Mail<'a, R> {
     }
 }
 
-fn copy_of(alloc: Global, letter: &Letter) -> Result<Letter, AllocError> {
+fn copy_of(alloc: Global, letter: &PeerMsg) -> Result<PeerMsg, AllocError> {
     let message = match &letter.message {
         LinkMsg::Ops(ops) => LinkMsg::Ops(copies(alloc, ops)?),
         LinkMsg::Have(clock) => LinkMsg::Have(clock.copy(alloc)?),
         LinkMsg::Stop => LinkMsg::Stop,
     };
-    Ok(Letter {
+    Ok(PeerMsg {
         from: letter.from,
         message,
     })
 }
 
-impl<'a, R: Wait> Post for Mail<'a, R> {
+impl<'a, R: Wait> PeerLinks for Mail<'a, R> {
     ghost asks = { λ p to clock q. Unit {0} };
 
     ghost hands = { λ p to ops q. Unit {0} };
@@ -262,7 +262,7 @@ impl<'a, R: Wait> Post for Mail<'a, R> {
         let _ = self.send(to, LinkMsg::Have(clock));
     }
 
-    fn hand(&mut self, to: usize, ops: Vec<SoundOp>) {
+    fn send_ops(&mut self, to: usize, ops: Vec<SoundOp>) {
         let _ = self.send(to, LinkMsg::Ops(ops));
     }
 }

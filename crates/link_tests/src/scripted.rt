@@ -6,7 +6,7 @@ use crate::told::{all_lines, with_clock};
 use crdt_ops::SoundOp;
 use crossbeam_channel::{Receiver, Sender, unbounded};
 use merge_laws::Caused;
-use replica_links::{Gate, Inbox, Letter, LinkMsg, Post, Taker, Took, ask_all, link_worker};
+use replica_links::{Gate, LinkInput, PeerMsg, LinkMsg, PeerLinks, Taker, Took, ask_all, link_worker};
 use std::alloc::{AllocError, Global};
 use std::sync::Wait;
 use std::test::*;
@@ -121,7 +121,7 @@ impl<'a, R: Wait + rt::Clock> Taker for Scripted<'a, R> {
     }
 }
 
-impl<'a, R: Wait + rt::Clock> Post for Scripted<'a, R> {
+impl<'a, R: Wait + rt::Clock> PeerLinks for Scripted<'a, R> {
     ghost asks = { λ p to clock q. Unit {0} };
 
     ghost hands = { λ p to ops q. Unit {0} };
@@ -131,7 +131,7 @@ impl<'a, R: Wait + rt::Clock> Post for Scripted<'a, R> {
         drop(clock);
     }
 
-    fn hand(&mut self, to: usize, ops: Vec<SoundOp>) {
+    fn send_ops(&mut self, to: usize, ops: Vec<SoundOp>) {
         let count = ops.len();
         drop(ops);
         self.note(format!(in self.alloc; "hand {to} {count}\n"));
@@ -147,7 +147,7 @@ impl<'a, R: Wait + rt::Clock> Gate for Scripted<'a, R> {
     }
 }
 
-fn letter(alloc: Global, from: usize, said: Said) -> Result<Letter, AllocError> {
+fn letter(alloc: Global, from: usize, said: Said) -> Result<PeerMsg, AllocError> {
     let message = match said {
         Said::Ops(lines) => match operations(alloc, lines) {
             Some(ops) => LinkMsg::Ops(ops),
@@ -163,12 +163,12 @@ fn letter(alloc: Global, from: usize, said: Said) -> Result<Letter, AllocError> 
         },
         Said::Stop => LinkMsg::Stop,
     };
-    Ok(Letter { from, message })
+    Ok(PeerMsg { from, message })
 }
 
 /// What a worker hears, in a case.
 struct Heard<'a> {
-    letters: Receiver<Letter>,
+    letters: Receiver<PeerMsg>,
     case: &'a Case,
 }
 
@@ -186,7 +186,7 @@ impl Drop for Heard<'_> {
 fn work<R: Wait + rt::Clock>(rt: &R, alloc: Global, sender: Sender<String>, heard: &Heard) {
     let calls = &sender;
     let case = heard.case;
-    let inbox = Inbox {
+    let inbox = LinkInput {
         letters: &heard.letters,
         peers: case.peers,
         asks_first: case.asks_first,
@@ -222,7 +222,7 @@ fn work<R: Wait + rt::Clock>(rt: &R, alloc: Global, sender: Sender<String>, hear
 }
 
 /// Looks many times whether so many calls were made, and then stops the worker; nothing comes where it is 0.
-fn stop_behind<R: Wait>(rt: &R, calls: &Receiver<String>, count: usize, to: Sender<Letter>) {
+fn stop_behind<R: Wait>(rt: &R, calls: &Receiver<String>, count: usize, to: Sender<PeerMsg>) {
     if count > 0 {
         for _ in 0..TURNS {
             if calls.len() >= count {
@@ -230,7 +230,7 @@ fn stop_behind<R: Wait>(rt: &R, calls: &Receiver<String>, count: usize, to: Send
             }
             thread::yield_now();
         }
-        let stop = Letter {
+        let stop = PeerMsg {
             from: 0,
             message: LinkMsg::Stop,
         };

@@ -5,7 +5,7 @@ use crdt_ops::SoundOp;
 use crossbeam_channel::Receiver;
 use merge_laws::Caused;
 use replica_links::LinkMsg;
-use replica_lock::{Book, BookEvent, Entry, Lent, Outcome};
+use replica_lock::{Book, BookEvent, JournalEntry, EntryRef, Outcome};
 use std::alloc::{AllocError, Global};
 use std::sync::Wait;
 use tags_clocks::{Clock, OpId};
@@ -100,7 +100,7 @@ pub fn all_lines<R: Wait>(
 pub fn tell_answers(text: &mut String, book: &Book) -> Result<(), AllocError> {
     for place in 0..book.len() {
         if let Some(kept) = book.entry(place.saturating_add(1)) {
-            if let Lent::Whole { entry } = kept.lent() {
+            if let EntryRef::Whole { entry } = kept.as_entry() {
                 tell_entry(text, entry)?;
             }
         }
@@ -108,7 +108,7 @@ pub fn tell_answers(text: &mut String, book: &Book) -> Result<(), AllocError> {
     Ok(())
 }
 
-fn tell_entry(text: &mut String, entry: &Entry) -> Result<(), AllocError> {
+fn tell_entry(text: &mut String, entry: &JournalEntry) -> Result<(), AllocError> {
     match &entry.event {
         BookEvent::Deliver { op } => tell_id(text, op.id())?,
         BookEvent::Drain => text.push_str("drain")?,

@@ -3,11 +3,11 @@ use Rattle.std.proofs.lemmas.Cmp.{tied_itself}
 use Rattle.std.proofs.lemmas.List.{take_more}
 use Rattle.std.specs.List.{flat_map}
 use Rattle.std.specs.declared.cmp.Ordering.TheVariants.{Less, Equal}
-use Rattle.causal_inbox.specs.Seen.{IsClockOf, IsReceived, Seen}
+use Rattle.causal_inbox.specs.Inbox.{IsClockOf, IsReceived, ReceivedOps}
 use Rattle.crdt_ops.proofs.OrderLemmas.{id_order_total}
 use Rattle.crdt_ops.specs.declared.op.Op.{Op}
 use Rattle.crdt_ops.specs.Meanings.{MeansTheSame}
-use Rattle.crdt_ops.specs.Order.{id_order}
+use Rattle.crdt_ops.specs.SortedSets.{id_order}
 use Rattle.crdt_ops.specs.Sound.{IsSound}
 use Rattle.crdt_ops.specs.Text.{ids_text, name_text}
 use Rattle.folder_state.specs.Contents.{Contents, IsMadeBy, effect_of, no_contents}
@@ -20,8 +20,8 @@ use Rattle.tags_clocks.specs.declared.id.OpId.{OpId}
 use Rattle.mail_audit.specs.DumpLines.{HoldsOnly, IsExpected, IsExpectedOf, StandsBehind}
 use Rattle.crdt_ops.specs.DumpLines.{message_line, state_text}
 use Rattle.mail_audit.specs.Dumps.{AreOrdered, HasCauses}
-use Rattle.mail_audit.specs.declared.applying.Expected.{Expected}
-use Rattle.mail_audit.specs.declared.applying.Expected.TheVariants.{Lines, Stuck}
+use Rattle.mail_audit.specs.declared.expected_lines.Expected.{Expected}
+use Rattle.mail_audit.specs.declared.expected_lines.Expected.TheVariants.{Lines, Stuck}
 
 abbrev pub id_of : Op → OpId
 id_of op = op.id
@@ -89,7 +89,7 @@ in_at (y ∷ xs) zero x l e = inl (sym e)
 in_at (y ∷ xs) (suc i) x l e = inr (in_at xs i x (omega (arith, l)) e)
 
 -- with one of the operations more, an inbox has only such operations
-pub holds_more : {S : Type 0} (ops : List Op) (old new : Seen S Op) (op : Op) (i : ℕ) → i < length ops → op ≡ get_or ops i op → HoldsOnly ops old → ((o : Op) → IsReceived new o → IsReceived old o ⊎ (o ≡ op)) → HoldsOnly ops new
+pub holds_more : {S : Type 0} (ops : List Op) (old new : ReceivedOps S Op) (op : Op) (i : ℕ) → i < length ops → op ≡ get_or ops i op → HoldsOnly ops old → ((o : Op) → IsReceived new o → IsReceived old o ⊎ (o ≡ op)) → HoldsOnly ops new
 holds_more ops old new op i l is h grown o r =
     elim (grown o r) [
       | inl t ↦ h o t
@@ -112,7 +112,7 @@ same_state xs ys m = λ i.
     ++ flat_map (λ (name : List ℕ). codes "subscribed " ++ (name_text name ++ 32 ∷ (ids_text (m.subscription_tags name i) ++ 10 ∷ []))) (m.subscribed i)
 
 -- all was applied, and nothing else
-all_applied : {S : Type 0} (ops : List Op) (seen : Seen S Op) (clock : List (ℕ × ℕ)) → AreOrdered ops → HoldsOnly ops seen → IsClockOf id_of seen.applied clock → ((o : Op) → IsIn o ops → IsCause clock o.id) → HaveSameElements ops seen.applied
+all_applied : {S : Type 0} (ops : List Op) (seen : ReceivedOps S Op) (clock : List (ℕ × ℕ)) → AreOrdered ops → HoldsOnly ops seen → IsClockOf id_of seen.applied clock → ((o : Op) → IsIn o ops → IsCause clock o.id) → HaveSameElements ops seen.applied
 all_applied ops seen clock a only counts all o = (
   λ h.
       let found = element_of_id id_of o.id seen.applied ((counts o.id).0 (all o h)) in
@@ -130,7 +130,7 @@ causes_there ops applied same causal op h cause c =
     subst (HasId id_of ops) found.2 (id_of_element id_of found.0 ops ((same found.0).1 found.1))
 
 -- where all was applied, what follows is what the set defines
-pub expected_of : {S : Type 0} (one_set : (xs ys : List Op) → HaveSameElements xs ys → IdsDetermine id_of xs → MeansTheSame xs ys) {E : Type 0} (ops : List Op) (seen : Seen S Op) (clock : List (ℕ × ℕ)) (result : Result Expected E) → AreOrdered ops → HoldsOnly ops seen → IsClockOf id_of seen.applied clock → ((o : Op) → IsIn o ops → IsCause clock o.id) → IfOk result (IsExpectedOf seen.applied) → IfOk result (IsExpected ops)
+pub expected_of : {S : Type 0} (one_set : (xs ys : List Op) → HaveSameElements xs ys → IdsDetermine id_of xs → MeansTheSame xs ys) {E : Type 0} (ops : List Op) (seen : ReceivedOps S Op) (clock : List (ℕ × ℕ)) (result : Result Expected E) → AreOrdered ops → HoldsOnly ops seen → IsClockOf id_of seen.applied clock → ((o : Op) → IsIn o ops → IsCause clock o.id) → IfOk result (IsExpectedOf seen.applied) → IfOk result (IsExpected ops)
 expected_of one_set ops seen clock (Err e) a only counts all h = tt
 expected_of one_set ops seen clock (Ok (Stuck place)) a only counts all h = absurd h
 expected_of one_set ops seen clock (Ok (Lines lines)) a only counts all h =

@@ -5,7 +5,7 @@ use Rattle.mail_script.specs.Lines.{lines_of}
 use Rattle.mail_script.specs.Reading.{cut_at}
 use Rattle.mail_script.proofs.LineLemmas.{lines_last, lines_next}
 use Rattle.mail_audit.specs.Audits.{Audits}
-use Rattle.mail_audit.specs.Standing.{Advances, EndsAt, EndsWithin, Stands}
+use Rattle.mail_audit.specs.AuditProgress.{Advances, EndsAt, EndsWithin, HasTaken}
 use Rattle.mail_audit.specs.declared.line_audit.Audit.{Audit}
 use Rattle.mail_audit.specs.declared.verdict.AuditEnd.{AuditEnd}
 
@@ -40,11 +40,11 @@ cut_parts text line rest e =
     let m : length (10 ∷ rest) ≡ suc (length rest) = refl in
     omega (arith, n, m)
 
-pub advance_at_first : (front : List (List ℕ)) (audit : Audit) (text : List ℕ) → Stands front audit → Advances front audit text audit text
+pub advance_at_first : (front : List (List ℕ)) (audit : Audit) (text : List ℕ) → HasTaken front audit → Advances front audit text audit text
 advance_at_first front audit text s = record {
   done = [];
   lines = λ more. refl;
-  stands = subst (λ (ls : List (List ℕ)). Stands ls audit) (sym (append-nil front)) s;
+  stands = subst (λ (ls : List (List ℕ)). HasTaken ls audit) (sym (append-nil front)) s;
   fits = omega arith;
 }
 
@@ -54,7 +54,7 @@ module _ (front : List (List ℕ)) (old : Audit) (text : List ℕ) (mid : Audit)
   lines_on more = a.lines more ∙ ap (λ (ls : List (List ℕ)). a.done ++ ls) (lines_next left line rest more cut)
 
   -- one line more was taken
-  pub advance_on : (new : Audit) → Stands ((front ++ a.done) ++ line ∷ []) new → Advances front old text new rest
+  pub advance_on : (new : Audit) → HasTaken ((front ++ a.done) ++ line ∷ []) new → Advances front old text new rest
   advance_on new s =
       let n = cut_parts left line rest cut in
       let k = length-append (front ++ a.done) (line ∷ []) in
@@ -64,7 +64,7 @@ module _ (front : List (List ℕ)) (old : Audit) (text : List ℕ) (mid : Audit)
       record {
         done = a.done ++ line ∷ [];
         lines = λ more. lines_on more ∙ sym (append_assoc a.done (line ∷ []) (lines_of (rest ++ more)));
-        stands = subst (λ (ls : List (List ℕ)). Stands ls new) (append_assoc front a.done (line ∷ [])) s;
+        stands = subst (λ (ls : List (List ℕ)). HasTaken ls new) (append_assoc front a.done (line ∷ [])) s;
         fits = omega (arith, n, k, x, y, f);
       }
 
@@ -86,10 +86,10 @@ pub record Came (start left : Option (List ℕ)) (audit : Audit) (text : List �
   pub read : List ℕ
   pub front : List (List ℕ)
   pub lines : (more : List ℕ) → lines_of (read ++ more) ≡ front ++ lines_of (text ++ more)
-  pub stands : Stands front audit
+  pub stands : HasTaken front audit
   pub known : (input : List ℕ) → start ≡ Some input → (rest : List ℕ) × (input ≡ read ++ rest) × (left ≡ Some rest)
 
-pub came_at_first : (start : Option (List ℕ)) (audit : Audit) (text : List ℕ) → Stands [] audit → text ≡ [] → Came start start audit text
+pub came_at_first : (start : Option (List ℕ)) (audit : Audit) (text : List ℕ) → HasTaken [] audit → text ≡ [] → Came start start audit text
 came_at_first start audit text s t = record {
   read = [];
   front = [];

@@ -5,8 +5,8 @@ use Rattle.crdt_ops.specs.declared.op.Op.{Op}
 use Rattle.mail_audit.specs.Audits.{Dumped, IsNo, IsNoEnd, IsRightPart, Part, ended_line, part_text, text_of}
 use Rattle.mail_audit.specs.DumpLines.{PhaseStands}
 use Rattle.mail_audit.specs.Dumps.{AreDumped, dump_line, dump_text, inside_text}
-use Rattle.mail_audit.specs.Standing.{AreHeard, IsOpen}
-use Rattle.mail_audit.specs.declared.dump.OpenDump.{OpenDump}
+use Rattle.mail_audit.specs.AuditProgress.{AreHeard, IsOpen}
+use Rattle.mail_audit.specs.declared.open_dump.OpenDump.{OpenDump}
 use Rattle.mail_audit.specs.Sessions.{Session}
 use Rattle.mail_audit.proofs.HearingLemmas.{each_last, flat_map_last, heard_right, said_of_dump}
 

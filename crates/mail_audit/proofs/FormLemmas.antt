@@ -3,12 +3,12 @@ use Rattle.std.proofs.lemmas.Bool.{and_from}
 use Rattle.std.specs.List.{list_all}
 use Rattle.crdt_ops.proofs.ListLemmas.{clock_lacks, name_lacks}
 use Rattle.crdt_ops.specs.Form.{HasFields, IsDated, IsInForm, IsSpelled}
-use Rattle.crdt_ops.specs.Text.{clock_text, flags_text, id_text, ids_text, kind_text, letter_text, name_text, op_text}
+use Rattle.crdt_ops.specs.Text.{clock_text, flags_text, id_text, ids_text, kind_text, text_field, name_text, op_text}
 use Rattle.crdt_ops.specs.declared.kind.Kind.{Kind}
 use Rattle.crdt_ops.specs.declared.kind.Kind.TheVariants.{Create, Delete, Append, Expunge, Store, Subscribe, Unsubscribe}
 use Rattle.crdt_ops.specs.declared.op.Op.{Op}
 use Rattle.text_fields.proofs.FieldLemmas.{chosen, cut_again, cut_takes, front_some, id_lacks}
-use Rattle.text_fields.specs.Reading.{cut_at, in_front}
+use Rattle.text_fields.specs.FieldReading.{cut_at, in_front}
 use Rattle.mail_audit.specs.Forms.{AreIdsText, AreLetterFields, AreMessageFields, AreTagFields}
 
 -- the parts of a cut
@@ -87,7 +87,7 @@ unfolding head_of back_of
 by_append op (Create folder) id rest form i f d e = absurd (let k : 97 ≡ 99 = ap head_of e in omega (arith, k))
 by_append op (Delete folder seen) id rest form i f d e = absurd (let k : 97 ≡ 100 = ap head_of e in omega (arith, k))
 by_append op (Append folder flags date text) id rest form i f d e =
-    let tail = flags_text flags ++ 32 ∷ (date ++ 32 ∷ letter_text text) in
+    let tail = flags_text flags ++ 32 ∷ (date ++ 32 ∷ text_field text) in
     let behind : codes "INBOX " ++ rest ≡ name_text folder ++ 32 ∷ tail = ap (drop 7) e in
     let same : rest ≡ tail = ap back_of (ap (cut_at 32) behind ∙ cut_again 32 (name_text folder) tail (name_lacks folder)) in
     (op.id, flags, date, text, form.parts.id, f.1, d, f.3, i, same)

@@ -4,8 +4,8 @@ use Rattle.std.proofs.lemmas.List.{length-append}
 use Rattle.std.proofs.lemmas.Bool.Decides.{nat_tests}
 use Rattle.std.proofs.lemmas.Grind.{get_or_default_zero}
 use Rattle.mail_audit.specs.Explained.{without}
-use Rattle.mail_audit.specs.Kept.{AreGone, places_from}
-use Rattle.mail_audit.specs.Passing.{upward}
+use Rattle.mail_audit.specs.KnownUids.{AreGone, places_from}
+use Rattle.mail_audit.specs.Passing.{numbers_upward}
 use Rattle.mail_audit.proofs.RunLemmas.{get_behind, get_upward, length_upward, without_behind, without_upward}
 
 pub gone_low : (from : ℕ) (gone : List ℕ) (came : ℕ) → AreGone from gone came → from + length gone ≤ came
@@ -16,7 +16,7 @@ gone_low from (g ∷ gone) came a = let r = gone_low (g + 1) gone came a.1 in le
 pub length_places : (from : ℕ) (gone : List ℕ) (came : ℕ) → AreGone from gone came → length (places_from from gone came) + length gone ≡ came - from
 length_places from [] came a = let l = length_upward from (came - from) in omega (arith, l)
 length_places from (g ∷ gone) came a =
-    let l = length-append (upward from (g - from)) (places_from (g + 1) gone came) in
+    let l = length-append (numbers_upward from (g - from)) (places_from (g + 1) gone came) in
     let u = length_upward from (g - from) in
     let r = length_places (g + 1) gone came a.1 in
     let b = gone_low (g + 1) gone came a.1 in
@@ -61,7 +61,7 @@ pub place_behind : (from k at : ℕ) (gone : List ℕ) (came : ℕ) → AreGone 
 place_behind from k zero [] came a b h l =
     let u = length_upward from (came - from) in
     let e : from + k ≡ from + k + zero = omega arith in
-    ap (λ (ps : List ℕ). get_or ps k 0) (sym (append-nil (upward from (came - from)))) ∙ get_upward from k (came - from) [] (omega (arith, l, u)) ∙ e
+    ap (λ (ps : List ℕ). get_or ps k 0) (sym (append-nil (numbers_upward from (came - from)))) ∙ get_upward from k (came - from) [] (omega (arith, l, u)) ∙ e
 place_behind from k (suc at) [] came a b h l = absurd (omega (arith, b))
 place_behind from k zero (g ∷ gone) came a b h l =
     let z : from + k + 0 < g = h.1 0 (omega arith) (omega arith) in
@@ -71,9 +71,9 @@ place_behind from k (suc at) (g ∷ gone) came a b h l =
     let f : from ≤ g = a.0 in
     let z = first_before from k at g gone h in
     let u = length_upward from (g - from) in
-    let s = length-append (upward from (g - from)) (places_from (g + 1) gone came) in
-    let one = get_behind k (upward from (g - from)) (places_from (g + 1) gone came) (omega (arith, u, z, f)) in
-    let e : k - length (upward from (g - from)) ≡ k - (g - from) = omega (arith, u) in
+    let s = length-append (numbers_upward from (g - from)) (places_from (g + 1) gone came) in
+    let one = get_behind k (numbers_upward from (g - from)) (places_from (g + 1) gone came) (omega (arith, u, z, f)) in
+    let e : k - length (numbers_upward from (g - from)) ≡ k - (g - from) = omega (arith, u) in
     let r = place_behind (g + 1) (k - (g - from)) at gone came a.1 (omega (arith, b)) (before_rest from k at g gone f h) (omega (arith, l, u, s, z, f)) in
     let d : g + 1 + (k - (g - from)) + at ≡ from + k + suc at = omega (arith, z, f) in
     one ∙ ap (λ (i : ℕ). get_or (places_from (g + 1) gone came) i 0) e ∙ r ∙ d
@@ -85,32 +85,32 @@ places_without from n zero place [] came w p a b h l =
     let e : place - from ≡ n - 1 = omega (arith, w) in
     let f : place + 1 ≡ from + n = omega (arith, w, p) in
     let g : came - (from + n) ≡ came - from - n = omega arith in
-    (λ i. upward from (e i) ++ upward (f i) (came - f i))
-    ∙ (λ i. upward from (n - 1) ++ upward (from + n) (g i))
-    ∙ ap (λ (ps : List ℕ). upward from (n - 1) ++ ps) (sym (append-nil (upward (from + n) (came - from - n))))
+    (λ i. numbers_upward from (e i) ++ numbers_upward (f i) (came - f i))
+    ∙ (λ i. numbers_upward from (n - 1) ++ numbers_upward (from + n) (g i))
+    ∙ ap (λ (ps : List ℕ). numbers_upward from (n - 1) ++ ps) (sym (append-nil (numbers_upward (from + n) (came - from - n))))
     ∙ sym (without_upward n from (came - from) [] p (omega (arith, l, u)))
-    ∙ ap (without n) (append-nil (upward from (came - from)))
+    ∙ ap (without n) (append-nil (numbers_upward from (came - from)))
 places_without from n (suc at) place [] came w p a b h l = absurd (omega (arith, b))
 places_without from n zero place (g ∷ gone) came w p a b h l =
     let z : from + (n - 1) + 0 < g = h.1 0 (omega arith) (omega arith) in
     let e : place - from ≡ n - 1 = omega (arith, w) in
     let f : place + 1 ≡ from + n = omega (arith, w, p) in
     let k : g - (from + n) ≡ g - from - n = omega arith in
-    (λ i. upward from (e i) ++ (upward (f i) (g - f i) ++ places_from (g + 1) gone came))
-    ∙ (λ i. upward from (n - 1) ++ (upward (from + n) (k i) ++ places_from (g + 1) gone came))
+    (λ i. numbers_upward from (e i) ++ (numbers_upward (f i) (g - f i) ++ places_from (g + 1) gone came))
+    ∙ (λ i. numbers_upward from (n - 1) ++ (numbers_upward (from + n) (k i) ++ places_from (g + 1) gone came))
     ∙ sym (without_upward n from (g - from) (places_from (g + 1) gone came) p (omega (arith, z, p)))
 places_without from n (suc at) place (g ∷ gone) came w p a b h l =
     let f : from ≤ g = a.0 in
     let z = first_before from (n - 1) at g gone h in
     let u = length_upward from (g - from) in
-    let s = length-append (upward from (g - from)) (places_from (g + 1) gone came) in
+    let s = length-append (numbers_upward from (g - from)) (places_from (g + 1) gone came) in
     let d : place ≡ g + 1 + (n - (g - from) - 1) + at = omega (arith, w, z, f, p) in
     let q = before_rest from (n - 1) at g gone f h in
     let q' : AreBefore (g + 1) (n - (g - from) - 1) at gone = subst (λ (k : ℕ). AreBefore (g + 1) k at gone) (let e : n - 1 - (g - from) ≡ n - (g - from) - 1 = omega arith in e) q in
     let r = places_without (g + 1) (n - (g - from)) at place gone came d (omega (arith, z, f, p)) a.1 (omega (arith, b)) q' (omega (arith, l, u, s, z, f)) in
-    ap (λ (ps : List ℕ). upward from (g - from) ++ ps) r
-    ∙ ap (λ (m : ℕ). upward from (g - from) ++ without (n - m) (places_from (g + 1) gone came)) (sym u)
-    ∙ sym (without_behind n (upward from (g - from)) (places_from (g + 1) gone came) (omega (arith, u, z, f, p)))
+    ap (λ (ps : List ℕ). numbers_upward from (g - from) ++ ps) r
+    ∙ ap (λ (m : ℕ). numbers_upward from (g - from) ++ without (n - m) (places_from (g + 1) gone came)) (sym u)
+    ∙ sym (without_behind n (numbers_upward from (g - from)) (places_from (g + 1) gone came) (omega (arith, u, z, f, p)))
 
 -- with that one they ascend still
 pub gone_with : (from k at place : ℕ) (gone : List ℕ) (came : ℕ) → place ≡ from + k + at → AreGone from gone came → at ≤ length gone → AreBefore from k at gone → k < length (places_from from gone came) → AreGone from (insert gone at place) came
@@ -125,7 +125,7 @@ gone_with from k (suc at) place (g ∷ gone) came w a b h l =
     let f : from ≤ g = a.0 in
     let z = first_before from k at g gone h in
     let u = length_upward from (g - from) in
-    let s = length-append (upward from (g - from)) (places_from (g + 1) gone came) in
+    let s = length-append (numbers_upward from (g - from)) (places_from (g + 1) gone came) in
     (f, gone_with (g + 1) (k - (g - from)) at place gone came (omega (arith, w, z, f)) a.1 (omega (arith, b)) (before_rest from k at g gone f h) (omega (arith, l, u, s, z, f)))
 
 -- and the place came
@@ -140,25 +140,25 @@ place_came from k (suc at) (g ∷ gone) came a b h l =
     let f : from ≤ g = a.0 in
     let z = first_before from k at g gone h in
     let u = length_upward from (g - from) in
-    let s = length-append (upward from (g - from)) (places_from (g + 1) gone came) in
+    let s = length-append (numbers_upward from (g - from)) (places_from (g + 1) gone came) in
     let r = place_came (g + 1) (k - (g - from)) at gone came a.1 (omega (arith, b)) (before_rest from k at g gone f h) (omega (arith, l, u, s, z, f)) in
     omega (arith, r, z, f)
 
 -- more that came
-upward_more : (from n m : ℕ) → upward from n ++ upward (from + n) m ≡ upward from (n + m)
-upward_more from zero m = let e : from + zero ≡ from = omega arith in let f : m ≡ zero + m = omega arith in λ i. upward (e i) (f i)
+upward_more : (from n m : ℕ) → numbers_upward from n ++ numbers_upward (from + n) m ≡ numbers_upward from (n + m)
+upward_more from zero m = let e : from + zero ≡ from = omega arith in let f : m ≡ zero + m = omega arith in λ i. numbers_upward (e i) (f i)
 upward_more from (suc n) m =
     let e : from + suc n ≡ suc from + n = omega arith in
     let f : suc (n + m) ≡ suc n + m = omega arith in
-    ap (λ (k : ℕ). from ∷ (upward (suc from) n ++ upward k m)) e ∙ ap (λ ps. from ∷ ps) (upward_more (suc from) n m) ∙ ap (upward from) f
+    ap (λ (k : ℕ). from ∷ (numbers_upward (suc from) n ++ numbers_upward k m)) e ∙ ap (λ ps. from ∷ ps) (upward_more (suc from) n m) ∙ ap (numbers_upward from) f
 
-pub places_more : (from : ℕ) (gone : List ℕ) (came m : ℕ) → AreGone from gone came → places_from from gone came ++ upward came m ≡ places_from from gone (came + m)
+pub places_more : (from : ℕ) (gone : List ℕ) (came m : ℕ) → AreGone from gone came → places_from from gone came ++ numbers_upward came m ≡ places_from from gone (came + m)
 places_more from [] came m a =
     let l : from ≤ came = a in
     let e : came ≡ from + (came - from) = omega (arith, l) in
     let f : came - from + m ≡ came + m - from = omega (arith, l) in
-    ap (λ (k : ℕ). upward from (came - from) ++ upward k m) e ∙ upward_more from (came - from) m ∙ ap (upward from) f
-places_more from (g ∷ gone) came m a = append_assoc (upward from (g - from)) (places_from (g + 1) gone came) (upward came m) ∙ ap (λ ps. upward from (g - from) ++ ps) (places_more (g + 1) gone came m a.1)
+    ap (λ (k : ℕ). numbers_upward from (came - from) ++ numbers_upward k m) e ∙ upward_more from (came - from) m ∙ ap (numbers_upward from) f
+places_more from (g ∷ gone) came m a = append_assoc (numbers_upward from (g - from)) (places_from (g + 1) gone came) (numbers_upward came m) ∙ ap (λ ps. numbers_upward from (g - from) ++ ps) (places_more (g + 1) gone came m a.1)
 
 pub gone_more : (from : ℕ) (gone : List ℕ) (came m : ℕ) → AreGone from gone came → AreGone from gone (came + m)
 gone_more from [] came m a = let l : from ≤ came = a in omega (arith, l)

@@ -3,17 +3,17 @@ use Rattle.imap_syntax.specs.Commands.{IsSpelled}
 use Rattle.imap_syntax.specs.declared.command.Tagged.{Tagged}
 use Rattle.imap_answers.specs.declared.answer.Answer.{Answer}
 use Rattle.imap_answers.specs.Printable.{IsPrintable}
-use Rattle.imap_answers.specs.Printed.{printed}
+use Rattle.imap_answers.specs.Printed.{text_of_answer}
 use Rattle.mail_script.specs.declared.transcript.Speaker.{Speaker}
 use Rattle.mail_script.specs.declared.transcript.Speaker.TheVariants.{Client, Server}
 use Rattle.mail_audit.specs.declared.event.SlotEvent.{SlotEvent}
-use Rattle.mail_audit.specs.declared.running.Running.{Running}
+use Rattle.mail_audit.specs.declared.in_progress.RunningCommand.{RunningCommand}
 use Rattle.mail_audit.specs.Explained.{IsExplained}
 use Rattle.mail_audit.specs.Transcripts.{AreEvents, IsAnswered, IsAsked, IsExplainedTranscript, IsHeard, Said, event_by, event_of, running_after, running_by}
 use Rattle.mail_audit.proofs.Stepping.{explained_front}
 
-module _ (one_command : (this that : Tagged) (frame : List ℕ) → IsSpelled this frame → IsSpelled that frame → this ≡ that) (one_answer : (one other : Answer) (rest more : List ℕ) → IsPrintable one → IsPrintable other → printed one ++ rest ≡ printed other ++ more → (one ≡ other) × (rest ≡ more)) where
-  one_asked : (running : List Running) (frame : List ℕ) (a b : List Running) (e f : SlotEvent) → IsAsked running frame a e → IsAsked running frame b f → (a ≡ b) × (e ≡ f)
+module _ (one_command : (this that : Tagged) (frame : List ℕ) → IsSpelled this frame → IsSpelled that frame → this ≡ that) (one_answer : (one other : Answer) (rest more : List ℕ) → IsPrintable one → IsPrintable other → text_of_answer one ++ rest ≡ text_of_answer other ++ more → (one ≡ other) × (rest ≡ more)) where
+  one_asked : (running : List RunningCommand) (frame : List ℕ) (a b : List RunningCommand) (e f : SlotEvent) → IsAsked running frame a e → IsAsked running frame b f → (a ≡ b) × (e ≡ f)
   one_asked running frame a b e f h k =
       elim h [
         | inl x ↦ elim k [
@@ -25,24 +25,24 @@ module _ (one_command : (this that : Tagged) (frame : List ℕ) → IsSpelled th
         | inr x ↦ elim k [ inl y ↦ absurd (x.0 y.0 y.1) | inr y ↦ (x.1 ∙ sym y.1, x.2 ∙ sym y.2) ]
       ]
 
-  one_answered : (running : List Running) (octets : List ℕ) (a b : List Running) (e f : SlotEvent) → IsAnswered running octets a e → IsAnswered running octets b f → (a ≡ b) × (e ≡ f)
+  one_answered : (running : List RunningCommand) (octets : List ℕ) (a b : List RunningCommand) (e f : SlotEvent) → IsAnswered running octets a e → IsAnswered running octets b f → (a ≡ b) × (e ≡ f)
   one_answered running octets a b e f x y =
       let t : x.0 ≡ y.0 = (one_answer x.0 y.0 [] [] x.1 y.1 (ap (λ (o : List ℕ). o ++ []) (sym x.2 ∙ y.2))).0 in
       (x.4 ∙ ap (running_after running) t ∙ sym y.4, x.5 ∙ ap event_of t ∙ sym y.5)
 
-  pub one_heard : (running : List Running) (speaker : Speaker) (octets : List ℕ) (a b : List Running) (e f : SlotEvent) → IsHeard running speaker octets a e → IsHeard running speaker octets b f → (a ≡ b) × (e ≡ f)
+  pub one_heard : (running : List RunningCommand) (speaker : Speaker) (octets : List ℕ) (a b : List RunningCommand) (e f : SlotEvent) → IsHeard running speaker octets a e → IsHeard running speaker octets b f → (a ≡ b) × (e ≡ f)
   one_heard running Client octets a b e f h k = one_asked running octets a b e f h k
   one_heard running Server octets a b e f h k = one_answered running octets a b e f h k
 
-  pub one_events : (running : List Running) (said : List Said) (these those : List SlotEvent) → AreEvents running said these → AreEvents running said those → these ≡ those
+  pub one_events : (running : List RunningCommand) (said : List Said) (these those : List SlotEvent) → AreEvents running said these → AreEvents running said those → these ≡ those
   one_events running [] these those h k = h ∙ sym k
   one_events running (s ∷ said) these those h k =
       let o = one_heard running s.speaker s.octets h.0 k.0 h.1 k.1 h.3 k.3 in
-      let r = one_events k.0 said h.2 k.2 (subst (λ (a : List Running). AreEvents a said h.2) o.0 h.5) k.5 in
+      let r = one_events k.0 said h.2 k.2 (subst (λ (a : List RunningCommand). AreEvents a said h.2) o.0 h.5) k.5 in
       h.4 ∙ (λ i. o.1 i ∷ r i) ∙ sym k.4
 
 -- the events of a front are a front of the events
-events_front : (running : List Running) (front back : List Said) (events : List SlotEvent) → AreEvents running (front ++ back) events → (first : List SlotEvent) × (rest : List SlotEvent) × AreEvents running front first × (events ≡ first ++ rest)
+events_front : (running : List RunningCommand) (front back : List Said) (events : List SlotEvent) → AreEvents running (front ++ back) events → (first : List SlotEvent) × (rest : List SlotEvent) × AreEvents running front first × (events ≡ first ++ rest)
 events_front running [] back events h = ([], events, refl, refl)
 events_front running (s ∷ front) back events h =
     let r = events_front h.0 front back h.2 h.5 in

@@ -6,20 +6,20 @@ use Rattle.imap_types.specs.Escape.{AreOctets}
 use Rattle.imap_syntax.specs.Commands.{IsSpelled}
 use Rattle.imap_syntax.specs.declared.command.Tagged.{Tagged}
 use Rattle.imap_answers.specs.Printable.{IsPrintable}
-use Rattle.imap_answers.specs.Printed.{printed}
+use Rattle.imap_answers.specs.Printed.{text_of_answer}
 use Rattle.imap_answers.specs.declared.answer.Answer.{Answer}
 use Rattle.mail_script.specs.Fields.{is_session_name}
 use Rattle.mail_script.specs.declared.transcript.Speaker.{Speaker}
 use Rattle.mail_audit.specs.Audits.{AreRight, Each, IsNo, IsRightPart, Part, Spoken, Result, Dumped, ended_line, part_text, said_by, said_in, spoken_line, text_of}
-use Rattle.mail_audit.specs.Hearings.{Hearing, Hears, HearsAll, Rejects, unheard}
+use Rattle.mail_audit.specs.HeardSessions.{SessionKnowledge, TakesSaid, TakesAllSaid, RejectsSaid, nothing_known}
 use Rattle.mail_audit.specs.Passing.{PassesFrom}
 use Rattle.mail_audit.specs.Results.{IsResult}
 use Rattle.mail_audit.specs.Sessions.{hearing_of}
-use Rattle.mail_audit.specs.Standing.{AreHeard}
-use Rattle.mail_audit.specs.Steps.{Known, next}
+use Rattle.mail_audit.specs.AuditProgress.{AreHeard}
+use Rattle.mail_audit.specs.SlotSteps.{SlotKnowledge, after_event}
 use Rattle.mail_audit.specs.Transcripts.{AreEvents, IsExplainedTranscript, Said}
 use Rattle.mail_audit.specs.declared.event.SlotEvent.{SlotEvent}
-use Rattle.mail_audit.specs.declared.running.Running.{Running}
+use Rattle.mail_audit.specs.declared.in_progress.RunningCommand.{RunningCommand}
 use Rattle.mail_audit.specs.Sessions.{Session}
 use Rattle.mail_audit.proofs.Deciding.{explained}
 use Rattle.mail_audit.proofs.Hearing.{one_heard}
@@ -83,19 +83,19 @@ said_behind_dump session text (Dumped t ∷ parts) = said_behind_dump session te
 
 -- ---- what is heard
 
-hears_last : (old : Hearing) (said : List Said) (mid new : Hearing) (s : Said) → HearsAll old said mid → Hears mid s new → HearsAll old (said ++ s ∷ []) new
-hears_last old [] mid new s a h = (new, subst (λ (m : Hearing). Hears m s new) a h, refl)
+hears_last : (old : SessionKnowledge) (said : List Said) (mid new : SessionKnowledge) (s : Said) → TakesAllSaid old said mid → TakesSaid mid s new → TakesAllSaid old (said ++ s ∷ []) new
+hears_last old [] mid new s a h = (new, subst (λ (m : SessionKnowledge). TakesSaid m s new) a h, refl)
 hears_last old (x ∷ said) mid new s a h = (a.0, a.1, hears_last a.0 said mid new s a.2 h)
 
-hears_events : (old : Hearing) (said : List Said) (new : Hearing) → HearsAll old said new → (events : List SlotEvent) × AreEvents old.running said events × PassesFrom old.known.there old.known.slots events
+hears_events : (old : SessionKnowledge) (said : List Said) (new : SessionKnowledge) → TakesAllSaid old said new → (events : List SlotEvent) × AreEvents old.running said events × PassesFrom old.known.there old.known.slots events
 hears_events old [] new a = ([], refl, tt)
 hears_events old (s ∷ said) new a =
     let r = hears_events a.0 said new a.2 in
     let h = a.1 in
-    (h.0 ∷ r.0, (a.0.running, h.0, r.0, h.1, refl, r.1), (passes_one old.known h.0 r.0).1 (h.2, subst (λ (k : Known). PassesFrom k.there k.slots r.0) h.3 r.2))
+    (h.0 ∷ r.0, (a.0.running, h.0, r.0, h.1, refl, r.1), (passes_one old.known h.0 r.0).1 (h.2, subst (λ (k : SlotKnowledge). PassesFrom k.there k.slots r.0) h.3 r.2))
 
-hears_explained : (said : List Said) (new : Hearing) → HearsAll unheard said new → IsExplainedTranscript said
-hears_explained said new a = let r = hears_events unheard said new a in (r.0, r.1, (explained r.0).1 r.2)
+hears_explained : (said : List Said) (new : SessionKnowledge) → TakesAllSaid nothing_known said new → IsExplainedTranscript said
+hears_explained said new a = let r = hears_events nothing_known said new a in (r.0, r.1, (explained r.0).1 r.2)
 
 -- an audit that took such lines may answer yes
 pub heard_right : (lines : List (List ℕ)) (parts : List Part) (sessions : List Session) → AreHeard lines parts sessions → AreRight lines parts
@@ -107,19 +107,19 @@ heard_right lines parts sessions h = record {
 
 module _ (same_name : (xs ys : List ℕ) → bytes_eq xs ys ≡ true → xs ≡ ys) where
   -- one more was said that may follow
-  pub heard_more : (lines : List (List ℕ)) (parts : List Part) (old new : List Session) (session : List ℕ) (speaker : Speaker) (text : List ℕ) → AreHeard lines parts old → IsTrue (is_session_name session) → AreOctets text → Hears (hearing_of session old) (said_by speaker text) (hearing_of session new) → ((other : List ℕ) → bytes_eq other session ≡ false → hearing_of other new ≡ hearing_of other old) → AreHeard (lines ++ spoken_line session speaker text ∷ []) (parts ++ Spoken session speaker text ∷ []) new
+  pub heard_more : (lines : List (List ℕ)) (parts : List Part) (old new : List Session) (session : List ℕ) (speaker : Speaker) (text : List ℕ) → AreHeard lines parts old → IsTrue (is_session_name session) → AreOctets text → TakesSaid (hearing_of session old) (said_by speaker text) (hearing_of session new) → ((other : List ℕ) → bytes_eq other session ≡ false → hearing_of other new ≡ hearing_of other old) → AreHeard (lines ++ spoken_line session speaker text ∷ []) (parts ++ Spoken session speaker text ∷ []) new
   heard_more lines parts old new session speaker text h named octets hears others = record {
     whole = whole_last lines (spoken_line session speaker text) parts (Spoken session speaker text) h.whole refl;
     right = each_last IsRightPart parts (Spoken session speaker text) h.right (named, octets);
     heard = λ other. elim (cases_Bool (bytes_eq other session)) [
       | inl y ↦
           let e : other ≡ session = same_name other session y in
-          subst (λ (ss : List Said). HearsAll unheard ss (hearing_of other new)) (sym (said_last other session speaker text parts y))
-          (hears_last unheard (said_in other parts) (hearing_of other old) (hearing_of other new) (said_by speaker text) (h.heard other)
-          (subst (λ (o : List ℕ). Hears (hearing_of o old) (said_by speaker text) (hearing_of o new)) (sym e) hears))
+          subst (λ (ss : List Said). TakesAllSaid nothing_known ss (hearing_of other new)) (sym (said_last other session speaker text parts y))
+          (hears_last nothing_known (said_in other parts) (hearing_of other old) (hearing_of other new) (said_by speaker text) (h.heard other)
+          (subst (λ (o : List ℕ). TakesSaid (hearing_of o old) (said_by speaker text) (hearing_of o new)) (sym e) hears))
       | inr n ↦
-          subst (λ (ss : List Said). HearsAll unheard ss (hearing_of other new)) (sym (said_elsewhere other session speaker text parts n))
-          (subst (λ (g : Hearing). HearsAll unheard (said_in other parts) g) (sym (others other n)) (h.heard other))
+          subst (λ (ss : List Said). TakesAllSaid nothing_known ss (hearing_of other new)) (sym (said_elsewhere other session speaker text parts n))
+          (subst (λ (g : SessionKnowledge). TakesAllSaid nothing_known (said_in other parts) g) (sym (others other n)) (h.heard other))
     ];
   }
 
@@ -128,31 +128,31 @@ pub heard_result : (lines : List (List ℕ)) (parts : List Part) (sessions : Lis
 heard_result lines parts sessions line h r = record {
   whole = whole_last lines line parts (Result line) h.whole refl;
   right = each_last IsRightPart parts (Result line) h.right r;
-  heard = λ session. subst (λ (ss : List Said). HearsAll unheard ss (hearing_of session sessions)) (sym (said_behind_result session line parts)) (h.heard session);
+  heard = λ session. subst (λ (ss : List Said). TakesAllSaid nothing_known ss (hearing_of session sessions)) (sym (said_behind_result session line parts)) (h.heard session);
 }
 
-pub said_of_dump : (session text : List ℕ) (parts : List Part) (sessions : List Session) → HearsAll unheard (said_in session parts) (hearing_of session sessions) → HearsAll unheard (said_in session (parts ++ Dumped text ∷ [])) (hearing_of session sessions)
-said_of_dump session text parts sessions h = subst (λ (ss : List Said). HearsAll unheard ss (hearing_of session sessions)) (sym (said_behind_dump session text parts)) h
+pub said_of_dump : (session text : List ℕ) (parts : List Part) (sessions : List Session) → TakesAllSaid nothing_known (said_in session parts) (hearing_of session sessions) → TakesAllSaid nothing_known (said_in session (parts ++ Dumped text ∷ [])) (hearing_of session sessions)
+said_of_dump session text parts sessions h = subst (λ (ss : List Said). TakesAllSaid nothing_known ss (hearing_of session sessions)) (sym (said_behind_dump session text parts)) h
 
 -- ---- what isn't heard
 
-module _ (one_command : (this that : Tagged) (frame : List ℕ) → IsSpelled this frame → IsSpelled that frame → this ≡ that) (one_answer : (one other : Answer) (rest more : List ℕ) → IsPrintable one → IsPrintable other → printed one ++ rest ≡ printed other ++ more → (one ≡ other) × (rest ≡ more)) where
-  rejected_at : (old new : Hearing) (said : List Said) (s : Said) (events : List SlotEvent) → HearsAll old said new → Rejects new s → AreEvents old.running (said ++ s ∷ []) events → PassesFrom old.known.there old.known.slots events → ⊥
+module _ (one_command : (this that : Tagged) (frame : List ℕ) → IsSpelled this frame → IsSpelled that frame → this ≡ that) (one_answer : (one other : Answer) (rest more : List ℕ) → IsPrintable one → IsPrintable other → text_of_answer one ++ rest ≡ text_of_answer other ++ more → (one ≡ other) × (rest ≡ more)) where
+  rejected_at : (old new : SessionKnowledge) (said : List Said) (s : Said) (events : List SlotEvent) → TakesAllSaid old said new → RejectsSaid new s → AreEvents old.running (said ++ s ∷ []) events → PassesFrom old.known.there old.known.slots events → ⊥
   rejected_at old new [] s events a r e p =
       let q = (passes_one old.known e.1 e.2).0 (subst (λ (es : List SlotEvent). PassesFrom old.known.there old.known.slots es) e.4 p) in
-      (subst (λ (h : Hearing). Rejects h s) a r) e.0 e.1 e.3 q.0
+      (subst (λ (h : SessionKnowledge). RejectsSaid h s) a r) e.0 e.1 e.3 q.0
   rejected_at old new (x ∷ said) s events a r e p =
       let h = a.1 in
       let q = (passes_one old.known e.1 e.2).0 (subst (λ (es : List SlotEvent). PassesFrom old.known.there old.known.slots es) e.4 p) in
       let o = one_heard one_command one_answer old.running x.speaker x.octets a.0.running e.0 h.0 e.1 h.1 e.3 in
-      let k : next old.known e.1 ≡ a.0.known = ap (next old.known) (sym o.1) ∙ sym h.3 in
-      rejected_at a.0 new said s e.2 a.2 r (subst (λ (running : List Running). AreEvents running (said ++ s ∷ []) e.2) (sym o.0) e.5) (subst (λ (known : Known). PassesFrom known.there known.slots e.2) k q.1)
+      let k : after_event old.known e.1 ≡ a.0.known = ap (after_event old.known) (sym o.1) ∙ sym h.3 in
+      rejected_at a.0 new said s e.2 a.2 r (subst (λ (running : List RunningCommand). AreEvents running (said ++ s ∷ []) e.2) (sym o.0) e.5) (subst (λ (known : SlotKnowledge). PassesFrom known.there known.slots e.2) k q.1)
 
-  rejected : (said : List Said) (new : Hearing) (s : Said) → HearsAll unheard said new → Rejects new s → ¬ IsExplainedTranscript (said ++ s ∷ [])
-  rejected said new s a r x = rejected_at unheard new said s x.0 a r x.1 ((explained x.0).0 x.2)
+  rejected : (said : List Said) (new : SessionKnowledge) (s : Said) → TakesAllSaid nothing_known said new → RejectsSaid new s → ¬ IsExplainedTranscript (said ++ s ∷ [])
+  rejected said new s a r x = rejected_at nothing_known new said s x.0 a r x.1 ((explained x.0).0 x.2)
 
   -- one more was said that may not follow
-  pub heard_not : (same : (xs : List ℕ) → bytes_eq xs xs ≡ true) (lines more : List (List ℕ)) (parts : List Part) (old : List Session) (session : List ℕ) (speaker : Speaker) (text : List ℕ) (number : ℕ) → AreHeard lines parts old → IsTrue (is_session_name session) → AreOctets text → Rejects (hearing_of session old) (said_by speaker text) → number ≡ length lines + 1 → IsNo (lines ++ spoken_line session speaker text ∷ more) number
+  pub heard_not : (same : (xs : List ℕ) → bytes_eq xs xs ≡ true) (lines more : List (List ℕ)) (parts : List Part) (old : List Session) (session : List ℕ) (speaker : Speaker) (text : List ℕ) (number : ℕ) → AreHeard lines parts old → IsTrue (is_session_name session) → AreOctets text → RejectsSaid (hearing_of session old) (said_by speaker text) → number ≡ length lines + 1 → IsNo (lines ++ spoken_line session speaker text ∷ more) number
   heard_not same lines more parts old session speaker text number h named octets r n = inl (record {
     front = lines;
     back = more;

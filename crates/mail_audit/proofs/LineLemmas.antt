@@ -1,10 +1,10 @@
 use Rattle.std.proofs.Common.{◌≡◌, ℕ, List, ◌∷◌, ◌++◌, Option, Some, None, IsTrue, MatchOption, drop, get_or, codes, refl, sym, ap, ◌∙◌, subst, arith}
 use Rattle.std.specs.Fmt.{decimal}
-use Rattle.imap_types.specs.Escape.{AreOctets, escaped}
+use Rattle.imap_types.specs.Escape.{AreOctets, escape_text}
 use Rattle.imap_types.specs.declared.escape.Escape.TheVariants.{Text}
 use Rattle.text_fields.proofs.FieldLemmas.{cut_again, cut_takes, replica_again, replica_takes}
 use Rattle.text_fields.specs.Fields.{IsReplica}
-use Rattle.text_fields.specs.Reading.{cut_at, replica_at}
+use Rattle.text_fields.specs.FieldReading.{cut_at, replica_at}
 use Rattle.mail_script.proofs.FieldLemmas.{session_no_space}
 use Rattle.mail_script.specs.Fields.{is_session_name}
 use Rattle.mail_script.specs.Transcript.{mark_of}
@@ -24,13 +24,13 @@ dump_of line digits (Some replica) l e = let t = replica_takes digits replica (s
 
 -- ---- a line of a transcript
 
-pub spoken_of : (line name said heard session octets : List ℕ) (speaker : Speaker) → Some (name, said) ≡ cut_at 32 line → session ≡ name → 32 ∷ said ≡ mark_of speaker ++ heard → heard ≡ escaped Text octets → line ≡ spoken_line session speaker octets
+pub spoken_of : (line name said heard session octets : List ℕ) (speaker : Speaker) → Some (name, said) ≡ cut_at 32 line → session ≡ name → 32 ∷ said ≡ mark_of speaker ++ heard → heard ≡ escape_text Text octets → line ≡ spoken_line session speaker octets
 spoken_of line name said heard session octets speaker c n m e = cut_takes 32 line (name, said) (sym c) ∙ (λ i. sym n i ++ (m ∙ ap (λ (t : List ℕ). mark_of speaker ++ t) e) i)
 
 -- it is cut behind its session's name
-cut_spoken : (session : List ℕ) (speaker : Speaker) (text : List ℕ) → IsTrue (is_session_name session) → (said : List ℕ) × (cut_at 32 (spoken_line session speaker text) ≡ Some (session, said)) × (32 ∷ said ≡ mark_of speaker ++ escaped Text text)
-cut_spoken session Client text n = let said = codes "C: " ++ escaped Text text in (said, cut_again 32 session said (session_no_space session n), refl)
-cut_spoken session Server text n = let said = codes "S: " ++ escaped Text text in (said, cut_again 32 session said (session_no_space session n), refl)
+cut_spoken : (session : List ℕ) (speaker : Speaker) (text : List ℕ) → IsTrue (is_session_name session) → (said : List ℕ) × (cut_at 32 (spoken_line session speaker text) ≡ Some (session, said)) × (32 ∷ said ≡ mark_of speaker ++ escape_text Text text)
+cut_spoken session Client text n = let said = codes "C: " ++ escape_text Text text in (said, cut_again 32 session said (session_no_space session n), refl)
+cut_spoken session Server text n = let said = codes "S: " ++ escape_text Text text in (said, cut_again 32 session said (session_no_space session n), refl)
 
 pub not_cut : (line : List ℕ) → None ≡ cut_at 32 line → IsSpokenLine line → ⊥
 not_cut line e s =
@@ -46,7 +46,7 @@ same_text Server Client xs ys e = absurd (let k : 83 ≡ 67 = ap (λ (zs : List 
 same_text Server Server xs ys e = ap (λ (zs : List ℕ). drop 4 zs) e
 
 module _ (line name said : List ℕ) (cut : Some (name, said) ≡ cut_at 32 line) where
-  parts_of : (s : IsSpokenLine line) → (name ≡ s.0) × (32 ∷ said ≡ mark_of s.1 ++ escaped Text s.2)
+  parts_of : (s : IsSpokenLine line) → (name ≡ s.0) × (32 ∷ said ≡ mark_of s.1 ++ escape_text Text s.2)
   parts_of s =
       let c = cut_spoken s.0 s.1 s.2 s.3 in
       let k : ◌≡◌ {A = Option (List ℕ × List ℕ)} (Some (name, said)) (Some (s.0, c.0)) = cut ∙ ap (cut_at 32) s.5 ∙ c.1 in
@@ -55,11 +55,11 @@ module _ (line name said : List ℕ) (cut : Some (name, said) ≡ cut_at 32 line
 
   -- no speaker is marked
   pub no_speech : ((speaker : Speaker) (text : List ℕ) → 32 ∷ said ≡ mark_of speaker ++ text → ⊥) → IsSpokenLine line → ⊥
-  no_speech n s = n s.1 (escaped Text s.2) (parts_of s).1
+  no_speech n s = n s.1 (escape_text Text s.2) (parts_of s).1
 
   -- the text isn't in the escape
-  pub no_text : (speaker : Speaker) (heard : List ℕ) → 32 ∷ said ≡ mark_of speaker ++ heard → ((octets : List ℕ) → AreOctets octets → heard ≡ escaped Text octets → ⊥) → IsSpokenLine line → ⊥
-  no_text speaker heard m n s = n s.2 s.4 (same_text speaker s.1 heard (escaped Text s.2) (sym m ∙ (parts_of s).1))
+  pub no_text : (speaker : Speaker) (heard : List ℕ) → 32 ∷ said ≡ mark_of speaker ++ heard → ((octets : List ℕ) → AreOctets octets → heard ≡ escape_text Text octets → ⊥) → IsSpokenLine line → ⊥
+  no_text speaker heard m n s = n s.2 s.4 (same_text speaker s.1 heard (escape_text Text s.2) (sym m ∙ (parts_of s).1))
 
   -- no session bears the name
   pub no_name : (IsTrue (is_session_name name) → ⊥) → IsSpokenLine line → ⊥

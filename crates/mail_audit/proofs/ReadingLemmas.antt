@@ -3,18 +3,18 @@ use Rattle.std.specs.Fmt.{decimal}
 use Rattle.mail_script.proofs.FieldLemmas.{cut_none}
 use Rattle.mail_script.specs.Fields.{IsId, IsReplica, id_text}
 use Rattle.mail_script.specs.Outcomes.{join_text, outcome_text, result_text, settled_text}
-use Rattle.mail_script.specs.declared.outcome.BrokenRule.TheVariants.{OwnEntry, UncoveredId, UnlawfulName, UnlawfulFlags, InboxDeleted, OldIdCount}
-use Rattle.mail_script.specs.declared.outcome.DeliveryResult.{DeliveryResult}
-use Rattle.mail_script.specs.declared.outcome.DeliveryResult.TheVariants.{Applied, Held, Repeat, Conflict, HeldFull, Exhausted, NoMemory as NoMemoryForIt}
-use Rattle.mail_script.specs.declared.outcome.JoinResult.{JoinResult}
-use Rattle.mail_script.specs.declared.outcome.JoinResult.TheVariants.{Done as DoneJoining, Own, Exhausted as ExhaustedByJoin, NoMemory as NoMemoryToJoin}
-use Rattle.mail_script.specs.declared.outcome.OutcomeLine.{OutcomeLine}
-use Rattle.mail_script.specs.declared.outcome.OutcomeLine.TheVariants.{Delivered, Forged, Unsound, Drained, Settled, Agreed, Joined, BadScript, CannotRead, NoMemory}
-use Rattle.mail_script.specs.declared.outcome.SettleResult.{SettleResult}
-use Rattle.mail_script.specs.declared.outcome.SettleResult.TheVariants.{Done, Conflict as ConflictOfTwo, Exhausted as ExhaustedInIt, NoMemory as NoMemoryToSettle}
+use Rattle.mail_script.specs.declared.outcome_line.BrokenRule.TheVariants.{OwnEntry, UncoveredId, UnlawfulName, UnlawfulFlags, InboxDeleted, OldIdCount}
+use Rattle.mail_script.specs.declared.outcome_line.DeliveryResult.{DeliveryResult}
+use Rattle.mail_script.specs.declared.outcome_line.DeliveryResult.TheVariants.{Applied, Held, Repeat, Conflict, HeldFull, Exhausted, NoMemory as NoMemoryForIt}
+use Rattle.mail_script.specs.declared.outcome_line.JoinResult.{JoinResult}
+use Rattle.mail_script.specs.declared.outcome_line.JoinResult.TheVariants.{Done as DoneJoining, Own, Exhausted as ExhaustedByJoin, NoMemory as NoMemoryToJoin}
+use Rattle.mail_script.specs.declared.outcome_line.OutcomeLine.{OutcomeLine}
+use Rattle.mail_script.specs.declared.outcome_line.OutcomeLine.TheVariants.{Delivered, Forged, Unsound, Drained, Settled, Agreed, Joined, BadScript, CannotRead, NoMemory}
+use Rattle.mail_script.specs.declared.outcome_line.SettleResult.{SettleResult}
+use Rattle.mail_script.specs.declared.outcome_line.SettleResult.TheVariants.{Done, Conflict as ConflictOfTwo, Exhausted as ExhaustedInIt, NoMemory as NoMemoryToSettle}
 use Rattle.tags_clocks.specs.declared.id.OpId.{OpId}
 use Rattle.text_fields.proofs.FieldLemmas.{bound, cut_again, decimal_lacks, id_again, id_lacks, number_again, replica_again}
-use Rattle.text_fields.specs.Reading.{◌>>=◌, cut_at, id_at, number_at, replica_at}
+use Rattle.text_fields.specs.FieldReading.{◌>>=◌, cut_at, id_at, number_at, replica_at}
 use Rattle.mail_audit.specs.ResultReading.{agreed_at, applied_at, counted_at, counted_by, delivered_at, drained_at, fields_at, forged_at, join_result_at, join_result_by, joined_at, joined_plainly_at, outcome_at, plain_at, replicas_at, result_at, result_by, settle_result_at, settle_result_by, settled_at, settled_plainly_at, unsound_at, valued_at}
 use Rattle.mail_audit.specs.Results.{IsCount, IsDeliveryResult, IsJoinResult, IsPassedOver, IsResult, IsSettleResult}
 use Rattle.mail_audit.specs.declared.results.AppliedCount.{AppliedCount}

@@ -4,7 +4,7 @@ use Rattle.std.specs.Prelude.{IfSome}
 use Rattle.tags_clocks.specs.declared.id.OpId.{OpId}
 use Rattle.text_fields.proofs.FieldLemmas.{id_takes, replica_takes}
 use Rattle.text_fields.specs.Fields.{IsId, IsReplica}
-use Rattle.text_fields.specs.Reading.{id_at, replica_at}
+use Rattle.text_fields.specs.FieldReading.{id_at, replica_at}
 
 pub id_in_range : (text : List ℕ) (found : Option OpId) → found ≡ id_at text → IfSome found IsId
 id_in_range text None e = tt

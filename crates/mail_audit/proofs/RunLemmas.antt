@@ -1,30 +1,30 @@
 use Rattle.std.proofs.Common.{◌≡◌, ℕ, zero, suc, ◌+◌, ◌-◌, ◌<◌, ◌≤◌, List, [], ◌∷◌, ◌++◌, length, get_or, take, drop, refl, ap, ◌∙◌, arith, append_assoc}
 use Rattle.std.proofs.Math.Seq.{drop-append-add, take-append-add}
 use Rattle.mail_audit.specs.Explained.{without}
-use Rattle.mail_audit.specs.Passing.{upward}
+use Rattle.mail_audit.specs.Passing.{numbers_upward}
 
-pub length_upward : (from m : ℕ) → length (upward from m) ≡ m
+pub length_upward : (from m : ℕ) → length (numbers_upward from m) ≡ m
 length_upward from zero = refl
 length_upward from (suc m) = ap suc (length_upward (suc from) m)
 
 -- parts of a run
-pub take_upward : (from n m : ℕ) (ys : List ℕ) → n ≤ m → take n (upward from m ++ ys) ≡ upward from n
+pub take_upward : (from n m : ℕ) (ys : List ℕ) → n ≤ m → take n (numbers_upward from m ++ ys) ≡ numbers_upward from n
 take_upward from zero m ys l = refl
 take_upward from (suc n) zero ys l = absurd (omega (arith, l))
 take_upward from (suc n) (suc m) ys l = ap (λ zs. from ∷ zs) (take_upward (suc from) n m ys (omega (arith, l)))
 
-pub drop_upward : (from n m : ℕ) (ys : List ℕ) → n ≤ m → drop n (upward from m ++ ys) ≡ upward (from + n) (m - n) ++ ys
+pub drop_upward : (from n m : ℕ) (ys : List ℕ) → n ≤ m → drop n (numbers_upward from m ++ ys) ≡ numbers_upward (from + n) (m - n) ++ ys
 drop_upward from zero m ys l =
     let e : from ≡ from + zero = omega arith in
     let f : m ≡ m - zero = omega arith in
-    λ i. upward (e i) (f i) ++ ys
+    λ i. numbers_upward (e i) (f i) ++ ys
 drop_upward from (suc n) zero ys l = absurd (omega (arith, l))
 drop_upward from (suc n) (suc m) ys l =
     let e : suc from + n ≡ from + suc n = omega arith in
     let f : m - n ≡ suc m - suc n = omega arith in
-    drop_upward (suc from) n m ys (omega (arith, l)) ∙ (λ i. upward (e i) (f i) ++ ys)
+    drop_upward (suc from) n m ys (omega (arith, l)) ∙ (λ i. numbers_upward (e i) (f i) ++ ys)
 
-pub get_upward : (from n m : ℕ) (ys : List ℕ) → n < m → get_or (upward from m ++ ys) n 0 ≡ from + n
+pub get_upward : (from n m : ℕ) (ys : List ℕ) → n < m → get_or (numbers_upward from m ++ ys) n 0 ≡ from + n
 get_upward from n zero ys l = absurd (omega (arith, l))
 get_upward from zero (suc m) ys l = let e : from ≡ from + zero = omega arith in e
 get_upward from (suc n) (suc m) ys l = get_upward (suc from) n m ys (omega (arith, l)) ∙ (let e : suc from + n ≡ from + suc n = omega arith in e)
@@ -44,7 +44,7 @@ without_behind k xs ys l =
     let two = ap (λ (i : ℕ). drop i (xs ++ ys)) f ∙ drop-append-add xs ys n in
     (λ i. one i ++ two i) ∙ append_assoc xs (take (n - 1) ys) (drop n ys)
 
-pub without_upward : (k from m : ℕ) (ys : List ℕ) → 0 < k → k ≤ m → without k (upward from m ++ ys) ≡ upward from (k - 1) ++ (upward (from + k) (m - k) ++ ys)
+pub without_upward : (k from m : ℕ) (ys : List ℕ) → 0 < k → k ≤ m → without k (numbers_upward from m ++ ys) ≡ numbers_upward from (k - 1) ++ (numbers_upward (from + k) (m - k) ++ ys)
 without_upward k from m ys p l =
     let one = take_upward from (k - 1) m ys (omega (arith, p, l)) in
     let two = drop_upward from k m ys l in

@@ -11,13 +11,13 @@ use Rattle.std.specs.declared.collections.VecDeque.{VecDeque}
 use Rattle.std.proofs.lemmas.Bool.{cases_Bool}
 use Rattle.std.proofs.lemmas.Bool.Decides.{nat_tests}
 use Rattle.mail_audit.specs.Counts.{how_many}
-use Rattle.mail_audit.specs.Numbered.{AreRising, kept_for, numbers_of}
-use Rattle.mail_audit.specs.Transcripts.{ended}
-use Rattle.mail_audit.specs.declared.running.Running.{Running}
+use Rattle.mail_audit.specs.NumberedCommands.{AreRising, kept_for, numbers_of}
+use Rattle.mail_audit.specs.Transcripts.{without_ended}
+use Rattle.mail_audit.specs.declared.in_progress.RunningCommand.{RunningCommand}
 use Rattle.mail_audit.proofs.SessionLemmas.{same_name}
 
 -- some are so exactly where their number isn't 0
-pub any_counted : (p : Running → Bool) (rs : List Running) → ltb 0 (how_many p rs) ≡ list_any p rs
+pub any_counted : (p : RunningCommand → Bool) (rs : List RunningCommand) → ltb 0 (how_many p rs) ≡ list_any p rs
 any_counted p [] = refl
 any_counted p (r ∷ rs) =
     elim (cases_Bool (p r)) [
@@ -25,7 +25,7 @@ any_counted p (r ∷ rs) =
       | inr f ↦ rw f (any_counted p rs)
     ]
 
-pub counted_most : (p : Running → Bool) (rs : List Running) → how_many p rs ≤ length rs
+pub counted_most : (p : RunningCommand → Bool) (rs : List RunningCommand) → how_many p rs ≤ length rs
 counted_most p [] = omega arith
 counted_most p (r ∷ rs) =
     let m = counted_most p rs in
@@ -34,7 +34,7 @@ counted_most p (r ∷ rs) =
       | inr f ↦ rw f (omega (arith, m))
     ]
 
-pub counted_more : (p : Running → Bool) (rs : List Running) (r : Running) → how_many p (rs ++ r ∷ []) ≡ how_many p rs + (if p r then 1 else 0)
+pub counted_more : (p : RunningCommand → Bool) (rs : List RunningCommand) (r : RunningCommand) → how_many p (rs ++ r ∷ []) ≡ how_many p rs + (if p r then 1 else 0)
 counted_more p [] r =
     elim (cases_Bool (p r)) [
       | inl t ↦ rw t refl
@@ -50,7 +50,7 @@ counted_more p (x ∷ rs) r =
 -- ---- commands by their numbers
 
 abbrev Begun : Type 0
-Begun = ℕ × Running
+Begun = ℕ × RunningCommand
 
 pub rising_bounds : (low high : ℕ) (es : List Begun) → AreRising low high es → low ≤ high
 rising_bounds low high [] a = a
@@ -66,22 +66,22 @@ rising_length low high [] a = omega (arith, a)
 rising_length low high (e ∷ es) a = let m = rising_length (1 + e.0) high es a.1 in omega (arith, a.0, m)
 
 -- a command with the next number is put behind the others
-pub put_last : (low high : ℕ) (es : List Begun) (r : Running) → AreRising low high es → insert_entry nat_cmp es high r ≡ es ++ (high, r) ∷ []
+pub put_last : (low high : ℕ) (es : List Begun) (r : RunningCommand) → AreRising low high es → insert_entry nat_cmp es high r ≡ es ++ (high, r) ∷ []
 put_last low high [] r a = refl
 put_last low high (e ∷ es) r a =
     let m = rising_bounds (1 + e.0) high es a.1 in
     let g : nat_cmp high e.0 ≡ Greater = grind (arith, nat_tests, m) in
     rw g (ap (λ (xs : List Begun). e ∷ xs) (put_last (1 + e.0) high es r a.1))
 
-pub rising_more : (low high : ℕ) (es : List Begun) (r : Running) → AreRising low high es → AreRising low (high + 1) (es ++ (high, r) ∷ [])
+pub rising_more : (low high : ℕ) (es : List Begun) (r : RunningCommand) → AreRising low high es → AreRising low (high + 1) (es ++ (high, r) ∷ [])
 rising_more low high [] r a = (a, omega arith)
 rising_more low high (e ∷ es) r a = (a.0, rising_more (1 + e.0) high es r a.1)
 
-pub values_more : (es : List Begun) (n : ℕ) (r : Running) → values_of (es ++ (n, r) ∷ []) ≡ values_of es ++ r ∷ []
+pub values_more : (es : List Begun) (n : ℕ) (r : RunningCommand) → values_of (es ++ (n, r) ∷ []) ≡ values_of es ++ r ∷ []
 values_more [] n r = refl
-values_more (e ∷ es) n r = ap (λ (rs : List Running). e.1 ∷ rs) (values_more es n r)
+values_more (e ∷ es) n r = ap (λ (rs : List RunningCommand). e.1 ∷ rs) (values_more es n r)
 
-pub numbers_more : (tag : List ℕ) (es : List Begun) (n : ℕ) (r : Running) → numbers_of tag (es ++ (n, r) ∷ []) ≡ numbers_of tag es ++ (if bytes_eq tag r.tag then n ∷ [] else [])
+pub numbers_more : (tag : List ℕ) (es : List Begun) (n : ℕ) (r : RunningCommand) → numbers_of tag (es ++ (n, r) ∷ []) ≡ numbers_of tag es ++ (if bytes_eq tag r.tag then n ∷ [] else [])
 numbers_more tag [] n r =
     elim (cases_Bool (bytes_eq tag r.tag)) [
       | inl t ↦ rw t refl
@@ -95,7 +95,7 @@ numbers_more tag (e ∷ es) n r =
     ]
 
 -- and is taken back from there
-pub taken_back : (low high : ℕ) (es : List Begun) (r : Running) → AreRising low high es → remove_entry (is_at (nat_cmp high)) (es ++ (high, r) ∷ []) ≡ es
+pub taken_back : (low high : ℕ) (es : List Begun) (r : RunningCommand) → AreRising low high es → remove_entry (is_at (nat_cmp high)) (es ++ (high, r) ∷ []) ≡ es
 taken_back low high [] r a =
     let t : is_at (nat_cmp high) high ≡ true = grind (arith, nat_tests) in
     rw t refl
@@ -122,7 +122,7 @@ other_number x n l = grind (arith, nat_tests, l)
 
 -- it is the one that ends
 pub first_ended : (low high : ℕ) (tag : List ℕ) (es : List Begun) (n : ℕ) (ns : List ℕ) → AreRising low high es → numbers_of tag es ≡ n ∷ ns
-    → ended tag (values_of es) ≡ values_of (remove_entry (is_at (nat_cmp n)) es)
+    → without_ended tag (values_of es) ≡ values_of (remove_entry (is_at (nat_cmp n)) es)
 first_ended low high tag [] n ns a e = absurd (cc e)
 first_ended low high tag (x ∷ es) n ns a e =
     elim (cases_Bool (bytes_eq tag x.1.tag)) [
@@ -130,7 +130,7 @@ first_ended low high tag (x ∷ es) n ns a e =
       | inr f ↦
           let k = rw f at e in
           let o = other_number x.0 n (first_bounds (1 + x.0) high tag es n ns a.1 k) in
-          rw (f, o) (ap (λ (rs : List Running). x.1 ∷ rs) (first_ended (1 + x.0) high tag es n ns a.1 k))
+          rw (f, o) (ap (λ (rs : List RunningCommand). x.1 ∷ rs) (first_ended (1 + x.0) high tag es n ns a.1 k))
     ]
 
 pub first_numbers : (low high : ℕ) (tag : List ℕ) (es : List Begun) (n : ℕ) (ns : List ℕ) → AreRising low high es → numbers_of tag es ≡ n ∷ ns
@@ -179,12 +179,12 @@ first_there tag (x ∷ es) n ns e =
     ]
 
 -- where there is none, none ends
-pub none_ended : (tag : List ℕ) (es : List Begun) → numbers_of tag es ≡ [] → ended tag (values_of es) ≡ values_of es
+pub none_ended : (tag : List ℕ) (es : List Begun) → numbers_of tag es ≡ [] → without_ended tag (values_of es) ≡ values_of es
 none_ended tag [] e = refl
 none_ended tag (x ∷ es) e =
     elim (cases_Bool (bytes_eq tag x.1.tag)) [
       | inl t ↦ let k = rw t at e in absurd (cc k)
-      | inr f ↦ let k = rw f at e in rw f (ap (λ (rs : List Running). x.1 ∷ rs) (none_ended tag es k))
+      | inr f ↦ let k = rw f at e in rw f (ap (λ (rs : List RunningCommand). x.1 ∷ rs) (none_ended tag es k))
     ]
 
 -- without one of them
@@ -196,7 +196,7 @@ rising_less low high test (e ∷ es) a =
       | inr f ↦ rw f (a.0, rising_less (1 + e.0) high test es a.1)
     ]
 
-pub counted_less : (p : Running → Bool) (test : ℕ → Bool) (es : List Begun) (r : Running) → Some r ≡ lookup test es
+pub counted_less : (p : RunningCommand → Bool) (test : ℕ → Bool) (es : List Begun) (r : RunningCommand) → Some r ≡ lookup test es
     → how_many p (values_of (remove_entry test es)) + (if p r then 1 else 0) ≡ how_many p (values_of es)
 counted_less p test [] r e = absurd (cc e)
 counted_less p test (x ∷ es) r e =

@@ -9,7 +9,7 @@ use Rattle.std.proofs.lemmas.Bool.{cases_Bool}
 use Rattle.std.proofs.lemmas.List.{length-map}
 use Rattle.std.proofs.lemmas.Bool.Decides.{nat_tests}
 use Rattle.std.proofs.lemmas.Slice.Eq.{bytes_eq-Decides}
-use Rattle.mail_audit.specs.Hearings.{Hearing, unheard}
+use Rattle.mail_audit.specs.HeardSessions.{SessionKnowledge, nothing_known}
 use Rattle.mail_audit.specs.Sessions.{Session, hearing_of, place_or_end, sessions_of}
 
 pub same_name : (xs ys : List ℕ) → bytes_eq xs ys ≡ true → xs ≡ ys
@@ -21,7 +21,7 @@ own_name xs ys e = (bytes_eq-Decides xs ys).1 e
 -- ---- sessions that are kept by their names
 
 abbrev Kept : Type 0
-Kept = Vec ℕ × Hearing
+Kept = Vec ℕ × SessionKnowledge
 
 pub length_sessions : (kept : List Kept) → length (sessions_of kept) ≡ length kept
 length_sessions [] = refl
@@ -68,7 +68,7 @@ missing name kept e =
     omega (arith, none, keys, among)
 
 -- a name that has no place is put behind the others
-pub kept_new : (name : Vec ℕ) (kept : List Kept) (h : Hearing) → length kept ≤ place_or_end name.items (sessions_of kept)
+pub kept_new : (name : Vec ℕ) (kept : List Kept) (h : SessionKnowledge) → length kept ≤ place_or_end name.items (sessions_of kept)
     → sessions_of (insert_entry (λ (a b : Vec ℕ). bytes_eq a.items b.items) kept name h) ≡ sessions_of kept ++ (record { name = name.items; transcript = h }) ∷ []
 kept_new name [] h l = refl
 kept_new name (k ∷ kept) h l =
@@ -78,13 +78,13 @@ kept_new name (k ∷ kept) h l =
     ]
 
 -- another transcript at a place
-pub kept_set : (kept : List Kept) (i : ℕ) (d : Session) (h : Hearing) → i < length kept
+pub kept_set : (kept : List Kept) (i : ℕ) (d : Session) (h : SessionKnowledge) → i < length kept
     → sessions_of (set_value_at kept i h) ≡ set (sessions_of kept) i (record { name = (get_or (sessions_of kept) i d).name; transcript = h })
 kept_set [] i d h l = absurd (omega (arith, l))
 kept_set (k ∷ kept) zero d h l = refl
 kept_set (k ∷ kept) (suc i) d h l = ap (λ (ss : List Session). (record { name = k.0.items; transcript = k.1 }) ∷ ss) (kept_set kept i d h (omega (arith, l)))
 
-pub kept_at : (kept : List Kept) (i : ℕ) (d : Session) (h : Hearing) → Some h ≡ slice_get (values_of kept) i → (i < length kept) × (h ≡ (get_or (sessions_of kept) i d).transcript)
+pub kept_at : (kept : List Kept) (i : ℕ) (d : Session) (h : SessionKnowledge) → Some h ≡ slice_get (values_of kept) i → (i < length kept) × (h ≡ (get_or (sessions_of kept) i d).transcript)
 kept_at [] i d h e = absurd (cc e)
 kept_at (k ∷ kept) zero d h e = (omega arith, cc)
 kept_at (k ∷ kept) (suc i) d h e = let r = kept_at kept i d h e in (omega (arith, r.0), r.1)
@@ -121,7 +121,7 @@ placed_last name ss new s place i q p l =
     (omega (arith, p, e, n, k, one), p ∙ e ∙ placed_new name ss s q e ∙ ap (place_or_end name) (sym i))
 
 -- and is the first of its name there
-pub placed_kept : (name : Vec ℕ) (kept new : List Kept) (h : Hearing) (place : ℕ) → length kept ≤ place_or_end name.items (sessions_of kept)
+pub placed_kept : (name : Vec ℕ) (kept new : List Kept) (h : SessionKnowledge) (place : ℕ) → length kept ≤ place_or_end name.items (sessions_of kept)
     → new ≡ insert_entry (λ (a b : Vec ℕ). bytes_eq a.items b.items) kept name h → place ≡ position_or_len (λ (k : Vec ℕ). bytes_eq name.items k.items) (keys_of kept)
     → (place < length (sessions_of new)) × (place ≡ place_or_end name.items (sessions_of new))
 placed_kept name kept new h place none is at =
@@ -130,7 +130,7 @@ placed_kept name kept new h place none is at =
     let among = place_among name.items kept in
     placed_last name.items (sessions_of kept) (sessions_of new) (record { name = name.items; transcript = h }) place e refl (at ∙ among) (omega (arith, none, at, among, many))
 
-pub heard_new : (other : List ℕ) (ss : List Session) (s : Session) → s.transcript ≡ unheard → hearing_of other (ss ++ s ∷ []) ≡ hearing_of other ss
+pub heard_new : (other : List ℕ) (ss : List Session) (s : Session) → s.transcript ≡ nothing_known → hearing_of other (ss ++ s ∷ []) ≡ hearing_of other ss
 heard_new other [] s e =
     elim (cases_Bool (bytes_eq other s.name)) [
       | inl t ↦ rw t e

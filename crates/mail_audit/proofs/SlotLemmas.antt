@@ -3,17 +3,17 @@ use Rattle.std.specs.Prelude.{nat_eq}
 use Rattle.std.specs.List.{insert}
 use Rattle.std.proofs.lemmas.Bool.Decides.{nat_tests}
 use Rattle.mail_audit.specs.Explained.{IsNumberOf, without}
-use Rattle.mail_audit.specs.Gaps.{FitsAt, HasRoomFor, IsTold, IsUntold}
-use Rattle.mail_audit.specs.Kept.{AreKept, places_from, slots_from}
-use Rattle.mail_audit.specs.Passing.{HasRoomAbove, MayBe, upward}
-use Rattle.mail_audit.specs.Steps.{Known, with_more}
-use Rattle.mail_audit.specs.declared.slots.Told.{Told}
+use Rattle.mail_audit.specs.Gaps.{FitsAt, HasRoomFor, IsUidKnown, IsUidUnknown}
+use Rattle.mail_audit.specs.KnownUids.{AreKnownUids, places_from, slots_from}
+use Rattle.mail_audit.specs.Passing.{HasRoomAbove, MayBeUid, numbers_upward}
+use Rattle.mail_audit.specs.SlotSteps.{SlotKnowledge, with_more}
+use Rattle.mail_audit.specs.declared.slots.KnownUid.{KnownUid}
 use Rattle.mail_audit.proofs.GoneLemmas.{AreBefore, gone_more, gone_with, place_behind, place_came, places_more as there_more, places_without}
 use Rattle.mail_audit.proofs.Stepping.{room_in_gaps}
 use Rattle.mail_audit.proofs.ToldLemmas.{gaps_for, gaps_low, gaps_with, length_slots, places_more, places_with, set_told, set_untold, slot_told, slot_untold, slots_more}
 
 -- what is known by what is kept
-abbrev pub known_by : List ℕ → List Told → ℕ → Known
+abbrev pub known_by : List ℕ → List KnownUid → ℕ → SlotKnowledge
 known_by gone tolds came = record { there = places_from 0 gone came; slots = slots_from 0 tolds came }
 
 -- a test's answer, by what it tests
@@ -32,39 +32,39 @@ iff_true q = (λ t. q, λ x. search rules)
 pub iff_false : {Q : Type 0} → (Q → ⊥) → IsTrue false ↔ Q
 iff_false n = (λ t. absurd (search rules), λ q. absurd (n q))
 
-pub few : (gone : List ℕ) (tolds : List Told) (came : ℕ) → AreKept gone tolds came → came ≤ 4294967295
+pub few : (gone : List ℕ) (tolds : List KnownUid) (came : ℕ) → AreKnownUids gone tolds came → came ≤ 4294967295
 few gone tolds came k = let l = gaps_low 0 0 tolds came k.places_ascend k.gaps in omega (arith, l)
 
-pub slots_count : (gone : List ℕ) (tolds : List Told) (came : ℕ) → AreKept gone tolds came → length (slots_from 0 tolds came) ≡ came
+pub slots_count : (gone : List ℕ) (tolds : List KnownUid) (came : ℕ) → AreKnownUids gone tolds came → length (slots_from 0 tolds came) ≡ came
 slots_count gone tolds came k = let l = length_slots 0 tolds came k.places_ascend in omega (arith, l)
 
 -- ---- more that came
 
-pub add_fits : (gone : List ℕ) (tolds : List Told) (came m : ℕ) → AreKept gone tolds came → HasRoomFor 0 0 tolds (came + m) ↔ HasRoomAbove 0 (with_more (known_by gone tolds came) m).slots
+pub add_fits : (gone : List ℕ) (tolds : List KnownUid) (came m : ℕ) → AreKnownUids gone tolds came → HasRoomFor 0 0 tolds (came + m) ↔ HasRoomAbove 0 (with_more (known_by gone tolds came) m).slots
 add_fits gone tolds came m k =
     let e = slots_more 0 tolds came m k.places_ascend in
     let r = room_in_gaps 0 0 tolds (came + m) (omega arith) in
     let g = gaps_for 0 0 tolds came (came + m) k.gaps in
     (λ h. subst (HasRoomAbove 0) (sym e) (r.1 (g.1 h)), λ h. g.0 (r.0 (subst (HasRoomAbove 0) e h)))
 
-pub add_none : (gone : List ℕ) (tolds : List Told) (came m : ℕ) → AreKept gone tolds came → 4294967296 ≤ came + m → HasRoomAbove 0 (with_more (known_by gone tolds came) m).slots → ⊥
+pub add_none : (gone : List ℕ) (tolds : List KnownUid) (came m : ℕ) → AreKnownUids gone tolds came → 4294967296 ≤ came + m → HasRoomAbove 0 (with_more (known_by gone tolds came) m).slots → ⊥
 add_none gone tolds came m k big h =
     let e = slots_more 0 tolds came m k.places_ascend in
     let r = (room_in_gaps 0 0 tolds (came + m) (omega arith)).0 (subst (HasRoomAbove 0) e h) in
     let l = gaps_low 0 0 tolds (came + m) (places_more 0 tolds came m k.places_ascend) r in
     omega (arith, l, big)
 
-pub add_kept : (gone : List ℕ) (tolds : List Told) (came m : ℕ) → AreKept gone tolds came → HasRoomFor 0 0 tolds (came + m) → AreKept gone tolds (came + m)
+pub add_kept : (gone : List ℕ) (tolds : List KnownUid) (came m : ℕ) → AreKnownUids gone tolds came → HasRoomFor 0 0 tolds (came + m) → AreKnownUids gone tolds (came + m)
 add_kept gone tolds came m k h = record {
   gone_ascend = gone_more 0 gone came m k.gone_ascend;
   places_ascend = places_more 0 tolds came m k.places_ascend;
   gaps = (gaps_for 0 0 tolds came (came + m) k.gaps).1 h;
 }
 
-pub add_next : (gone : List ℕ) (tolds : List Told) (came m : ℕ) → AreKept gone tolds came → known_by gone tolds (came + m) ≡ with_more (known_by gone tolds came) m
+pub add_next : (gone : List ℕ) (tolds : List KnownUid) (came m : ℕ) → AreKnownUids gone tolds came → known_by gone tolds (came + m) ≡ with_more (known_by gone tolds came) m
 add_next gone tolds came m k =
     let n = slots_count gone tolds came k in
-    let t = sym (there_more 0 gone came m k.gone_ascend) ∙ ap (λ (c : ℕ). places_from 0 gone came ++ upward c m) (sym n) in
+    let t = sym (there_more 0 gone came m k.gone_ascend) ∙ ap (λ (c : ℕ). places_from 0 gone came ++ numbers_upward c m) (sym n) in
     let s = sym (slots_more 0 tolds came m k.places_ascend) in
     λ i. record { there = t i; slots = s i }
 
@@ -73,7 +73,7 @@ add_next gone tolds came m k =
 before_of : (k at : ℕ) (gone : List ℕ) → ((i : ℕ) → i < at → get_or gone i 0 ≤ k + i) → ((i : ℕ) → at ≤ i → i < length gone → k + i < get_or gone i 0) → AreBefore 0 k at gone
 before_of k at gone f b = (λ i l. let r = f i l in omega (arith, r), λ i l m. let r = b i l m in omega (arith, r))
 
-module _ (gone : List ℕ) (tolds : List Told) (came n at : ℕ) (k : AreKept gone tolds came) (number : IsNumberOf n (places_from 0 gone came)) (within : at ≤ length gone) (front : (i : ℕ) → i < at → get_or gone i 0 ≤ n - 1 + i) (behind : (i : ℕ) → at ≤ i → i < length gone → n - 1 + i < get_or gone i 0) where
+module _ (gone : List ℕ) (tolds : List KnownUid) (came n at : ℕ) (k : AreKnownUids gone tolds came) (number : IsNumberOf n (places_from 0 gone came)) (within : at ≤ length gone) (front : (i : ℕ) → i < at → get_or gone i 0 ≤ n - 1 + i) (behind : (i : ℕ) → at ≤ i → i < length gone → n - 1 + i < get_or gone i 0) where
   inside : n - 1 < length (places_from 0 gone came)
   inside = omega (arith, number.0, number.1)
 
@@ -86,7 +86,7 @@ module _ (gone : List ℕ) (tolds : List Told) (came n at : ℕ) (k : AreKept go
   pub out_small : n - 1 + at < 4294967296
   out_small = let p = out_came in let f = few gone tolds came k in omega (arith, p, f)
 
-  pub out_kept : AreKept (insert gone at (n - 1 + at)) tolds came
+  pub out_kept : AreKnownUids (insert gone at (n - 1 + at)) tolds came
   out_kept = record {
     gone_ascend = gone_with 0 (n - 1) at (n - 1 + at) gone came (omega arith) k.gone_ascend within (before_of (n - 1) at gone front behind) inside;
     places_ascend = k.places_ascend;
@@ -106,46 +106,46 @@ same_number a b h = grind (arith, nat_tests)
 pub same_test : (a b : ℕ) → IsTrue (nat_eq a b) ↔ (a ≡ b)
 same_test a b = (λ t. search (rules, same_number), λ e. search rules)
 
-module _ (gone : List ℕ) (tolds : List Told) (came at place uid : ℕ) (k : AreKept gone tolds came) where
+module _ (gone : List ℕ) (tolds : List KnownUid) (came at place uid : ℕ) (k : AreKnownUids gone tolds came) where
   from_start : place - 0 ≡ place
   from_start = omega arith
 
   room_now : HasRoomAbove 0 (slots_from 0 tolds came)
   room_now = (room_in_gaps 0 0 tolds came (omega arith)).1 k.gaps
 
-  pub tell_again : (known : ℕ) → IsTold at place known tolds → (known ≡ uid) ↔ (MayBe (get_or (slots_from 0 tolds came) place None) uid × HasRoomAbove 0 (set (slots_from 0 tolds came) place (Some uid)))
+  pub tell_again : (known : ℕ) → IsUidKnown at place known tolds → (known ≡ uid) ↔ (MayBeUid (get_or (slots_from 0 tolds came) place None) uid × HasRoomAbove 0 (set (slots_from 0 tolds came) place (Some uid)))
   tell_again known h =
       let g : get_or (slots_from 0 tolds came) place None ≡ Some known = ap (λ (i : ℕ). get_or (slots_from 0 tolds came) i None) (sym from_start) ∙ slot_told 0 at place known tolds came k.places_ascend (omega arith) h in (
         λ e.
             let s : set (slots_from 0 tolds came) place (Some uid) ≡ slots_from 0 tolds came =
-            ap (λ (i : ℕ). set (slots_from 0 tolds came) i (Some uid)) (sym from_start) ∙ set_told 0 at place uid tolds came k.places_ascend (omega arith) (subst (λ (u : ℕ). IsTold at place u tolds) e h) in
-            (subst (λ (o : Option ℕ). MayBe o uid) (sym g) (sym e), subst (HasRoomAbove 0) (sym s) room_now),
-        λ m. sym (subst (λ (o : Option ℕ). MayBe o uid) g m.0),
+            ap (λ (i : ℕ). set (slots_from 0 tolds came) i (Some uid)) (sym from_start) ∙ set_told 0 at place uid tolds came k.places_ascend (omega arith) (subst (λ (u : ℕ). IsUidKnown at place u tolds) e h) in
+            (subst (λ (o : Option ℕ). MayBeUid o uid) (sym g) (sym e), subst (HasRoomAbove 0) (sym s) room_now),
+        λ m. sym (subst (λ (o : Option ℕ). MayBeUid o uid) g m.0),
       )
 
-  pub tell_again_next : (known : ℕ) → IsTold at place known tolds → known ≡ uid → known_by gone tolds came ≡ record (known_by gone tolds came) { slots = set (slots_from 0 tolds came) place (Some uid) }
+  pub tell_again_next : (known : ℕ) → IsUidKnown at place known tolds → known ≡ uid → known_by gone tolds came ≡ record (known_by gone tolds came) { slots = set (slots_from 0 tolds came) place (Some uid) }
   tell_again_next known h e =
       let s : set (slots_from 0 tolds came) place (Some uid) ≡ slots_from 0 tolds came =
-      ap (λ (i : ℕ). set (slots_from 0 tolds came) i (Some uid)) (sym from_start) ∙ set_told 0 at place uid tolds came k.places_ascend (omega arith) (subst (λ (u : ℕ). IsTold at place u tolds) e h) in
+      ap (λ (i : ℕ). set (slots_from 0 tolds came) i (Some uid)) (sym from_start) ∙ set_told 0 at place uid tolds came k.places_ascend (omega arith) (subst (λ (u : ℕ). IsUidKnown at place u tolds) e h) in
       λ i. record { there = places_from 0 gone came; slots = sym s i }
 
-  module _ (untold : IsUntold at place tolds) (small : uid ≤ 4294967295) (inside : place < came) where
-    abbrev pub now : Told
+  module _ (untold : IsUidUnknown at place tolds) (small : uid ≤ 4294967295) (inside : place < came) where
+    abbrev pub now : KnownUid
     now = record { place = place; uid = uid }
 
     slots_then : set (slots_from 0 tolds came) place (Some uid) ≡ slots_from 0 (insert tolds at now) came
     slots_then = ap (λ (i : ℕ). set (slots_from 0 tolds came) i (Some uid)) (sym from_start) ∙ set_untold 0 at now tolds came k.places_ascend (omega arith) inside untold
 
-    pub tell_first : FitsAt 0 0 at tolds now came ↔ (MayBe (get_or (slots_from 0 tolds came) place None) uid × HasRoomAbove 0 (set (slots_from 0 tolds came) place (Some uid)))
+    pub tell_first : FitsAt 0 0 at tolds now came ↔ (MayBeUid (get_or (slots_from 0 tolds came) place None) uid × HasRoomAbove 0 (set (slots_from 0 tolds came) place (Some uid)))
     tell_first =
         let g : get_or (slots_from 0 tolds came) place None ≡ None = ap (λ (i : ℕ). get_or (slots_from 0 tolds came) i None) (sym from_start) ∙ slot_untold 0 at place tolds came k.places_ascend (omega arith) untold in
         let r = room_in_gaps 0 0 (insert tolds at now) came (omega arith) in
         let w = gaps_with 0 0 at now tolds came small k.gaps untold in (
-          λ f. (subst (λ (o : Option ℕ). MayBe o uid) (sym g) tt, subst (HasRoomAbove 0) (sym slots_then) (r.1 (w.1 f))),
+          λ f. (subst (λ (o : Option ℕ). MayBeUid o uid) (sym g) tt, subst (HasRoomAbove 0) (sym slots_then) (r.1 (w.1 f))),
           λ m. w.0 (r.0 (subst (HasRoomAbove 0) slots_then m.1)),
         )
 
-    pub tell_kept : FitsAt 0 0 at tolds now came → AreKept gone (insert tolds at now) came
+    pub tell_kept : FitsAt 0 0 at tolds now came → AreKnownUids gone (insert tolds at now) came
     tell_kept f = record {
       gone_ascend = k.gone_ascend;
       places_ascend = places_with 0 at now tolds came k.places_ascend (omega arith) inside untold;

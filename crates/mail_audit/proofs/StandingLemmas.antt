@@ -4,7 +4,7 @@ use Rattle.std.specs.Str.{bytes_eq}
 use Rattle.imap_syntax.specs.Commands.{IsSpelled}
 use Rattle.imap_syntax.specs.declared.command.Tagged.{Tagged}
 use Rattle.imap_answers.specs.Printable.{IsPrintable}
-use Rattle.imap_answers.specs.Printed.{printed}
+use Rattle.imap_answers.specs.Printed.{text_of_answer}
 use Rattle.imap_answers.specs.declared.answer.Answer.{Answer}
 use Rattle.crdt_ops.specs.Form.{IsReplica}
 use Rattle.crdt_ops.specs.declared.op.Op.{Op}
@@ -13,11 +13,11 @@ use Rattle.mail_script.specs.declared.transcript.Speaker.{Speaker}
 use Rattle.mail_audit.specs.Audits.{Dumped, IsDumpBegin, IsNoEnd, IsSpokenLine, IsUnreadable, Part, Result, Spoken, said_by, spoken_line, text_of}
 use Rattle.mail_audit.specs.DumpLines.{PhaseStands}
 use Rattle.mail_audit.specs.Dumps.{AreDumped, dump_line, dump_text, inside_text}
-use Rattle.mail_audit.specs.Hearings.{Tells}
+use Rattle.mail_audit.specs.HeardSessions.{DecidesSaid}
 use Rattle.mail_audit.specs.Results.{IsResult}
 use Rattle.mail_audit.specs.Sessions.{hearing_of}
-use Rattle.mail_audit.specs.Standing.{AreHeard, DumpStands, EndsAt, IsOpen}
-use Rattle.mail_audit.specs.declared.dump.OpenDump.{OpenDump}
+use Rattle.mail_audit.specs.AuditProgress.{AreHeard, HasTakenDump, EndsAt, IsOpen}
+use Rattle.mail_audit.specs.declared.open_dump.OpenDump.{OpenDump}
 use Rattle.mail_audit.specs.Sessions.{Session}
 use Rattle.mail_audit.specs.declared.verdict.AuditEnd.TheVariants.{No, Unreadable}
 use Rattle.mail_audit.proofs.DumpLemmas.{open_first, open_last, open_more, open_wrong}
@@ -76,10 +76,10 @@ module _ (lines : List (List ℕ)) (sessions : List Session) (old : OpenDump) (b
       let f = begun.count in
       omega (arith, n, m, f, count)
 
-  pub goes_on : (new : OpenDump) → new.first ≡ old.first → new.replica ≡ old.replica → IsNoEnd line → PhaseStands (begun.inside ++ line ∷ []) new.phase → DumpStands (lines ++ line ∷ []) sessions (Some new)
+  pub goes_on : (new : OpenDump) → new.first ≡ old.first → new.replica ≡ old.replica → IsNoEnd line → PhaseStands (begun.inside ++ line ∷ []) new.phase → HasTakenDump (lines ++ line ∷ []) sessions (Some new)
   goes_on new f r n p = open_more lines sessions old new line begun f r n p
 
-  pub has_ended : (ops : List Op) → AreDumped ops → text_of (begun.inside ++ line ∷ []) ≡ inside_text ops → DumpStands (lines ++ line ∷ []) sessions None
+  pub has_ended : (ops : List Op) → AreDumped ops → text_of (begun.inside ++ line ∷ []) ≡ inside_text ops → HasTakenDump (lines ++ line ∷ []) sessions None
   has_ended ops dumped e = (begun.parts ++ Dumped (dump_text old.replica ops) ∷ [], open_last lines sessions old line ops begun dumped e)
 
   pub is_wrong : (number : ℕ) → old.first < number → number ≤ old.first + 1 + length begun.inside → EndsAt lines line (No number)
@@ -109,20 +109,20 @@ module _ (lines : List (List ℕ)) (sessions : List Session) (old : OpenDump) (b
 -- ---- another line
 
 module _ (lines : List (List ℕ)) (parts : List Part) (sessions : List Session) (heard : AreHeard lines parts sessions) (line : List ℕ) where
-  pub begins : (dump : OpenDump) → line ≡ dump_line dump.replica → IsReplica dump.replica → dump.first ≡ length lines + 1 → PhaseStands [] dump.phase → DumpStands (lines ++ line ∷ []) sessions (Some dump)
+  pub begins : (dump : OpenDump) → line ≡ dump_line dump.replica → IsReplica dump.replica → dump.first ≡ length lines + 1 → PhaseStands [] dump.phase → HasTakenDump (lines ++ line ∷ []) sessions (Some dump)
   begins dump e r f p = open_first lines parts sessions dump line heard e r f p
 
-  pub is_told : IsResult line → DumpStands (lines ++ line ∷ []) sessions None
+  pub is_told : IsResult line → HasTakenDump (lines ++ line ∷ []) sessions None
   is_told r = (parts ++ Result line ∷ [], heard_result lines parts sessions line heard r)
 
-module _ (lines : List (List ℕ)) (parts : List Part) (old new : List Session) (heard : AreHeard lines parts old) (session : List ℕ) (speaker : Speaker) (text told : List ℕ) (named : IsTrue (is_session_name session)) (octets : AreOctets text) (whole : told ≡ text ++ 13 ∷ 10 ∷ []) (taken : Bool) (tells : Tells (hearing_of session old) (record { speaker = speaker; octets = told }) taken (hearing_of session new)) where
-  tells_at : (answer : Bool) → taken ≡ answer → Tells (hearing_of session old) (said_by speaker text) answer (hearing_of session new)
+module _ (lines : List (List ℕ)) (parts : List Part) (old new : List Session) (heard : AreHeard lines parts old) (session : List ℕ) (speaker : Speaker) (text told : List ℕ) (named : IsTrue (is_session_name session)) (octets : AreOctets text) (whole : told ≡ text ++ 13 ∷ 10 ∷ []) (taken : Bool) (tells : DecidesSaid (hearing_of session old) (record { speaker = speaker; octets = told }) taken (hearing_of session new)) where
+  tells_at : (answer : Bool) → taken ≡ answer → DecidesSaid (hearing_of session old) (said_by speaker text) answer (hearing_of session new)
   tells_at answer e =
-      subst (λ (b : Bool). Tells (hearing_of session old) (said_by speaker text) b (hearing_of session new)) e
-      (subst (λ (os : List ℕ). Tells (hearing_of session old) (record { speaker = speaker; octets = os }) taken (hearing_of session new)) whole tells)
+      subst (λ (b : Bool). DecidesSaid (hearing_of session old) (said_by speaker text) b (hearing_of session new)) e
+      (subst (λ (os : List ℕ). DecidesSaid (hearing_of session old) (record { speaker = speaker; octets = os }) taken (hearing_of session new)) whole tells)
 
-  pub is_heard : taken ≡ true → ((other : List ℕ) → bytes_eq other session ≡ false → hearing_of other new ≡ hearing_of other old) → DumpStands (lines ++ spoken_line session speaker text ∷ []) new None
+  pub is_heard : taken ≡ true → ((other : List ℕ) → bytes_eq other session ≡ false → hearing_of other new ≡ hearing_of other old) → HasTakenDump (lines ++ spoken_line session speaker text ∷ []) new None
   is_heard e others = (parts ++ Spoken session speaker text ∷ [], heard_more same_name lines parts old new session speaker text heard named octets (tells_at true e) others)
 
-  pub is_not_heard : (one_command : (this that : Tagged) (frame : List ℕ) → IsSpelled this frame → IsSpelled that frame → this ≡ that) → (one_answer : (one other : Answer) (rest more : List ℕ) → IsPrintable one → IsPrintable other → printed one ++ rest ≡ printed other ++ more → (one ≡ other) × (rest ≡ more)) → (number : ℕ) → number ≡ length lines + 1 → taken ≡ false → EndsAt lines (spoken_line session speaker text) (No number)
+  pub is_not_heard : (one_command : (this that : Tagged) (frame : List ℕ) → IsSpelled this frame → IsSpelled that frame → this ≡ that) → (one_answer : (one other : Answer) (rest more : List ℕ) → IsPrintable one → IsPrintable other → text_of_answer one ++ rest ≡ text_of_answer other ++ more → (one ≡ other) × (rest ≡ more)) → (number : ℕ) → number ≡ length lines + 1 → taken ≡ false → EndsAt lines (spoken_line session speaker text) (No number)
   is_not_heard one_command one_answer number n e more = heard_not one_command one_answer (λ xs. own_name xs xs refl) lines more parts old session speaker text number heard named octets (tells_at false e) n

@@ -10,18 +10,18 @@ use Rattle.crdt_ops.specs.declared.op.Op.{Op}
 use Rattle.merge_laws.proofs.Lists.{in_parts}
 use Rattle.merge_laws.specs.Orders.{AreSound}
 use Rattle.text_fields.proofs.FieldLemmas.{cut_takes}
-use Rattle.text_fields.specs.Reading.{cut_at}
+use Rattle.text_fields.specs.FieldReading.{cut_at}
 use Rattle.mail_audit.specs.Audits.{IsNoEnd, ended_line, text_of}
 use Rattle.mail_audit.specs.DumpLines.{IsClosed, IsCompared, IsEarly, IsExpected, IsLonger, IsStep, IsStepBehind, OpsStand, PhaseStands, Takes}
 use Rattle.crdt_ops.specs.DumpLines.{op_line}
 use Rattle.mail_audit.specs.Dumps.{AreOrdered, inside_text}
-use Rattle.mail_audit.specs.declared.applying.Expected.{Expected}
-use Rattle.mail_audit.specs.declared.applying.Expected.TheVariants.{Lines, Stuck}
-use Rattle.mail_audit.specs.declared.dump.Comparison.{Comparison}
-use Rattle.mail_audit.specs.declared.dump.Phase.{Phase}
-use Rattle.mail_audit.specs.declared.dump.Phase.TheVariants.{State}
-use Rattle.mail_audit.specs.declared.dump.Step.{Step}
-use Rattle.mail_audit.specs.declared.dump.Step.TheVariants.{GoesOn, Ends, Wrong, Unreadable}
+use Rattle.mail_audit.specs.declared.expected_lines.Expected.{Expected}
+use Rattle.mail_audit.specs.declared.expected_lines.Expected.TheVariants.{Lines, Stuck}
+use Rattle.mail_audit.specs.declared.open_dump.Comparison.{Comparison}
+use Rattle.mail_audit.specs.declared.open_dump.DumpPhase.{DumpPhase}
+use Rattle.mail_audit.specs.declared.open_dump.DumpPhase.TheVariants.{State}
+use Rattle.mail_audit.specs.declared.open_dump.DumpStep.{DumpStep}
+use Rattle.mail_audit.specs.declared.open_dump.DumpStep.TheVariants.{GoesOn, Ends, Wrong, Unreadable}
 use Rattle.mail_audit.specs.declared.op_lines.OpLines.{OpLines}
 
 -- lines with one more
@@ -89,7 +89,7 @@ moved inside line whole left more e n =
     ∙ e
 
 -- what comes of a line that is compared
-pub compared_step : (first : ℕ) (inside : List (List ℕ)) (line : List ℕ) (number : ℕ) (old new : Comparison) (step : Step) → PhaseStands inside (State old) → number ≡ first + 1 + length inside → IsCompared old line number new step → IsStep first inside line (State new) step
+pub compared_step : (first : ℕ) (inside : List (List ℕ)) (line : List ℕ) (number : ℕ) (old new : Comparison) (step : DumpStep) → PhaseStands inside (State old) → number ≡ first + 1 + length inside → IsCompared old line number new step → IsStep first inside line (State new) step
 compared_step first inside line number old new GoesOn s n c =
     let text : text_of (inside ++ line ∷ []) ++ drop new.came new.lines.items ≡ inside_text s.0 =
     ap (λ (xs : List ℕ). text_of (inside ++ line ∷ []) ++ drop new.came xs) c.0.0
@@ -107,7 +107,7 @@ compared_step first inside line number old new (Wrong found) s n c = (omega (ari
 compared_step first inside line number old new Unreadable s n c = tt
 
 -- what comes of a line that can't be read where op lines may still come
-pub early_step : (first : ℕ) (inside : List (List ℕ)) (line : List ℕ) (lines : OpLines) (phase : Phase) (step : Step) → OpsStand inside lines → IsEarly first lines step → IsStep first inside line phase step
+pub early_step : (first : ℕ) (inside : List (List ℕ)) (line : List ℕ) (lines : OpLines) (phase : DumpPhase) (step : DumpStep) → OpsStand inside lines → IsEarly first lines step → IsStep first inside line phase step
 early_step first inside line lines phase GoesOn s e = absurd e
 early_step first inside line lines phase Ends s e = absurd e
 early_step first inside line lines phase (Wrong number) s e = (e.0, omega (arith, s.0, e.1))
@@ -159,7 +159,7 @@ pub next_found : (text whole line : List ℕ) (came : ℕ) (parts : List ℕ × 
 next_found text whole line came parts t e q = (parts.1, sym t ∙ cut_takes 10 text parts (sym e) ∙ ap (λ (l : List ℕ). l ++ 10 ∷ parts.1) q)
 
 -- what comes of the line that was to come
-pub behind_compared : (old new : Comparison) (line : List ℕ) (number : ℕ) (step : Step) → Takes old line new → IsStepBehind new line number step → IsCompared old line number new step
+pub behind_compared : (old new : Comparison) (line : List ℕ) (number : ℕ) (step : DumpStep) → Takes old line new → IsStepBehind new line number step → IsCompared old line number new step
 behind_compared old new line number GoesOn t s = (t, s)
 behind_compared old new line number Ends t s = (t, s)
 behind_compared old new line number (Wrong found) t s = s

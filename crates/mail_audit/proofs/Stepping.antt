@@ -3,9 +3,9 @@ use Rattle.mail_audit.specs.declared.event.SlotEvent.{SlotEvent}
 use Rattle.mail_audit.specs.declared.event.SlotEvent.TheVariants.{Selects, Exists, Expunge, Names, Tells, Passes}
 use Rattle.mail_audit.specs.Explained.{AreFitting, IsExplained}
 use Rattle.mail_audit.specs.Passing.{HasRoomAbove, PassesFrom}
-use Rattle.mail_audit.specs.Kept.{HaveGaps, slots_from}
-use Rattle.mail_audit.specs.Steps.{Fits, Known, after, next, nothing}
-use Rattle.mail_audit.specs.declared.slots.Told.{Told}
+use Rattle.mail_audit.specs.KnownUids.{HaveGaps, slots_from}
+use Rattle.mail_audit.specs.SlotSteps.{EventFits, SlotKnowledge, after_events, after_event, no_slots}
+use Rattle.mail_audit.specs.declared.slots.KnownUid.{KnownUid}
 use Rattle.mail_audit.proofs.Deciding.{explained}
 
 -- a front of explained events is explained
@@ -22,7 +22,7 @@ pub explained_front : (front back : List SlotEvent) → IsExplained (front ++ ba
 explained_front front back h = (h.0, h.1, fitting_front [] h.0 front back h.2)
 
 -- events pass where the first fits and the others pass then
-pub passes_one : (known : Known) (event : SlotEvent) (events : List SlotEvent) → PassesFrom known.there known.slots (event ∷ events) ↔ (Fits known event × PassesFrom (next known event).there (next known event).slots events)
+pub passes_one : (known : SlotKnowledge) (event : SlotEvent) (events : List SlotEvent) → PassesFrom known.there known.slots (event ∷ events) ↔ (EventFits known event × PassesFrom (after_event known event).there (after_event known event).slots events)
 passes_one known Selects events = (λ p. (tt, p), λ p. p.1)
 passes_one known (Exists n) events = (λ p. ((p.0, p.1), p.2), λ p. (p.0.0, p.0.1, p.1))
 passes_one known (Expunge k) events = (λ p. p, λ p. p)
@@ -30,23 +30,23 @@ passes_one known (Names k) events = (λ p. p, λ p. p)
 passes_one known (Tells k uid) events = (λ p. ((p.0, p.1, p.2), p.3), λ p. (p.0.0, p.0.1, p.0.2, p.1))
 passes_one known Passes events = (λ p. (tt, p), λ p. p.1)
 
-passes_last : (known : Known) (events : List SlotEvent) (event : SlotEvent) → PassesFrom known.there known.slots (events ++ event ∷ []) ↔ (PassesFrom known.there known.slots events × Fits (after known events) event)
+passes_last : (known : SlotKnowledge) (events : List SlotEvent) (event : SlotEvent) → PassesFrom known.there known.slots (events ++ event ∷ []) ↔ (PassesFrom known.there known.slots events × EventFits (after_events known events) event)
 passes_last known [] event = (λ p. (tt, ((passes_one known event []).0 p).0), λ p. (passes_one known event []).1 (p.1, tt))
 passes_last known (first ∷ events) event = (
   λ p.
       let q = (passes_one known first (events ++ event ∷ [])).0 p in
-      let r = (passes_last (next known first) events event).0 q.1 in
+      let r = (passes_last (after_event known first) events event).0 q.1 in
       ((passes_one known first events).1 (q.0, r.0), r.1),
   λ p.
       let q = (passes_one known first events).0 p.0 in
-      (passes_one known first (events ++ event ∷ [])).1 (q.0, (passes_last (next known first) events event).1 (q.1, p.1)),
+      (passes_one known first (events ++ event ∷ [])).1 (q.0, (passes_last (after_event known first) events event).1 (q.1, p.1)),
 )
 
 -- one event more is explained exactly where it fits
-pub explained_last : (events : List SlotEvent) (event : SlotEvent) → IsExplained events → IsExplained (events ++ event ∷ []) ↔ Fits (after nothing events) event
+pub explained_last : (events : List SlotEvent) (event : SlotEvent) → IsExplained events → IsExplained (events ++ event ∷ []) ↔ EventFits (after_events no_slots events) event
 explained_last events event h = (
-  λ g. ((passes_last nothing events event).0 ((explained (events ++ event ∷ [])).0 g)).1,
-  λ f. (explained (events ++ event ∷ [])).1 ((passes_last nothing events event).1 ((explained events).0 h, f)),
+  λ g. ((passes_last no_slots events event).0 ((explained (events ++ event ∷ [])).0 g)).1,
+  λ f. (explained (events ++ event ∷ [])).1 ((passes_last no_slots events event).1 ((explained events).0 h, f)),
 )
 
 -- room behind slots of which nothing is known
@@ -61,7 +61,7 @@ room_unknown low (suc m) slots l =
     )
 
 -- there is room exactly where the gaps are wide enough
-pub room_in_gaps : (low from : ℕ) (tolds : List Told) (came : ℕ) → low ≤ 4294967295 → HasRoomAbove low (slots_from from tolds came) ↔ HaveGaps low from tolds came
+pub room_in_gaps : (low from : ℕ) (tolds : List KnownUid) (came : ℕ) → low ≤ 4294967295 → HasRoomAbove low (slots_from from tolds came) ↔ HaveGaps low from tolds came
 room_in_gaps low from [] came l =
     let e : replicate (came - from) None ++ [] ≡ slots_from from [] came = append-nil (replicate (came - from) None) in
     let r = room_unknown low (came - from) [] l in

@@ -4,7 +4,7 @@ use Rattle.std.specs.Str.{bytes_eq}
 use Rattle.std.specs.Fmt.{decimal}
 pub use Rattle.crdt_ops.specs.Form.{Each}
 use Rattle.crdt_ops.specs.Form.{IsReplica}
-use Rattle.imap_types.specs.Escape.{AreOctets, escaped}
+use Rattle.imap_types.specs.Escape.{AreOctets, escape_text}
 use Rattle.imap_types.specs.declared.escape.Escape.TheVariants.{Text}
 use Rattle.mail_script.specs.Fields.{is_session_name}
 use Rattle.mail_script.specs.Transcript.{mark_of}
@@ -32,7 +32,7 @@ pub data Part : Type 0 where
 -- A line of a transcript: the session, who spoke, and what was said, which lacks its closing CRLF, in the escape in which
 -- the space stands for itself.
 abbrev pub spoken_line : List ℕ → Speaker → List ℕ → List ℕ
-spoken_line session speaker text = session ++ (mark_of speaker ++ escaped Text text)
+spoken_line session speaker text = session ++ (mark_of speaker ++ escape_text Text text)
 
 -- A line of a transcript.
 abbrev pub IsSpokenLine : List ℕ → Type 0

@@ -3,24 +3,24 @@ use Rattle.std.specs.Prelude.{◌≡◌, ◌⊎◌, ℕ, ◌+◌, ◌<◌, ◌�
 use Rattle.std.specs.List.{flat_map}
 use Rattle.std.specs.declared.cmp.Ordering.TheVariants.{Less}
 use Rattle.tags_clocks.specs.declared.id.OpId.{OpId}
-use Rattle.causal_inbox.specs.Seen.{IsReceived, Seen}
+use Rattle.causal_inbox.specs.Inbox.{IsReceived, ReceivedOps}
 use Rattle.crdt_ops.specs.Form.{IsInForm, IsSpelled}
-use Rattle.crdt_ops.specs.Order.{id_order}
+use Rattle.crdt_ops.specs.SortedSets.{id_order}
 use Rattle.crdt_ops.specs.Sound.{IsSound}
 use Rattle.crdt_ops.specs.declared.op.Op.{Op}
 use Rattle.merge_laws.specs.Orders.{AreSound, IsCausal, IsIn}
 use Rattle.mail_audit.specs.Audits.{IsNoEnd, text_of}
 use Rattle.crdt_ops.specs.DumpLines.{op_line, state_text}
 use Rattle.mail_audit.specs.Dumps.{AreDumped, AreOrdered, HasCauses, inside_text}
-use Rattle.mail_audit.specs.declared.applying.Expected.{Expected}
-use Rattle.mail_audit.specs.declared.applying.Expected.TheVariants.{Lines, Stuck}
-use Rattle.mail_audit.specs.declared.dump.Comparison.{Comparison}
-use Rattle.mail_audit.specs.declared.dump.Phase.{Phase}
-use Rattle.mail_audit.specs.declared.dump.Phase.TheVariants.{Ops, State}
-use Rattle.mail_audit.specs.declared.dump.Step.{Step}
-use Rattle.mail_audit.specs.declared.dump.Step.TheVariants.{GoesOn, Ends, Wrong, Unreadable}
-use Rattle.mail_audit.specs.declared.forms.DumpLine.{DumpLine}
-use Rattle.mail_audit.specs.declared.forms.DumpLine.TheVariants as line
+use Rattle.mail_audit.specs.declared.expected_lines.Expected.{Expected}
+use Rattle.mail_audit.specs.declared.expected_lines.Expected.TheVariants.{Lines, Stuck}
+use Rattle.mail_audit.specs.declared.open_dump.Comparison.{Comparison}
+use Rattle.mail_audit.specs.declared.open_dump.DumpPhase.{DumpPhase}
+use Rattle.mail_audit.specs.declared.open_dump.DumpPhase.TheVariants.{Ops, State}
+use Rattle.mail_audit.specs.declared.open_dump.DumpStep.{DumpStep}
+use Rattle.mail_audit.specs.declared.open_dump.DumpStep.TheVariants.{GoesOn, Ends, Wrong, Unreadable}
+use Rattle.mail_audit.specs.declared.line_forms.DumpLine.{DumpLine}
+use Rattle.mail_audit.specs.declared.line_forms.DumpLine.TheVariants as line
 use Rattle.mail_audit.specs.declared.op_lines.OpLines.{OpLines}
 use Rattle.crdt_ops.specs.Ops.{clock_of, id_of}
 
@@ -47,7 +47,7 @@ StandsBehind (op ∷ []) id = id_order op.id id ≡ Less
 StandsBehind (op ∷ next ∷ ops) id = StandsBehind (next ∷ ops) id
 
 -- What the inbox has received is of these operations.
-abbrev pub HoldsOnly : {S : Type 0} → List Op → Seen S Op → Type 0
+abbrev pub HoldsOnly : {S : Type 0} → List Op → ReceivedOps S Op → Type 0
 HoldsOnly ops seen = (o : Op) → IsReceived seen o → IsIn o ops
 
 -- What is to follow op lines: where their causes are among them, what the set of them defines.
@@ -70,7 +70,7 @@ OpsStand inside lines =
     × (lines.is_bad ≡ false → (text_of inside ≡ flat_map op_line lines.ops.items) × AreSound IsInForm lines.ops.items)
     × AreOrdered lines.ops.items
 
-abbrev pub PhaseStands : List (List ℕ) → Phase → Type 0
+abbrev pub PhaseStands : List (List ℕ) → DumpPhase → Type 0
 PhaseStands inside (Ops lines) = OpsStand inside lines
 PhaseStands inside (State comparison) =
     (ops : List Op) × AreDumped ops × (comparison.came ≤ length comparison.lines.items)
@@ -82,14 +82,14 @@ IsClosed inside (Lines lines) = (ops : List Op) × AreDumped ops × (text_of ins
 IsClosed inside (Stuck place) = place ≤ length inside
 
 -- What comes of a line that can't be read behind op lines.
-abbrev pub IsEarly : ℕ → OpLines → Step → Type 0
+abbrev pub IsEarly : ℕ → OpLines → DumpStep → Type 0
 IsEarly first lines GoesOn = ⊥
 IsEarly first lines Ends = ⊥
 IsEarly first lines (Wrong number) = (first < number) × (number ≤ first + 1 + length lines.ops.items)
 IsEarly first lines Unreadable = Unit {0}
 
 -- What comes of a line of a dump that has these inside, whose first line has this number.
-abbrev pub IsStep : ℕ → List (List ℕ) → List ℕ → Phase → Step → Type 0
+abbrev pub IsStep : ℕ → List (List ℕ) → List ℕ → DumpPhase → DumpStep → Type 0
 IsStep first inside line phase GoesOn = PhaseStands (inside ++ line ∷ []) phase × IsNoEnd line
 IsStep first inside line phase Ends = (ops : List Op) × AreDumped ops × (text_of (inside ++ line ∷ []) ≡ inside_text ops)
 IsStep first inside line phase (Wrong number) = (first < number) × (number ≤ first + 1 + length inside)
@@ -102,14 +102,14 @@ Takes old line new =
     × (drop old.came old.lines.items ≡ line ++ 10 ∷ drop new.came old.lines.items)
 
 -- What comes of a line, of this number, that is compared with the one to come.
-abbrev pub IsCompared : Comparison → List ℕ → ℕ → Comparison → Step → Type 0
+abbrev pub IsCompared : Comparison → List ℕ → ℕ → Comparison → DumpStep → Type 0
 IsCompared old line number new GoesOn = Takes old line new × IsNoEnd line
 IsCompared old line number new Ends = Takes old line new × (new.came ≡ length new.lines.items)
 IsCompared old line number new (Wrong found) = found ≡ number
 IsCompared old line number new Unreadable = Unit {0}
 
 -- What comes of a line, of this number, that was the one to come.
-abbrev pub IsStepBehind : Comparison → List ℕ → ℕ → Step → Type 0
+abbrev pub IsStepBehind : Comparison → List ℕ → ℕ → DumpStep → Type 0
 IsStepBehind comparison line number GoesOn = IsNoEnd line
 IsStepBehind comparison line number Ends = comparison.came ≡ length comparison.lines.items
 IsStepBehind comparison line number (Wrong found) = found ≡ number

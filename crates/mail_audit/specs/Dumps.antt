@@ -6,7 +6,7 @@ use Rattle.tags_clocks.specs.Clock.{IsCause}
 use Rattle.merge_laws.specs.Orders.{AreSound, HasId, IsIn}
 use Rattle.crdt_ops.specs.declared.op.Op.{Op}
 use Rattle.crdt_ops.specs.Form.{IsInForm, IsReplica}
-use Rattle.crdt_ops.specs.Order.{IsAscending, id_order}
+use Rattle.crdt_ops.specs.SortedSets.{IsAscending, id_order}
 use Rattle.crdt_ops.specs.Sound.{IsSound}
 use Rattle.crdt_ops.specs.DumpLines.{op_line, state_text}
 use Rattle.crdt_ops.specs.Ops.{id_of}

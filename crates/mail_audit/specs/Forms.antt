@@ -4,7 +4,7 @@ use Rattle.imap_types.specs.Escape.{AreOctets}
 use Rattle.imap_types.specs.declared.flags.Flags.{Flags}
 use Rattle.tags_clocks.specs.declared.id.OpId.{OpId}
 use Rattle.crdt_ops.specs.Form.{AreIds, HasWords, IsId, IsReplica}
-use Rattle.crdt_ops.specs.Text.{flags_text, id_text, ids_text, letter_text, name_text}
+use Rattle.crdt_ops.specs.Text.{flags_text, id_text, ids_text, text_field, name_text}
 pub use Rattle.mail_audit.specs.Audits.{IsSpokenLine}
 use Rattle.mail_audit.specs.Dumps.{dump_line}
 use Rattle.mail_audit.specs.Results.{IsResult}
@@ -24,14 +24,14 @@ abbrev pub AreLetterFields : List ℕ → List ℕ → Type 0
 AreLetterFields origin rest =
     (id : OpId) × (flags : Flags) × (date : List ℕ) × (text : List ℕ)
     × IsId id × HasWords flags × IsDateTime date × AreOctets text
-    × (origin ≡ id_text id) × (rest ≡ flags_text flags ++ 32 ∷ (date ++ 32 ∷ letter_text text))
+    × (origin ≡ id_text id) × (rest ≡ flags_text flags ++ 32 ∷ (date ++ 32 ∷ text_field text))
 
 -- An origin with versions, flags, a date and a text behind it.
 abbrev pub AreMessageFields : List ℕ → Type 0
 AreMessageFields fields =
     (origin : OpId) × (versions : List OpId) × (flags : Flags) × (date : List ℕ) × (text : List ℕ)
     × IsId origin × AreIds versions × HasWords flags × IsDateTime date × AreOctets text
-    × (fields ≡ id_text origin ++ 32 ∷ (ids_text versions ++ 32 ∷ (flags_text flags ++ 32 ∷ (date ++ 32 ∷ letter_text text))))
+    × (fields ≡ id_text origin ++ 32 ∷ (ids_text versions ++ 32 ∷ (flags_text flags ++ 32 ∷ (date ++ 32 ∷ text_field text))))
 
 -- A line in the form of a folder's, a message's or a subscription's.
 abbrev pub IsStateLine : List ℕ → Type 0

@@ -1,16 +1,16 @@
 -- How a line that tells a result is taken apart. What it says is told by its text (`IsResult`).
 use Rattle.std.specs.Prelude.{ℕ, true, false, List, Option, Some, None, codes, if◌then◌else◌}
 use Rattle.std.specs.Str.{bytes_eq}
-use Rattle.mail_script.specs.declared.outcome.BrokenRule.TheVariants.{OwnEntry, UncoveredId, UnlawfulName, UnlawfulFlags, InboxDeleted, OldIdCount}
-use Rattle.mail_script.specs.declared.outcome.DeliveryResult.{DeliveryResult}
-use Rattle.mail_script.specs.declared.outcome.DeliveryResult.TheVariants.{Applied, Held, Repeat, Conflict, HeldFull, Exhausted, NoMemory}
-use Rattle.mail_script.specs.declared.outcome.JoinResult.{JoinResult}
-use Rattle.mail_script.specs.declared.outcome.JoinResult.TheVariants.{Done as DoneJoining, Own, Exhausted as ExhaustedByJoin, NoMemory as NoMemoryToJoin}
-use Rattle.mail_script.specs.declared.outcome.OutcomeLine.{OutcomeLine}
-use Rattle.mail_script.specs.declared.outcome.OutcomeLine.TheVariants.{Delivered, Forged, Unsound, Drained, Settled, Agreed, Joined}
-use Rattle.mail_script.specs.declared.outcome.SettleResult.{SettleResult}
-use Rattle.mail_script.specs.declared.outcome.SettleResult.TheVariants.{Done, Conflict as ConflictOfTwo, Exhausted as ExhaustedInIt, NoMemory as NoMemoryToSettle}
-use Rattle.text_fields.specs.Reading.{◌>>=◌, cut_at, id_at, number_at, replica_at}
+use Rattle.mail_script.specs.declared.outcome_line.BrokenRule.TheVariants.{OwnEntry, UncoveredId, UnlawfulName, UnlawfulFlags, InboxDeleted, OldIdCount}
+use Rattle.mail_script.specs.declared.outcome_line.DeliveryResult.{DeliveryResult}
+use Rattle.mail_script.specs.declared.outcome_line.DeliveryResult.TheVariants.{Applied, Held, Repeat, Conflict, HeldFull, Exhausted, NoMemory}
+use Rattle.mail_script.specs.declared.outcome_line.JoinResult.{JoinResult}
+use Rattle.mail_script.specs.declared.outcome_line.JoinResult.TheVariants.{Done as DoneJoining, Own, Exhausted as ExhaustedByJoin, NoMemory as NoMemoryToJoin}
+use Rattle.mail_script.specs.declared.outcome_line.OutcomeLine.{OutcomeLine}
+use Rattle.mail_script.specs.declared.outcome_line.OutcomeLine.TheVariants.{Delivered, Forged, Unsound, Drained, Settled, Agreed, Joined}
+use Rattle.mail_script.specs.declared.outcome_line.SettleResult.{SettleResult}
+use Rattle.mail_script.specs.declared.outcome_line.SettleResult.TheVariants.{Done, Conflict as ConflictOfTwo, Exhausted as ExhaustedInIt, NoMemory as NoMemoryToSettle}
+use Rattle.text_fields.specs.FieldReading.{◌>>=◌, cut_at, id_at, number_at, replica_at}
 use Rattle.mail_audit.specs.declared.results.AppliedCount.{AppliedCount}
 
 -- A count, and whether a word stands behind it.

@@ -1,14 +1,14 @@
 use Rattle.std.specs.Prelude.{◌≡◌, ℕ, ◌<◌, ◌^◌, List}
 use Rattle.mail_script.specs.Fields.{IsId, IsReplica}
 use Rattle.mail_script.specs.Outcomes.{outcome_text}
-use Rattle.mail_script.specs.declared.outcome.DeliveryResult.{DeliveryResult}
-use Rattle.mail_script.specs.declared.outcome.DeliveryResult.TheVariants.{Applied, Conflict}
-use Rattle.mail_script.specs.declared.outcome.JoinResult.{JoinResult}
-use Rattle.mail_script.specs.declared.outcome.JoinResult.TheVariants.{Own}
-use Rattle.mail_script.specs.declared.outcome.OutcomeLine.{OutcomeLine}
-use Rattle.mail_script.specs.declared.outcome.OutcomeLine.TheVariants.{Delivered, Forged, Unsound, Drained, Settled, Agreed, Joined, BadScript, CannotRead, NoMemory}
-use Rattle.mail_script.specs.declared.outcome.SettleResult.{SettleResult}
-use Rattle.mail_script.specs.declared.outcome.SettleResult.TheVariants.{Conflict as ConflictOfTwo}
+use Rattle.mail_script.specs.declared.outcome_line.DeliveryResult.{DeliveryResult}
+use Rattle.mail_script.specs.declared.outcome_line.DeliveryResult.TheVariants.{Applied, Conflict}
+use Rattle.mail_script.specs.declared.outcome_line.JoinResult.{JoinResult}
+use Rattle.mail_script.specs.declared.outcome_line.JoinResult.TheVariants.{Own}
+use Rattle.mail_script.specs.declared.outcome_line.OutcomeLine.{OutcomeLine}
+use Rattle.mail_script.specs.declared.outcome_line.OutcomeLine.TheVariants.{Delivered, Forged, Unsound, Drained, Settled, Agreed, Joined, BadScript, CannotRead, NoMemory}
+use Rattle.mail_script.specs.declared.outcome_line.SettleResult.{SettleResult}
+use Rattle.mail_script.specs.declared.outcome_line.SettleResult.TheVariants.{Conflict as ConflictOfTwo}
 
 -- A count of operations that a line may tell: one of 64 bits.
 abbrev pub IsCount : ℕ → Type 0

@@ -2,21 +2,21 @@
 use Rattle.std.specs.Prelude.{ℕ, ◌+◌, List, [], ◌∷◌, if◌then◌else◌}
 use Rattle.std.specs.Str.{bytes_eq}
 use Rattle.std.specs.Global.{Vec}
-use Rattle.mail_audit.specs.Hearings.{Hearing, unheard}
+use Rattle.mail_audit.specs.HeardSessions.{SessionKnowledge, nothing_known}
 
 -- A session's name, and what is known of it.
 pub record Session : Type 0 where
   pub name : List ℕ
-  pub transcript : Hearing
+  pub transcript : SessionKnowledge
 
 -- The sessions that are kept by their names.
-abbrev pub sessions_of : List (Vec ℕ × Hearing) → List Session
+abbrev pub sessions_of : List (Vec ℕ × SessionKnowledge) → List Session
 sessions_of [] = []
 sessions_of (kept ∷ rest) = record { name = kept.0.items; transcript = kept.1 } ∷ sessions_of rest
 
 -- What is known of the session with this name.
-abbrev pub hearing_of : List ℕ → List Session → Hearing
-hearing_of name [] = unheard
+abbrev pub hearing_of : List ℕ → List Session → SessionKnowledge
+hearing_of name [] = nothing_known
 hearing_of name (session ∷ sessions) = if bytes_eq name session.name then session.transcript else hearing_of name sessions
 
 -- The place of the first session with this name, or the number of sessions.

@@ -8,12 +8,12 @@ use Rattle.imap_syntax.specs.declared.command.Tagged.{Tagged}
 use Rattle.imap_answers.specs.declared.answer.Answer.{Answer}
 use Rattle.imap_answers.specs.declared.answer.Answer.TheVariants as answer
 use Rattle.imap_answers.specs.Printable.{IsPrintable}
-use Rattle.imap_answers.specs.Printed.{printed}
+use Rattle.imap_answers.specs.Printed.{text_of_answer}
 use Rattle.mail_script.specs.declared.transcript.Speaker.{Speaker}
 use Rattle.mail_script.specs.declared.transcript.Speaker.TheVariants.{Client, Server}
 use Rattle.mail_audit.specs.declared.event.SlotEvent.{SlotEvent}
 use Rattle.mail_audit.specs.declared.event.SlotEvent.TheVariants.{Selects, Exists, Expunge, Names, Tells, Passes}
-use Rattle.mail_audit.specs.declared.running.Running.{Running}
+use Rattle.mail_audit.specs.declared.in_progress.RunningCommand.{RunningCommand}
 use Rattle.mail_audit.specs.Explained.{IsExplained}
 
 -- EXPUNGE isn't told while FETCH, STORE or SEARCH by message numbers are in progress alone (RFC 9051, section 7.5.1).
@@ -27,7 +27,7 @@ abbrev pub idles : Command → Bool
 idles command.Idle = true
 idles _ = false
 
-abbrev pub running_by : Tagged → Running
+abbrev pub running_by : Tagged → RunningCommand
 running_by tagged = record { tag = tagged.tag; may_expunge = may_expunge tagged.command; idles = idles tagged.command }
 
 -- What a command does to the messages that the session sees: SELECT and EXAMINE start anew, also where they are refused later.
@@ -37,24 +37,24 @@ event_by (command.Examine name condstore) = Selects
 event_by _ = Passes
 
 -- A frame begins a command: it spells one, and the session doesn't idle.
-abbrev pub Begins : List Running → List ℕ → Tagged → Type 0
-Begins running frame tagged = IsFalse (list_any (λ (r : Running). r.idles) running) × IsSpelled tagged frame
+abbrev pub Begins : List RunningCommand → List ℕ → Tagged → Type 0
+Begins running frame tagged = IsFalse (list_any (λ (r : RunningCommand). r.idles) running) × IsSpelled tagged frame
 
 -- What the client's frame does to the commands in progress and to the messages.
-abbrev pub IsAsked : List Running → List ℕ → List Running → SlotEvent → Type 0
+abbrev pub IsAsked : List RunningCommand → List ℕ → List RunningCommand → SlotEvent → Type 0
 IsAsked running frame after event =
     ((tagged : Tagged) × Begins running frame tagged × (after ≡ running ++ running_by tagged ∷ []) × (event ≡ event_by tagged.command))
     ⊎ (((tagged : Tagged) → ¬ Begins running frame tagged) × (after ≡ running) × (event ≡ Passes))
 
 -- The commands without the first with this tag.
-abbrev pub ended : List ℕ → List Running → List Running
-ended tag [] = []
-ended tag (r ∷ running) = if bytes_eq tag r.tag then running else r ∷ ended tag running
+abbrev pub without_ended : List ℕ → List RunningCommand → List RunningCommand
+without_ended tag [] = []
+without_ended tag (r ∷ running) = if bytes_eq tag r.tag then running else r ∷ without_ended tag running
 
 -- The commands in progress behind an answer: a tagged one ends its command.
-abbrev pub running_after : List Running → Answer → List Running
-running_after running (answer.Completed tag code done) = ended tag running
-running_after running (answer.Refused tag reason) = ended tag running
+abbrev pub running_after : List RunningCommand → Answer → List RunningCommand
+running_after running (answer.Completed tag code done) = without_ended tag running
+running_after running (answer.Refused tag reason) = without_ended tag running
 running_after running _ = running
 
 abbrev pub event_of_uid : ℕ → Option ℕ → SlotEvent
@@ -69,14 +69,14 @@ event_of (answer.Fetch number items) = event_of_uid number items.uid
 event_of _ = Passes
 
 -- The answer may stand while these commands are in progress.
-abbrev pub MayStand : List Running → Answer → Type 0
-MayStand running (answer.Expunge number) = IsTrue (list_any (λ (r : Running). r.may_expunge) running)
+abbrev pub MayStand : List RunningCommand → Answer → Type 0
+MayStand running (answer.Expunge number) = IsTrue (list_any (λ (r : RunningCommand). r.may_expunge) running)
 MayStand running _ = Unit {0}
 
 -- The octets are one printed answer, which may stand here; what it does to the commands in progress and to the messages.
-abbrev pub IsAnswered : List Running → List ℕ → List Running → SlotEvent → Type 0
+abbrev pub IsAnswered : List RunningCommand → List ℕ → List RunningCommand → SlotEvent → Type 0
 IsAnswered running octets after event =
-    (given : Answer) × IsPrintable given × (octets ≡ printed given) × MayStand running given
+    (given : Answer) × IsPrintable given × (octets ≡ text_of_answer given) × MayStand running given
     × (after ≡ running_after running given) × (event ≡ event_of given)
 
 -- What was said in a session: by whom, and the frame or answer.
@@ -84,15 +84,15 @@ pub record Said : Type 0 where
   pub speaker : Speaker
   pub octets : List ℕ
 
-abbrev pub IsHeard : List Running → Speaker → List ℕ → List Running → SlotEvent → Type 0
+abbrev pub IsHeard : List RunningCommand → Speaker → List ℕ → List RunningCommand → SlotEvent → Type 0
 IsHeard running Client frame after event = IsAsked running frame after event
 IsHeard running Server octets after event = IsAnswered running octets after event
 
 -- The events of a session's transcript: every answer is printed, and EXPUNGE stands only where it may.
-abbrev pub AreEvents : List Running → List Said → List SlotEvent → Type 0
+abbrev pub AreEvents : List RunningCommand → List Said → List SlotEvent → Type 0
 AreEvents running [] events = events ≡ []
 AreEvents running (said ∷ more) events =
-    (after : List Running) × (event : SlotEvent) × (rest : List SlotEvent)
+    (after : List RunningCommand) × (event : SlotEvent) × (rest : List SlotEvent)
     × IsHeard running said.speaker said.octets after event
     × (events ≡ event ∷ rest)
     × AreEvents after more rest

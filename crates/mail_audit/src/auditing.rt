@@ -6,7 +6,7 @@ ghost use Rattle.std.specs.Io.KnownBytes.{Appends, Keeps};
 ghost use Rattle.mail_script.specs.Lines.{lines_of};
 ghost use Rattle.mail_script.specs.Reading.{cut_at};
 ghost use Rattle.mail_audit.specs.Audits.{Audits, end_text};
-ghost use Rattle.mail_audit.specs.Standing.{Advances, EndsAt, EndsWithin, Stands};
+ghost use Rattle.mail_audit.specs.AuditProgress.{Advances, EndsAt, EndsWithin, HasTaken};
 ghost use Rattle.mail_audit.specs.declared.verdict.AuditEnd.TheVariants.{WriteFailed as NotWritten};
 
 use crate::line_audit::Audit;
@@ -86,8 +86,8 @@ fn room_for(alloc: Global, octets: usize) -> Result<Vec<u8>, AllocError>
 /// Takes the lines that a piece completes, and tells how the audit ends where it ends with one.
 fn take_piece(alloc: Global, progress: &mut Progress, piece: &[u8]) -> Option<AuditEnd>
     requires room { progress.old.audit.taken + length progress.old.lines + length piece.now < 2 ^ 64 }
-    requires stands { (front : List (List ℕ)) × Stands front progress.old.audit }
-    ensures { (front : List (List ℕ)) → Stands front progress.old.audit → MatchOption result (Advances front progress.old.audit (progress.old.lines ++ piece.now) progress.new.audit progress.new.lines × (cut_at 10 progress.new.lines ≡ None)) (EndsWithin front (progress.old.lines ++ piece.now)) }
+    requires stands { (front : List (List ℕ)) × HasTaken front progress.old.audit }
+    ensures { (front : List (List ℕ)) → HasTaken front progress.old.audit → MatchOption result (Advances front progress.old.audit (progress.old.lines ++ piece.now) progress.new.audit progress.new.lines × (cut_at 10 progress.new.lines ≡ None)) (EndsWithin front (progress.old.lines ++ piece.now)) }
 {
     let Ok(()) = progress.lines.push(piece) else {
         return Some(AuditEnd::NoMemory);
@@ -108,8 +108,8 @@ fn take_piece(alloc: Global, progress: &mut Progress, piece: &[u8]) -> Option<Au
 /// Takes the next line, and tells how the audit ends where it ends with it.
 fn take_line(alloc: Global, audit: &mut Audit, line: &[u8]) -> Option<AuditEnd>
     requires room { audit.old.taken + 1 < 2 ^ 64 }
-    requires stands { (lines : List (List ℕ)) × Stands lines audit.old }
-    ensures { (lines : List (List ℕ)) → Stands lines audit.old → MatchOption result (Stands (lines ++ line.now ∷ []) audit.new) (EndsAt lines line.now) }
+    requires stands { (lines : List (List ℕ)) × HasTaken lines audit.old }
+    ensures { (lines : List (List ℕ)) → HasTaken lines audit.old → MatchOption result (HasTaken (lines ++ line.now ∷ []) audit.new) (EndsAt lines line.now) }
 {
     match audit.take(alloc, line) {
         Ok(end) => end,
@@ -121,8 +121,8 @@ fn take_line(alloc: Global, audit: &mut Audit, line: &[u8]) -> Option<AuditEnd>
 fn take_last(alloc: Global, progress: Progress) -> AuditEnd
     requires room { progress.audit.taken + 1 < 2 ^ 64 }
     requires rest { cut_at 10 progress.lines ≡ None }
-    requires stands { (front : List (List ℕ)) × Stands front progress.audit }
-    ensures { (front : List (List ℕ)) → Stands front progress.audit → Audits (front ++ lines_of progress.lines) result }
+    requires stands { (front : List (List ℕ)) × HasTaken front progress.audit }
+    ensures { (front : List (List ℕ)) → HasTaken front progress.audit → Audits (front ++ lines_of progress.lines) result }
 {
     let Progress { mut audit, lines } = progress;
     let line = lines.into_rest();
@@ -137,8 +137,8 @@ fn take_last(alloc: Global, progress: Progress) -> AuditEnd
 
 /// How an audit ends whose input ends.
 fn end_of(alloc: Global, audit: Audit) -> AuditEnd
-    requires { (lines : List (List ℕ)) × Stands lines audit }
-    ensures { (lines : List (List ℕ)) → Stands lines audit → Audits lines result }
+    requires { (lines : List (List ℕ)) × HasTaken lines audit }
+    ensures { (lines : List (List ℕ)) → HasTaken lines audit → Audits lines result }
 {
     match audit.end(alloc) {
         Ok(end) => end,

@@ -1,26 +1,26 @@
 //! Whether UIDs are left between those that are known.
 
 ghost use Rattle.std.specs.Prelude.{◌≡◌, ◌↔◌, ℕ, ◌+◌, ◌-◌, ◌<◌, ◌≤◌, List, IsTrue, drop, length};
-ghost use Rattle.mail_audit.specs.Gaps.{FitsAt, FitsBehind, FitsInFront, HasRoomFor, Parts};
-ghost use Rattle.mail_audit.specs.Kept.{ArePlaces};
+ghost use Rattle.mail_audit.specs.Gaps.{FitsAt, FitsAfter, FitsBefore, HasRoomFor, SplitsAt};
+ghost use Rattle.mail_audit.specs.KnownUids.{ArePlaces};
 
-use crate::slots::Told;
+use crate::slots::KnownUid;
 use tree_list::TreeList;
 
 /// The greatest UID (RFC 9051, section 2.3.1.1).
 const LAST_UID: u64 = 4_294_967_295;
 
 /// How many of the known messages have lesser places.
-pub fn find(tolds: &TreeList<Told>, place: u32) -> usize
+pub fn known_before(tolds: &TreeList<KnownUid>, place: u32) -> usize
     requires { (came : ℕ) × ArePlaces 0 tolds.now came }
     ensures within { result ≤ length tolds.now }
-    ensures parts { Parts place tolds.now result }
+    ensures parts { SplitsAt place tolds.now result }
 {
     tolds.partition_point(|_, told| told.place < place)
 }
 
 /// Whether UIDs are left for so many messages behind the known ones.
-pub fn has_room(tolds: &TreeList<Told>, came: u32) -> bool
+pub fn has_room(tolds: &TreeList<KnownUid>, came: u32) -> bool
     ensures { IsTrue result ↔ HasRoomFor 0 0 tolds.now came }
 {
     match tolds.last() {
@@ -30,7 +30,7 @@ pub fn has_room(tolds: &TreeList<Told>, came: u32) -> bool
 }
 
 /// Whether UIDs are left for so many messages behind a known one.
-fn has_room_behind(told: Told, came: u32) -> bool
+fn has_room_behind(told: KnownUid, came: u32) -> bool
     ensures { IsTrue result ↔ (told.uid + (came - (told.place + 1)) ≤ 4294967295) }
 {
     let from = u64::from(told.place) + 1;
@@ -38,7 +38,7 @@ fn has_room_behind(told: Told, came: u32) -> bool
 }
 
 /// Whether UIDs are left for the messages between two known ones.
-fn has_room_between(told: Told, next: Told) -> bool
+fn has_room_between(told: KnownUid, next: KnownUid) -> bool
     ensures { IsTrue result ↔ (told.uid + (next.place - (told.place + 1)) < next.uid) }
 {
     let from = u64::from(told.place) + 1;
@@ -46,7 +46,7 @@ fn has_room_between(told: Told, next: Told) -> bool
 }
 
 /// Whether UIDs are left on either side of one that is told, which stands behind so many known ones.
-pub fn fits_between(tolds: &TreeList<Told>, at: usize, told: Told, came: u32) -> bool
+pub fn fits_between(tolds: &TreeList<KnownUid>, at: usize, told: KnownUid, came: u32) -> bool
     requires { at ≤ length tolds.now }
     ensures { IsTrue result ↔ FitsAt 0 0 at tolds.now told came }
 {
@@ -54,9 +54,9 @@ pub fn fits_between(tolds: &TreeList<Told>, at: usize, told: Told, came: u32) ->
 }
 
 /// Whether UIDs are left for the messages between the known one in front and this one.
-fn fits_behind(tolds: &TreeList<Told>, at: usize, told: Told) -> bool
+fn fits_behind(tolds: &TreeList<KnownUid>, at: usize, told: KnownUid) -> bool
     requires { at ≤ length tolds.now }
-    ensures { IsTrue result ↔ FitsBehind 0 0 at tolds.now told }
+    ensures { IsTrue result ↔ FitsAfter 0 0 at tolds.now told }
 {
     let Some(before) = at.checked_sub(1) else {
         return told.place < told.uid;
@@ -68,9 +68,9 @@ fn fits_behind(tolds: &TreeList<Told>, at: usize, told: Told) -> bool
 }
 
 /// Whether UIDs are left for the messages between this one and the known one behind it, or for all behind it.
-fn fits_in_front(tolds: &TreeList<Told>, at: usize, told: Told, came: u32) -> bool
+fn fits_in_front(tolds: &TreeList<KnownUid>, at: usize, told: KnownUid, came: u32) -> bool
     requires { at ≤ length tolds.now }
-    ensures { IsTrue result ↔ FitsInFront told (drop at tolds.now) came }
+    ensures { IsTrue result ↔ FitsBefore told (drop at tolds.now) came }
 {
     match tolds.get(at) {
         None => has_room_behind(told, came),

@@ -1,11 +1,11 @@
 //! What holds of explained transcripts.
 
 ghost use Rattle.std.specs.Prelude.{◌↔◌, List, []};
-ghost use Rattle.mail_audit.specs.declared.event.SlotEvent.{SlotEvent as Event};
+ghost use Rattle.mail_audit.specs.declared.event.SlotEvent.{SlotEvent};
 ghost use Rattle.mail_audit.specs.Explained.{IsExplained};
 ghost use Rattle.mail_audit.specs.Passing.{PassesFrom};
 
 /// Events are explained exactly where they pass one by one.
 pub fn explained_where_it_passes()
-    ensures { (events : List Event) → IsExplained events ↔ PassesFrom [] [] events }
+    ensures { (events : List SlotEvent) → IsExplained events ↔ PassesFrom [] [] events }
 {}

@@ -3,22 +3,22 @@
 //! It shares no code with nodes and conversations: it reads frames by the grammar, answers by their texts, and operations by theirs, and applies these as replicas do.
 #![tactic(auto)]
 
-mod applying;
+mod expected_lines;
 mod auditing;
-mod dump;
+mod open_dump;
 mod event;
-mod forms;
+mod line_forms;
 mod gaps;
-mod gone;
+mod gone_messages;
 mod laws;
 mod line_audit;
 mod lines;
 mod op_lines;
 mod results;
-mod running;
+mod in_progress;
 mod sessions;
 mod slots;
-mod state;
+mod dump_state;
 mod transcript;
 mod verdict;
 

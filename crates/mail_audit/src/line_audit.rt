@@ -4,12 +4,12 @@ ghost use Rattle.std.specs.Prelude.{◌≡◌, ◌+◌, ◌<◌, ◌^◌, ℕ, L
 ghost use Rattle.imap_types.specs.Escape.{AreOctets};
 ghost use Rattle.mail_script.specs.Fields.{is_session_name};
 ghost use Rattle.mail_audit.specs.Audits.{Audits, IsSpokenLine, Part, spoken_line};
-ghost use Rattle.mail_audit.specs.Standing.{AreHeard, EndsAt, IsOpen, Stands};
+ghost use Rattle.mail_audit.specs.AuditProgress.{AreHeard, EndsAt, IsOpen, HasTaken};
 
-use crate::dump::{OpenDump, Step};
-use crate::lines::{Spoken, dump_begun, read_spoken};
+use crate::open_dump::{OpenDump, DumpStep};
+use crate::lines::{SpokenLine, replica_of_dump, read_spoken};
 use crate::results::is_result;
-use crate::sessions::Sessions;
+use crate::sessions::AuditSessions;
 use crate::verdict::AuditEnd;
 use imap_types::Octets;
 use std::alloc::{AllocError, Global};
@@ -17,7 +17,7 @@ use std::alloc::{AllocError, Global};
 /// How far an audit has come.
 #[derive(Drop)]
 pub struct Audit {
-    pub sessions: Sessions,
+    pub sessions: AuditSessions,
     /// The dump that began and hasn't ended.
     pub dump: Option<OpenDump>,
     /// So many lines were taken.
@@ -27,10 +27,10 @@ pub struct Audit {
 impl Audit {
     /// No line was taken.
     pub fn new(alloc: Global) -> Audit
-        ensures { Stands [] result }
+        ensures { HasTaken [] result }
     {
         Audit {
-            sessions: Sessions::new(alloc),
+            sessions: AuditSessions::new(alloc),
             dump: None,
             taken: 0,
         }
@@ -39,8 +39,8 @@ impl Audit {
     /// Takes the next line, and tells how the audit ends where it ends with it.
     pub fn take(&mut self, alloc: Global, line: &[u8]) -> Result<Option<AuditEnd>, AllocError>
         requires room { self.old.taken + 1 < 2 ^ 64 }
-        requires stands { (lines : List (List ℕ)) × Stands lines self.old }
-        ensures { (lines : List (List ℕ)) → Stands lines self.old → IfOk result (λ end. MatchOption end (Stands (lines ++ line.now ∷ []) self.new) (EndsAt lines line.now)) }
+        requires stands { (lines : List (List ℕ)) × HasTaken lines self.old }
+        ensures { (lines : List (List ℕ)) → HasTaken lines self.old → IfOk result (λ end. MatchOption end (HasTaken (lines ++ line.now ∷ []) self.new) (EndsAt lines line.now)) }
     {
         self.taken += 1;
         match self.dump.take() {
@@ -60,27 +60,27 @@ impl Audit {
         line: &[u8],
     ) -> Result<Option<AuditEnd>, AllocError>
         requires { (lines : List (List ℕ)) × IsOpen lines self.old.sessions dump × (self.old.taken ≡ length lines + 1) }
-        ensures { (lines : List (List ℕ)) → IsOpen lines self.old.sessions dump → self.old.taken ≡ length lines + 1 → self.old.dump ≡ None → IfOk result (λ end. MatchOption end (Stands (lines ++ line.now ∷ []) self.new) (EndsAt lines line.now)) }
+        ensures { (lines : List (List ℕ)) → IsOpen lines self.old.sessions dump → self.old.taken ≡ length lines + 1 → self.old.dump ≡ None → IfOk result (λ end. MatchOption end (HasTaken (lines ++ line.now ∷ []) self.new) (EndsAt lines line.now)) }
     {
         let mut dump = dump;
         let step = dump.take(alloc, line, self.taken)?;
         match step {
-            Step::GoesOn => {
+            DumpStep::GoesOn => {
                 self.dump = Some(dump);
                 Ok(None)
             }
-            Step::Ends => Ok(None),
-            Step::Wrong(number) => Ok(Some(AuditEnd::No(number))),
-            Step::Unreadable => Ok(Some(AuditEnd::Unreadable(self.taken))),
+            DumpStep::Ends => Ok(None),
+            DumpStep::Wrong(number) => Ok(Some(AuditEnd::No(number))),
+            DumpStep::Unreadable => Ok(Some(AuditEnd::Unreadable(self.taken))),
         }
     }
 
     /// Takes a line of a transcript.
-    fn hear(&mut self, alloc: Global, spoken: Spoken) -> Result<Option<AuditEnd>, AllocError>
+    fn hear(&mut self, alloc: Global, spoken: SpokenLine) -> Result<Option<AuditEnd>, AllocError>
         ensures { (lines : List (List ℕ)) (parts : List Part) → AreHeard lines parts self.old.sessions → self.old.taken ≡ length lines + 1 → self.old.dump ≡ None → IsTrue (is_session_name spoken.session) → AreOctets spoken.text
-            → IfOk result (λ end. MatchOption end (Stands (lines ++ spoken_line spoken.session spoken.speaker spoken.text ∷ []) self.new) (EndsAt lines (spoken_line spoken.session spoken.speaker spoken.text))) }
+            → IfOk result (λ end. MatchOption end (HasTaken (lines ++ spoken_line spoken.session spoken.speaker spoken.text ∷ []) self.new) (EndsAt lines (spoken_line spoken.session spoken.speaker spoken.text))) }
     {
-        let Spoken {
+        let SpokenLine {
             session,
             speaker,
             text,
@@ -97,9 +97,9 @@ impl Audit {
 
     /// Takes a line that is of no transcript and of no dump that began before it.
     fn pass(&mut self, alloc: Global, line: &[u8]) -> Result<Option<AuditEnd>, AllocError>
-        ensures { (lines : List (List ℕ)) (parts : List Part) → AreHeard lines parts self.old.sessions → self.old.taken ≡ length lines + 1 → self.old.dump ≡ None → (IsSpokenLine line.now → ⊥) → IfOk result (λ end. MatchOption end (Stands (lines ++ line.now ∷ []) self.new) (EndsAt lines line.now)) }
+        ensures { (lines : List (List ℕ)) (parts : List Part) → AreHeard lines parts self.old.sessions → self.old.taken ≡ length lines + 1 → self.old.dump ≡ None → (IsSpokenLine line.now → ⊥) → IfOk result (λ end. MatchOption end (HasTaken (lines ++ line.now ∷ []) self.new) (EndsAt lines line.now)) }
     {
-        if let Some(replica) = dump_begun(line) {
+        if let Some(replica) = replica_of_dump(line) {
             self.dump = Some(OpenDump::new(alloc, self.taken, replica));
             return Ok(None);
         }
@@ -112,8 +112,8 @@ impl Audit {
 
     /// How the audit ends where the input does.
     pub fn end(self, alloc: Global) -> Result<AuditEnd, AllocError>
-        requires { (lines : List (List ℕ)) × Stands lines self }
-        ensures { (lines : List (List ℕ)) → Stands lines self → IfOk result (Audits lines) }
+        requires { (lines : List (List ℕ)) × HasTaken lines self }
+        ensures { (lines : List (List ℕ)) → HasTaken lines self → IfOk result (Audits lines) }
     {
         let Audit { dump, taken, .. } = self;
         match dump {

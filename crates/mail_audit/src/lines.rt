@@ -1,11 +1,11 @@
 //! The lines of transcripts, and the first lines of dumps.
 
 ghost use Rattle.std.specs.Prelude.{◌≡◌, ◌++◌, ◌∷◌, ℕ, List, IfOk, IsTrue, MatchOption};
-ghost use Rattle.imap_types.specs.Escape.{AreOctets, escaped};
+ghost use Rattle.imap_types.specs.Escape.{AreOctets, escape_text};
 ghost use Rattle.imap_types.specs.declared.escape.Escape.TheVariants.{Text as Kept};
 ghost use Rattle.mail_script.specs.Fields.{IsReplica, is_session_name};
 ghost use Rattle.mail_script.specs.Transcript.{mark_of};
-ghost use Rattle.mail_script.specs.declared.transcript.Speaker.{Speaker as SomeSpeaker};
+ghost use Rattle.mail_script.specs.declared.transcript.Speaker.{Speaker};
 ghost use Rattle.mail_audit.specs.Audits.{IsDumpBegin, IsSpokenLine, spoken_line};
 ghost use Rattle.mail_audit.specs.Dumps.{dump_line};
 
@@ -17,7 +17,7 @@ use text_fields::split;
 
 /// What a line of a transcript tells.
 #[derive(Drop)]
-pub struct Spoken {
+pub struct SpokenLine {
     pub session: SessionName,
     pub speaker: Speaker,
     /// What was said, without its closing CRLF.
@@ -25,7 +25,7 @@ pub struct Spoken {
 }
 
 /// What a line tells, where it is one of a transcript.
-pub fn read_spoken(alloc: Global, line: &[u8]) -> Result<Option<Spoken>, AllocError>
+pub fn read_spoken(alloc: Global, line: &[u8]) -> Result<Option<SpokenLine>, AllocError>
     ensures { IfOk result (λ found. MatchOption found (IsSpokenLine line.now → ⊥) (λ spoken. IsTrue (is_session_name spoken.session) × AreOctets spoken.text × (line.now ≡ spoken_line spoken.session spoken.speaker spoken.text))) }
 {
     let Some((name, said)) = split(b' ', line) else {
@@ -34,12 +34,12 @@ pub fn read_spoken(alloc: Global, line: &[u8]) -> Result<Option<Spoken>, AllocEr
     let Some((speaker, text)) = speech(said) else {
         return Ok(None);
     };
-    let Some(text) = unescaped(alloc, text)? else {
+    let Some(text) = unescape_or_none(alloc, text)? else {
         return Ok(None);
     };
     match SessionName::new(name.to_vec(alloc)?) {
         None => Ok(None),
-        Some(session) => Ok(Some(Spoken {
+        Some(session) => Ok(Some(SpokenLine {
             session,
             speaker,
             text,
@@ -49,7 +49,7 @@ pub fn read_spoken(alloc: Global, line: &[u8]) -> Result<Option<Spoken>, AllocEr
 
 /// Who spoke, and the text behind it.
 fn speech(said: &[u8]) -> Option<(Speaker, &[u8])>
-    ensures { MatchOption result ((speaker : SomeSpeaker) (text : List ℕ) → 32 ∷ said.now ≡ mark_of speaker ++ text → ⊥) (λ speech. 32 ∷ said.now ≡ mark_of speech.0 ++ speech.1.now) }
+    ensures { MatchOption result ((speaker : Speaker) (text : List ℕ) → 32 ∷ said.now ≡ mark_of speaker ++ text → ⊥) (λ speech. 32 ∷ said.now ≡ mark_of speech.0 ++ speech.1.now) }
 {
     match said.strip_prefix(b"C: ".as_slice()) {
         Some(frame) => Some((Speaker::Client, frame)),
@@ -61,8 +61,8 @@ fn speech(said: &[u8]) -> Option<(Speaker, &[u8])>
 }
 
 /// What a text in the escape that keeps spaces stands for, where it is in it.
-fn unescaped(alloc: Global, text: &[u8]) -> Result<Option<Octets>, AllocError>
-    ensures { IfOk result (λ found. MatchOption found ((octets : List ℕ) → AreOctets octets → text.now ≡ escaped Kept octets → ⊥) (λ octets. AreOctets octets × (text.now ≡ escaped Kept octets))) }
+fn unescape_or_none(alloc: Global, text: &[u8]) -> Result<Option<Octets>, AllocError>
+    ensures { IfOk result (λ found. MatchOption found ((octets : List ℕ) → AreOctets octets → text.now ≡ escape_text Kept octets → ⊥) (λ octets. AreOctets octets × (text.now ≡ escape_text Kept octets))) }
 {
     match read_escaped(alloc, Escape::Text, text) {
         Ok(octets) => Ok(Some(octets)),
@@ -72,7 +72,7 @@ fn unescaped(alloc: Global, text: &[u8]) -> Result<Option<Octets>, AllocError>
 }
 
 /// The replica whose dump begins with this line, where one does.
-pub fn dump_begun(line: &[u8]) -> Option<ReplicaId>
+pub fn replica_of_dump(line: &[u8]) -> Option<ReplicaId>
     ensures { MatchOption result (IsDumpBegin line.now → ⊥) (λ replica. IsReplica replica × (line.now ≡ dump_line replica)) }
 {
     match line.strip_prefix(b"dump ".as_slice()) {

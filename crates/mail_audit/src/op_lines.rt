@@ -2,10 +2,10 @@
 
 ghost use Rattle.std.specs.Prelude.{◌≡◌, ◌↔◌, ◌≤◌, ◌<◌, [], true, false, IfOk, IfSome, IsSome, IsTrue, OnOk, length};
 ghost use Rattle.std.specs.declared.cmp.Ordering.TheVariants.{Less};
-ghost use Rattle.crdt_ops.specs.Order.{id_order};
+ghost use Rattle.crdt_ops.specs.SortedSets.{id_order};
 ghost use Rattle.mail_audit.specs.DumpLines.{IsLonger, StandsBehind};
 
-use crdt_ops::{Op, SoundOp, checked};
+use crdt_ops::{Op, SoundOp, into_sound_op};
 use merge_laws::Caused;
 use std::alloc::{AllocError, Global};
 use tags_clocks::{Clock, OpId, ReplicaId};
@@ -38,19 +38,19 @@ impl OpLines {
         let id = op.id;
         if self.is_bad || !is_above(&self.ops, &id) {
             drop(op);
-            return self.set_aside(&id);
+            return self.push_bad(&id);
         }
-        match checked(op) {
+        match into_sound_op(op) {
             Some(op) => {
                 self.ops.push(op)?;
                 Ok(())
             }
-            None => self.set_aside(&id),
+            None => self.push_bad(&id),
         }
     }
 
     /// Takes the id of a line that is bad, or behind one.
-    fn set_aside(&mut self, id: &OpId) -> Result<(), AllocError>
+    fn push_bad(&mut self, id: &OpId) -> Result<(), AllocError>
         ensures { OnOk result ((self.new.is_bad ≡ true) × (self.new.ops.items ≡ self.old.ops.items)) }
     {
         self.is_bad = true;

@@ -3,8 +3,8 @@
 ghost use Rattle.std.specs.Prelude.{◌≡◌, ◌↔◌, IfOk, IfSome, IsTrue};
 ghost use Rattle.mail_script.specs.Fields.{IsId, IsReplica};
 ghost use Rattle.mail_script.specs.Outcomes.{outcome_text};
-ghost use Rattle.mail_script.specs.declared.outcome.OutcomeLine.TheVariants.{Unsound};
-ghost use Rattle.text_fields.specs.Reading.{id_at, replica_at};
+ghost use Rattle.mail_script.specs.declared.outcome_line.OutcomeLine.TheVariants.{Unsound};
+ghost use Rattle.text_fields.specs.FieldReading.{id_at, replica_at};
 ghost use Rattle.mail_audit.specs.ResultReading.{agreed_at, applied_at, conflict_at, counted_at, delivered_at, drained_at, fields_at, forged_at, join_result_at, joined_at, joined_plainly_at, outcome_at, plain_at, replicas_at, result_at, settle_result_at, settled_at, settled_plainly_at, unsound_at, valued_at};
 ghost use Rattle.mail_audit.specs.Results.{IsCount, IsDeliveryResult, IsJoinResult, IsPassedOver, IsResult, IsSettleResult};
 
@@ -82,13 +82,13 @@ fn outcome_of(word: &[u8], fields: &[u8]) -> Option<OutcomeLine>
     ensures range { IfSome result IsPassedOver }
 {
     if word == b"deliver".as_slice() {
-        delivered(fields)
+        delivered_outcome(fields)
     } else if word == b"forge".as_slice() {
-        forged(fields)
+        forged_outcome(fields)
     } else if word == b"forge:".as_slice() {
-        unsound(fields)
+        unsound_outcome(fields)
     } else if word == b"drain".as_slice() {
-        drained(fields)
+        drained_outcome(fields)
     } else {
         of_replicas(word, fields)
     }
@@ -101,11 +101,11 @@ fn of_replicas(word: &[u8], fields: &[u8]) -> Option<OutcomeLine>
     ensures range { IfSome result IsPassedOver }
 {
     if word == b"settle:".as_slice() {
-        settled(fields)
+        settled_outcome(fields)
     } else if word == b"agree".as_slice() {
-        agreed(fields)
+        agreed_outcome(fields)
     } else if word == b"join".as_slice() {
-        joined(fields)
+        joined_outcome(fields)
     } else {
         None
     }
@@ -113,7 +113,7 @@ fn of_replicas(word: &[u8], fields: &[u8]) -> Option<OutcomeLine>
 
 /// The outcome that these fields behind `deliver` seem to tell.
 #[tactic(auto, unfolding(crate::specs::ResultReading::delivered_at))]
-fn delivered(fields: &[u8]) -> Option<OutcomeLine>
+fn delivered_outcome(fields: &[u8]) -> Option<OutcomeLine>
     ensures read { result ≡ delivered_at fields.now }
     ensures range { IfSome result IsPassedOver }
 {
@@ -132,7 +132,7 @@ fn delivered(fields: &[u8]) -> Option<OutcomeLine>
 
 /// The outcome that these fields behind `forge` seem to tell.
 #[tactic(auto, unfolding(crate::specs::ResultReading::forged_at))]
-fn forged(fields: &[u8]) -> Option<OutcomeLine>
+fn forged_outcome(fields: &[u8]) -> Option<OutcomeLine>
     ensures read { result ≡ forged_at fields.now }
     ensures range { IfSome result IsPassedOver }
 {
@@ -151,28 +151,28 @@ fn forged(fields: &[u8]) -> Option<OutcomeLine>
 
 /// The outcome that these fields behind `forge:` seem to tell.
 #[tactic(auto, unfolding(crate::specs::ResultReading::unsound_at))]
-fn unsound(fields: &[u8]) -> Option<OutcomeLine>
+fn unsound_outcome(fields: &[u8]) -> Option<OutcomeLine>
     ensures read { result ≡ unsound_at fields.now }
     ensures range { IfSome result IsPassedOver }
 {
     if fields == b"Unsound U1".as_slice() {
-        Some(broken(BrokenRule::OwnEntry))
+        Some(broken_rule(BrokenRule::OwnEntry))
     } else if fields == b"Unsound U2".as_slice() {
-        Some(broken(BrokenRule::UncoveredId))
+        Some(broken_rule(BrokenRule::UncoveredId))
     } else if fields == b"Unsound U3".as_slice() {
-        Some(broken(BrokenRule::UnlawfulName))
+        Some(broken_rule(BrokenRule::UnlawfulName))
     } else if fields == b"Unsound U4".as_slice() {
-        Some(broken(BrokenRule::UnlawfulFlags))
+        Some(broken_rule(BrokenRule::UnlawfulFlags))
     } else if fields == b"Unsound U5".as_slice() {
-        Some(broken(BrokenRule::InboxDeleted))
+        Some(broken_rule(BrokenRule::InboxDeleted))
     } else if fields == b"Unsound U6".as_slice() {
-        Some(broken(BrokenRule::OldIdCount))
+        Some(broken_rule(BrokenRule::OldIdCount))
     } else {
         None
     }
 }
 
-fn broken(rule: BrokenRule) -> OutcomeLine
+fn broken_rule(rule: BrokenRule) -> OutcomeLine
     ensures { result ≡ Unsound rule }
 {
     OutcomeLine::Unsound { rule }
@@ -180,7 +180,7 @@ fn broken(rule: BrokenRule) -> OutcomeLine
 
 /// The outcome that these fields behind `drain` seem to tell.
 #[tactic(auto, unfolding(crate::specs::ResultReading::drained_at))]
-fn drained(fields: &[u8]) -> Option<OutcomeLine>
+fn drained_outcome(fields: &[u8]) -> Option<OutcomeLine>
     ensures read { result ≡ drained_at fields.now }
     ensures range { IfSome result IsPassedOver }
 {
@@ -188,7 +188,7 @@ fn drained(fields: &[u8]) -> Option<OutcomeLine>
     let (_space, told) = split(b' ', text)?;
     let (_applied, value) = split(b' ', told)?;
     let replica = replica(number)?;
-    let counted = counted(value)?;
+    let counted = count_and_stall(value)?;
     Some(OutcomeLine::Drained {
         replica,
         count: counted.count,
@@ -242,7 +242,7 @@ fn valued_result(kind: &[u8], value: &[u8]) -> Option<DeliveryResult>
     } else if kind == b"Conflict".as_slice() {
         conflict(value)
     } else if kind == b"Applied".as_slice() {
-        applied(value)
+        applied_result(value)
     } else {
         None
     }
@@ -258,11 +258,11 @@ fn conflict(value: &[u8]) -> Option<DeliveryResult>
 }
 
 /// The result that as many operations were applied as the text writes.
-fn applied(value: &[u8]) -> Option<DeliveryResult>
+fn applied_result(value: &[u8]) -> Option<DeliveryResult>
     ensures read { result ≡ applied_at value.now }
     ensures range { IfSome result IsDeliveryResult }
 {
-    let counted = counted(value)?;
+    let counted = count_and_stall(value)?;
     Some(DeliveryResult::Applied {
         count: counted.count,
         stalled: counted.stalled,
@@ -271,7 +271,7 @@ fn applied(value: &[u8]) -> Option<DeliveryResult>
 
 /// The count that the text writes, and whether a word stands behind it.
 #[tactic(auto, unfolding(crate::specs::ResultReading::counted_at, crate::specs::ResultReading::counted_by))]
-fn counted(text: &[u8]) -> Option<AppliedCount>
+fn count_and_stall(text: &[u8]) -> Option<AppliedCount>
     ensures read { result ≡ counted_at text.now }
     ensures range { IfSome result (λ counted. IsCount counted.count) }
 {
@@ -289,7 +289,7 @@ fn counted(text: &[u8]) -> Option<AppliedCount>
 
 /// The outcome that these fields behind `settle:` seem to tell.
 #[tactic(auto, unfolding(crate::specs::ResultReading::settled_at))]
-fn settled(fields: &[u8]) -> Option<OutcomeLine>
+fn settled_outcome(fields: &[u8]) -> Option<OutcomeLine>
     ensures read { result ≡ settled_at fields.now }
     ensures range { IfSome result IsPassedOver }
 {
@@ -304,7 +304,7 @@ fn settle_result(text: &[u8]) -> Option<SettleResult>
     ensures range { IfSome result IsSettleResult }
 {
     match split(b' ', text) {
-        None => settled_plainly(text),
+        None => plain_settle_result(text),
         Some((_, name)) => {
             let id = id(name)?;
             Some(SettleResult::Conflict { id })
@@ -314,7 +314,7 @@ fn settle_result(text: &[u8]) -> Option<SettleResult>
 
 /// The result of an exchange that tells no id.
 #[tactic(auto, unfolding(crate::specs::ResultReading::settled_plainly_at))]
-fn settled_plainly(word: &[u8]) -> Option<SettleResult>
+fn plain_settle_result(word: &[u8]) -> Option<SettleResult>
     ensures read { result ≡ settled_plainly_at word.now }
     ensures range { IfSome result IsSettleResult }
 {
@@ -331,7 +331,7 @@ fn settled_plainly(word: &[u8]) -> Option<SettleResult>
 
 /// The outcome that these fields behind `agree` seem to tell.
 #[tactic(auto, unfolding(crate::specs::ResultReading::agreed_at))]
-fn agreed(fields: &[u8]) -> Option<OutcomeLine>
+fn agreed_outcome(fields: &[u8]) -> Option<OutcomeLine>
     ensures read { result ≡ agreed_at fields.now }
     ensures range { IfSome result IsPassedOver }
 {
@@ -349,7 +349,7 @@ fn agreed(fields: &[u8]) -> Option<OutcomeLine>
 
 /// The outcome that these fields behind `join` seem to tell.
 #[tactic(auto, unfolding(crate::specs::ResultReading::joined_at))]
-fn joined(fields: &[u8]) -> Option<OutcomeLine>
+fn joined_outcome(fields: &[u8]) -> Option<OutcomeLine>
     ensures read { result ≡ joined_at fields.now }
     ensures range { IfSome result IsPassedOver }
 {
@@ -373,7 +373,7 @@ fn join_result(text: &[u8]) -> Option<JoinResult>
     ensures range { IfSome result IsJoinResult }
 {
     match split(b' ', text) {
-        None => joined_plainly(text),
+        None => plain_join_result(text),
         Some((_, name)) => {
             let id = id(name)?;
             Some(JoinResult::Own { id })
@@ -383,7 +383,7 @@ fn join_result(text: &[u8]) -> Option<JoinResult>
 
 /// The result of a join that tells no id.
 #[tactic(auto, unfolding(crate::specs::ResultReading::joined_plainly_at))]
-fn joined_plainly(word: &[u8]) -> Option<JoinResult>
+fn plain_join_result(word: &[u8]) -> Option<JoinResult>
     ensures read { result ≡ joined_plainly_at word.now }
     ensures range { IfSome result IsJoinResult }
 {

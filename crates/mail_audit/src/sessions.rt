@@ -2,7 +2,7 @@
 
 ghost use Rattle.std.specs.Prelude.{◌≡◌, ◌<◌, ◌+◌, false, ℕ, List, [], ◌∷◌, ◌++◌, IfOk, length};
 ghost use Rattle.std.specs.Str.{bytes_eq};
-ghost use Rattle.mail_audit.specs.Hearings.{Tells};
+ghost use Rattle.mail_audit.specs.HeardSessions.{DecidesSaid};
 ghost use Rattle.mail_audit.specs.Sessions.{hearing_of, place_or_end};
 
 use crate::transcript::Transcript;
@@ -13,11 +13,11 @@ use std::marker::Model;
 
 /// The sessions by their names, in the order in which they were first heard, with what is known of each.
 #[derive(Drop)]
-pub struct Sessions {
+pub struct AuditSessions {
     heard: IndexMap<Vec<u8>, Transcript>,
 }
 
-impl Model for Sessions {
+impl Model for AuditSessions {
     ghost use Rattle.std.specs.Prelude.{List};
     ghost use Rattle.mail_audit.specs.Sessions.{Session, sessions_of};
 
@@ -26,12 +26,12 @@ impl Model for Sessions {
     ghost view = { λ s. sessions_of s.heard.entries };
 }
 
-impl Sessions {
+impl AuditSessions {
     /// No session was heard.
-    pub fn new(alloc: Global) -> Sessions
+    pub fn new(alloc: Global) -> AuditSessions
         ensures { result ≡ [] }
     {
-        Sessions {
+        AuditSessions {
             heard: IndexMap::new(alloc),
         }
     }
@@ -44,7 +44,7 @@ impl Sessions {
         speaker: Speaker,
         octets: &[u8],
     ) -> Result<bool, AllocError>
-        ensures said { IfOk result (λ heard. Tells (hearing_of session self.old) (record { speaker = speaker; octets = octets.now }) heard (hearing_of session self.new)) }
+        ensures said { IfOk result (λ heard. DecidesSaid (hearing_of session self.old) (record { speaker = speaker; octets = octets.now }) heard (hearing_of session self.new)) }
         ensures others { IfOk result (λ heard. (other : List ℕ) → bytes_eq other session ≡ false → hearing_of other self.new ≡ hearing_of other self.old) }
     {
         let place = self.place_of(alloc, session)?;

@@ -2,21 +2,21 @@
 
 ghost use Rattle.std.specs.Prelude.{◌≡◌, ◌↔◌, ◌<◌, ◌≤◌, IfOk, IsTrue, MatchOption, None as Unknown, Some as Found, get_or, length, set};
 ghost use Rattle.mail_audit.specs.Explained.{IsNumberOf};
-ghost use Rattle.mail_audit.specs.Gaps.{IsTold, IsUntold, Parts};
-ghost use Rattle.mail_audit.specs.Passing.{HasRoomAbove, MayBe};
-ghost use Rattle.mail_audit.specs.Steps.{Fits, next, nothing, place_at, with_more};
+ghost use Rattle.mail_audit.specs.Gaps.{IsUidKnown, IsUidUnknown, SplitsAt};
+ghost use Rattle.mail_audit.specs.Passing.{HasRoomAbove, MayBeUid};
+ghost use Rattle.mail_audit.specs.SlotSteps.{EventFits, after_event, no_slots, place_at, with_more};
 ghost use Rattle.mail_audit.specs.declared.event.SlotEvent.TheVariants.{Exists as CountTold, Expunge as GoneTold, Tells as UidTold};
 
 use crate::event::SlotEvent;
-use crate::gaps::{find, fits_between, has_room};
-use crate::gone::gone_before;
+use crate::gaps::{known_before, fits_between, has_room};
+use crate::gone_messages::gone_before;
 use std::alloc::{AllocError, Global};
 use std::marker::Model;
 use tree_list::TreeList;
 
 /// A message's place among all that came, from 0 on, and the UID that was told of it.
 #[derive(Clone, Copy, Debug, PartialEq, Eq)]
-pub struct Told {
+pub struct KnownUid {
     pub place: u32,
     pub uid: u32,
 }
@@ -27,26 +27,26 @@ pub struct Told {
 pub struct Slots {
     came: u32,
     gone: TreeList<u32>,
-    tolds: TreeList<Told>,
+    tolds: TreeList<KnownUid>,
 }
 
 impl Model for Slots {
-    ghost use Rattle.mail_audit.specs.Kept.{AreKept, places_from, slots_from};
-    ghost use Rattle.mail_audit.specs.Gaps.{IsTold, IsUntold, Parts};
-    ghost use Rattle.mail_audit.specs.Passing.{HasRoomAbove, MayBe};
-    ghost use Rattle.mail_audit.specs.Steps.{Known};
+    ghost use Rattle.mail_audit.specs.KnownUids.{AreKnownUids, places_from, slots_from};
+    ghost use Rattle.mail_audit.specs.Gaps.{IsUidKnown, IsUidUnknown, SplitsAt};
+    ghost use Rattle.mail_audit.specs.Passing.{HasRoomAbove, MayBeUid};
+    ghost use Rattle.mail_audit.specs.SlotSteps.{SlotKnowledge};
 
-    ghost Value = { Known };
+    ghost Value = { SlotKnowledge };
 
     ghost view = { λ s. record { there = places_from 0 s.gone s.came; slots = slots_from 0 s.tolds s.came } };
 
-    ghost invariant = { λ s. AreKept s.gone s.tolds s.came };
+    ghost invariant = { λ s. AreKnownUids s.gone s.tolds s.came };
 }
 
 impl Slots {
     /// Nothing is known, and no message came.
     pub fn new() -> Slots
-        ensures { result ≡ nothing }
+        ensures { result ≡ no_slots }
     {
         Slots {
             came: 0,
@@ -58,8 +58,8 @@ impl Slots {
     /// Takes note of an event, where it fits what is known; else nothing changes. `Err` where there is no memory for it, and
     /// then nothing changes either.
     pub fn note(&mut self, alloc: Global, event: SlotEvent) -> Result<bool, AllocError>
-        ensures fits { IfOk result (λ noted. IsTrue noted ↔ Fits self.old event) }
-        ensures next { IfOk result (λ noted. IsTrue noted → self.new ≡ next self.old event) }
+        ensures fits { IfOk result (λ noted. IsTrue noted ↔ EventFits self.old event) }
+        ensures next { IfOk result (λ noted. IsTrue noted → self.new ≡ after_event self.old event) }
     {
         match event {
             SlotEvent::Selects => {
@@ -90,8 +90,8 @@ impl Slots {
 
     /// Takes note that so many messages are there, where no more went and UIDs are left for those that came.
     fn grow(&mut self, count: u32) -> bool
-        ensures fits { IsTrue result ↔ Fits self.old (CountTold count) }
-        ensures next { IsTrue result → self.new ≡ next self.old (CountTold count) }
+        ensures fits { IsTrue result ↔ EventFits self.old (CountTold count) }
+        ensures next { IsTrue result → self.new ≡ after_event self.old (CountTold count) }
     {
         let there = self.count();
         if count < there {
@@ -117,8 +117,8 @@ impl Slots {
 
     /// Takes note that the message of this number went, where there is one.
     fn take_out(&mut self, alloc: Global, number: u32) -> Result<bool, AllocError>
-        ensures fits { IfOk result (λ noted. IsTrue noted ↔ Fits self.old (GoneTold number)) }
-        ensures next { IfOk result (λ noted. IsTrue noted → self.new ≡ next self.old (GoneTold number)) }
+        ensures fits { IfOk result (λ noted. IsTrue noted ↔ EventFits self.old (GoneTold number)) }
+        ensures next { IfOk result (λ noted. IsTrue noted → self.new ≡ after_event self.old (GoneTold number)) }
     {
         if !self.has(number) {
             return Ok(false);
@@ -140,8 +140,8 @@ impl Slots {
 
     /// Takes note of the UID of the message of this number, where there is one and its UID may be this.
     fn tell(&mut self, alloc: Global, number: u32, uid: u32) -> Result<bool, AllocError>
-        ensures fits { IfOk result (λ noted. IsTrue noted ↔ Fits self.old (UidTold number uid)) }
-        ensures next { IfOk result (λ noted. IsTrue noted → self.new ≡ next self.old (UidTold number uid)) }
+        ensures fits { IfOk result (λ noted. IsTrue noted ↔ EventFits self.old (UidTold number uid)) }
+        ensures next { IfOk result (λ noted. IsTrue noted → self.new ≡ after_event self.old (UidTold number uid)) }
     {
         if !self.has(number) {
             return Ok(false);
@@ -153,14 +153,14 @@ impl Slots {
     /// Takes note of the UID at a place, where its UID may be this.
     fn tell_at(&mut self, alloc: Global, place: u32, uid: u32) -> Result<bool, AllocError>
         requires { place < length self.old.slots }
-        ensures fits { IfOk result (λ noted. IsTrue noted ↔ (MayBe (get_or self.old.slots place Unknown) uid × HasRoomAbove 0 (set self.old.slots place (Found uid)))) }
+        ensures fits { IfOk result (λ noted. IsTrue noted ↔ (MayBeUid (get_or self.old.slots place Unknown) uid × HasRoomAbove 0 (set self.old.slots place (Found uid)))) }
         ensures next { IfOk result (λ noted. IsTrue noted → self.new ≡ record self.old { slots = set self.old.slots place (Found uid) }) }
     {
-        let at = find(&self.tolds, place);
+        let at = known_before(&self.tolds, place);
         if let Some(known) = uid_at(&self.tolds, at, place) {
             return Ok(known == uid);
         }
-        let told = Told { place, uid };
+        let told = KnownUid { place, uid };
         if !fits_between(&self.tolds, at, told, self.came) {
             return Ok(false);
         }
@@ -170,10 +170,10 @@ impl Slots {
 }
 
 /// The UID that was told of a place, where one was, behind so many of lesser places.
-fn uid_at(tolds: &TreeList<Told>, at: usize, place: u32) -> Option<u32>
+fn uid_at(tolds: &TreeList<KnownUid>, at: usize, place: u32) -> Option<u32>
     requires within { at ≤ length tolds.now }
-    requires parts { Parts place tolds.now at }
-    ensures { MatchOption result (IsUntold at place tolds.now) (λ uid. IsTold at place uid tolds.now) }
+    requires parts { SplitsAt place tolds.now at }
+    ensures { MatchOption result (IsUidUnknown at place tolds.now) (λ uid. IsUidKnown at place uid tolds.now) }
 {
     match tolds.get(at) {
         None => None,

@@ -2,16 +2,16 @@
 
 ghost use Rattle.std.specs.Prelude.{◌≡◌, ◌≢◌, ◌↔◌, ℕ, List, [], ◌∷◌, ◌++◌, IfOk, IfSome, IsTrue, OnOk, Some};
 ghost use Rattle.imap_answers.specs.Printable.{IsPrintable};
-ghost use Rattle.imap_answers.specs.Printed.{printed};
-ghost use Rattle.imap_answers.specs.declared.answer.Answer.{Answer as AnAnswer};
+ghost use Rattle.imap_answers.specs.Printed.{text_of_answer};
+ghost use Rattle.imap_answers.specs.declared.answer.Answer.{Answer};
 ghost use Rattle.imap_grammar.specs.declared.fault.ParseFault.TheVariants.{NoMemory as NoMemoryToParse};
-ghost use Rattle.mail_audit.specs.Hearings.{Hears, Tells, unheard};
-ghost use Rattle.mail_audit.specs.Steps.{Fits, next};
+ghost use Rattle.mail_audit.specs.HeardSessions.{TakesSaid, DecidesSaid, nothing_known};
+ghost use Rattle.mail_audit.specs.SlotSteps.{EventFits, after_event};
 ghost use Rattle.mail_audit.specs.Transcripts.{MayStand, event_by, event_of, idles, may_expunge, running_after, running_by};
 ghost use Rattle.mail_script.specs.declared.transcript.Speaker.TheVariants.{Client as Asking, Server as Answering};
 
 use crate::event::SlotEvent;
-use crate::running::{InProgress, Running};
+use crate::in_progress::{InProgress, RunningCommand};
 use crate::slots::Slots;
 use imap_answers::Answer;
 use imap_grammar::{Command, ParseFault, Tagged, parse};
@@ -28,9 +28,9 @@ pub struct Transcript {
 }
 
 impl Model for Transcript {
-    ghost use Rattle.mail_audit.specs.Hearings.{Hearing};
+    ghost use Rattle.mail_audit.specs.HeardSessions.{SessionKnowledge};
 
-    ghost Value = { Hearing };
+    ghost Value = { SessionKnowledge };
 
     ghost view = { λ t. record { running = t.running; known = t.slots } };
 }
@@ -38,7 +38,7 @@ impl Model for Transcript {
 impl Transcript {
     /// Nothing was said.
     pub fn new(alloc: Global) -> Transcript
-        ensures { result ≡ unheard }
+        ensures { result ≡ nothing_known }
     {
         Transcript {
             running: InProgress::new(alloc),
@@ -53,7 +53,7 @@ impl Transcript {
         speaker: Speaker,
         octets: &[u8],
     ) -> Result<bool, AllocError>
-        ensures { IfOk result (λ heard. Tells self.old (record { speaker = speaker; octets = octets.now }) heard self.new) }
+        ensures { IfOk result (λ heard. DecidesSaid self.old (record { speaker = speaker; octets = octets.now }) heard self.new) }
     {
         match speaker {
             Speaker::Client => {
@@ -66,7 +66,7 @@ impl Transcript {
 
     /// Takes a client's frame.
     fn ask(&mut self, alloc: Global, frame: &[u8]) -> Result<(), AllocError>
-        ensures { OnOk result (Hears self.old (record { speaker = Asking; octets = frame.now }) self.new) }
+        ensures { OnOk result (TakesSaid self.old (record { speaker = Asking; octets = frame.now }) self.new) }
     {
         if self.running.idles() {
             return Ok(());
@@ -79,14 +79,14 @@ impl Transcript {
 
     /// A command begins.
     fn begin(&mut self, alloc: Global, tagged: Tagged) -> Result<(), AllocError>
-        ensures { OnOk result ((self.new.running ≡ self.old.running ++ running_by tagged ∷ []) × (self.new.known ≡ next self.old.known (event_by tagged.command)) × Fits self.old.known (event_by tagged.command)) }
+        ensures { OnOk result ((self.new.running ≡ self.old.running ++ running_by tagged ∷ []) × (self.new.known ≡ after_event self.old.known (event_by tagged.command)) × EventFits self.old.known (event_by tagged.command)) }
     {
         let Tagged { tag, command } = tagged;
         let may_expunge = may_expunge(&command);
-        let idles = idles(&command);
+        let idles = is_idle(&command);
         let event = event_by(&command);
         drop(command);
-        self.running.begin(Running {
+        self.running.begin(RunningCommand {
             tag,
             may_expunge,
             idles,
@@ -97,7 +97,7 @@ impl Transcript {
 
     /// Takes what a server sent.
     fn answer(&mut self, alloc: Global, octets: &[u8]) -> Result<bool, AllocError>
-        ensures { IfOk result (λ heard. Tells self.old (record { speaker = Answering; octets = octets.now }) heard self.new) }
+        ensures { IfOk result (λ heard. DecidesSaid self.old (record { speaker = Answering; octets = octets.now }) heard self.new) }
     {
         match whole_answer(alloc, octets)? {
             None => Ok(false),
@@ -111,8 +111,8 @@ impl Transcript {
 
     /// Takes an answer.
     fn take(&mut self, alloc: Global, answer: &Answer) -> Result<bool, AllocError>
-        ensures fits { IfOk result (λ taken. IsTrue taken ↔ (MayStand self.old.running answer.now × Fits self.old.known (event_of answer.now))) }
-        ensures taken { IfOk result (λ taken. IsTrue taken → (self.new.running ≡ running_after self.old.running answer.now) × (self.new.known ≡ next self.old.known (event_of answer.now))) }
+        ensures fits { IfOk result (λ taken. IsTrue taken ↔ (MayStand self.old.running answer.now × EventFits self.old.known (event_of answer.now))) }
+        ensures taken { IfOk result (λ taken. IsTrue taken → (self.new.running ≡ running_after self.old.running answer.now) × (self.new.known ≡ after_event self.old.known (event_of answer.now))) }
     {
         if !may_stand(&self.running, answer) {
             return Ok(false);
@@ -149,8 +149,8 @@ fn pass_over(fault: ParseFault) -> Result<(), AllocError>
 
 /// The answer that these octets are, where they are one.
 fn whole_answer(alloc: Global, octets: &[u8]) -> Result<Option<Answer>, AllocError>
-    ensures found { IfOk result (λ found. IfSome found (λ answer. IsPrintable answer × (octets.now ≡ printed answer))) }
-    ensures only { IfOk result (λ found. (answer : AnAnswer) → IsPrintable answer → octets.now ≡ printed answer → found ≡ Some answer) }
+    ensures found { IfOk result (λ found. IfSome found (λ answer. IsPrintable answer × (octets.now ≡ text_of_answer answer))) }
+    ensures only { IfOk result (λ found. (answer : Answer) → IsPrintable answer → octets.now ≡ text_of_answer answer → found ≡ Some answer) }
 {
     match read(alloc, octets)? {
         None => Ok(None),
@@ -178,7 +178,7 @@ fn may_expunge(command: &Command) -> bool
 }
 
 /// Whether the session idles while the command is in progress (RFC 2177).
-fn idles(command: &Command) -> bool
+fn is_idle(command: &Command) -> bool
     ensures { result ≡ idles command.now }
 {
     matches!(command, Command::Idle)

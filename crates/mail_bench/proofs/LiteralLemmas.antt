@@ -9,17 +9,17 @@ use Rattle.std.proofs.lemmas.Fmt.{decimal_nonempty, digits_decimal, digits_value
 use Rattle.std.proofs.lemmas.Str.Parse.{IsNumeralModel, numerals_by_fold}
 use Rattle.mail_bench.specs.Answers.{number_from}
 use Rattle.mail_bench.specs.Replies.{LiteralsArePassed, announced, at_literal, count_more, heard, in_line, is_ended, is_kept, longest_literal, next}
-use Rattle.mail_bench.specs.declared.replies.Stage.{Stage}
-use Rattle.mail_bench.specs.declared.replies.Stage.TheVariants.{Announced, Closed, Count, Ended, Line, Literal, Open}
+use Rattle.mail_bench.specs.declared.replies.ReplyStage.{ReplyStage}
+use Rattle.mail_bench.specs.declared.replies.ReplyStage.TheVariants.{Announced, Closed, Count, Ended, Line, Literal, Open}
 use Rattle.mail_bench.proofs.AnswerLemmas.{number_grows}
 
 -- ---- octets of a line
 
-either : (b : Bool) (s t : Stage) → is_kept s ≡ true → is_kept t ≡ true → is_kept (if b then s else t) ≡ true
+either : (b : Bool) (s t : ReplyStage) → is_kept s ≡ true → is_kept t ≡ true → is_kept (if b then s else t) ≡ true
 either true s t k l = k
 either false s t k l = l
 
-other : (b : Bool) (s t : Stage) → b ≡ false → is_kept t ≡ true → is_kept (if b then s else t) ≡ true
+other : (b : Bool) (s t : ReplyStage) → b ≡ false → is_kept t ≡ true → is_kept (if b then s else t) ≡ true
 other true s t e l = absurd (false≢true (sym e))
 other false s t e l = l
 
@@ -30,7 +30,7 @@ is_not false e = refl
 goes_on : (octet : ℕ) → (octet == 10) ≡ false → is_kept (in_line octet) ≡ true
 goes_on octet e = either (octet == 123) Open (if octet == 10 then Ended else Line) refl (rw e refl)
 
-kept_on : (stage : Stage) (octet : ℕ) → is_kept stage ≡ true → (octet == 10) ≡ false → is_kept (next stage octet) ≡ true
+kept_on : (stage : ReplyStage) (octet : ℕ) → is_kept stage ≡ true → (octet == 10) ≡ false → is_kept (next stage octet) ≡ true
 kept_on Line octet k e = goes_on octet e
 kept_on Open octet k e = either (is_ascii_digit octet) (Count (count_more 0 octet)) (in_line octet) refl (goes_on octet e)
 kept_on (Count n) octet k e =
@@ -40,7 +40,7 @@ kept_on (Announced n) octet k e = other (octet == 10) (at_literal n) (in_line oc
 kept_on (Literal n) octet k e = absurd (false≢true k)
 kept_on Ended octet k e = absurd (false≢true k)
 
-opens : (stage : Stage) → is_kept stage ≡ true → next stage 123 ≡ Open
+opens : (stage : ReplyStage) → is_kept stage ≡ true → next stage 123 ≡ Open
 opens Line k = refl
 opens Open k = refl
 opens (Count n) k = refl
@@ -49,7 +49,7 @@ opens (Announced n) k = refl
 opens (Literal n) k = absurd (false≢true k)
 opens Ended k = absurd (false≢true k)
 
-not_ended : (stage : Stage) → is_kept stage ≡ true → is_ended stage ≡ false
+not_ended : (stage : ReplyStage) → is_kept stage ≡ true → is_ended stage ≡ false
 not_ended Line k = refl
 not_ended Open k = refl
 not_ended (Count n) k = refl
@@ -58,11 +58,11 @@ not_ended (Announced n) k = refl
 not_ended (Literal n) k = refl
 not_ended Ended k = absurd (false≢true k)
 
-one_heard : (stage : Stage) (line : List ℕ) (octet : ℕ) (rest : List ℕ) → is_kept stage ≡ true → heard stage line (octet ∷ rest) ≡ heard (next stage octet) (line ++ octet ∷ []) rest
+one_heard : (stage : ReplyStage) (line : List ℕ) (octet : ℕ) (rest : List ℕ) → is_kept stage ≡ true → heard stage line (octet ∷ rest) ≡ heard (next stage octet) (line ++ octet ∷ []) rest
 one_heard stage line octet rest k = rw (not_ended stage k) (rw k refl)
 
-line_heard : (text : List ℕ) (stage : Stage) (line rest : List ℕ) → is_kept stage ≡ true → list_all (λ octet. not (octet == 10)) text ≡ true
-    → (new : Stage) × (is_kept new ≡ true) × (heard stage line (text ++ rest) ≡ heard new (line ++ text) rest)
+line_heard : (text : List ℕ) (stage : ReplyStage) (line rest : List ℕ) → is_kept stage ≡ true → list_all (λ octet. not (octet == 10)) text ≡ true
+    → (new : ReplyStage) × (is_kept new ≡ true) × (heard stage line (text ++ rest) ≡ heard new (line ++ text) rest)
 line_heard [] stage line rest k all = (stage, k, ap (λ (l : List ℕ). heard stage l rest) (sym (append-nil line)))
 line_heard (octet ∷ text) stage line rest k all =
     let parts = and_parts (not (octet == 10)) (list_all (λ octet. not (octet == 10)) text) all in
@@ -109,9 +109,9 @@ left_more left more e some =
 
 passed : (literal : List ℕ) (left : ℕ) (line rest : List ℕ) → length literal ≡ left → 0 < left → heard (Literal left) line (literal ++ rest) ≡ heard Line line rest
 passed [] left line rest e some = absurd (omega arith)
-passed (octet ∷ []) left line rest e some = ap (λ (stage : Stage). heard stage line rest) (left_none left (sym e))
+passed (octet ∷ []) left line rest e some = ap (λ (stage : ReplyStage). heard stage line rest) (left_none left (sym e))
 passed (octet ∷ second ∷ literal) left line rest e some =
-    ap (λ (stage : Stage). heard stage line ((second ∷ literal) ++ rest)) (left_more left (suc (length literal)) (sym e) (omega arith))
+    ap (λ (stage : ReplyStage). heard stage line ((second ∷ literal) ++ rest)) (left_more left (suc (length literal)) (sym e) (omega arith))
     ∙ passed (second ∷ literal) (suc (length literal)) line rest refl (omega arith)
 
 -- an announcement, from its `{` on
@@ -133,7 +133,7 @@ announcement_heard literal line rest some short =
     let line_is : ((text ++ 125 ∷ []) ++ 13 ∷ []) ++ 10 ∷ [] ≡ line ++ announced literal =
     ap (λ (l : List ℕ). l ++ 10 ∷ []) (append_assoc text (125 ∷ []) (13 ∷ [])) ∙ append_assoc text (125 ∷ 13 ∷ []) (10 ∷ [])
     ∙ append_assoc start digits tail ∙ append_assoc line (123 ∷ []) (digits ++ tail) in
-    known ∙ ap (λ (stage : Stage). heard stage (((text ++ 125 ∷ []) ++ 13 ∷ []) ++ 10 ∷ []) rest) last ∙ ap (λ (l : List ℕ). heard (Literal n) l rest) line_is
+    known ∙ ap (λ (stage : ReplyStage). heard stage (((text ++ 125 ∷ []) ++ 13 ∷ []) ++ 10 ∷ []) rest) last ∙ ap (λ (l : List ℕ). heard (Literal n) l rest) line_is
 
 -- whatever octets a literal has, the line goes on behind it
 pub literals_are_passed : LiteralsArePassed
@@ -144,5 +144,5 @@ literals_are_passed before line literal rest some short all =
     let front = line_heard line Line before (announced literal ++ behind) refl all in
     let more = decimal n ++ (125 ∷ 13 ∷ 10 ∷ behind) in
     front.2 ∙ ap (λ (l : List ℕ). heard front.0 text (123 ∷ l)) (append_assoc (decimal n) (125 ∷ 13 ∷ 10 ∷ []) behind)
-    ∙ one_heard front.0 text 123 more front.1 ∙ ap (λ (stage : Stage). heard stage (text ++ 123 ∷ []) more) (opens front.0 front.1)
+    ∙ one_heard front.0 text 123 more front.1 ∙ ap (λ (stage : ReplyStage). heard stage (text ++ 123 ∷ []) more) (opens front.0 front.1)
     ∙ announcement_heard literal text behind some short ∙ passed literal n (text ++ announced literal) rest refl some

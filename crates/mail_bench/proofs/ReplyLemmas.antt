@@ -3,22 +3,22 @@ use Rattle.std.proofs.lemmas.Bool.Decides.{nat_tests}
 use Rattle.std.proofs.lemmas.List.{drop-drop, drop_all, length-take, take_all, take_more}
 use Rattle.memchr.specs.Find.{Nowhere, Passes, is_byte2}
 use Rattle.mail_bench.specs.Replies.{at_literal, heard, in_line, is_ended, kept, next}
-use Rattle.mail_bench.specs.declared.replies.Stage.{Stage}
-use Rattle.mail_bench.specs.declared.replies.Stage.TheVariants.{Line, Literal}
+use Rattle.mail_bench.specs.declared.replies.ReplyStage.{ReplyStage}
+use Rattle.mail_bench.specs.declared.replies.ReplyStage.TheVariants.{Line, Literal}
 
 -- an answer that has ended takes nothing more
-pub heard_ended : (stage : Stage) (line octets : List ℕ) → is_ended stage ≡ true → heard stage line octets ≡ (stage, line, octets)
+pub heard_ended : (stage : ReplyStage) (line octets : List ℕ) → is_ended stage ≡ true → heard stage line octets ≡ (stage, line, octets)
 heard_ended stage line [] e = refl
 heard_ended stage line (octet ∷ octets) e = rw e refl
 
 -- one octet more
-heard_suc : (stage : Stage) (line octets : List ℕ) (i : ℕ) → i < length octets → is_ended stage ≡ false
+heard_suc : (stage : ReplyStage) (line octets : List ℕ) (i : ℕ) → i < length octets → is_ended stage ≡ false
     → heard stage line (drop i octets) ≡ heard (next stage (get_or octets i 0)) (kept stage line (get_or octets i 0)) (drop (suc i) octets)
 heard_suc stage line [] i l e = absurd (omega arith)
 heard_suc stage line (octet ∷ octets) zero l e = rw e refl
 heard_suc stage line (octet ∷ octets) (suc i) l e = heard_suc stage line octets i (omega arith) e
 
-pub heard_next : (stage : Stage) (line octets : List ℕ) (i : ℕ) → i < length octets → is_ended stage ≡ false
+pub heard_next : (stage : ReplyStage) (line octets : List ℕ) (i : ℕ) → i < length octets → is_ended stage ≡ false
     → heard stage line (drop i octets) ≡ heard (next stage (get_or octets i 0)) (kept stage line (get_or octets i 0)) (drop (i + 1) octets)
 heard_next stage line octets i l e =
     let k : suc i ≡ i + 1 = omega arith in
@@ -69,18 +69,18 @@ literal_heard [] line left (suc count) short some within = absurd (omega arith)
 literal_heard (octet ∷ octets) line left (suc zero) short some within = refl
 literal_heard (octet ∷ octets) line left (suc (suc count)) short some within =
     let fewer : left - 1 - suc count ≡ left - suc (suc count) = omega arith in
-    ap (λ (stage : Stage). heard stage line octets) (more_left left count within)
+    ap (λ (stage : ReplyStage). heard stage line octets) (more_left left count within)
     ∙ literal_heard octets line (left - 1) (suc count) (omega arith) (omega arith) (omega arith)
     ∙ ap (λ (n : ℕ). heard (at_literal n) line (drop (suc count) octets)) fewer
 
 -- ---- where a reading stands
 
 -- what is heard, where the stage and the line are these
-pub heard_so : (octets line rest text more : List ℕ) (stage new : Stage) → heard Line line octets ≡ heard stage text rest → new ≡ stage → more ≡ text → heard Line line octets ≡ heard new more rest
-heard_so octets line rest text more stage new h e f = h ∙ ap (λ (s : Stage). heard s text rest) (sym e) ∙ ap (λ (l : List ℕ). heard new l rest) (sym f)
+pub heard_so : (octets line rest text more : List ℕ) (stage new : ReplyStage) → heard Line line octets ≡ heard stage text rest → new ≡ stage → more ≡ text → heard Line line octets ≡ heard new more rest
+heard_so octets line rest text more stage new h e f = h ∙ ap (λ (s : ReplyStage). heard s text rest) (sym e) ∙ ap (λ (l : List ℕ). heard new l rest) (sym f)
 
 -- piece behind piece: what stands behind a place is read on
-pub heard_on : (stage new : Stage) (line more octets : List ℕ) (at count : ℕ)
+pub heard_on : (stage new : ReplyStage) (line more octets : List ℕ) (at count : ℕ)
     → heard stage line (take (length octets - at) (drop at octets)) ≡ heard new more (drop count (take (length octets - at) (drop at octets)))
     → heard stage line (drop at octets) ≡ heard new more (drop (at + count) octets)
 heard_on stage new line more octets at count one =
@@ -91,5 +91,5 @@ pub within_on : (octets : List ℕ) (at count : ℕ) → at ≤ length octets �
 within_on octets at count low h = omega (arith, length-take (length octets - at) (drop at octets), length-drop at octets)
 
 -- nothing more came
-pub heard_whole : (stage : Stage) (line octets : List ℕ) (at : ℕ) → length octets ≤ at → heard stage line (drop at octets) ≡ (stage, line, drop at octets)
+pub heard_whole : (stage : ReplyStage) (line octets : List ℕ) (at : ℕ) → length octets ≤ at → heard stage line (drop at octets) ≡ (stage, line, drop at octets)
 heard_whole stage line octets at past = rw (drop_all at octets past) refl

@@ -3,7 +3,7 @@ use Rattle.std.specs.Char.{is_ascii_digit}
 use Rattle.std.specs.Fmt.{decimal}
 use Rattle.std.specs.List.{list_all}
 use Rattle.std.specs.Str.{bytes_eq}
-use Rattle.text_fields.specs.Reading.{◌>>=◌}
+use Rattle.text_fields.specs.FieldReading.{◌>>=◌}
 use Rattle.mail_bench.specs.declared.answers.Answer.{Answer}
 use Rattle.mail_bench.specs.declared.answers.Answer.TheVariants.{Bye, Continue, Ended, Exists, Other, Unreadable}
 use Rattle.mail_bench.specs.declared.answers.Status.{Status}

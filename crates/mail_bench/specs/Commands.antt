@@ -9,7 +9,7 @@ use Rattle.mail_bench.specs.declared.commands.MailboxAsk.TheVariants as mailboxe
 use Rattle.mail_bench.specs.declared.commands.MessageAsk.{MessageAsk}
 use Rattle.mail_bench.specs.declared.commands.MessageAsk.TheVariants as messages
 -- A text as a quoted string, and an octet of it (RFC 9051, section 9, `quoted`).
-pub use Rattle.imap_answers.specs.Strings.{escaped_octet as escaped, quoted_text as quoted}
+pub use Rattle.imap_answers.specs.Strings.{escaped_octet as escaped, quoted_string as quoted}
 
 -- A command with no argument of its own.
 abbrev pub plain_text : Ask → List ℕ

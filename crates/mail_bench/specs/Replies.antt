@@ -4,8 +4,8 @@ use Rattle.std.specs.Fmt.{decimal}
 use Rattle.std.specs.List.{list_all}
 use Rattle.mail_bench.specs.declared.replies.ReplyFault.{ReplyFault}
 use Rattle.mail_bench.specs.declared.replies.ReplyFault.TheVariants.{LongLine, LongLiteral}
-use Rattle.mail_bench.specs.declared.replies.Stage.{Stage}
-use Rattle.mail_bench.specs.declared.replies.Stage.TheVariants.{Announced, Closed, Count, Ended, Line, Literal, Open}
+use Rattle.mail_bench.specs.declared.replies.ReplyStage.{ReplyStage}
+use Rattle.mail_bench.specs.declared.replies.ReplyStage.TheVariants.{Announced, Closed, Count, Ended, Line, Literal, Open}
 
 -- The octets of the longest line and of the longest literal that are read.
 abbrev pub longest_line : ℕ
@@ -15,7 +15,7 @@ abbrev pub longest_literal : ℕ
 longest_literal = 1073741824
 
 -- Behind an octet that goes on with no announcement: `{` (123) may begin one, and LF (10) ends the answer.
-abbrev pub in_line : ℕ → Stage
+abbrev pub in_line : ℕ → ReplyStage
 in_line octet = if octet == 123 then Open else if octet == 10 then Ended else Line
 
 -- A count with one digit more. One that is too long stays so.
@@ -23,11 +23,11 @@ abbrev pub count_more : ℕ → ℕ → ℕ
 count_more octets digit = min (octets * 10 + (digit - 48)) (longest_literal + 1)
 
 -- Behind the announcement of a literal of so many octets.
-abbrev pub at_literal : ℕ → Stage
+abbrev pub at_literal : ℕ → ReplyStage
 at_literal octets = if octets == 0 then Line else Literal octets
 
 -- Where the next octet stands behind this one: RFC 9051, section 9, `literal = "{" number64 "}" CRLF *CHAR8`, at the end of a line.
-abbrev pub next : Stage → ℕ → Stage
+abbrev pub next : ReplyStage → ℕ → ReplyStage
 next Line octet = in_line octet
 next Open octet = if is_ascii_digit octet then Count (count_more 0 octet) else in_line octet
 next (Count octets) octet = if is_ascii_digit octet then Count (count_more octets octet) else if octet == 125 then Closed octets else in_line octet
@@ -37,30 +37,30 @@ next (Literal left) octet = at_literal (left - 1)
 next Ended octet = Ended
 
 -- Whether the octet at this stage is one of the line.
-abbrev pub is_kept : Stage → Bool
+abbrev pub is_kept : ReplyStage → Bool
 is_kept (Literal left) = false
 is_kept Ended = false
 is_kept stage = true
 
 -- The line with one octet more: those of literals aren't kept.
-abbrev pub kept : Stage → List ℕ → ℕ → List ℕ
+abbrev pub kept : ReplyStage → List ℕ → ℕ → List ℕ
 kept stage line octet = if is_kept stage then line ++ octet ∷ [] else line
 
-abbrev pub is_ended : Stage → Bool
+abbrev pub is_ended : ReplyStage → Bool
 is_ended Ended = true
 is_ended stage = false
 
 -- What becomes of an answer over these octets: its stage, its line, and the octets behind its end.
-abbrev pub heard : Stage → List ℕ → List ℕ → Stage × List ℕ × List ℕ
+abbrev pub heard : ReplyStage → List ℕ → List ℕ → ReplyStage × List ℕ × List ℕ
 heard stage line [] = (stage, line, [])
 heard stage line (octet ∷ octets) = if is_ended stage then (stage, line, octet ∷ octets) else heard (next stage octet) (kept stage line octet) octets
 
 -- Why an answer at this stage, with a line of this length, isn't read on.
-abbrev pub refusal_at : Stage → Option ReplyFault
+abbrev pub refusal_at : ReplyStage → Option ReplyFault
 refusal_at (Literal left) = if nat_lt longest_literal left then Some LongLiteral else None
 refusal_at stage = None
 
-abbrev pub refusal : Stage → ℕ → Option ReplyFault
+abbrev pub refusal : ReplyStage → ℕ → Option ReplyFault
 refusal stage length = if nat_lt longest_line length then Some LongLine else refusal_at stage
 
 -- The announcement of a literal: `{` (123), its length in decimal digits, `}` (125), CR (13) and LF (10).

@@ -131,7 +131,7 @@ fn number_of(digits: &[u8]) -> Option<u32>
     if digits.is_empty() || !are_digits(digits) {
         return None;
     }
-    spelled(digits)
+    number_of_digits(digits)
 }
 
 fn are_digits(octets: &[u8]) -> bool
@@ -142,7 +142,7 @@ fn are_digits(octets: &[u8]) -> bool
 
 /// The number that these digits spell, where it has 32 bits.
 #[tactic(auto, using(crate::proofs::AnswerLemmas::number_grows, crate::proofs::AnswerLemmas::number_next))]
-fn spelled(digits: &[u8]) -> Option<u32>
+fn number_of_digits(digits: &[u8]) -> Option<u32>
     ensures { SomeIff result (number_from 0 digits.now < 2 ^ 32) (number_from 0 digits.now) }
 {
     let mut number = 0u32;

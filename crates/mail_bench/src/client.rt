@@ -4,7 +4,7 @@ ghost use Rattle.std.specs.Prelude.{◌≤◌, IfOk, length, vec_len};
 
 use crate::answers::{Answer, answer_of};
 use crate::commands::{Ask, Command, MailboxAsk, push_line};
-use crate::fault::{BenchFault, judged, read_fault};
+use crate::fault::{BenchFault, status_result, read_fault};
 use crate::replies::Reading;
 use std::alloc::Global;
 use std::io::{ErrorKind, Read, Write};
@@ -231,7 +231,7 @@ impl Client {
     pub fn await_end(&mut self, number: u64) -> Result<(), BenchFault> {
         for _ in 0..MAX_ANSWERS {
             match self.hear(number)? {
-                Answer::Ended(status) => return judged(status),
+                Answer::Ended(status) => return status_result(status),
                 Answer::Exists(_) | Answer::Other => {}
                 Answer::Bye if self.leaves => {}
                 Answer::Bye => return Err(BenchFault::Bye),
@@ -248,7 +248,7 @@ impl Client {
                 Answer::Continue => return Ok(()),
                 Answer::Exists(_) | Answer::Other => {}
                 Answer::Ended(status) => {
-                    judged(status)?;
+                    status_result(status)?;
                     return Err(BenchFault::Unreadable);
                 }
                 Answer::Bye => return Err(BenchFault::Bye),

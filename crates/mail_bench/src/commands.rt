@@ -137,7 +137,7 @@ fn push_message(ask: MessageAsk, number: u32, out: &mut Vec<u8>) -> Result<(), A
 {
     out.extend_from_slice(verb(ask))?;
     push_number(u64::from(number), out)?;
-    out.extend_from_slice(asked(ask))
+    out.extend_from_slice(message_verb_end(ask))
 }
 
 /// What stands in front of a message's number.
@@ -151,7 +151,7 @@ fn verb(ask: MessageAsk) -> &'static [u8]
 }
 
 /// What stands behind it.
-fn asked(ask: MessageAsk) -> &'static [u8]
+fn message_verb_end(ask: MessageAsk) -> &'static [u8]
     ensures { result.now ≡ asked_text ask }
 {
     match ask {

@@ -104,7 +104,7 @@ pub fn read_fault(error: &io::Error) -> BenchFault {
 }
 
 /// What a status makes of a command: `Err` where it isn't OK.
-pub fn judged(status: Status) -> Result<(), BenchFault> {
+pub fn status_result(status: Status) -> Result<(), BenchFault> {
     match status {
         Status::Done => Ok(()),
         Status::No => Err(BenchFault::No),

@@ -1,13 +1,13 @@
 //! Connections that idle (RFC 2177): how long a message takes to all of them, and what they cost others.
 
-use crate::board::Board;
+use crate::idle_board::Board;
 use crate::client::{Client, Dial};
 use crate::fault::BenchFault;
 use crate::measuring::measure;
-use crate::preparing::{logged_in, selected, selected_with};
+use crate::preparing::{connect_and_login, connect_and_select, connect_and_select_when};
 use crate::report::{Report, Tally};
 use crate::settings::Settings;
-use crate::working::{Plan, now, since};
+use crate::work::{WorkPlan, now, since};
 use crate::workload::Workload;
 use std::alloc::Global;
 use std::rt::Clock;
@@ -30,11 +30,11 @@ pub fn fan_out<R: Threads + Wait + Clock + Sync + Dial>(
     rt: &R,
     alloc: Global,
     settings: &Settings<'_>,
-    plan: &Plan<'_>,
+    plan: &WorkPlan<'_>,
 ) -> Result<Report, BenchFault> {
     let listeners = listeners(rt, alloc, settings, plan.messages)?;
-    let mut sender = logged_in(rt, alloc, settings, settings.address)?;
-    let (tally, took) = heard_by_all(rt, alloc, settings.seconds, plan, listeners, &mut sender)?;
+    let mut sender = connect_and_login(rt, alloc, settings, settings.address)?;
+    let (tally, took) = send_and_hear(rt, alloc, settings.seconds, plan, listeners, &mut sender)?;
     Report::of(1, plan.messages, took, tally)
 }
 
@@ -48,18 +48,18 @@ fn listeners<R: Clock + Dial>(
     let address = settings.second.unwrap_or(settings.address);
     let mut listeners = Vec::new(alloc);
     for _ in 0..LISTENERS {
-        let client = selected_with(rt, alloc, settings, address, messages)?;
+        let client = connect_and_select_when(rt, alloc, settings, address, messages)?;
         listeners.push(client)?;
     }
     Ok(listeners)
 }
 
 /// Has one connection send for so long, and the others hear of it; what was sent, and how long it took.
-fn heard_by_all<R: Threads + Wait + Clock + Sync>(
+fn send_and_hear<R: Threads + Wait + Clock + Sync>(
     rt: &R,
     alloc: Global,
     seconds: u32,
-    plan: &Plan<'_>,
+    plan: &WorkPlan<'_>,
     listeners: Vec<Client>,
     sender: &mut Client,
 ) -> Result<(Tally, Duration), BenchFault> {
@@ -73,12 +73,12 @@ fn heard_by_all<R: Threads + Wait + Clock + Sync>(
             &|client: Client| listen(rt, &board, plan.messages, client),
         ),
     );
-    all_ended(heard?)?;
+    first_fault(heard?)?;
     sent
 }
 
 /// The first fault of those that idled, where there is one.
-fn all_ended(ends: Vec<Result<(), BenchFault>>) -> Result<(), BenchFault> {
+fn first_fault(ends: Vec<Result<(), BenchFault>>) -> Result<(), BenchFault> {
     for end in ends {
         end?;
     }
@@ -90,7 +90,7 @@ fn send_all<R: Wait + Clock>(
     rt: &R,
     alloc: Global,
     seconds: u32,
-    plan: &Plan<'_>,
+    plan: &WorkPlan<'_>,
     board: &Board,
     sender: &mut Client,
 ) -> Result<(Tally, Duration), BenchFault> {
@@ -103,7 +103,7 @@ fn send_all<R: Wait + Clock>(
 fn send_for<R: Wait + Clock>(
     rt: &R,
     seconds: u32,
-    plan: &Plan<'_>,
+    plan: &WorkPlan<'_>,
     board: &Board,
     sender: &mut Client,
     tally: &mut Tally,
@@ -124,7 +124,7 @@ fn send_for<R: Wait + Clock>(
 /// Sends a message, and notes how long each took to hear of it.
 fn send_one<R: Wait + Clock>(
     rt: &R,
-    plan: &Plan<'_>,
+    plan: &WorkPlan<'_>,
     board: &Board,
     sender: &mut Client,
     tally: &mut Tally,
@@ -184,7 +184,7 @@ pub fn beside_idle<R: Threads + Clock + Sync + Dial>(
     rt: &R,
     alloc: Global,
     settings: &Settings<'_>,
-    plan: &Plan<'_>,
+    plan: &WorkPlan<'_>,
 ) -> Result<(Report, Report), BenchFault> {
     let alone = measure(rt, alloc, settings, plan, 1)?;
     let _bystanders = bystanders(rt, alloc, settings)?;
@@ -211,7 +211,7 @@ fn bystander<R: Dial>(
     alloc: Global,
     settings: &Settings<'_>,
 ) -> Result<Client, BenchFault> {
-    let mut client = selected(rt, alloc, settings)?;
+    let mut client = connect_and_select(rt, alloc, settings)?;
     client.idle()?;
     Ok(client)
 }

@@ -3,7 +3,7 @@
 #![tactic(auto)]
 
 mod answers;
-mod board;
+mod idle_board;
 mod client;
 mod commands;
 mod fault;
@@ -15,9 +15,9 @@ mod program;
 mod replies;
 mod report;
 mod settings;
-mod telling;
+mod bench_output;
 mod times;
-mod working;
+mod work;
 mod workload;
 
 use std::process::ExitCode;

@@ -2,10 +2,10 @@
 
 use crate::client::Dial;
 use crate::fault::BenchFault;
-use crate::preparing::selected;
+use crate::preparing::connect_and_select;
 use crate::report::{Report, Tally};
 use crate::settings::Settings;
-use crate::working::{Mailing, Plan, Visiting, Work, commands_of, now, since, worked};
+use crate::work::{Mailing, WorkPlan, Visiting, Work, commands_of, now, since, work_for};
 use std::alloc::Global;
 use std::rt::Clock;
 use std::thread;
@@ -16,12 +16,12 @@ fn mailings<'a, R: Dial>(
     rt: &R,
     alloc: Global,
     settings: &Settings<'_>,
-    plan: &'a Plan<'a>,
+    plan: &'a WorkPlan<'a>,
     count: u32,
 ) -> Result<Vec<Mailing<'a>>, BenchFault> {
     let mut mailings = Vec::new(alloc);
     for place in 0..count {
-        let client = selected(rt, alloc, settings)?;
+        let client = connect_and_select(rt, alloc, settings)?;
         let first = place.saturating_mul(plan.messages / count);
         mailings.push(Mailing {
             client,
@@ -37,7 +37,7 @@ pub fn measure<R: Threads + Clock + Sync + Dial>(
     rt: &R,
     alloc: Global,
     settings: &Settings<'_>,
-    plan: &Plan<'_>,
+    plan: &WorkPlan<'_>,
     connections: u32,
 ) -> Result<Report, BenchFault> {
     let mailings = mailings(rt, alloc, settings, plan, connections)?;
@@ -93,7 +93,7 @@ fn side_by_side<R: Threads + Clock + Sync, W: Work + Send + Drop>(
     let tallies = thread::map_vec(
         rt,
         works,
-        &|work: W| worked(rt, alloc, seconds, commands, work),
+        &|work: W| work_for(rt, alloc, seconds, commands, work),
     )?;
     let took = since(rt, begun)?;
     let tally = whole(alloc, tallies)?;

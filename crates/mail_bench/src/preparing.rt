@@ -24,7 +24,7 @@ const MAX_LOOKS: u32 = 600;
 const PAUSE: u64 = 100;
 
 /// A connection to this address that is logged in.
-pub fn logged_in<R: Dial>(
+pub fn connect_and_login<R: Dial>(
     rt: &R,
     alloc: Global,
     settings: &Settings<'_>,
@@ -36,12 +36,12 @@ pub fn logged_in<R: Dial>(
 }
 
 /// One that has the mailbox selected.
-pub fn selected<R: Dial>(
+pub fn connect_and_select<R: Dial>(
     rt: &R,
     alloc: Global,
     settings: &Settings<'_>,
 ) -> Result<Client, BenchFault> {
-    let mut client = logged_in(rt, alloc, settings, settings.address)?;
+    let mut client = connect_and_login(rt, alloc, settings, settings.address)?;
     client.select(settings.mailbox)?;
     Ok(client)
 }
@@ -50,8 +50,8 @@ pub fn selected<R: Dial>(
 pub fn prepare<R: Dial>(rt: &R, alloc: Global, settings: &Settings<'_>) -> Result<u32, BenchFault>
     ensures { IfOk result (λ messages. settings.now.messages ≤ messages) }
 {
-    let mut client = logged_in(rt, alloc, settings, settings.address)?;
-    let messages = filled(alloc, settings, &mut client)?;
+    let mut client = connect_and_login(rt, alloc, settings, settings.address)?;
+    let messages = fill_mailbox(alloc, settings, &mut client)?;
     client.logout()?;
     if messages < settings.messages {
         return Err(BenchFault::Missing);
@@ -60,7 +60,7 @@ pub fn prepare<R: Dial>(rt: &R, alloc: Global, settings: &Settings<'_>) -> Resul
 }
 
 /// Appends to the mailbox what it lacks, and gives how many messages it has.
-fn filled(alloc: Global, settings: &Settings<'_>, client: &mut Client) -> Result<u32, BenchFault> {
+fn fill_mailbox(alloc: Global, settings: &Settings<'_>, client: &mut Client) -> Result<u32, BenchFault> {
     open(client, settings.mailbox)?;
     append_all(alloc, settings, client)?;
     client.select(settings.mailbox)?;
@@ -94,14 +94,14 @@ fn open(client: &mut Client, name: &str) -> Result<(), BenchFault> {
 }
 
 /// A connection to this address that has the mailbox selected, once it has so many messages there.
-pub fn selected_with<R: Clock + Dial>(
+pub fn connect_and_select_when<R: Clock + Dial>(
     rt: &R,
     alloc: Global,
     settings: &Settings<'_>,
     address: &str,
     messages: u32,
 ) -> Result<Client, BenchFault> {
-    let mut client = logged_in(rt, alloc, settings, address)?;
+    let mut client = connect_and_login(rt, alloc, settings, address)?;
     for _ in 0..MAX_LOOKS {
         match client.select(settings.mailbox) {
             Ok(()) if client.messages() >= messages => return Ok(client),

@@ -7,9 +7,9 @@ use crate::measuring::{measure, measure_visits};
 use crate::preparing::prepare;
 use crate::report::Report;
 use crate::settings::Settings;
-use crate::telling::{settings_or_status, tell_fault};
+use crate::bench_output::{settings_or_status, tell_fault};
 use crate::times::Summary;
-use crate::working::Plan;
+use crate::work::WorkPlan;
 use crate::workload::Workload;
 use std::alloc::Global;
 use std::io::Eprint;
@@ -58,7 +58,7 @@ fn bench<R: Print + Threads + Wait + Clock + Sync + Dial>(
     if messages == 0 {
         return Err(BenchFault::Missing);
     }
-    let plan = Plan::new(alloc, settings.workload, settings.mailbox, messages)?;
+    let plan = WorkPlan::new(alloc, settings.workload, settings.mailbox, messages)?;
     match settings.workload {
         Workload::NoopBesideIdle => measure_beside(rt, alloc, settings, &plan),
         workload => measure_one(rt, alloc, settings, &plan, workload),
@@ -70,7 +70,7 @@ fn measure_one<R: Print + Threads + Wait + Clock + Sync + Dial>(
     rt: &R,
     alloc: Global,
     settings: &Settings<'_>,
-    plan: &Plan<'_>,
+    plan: &WorkPlan<'_>,
     workload: Workload,
 ) -> Result<(), BenchFault> {
     let (idling, measured) = match workload {
@@ -86,7 +86,7 @@ fn measure_beside<R: Print + Threads + Wait + Clock + Sync + Dial>(
     rt: &R,
     alloc: Global,
     settings: &Settings<'_>,
-    plan: &Plan<'_>,
+    plan: &WorkPlan<'_>,
 ) -> Result<(), BenchFault> {
     let (alone, beside) = beside_idle(rt, alloc, settings, plan)?;
     tell(rt, settings.workload, 0, &alone)?;

@@ -3,7 +3,7 @@
 ghost use Rattle.std.specs.Prelude.{◌≡◌, ◌⊎◌, ◌≤◌, ◌<◌, ◌+◌, ◌++◌, [], IfErr, IfOk, None, OnOk, Some, drop, false, length, true};
 ghost use Rattle.mail_bench.specs.Replies.{at_literal, count_more, heard, in_line, is_ended, is_kept, kept, longest_line, next, refusal, refusal_at};
 ghost use Rattle.mail_bench.specs.declared.replies.ReplyFault.TheVariants as faults;
-ghost use Rattle.mail_bench.specs.declared.replies.Stage.TheVariants.{Line, Literal};
+ghost use Rattle.mail_bench.specs.declared.replies.ReplyStage.TheVariants.{Line, Literal};
 
 use memchr::memchr2;
 use std::alloc::Global;
@@ -16,7 +16,7 @@ pub const MAX_LITERAL: u64 = 1_073_741_824;
 
 /// Where in an answer an octet stands.
 #[derive(Clone, Copy)]
-pub enum Stage {
+pub enum ReplyStage {
     /// In a line.
     Line,
     /// Behind `{`.
@@ -62,7 +62,7 @@ pub struct Reading {
     /// Its line, without the octets of its literals.
     pub line: Vec<u8>,
     /// Where the next octet stands.
-    pub stage: Stage,
+    pub stage: ReplyStage,
 }
 
 impl Reading {
@@ -72,7 +72,7 @@ impl Reading {
     {
         Reading {
             line: Vec::new(alloc),
-            stage: Stage::Line,
+            stage: ReplyStage::Line,
         }
     }
 }
@@ -84,14 +84,14 @@ impl Reading {
         ensures stage { self.new.stage ≡ Line }
     {
         self.line.clear();
-        self.stage = Stage::Line;
+        self.stage = ReplyStage::Line;
     }
 
     /// Whether the answer has ended.
     pub fn is_ended(&self) -> bool
         ensures { result ≡ is_ended self.now.stage }
     {
-        matches!(self.stage, Stage::Ended)
+        matches!(self.stage, ReplyStage::Ended)
     }
 
     /// Reads on until the answer has ended or all octets were read, and gives how many were.
@@ -121,8 +121,8 @@ impl Reading {
         ensures heard { IfOk result (λ count. heard self.old.stage self.old.line.items octets.now ≡ heard self.new.stage self.new.line.items (drop count octets.now)) }
     {
         match self.stage {
-            Stage::Line => self.read_text(octets),
-            Stage::Literal { left } => Ok(self.pass(left, octets)),
+            ReplyStage::Line => self.read_text(octets),
+            ReplyStage::Literal { left } => Ok(self.pass(left, octets)),
             _ => self.read_one(octets),
         }
     }
@@ -141,14 +141,14 @@ impl Reading {
                 Ok(at + 1)
             }
             None => {
-                self.keep(octets, Stage::Line)?;
+                self.keep(octets, ReplyStage::Line)?;
                 Ok(octets.len())
             }
         }
     }
 
     /// Puts octets behind the line, behind which the next one stands so. `LongLine` comes just where the line would be too long.
-    fn keep(&mut self, text: &[u8], behind: Stage) -> Result<(), ReplyFault>
+    fn keep(&mut self, text: &[u8], behind: ReplyStage) -> Result<(), ReplyFault>
         ensures stage { OnOk result (self.new.stage ≡ behind) }
         ensures line { OnOk result (self.new.line.items ≡ self.old.line.items ++ text.now) }
         ensures fine { OnOk result (length self.new.line.items ≤ longest_line) }
@@ -209,40 +209,40 @@ impl Reading {
 }
 
 /// Whether the octet at this stage is one of the line.
-fn is_kept(stage: Stage) -> bool
+fn is_kept(stage: ReplyStage) -> bool
     ensures { result ≡ is_kept stage }
 {
-    !matches!(stage, Stage::Literal { .. } | Stage::Ended)
+    !matches!(stage, ReplyStage::Literal { .. } | ReplyStage::Ended)
 }
 
 /// Where the next octet stands behind this one.
-fn next(stage: Stage, octet: u8) -> Stage
+fn next(stage: ReplyStage, octet: u8) -> ReplyStage
     ensures { result ≡ next stage octet }
 {
     match stage {
-        Stage::Open if octet.is_ascii_digit() => Stage::Count {
+        ReplyStage::Open if octet.is_ascii_digit() => ReplyStage::Count {
             octets: count_more(0, octet),
         },
-        Stage::Count { octets } if octet.is_ascii_digit() => Stage::Count {
+        ReplyStage::Count { octets } if octet.is_ascii_digit() => ReplyStage::Count {
             octets: count_more(octets, octet),
         },
-        Stage::Count { octets } if octet == b'}' => Stage::Closed { octets },
-        Stage::Closed { octets } if octet == b'\r' => Stage::Announced { octets },
-        Stage::Announced { octets } if octet == b'\n' => at_literal(octets),
-        Stage::Literal { left } => at_literal(left.saturating_sub(1)),
-        Stage::Ended => Stage::Ended,
+        ReplyStage::Count { octets } if octet == b'}' => ReplyStage::Closed { octets },
+        ReplyStage::Closed { octets } if octet == b'\r' => ReplyStage::Announced { octets },
+        ReplyStage::Announced { octets } if octet == b'\n' => at_literal(octets),
+        ReplyStage::Literal { left } => at_literal(left.saturating_sub(1)),
+        ReplyStage::Ended => ReplyStage::Ended,
         _ => in_line(octet),
     }
 }
 
 /// Behind an octet that goes on with no announcement.
-fn in_line(octet: u8) -> Stage
+fn in_line(octet: u8) -> ReplyStage
     ensures { result ≡ in_line octet }
 {
     match octet {
-        b'{' => Stage::Open,
-        b'\n' => Stage::Ended,
-        _ => Stage::Line,
+        b'{' => ReplyStage::Open,
+        b'\n' => ReplyStage::Ended,
+        _ => ReplyStage::Line,
     }
 }
 
@@ -257,17 +257,17 @@ fn count_more(octets: u64, digit: u8) -> u64
 }
 
 /// Behind the announcement of a literal of so many octets, or within it, with so many to come.
-fn at_literal(octets: u64) -> Stage
+fn at_literal(octets: u64) -> ReplyStage
     ensures { result ≡ at_literal octets }
 {
     match octets {
-        0 => Stage::Line,
-        left => Stage::Literal { left },
+        0 => ReplyStage::Line,
+        left => ReplyStage::Literal { left },
     }
 }
 
 /// Why an answer at this stage, with a line of this length, isn't read on.
-fn refusal(stage: Stage, length: usize) -> Option<ReplyFault>
+fn refusal(stage: ReplyStage, length: usize) -> Option<ReplyFault>
     ensures { result ≡ refusal stage length }
 {
     if length > MAX_LINE {
@@ -276,11 +276,11 @@ fn refusal(stage: Stage, length: usize) -> Option<ReplyFault>
     refusal_at(stage)
 }
 
-fn refusal_at(stage: Stage) -> Option<ReplyFault>
+fn refusal_at(stage: ReplyStage) -> Option<ReplyFault>
     ensures { result ≡ refusal_at stage }
 {
     match stage {
-        Stage::Literal { left } if left > MAX_LITERAL => Some(ReplyFault::LongLiteral),
+        ReplyStage::Literal { left } if left > MAX_LITERAL => Some(ReplyFault::LongLiteral),
         _ => None,
     }
 }

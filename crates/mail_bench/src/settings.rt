@@ -72,7 +72,7 @@ pub fn read_settings<'a>(
     ensures asked { IfOk result (λ settings. Asks (matches_of bench_words (map ⟦<String as AsStr>⟧.text words.entry.now)) settings) }
     ensures plain { IfOk result (λ settings. IsPlainText settings.user.now × IsPlainText settings.pass.now × IsPlainText settings.mailbox.now) }
 {
-    match matched(alloc, words) {
+    match find_words(alloc, words) {
         Ok(matches) => match plain_settings_in(&matches) {
             Ok(settings) => Ok(settings),
             Err(why) => Err(SettingsFault::Usage(why)),
@@ -122,7 +122,7 @@ fn settings_in<'a>(matches: &ArgMatches<'a>) -> Result<Settings<'a>, UsageFault<
     ensures { IfOk result (λ settings. Asks (rows_of (found_of matches.now)) settings) }
 {
     let workload = text_in(matches, "workload", "");
-    let Some(workload) = Workload::named(workload) else {
+    let Some(workload) = Workload::from_word(workload) else {
         return Err(UsageFault::BadWorkload(workload));
     };
     Ok(Settings {
@@ -167,7 +167,7 @@ fn amount_in(matches: &ArgMatches<'_>, word: &str, usual: u32, most: u32) -> u32
 }
 
 /// What is found in the words by those that the program knows.
-fn matched<'a>(alloc: Global, words: &'a [String]) -> Result<ArgMatches<'a>, Error>
+fn find_words<'a>(alloc: Global, words: &'a [String]) -> Result<ArgMatches<'a>, Error>
     ensures { IfOk result (λ matches. rows_of (found_of matches) ≡ matches_of bench_words (map ⟦<String as AsStr>⟧.text words.entry.now)) }
 {
     let known = known_words(alloc)?;
@@ -192,34 +192,34 @@ fn known_words<'a>(alloc: Global) -> Result<Vec<Arg<'a>>, AllocError>
     ensures { IfOk result (λ words. Add words.items (λ app. with_amounts (with_server app))) }
 {
     let words = vec![in alloc;
-        required(alloc, "address", "The server's address, as 127.0.0.1:1143"),
-        required(alloc, "user", "The user's name"),
-        required(alloc, "pass", "The user's password"),
-        required(alloc, "workload", WORKLOADS),
-        named(
+        required_word(alloc, "address", "The server's address, as 127.0.0.1:1143"),
+        required_word(alloc, "user", "The user's name"),
+        required_word(alloc, "pass", "The user's password"),
+        required_word(alloc, "workload", WORKLOADS),
+        word_with_value(
             alloc,
             "second",
             "The address of a second server, at which the connections of idle-fan-out idle",
         ),
-        counted(
+        number_word(
             alloc,
             "messages",
             "So many messages of 1 KiB the mailbox has at least; 1000 if it isn't said",
             1_000_000,
         ),
-        counted(
+        number_word(
             alloc,
             "connections",
             "So many connections work side by side; 4 if it isn't said",
             1_000,
         ),
-        counted(
+        number_word(
             alloc,
             "seconds",
             "So many seconds it takes; 2 if it isn't said",
             3_600,
         ),
-        named(
+        word_with_value(
             alloc,
             "mailbox",
             "The mailbox in which all is done, made if it isn't there; bench if it isn't said",
@@ -229,7 +229,7 @@ fn known_words<'a>(alloc: Global) -> Result<Vec<Arg<'a>>, AllocError>
 }
 
 /// A word with a value.
-fn named<'a>(alloc: Global, name: &'a str, help: &'a str) -> Arg<'a>
+fn word_with_value<'a>(alloc: Global, name: &'a str, help: &'a str) -> Arg<'a>
     ensures { IsWord result (named_word name.entry.now) }
 {
     Arg::new(alloc, name)
@@ -239,18 +239,18 @@ fn named<'a>(alloc: Global, name: &'a str, help: &'a str) -> Arg<'a>
 }
 
 /// One that has to be there.
-fn required<'a>(alloc: Global, name: &'a str, help: &'a str) -> Arg<'a>
+fn required_word<'a>(alloc: Global, name: &'a str, help: &'a str) -> Arg<'a>
     ensures { IsWord result (required_word name.entry.now) }
 {
-    named(alloc, name, help).required(true)
+    word_with_value(alloc, name, help).required(true)
 }
 
 /// One whose value is a number from 1 on.
-fn counted<'a>(alloc: Global, name: &'a str, help: &'a str, most: u64) -> Arg<'a>
+fn number_word<'a>(alloc: Global, name: &'a str, help: &'a str, most: u64) -> Arg<'a>
     requires { 1 ≤ most }
     ensures { IsWord result (counted_word name.entry.now most) }
 {
-    named(alloc, name, help).value_parser(ValueParser::unsigned(1, most))
+    word_with_value(alloc, name, help).value_parser(ValueParser::unsigned(1, most))
 }
 
 /// Whether the words ran out of memory.

@@ -76,7 +76,7 @@ impl Workload {
     }
 
     /// The workload with this word; `None` just where there is none.
-    pub fn named(word: &str) -> Option<Workload>
+    pub fn from_word(word: &str) -> Option<Workload>
         ensures some { IfSome result (λ workload. word_of workload ≡ word.now) }
         ensures none { IfNone result (NamesNone word.now) }
     {

@@ -6,12 +6,12 @@ use Rattle.std.specs.Fmt.{decimal}
 use Rattle.std.specs.List.{list_all}
 use Rattle.std.specs.Str.{bytes_eq}
 use Rattle.std.proofs.lemmas.Slice.Eq.{bytes_eq-Decides}
-use Rattle.imap_types.specs.Escape.{AreOctets, escaped, unescaped}
+use Rattle.imap_types.specs.Escape.{AreOctets, escape_text, unescape}
 use Rattle.imap_types.specs.declared.escape.Escape.TheVariants.{Text}
 use Rattle.imap_types.proofs.EscapeLemmas.{unescaped_again, unescaped_takes}
 use Rattle.text_fields.proofs.FieldLemmas.{all_of, bind_some, bound, chosen, cut_again, cut_takes, decimal_lacks, number_again, number_takes, positive_again, positive_takes}
 use Rattle.mail_script.specs.Fields.{IsFirstK, IsFirstUid, IsMoment, is_session_name}
-use Rattle.mail_script.specs.Reading.{behind_at, counted_at, cut_at, first_numbers_at, in_front, moment_at, number_at, positive, session_at, spoken_at}
+use Rattle.mail_script.specs.Reading.{behind_at, counted_at, cut_at, first_numbers_at, in_front, moment_at, number_at, positive, session_at, session_and_text_at}
 use Rattle.mail_script.specs.Script.{first_numbers_text}
 
 not_true : (b : Bool) → not b ≡ true → b ≡ false
@@ -51,24 +51,24 @@ pub session_again : (name : List ℕ) → IsTrue (is_session_name name) → sess
 unfolding session_at
 session_again name h = rw h refl
 
-pub spoken_takes : (text : List ℕ) (spoken : List ℕ × List ℕ) → spoken_at text ≡ Some spoken → IsTrue (is_session_name spoken.0) × AreOctets spoken.1 × (text ≡ spoken.0 ++ 32 ∷ escaped Text spoken.1)
-unfolding spoken_at
+pub spoken_takes : (text : List ℕ) (spoken : List ℕ × List ℕ) → session_and_text_at text ≡ Some spoken → IsTrue (is_session_name spoken.0) × AreOctets spoken.1 × (text ≡ spoken.0 ++ 32 ∷ escape_text Text spoken.1)
+unfolding session_and_text_at
 spoken_takes text spoken h =
     let c = bind_some (cut_at 32 text) _ spoken h in
     let s = bind_some (session_at c.0.0) _ spoken c.2 in
-    let t = bind_some (unescaped Text c.0.1) _ spoken s.2 in
+    let t = bind_some (unescape Text c.0.1) _ spoken s.2 in
     let e : ◌≡◌ {A = List ℕ × List ℕ} (s.0, t.0) spoken = let k = t.2 in cc in
     let n = session_takes c.0.0 s.0 s.1 in
     let u = unescaped_takes Text c.0.1 t.0 t.1 in
-    subst (λ (z : List ℕ × List ℕ). IsTrue (is_session_name z.0) × AreOctets z.1 × (text ≡ z.0 ++ 32 ∷ escaped Text z.1)) e
+    subst (λ (z : List ℕ × List ℕ). IsTrue (is_session_name z.0) × AreOctets z.1 × (text ≡ z.0 ++ 32 ∷ escape_text Text z.1)) e
     (n.0, u.0, cut_takes 32 text c.0 c.1 ∙ (λ i. n.1 i ++ 32 ∷ u.1 i))
 
-pub spoken_again : (session text : List ℕ) → IsTrue (is_session_name session) → AreOctets text → spoken_at (session ++ 32 ∷ escaped Text text) ≡ Some (session, text)
-unfolding spoken_at
+pub spoken_again : (session text : List ℕ) → IsTrue (is_session_name session) → AreOctets text → session_and_text_at (session ++ 32 ∷ escape_text Text text) ≡ Some (session, text)
+unfolding session_and_text_at
 spoken_again session text s a =
-    bound (cut_at 32 (session ++ 32 ∷ escaped Text text)) _ (session, escaped Text text) (cut_again 32 session (escaped Text text) (session_no_space session s))
+    bound (cut_at 32 (session ++ 32 ∷ escape_text Text text)) _ (session, escape_text Text text) (cut_again 32 session (escape_text Text text) (session_no_space session s))
     ∙ bound (session_at session) _ session (session_again session s)
-    ∙ bound (unescaped Text (escaped Text text)) _ text (unescaped_again Text text a)
+    ∙ bound (unescape Text (escape_text Text text)) _ text (unescaped_again Text text a)
 
 pub counted_takes : (limit : ℕ) (text : List ℕ) (number : ℕ) → limit < 2 ^ 64 → counted_at limit text ≡ Some number → (0 < number) × (number ≤ limit) × (text ≡ decimal number)
 unfolding counted_at

@@ -3,13 +3,13 @@ use Rattle.std.proofs.lemmas.Slice.Eq.{bytes_eq-Decides}
 use Rattle.std.specs.Fmt.{decimal}
 use Rattle.std.specs.Str.{bytes_eq}
 use Rattle.tags_clocks.specs.declared.id.OpId.{OpId}
-use Rattle.imap_types.specs.Escape.{AreOctets, escaped}
+use Rattle.imap_types.specs.Escape.{AreOctets, escape_text}
 use Rattle.imap_types.specs.declared.escape.Escape.TheVariants.{Text}
 use Rattle.mail_script.specs.Fields.{IsFirstK, IsFirstUid, IsNumber, IsReplica, id_text, is_session_name}
-use Rattle.mail_script.specs.Reading.{◌>>=◌, Gives, agree_at, cut_at, deliver_at, fields_at, first_numbers_at, forge_at, id_at, join_at, keyword_at, line_at, moment_at, node_at, open_at, replica_at, session_at, spoken_at, word_or_words_at, words_at}
+use Rattle.mail_script.specs.Reading.{◌>>=◌, Gives, agree_at, cut_at, deliver_at, fields_at, first_numbers_at, forge_at, id_at, join_at, keyword_at, line_at, moment_at, node_at, open_at, replica_at, session_at, session_and_text_at, word_or_words_at, words_at}
 use Rattle.mail_script.specs.Script.{Says, first_numbers_text}
-use Rattle.mail_script.specs.declared.script.Keyword.{Keyword}
-use Rattle.mail_script.specs.declared.script.Keyword.TheVariants.{Node as NodeWord, Now as NowWord, Open as OpenWord, Line as LineWord, Send as SendWord, Poll as PollWord, Close as CloseWord, Show as ShowWord, Deliver as DeliverWord, Forge as ForgeWord, Drain as DrainWord, Agree as AgreeWord, Join as JoinWord}
+use Rattle.mail_script.specs.declared.script.ScriptWord.{ScriptWord}
+use Rattle.mail_script.specs.declared.script.ScriptWord.TheVariants.{Node as NodeWord, Now as NowWord, Open as OpenWord, Line as LineWord, Send as SendWord, Poll as PollWord, Close as CloseWord, Show as ShowWord, Deliver as DeliverWord, Forge as ForgeWord, Drain as DrainWord, Agree as AgreeWord, Join as JoinWord}
 use Rattle.mail_script.specs.declared.script.LineFault.{LineFault}
 use Rattle.mail_script.specs.declared.script.LineFault.TheVariants.{NotALine, NoMemory}
 use Rattle.mail_script.specs.declared.script.ScriptLine.{ScriptLine}
@@ -19,7 +19,7 @@ use Rattle.mail_script.proofs.FieldLemmas.{cut_none, first_numbers_again, first_
 use Rattle.std.specs.Prelude.{codes}
 
 -- how each word is spelled
-abbrev keyword_text : Keyword → List ℕ
+abbrev keyword_text : ScriptWord → List ℕ
 keyword_text NodeWord = codes "node"
 keyword_text NowWord = codes "now"
 keyword_text OpenWord = codes "open"
@@ -35,14 +35,14 @@ keyword_text AgreeWord = codes "agree"
 keyword_text JoinWord = codes "join"
 
 -- a word of the table, or one behind it
-picked : (word text : List ℕ) (k : Keyword) (next : Option Keyword) (keyword : Keyword) → text ≡ keyword_text k → cond (bytes_eq word text) (Some k) next ≡ Some keyword → (next ≡ Some keyword → word ≡ keyword_text keyword) → word ≡ keyword_text keyword
+picked : (word text : List ℕ) (k : ScriptWord) (next : Option ScriptWord) (keyword : ScriptWord) → text ≡ keyword_text k → cond (bytes_eq word text) (Some k) next ≡ Some keyword → (next ≡ Some keyword → word ≡ keyword_text keyword) → word ≡ keyword_text keyword
 picked word text k next keyword s h behind =
     elim (chosen (bytes_eq word text) (Some k) next (Some keyword) h) [
       | inl t ↦ (bytes_eq-Decides word text).0 t.0 ∙ s ∙ ap keyword_text (let e = t.1 in cc)
       | inr f ↦ behind f.1
     ]
 
-keyword_takes : (word : List ℕ) (keyword : Keyword) → keyword_at word ≡ Some keyword → word ≡ keyword_text keyword
+keyword_takes : (word : List ℕ) (keyword : ScriptWord) → keyword_at word ≡ Some keyword → word ≡ keyword_text keyword
 unfolding keyword_at
 keyword_takes word keyword h =
     picked word (codes "node") NodeWord _ keyword refl h (λ h.
@@ -142,9 +142,9 @@ replica_said word fields line said says h =
     let t = replica_takes fields r.0 r.1 in
     subst (Says (word ++ 32 ∷ fields)) e (says r.0 t.0 t.1)
 
-spoken_said : (word fields : List ℕ) (line : List ℕ → List ℕ → ScriptLine) (said : ScriptLine) → ((session text : List ℕ) → IsTrue (is_session_name session) → AreOctets text → fields ≡ session ++ 32 ∷ escaped Text text → Says (word ++ 32 ∷ fields) (line session text)) → (spoken_at fields >>= (λ spoken. Some (line spoken.0 spoken.1))) ≡ Some said → Says (word ++ 32 ∷ fields) said
+spoken_said : (word fields : List ℕ) (line : List ℕ → List ℕ → ScriptLine) (said : ScriptLine) → ((session text : List ℕ) → IsTrue (is_session_name session) → AreOctets text → fields ≡ session ++ 32 ∷ escape_text Text text → Says (word ++ 32 ∷ fields) (line session text)) → (session_and_text_at fields >>= (λ spoken. Some (line spoken.0 spoken.1))) ≡ Some said → Says (word ++ 32 ∷ fields) said
 spoken_said word fields line said says h =
-    let s = bind_some (spoken_at fields) (λ spoken. Some (line spoken.0 spoken.1)) said h in
+    let s = bind_some (session_and_text_at fields) (λ spoken. Some (line spoken.0 spoken.1)) said h in
     let e : line s.0.0 s.0.1 ≡ said = let k = s.2 in cc in
     let t = spoken_takes fields s.0 s.1 in
     subst (Says (word ++ 32 ∷ fields)) e (says s.0.0 s.0.1 t.0 t.1 t.2)
@@ -170,7 +170,7 @@ close_said fields said h =
     let t = session_takes fields s.0 s.1 in
     subst (Says (codes "close " ++ fields)) e (t.0, ap (λ (t : List ℕ). codes "close " ++ t) t.1)
 
-fields_takes : (keyword : Keyword) (fields : List ℕ) (said : ScriptLine) → fields_at keyword fields ≡ Some said → Says (keyword_text keyword ++ 32 ∷ fields) said
+fields_takes : (keyword : ScriptWord) (fields : List ℕ) (said : ScriptLine) → fields_at keyword fields ≡ Some said → Says (keyword_text keyword ++ 32 ∷ fields) said
 fields_takes NodeWord fields said h = node_takes fields (cut_at 32 fields) said (λ parts c. cut_takes 32 fields parts c) h
 fields_takes NowWord fields said h = now_said fields said h
 fields_takes OpenWord fields said h = open_takes fields said h
@@ -216,7 +216,7 @@ line_takes (octet ∷ octets) said h =
     ]
 
 -- the word of a line leads to its fields
-read_on : (keyword : Keyword) (fields : List ℕ) → line_at (keyword_text keyword ++ 32 ∷ fields) ≡ fields_at keyword fields
+read_on : (keyword : ScriptWord) (fields : List ℕ) → line_at (keyword_text keyword ++ 32 ∷ fields) ≡ fields_at keyword fields
 unfolding word_or_words_at words_at keyword_at
 read_on NodeWord fields = refl
 read_on NowWord fields = refl
@@ -232,7 +232,7 @@ read_on DrainWord fields = refl
 read_on AgreeWord fields = refl
 read_on JoinWord fields = refl
 
-read_of : (keyword : Keyword) (line fields : List ℕ) (said : ScriptLine) → line ≡ keyword_text keyword ++ 32 ∷ fields → fields_at keyword fields ≡ Some said → line_at line ≡ Some said
+read_of : (keyword : ScriptWord) (line fields : List ℕ) (said : ScriptLine) → line ≡ keyword_text keyword ++ 32 ∷ fields → fields_at keyword fields ≡ Some said → line_at line ≡ Some said
 read_of keyword line fields said e h = ap line_at e ∙ read_on keyword fields ∙ h
 
 node_again : (r uid k : ℕ) → IsReplica r → IsFirstUid uid → IsFirstK k → node_at (cut_at 32 (decimal r ++ 32 ∷ numbers_text uid k)) (decimal r ++ 32 ∷ numbers_text uid k) ≡ Some (Node r uid k)
@@ -298,8 +298,8 @@ line_again line (Node r uid k) h =
     ]
 line_again line (Now m) h = read_of NowWord line (decimal m) (Now m) h.1 (bound (moment_at (decimal m)) _ m (moment_again m h.0))
 line_again line (Open r s) h = read_of OpenWord line (decimal r ++ 32 ∷ s) (Open r s) h.2 (open_again r s h.0 h.1)
-line_again line (Line s t) h = read_of LineWord line (s ++ 32 ∷ escaped Text t) (Line s t) h.2 (bound (spoken_at (s ++ 32 ∷ escaped Text t)) _ (s, t) (spoken_again s t h.0 h.1))
-line_again line (Send s t) h = read_of SendWord line (s ++ 32 ∷ escaped Text t) (Send s t) h.2 (bound (spoken_at (s ++ 32 ∷ escaped Text t)) _ (s, t) (spoken_again s t h.0 h.1))
+line_again line (Line s t) h = read_of LineWord line (s ++ 32 ∷ escape_text Text t) (Line s t) h.2 (bound (session_and_text_at (s ++ 32 ∷ escape_text Text t)) _ (s, t) (spoken_again s t h.0 h.1))
+line_again line (Send s t) h = read_of SendWord line (s ++ 32 ∷ escape_text Text t) (Send s t) h.2 (bound (session_and_text_at (s ++ 32 ∷ escape_text Text t)) _ (s, t) (spoken_again s t h.0 h.1))
 line_again line (Poll s) h = read_of PollWord line s (Poll s) h.1 (bound (session_at s) _ s (session_again s h.0))
 line_again line (Close s) h = read_of CloseWord line s (Close s) h.1 (bound (session_at s) _ s (session_again s h.0))
 line_again line (Show r) h = read_of ShowWord line (decimal r) (Show r) h.1 (bound (replica_at (decimal r)) _ r (replica_again r h.0))

@@ -2,16 +2,16 @@ use Rattle.std.specs.Prelude.{ℕ, Bool, true, false, List, [], ◌∷◌, ◌++
 use Rattle.std.specs.Fmt.{decimal}
 use Rattle.tags_clocks.specs.declared.id.OpId.{OpId}
 use Rattle.mail_script.specs.Fields.{id_text}
-use Rattle.mail_script.specs.declared.outcome.BrokenRule.{BrokenRule}
-use Rattle.mail_script.specs.declared.outcome.BrokenRule.TheVariants.{OwnEntry, UncoveredId, UnlawfulName, UnlawfulFlags, InboxDeleted, OldIdCount}
-use Rattle.mail_script.specs.declared.outcome.DeliveryResult.{DeliveryResult}
-use Rattle.mail_script.specs.declared.outcome.DeliveryResult.TheVariants.{Applied, Held, Repeat, Conflict, HeldFull, Exhausted, NoMemory as NoMemoryForIt}
-use Rattle.mail_script.specs.declared.outcome.JoinResult.{JoinResult}
-use Rattle.mail_script.specs.declared.outcome.JoinResult.TheVariants.{Done as DoneJoining, Own, Exhausted as ExhaustedByJoin, NoMemory as NoMemoryToJoin}
-use Rattle.mail_script.specs.declared.outcome.SettleResult.{SettleResult}
-use Rattle.mail_script.specs.declared.outcome.SettleResult.TheVariants.{Done, Conflict as ConflictOfTwo, Exhausted as ExhaustedInIt, NoMemory as NoMemoryToSettle}
-use Rattle.mail_script.specs.declared.outcome.OutcomeLine.{OutcomeLine}
-use Rattle.mail_script.specs.declared.outcome.OutcomeLine.TheVariants.{Delivered, Forged, Unsound, Drained, Settled, Agreed, Joined, BadScript, CannotRead, NoMemory}
+use Rattle.mail_script.specs.declared.outcome_line.BrokenRule.{BrokenRule}
+use Rattle.mail_script.specs.declared.outcome_line.BrokenRule.TheVariants.{OwnEntry, UncoveredId, UnlawfulName, UnlawfulFlags, InboxDeleted, OldIdCount}
+use Rattle.mail_script.specs.declared.outcome_line.DeliveryResult.{DeliveryResult}
+use Rattle.mail_script.specs.declared.outcome_line.DeliveryResult.TheVariants.{Applied, Held, Repeat, Conflict, HeldFull, Exhausted, NoMemory as NoMemoryForIt}
+use Rattle.mail_script.specs.declared.outcome_line.JoinResult.{JoinResult}
+use Rattle.mail_script.specs.declared.outcome_line.JoinResult.TheVariants.{Done as DoneJoining, Own, Exhausted as ExhaustedByJoin, NoMemory as NoMemoryToJoin}
+use Rattle.mail_script.specs.declared.outcome_line.SettleResult.{SettleResult}
+use Rattle.mail_script.specs.declared.outcome_line.SettleResult.TheVariants.{Done, Conflict as ConflictOfTwo, Exhausted as ExhaustedInIt, NoMemory as NoMemoryToSettle}
+use Rattle.mail_script.specs.declared.outcome_line.OutcomeLine.{OutcomeLine}
+use Rattle.mail_script.specs.declared.outcome_line.OutcomeLine.TheVariants.{Delivered, Forged, Unsound, Drained, Settled, Agreed, Joined, BadScript, CannotRead, NoMemory}
 
 -- Says that a ripe operation stays held.
 abbrev pub stalled_text : Bool → List ℕ

@@ -1,12 +1,12 @@
 use Rattle.std.specs.Prelude.{◌≡◌, ℕ, ◌==◌, List, [], ◌∷◌, Option, Some, None, Result, Ok, Err, codes, if◌then◌else◌}
 use Rattle.std.specs.Str.{bytes_eq}
-use Rattle.imap_types.specs.Escape.{unescaped}
-use Rattle.imap_types.specs.Reading.{GivesBy}
+use Rattle.imap_types.specs.Escape.{unescape}
+use Rattle.imap_types.specs.ReaderSteps.{GivesBy}
 use Rattle.imap_types.specs.declared.escape.Escape.TheVariants.{Text}
 use Rattle.mail_script.specs.Fields.{is_session_name}
-pub use Rattle.text_fields.specs.Reading.{◌>>=◌, cut_at, id_at, in_front, number_at, positive, replica_at}
-use Rattle.mail_script.specs.declared.script.Keyword.{Keyword}
-use Rattle.mail_script.specs.declared.script.Keyword.TheVariants.{Node as NodeWord, Now as NowWord, Open as OpenWord, Line as LineWord, Send as SendWord, Poll as PollWord, Close as CloseWord, Show as ShowWord, Deliver as DeliverWord, Forge as ForgeWord, Drain as DrainWord, Agree as AgreeWord, Join as JoinWord}
+pub use Rattle.text_fields.specs.FieldReading.{◌>>=◌, cut_at, id_at, in_front, number_at, positive, replica_at}
+use Rattle.mail_script.specs.declared.script.ScriptWord.{ScriptWord}
+use Rattle.mail_script.specs.declared.script.ScriptWord.TheVariants.{Node as NodeWord, Now as NowWord, Open as OpenWord, Line as LineWord, Send as SendWord, Poll as PollWord, Close as CloseWord, Show as ShowWord, Deliver as DeliverWord, Forge as ForgeWord, Drain as DrainWord, Agree as AgreeWord, Join as JoinWord}
 use Rattle.mail_script.specs.declared.script.LineFault.{LineFault}
 use Rattle.mail_script.specs.declared.script.LineFault.TheVariants.{NotALine, NoMemory}
 use Rattle.mail_script.specs.declared.script.ScriptLine.{ScriptLine}
@@ -32,11 +32,11 @@ unfoldable pub session_at : List ℕ → Option (List ℕ)
 session_at text = if is_session_name text then Some text else None
 
 -- A session and the text behind it.
-unfoldable pub spoken_at : List ℕ → Option (List ℕ × List ℕ)
-spoken_at text = do
+unfoldable pub session_and_text_at : List ℕ → Option (List ℕ × List ℕ)
+session_and_text_at text = do
   parts ← cut_at 32 text
   session ← session_at parts.0
-  spoken ← unescaped Text parts.1
+  spoken ← unescape Text parts.1
   Some (session, spoken)
 
 -- The text behind a word and a space.
@@ -62,7 +62,7 @@ first_numbers_at text = do
   Some (uid, k)
 
 -- The word that begins a line.
-unfoldable pub keyword_at : List ℕ → Option Keyword
+unfoldable pub keyword_at : List ℕ → Option ScriptWord
 keyword_at word =
     if bytes_eq word (codes "node") then Some NodeWord
     else (if bytes_eq word (codes "now") then Some NowWord
@@ -127,12 +127,12 @@ forge_at fields = do
   Some (Forge replica parts.1)
 
 -- What the fields behind a word say.
-abbrev pub fields_at : Keyword → List ℕ → Option ScriptLine
+abbrev pub fields_at : ScriptWord → List ℕ → Option ScriptLine
 fields_at NodeWord fields = node_at (cut_at 32 fields) fields
 fields_at NowWord fields = moment_at fields >>= (λ moment. Some (Now moment))
 fields_at OpenWord fields = open_at fields
-fields_at LineWord fields = spoken_at fields >>= (λ spoken. Some (Line spoken.0 spoken.1))
-fields_at SendWord fields = spoken_at fields >>= (λ spoken. Some (Send spoken.0 spoken.1))
+fields_at LineWord fields = session_and_text_at fields >>= (λ spoken. Some (Line spoken.0 spoken.1))
+fields_at SendWord fields = session_and_text_at fields >>= (λ spoken. Some (Send spoken.0 spoken.1))
 fields_at PollWord fields = session_at fields >>= (λ session. Some (Poll session))
 fields_at CloseWord fields = session_at fields >>= (λ session. Some (Close session))
 fields_at ShowWord fields = replica_at fields >>= (λ replica. Some (Show replica))

@@ -1,6 +1,6 @@
 use Rattle.std.specs.Prelude.{◌≡◌, ℕ, ◌⊎◌, ◌++◌, List, [], ◌∷◌, IsTrue, codes}
 use Rattle.std.specs.Fmt.{decimal}
-use Rattle.imap_types.specs.Escape.{AreOctets, escaped}
+use Rattle.imap_types.specs.Escape.{AreOctets, escape_text}
 use Rattle.imap_types.specs.declared.escape.Escape.TheVariants.{Text}
 use Rattle.mail_script.specs.Fields.{IsFirstK, IsFirstUid, IsMoment, IsNumber, IsReplica, id_text, is_session_name}
 use Rattle.mail_script.specs.declared.script.ScriptLine.{ScriptLine}
@@ -18,8 +18,8 @@ Says line Blank = (line ≡ []) ⊎ ((comment : List ℕ) × (line ≡ 35 ∷ co
 Says line (Node replica uid k) = IsReplica replica × IsFirstUid uid × IsFirstK k × ((line ≡ codes "node " ++ (decimal replica ++ first_numbers_text uid k)) ⊎ ((line ≡ codes "node " ++ decimal replica) × (uid ≡ 1) × (k ≡ 1)))
 Says line (Now moment) = IsMoment moment × (line ≡ codes "now " ++ decimal moment)
 Says line (Open replica session) = IsReplica replica × IsTrue (is_session_name session) × (line ≡ codes "open " ++ (decimal replica ++ 32 ∷ session))
-Says line (Line session text) = IsTrue (is_session_name session) × AreOctets text × (line ≡ codes "line " ++ (session ++ 32 ∷ escaped Text text))
-Says line (Send session text) = IsTrue (is_session_name session) × AreOctets text × (line ≡ codes "send " ++ (session ++ 32 ∷ escaped Text text))
+Says line (Line session text) = IsTrue (is_session_name session) × AreOctets text × (line ≡ codes "line " ++ (session ++ 32 ∷ escape_text Text text))
+Says line (Send session text) = IsTrue (is_session_name session) × AreOctets text × (line ≡ codes "send " ++ (session ++ 32 ∷ escape_text Text text))
 Says line (Poll session) = IsTrue (is_session_name session) × (line ≡ codes "poll " ++ session)
 Says line (Close session) = IsTrue (is_session_name session) × (line ≡ codes "close " ++ session)
 Says line (Show replica) = IsReplica replica × (line ≡ codes "show " ++ decimal replica)

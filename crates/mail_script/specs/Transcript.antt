@@ -1,6 +1,6 @@
 use Rattle.std.specs.Prelude.{ℕ, ◌-◌, List, [], ◌∷◌, ◌++◌, length, take, drop, codes, if◌then◌else◌}
 use Rattle.std.specs.Str.{bytes_eq}
-use Rattle.imap_types.specs.Escape.{escaped}
+use Rattle.imap_types.specs.Escape.{escape_text}
 use Rattle.imap_types.specs.declared.escape.Escape.TheVariants.{Text}
 use Rattle.mail_script.specs.declared.transcript.Speaker.{Speaker}
 use Rattle.mail_script.specs.declared.transcript.Speaker.TheVariants.{Client, Server}
@@ -17,4 +17,4 @@ without_line_end octets = if bytes_eq (drop (length octets - 2) octets) (13 ∷ 
 -- A line of a transcript: who said it, the frame or answer without its closing CRLF in the escape in which the space
 -- stands for itself, and LF (10).
 abbrev pub transcript_line : List ℕ → Speaker → List ℕ → List ℕ
-transcript_line session speaker octets = session ++ (mark_of speaker ++ (escaped Text (without_line_end octets) ++ 10 ∷ []))
+transcript_line session speaker octets = session ++ (mark_of speaker ++ (escape_text Text (without_line_end octets) ++ 10 ∷ []))

@@ -1,6 +1,6 @@
 //! The fields of a line: numbers, names, ids and texts.
 
-ghost use Rattle.mail_script.specs.Reading.{Gives, behind_at, counted_at, cut_at, first_numbers_at, id_at, moment_at, replica_at, session_at, spoken_at};
+ghost use Rattle.mail_script.specs.Reading.{Gives, behind_at, counted_at, cut_at, first_numbers_at, id_at, moment_at, replica_at, session_at, session_and_text_at};
 
 use crate::script::LineFault;
 use crate::session_name::{SessionName, is_session_name};
@@ -10,7 +10,7 @@ use tags_clocks::{OpId, ReplicaId};
 use text_fields::split;
 
 /// What stands before the first separator, where a field has to be there, and what behind it.
-pub fn cut(separator: u8, text: &[u8]) -> Result<(&[u8], &[u8]), LineFault>
+pub fn split_field(separator: u8, text: &[u8]) -> Result<(&[u8], &[u8]), LineFault>
     ensures { Gives (λ parts. (parts.0.now, parts.1.now)) result (cut_at separator text.now) }
 {
     match split(separator, text) {
@@ -63,11 +63,11 @@ pub fn session(alloc: Global, text: &[u8]) -> Result<SessionName, LineFault>
 }
 
 /// A session and the text behind it.
-#[tactic(auto, unfolding(crate::specs::Reading::spoken_at))]
-pub fn spoken(alloc: Global, fields: &[u8]) -> Result<(SessionName, Octets), LineFault>
-    ensures { Gives (λ spoken. spoken) result (spoken_at fields.now) }
+#[tactic(auto, unfolding(crate::specs::Reading::session_and_text_at))]
+pub fn session_and_text(alloc: Global, fields: &[u8]) -> Result<(SessionName, Octets), LineFault>
+    ensures { Gives (λ spoken. spoken) result (session_and_text_at fields.now) }
 {
-    let (name, text) = cut(b' ', fields)?;
+    let (name, text) = split_field(b' ', fields)?;
     let session = session(alloc, name)?;
     let text = read_escaped(alloc, Escape::Text, text)?;
     Ok((session, text))
@@ -78,20 +78,20 @@ pub fn spoken(alloc: Global, fields: &[u8]) -> Result<(SessionName, Octets), Lin
 pub fn first_numbers(text: &[u8]) -> Result<(u32, u32), LineFault>
     ensures { Gives (λ numbers. (numbers.0, numbers.1)) result (first_numbers_at text.now) }
 {
-    let numbers = behind(b"uid", text)?;
-    let (first, rest) = cut(b' ', numbers)?;
-    let uid = counted(first, 4_294_967_295)?;
-    let last = behind(b"k", rest)?;
-    let k = counted(last, 65_536)?;
+    let numbers = text_after_word(b"uid", text)?;
+    let (first, rest) = split_field(b' ', numbers)?;
+    let uid = number_up_to(first, 4_294_967_295)?;
+    let last = text_after_word(b"k", rest)?;
+    let k = number_up_to(last, 65_536)?;
     Ok((uid, k))
 }
 
 /// The text behind a word and a space.
 #[tactic(auto, unfolding(crate::specs::Reading::behind_at))]
-fn behind<'a>(word: &[u8], text: &'a [u8]) -> Result<&'a [u8], LineFault>
+fn text_after_word<'a>(word: &[u8], text: &'a [u8]) -> Result<&'a [u8], LineFault>
     ensures { Gives (λ rest. rest.now) result (behind_at word.now text.now) }
 {
-    let (first, rest) = cut(b' ', text)?;
+    let (first, rest) = split_field(b' ', text)?;
     if first != word {
         return Err(LineFault::NotALine);
     }
@@ -100,7 +100,7 @@ fn behind<'a>(word: &[u8], text: &'a [u8]) -> Result<&'a [u8], LineFault>
 
 /// The number from 1 to the limit that a field tells.
 #[tactic(auto, unfolding(crate::specs::Reading::counted_at))]
-fn counted(text: &[u8], limit: u32) -> Result<u32, LineFault>
+fn number_up_to(text: &[u8], limit: u32) -> Result<u32, LineFault>
     ensures { Gives (λ number. number) result (counted_at limit text.now) }
 {
     match text_fields::number(text, u64::from(limit)) {

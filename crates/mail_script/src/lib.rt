@@ -2,14 +2,14 @@
 #![tactic(auto)]
 
 mod fields;
-mod lines;
-mod outcome;
+mod script_lines;
+mod outcome_line;
 mod script;
 mod session_name;
 mod transcript;
 
-pub use lines::{ScriptLines, cut_in_turn};
-pub use outcome::{
+pub use script_lines::{ScriptLines, cut_in_turn};
+pub use outcome_line::{
     BrokenRule, DeliveryResult, JoinResult, OutcomeLine, SettleResult, write_outcome,
 };
 pub use script::{LineFault, ScriptLine, one_meaning, read_line};

@@ -1,12 +1,12 @@
 //! What a line of a replay script says.
 
 ghost use Rattle.std.specs.Prelude.{◌≡◌, ℕ, List, IfOk, MatchResult};
-ghost use Rattle.mail_script.specs.declared.script.ScriptLine.{ScriptLine as Meaning};
+ghost use Rattle.mail_script.specs.declared.script.ScriptLine.{ScriptLine};
 ghost use Rattle.mail_script.specs.declared.script.LineFault.TheVariants.{NoMemory};
 ghost use Rattle.mail_script.specs.Reading.{Gives, agree_at, cut_at, deliver_at, fields_at, forge_at, join_at, keyword_at, line_at, node_at, open_at, word_or_words_at, words_at};
 ghost use Rattle.mail_script.specs.Script.{Says};
 
-use crate::fields::{cut, first_numbers, id, moment, replica, session, spoken};
+use crate::fields::{split_field, first_numbers, id, moment, replica, session, session_and_text};
 use crate::session_name::SessionName;
 use imap_types::{EscapeFault, Moment, Octets};
 use std::alloc::{AllocError, Global};
@@ -122,7 +122,7 @@ impl From<EscapeFault> for LineFault {
 
 /// The word that begins a line.
 #[derive(Clone, Copy)]
-pub enum Keyword {
+pub enum ScriptWord {
     Node,
     Now,
     Open,
@@ -142,17 +142,17 @@ pub enum Keyword {
 /// says nothing, and `NoMemory` where there is no memory for its fields.
 pub fn read_line(alloc: Global, line: &[u8]) -> Result<ScriptLine, LineFault>
     ensures found { IfOk result (λ said. Says line.now said) }
-    ensures only { (meaning : Meaning) → Says line.now meaning → MatchResult result (λ said. said ≡ meaning) (λ fault. fault ≡ NoMemory) }
+    ensures only { (meaning : ScriptLine) → Says line.now meaning → MatchResult result (λ said. said ≡ meaning) (λ fault. fault ≡ NoMemory) }
 {
-    said(alloc, line)
+    read_said(alloc, line)
 }
 
 /// A line says at most one thing.
 pub fn one_meaning()
-    ensures { (line : List ℕ) (meaning other : Meaning) → Says line meaning → Says line other → meaning ≡ other }
+    ensures { (line : List ℕ) (meaning other : ScriptLine) → Says line meaning → Says line other → meaning ≡ other }
 {}
 
-fn said(alloc: Global, line: &[u8]) -> Result<ScriptLine, LineFault>
+fn read_said(alloc: Global, line: &[u8]) -> Result<ScriptLine, LineFault>
     ensures { Gives (λ said. said) result (line_at line.now) }
 {
     match line {
@@ -180,84 +180,84 @@ fn word_or_words(alloc: Global, line: &[u8]) -> Result<ScriptLine, LineFault>
 fn words(alloc: Global, line: &[u8]) -> Result<ScriptLine, LineFault>
     ensures { Gives (λ said. said) result (words_at line.now) }
 {
-    let (word, fields) = cut(b' ', line)?;
+    let (word, fields) = split_field(b' ', line)?;
     let keyword = read_keyword(word)?;
     after_keyword(alloc, keyword, fields)
 }
 
 #[tactic(auto, unfolding(crate::specs::Reading::keyword_at))]
-fn read_keyword(word: &[u8]) -> Result<Keyword, LineFault>
+fn read_keyword(word: &[u8]) -> Result<ScriptWord, LineFault>
     ensures { Gives (λ keyword. keyword) result (keyword_at word.now) }
 {
     if word == b"node".as_slice() {
-        Ok(Keyword::Node)
+        Ok(ScriptWord::Node)
     } else if word == b"now".as_slice() {
-        Ok(Keyword::Now)
+        Ok(ScriptWord::Now)
     } else if word == b"open".as_slice() {
-        Ok(Keyword::Open)
+        Ok(ScriptWord::Open)
     } else if word == b"line".as_slice() {
-        Ok(Keyword::Line)
+        Ok(ScriptWord::Line)
     } else if word == b"send".as_slice() {
-        Ok(Keyword::Send)
+        Ok(ScriptWord::Send)
     } else if word == b"poll".as_slice() {
-        Ok(Keyword::Poll)
+        Ok(ScriptWord::Poll)
     } else if word == b"close".as_slice() {
-        Ok(Keyword::Close)
+        Ok(ScriptWord::Close)
     } else if word == b"show".as_slice() {
-        Ok(Keyword::Show)
+        Ok(ScriptWord::Show)
     } else if word == b"deliver".as_slice() {
-        Ok(Keyword::Deliver)
+        Ok(ScriptWord::Deliver)
     } else if word == b"forge".as_slice() {
-        Ok(Keyword::Forge)
+        Ok(ScriptWord::Forge)
     } else if word == b"drain".as_slice() {
-        Ok(Keyword::Drain)
+        Ok(ScriptWord::Drain)
     } else if word == b"agree".as_slice() {
-        Ok(Keyword::Agree)
+        Ok(ScriptWord::Agree)
     } else if word == b"join".as_slice() {
-        Ok(Keyword::Join)
+        Ok(ScriptWord::Join)
     } else {
         Err(LineFault::NotALine)
     }
 }
 
-fn after_keyword(alloc: Global, keyword: Keyword, fields: &[u8]) -> Result<ScriptLine, LineFault>
+fn after_keyword(alloc: Global, keyword: ScriptWord, fields: &[u8]) -> Result<ScriptLine, LineFault>
     ensures { Gives (λ said. said) result (fields_at keyword fields.now) }
 {
     match keyword {
-        Keyword::Node => node(fields),
-        Keyword::Now => {
+        ScriptWord::Node => node(fields),
+        ScriptWord::Now => {
             let moment = moment(fields)?;
             Ok(ScriptLine::Now { moment })
         }
-        Keyword::Open => open(alloc, fields),
-        Keyword::Line => {
-            let (session, text) = spoken(alloc, fields)?;
+        ScriptWord::Open => open(alloc, fields),
+        ScriptWord::Line => {
+            let (session, text) = session_and_text(alloc, fields)?;
             Ok(ScriptLine::Line { session, text })
         }
-        Keyword::Send => {
-            let (session, text) = spoken(alloc, fields)?;
+        ScriptWord::Send => {
+            let (session, text) = session_and_text(alloc, fields)?;
             Ok(ScriptLine::Send { session, text })
         }
-        Keyword::Poll => {
+        ScriptWord::Poll => {
             let session = session(alloc, fields)?;
             Ok(ScriptLine::Poll { session })
         }
-        Keyword::Close => {
+        ScriptWord::Close => {
             let session = session(alloc, fields)?;
             Ok(ScriptLine::Close { session })
         }
-        Keyword::Show => {
+        ScriptWord::Show => {
             let replica = replica(fields)?;
             Ok(ScriptLine::Show { replica })
         }
-        Keyword::Deliver => deliver(fields),
-        Keyword::Forge => forge(alloc, fields),
-        Keyword::Drain => {
+        ScriptWord::Deliver => deliver(fields),
+        ScriptWord::Forge => forge(alloc, fields),
+        ScriptWord::Drain => {
             let replica = replica(fields)?;
             Ok(ScriptLine::Drain { replica })
         }
-        Keyword::Agree => agree(fields),
-        Keyword::Join => join(fields),
+        ScriptWord::Agree => agree(fields),
+        ScriptWord::Join => join(fields),
     }
 }
 
@@ -286,7 +286,7 @@ fn node(fields: &[u8]) -> Result<ScriptLine, LineFault>
 fn open(alloc: Global, fields: &[u8]) -> Result<ScriptLine, LineFault>
     ensures { Gives (λ said. said) result (open_at fields.now) }
 {
-    let (number, name) = cut(b' ', fields)?;
+    let (number, name) = split_field(b' ', fields)?;
     let replica = replica(number)?;
     let session = session(alloc, name)?;
     Ok(ScriptLine::Open { replica, session })
@@ -296,7 +296,7 @@ fn open(alloc: Global, fields: &[u8]) -> Result<ScriptLine, LineFault>
 fn deliver(fields: &[u8]) -> Result<ScriptLine, LineFault>
     ensures { Gives (λ said. said) result (deliver_at fields.now) }
 {
-    let (name, number) = cut(b' ', fields)?;
+    let (name, number) = split_field(b' ', fields)?;
     let id = id(name)?;
     let replica = replica(number)?;
     Ok(ScriptLine::Deliver { id, replica })
@@ -306,7 +306,7 @@ fn deliver(fields: &[u8]) -> Result<ScriptLine, LineFault>
 fn agree(fields: &[u8]) -> Result<ScriptLine, LineFault>
     ensures { Gives (λ said. said) result (agree_at fields.now) }
 {
-    let (one, other) = cut(b' ', fields)?;
+    let (one, other) = split_field(b' ', fields)?;
     let first = replica(one)?;
     let second = replica(other)?;
     Ok(ScriptLine::Agree { first, second })
@@ -316,7 +316,7 @@ fn agree(fields: &[u8]) -> Result<ScriptLine, LineFault>
 fn join(fields: &[u8]) -> Result<ScriptLine, LineFault>
     ensures { Gives (λ said. said) result (join_at fields.now) }
 {
-    let (one, other) = cut(b' ', fields)?;
+    let (one, other) = split_field(b' ', fields)?;
     let joining = replica(one)?;
     let peer = replica(other)?;
     Ok(ScriptLine::Join {
@@ -329,8 +329,8 @@ fn join(fields: &[u8]) -> Result<ScriptLine, LineFault>
 fn forge(alloc: Global, fields: &[u8]) -> Result<ScriptLine, LineFault>
     ensures { Gives (λ said. said) result (forge_at fields.now) }
 {
-    let (number, operation) = cut(b' ', fields)?;
+    let (number, operation) = split_field(b' ', fields)?;
     let replica = replica(number)?;
-    let operation = Octets::copied_from(alloc, operation)?;
+    let operation = Octets::from_slice(alloc, operation)?;
     Ok(ScriptLine::Forge { replica, operation })
 }

@@ -7,7 +7,7 @@ use Rattle.jiff.proofs.OnLiterals.{jiff_on_literals}
 use Rattle.jiff.specs.Types.{Date}
 use Rattle.jiff.specs.Words.{epoch_day, IsYmd, days_in_month, is_leap_year}
 use Rattle.imap_types.specs.DateTimes.{IsDateTime, date_time_picture, day_at, is_digit, month_at, month_of, two_digits, year_at}
-use Rattle.imap_types.specs.DateTimeTests.{is_date_time, is_day, is_time, pictured}
+use Rattle.imap_types.specs.DateTimeTests.{is_date_time, is_day, is_time, matches_picture}
 use Rattle.imap_types.proofs.DateTimeLemmas.{date_time_from_test}
 use Rattle.mail_text.specs.Civil.{month_name, utc_text}
 
@@ -55,7 +55,7 @@ has_letters (suc (suc (suc (suc (suc (suc (suc (suc (suc (suc (suc (suc (suc m))
 
 -- the form, octet by octet
 fits : (a b c d y z : ℕ) → d < 100 → y < 100 → z < 100 → (h i s : ℕ) → h < 100 → i < 100 → s < 100
-    → pictured date_time_picture
+    → matches_picture date_time_picture
     (34 ∷ (48 + d / 10) ∷ (48 + d % 10) ∷ 45 ∷ a ∷ b ∷ c ∷ 45 ∷ (48 + y / 10) ∷ (48 + y % 10) ∷ (48 + z / 10) ∷ (48 + z % 10) ∷ 32
     ∷ (48 + h / 10) ∷ (48 + h % 10) ∷ 58 ∷ (48 + i / 10) ∷ (48 + i % 10) ∷ 58 ∷ (48 + s / 10) ∷ (48 + s % 10) ∷ codes " +0000\"") ≡ true
 fits a b c d y z hd hy hz h i s hh hi hs =
@@ -94,9 +94,9 @@ long_month year month =
     ]
 
 -- the parts of the test
-whole : (text other : List ℕ) → text ≡ other → pictured date_time_picture other ≡ true → is_day (year_at other) (month_at other) (day_at other) ≡ true → is_time other ≡ true → is_date_time text ≡ true
+whole : (text other : List ℕ) → text ≡ other → matches_picture date_time_picture other ≡ true → is_day (year_at other) (month_at other) (day_at other) ≡ true → is_time other ≡ true → is_date_time text ≡ true
 unfolding is_date_time
-whole text other e form held time = (λ i. pictured date_time_picture (e i) && is_day (year_at (e i)) (month_at (e i)) (day_at (e i)) && is_time (e i)) ∙ and_from _ _ (and_from _ _ form held) time
+whole text other e form held time = (λ i. matches_picture date_time_picture (e i) && is_day (year_at (e i)) (month_at (e i)) (day_at (e i)) && is_time (e i)) ∙ and_from _ _ (and_from _ _ form held) time
 
 abbrev spelled : (a b c d y z h i s : ℕ) → List ℕ
 spelled a b c d y z h i s =

@@ -2,7 +2,7 @@ use Rattle.std.proofs.Common.{◌≡◌, ◌≢◌, slice_index, ℕ, zero, suc,
 use Rattle.std.proofs.lemmas.Bool.{cases_Bool, and_from, and_parts, eq-eqb, eqb-true}
 use Rattle.std.specs.List.{concat}
 use Rattle.memchr.specs.Find.{OccursAt, Nowhere}
-use Rattle.mail_text.specs.Lines.{crlf, in_first, is_crlf, lines_of}
+use Rattle.mail_text.specs.TextLines.{crlf, in_first, is_crlf, lines_of}
 
 -- a place of a word, one octet further on
 pub further : (a : ℕ) (text word : List ℕ) (k : ℕ) → OccursAt text word k → OccursAt (a ∷ text) word (suc k)

@@ -1,8 +1,8 @@
 use Rattle.std.proofs.Common.{◌≡◌, ℕ, ◌<◌, ◌++◌, true, false, List, [], ◌∷◌, length, ap, sym, ◌∙◌, arith, refl, append_assoc}
 use Rattle.std.specs.List.{concat}
-use Rattle.mail_text.specs.Lines.{body_lines, header_lines, is_empty_line, lines_of}
-use Rattle.mail_text.specs.Parts.{body_of, header_of}
-use Rattle.mail_text.specs.Cuts.{IsWithin, IsBehind}
+use Rattle.mail_text.specs.TextLines.{body_lines, header_lines, is_empty_line, lines_of}
+use Rattle.mail_text.specs.HeaderAndBody.{body_of, header_of}
+use Rattle.mail_text.specs.Cuts.{IsWithin, IsAfterHeader}
 use Rattle.mail_text.proofs.LineLemmas.{lines-joined}
 
 append_nil : (xs : List ℕ) → xs ++ [] ≡ xs
@@ -25,7 +25,7 @@ goes text rest line tail w e p f =
     }
 
 -- the empty line
-pub ends : (text rest line tail : List ℕ) → IsWithin text rest → lines_of rest ≡ line ∷ lines_of tail → line ++ tail ≡ rest → is_empty_line line ≡ true → IsBehind text tail
+pub ends : (text rest line tail : List ℕ) → IsWithin text rest → lines_of rest ≡ line ∷ lines_of tail → line ++ tail ≡ rest → is_empty_line line ≡ true → IsAfterHeader text tail
 ends text rest line tail w e p f =
     let h : header_of rest ≡ line ++ [] = ap (λ ls. concat (header_lines ls)) e ∙ rw f refl in
     let b : body_of rest ≡ tail = ap (λ ls. concat (body_lines ls)) e ∙ rw f (lines-joined tail) in
@@ -36,6 +36,6 @@ ends text rest line tail w e p f =
     }
 
 -- no more lines
-pub all_header : (text rest : List ℕ) → IsWithin text rest → length rest < 1 → IsBehind text rest
+pub all_header : (text rest : List ℕ) → IsWithin text rest → length rest < 1 → IsAfterHeader text rest
 all_header text [] w l = let k : header_of text ≡ w.front = w.header ∙ append_nil w.front in record { split = w.split ∙ ap (λ xs. xs ++ []) (sym k); body = w.body }
 all_header text (x ∷ rest) w l = absurd (omega arith)

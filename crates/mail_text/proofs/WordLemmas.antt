@@ -3,10 +3,10 @@ use Rattle.std.proofs.lemmas.Bool.{cases_Bool, eqb-true}
 use Rattle.std.proofs.lemmas.List.{length-append}
 use Rattle.std.specs.List.{concat, list_any}
 use Rattle.memchr.specs.Find.{Nowhere, Passes, is_byte}
-use Rattle.mail_text.specs.Cuts.{GoesOn, HasGoneOn, IsFirstField, going_on, gone_on}
-use Rattle.mail_text.specs.Fields.{field_lines, fields_in, goes_on, is_blank, is_named}
-use Rattle.mail_text.specs.Lines.{in_first, is_crlf, is_empty_line, lines_of}
-use Rattle.mail_text.specs.Places.{any_field_holds, behind_colon, field_holds, holds}
+use Rattle.mail_text.specs.Cuts.{IsInContinuation, IsAfterContinuation, IsFirstField, continuation_lines, after_continuations}
+use Rattle.mail_text.specs.HeaderFields.{field_lines, fields_in, is_continuation, is_blank, has_asked_name}
+use Rattle.mail_text.specs.TextLines.{in_first, is_crlf, is_empty_line, lines_of}
+use Rattle.mail_text.specs.TextSearch.{any_field_holds, after_colon, field_holds, holds}
 
 -- the first line begins as the text does
 record StartsWith (octet : ℕ) (lines : List (List ℕ)) : Type 0 where
@@ -42,47 +42,47 @@ nil_behind : (xs : List ℕ) → xs ++ [] ≡ xs
 nil_behind [] = refl
 nil_behind (x ∷ xs) = ap (λ ys. x ∷ ys) (nil_behind xs)
 
-pub begins_going : (text : List ℕ) → GoesOn text text
+pub begins_going : (text : List ℕ) → IsInContinuation text text
 begins_going text = record { front = []; split = refl; lines = refl; others = refl }
 
 -- a line that goes on
-pub goes : (text rest line tail : List ℕ) → GoesOn text rest → lines_of rest ≡ line ∷ lines_of tail → line ++ tail ≡ rest → goes_on rest ≡ true → GoesOn text tail
+pub goes : (text rest line tail : List ℕ) → IsInContinuation text rest → lines_of rest ≡ line ∷ lines_of tail → line ++ tail ≡ rest → is_continuation rest ≡ true → IsInContinuation text tail
 unfolding first_or
 goes text [] line tail g e p h = absurd cc
 goes text (a ∷ rest) line tail g e p h =
     let s = starts_with a rest in
     let l : line ≡ a ∷ s.more = ap (first_or []) (sym e ∙ s.are) in
     let n : is_empty_line line ≡ false = ap is_empty_line l ∙ blank_line a s.more h in
-    let o : goes_on line ≡ true = ap goes_on l ∙ h in
+    let o : is_continuation line ≡ true = ap is_continuation l ∙ h in
     let f : field_lines (lines_of (a ∷ rest)) ≡ line ∷ field_lines (lines_of tail) = ap field_lines e ∙ rw n refl in
-    let c : concat (going_on (field_lines (lines_of (a ∷ rest)))) ≡ line ++ concat (going_on (field_lines (lines_of tail))) = ap (λ ls. concat (going_on ls)) f ∙ rw o refl in
-    let k : gone_on (field_lines (lines_of (a ∷ rest))) ≡ gone_on (field_lines (lines_of tail)) = ap gone_on f ∙ rw o refl in
+    let c : concat (continuation_lines (field_lines (lines_of (a ∷ rest)))) ≡ line ++ concat (continuation_lines (field_lines (lines_of tail))) = ap (λ ls. concat (continuation_lines ls)) f ∙ rw o refl in
+    let k : after_continuations (field_lines (lines_of (a ∷ rest))) ≡ after_continuations (field_lines (lines_of tail)) = ap after_continuations f ∙ rw o refl in
     record {
       front = g.front ++ line;
       split = g.split ∙ ap (λ xs. g.front ++ xs) (sym p) ∙ sym (append_assoc g.front line tail);
-      lines = g.lines ∙ ap (λ xs. g.front ++ xs) c ∙ sym (append_assoc g.front line (concat (going_on (field_lines (lines_of tail)))));
+      lines = g.lines ∙ ap (λ xs. g.front ++ xs) c ∙ sym (append_assoc g.front line (concat (continuation_lines (field_lines (lines_of tail)))));
       others = g.others ∙ k;
     }
 
 -- and one that doesn't
 record NoneGoing (rest : List ℕ) : Type 0 where
-  going : going_on (field_lines (lines_of rest)) ≡ []
-  gone : gone_on (field_lines (lines_of rest)) ≡ field_lines (lines_of rest)
+  going : continuation_lines (field_lines (lines_of rest)) ≡ []
+  gone : after_continuations (field_lines (lines_of rest)) ≡ field_lines (lines_of rest)
 
-none_going : (rest : List ℕ) → goes_on rest ≡ false → NoneGoing rest
+none_going : (rest : List ℕ) → is_continuation rest ≡ false → NoneGoing rest
 none_going [] h = record { going = refl; gone = refl }
 none_going (a ∷ rest) h =
     let s = starts_with a rest in
     elim (cases_Bool (is_empty_line (a ∷ s.more))) [
       | inl t ↦
           let f : field_lines (lines_of (a ∷ rest)) ≡ [] = ap field_lines s.are ∙ rw t refl in
-          record { going = ap going_on f; gone = ap gone_on f ∙ sym f }
+          record { going = ap continuation_lines f; gone = ap after_continuations f ∙ sym f }
       | inr u ↦
           let f : field_lines (lines_of (a ∷ rest)) ≡ (a ∷ s.more) ∷ field_lines s.others = ap field_lines s.are ∙ rw u refl in
-          record { going = ap going_on f ∙ rw h refl; gone = ap gone_on f ∙ rw h refl ∙ sym f }
+          record { going = ap continuation_lines f ∙ rw h refl; gone = ap after_continuations f ∙ rw h refl ∙ sym f }
     ]
 
-pub stops : (text rest : List ℕ) → GoesOn text rest → goes_on rest ≡ false → HasGoneOn text rest
+pub stops : (text rest : List ℕ) → IsInContinuation text rest → is_continuation rest ≡ false → IsAfterContinuation text rest
 stops text rest g h =
     let n = none_going rest h in
     record {
@@ -90,15 +90,15 @@ stops text rest g h =
       others = g.others ∙ n.gone;
     }
 
-pub all_gone : (text rest : List ℕ) → GoesOn text rest → length rest < 1 → HasGoneOn text rest
+pub all_gone : (text rest : List ℕ) → IsInContinuation text rest → length rest < 1 → IsAfterContinuation text rest
 all_gone text [] g l = stops text [] g refl
 all_gone text (x ∷ rest) g l = absurd (omega arith)
 
 -- the first field: a line with those that go on
-split_fields : (line : List ℕ) (lines : List (List ℕ)) → fields_in (line ∷ lines) ≡ (line ∷ going_on lines) ∷ fields_in (gone_on lines)
+split_fields : (line : List ℕ) (lines : List (List ℕ)) → fields_in (line ∷ lines) ≡ (line ∷ continuation_lines lines) ∷ fields_in (after_continuations lines)
 split_fields line [] = refl
 split_fields line (next ∷ lines) =
-    elim (cases_Bool (goes_on next)) [
+    elim (cases_Bool (is_continuation next)) [
       | inl t ↦ rw t (ap (in_first line) (split_fields next lines))
       | inr f ↦ rw f refl
     ]
@@ -115,9 +115,9 @@ cut_front : (xs ys text field : List ℕ) → text ≡ xs ++ ys → field ≡ ta
 cut_front xs ys text field e f = sym (f ∙ ap (λ zs. take (length zs - length ys) zs) e ∙ take_front xs ys)
 
 pub is_first : (text line tail field rest : List ℕ) → lines_of text ≡ line ∷ lines_of tail → line ++ tail ≡ text → length tail < length text → is_empty_line line ≡ false
-    → HasGoneOn tail rest → length rest ≤ length tail → field ≡ take (length text - length rest) text → IsFirstField text line field rest
+    → IsAfterContinuation tail rest → length rest ≤ length tail → field ≡ take (length text - length rest) text → IsFirstField text line field rest
 is_first text line tail field rest e p s f g w t =
-    let more = going_on (field_lines (lines_of tail)) in
+    let more = continuation_lines (field_lines (lines_of tail)) in
     record {
       more = more;
       fields = ap (λ ls. fields_in (field_lines ls)) e ∙ rw f (split_fields line (field_lines (lines_of tail)) ∙ ap (λ ls. (line ∷ more) ∷ fields_in ls) g.others);
@@ -133,11 +133,11 @@ no_text [] l = refl
 no_text (x ∷ text) l = absurd (omega arith)
 
 -- one field further
-pub passes : (name word text line octets rest : List ℕ) (is : Bool) → IsFirstField text line octets rest → is ≡ (is_named (name ∷ []) line && holds word (behind_colon octets))
+pub passes : (name word text line octets rest : List ℕ) (is : Bool) → IsFirstField text line octets rest → is ≡ (has_asked_name (name ∷ []) line && holds word (after_colon octets))
     → any_field_holds name word text ≡ (is || any_field_holds name word rest)
 passes name word text line octets rest is f e =
     ap (list_any (field_holds name word)) f.fields
-    ∙ (λ i. (is_named (name ∷ []) line && holds word (behind_colon (f.joined i))) || any_field_holds name word rest)
+    ∙ (λ i. (has_asked_name (name ∷ []) line && holds word (after_colon (f.joined i))) || any_field_holds name word rest)
     ∙ ap (λ b. b || any_field_holds name word rest) (sym e)
 
 pub none_holds : (name word text : List ℕ) → fields_in (field_lines (lines_of text)) ≡ [] → any_field_holds name word text ≡ false
@@ -148,7 +148,7 @@ no_more name word [] l = refl
 no_more name word (x ∷ text) l = absurd (omega arith)
 
 -- what is behind the first colon
-pub behind_at : (octets : List ℕ) (k : ℕ) → k < length octets → Passes (is_byte 58) octets k → Nowhere (Passes (is_byte 58) octets) 0 k → behind_colon octets ≡ drop (k + 1) octets
+pub behind_at : (octets : List ℕ) (k : ℕ) → k < length octets → Passes (is_byte 58) octets k → Nowhere (Passes (is_byte 58) octets) 0 k → after_colon octets ≡ drop (k + 1) octets
 behind_at [] k l p n = absurd (omega arith)
 behind_at (a ∷ octets) zero l p n = rw p refl
 behind_at (a ∷ octets) (suc k) l p n =
@@ -159,7 +159,7 @@ behind_at (a ∷ octets) (suc k) l p n =
           rw (f, e) (behind_at octets k (omega arith) p (λ j m o q. n (suc j) (omega arith) (omega arith) q))
     ]
 
-pub behind_none : (octets : List ℕ) → Nowhere (Passes (is_byte 58) octets) 0 (length octets) → behind_colon octets ≡ []
+pub behind_none : (octets : List ℕ) → Nowhere (Passes (is_byte 58) octets) 0 (length octets) → after_colon octets ≡ []
 behind_none [] n = refl
 behind_none (a ∷ octets) n =
     elim (cases_Bool (is_byte 58 a)) [

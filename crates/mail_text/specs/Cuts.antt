@@ -1,8 +1,8 @@
 use Rattle.std.specs.Prelude.{◌≡◌, ℕ, ◌<◌, List, [], ◌∷◌, ◌++◌, length, if◌then◌else◌}
 use Rattle.std.specs.List.{concat}
-use Rattle.mail_text.specs.Fields.{field_lines, fields_in, goes_on}
-use Rattle.mail_text.specs.Lines.{lines_of}
-use Rattle.mail_text.specs.Parts.{body_of, header_of}
+use Rattle.mail_text.specs.HeaderFields.{field_lines, fields_in, is_continuation}
+use Rattle.mail_text.specs.TextLines.{lines_of}
+use Rattle.mail_text.specs.HeaderAndBody.{body_of, header_of}
 
 -- The rest of a text stands where the header still goes on.
 pub record IsWithin (text rest : List ℕ) : Type 0 where
@@ -12,30 +12,30 @@ pub record IsWithin (text rest : List ℕ) : Type 0 where
   pub body : body_of text ≡ body_of rest
 
 -- The rest of a text is what follows the header.
-pub record IsBehind (text rest : List ℕ) : Type 0 where
+pub record IsAfterHeader (text rest : List ℕ) : Type 0 where
   pub split : text ≡ header_of text ++ rest
   pub body : body_of text ≡ rest
 
 -- The lines that go on with the field before them, and those behind.
-abbrev pub going_on : List (List ℕ) → List (List ℕ)
-going_on [] = []
-going_on (line ∷ lines) = if goes_on line then line ∷ going_on lines else []
+abbrev pub continuation_lines : List (List ℕ) → List (List ℕ)
+continuation_lines [] = []
+continuation_lines (line ∷ lines) = if is_continuation line then line ∷ continuation_lines lines else []
 
-abbrev pub gone_on : List (List ℕ) → List (List ℕ)
-gone_on [] = []
-gone_on (line ∷ lines) = if goes_on line then gone_on lines else line ∷ lines
+abbrev pub after_continuations : List (List ℕ) → List (List ℕ)
+after_continuations [] = []
+after_continuations (line ∷ lines) = if is_continuation line then after_continuations lines else line ∷ lines
 
 -- The rest of a text stands where the field before it still goes on.
-pub record GoesOn (text rest : List ℕ) : Type 0 where
+pub record IsInContinuation (text rest : List ℕ) : Type 0 where
   pub front : List ℕ
   pub split : text ≡ front ++ rest
-  pub lines : concat (going_on (field_lines (lines_of text))) ≡ front ++ concat (going_on (field_lines (lines_of rest)))
-  pub others : gone_on (field_lines (lines_of text)) ≡ gone_on (field_lines (lines_of rest))
+  pub lines : concat (continuation_lines (field_lines (lines_of text))) ≡ front ++ concat (continuation_lines (field_lines (lines_of rest)))
+  pub others : after_continuations (field_lines (lines_of text)) ≡ after_continuations (field_lines (lines_of rest))
 
 -- The rest of a text begins with the next field, or with the empty line.
-pub record HasGoneOn (text rest : List ℕ) : Type 0 where
-  pub split : text ≡ concat (going_on (field_lines (lines_of text))) ++ rest
-  pub others : gone_on (field_lines (lines_of text)) ≡ field_lines (lines_of rest)
+pub record IsAfterContinuation (text rest : List ℕ) : Type 0 where
+  pub split : text ≡ concat (continuation_lines (field_lines (lines_of text))) ++ rest
+  pub others : after_continuations (field_lines (lines_of text)) ≡ field_lines (lines_of rest)
 
 -- A text's first field: its first line, all of its octets, and what is behind it.
 pub record IsFirstField (text line field rest : List ℕ) : Type 0 where

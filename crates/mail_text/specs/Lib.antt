@@ -1,7 +1,7 @@
 pub mod Civil
 pub mod Cuts
-pub mod Kept
-pub mod Fields
-pub mod Lines
-pub mod Parts
-pub mod Places
+pub mod KeptLines
+pub mod HeaderFields
+pub mod TextLines
+pub mod HeaderAndBody
+pub mod TextSearch

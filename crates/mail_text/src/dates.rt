@@ -40,7 +40,7 @@ pub fn written_day(date: &DateTime) -> Day
 {
     let octets = date.as_bytes();
     let year = u16::from(two_digits(octets, 8)) * 100 + u16::from(two_digits(octets, 10));
-    match Day::named(year, &octets[4..7], two_digits(octets, 1)) {
+    match Day::from_month_name(year, &octets[4..7], two_digits(octets, 1)) {
         Some(day) => day,
         None => unreachable!(),
     }

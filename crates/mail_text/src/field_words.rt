@@ -1,12 +1,12 @@
 ghost use Rattle.std.specs.Prelude.{◌≡◌, ◌≤◌, ◌&&◌, [], ◌∷◌, length, IfOk, MatchOption};
-ghost use Rattle.mail_text.specs.Cuts.{HasGoneOn, IsFirstField};
-ghost use Rattle.mail_text.specs.Fields.{field_lines, fields_in, is_named};
-ghost use Rattle.mail_text.specs.Lines.{lines_of};
-ghost use Rattle.mail_text.specs.Places.{any_field_holds, behind_colon, holds};
+ghost use Rattle.mail_text.specs.Cuts.{IsAfterContinuation, IsFirstField};
+ghost use Rattle.mail_text.specs.HeaderFields.{field_lines, fields_in, has_asked_name};
+ghost use Rattle.mail_text.specs.TextLines.{lines_of};
+ghost use Rattle.mail_text.specs.TextSearch.{any_field_holds, after_colon, holds};
 
-use crate::header_fields::{before_colon, goes_on, trimmed};
-use crate::lines::{first_line, is_empty_line};
-use crate::places::contains_nocase;
+use crate::header_fields::{before_colon, is_continuation, trim_end_blanks};
+use crate::text_lines::{first_line, is_empty_line};
+use crate::text_search::contains_nocase;
 use bstr::ByteSlice;
 use std::alloc::{AllocError, Global};
 
@@ -55,12 +55,12 @@ fn holds(
     name: &[u8],
     word: &[u8],
 ) -> Result<bool, AllocError>
-    ensures { IfOk result (λ is. is ≡ (is_named (name.now ∷ []) line.now && holds word.now (behind_colon octets.now))) }
+    ensures { IfOk result (λ is. is ≡ (has_asked_name (name.now ∷ []) line.now && holds word.now (after_colon octets.now))) }
 {
-    if !is_called(line, name) {
+    if !has_field_name(line, name) {
         return Ok(false);
     }
-    contains_nocase(alloc, behind_colon(octets), word)
+    contains_nocase(alloc, after_colon(octets), word)
 }
 
 /// The first field of a text that begins within a header; `None` where the header has no more.
@@ -74,19 +74,19 @@ fn first_field(text: &[u8]) -> Option<Field<'_>>
     if is_empty_line(line) {
         return None;
     }
-    let rest = behind_lines(tail);
+    let rest = after_continuations(tail);
     let (octets, _) = text.split_at(text.len() - rest.len());
     Some(Field { line, octets, rest })
 }
 
 /// What follows the lines that go on with the field before them.
-fn behind_lines(text: &[u8]) -> &[u8]
-    ensures cut { HasGoneOn text.now result.now }
+fn after_continuations(text: &[u8]) -> &[u8]
+    ensures cut { IsAfterContinuation text.now result.now }
     ensures within { length result.now ≤ length text.now }
 {
     let mut rest = text;
     for _ in 0..text.len() {
-        if !goes_on(rest) {
+        if !is_continuation(rest) {
             return rest;
         }
         let (_, tail) = first_line(rest);
@@ -96,18 +96,18 @@ fn behind_lines(text: &[u8]) -> &[u8]
 }
 
 /// Whether a line begins a field of this name.
-fn is_called(line: &[u8], name: &[u8]) -> bool
-    ensures { result ≡ is_named (name.now ∷ []) line.now }
+fn has_field_name(line: &[u8], name: &[u8]) -> bool
+    ensures { result ≡ has_asked_name (name.now ∷ []) line.now }
 {
     match before_colon(line) {
         None => false,
-        Some(front) => name.eq_ignore_ascii_case(trimmed(front)),
+        Some(front) => name.eq_ignore_ascii_case(trim_end_blanks(front)),
     }
 }
 
 /// What follows the first colon.
-fn behind_colon(octets: &[u8]) -> &[u8]
-    ensures { result.now ≡ behind_colon octets.now }
+fn after_colon(octets: &[u8]) -> &[u8]
+    ensures { result.now ≡ after_colon octets.now }
 {
     match octets.find_byte(b':') {
         Some(place) => octets.split_at(place + 1).1,

@@ -1,10 +1,10 @@
 ghost use Rattle.std.specs.Prelude.{◌≡◌, ◌≢◌, true, false, ◌++◌, [], OnOk, IfOk};
 ghost use Rattle.std.specs.Option.{option_map};
 ghost use Rattle.imap_types.specs.Keywords.{has_keyword};
-ghost use Rattle.mail_text.specs.Fields.{asks, before_colon, fields_of, goes_on, is_among, is_blank, is_named, trimmed};
-ghost use Rattle.mail_text.specs.Kept.{taken, takes};
+ghost use Rattle.mail_text.specs.HeaderFields.{is_asked_field, before_colon, fields_of, is_continuation, is_among, is_blank, has_asked_name, trim_end_blanks};
+ghost use Rattle.mail_text.specs.KeptLines.{is_kept_line, takes_line};
 
-use crate::lines::{first_line, is_empty_line};
+use crate::text_lines::{first_line, is_empty_line};
 use bstr::ByteSlice;
 use imap_types::Octets;
 use std::alloc::{AllocError, Global};
@@ -15,7 +15,7 @@ use std::alloc::{AllocError, Global};
 pub fn fields(alloc: Global, text: &[u8], names: &[Octets]) -> Result<Vec<u8>, AllocError>
     ensures { IfOk result (λ kept. kept.items ≡ fields_of true names.now text.now) }
 {
-    chosen(alloc, text, names, true)
+    select_fields(alloc, text, names, true)
 }
 
 /// The header fields of all other names, and lines without a name, as [`fields`] gives those of these names
@@ -23,11 +23,11 @@ pub fn fields(alloc: Global, text: &[u8], names: &[Octets]) -> Result<Vec<u8>, A
 pub fn other_fields(alloc: Global, text: &[u8], names: &[Octets]) -> Result<Vec<u8>, AllocError>
     ensures { IfOk result (λ kept. kept.items ≡ fields_of false names.now text.now) }
 {
-    chosen(alloc, text, names, false)
+    select_fields(alloc, text, names, false)
 }
 
 /// The header fields of these names, where `named`, or all others.
-fn chosen(alloc: Global, text: &[u8], names: &[Octets], named: bool) -> Result<Vec<u8>, AllocError>
+fn select_fields(alloc: Global, text: &[u8], names: &[Octets], named: bool) -> Result<Vec<u8>, AllocError>
     ensures { IfOk result (λ kept. kept.items ≡ fields_of named names.now text.now) }
 {
     let mut found = Vec::new(alloc);
@@ -35,7 +35,7 @@ fn chosen(alloc: Global, text: &[u8], names: &[Octets], named: bool) -> Result<V
         return Ok(found);
     }
     let (line, _) = first_line(text);
-    let mut keep = asks(line, names, named);
+    let mut keep = is_asked_field(line, names, named);
     let mut rest = text;
     for _ in 0..text.len() {
         if rest.is_empty() {
@@ -54,7 +54,7 @@ fn chosen(alloc: Global, text: &[u8], names: &[Octets], named: bool) -> Result<V
 }
 
 fn push_taken(found: &mut Vec<u8>, keep: bool, line: &[u8]) -> Result<(), AllocError>
-    ensures { OnOk result (found.new.items ≡ found.old.items ++ taken keep line.now) }
+    ensures { OnOk result (found.new.items ≡ found.old.items ++ is_kept_line keep line.now) }
 {
     if keep {
         found.extend_from_slice(line)?;
@@ -64,18 +64,18 @@ fn push_taken(found: &mut Vec<u8>, keep: bool, line: &[u8]) -> Result<(), AllocE
 
 /// Whether a line is kept.
 fn takes(line: &[u8], keep: bool, names: &[Octets], named: bool) -> bool
-    ensures { result ≡ takes (asks named names.now) keep line.now }
+    ensures { result ≡ takes_line (is_asked_field named names.now) keep line.now }
 {
-    if goes_on(line) {
+    if is_continuation(line) {
         keep
     } else {
-        asks(line, names, named)
+        is_asked_field(line, names, named)
     }
 }
 
 /// Whether a line goes on with the field before it.
-pub fn goes_on(line: &[u8]) -> bool
-    ensures { result ≡ goes_on line.now }
+pub fn is_continuation(line: &[u8]) -> bool
+    ensures { result ≡ is_continuation line.now }
 {
     match line {
         [] => false,
@@ -90,19 +90,19 @@ fn is_blank(octet: u8) -> bool
 }
 
 /// Whether a line begins a field that is asked for.
-fn asks(line: &[u8], names: &[Octets], named: bool) -> bool
-    ensures { result ≡ asks named names.now line.now }
+fn is_asked_field(line: &[u8], names: &[Octets], named: bool) -> bool
+    ensures { result ≡ is_asked_field named names.now line.now }
 {
-    let is = is_named(line, names);
+    let is = has_asked_name(line, names);
     if named { is } else { !is }
 }
 
-fn is_named(line: &[u8], names: &[Octets]) -> bool
-    ensures { result ≡ is_named names.now line.now }
+fn has_asked_name(line: &[u8], names: &[Octets]) -> bool
+    ensures { result ≡ has_asked_name names.now line.now }
 {
     match before_colon(line) {
         None => false,
-        Some(name) => is_among(trimmed(name), names),
+        Some(name) => is_among(trim_end_blanks(name), names),
     }
 }
 
@@ -116,8 +116,8 @@ pub fn before_colon(line: &[u8]) -> Option<&[u8]>
 }
 
 /// A text without the blanks at its end.
-pub fn trimmed(text: &[u8]) -> &[u8]
-    ensures { result.now ≡ trimmed text.now }
+pub fn trim_end_blanks(text: &[u8]) -> &[u8]
+    ensures { result.now ≡ trim_end_blanks text.now }
 {
     let mut rest = text;
     for _ in 0..text.len() {

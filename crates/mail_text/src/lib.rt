@@ -5,12 +5,12 @@
 mod dates;
 mod field_words;
 mod header_fields;
-mod lines;
-mod parts;
-mod places;
+mod text_lines;
+mod header_and_body;
+mod text_search;
 
 pub use dates::{civil, date_ok, written_day};
 pub use field_words::field_contains_nocase;
 pub use header_fields::{fields, other_fields};
-pub use parts::{body, header, partial};
-pub use places::contains_nocase;
+pub use header_and_body::{body, header, partial};
+pub use text_search::contains_nocase;

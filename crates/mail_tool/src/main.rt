@@ -4,5 +4,5 @@
 use std::process::ExitCode;
 
 fn main(rt: HostRuntime) -> ExitCode {
-    ExitCode::from(mail_tooling::run(&rt))
+    ExitCode::from(mail_replay::run(&rt))
 }

@@ -1,7 +1,7 @@
 //! What has an id and causes.
 
 ghost use Rattle.std.specs.Prelude.{◌≡◌, ◌↔◌, ℕ, ◌+◌, List, IsTrue, IfOk};
-ghost use Rattle.tags_clocks.specs.declared.id.OpId.{OpId as Id};
+ghost use Rattle.tags_clocks.specs.declared.id.OpId.{OpId};
 ghost use Rattle.tags_clocks.specs.Clock.{count_of, IsCause};
 ghost use Rattle.merge_laws.specs.Orders.{IsIn};
 
@@ -11,13 +11,13 @@ use tags_clocks::{Clock, OpId};
 /// An operation: it has an id, a clock that tells its causes, and may remove what others added.
 pub trait Caused {
     /// Its own id.
-    ghost id: { Self → Id };
+    ghost id: { Self → OpId };
 
     /// For each replica the number of its operations that came before.
     ghost clock: { Self → List (ℕ × ℕ) };
 
     /// The ids of what it removes.
-    ghost removed: { Self → List Id };
+    ghost removed: { Self → List OpId };
 
     /// Holds of the operations that a check let through.
     ghost is_sound: { Self → Type 0 };
@@ -31,7 +31,7 @@ pub trait Caused {
         ensures { result.now ≡ clock self.now };
 
     /// The ids of what it removes.
-    fn removed(&self) -> &[OpId]
+    fn removed_ids(&self) -> &[OpId]
         ensures { result.now ≡ removed self.now };
 
     /// Whether the other is the very same operation.
@@ -43,12 +43,12 @@ pub trait Caused {
         ensures { IfOk result (λ copied. copied ≡ self.now) };
 
     /// Does nothing: an operation of the type is sound, and a caller learns so.
-    fn known(&self)
+    fn prove_sound(&self)
         ensures { is_sound self.now };
 
     /// A sound operation comes just behind those that its clock counts of its own replica.
     ghost next_number: { (o : Self) → is_sound o → count_of (clock o) (id o).replica + 1 ≡ (id o).number };
 
     /// A sound operation removes only what came before it.
-    ghost removes_causes: { (o : Self) → is_sound o → (i : Id) → IsIn i (removed o) → IsCause (clock o) i };
+    ghost removes_causes: { (o : Self) → is_sound o → (i : OpId) → IsIn i (removed o) → IsCause (clock o) i };
 }

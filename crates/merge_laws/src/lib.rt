@@ -14,5 +14,5 @@ mod replicated;
 pub use caused::Caused;
 pub use follower::{Follower, NotReady, Unfollowed};
 pub use laws::{replay, same_for_all_orders};
-pub use pair::{OnFirst, Pair};
+pub use pair::{FirstFollower, Pair};
 pub use replicated::Replicated;

@@ -43,12 +43,12 @@ impl<A: Replicated, B: Replicated<Op = A::Op>> Replicated for Pair<A, B> {
 
 /// A follower of the first value of a pair, as a follower of the pair.
 #[derive(Drop)]
-pub struct OnFirst<F> {
+pub struct FirstFollower<F> {
     /// The follower of the first value.
     pub follower: F,
 }
 
-impl<A: Replicated, B: Replicated<Op = A::Op>, F: Follower<A>> Follower<Pair<A, B>> for OnFirst<F> {
+impl<A: Replicated, B: Replicated<Op = A::Op>, F: Follower<A>> Follower<Pair<A, B>> for FirstFollower<F> {
     type Start = F::Start;
 
     ghost start = { λ x. F.start x.follower };

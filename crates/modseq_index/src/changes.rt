@@ -1,17 +1,17 @@
 //! Look-ups by mod-sequence.
 
 ghost use Rattle.std.specs.Prelude.{◌≡◌, List, IfOk};
-ghost use Rattle.mail_listing.specs.Listing.{changed_since};
-ghost use Rattle.crdt_ops.specs.declared.op.Op.{Op as Operation};
+ghost use Rattle.mailbox_rows.specs.RowViews.{changed_since};
+ghost use Rattle.crdt_ops.specs.declared.op.Op.{Op};
 ghost use Rattle.folder_state.specs.Contents.{IsMadeBy};
 ghost use Rattle.folder_state.specs.Tables.{contents_of};
 ghost use Rattle.uid_projection.specs.Following.{Follows};
-ghost use Rattle.uid_projection.specs.Lines.{highest_modseq_of};
+ghost use Rattle.uid_projection.specs.UidsAndModSeqs.{highest_modseq_of};
 ghost use Rattle.uid_projection.specs.Listing.{listing};
 
 use folder_state::Folders;
 use imap_types::Name;
-use mail_listing::Rows;
+use mailbox_rows::Rows;
 use std::alloc::{AllocError, Global};
 use uid_projection::Charts;
 
@@ -25,7 +25,7 @@ pub fn changed_since<'a>(
     name: &Name,
     modseq: u64,
 ) -> Result<Rows<'a>, AllocError>
-    ensures { (list : List Operation) → Follows charts.now list → IsMadeBy (contents_of value.now) list → IfOk result (λ rows. rows ≡ changed_since modseq (listing charts.now.start name.now list)) }
+    ensures { (list : List Op) → Follows charts.now list → IsMadeBy (contents_of value.now) list → IfOk result (λ rows. rows ≡ changed_since modseq (listing charts.now.start name.now list)) }
 {
     let rows = charts.rows(alloc, value, name)?;
     rows.changed_since(alloc, modseq)
@@ -33,7 +33,7 @@ pub fn changed_since<'a>(
 
 /// The folder's HIGHESTMODSEQ (RFC 7162, section 3.1.2.1). Takes no memory. Cost: a look-up.
 pub fn highest(charts: &Charts, name: &Name) -> u64
-    ensures { (list : List Operation) → Follows charts.now list → result ≡ highest_modseq_of name.now list }
+    ensures { (list : List Op) → Follows charts.now list → result ≡ highest_modseq_of name.now list }
 {
     charts.highest(name)
 }

@@ -3,8 +3,8 @@ use Rattle.std.specs.List.{filter}
 use Rattle.std.specs.Option.{option_map}
 use Rattle.std.proofs.Common.{◌≡◌, inl, inr, ℕ, ◌-◌, ◌≤◌, Bool, true, false, cond, not, ◌&&◌, List, [], ◌∷◌, ◌++◌, map, Option, Some, None, refl, sym, ap, ◌∙◌, subst}
 use Rattle.std.proofs.lemmas.Bool.{and_from, cases_Bool, false≢true, false_from_ne_true}
-use Rattle.mail_listing.specs.Listed.{Listed}
-use Rattle.mail_listing.specs.Listing.{AreRisingRows, beyond}
+use Rattle.mailbox_rows.specs.ListedMessage.{ListedMessage}
+use Rattle.mailbox_rows.specs.RowViews.{AreRisingRows, rows_after_uid}
 use Rattle.merge_laws.specs.Orders.{IsIn}
 use Rattle.tags_clocks.proofs.Decide.{ids_decide}
 use Rattle.tags_clocks.specs.declared.id.OpId.{OpId}
@@ -12,14 +12,14 @@ use Rattle.crdt_ops.proofs.Presence.{Has}
 use Rattle.crdt_ops.specs.declared.kind.Kind.{Kind}
 use Rattle.crdt_ops.specs.declared.kind.Kind.TheVariants as kinds
 use Rattle.crdt_ops.specs.declared.op.Op.{Op}
-use Rattle.crdt_ops.specs.Order.{same_id}
-use Rattle.crdt_ops.specs.Sets.{Body, body_by}
-use Rattle.crdt_ops.specs.Tags.{MessageTag, added_by, is_some_tag}
-use Rattle.uid_projection.specs.declared.start.Start.{Start}
+use Rattle.crdt_ops.specs.SortedSets.{same_id}
+use Rattle.crdt_ops.specs.Sets.{MessageTagData, tag_data_by}
+use Rattle.crdt_ops.specs.Tags.{MessageTag, tag_added_by, is_some_tag}
+use Rattle.uid_projection.specs.declared.first_numbers.Counters.{Counters}
 use Rattle.uid_projection.specs.Applied.{IsApplied}
-use Rattle.uid_projection.specs.Incarnations.{is_there}
-use Rattle.uid_projection.specs.Lines.{has_version, origin_added, uidnext_of}
-use Rattle.uid_projection.specs.Listing.{listed_of, listing}
+use Rattle.uid_projection.specs.Incarnations.{folder_exists}
+use Rattle.uid_projection.specs.UidsAndModSeqs.{has_version, origin_added, uidnext_of}
+use Rattle.uid_projection.specs.Listing.{listed_message_of, listing}
 use Rattle.uid_projection.proofs.ChartOf.{charted}
 use Rattle.uid_projection.proofs.Listed.{row_from}
 use Rattle.uid_projection.proofs.Presence.{applied_front}
@@ -60,28 +60,28 @@ one_test folder (kinds.Unsubscribe name seen) = refl
 landing_is : (folder : List ℕ) (ops : List Op) → landing folder ops ≡ map id_of (appends_among folder ops)
 landing_is folder ops = λ i. map id_of (filter (λ (o : Op). one_test folder o.kind i) ops)
 
-origins_kept : (start : Start) (folder : List ℕ) (ops : List Op) (origins : List OpId) → map (λ (row : Listed). row.origin) (map (listed_of start folder ops) origins) ≡ origins
+origins_kept : (start : Counters) (folder : List ℕ) (ops : List Op) (origins : List OpId) → map (λ (row : ListedMessage). row.origin) (map (listed_message_of start folder ops) origins) ≡ origins
 origins_kept start folder ops [] = refl
 origins_kept start folder ops (g ∷ origins) = ap (λ (ids : List OpId). g ∷ ids) (origins_kept start folder ops origins)
 
-listing_rises : (start : Start) (folder : List ℕ) (ops : List Op) → 1 ≤ start.uid → IsApplied ops → AreRisingRows 1 (listing start folder ops)
+listing_rises : (start : Counters) (folder : List ℕ) (ops : List Op) → 1 ≤ start.uid → IsApplied ops → AreRisingRows 1 (listing start folder ops)
 listing_rises start folder ops l a =
     let c = charted start folder ops a in
     subst (AreRisingRows 1) (rows_listed start folder ops c.2 c.3.are_entries c.3.ascending) (rising_chart start folder ops c.0 c.1 c.2 l c.3)
 
 -- the rows with UIDs from the former UIDNEXT on are, one by one, those of the Appends
-pub ids_landed : (start : Start) (folder : List ℕ) (before issued : List Op) → 1 ≤ start.uid → 1 ≤ uidnext_of start folder before → IsApplied (before ++ issued) → is_there folder before ≡ true → ((o : Op) → IsIn o issued → IsCopying before o.kind)
-    → map (λ (row : Listed). row.origin) (beyond (uidnext_of start folder before - 1) (listing start folder (before ++ issued))) ≡ map id_of (appends_among folder issued)
+pub ids_landed : (start : Counters) (folder : List ℕ) (before issued : List Op) → 1 ≤ start.uid → 1 ≤ uidnext_of start folder before → IsApplied (before ++ issued) → folder_exists folder before ≡ true → ((o : Op) → IsIn o issued → IsCopying before o.kind)
+    → map (λ (row : ListedMessage). row.origin) (rows_after_uid (uidnext_of start folder before - 1) (listing start folder (before ++ issued))) ≡ map id_of (appends_among folder issued)
 ids_landed start folder before issued first least a t c =
-    ap (map (λ (row : Listed). row.origin)) (rows_are_landed start folder before issued least a (listing_rises start folder (before ++ issued) first a) t c)
+    ap (map (λ (row : ListedMessage). row.origin)) (rows_are_landed start folder before issued least a (listing_rises start folder (before ++ issued) first a) t c)
     ∙ origins_kept start folder (before ++ issued) (landing folder issued)
     ∙ landing_is folder issued
 
 -- ---- one Append
 
 record Puts (folder : List ℕ) (id : OpId) (kind : Kind) : Type 0 where
-  own : is_some_tag (MessageTag folder id) (added_by id kind) ≡ true
-  origin : option_map (λ (b : Body). b.origin) (body_by id kind) ≡ Some id
+  own : is_some_tag (MessageTag folder id) (tag_added_by id kind) ≡ true
+  origin : option_map (λ (b : MessageTagData). b.origin) (tag_data_by id kind) ≡ Some id
 
 put_of : (folder : List ℕ) (id : OpId) (kind : Kind) → is_append_to folder kind ≡ true → Puts folder id kind
 put_of folder id (kinds.Append name flags date text) c = record { own = and_from (bytes_eq folder name) (same_id id id) c ((ids_decide id id).1 refl); origin = refl }
@@ -93,17 +93,17 @@ is_begun true true p q = absurd (false≢true (sym q))
 is_begun false y p q = absurd (false≢true p)
 
 -- it takes the former UIDNEXT
-pub append_landed : (start : Start) (folder : List ℕ) (before : List Op) (o : Op) → IsApplied (before ++ o ∷ []) → is_there folder (before ++ o ∷ []) ≡ true → is_append_to folder o.kind ≡ true
+pub append_landed : (start : Counters) (folder : List ℕ) (before : List Op) (o : Op) → IsApplied (before ++ o ∷ []) → folder_exists folder (before ++ o ∷ []) ≡ true → is_append_to folder o.kind ≡ true
     → IsLanded (listing start folder (before ++ o ∷ [])) (uidnext_of start folder before) o
 append_landed start folder before o a t is =
     let ops = before ++ o ∷ [] in
     let puts = put_of folder o.id o.kind is in
     let fresh : Has before o.id → ⊥ = (a.causal before o [] refl).1 in
     let none : has_version folder o.id before ≡ false = false_from_ne_true (has_version folder o.id before) (λ h. fresh (origin_applied folder before o.id (applied_front before (o ∷ []) a) h)) in
-    let added : origin_added folder o ≡ Some o.id = ap (option_map (λ (b : Body). b.origin)) (ap (λ (b : Bool). cond {A = Option Body} b (body_by o.id o.kind) None) puts.own) ∙ puts.origin in
+    let added : origin_added folder o ≡ Some o.id = ap (option_map (λ (b : MessageTagData). b.origin)) (ap (λ (b : Bool). cond {A = Option MessageTagData} b (tag_data_by o.id o.kind) None) puts.own) ∙ puts.origin in
     let there : has_version folder o.id ops ≡ true = (version_in folder ops o.id).1 (o.id, (added_there before o (MessageTag folder o.id) a puts.own, origin_new folder before o a puts.own ∙ added)) in
     record {
-      row = listed_of start folder ops o.id;
+      row = listed_message_of start folder ops o.id;
       there = row_from start folder ops o.id there;
       numbered = uid_new start folder before o o.id t (is_begun (has_version folder o.id ops) (has_version folder o.id before) there none);
       appended = refl;

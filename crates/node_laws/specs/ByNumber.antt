@@ -2,8 +2,8 @@ use Rattle.std.specs.Prelude.{◌≡◌, ℕ, Bool, false, not, List, [], ◌++�
 use Rattle.imap_answers.specs.declared.answer.Answer.{Answer}
 use Rattle.imap_syntax.specs.declared.command.Command.{Command}
 use Rattle.imap_syntax.specs.declared.command.Command.TheVariants as commands
-use Rattle.session_view.specs.Seen.{Seen}
-use Rattle.session_view.specs.Changes.{uids_of}
+use Rattle.session_view.specs.ViewState.{ViewState}
+use Rattle.session_view.specs.NoteChanges.{uids_of}
 use Rattle.imap_node.specs.declared.input.Input.{Input}
 use Rattle.imap_node.specs.declared.input.Input.TheVariants as inputs
 use Rattle.imap_node.specs.declared.reply.Reply.{Reply}
@@ -33,11 +33,11 @@ BeginsWith front whole = (more : List ℕ) × (whole ≡ front ++ more)
 
 -- The mailbox selected is still the same, under the same UIDVALIDITY, and each message seen before has its number still: new ones come
 -- behind them.
-pub record KeepsPlaces (before after : Seen) : Type 0 where
+pub record KeepsPlaces (before after : ViewState) : Type 0 where
   pub name : after.name ≡ before.name
   pub uidvalidity : after.uidvalidity ≡ before.uidvalidity
   pub uids : BeginsWith (uids_of before.entries) (uids_of after.entries)
 
 -- Where something was seen, it is still.
-abbrev pub AreKeptInPlace : Option Seen → Option Seen → Type 0
-AreKeptInPlace before after = (view : Seen) → before ≡ Some view → (now : Seen) × (after ≡ Some now) × KeepsPlaces view now
+abbrev pub AreKeptInPlace : Option ViewState → Option ViewState → Type 0
+AreKeptInPlace before after = (view : ViewState) → before ≡ Some view → (now : ViewState) × (after ≡ Some now) × KeepsPlaces view now

@@ -7,15 +7,15 @@ use Rattle.crdt_ops.specs.declared.op.Op.{Op}
 use Rattle.imap_answers.specs.declared.answer.Answer.{Answer}
 use Rattle.imap_answers.specs.declared.answer.Answer.TheVariants.{Completed}
 use Rattle.imap_answers.specs.declared.codes.Code.{Code}
-use Rattle.imap_answers.specs.declared.words.CommandWord.{CommandWord}
+use Rattle.imap_answers.specs.declared.fixed_words.CompletedWord.{CompletedWord}
 use Rattle.imap_node.specs.Mailboxes.{rows_for}
 use Rattle.imap_node.specs.Nodes.{NodeState}
 use Rattle.imap_node.specs.declared.input.Input.{Input}
 use Rattle.imap_node.specs.declared.input.Input.TheVariants as inputs
 use Rattle.imap_syntax.specs.declared.command.Command.{Command}
-use Rattle.mail_listing.specs.Listed.{Listed}
+use Rattle.mailbox_rows.specs.ListedMessage.{ListedMessage}
 use Rattle.merge_laws.specs.Orders.{IsIn}
-use Rattle.session_view.specs.Seen.{Seen}
+use Rattle.session_view.specs.ViewState.{ViewState}
 use Rattle.uid_projection.specs.Incarnations.{uidvalidity_of}
 use Rattle.uid_projection.specs.Listing.{listing}
 
@@ -25,7 +25,7 @@ asked moment tag command = inputs.Command moment (record { tag = tag; command = 
 
 -- A tagged line with this code is among the answers.
 abbrev pub HasCode : Code → List Answer → Type 0
-HasCode code answers = (tag : List ℕ) × (word : CommandWord) × IsIn (Completed tag (Some code) word) answers
+HasCode code answers = (tag : List ℕ) × (word : CompletedWord) × IsIn (Completed tag (Some code) word) answers
 
 -- An operation that appends a message to the mailbox.
 abbrev pub is_append_to : List ℕ → Kind → Bool
@@ -37,29 +37,29 @@ abbrev pub appends_among : List ℕ → List Op → List Op
 appends_among name ops = filter (λ (o : Op). is_append_to name o.kind) ops
 
 -- The message with this UID is the one that the operation appended.
-pub record IsLanded (rows : List Listed) (number : ℕ) (op : Op) : Type 0 where
-  pub row : Listed
+pub record IsLanded (rows : List ListedMessage) (number : ℕ) (op : Op) : Type 0 where
+  pub row : ListedMessage
   pub there : IsIn row rows
   pub numbered : row.uid ≡ number
   pub appended : row.origin ≡ op.id
 
 -- The operation appends what the message with the one UID bears, and that is the message with the other one.
-pub record IsCopied (before after : List Listed) (name : List ℕ) (source copy : ℕ) (op : Op) : Type 0 where
-  pub message : Listed
+pub record IsCopied (before after : List ListedMessage) (name : List ℕ) (source copy : ℕ) (op : Op) : Type 0 where
+  pub message : ListedMessage
   pub there : IsIn message before
   pub numbered : message.uid ≡ source
   pub bears : op.kind ≡ Append name message.flags message.date message.text
   pub landed : IsLanded after copy op
 
 -- Sources, copies and operations, each with its own.
-abbrev pub AreCopied : List Listed → List Listed → List ℕ → List ℕ → List ℕ → List Op → Type 0
+abbrev pub AreCopied : List ListedMessage → List ListedMessage → List ℕ → List ℕ → List ℕ → List Op → Type 0
 AreCopied before after name [] [] [] = Unit {0}
 AreCopied before after name (source ∷ sources) (copy ∷ copies) (op ∷ ops) = IsCopied before after name source copy op × AreCopied before after name sources copies ops
 AreCopied before after name _ _ _ = ⊥
 
 -- What COPYUID tells (RFC 9051, section 7.1): the mailbox has this UIDVALIDITY, and each message of the view with a UID of the sources was
 -- appended to it as the message with the UID that stands at the same place among the copies.
-pub record AreCopiesTold (old new : NodeState) (view : Seen) (name : List ℕ) (issued : List Op) (uidvalidity : ℕ) (sources copies : List ℕ) : Type 0 where
+pub record AreCopiesTold (old new : NodeState) (view : ViewState) (name : List ℕ) (issued : List Op) (uidvalidity : ℕ) (sources copies : List ℕ) : Type 0 where
   pub under : uidvalidity_of new.start name new.applied ≡ Some uidvalidity
   pub copied : AreCopied (rows_for old.start old.applied view) (listing new.start name new.applied) name sources copies (appends_among name issued)
 

@@ -1,45 +1,45 @@
 //! Laws on replies: a contract each.
 
 ghost use Rattle.std.specs.Prelude.{◌≡◌, ◌≤◌, ℕ, true, List, Some};
-ghost use Rattle.crdt_ops.specs.declared.op.Op.{Op as Operation};
-ghost use Rattle.imap_answers.specs.declared.answer.Answer.{Answer as OneAnswer};
+ghost use Rattle.crdt_ops.specs.declared.op.Op.{Op};
+ghost use Rattle.imap_answers.specs.declared.answer.Answer.{Answer};
 ghost use Rattle.imap_answers.specs.declared.answer.Answer.TheVariants.{Tell};
 ghost use Rattle.imap_answers.specs.declared.codes.Code.TheVariants.{AppendUid, CopyUid};
 ghost use Rattle.imap_answers.specs.declared.codes.Notice.TheVariants.{CopyUid as Moved};
 ghost use Rattle.merge_laws.specs.Orders.{IsIn};
 ghost use Rattle.imap_node.specs.Nodes.{NodeState};
 ghost use Rattle.imap_node.specs.Replays.{view_at};
-ghost use Rattle.imap_node.specs.Respond.{Responds};
-ghost use Rattle.imap_node.specs.declared.input.Input.{Input as OneInput};
-ghost use Rattle.imap_node.specs.declared.reply.Reply.{Reply as OneReply};
+ghost use Rattle.imap_node.specs.Responses.{Responds};
+ghost use Rattle.imap_node.specs.declared.input.Input.{Input};
+ghost use Rattle.imap_node.specs.declared.reply.Reply.{Reply};
 ghost use Rattle.node_laws.specs.ByNumber.{AreKeptInPlace, answers_in, asks_by_number};
 ghost use Rattle.imap_node.specs.declared.reply.Reply.TheVariants.{Done};
 ghost use Rattle.imap_syntax.specs.declared.arguments.Append.{Append as Appended};
-ghost use Rattle.imap_syntax.specs.declared.arguments.Transfer.{Transfer as Transferred};
+ghost use Rattle.imap_syntax.specs.declared.arguments.Transfer.{Transfer};
 ghost use Rattle.imap_syntax.specs.declared.command.Command.TheVariants.{Append, Copy, Move};
 ghost use Rattle.node_laws.specs.Copies.{AreCopiesTold, HasCode, IsAppendTold, asked};
-ghost use Rattle.session_view.specs.Seen.{Seen};
+ghost use Rattle.session_view.specs.ViewState.{ViewState};
 ghost use Rattle.session_view.specs.Sync.{HasNoExpunge};
-ghost use Rattle.session_view.specs.declared.replaying.Silent.{Silent as Set};
+ghost use Rattle.session_view.specs.declared.reply_replay.SilentFlags.{SilentFlags};
 ghost use Rattle.uid_projection.specs.Applied.{IsApplied};
 
 /// FETCH, STORE and SEARCH, which are no UID commands, are answered without EXPUNGE, and each message that the session saw before has its
 /// number behind them (RFC 9051, section 7.5.1).
 pub fn by_number_keeps_places()
-    ensures expunges { (old new : NodeState) (n : ℕ) (input : OneInput) (reply : OneReply) → Responds old n input reply new → asks_by_number input ≡ true → HasNoExpunge (answers_in reply) }
-    ensures places { (old new : NodeState) (n : ℕ) (input : OneInput) (reply : OneReply) → Responds old n input reply new → asks_by_number input ≡ true
+    ensures expunges { (old new : NodeState) (n : ℕ) (input : Input) (reply : Reply) → Responds old n input reply new → asks_by_number input ≡ true → HasNoExpunge (answers_in reply) }
+    ensures places { (old new : NodeState) (n : ℕ) (input : Input) (reply : Reply) → Responds old n input reply new → asks_by_number input ≡ true
         → AreKeptInPlace (view_at old.sessions n) (view_at new.sessions n) }
 {}
 
 /// What the codes APPENDUID and COPYUID tell is so (RFC 9051, section 7.1): under the mailbox's UIDVALIDITY the UID of an APPEND is that of
 /// the message which its one operation appended; and each copy of a COPY or a MOVE has the UID that stands where its source's does.
 pub fn told_uids_are_those_of_the_messages()
-    ensures appends { (old new : NodeState) (n moment : ℕ) (tag : List ℕ) (append : Appended) (told : List OneAnswer) (silent : List Set) (issued : List Operation) (v number : ℕ)
+    ensures appends { (old new : NodeState) (n moment : ℕ) (tag : List ℕ) (append : Appended) (told : List Answer) (silent : List SilentFlags) (issued : List Op) (v number : ℕ)
         → IsApplied old.applied → Responds old n (asked moment tag (Append append)) (Done told silent issued) new → HasCode (AppendUid v number) told → IsAppendTold new append.name issued v number }
-    ensures copies { (old new : NodeState) (n moment : ℕ) (tag : List ℕ) (transfer : Transferred) (told : List OneAnswer) (silent : List Set) (issued : List Operation) (view : Seen) (v : ℕ)
+    ensures copies { (old new : NodeState) (n moment : ℕ) (tag : List ℕ) (transfer : Transfer) (told : List Answer) (silent : List SilentFlags) (issued : List Op) (view : ViewState) (v : ℕ)
         (sources copies : List ℕ) → 1 ≤ old.start.uid → IsApplied old.applied → Responds old n (asked moment tag (Copy transfer)) (Done told silent issued) new → view_at old.sessions n ≡ Some view
         → HasCode (CopyUid v sources copies) told → AreCopiesTold old new view transfer.name issued v sources copies }
-    ensures moves { (old new : NodeState) (n moment : ℕ) (tag : List ℕ) (transfer : Transferred) (told : List OneAnswer) (silent : List Set) (issued : List Operation) (view : Seen) (v : ℕ)
+    ensures moves { (old new : NodeState) (n moment : ℕ) (tag : List ℕ) (transfer : Transfer) (told : List Answer) (silent : List SilentFlags) (issued : List Op) (view : ViewState) (v : ℕ)
         (sources copies : List ℕ) → 1 ≤ old.start.uid → IsApplied old.applied → Responds old n (asked moment tag (Move transfer)) (Done told silent issued) new → view_at old.sessions n ≡ Some view
         → IsIn (Tell (Moved v sources copies)) told → AreCopiesTold old new view transfer.name issued v sources copies }
 {}

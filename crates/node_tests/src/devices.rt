@@ -1,8 +1,8 @@
 //! Each read and each write failing in turn.
 
 use crate::made_up::MadeUp;
-use imap_lex::Fault;
-use imap_talk::{Ended, Given, Written, converse};
+use imap_lex::FrameFaultKind;
+use imap_connection::{Ended, MemorySource, MemorySink, converse};
 use std::alloc::Global;
 use std::sync::Wait;
 use std::test::*;
@@ -28,8 +28,8 @@ struct Course {
 
 /// A conversation over what is said, in pieces of so many octets, with so many reads that are answered, and room for so many octets.
 fn held<R: Wait>(rt: &R, alloc: Global, said: &[u8], most: usize, reads: u64, room: u64) -> Course {
-    let mut source = Given::new(said, most, reads);
-    let mut sink = Written::new(Vec::new(alloc), room);
+    let mut source = MemorySource::new(said, most, reads);
+    let mut sink = MemorySink::new(Vec::new(alloc), room);
     let mut port = MadeUp::new();
     let ended = converse(rt, alloc, &mut source, &mut sink, &mut port);
     let reads_failed = source.failed();
@@ -105,7 +105,7 @@ fn conversations_end(rt: HostRuntime) {
             &rt,
             alloc,
             b"a NOOP\r\n\0",
-            Ended::Framing(Fault::NulByte),
+            Ended::Framing(FrameFaultKind::NulByte),
             told
         )
     );
@@ -116,7 +116,7 @@ fn conversations_end(rt: HostRuntime) {
             &rt,
             alloc,
             b"a APPEND x {1048577+}\r\n",
-            Ended::Framing(Fault::LiteralTooLong),
+            Ended::Framing(FrameFaultKind::LiteralTooLong),
             told
         )
     );

@@ -1,7 +1,7 @@
 //! What a feed keeps, and that a session is told of more changes than its feed keeps.
 
 use crate::talks::{Talk, answers, begin, begin_at, deliver_last, may_be_behind};
-use idle_feed::{Feed, Taken};
+use idle_feed::{Feed, TakenNotes};
 use session_view::Note;
 use std::alloc::Global;
 
@@ -128,8 +128,8 @@ fn takes(alloc: Global, count: u32) -> Option<(Option<usize>, Option<usize>)> {
 
 fn taken(feed: &mut Feed) -> Option<usize> {
     match feed.take() {
-        Taken::Changes { changes } => Some(changes.notes().len()),
-        Taken::Resync => None,
+        TakenNotes::Changes { changes } => Some(changes.notes().len()),
+        TakenNotes::Resync => None,
     }
 }
 

@@ -3,7 +3,7 @@
 use imap_grammar::one_reading;
 use imap_lex::{any_cuts, faults_come_first, frames_are_given, given_are_frames};
 use imap_node::{answers_are_printable, listings_are_showable};
-use imap_talk::{
+use imap_connection::{
     commands_are_answered, faults_can_be_printed, faults_end_the_stream, one_dump,
     others_come_between, pieces_are_one_stream,
 };

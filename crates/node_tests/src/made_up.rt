@@ -1,9 +1,9 @@
 //! A port without a replica.
 
-use imap_answers::{Answer, CommandWord, Continuation, Login, Notice, Refusal};
+use imap_answers::{Answer, CompletedWord, Continuation, Login, Notice, Refusal};
 use imap_node::{Answers, Issued, Reply, Silents};
 use imap_syntax::{Command, IdleLine, Tagged};
-use imap_talk::{Port, PortFault};
+use imap_connection::{Port, PortFault};
 use imap_types::Octets;
 use std::alloc::{AllocError, Global};
 
@@ -70,7 +70,7 @@ impl Port for MadeUp {
                 Answer::Completed {
                     tag,
                     code: None,
-                    command: CommandWord::Idle,
+                    command: CompletedWord::Idle,
                 },
             ),
             IdleLine::Other => Ok(Reply::Refused {
@@ -93,12 +93,12 @@ fn answer_of(tag: Octets, command: &Command) -> Answer {
         Command::Logout => Answer::Completed {
             tag,
             code: None,
-            command: CommandWord::Logout,
+            command: CompletedWord::Logout,
         },
         _ => Answer::Completed {
             tag,
             code: None,
-            command: CommandWord::Noop,
+            command: CompletedWord::Noop,
         },
     }
 }

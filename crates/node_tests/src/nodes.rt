@@ -2,15 +2,15 @@
 
 use crdt_ops::SoundOp;
 use imap_node::{Auth, Credentials, Node};
-use imap_talk::{
-    Deliveries, Ended, Given, Nobody, NodePort, Others, Written, converse, nodes_converse,
+use imap_connection::{
+    Deliveries, Ended, MemorySource, NoOthers, NodePort, Others, MemorySink, converse, nodes_converse,
 };
 use imap_types::{Moment, Octets};
 use std::alloc::Global;
 use std::sync::Wait;
 use std::test::*;
 use tags_clocks::{Clock, ReplicaId};
-use uid_projection::Start;
+use uid_projection::Counters;
 
 /// What a known user of a new replica says.
 const KNOWN: &[u8] =
@@ -45,7 +45,7 @@ const GROWN: &[u8] =
 
 /// A new replica with this number.
 fn node(alloc: Global, number: u32) -> Option<Node> {
-    let start = Start {
+    let start = Counters {
         replica: ReplicaId::new(number)?,
         uid: 1,
         k: 1,
@@ -54,8 +54,8 @@ fn node(alloc: Global, number: u32) -> Option<Node> {
 }
 
 /// A port of a new replica to which nobody else comes, for a user who becomes known so.
-fn port(alloc: Global, number: u32, auth: Auth) -> Option<NodePort<Nobody>> {
-    Some(NodePort::new(node(alloc, number)?, auth, Nobody::new(Moment::epoch())))
+fn port(alloc: Global, number: u32, auth: Auth) -> Option<NodePort<NoOthers>> {
+    Some(NodePort::new(node(alloc, number)?, auth, NoOthers::new(Moment::epoch())))
 }
 
 /// What another replica issues in a conversation, the last first.
@@ -80,8 +80,8 @@ fn issued<R: Wait>(rt: &R, alloc: Global, most: usize) -> Option<Vec<SoundOp>> {
 fn user(alloc: Global, name: &[u8], password: &[u8]) -> Option<Auth> {
     Some(Auth::Password {
         credentials: Credentials {
-            user: Octets::copied_from(alloc, name).ok()?,
-            password: Octets::copied_from(alloc, password).ok()?,
+            user: Octets::from_slice(alloc, name).ok()?,
+            password: Octets::from_slice(alloc, password).ok()?,
         },
     })
 }
@@ -95,8 +95,8 @@ fn is_told<R: Wait, O: Others>(
     ended: Ended,
     told: &[u8],
 ) -> bool {
-    let mut source = Given::new(said.0, said.1, u64::MAX);
-    let mut sink = Written::new(Vec::new(alloc), u64::MAX);
+    let mut source = MemorySource::new(said.0, said.1, u64::MAX);
+    let mut sink = MemorySink::new(Vec::new(alloc), u64::MAX);
     let end = converse(rt, alloc, &mut source, &mut sink, port);
     end == ended && sink.octets() == told
 }

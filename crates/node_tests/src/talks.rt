@@ -4,12 +4,12 @@ ghost use Rattle.std.specs.Prelude.{IsTrue, ◌↔◌};
 ghost use Rattle.imap_node.specs.Nodes.{IsGoing};
 
 use imap_lex::{Framer, Limits};
-use imap_talk::{Auth, Credentials, Node, SessionNo, State, Turn, talk};
+use imap_connection::{Auth, Credentials, Node, SessionNo, State, Turn, talk};
 use imap_types::{Moment, Name, Octets};
 use merge_laws::Caused;
 use std::alloc::Global;
 use tags_clocks::ReplicaId;
-use uid_projection::Start;
+use uid_projection::Counters;
 
 /// A session of a node of its own.
 #[derive(Drop)]
@@ -26,14 +26,14 @@ pub fn begin(alloc: Global, user: &str, password: &str) -> Option<Talk> {
 
 /// The same, of the replica with this name.
 pub fn begin_at(alloc: Global, replica: u32, user: &str, password: &str) -> Option<Talk> {
-    let start = Start {
+    let start = Counters {
         replica: ReplicaId::new(replica)?,
         uid: 1,
         k: 1,
     };
     let credentials = Credentials {
-        user: Octets::copied_from(alloc, user.as_bytes()).ok()?,
-        password: Octets::copied_from(alloc, password.as_bytes()).ok()?,
+        user: Octets::from_slice(alloc, user.as_bytes()).ok()?,
+        password: Octets::from_slice(alloc, password.as_bytes()).ok()?,
     };
     let mut node = Node::new(alloc, start).ok()?;
     let session = node.open(Auth::Password { credentials }).ok()?;

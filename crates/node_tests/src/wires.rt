@@ -2,7 +2,7 @@
 
 use crate::devices::{SAID, TOLD};
 use crate::made_up::MadeUp;
-use imap_talk::{Ended, Wire, converse};
+use imap_connection::{Ended, Wire, converse};
 use std::alloc::Global;
 use std::io;
 use std::io::{ErrorKind, Read, Write};

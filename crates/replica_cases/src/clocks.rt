@@ -1,7 +1,7 @@
 //! Ids and clocks.
 
 use crate::fields::{Gathers, entry, id, id_of, take_each};
-use case_text::{Trouble, Words, pair, parted, replica};
+use case_lines::{Trouble, Words, pair, parted, replica};
 use std::alloc::{AllocError, Global};
 use tags_clocks::Clock;
 
@@ -121,7 +121,7 @@ fn tell_two(word: ClockWord, raises: &str, other: &Clock, answer: &mut Words) {
 
 fn tell_order(first: &Clock, second: &Clock, answer: &mut Words) {
     answer.put_name(" ", &first.compare(second));
-    answer.put_if(first.is_within(second), " within");
+    answer.put_if(first.is_covered_by(second), " within");
     answer.put_if(first.same(second), " same");
 }
 

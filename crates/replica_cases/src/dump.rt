@@ -1,7 +1,7 @@
 //! What folders and subscriptions tell.
 
 use crate::stage::Mailboxes;
-use case_text::Words;
+use case_lines::Words;
 use crdt_ops::{Ids, Message};
 use folder_state::Folders;
 use imap_types::{Name, Text};

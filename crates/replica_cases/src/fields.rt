@@ -1,6 +1,6 @@
 //! Ids, entries of clocks, and what fields one after another make.
 
-use case_text::{Trouble, operation, pair};
+use case_lines::{Trouble, operation, pair};
 use crdt_ops::SoundOp;
 use std::alloc::Global;
 use tags_clocks::{OpId, ReplicaId};

@@ -3,7 +3,7 @@
 use crate::dump::tell_state;
 use crate::fields::add_op;
 use crate::stage::empty;
-use case_text::{Trouble, Words, cut, number};
+use case_lines::{Trouble, Words, cut, number};
 use crdt_ops::SoundOp;
 use merge_laws::{Caused, replay};
 use std::alloc::{AllocError, Global};

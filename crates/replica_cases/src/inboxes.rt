@@ -5,9 +5,9 @@ use crate::dump::{tell_ids, tell_state};
 use crate::issuing::tell_issue;
 use crate::mutations::tell_damage;
 use crate::stage::{Mailboxes, Node, deliver};
-use case_text::{Words, name, operation};
+use case_lines::{Words, name, operation};
 use causal_inbox::{Arrival, DeliverFault, Delivered, HeldOps};
-use crdt_ops::{SoundOp, copied_ops};
+use crdt_ops::{SoundOp, copy_ops};
 use imap_types::Name;
 use std::alloc::AllocError;
 use tags_clocks::Clock;
@@ -123,7 +123,7 @@ fn tell_ops(ops: &[SoundOp], answer: &mut Words) {
 
 /// Copies of the operations.
 fn tell_applied(ops: &[SoundOp], answer: &mut Words) {
-    match copied_ops(answer.alloc(), ops) {
+    match copy_ops(answer.alloc(), ops) {
         Ok(mut copies) => {
             tell_ops(copies.make_contiguous(), answer);
             drop(copies);

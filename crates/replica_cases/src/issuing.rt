@@ -1,13 +1,13 @@
 //! A replica's own operations.
 
 ghost use Rattle.std.specs.Prelude.{◌≡◌, ◌∷◌, [], IfOk};
-ghost use Rattle.causal_inbox.specs.Seen.{IsIssued};
-ghost use Rattle.crdt_ops.specs.declared.op.Op.{Op as Operation};
+ghost use Rattle.causal_inbox.specs.Inbox.{IsIssued};
+ghost use Rattle.crdt_ops.specs.declared.op.Op.{Op};
 ghost use Rattle.crdt_ops.specs.Ops.{clock_of, id_of};
 
 use crate::stage::Node;
-use case_text::{Trouble, Words, name, parted, replica};
-use crdt_ops::{Kind, Op, SoundOp, checked};
+use case_lines::{Trouble, Words, name, parted, replica};
+use crdt_ops::{Kind, Op, SoundOp, into_sound_op};
 use imap_types::Name;
 use std::alloc::{AllocError, Global};
 use tags_clocks::{OpId, ReplicaId};
@@ -44,7 +44,7 @@ fn next_create(alloc: Global, inbox: &Node, id: OpId, folder: Name) -> Result<So
 {
     let clock = inbox.clock().copy(alloc)?;
     let kind = Kind::Create { folder };
-    checked(Op { id, clock, kind }).ok_or(Trouble::NotACase)
+    into_sound_op(Op { id, clock, kind }).ok_or(Trouble::NotACase)
 }
 
 /// Issues the operation, and tells it.
@@ -70,7 +70,7 @@ fn listed(alloc: Global, op: SoundOp) -> Result<Vec<SoundOp>, AllocError>
 }
 
 fn issue_listed(inbox: &mut Node, ops: Vec<SoundOp>, answer: &mut Words)
-    requires { (op : Operation) × (ops.items ≡ op ∷ []) × IsIssued id_of clock_of inbox.old.seen.applied op }
+    requires { (op : Op) × (ops.items ≡ op ∷ []) × IsIssued id_of clock_of inbox.old.seen.applied op }
 {
     if inbox.ready(answer.alloc(), &ops).is_ok() {
         inbox.issue(ops);

@@ -1,6 +1,6 @@
 //! Lines of the input, and where their answers go.
 
-use case_text::{Words, asked};
+use case_lines::{Words, asked};
 use std::alloc::{AllocError, Global};
 
 /// What cases work on.

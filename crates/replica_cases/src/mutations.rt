@@ -1,7 +1,7 @@
 //! Texts that are cut off or have another octet somewhere.
 
 use crate::operations::{Finding, found};
-use case_text::{Words, with_octet};
+use case_lines::{Words, with_octet};
 use std::alloc::{AllocError, Global};
 
 /// How many texts were found to be what.

@@ -1,6 +1,6 @@
 //! The texts of operations: what is read, which of it is sound, and how it is written again.
 
-use case_text::Words;
+use case_lines::Words;
 use crdt_ops::{Op, OpFault, SoundOp, Unsound, check, read_op};
 use merge_laws::Caused;
 use std::alloc::{AllocError, Global};

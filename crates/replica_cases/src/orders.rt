@@ -4,7 +4,7 @@ use crate::dump::tell_state;
 use crate::given::Given;
 use crate::permutations::{comes_early, is_causal, order, orders_of};
 use crate::stage::{Node, deliver, node};
-use case_text::{Trouble, Words};
+use case_lines::{Trouble, Words};
 use causal_inbox::{Arrival, Delivered};
 use crdt_ops::SoundOp;
 use merge_laws::Caused;

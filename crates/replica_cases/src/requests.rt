@@ -10,7 +10,7 @@ use crate::operations::{found, tell_finding};
 use crate::orders::tell_orders;
 use crate::sets::{SetWord, answer_set};
 use crate::stage::Stage;
-use case_text::{Trouble, Words, meaning, octets, parted};
+use case_lines::{Trouble, Words, meaning, octets, parted};
 use imap_types::Escape;
 use std::alloc::{AllocError, Global};
 use std::mem;

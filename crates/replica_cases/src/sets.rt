@@ -1,8 +1,8 @@
 //! Sets of ids and ascending lists of names.
 
 use crate::fields::{Gathers, id, take_each};
-use case_text::{Trouble, Words, name, parted};
-use crdt_ops::{Ids, place_name};
+use case_lines::{Trouble, Words, name, parted};
+use crdt_ops::{Ids, insert_name};
 use imap_types::Name;
 use std::alloc::{AllocError, Global};
 
@@ -77,7 +77,7 @@ fn tell_placed(fields: &str, answer: &mut Words) {
 impl Gathers for Vec<Name> {
     fn take(&mut self, alloc: Global, field: &str) -> Result<(), Trouble> {
         let name = name(alloc, field)?;
-        place_name(alloc, self, &name)?;
+        insert_name(alloc, self, &name)?;
         Ok(())
     }
 }

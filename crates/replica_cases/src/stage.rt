@@ -10,7 +10,7 @@ use crate::given::Given;
 use causal_inbox::{DeliverFault, Delivered, Inbox};
 use crdt_ops::SoundOp;
 use folder_state::Folders;
-use merge_laws::{OnFirst, Pair, Unfollowed};
+use merge_laws::{FirstFollower, Pair, Unfollowed};
 use std::alloc::{AllocError, Global};
 use subs_state::Subs;
 
@@ -18,7 +18,7 @@ use subs_state::Subs;
 pub type Mailboxes = Pair<Folders, Subs>;
 
 /// A replica's inbox.
-pub type Node = Inbox<Mailboxes, OnFirst<Unfollowed>>;
+pub type Node = Inbox<Mailboxes, FirstFollower<Unfollowed>>;
 
 /// What a case works on: an inbox, and operations for it.
 #[derive(Drop)]
@@ -55,7 +55,7 @@ pub fn empty(alloc: Global) -> Mailboxes
 
 /// An inbox that received nothing. An error says that there is no memory.
 pub fn node(alloc: Global) -> Result<Node, AllocError> {
-    let follower = OnFirst {
+    let follower = FirstFollower {
         follower: Unfollowed,
     };
     Inbox::new(alloc, empty(alloc), follower)

@@ -1,51 +1,51 @@
 use Rattle.std.specs.Prelude.{◌≡◌, ◌⊎◌, ◌||◌, ℕ, Bool, true, false, List, [], ◌∷◌, map, Option, None, Some, Ok, Err}
-use Rattle.causal_inbox.specs.declared.answers.Arrival.{Arrival}
-use Rattle.causal_inbox.specs.declared.answers.Arrival.TheVariants.{Applied, Held, Repeat}
-use Rattle.causal_inbox.specs.declared.answers.DeliverFault.TheVariants.{Conflict}
-use Rattle.causal_inbox.specs.Seen.{IsClockOf, uncovered}
+use Rattle.causal_inbox.specs.declared.delivery.Arrival.{Arrival}
+use Rattle.causal_inbox.specs.declared.delivery.Arrival.TheVariants.{Applied, Held, Repeat}
+use Rattle.causal_inbox.specs.declared.delivery.DeliverFault.TheVariants.{Conflict}
+use Rattle.causal_inbox.specs.Inbox.{IsClockOf, uncovered_ops}
 use Rattle.crdt_ops.specs.declared.op.Op.{Op}
 use Rattle.merge_laws.specs.Orders.{IsCausal}
-use Rattle.replica_links.specs.declared.message.Letter.{Letter}
-use Rattle.replica_links.specs.declared.message.LinkMsg.{LinkMsg}
-use Rattle.replica_links.specs.declared.message.LinkMsg.TheVariants.{Have, Ops, Stop}
+use Rattle.replica_links.specs.declared.peer_msg.PeerMsg.{PeerMsg}
+use Rattle.replica_links.specs.declared.peer_msg.LinkMsg.{LinkMsg}
+use Rattle.replica_links.specs.declared.peer_msg.LinkMsg.TheVariants.{Have, Ops, Stop}
 use Rattle.replica_links.specs.declared.took.Took.{Took}
 use Rattle.imap_node.specs.Operations.{clock_of, id_of}
-use Rattle.replica_lock.specs.Passes.{Held as PassHeld, IsCalled}
+use Rattle.replica_lock.specs.Passes.{PassState, IsCalled}
 use Rattle.replica_lock.specs.declared.event.BookEvent.TheVariants.{Deliver, Drain}
 use Rattle.replica_lock.specs.declared.outcome.Outcome.{Outcome}
 use Rattle.replica_lock.specs.declared.outcome.Outcome.TheVariants.{Delivered}
 
 -- Nothing lacks and nothing stalled; one is lacking; what became of two deliveries together.
-abbrev pub nothing : Took
-nothing = record { lacking = false; stalled = false }
+abbrev pub took_nothing : Took
+took_nothing = record { lacking = false; stalled = false }
 
-abbrev pub lacking : Took
-lacking = record { lacking = true; stalled = false }
+abbrev pub took_lacking : Took
+took_lacking = record { lacking = true; stalled = false }
 
-abbrev pub both : Took → Took → Took
-both one other = record { lacking = one.lacking || other.lacking; stalled = one.stalled || other.stalled }
+abbrev pub took_both : Took → Took → Took
+took_both one other = record { lacking = one.lacking || other.lacking; stalled = one.stalled || other.stalled }
 
 -- A delivery that was given, with its answer.
-pub record Given : Type 0 where
+pub record Delivery : Type 0 where
   pub op : Op
   pub took : Took
 
 -- What became of several deliveries: each field is true where one answer's is.
-abbrev pub all_of : List Given → Took
-all_of [] = nothing
-all_of (g ∷ given) = both g.took (all_of given)
+abbrev pub took_all : List Delivery → Took
+took_all [] = took_nothing
+took_all (g ∷ given) = took_both g.took (took_all given)
 
 -- The taker's steps for these deliveries and answers lead from the one state to the other.
-abbrev pub Steps : {S : Type 0} → (S → Op → Took → S → Type 0) → S → List Given → S → Type 0
+abbrev pub Steps : {S : Type 0} → (S → Op → Took → S → Type 0) → S → List Delivery → S → Type 0
 Steps takes s [] t = s ≡ t
 Steps {S} takes s (g ∷ given) t = (next : S) × takes s g.op g.took next × Steps takes next given t
 
 -- The taker was given just these operations, each once and in this order, and this tells of all answers.
 pub record Takes {S : Type 0} (takes : S → Op → Took → S → Type 0) (s : S) (ops : List Op) (result : Took) (t : S) : Type 0 where
-  pub given : List Given
+  pub given : List Delivery
   pub steps : Steps takes s given t
-  pub those : map (λ (g : Given). g.op) given ≡ ops
-  pub told : result ≡ all_of given
+  pub those : map (λ (g : Delivery). g.op) given ≡ ops
+  pub told : result ≡ took_all given
 
 -- What became of a delivery, by the outcome of its call: a conflict will never be taken, so that nothing lacks.
 abbrev pub is_held : Arrival → Bool
@@ -55,14 +55,14 @@ is_held Repeat = false
 
 abbrev pub took_of : Outcome → Took
 took_of (Delivered (Ok receipt)) = record { lacking = is_held receipt.arrival; stalled = receipt.stalled }
-took_of (Delivered (Err (Conflict id))) = nothing
-took_of _ = lacking
+took_of (Delivered (Err (Conflict id))) = took_nothing
+took_of _ = took_lacking
 
 -- A replica behind its lock took an operation by one call that delivers just it, which its pass noted; or there was no call, and the operation is lacking.
-abbrev pub IsTakenBy : PassHeld → Op → Took → PassHeld → Type 0
+abbrev pub IsTakenBy : PassState → Op → Took → PassState → Type 0
 IsTakenBy p op took q =
     (IsCalled p (Deliver op) q × ((outcome : Outcome) × (q.last ≡ Some outcome) × (took ≡ took_of outcome)))
-    ⊎ ((q ≡ p) × (took ≡ lacking))
+    ⊎ ((q ≡ p) × (took ≡ took_lacking))
 
 -- Behind a delivery that stalled one call goes on with what is held.
 abbrev pub IsDrained : {S : Type 0} → (S → S → Type 0) → S → Bool → S → Type 0
@@ -102,30 +102,30 @@ module _ {S P : Type 0} (takes : S → Op → Took → S → Type 0) (drains : S
     pub asked : IsAsked lacks has asks t p from took.lacking q
 
 -- Operations are handed to a replica, if there are any.
-abbrev pub MayHand : {P : Type 0} → (P → ℕ → List Op → P → Type 0) → P → ℕ → List Op → P → Type 0
-MayHand hands p to [] q = p ≡ q
-MayHand hands p to (op ∷ ops) q = hands p to (op ∷ ops) q
+abbrev pub MaySendOps : {P : Type 0} → (P → ℕ → List Op → P → Type 0) → P → ℕ → List Op → P → Type 0
+MaySendOps hands p to [] q = p ≡ q
+MaySendOps hands p to (op ∷ ops) q = hands p to (op ∷ ops) q
 
 -- What giving stands on: a replica lacks memory for the operations; it gives these for a clock; another is handed operations.
 module _ {S P : Type 0} (lacks : S → Type 0) (gives : S → List (ℕ × ℕ) → List Op → Type 0) (hands : P → ℕ → List Op → P → Type 0) where
   -- What becomes of a message that asks: the sender is handed what the replica gives for its clock, and nothing where there is no memory for it.
   abbrev pub IsAnswered : S → P → ℕ → List (ℕ × ℕ) → P → Type 0
-  IsAnswered s p from clock q = ((ops : List Op) × gives s clock ops × MayHand hands p from ops q) ⊎ (lacks s × (p ≡ q))
+  IsAnswered s p from clock q = ((ops : List Op) × gives s clock ops × MaySendOps hands p from ops q) ⊎ (lacks s × (p ≡ q))
 
 -- A replica behind its lock went on with what it holds by one call, which its pass noted; or there was no call.
-abbrev pub IsDrainedBy : PassHeld → PassHeld → Type 0
+abbrev pub IsDrainedBy : PassState → PassState → Type 0
 IsDrainedBy p q = IsCalled p Drain q ⊎ (q ≡ p)
 
 -- The clock of a list that the replica had applied when it was asked.
-abbrev pub IsClockHad : List (ℕ × ℕ) → Type 0
-IsClockHad clock = (applied : List Op) × IsCausal id_of clock_of applied × IsClockOf id_of applied clock
+abbrev pub IsClockOfList : List (ℕ × ℕ) → Type 0
+IsClockOfList clock = (applied : List Op) × IsCausal id_of clock_of applied × IsClockOf id_of applied clock
 
 -- Those of the operations that a replica had applied when it was asked which the clock doesn't cover, in their order.
-abbrev pub AreGiven : List (ℕ × ℕ) → List Op → Type 0
-AreGiven clock ops = (applied : List Op) × IsCausal id_of clock_of applied × (ops ≡ uncovered id_of clock applied)
+abbrev pub AreUncoveredOps : List (ℕ × ℕ) → List Op → Type 0
+AreUncoveredOps clock ops = (applied : List Op) × IsCausal id_of clock_of applied × (ops ≡ uncovered_ops id_of clock applied)
 
 -- Want of memory is nothing that a caller of a replica behind its lock could know.
-abbrev pub MayLack : PassHeld → Type 0
+abbrev pub MayLack : PassState → Type 0
 MayLack p = Unit {0}
 
 -- All of these together.
@@ -137,18 +137,18 @@ module _ {S P : Type 0} (takes : S → Op → Took → S → Type 0) (drains : S
   IsLetterAnswered from Stop more s p t q = (more ≡ false) × (s ≡ t) × (p ≡ q)
 
   -- A turn of a link's worker: a letter is taken and answered, or these others are asked for what the replica lacks.
-  abbrev pub IsTurn : List ℕ → Option Letter → S → P → S → P → Type 0
+  abbrev pub IsTurn : List ℕ → Option PeerMsg → S → P → S → P → Type 0
   IsTurn peers (Some letter) s p t q = (more : Bool) × IsLetterAnswered letter.from letter.message more s p t q
   IsTurn peers None s p t q = (s ≡ t) × AreAsked lacks has asks s p peers q
 
   -- These turns, one behind the other.
-  abbrev pub Turns : List ℕ → List (Option Letter) → S → P → S → P → Type 0
+  abbrev pub Turns : List ℕ → List (Option PeerMsg) → S → P → S → P → Type 0
   Turns peers [] s p t q = (s ≡ t) × (p ≡ q)
   Turns peers (turn ∷ turns) s p t q = (next : S) × (sent : P) × IsTurn peers turn s p next sent × Turns peers turns next sent t q
 
   -- Nothing is made of a replica and of its way to the others but by such turns.
   abbrev pub TakesTurns : List ℕ → S → P → S → P → Type 0
-  TakesTurns peers s p t q = (turns : List (Option Letter)) × Turns peers turns s p t q
+  TakesTurns peers s p t q = (turns : List (Option PeerMsg)) × Turns peers turns s p t q
 
   -- What a link's worker does: it asks the others first, where it is to; and behind that there are turns and nothing else.
   abbrev pub IsWorked : List ℕ → Bool → S → P → S → P → Type 0

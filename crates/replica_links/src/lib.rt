@@ -1,17 +1,17 @@
 //! The links between replicas: operations that one issued come to another in messages, and are delivered there one by one.
 #![tactic(auto)]
 
-mod answering;
-mod delivering;
-mod handing;
-mod message;
+mod have_answer;
+mod replica_taker;
+mod op_taker;
+mod peer_msg;
 mod took;
-mod working;
+mod link_input;
 
-pub use answering::{Post, ask_all, give_ops, take_ops};
-pub use delivering::ReplicaTaker;
-pub use handing::{Taker, hand_on};
-pub use message::{Letter, LinkMsg};
+pub use have_answer::{PeerLinks, ask_all, give_ops, take_ops};
+pub use replica_taker::ReplicaTaker;
+pub use op_taker::{Taker, hand_on};
+pub use peer_msg::{PeerMsg, LinkMsg};
 pub use replica_lock::Gate;
 pub use took::Took;
-pub use working::{Inbox, link_worker};
+pub use link_input::{LinkInput, link_worker};

@@ -5,26 +5,26 @@ use Rattle.std.proofs.lemmas.List.{take_more}
 use Rattle.merge_laws.specs.Orders.{HasId, IsCausal, IsIn, IsRipe}
 use Rattle.merge_laws.proofs.Causal.{causal_more}
 use Rattle.merge_laws.proofs.Lists.{id_in_parts, id_of_element}
-use Rattle.causal_inbox.specs.Seen.{AreReleased, IsClockOf, IsReceived, Seen}
-use Rattle.causal_inbox.specs.declared.answers.Arrival.{Arrival}
-use Rattle.causal_inbox.specs.declared.answers.Arrival.TheVariants.{Applied, Held, Repeat}
-use Rattle.causal_inbox.specs.declared.answers.DeliverFault.TheVariants as delivering
+use Rattle.causal_inbox.specs.Inbox.{AreReleasedInTurn, IsClockOf, IsReceived, ReceivedOps}
+use Rattle.causal_inbox.specs.declared.delivery.Arrival.{Arrival}
+use Rattle.causal_inbox.specs.declared.delivery.Arrival.TheVariants.{Applied, Held, Repeat}
+use Rattle.causal_inbox.specs.declared.delivery.DeliverFault.TheVariants as delivering
 use Rattle.crdt_ops.specs.declared.op.Op.{Op}
 use Rattle.imap_node.specs.Deliveries.{Delivers, HoldsRipe}
-use Rattle.imap_node.specs.Nodes.{NodeState, first_numbers, joined, received}
-use Rattle.replica_lock.specs.Histories.{Recorded}
+use Rattle.imap_node.specs.Nodes.{NodeState, first_numbers, joined_node, received_ops}
+use Rattle.replica_lock.specs.Histories.{BookState}
 use Rattle.imap_node.specs.Operations.{clock_of, id_of}
-use Rattle.replica_lock.specs.Joins.{IsUnjoined, IsUntaken, Stops, joined_book, taken, told_by, told_by_arrival}
-use Rattle.causal_inbox.specs.Owns.{IsLeastOwn}
+use Rattle.replica_lock.specs.JoinedBook.{IsJoinFault, IsApplyFault, Stops, joined_book, applied_entry, join_fault_of, join_fault_of_arrival}
+use Rattle.causal_inbox.specs.OwnIds.{IsLeastOwn}
 use Rattle.replica_lock.specs.Steps.{IsStep}
-use Rattle.replica_lock.specs.declared.book.Entry.{Entry}
+use Rattle.replica_lock.specs.declared.book.JournalEntry.{JournalEntry}
 use Rattle.replica_lock.specs.declared.event.BookEvent.TheVariants.{Deliver}
 use Rattle.replica_lock.specs.declared.faults.JoinFault.{JoinFault}
 use Rattle.replica_lock.specs.declared.faults.JoinFault.TheVariants.{Exhausted, NoMemory, NotCausal, Own}
 use Rattle.replica_lock.specs.declared.outcome.Outcome.{Outcome}
 use Rattle.replica_lock.specs.declared.outcome.Outcome.TheVariants.{Closed, Delivered, Drained, Opened, PassedOver, Replied}
 use Rattle.uid_projection.specs.Exhaustion.{Exhausts, IsExhausted}
-use Rattle.uid_projection.specs.declared.start.Start.{Start}
+use Rattle.uid_projection.specs.declared.first_numbers.Counters.{Counters}
 use Rattle.uid_projection.proofs.Coming.{more_exhausted, none_exhausted}
 
 pub handed_on : {T E : Type 0} (r : Result T E) (fault : E) (P : E → Type 0) → IsErrAnd r (λ e. e ≡ fault) → P fault → IfErr r P
@@ -34,11 +34,11 @@ handed_on (Err e) fault P h p = subst P (sym h) p
 -- ---- one operation, delivered to a replica that holds nothing
 
 -- nothing is released
-none_released : (count : ℕ) (old new : Seen Start Op) → old.held ≡ [] → AreReleased id_of clock_of Exhausts count old new → (count ≡ 0) × (new ≡ old)
+none_released : (count : ℕ) (old new : ReceivedOps Counters Op) → old.held ≡ [] → AreReleasedInTurn id_of clock_of Exhausts count old new → (count ≡ 0) × (new ≡ old)
 none_released zero old new e h = (refl, h)
 none_released (suc count) old new e (before, released, next) =
     let same = (none_released count old before e released).1 in
-    absurd (subst (IsIn next.op) (ap (λ (s : Seen Start Op). s.held) same ∙ e) next.next.held)
+    absurd (subst (IsIn next.op) (ap (λ (s : ReceivedOps Counters Op). s.held) same ∙ e) next.next.held)
 
 not_true : (b : Bool) → ¬ IsTrue b → b ≡ false
 not_true true h = absurd (h refl)
@@ -51,7 +51,7 @@ Took old op outcome new =
     × ((new ≡ record old { applied = old.applied ++ op ∷ [] }) × (IsRipe id_of clock_of old.applied op × (¬ Exhausts old.start old.applied (op ∷ []))))
 
 module _ (old : NodeState) (op : Op) (nothing : old.held ≡ []) where
-  received_not_ripe : IsReceived (received old) op → ¬ IsRipe id_of clock_of old.applied op
+  received_not_ripe : IsReceived (received_ops old) op → ¬ IsRipe id_of clock_of old.applied op
   received_not_ripe t ripe = elim t [ inl u ↦ ripe.1 (id_of_element id_of op old.applied u) | inr u ↦ absurd (subst (IsIn op) nothing u) ]
 
   conflict_not_ripe : HasId id_of (old.applied ++ old.held) op.id → ¬ IsRipe id_of clock_of old.applied op
@@ -62,22 +62,22 @@ module _ (old : NodeState) (op : Op) (nothing : old.held ≡ []) where
 
   took : (count : ℕ) (stalled : Bool) (new : NodeState) → Delivers old op (Applied count) new → IsTrue stalled ↔ HoldsRipe new → Took old op (Delivered (Ok (record { arrival = Applied count; stalled = stalled }))) new
   took count stalled new h s =
-      let released = none_released h.arrives.2.0 (record { start = old.start; applied = old.applied ++ op ∷ []; held = old.held }) (received new) nothing h.arrives.2.2 in
+      let released = none_released h.arrives.2.0 (record { start = old.start; applied = old.applied ++ op ∷ []; held = old.held }) (received_ops new) nothing h.arrives.2.2 in
       let same = released.1 in
       let one : count ≡ 1 = h.arrives.2.1 ∙ ap (λ (m : ℕ). m + 1) released.0 in
-      let awake : stalled ≡ false = not_true stalled (λ t. none_ripe new (ap (λ (x : Seen Start Op). x.held) same ∙ nothing) (s.0 t)) in (
+      let awake : stalled ≡ false = not_true stalled (λ t. none_ripe new (ap (λ (x : ReceivedOps Counters Op). x.held) same ∙ nothing) (s.0 t)) in (
         (λ i. Delivered (Ok (record { arrival = Applied (one i); stalled = awake i }))),
         ((λ i. record { start = (same i).start; applied = (same i).applied; held = (same i).held; sessions = h.sessions i }), (h.arrives.1.0, h.arrives.1.1)),
       )
 
-  ok_by : (arrival : Arrival) (stalled : Bool) (new : NodeState) → Delivers old op arrival new → IsTrue stalled ↔ HoldsRipe new → (r : Result (Unit {0}) JoinFault) → r ≡ told_by_arrival op.id arrival
+  ok_by : (arrival : Arrival) (stalled : Bool) (new : NodeState) → Delivers old op arrival new → IsTrue stalled ↔ HoldsRipe new → (r : Result (Unit {0}) JoinFault) → r ≡ join_fault_of_arrival op.id arrival
       → OnOk r (Took old op (Delivered (Ok (record { arrival = arrival; stalled = stalled }))) new)
   ok_by (Applied count) stalled new h s r e = subst (λ (x : Result (Unit {0}) JoinFault). OnOk x (Took old op (Delivered (Ok (record { arrival = Applied count; stalled = stalled }))) new)) (sym e) (took count stalled new h s)
   ok_by Held stalled new h s r e = subst (λ (x : Result (Unit {0}) JoinFault). OnOk x (Took old op (Delivered (Ok (record { arrival = Held; stalled = stalled }))) new)) (sym e) tt
   ok_by Repeat stalled new h s r e = subst (λ (x : Result (Unit {0}) JoinFault). OnOk x (Took old op (Delivered (Ok (record { arrival = Repeat; stalled = stalled }))) new)) (sym e) tt
 
   -- where the operation was applied
-  pub take_ok : (outcome : Outcome) (new : NodeState) → IsStep old (Deliver op) outcome new → (r : Result (Unit {0}) JoinFault) → r ≡ told_by op.id outcome → OnOk r (Took old op outcome new)
+  pub take_ok : (outcome : Outcome) (new : NodeState) → IsStep old (Deliver op) outcome new → (r : Result (Unit {0}) JoinFault) → r ≡ join_fault_of op.id outcome → OnOk r (Took old op outcome new)
   take_ok (Delivered (Ok receipt)) new h r e = ok_by receipt.arrival receipt.stalled new h.0 h.1 r e
   take_ok (Delivered (Err (delivering.Conflict other))) new h r e = subst (λ (x : Result (Unit {0}) JoinFault). OnOk x (Took old op (Delivered (Err (delivering.Conflict other))) new)) (sym e) tt
   take_ok (Delivered (Err delivering.HeldFull)) new h r e = subst (λ (x : Result (Unit {0}) JoinFault). OnOk x (Took old op (Delivered (Err delivering.HeldFull)) new)) (sym e) tt
@@ -89,16 +89,16 @@ module _ (old : NodeState) (op : Op) (nothing : old.held ≡ []) where
   take_ok Closed new h r e = absurd h
   take_ok PassedOver new h r e = absurd h
 
-  untaken : (why : JoinFault) (r : Result (Unit {0}) JoinFault) → r ≡ Err why → IsUntaken old op why → IfErr r (IsUntaken old op)
-  untaken why r e h = subst (λ (x : Result (Unit {0}) JoinFault). IfErr x (IsUntaken old op)) (sym e) h
+  untaken : (why : JoinFault) (r : Result (Unit {0}) JoinFault) → r ≡ Err why → IsApplyFault old op why → IfErr r (IsApplyFault old op)
+  untaken why r e h = subst (λ (x : Result (Unit {0}) JoinFault). IfErr x (IsApplyFault old op)) (sym e) h
 
-  err_by : (arrival : Arrival) (new : NodeState) → Delivers old op arrival new → (r : Result (Unit {0}) JoinFault) → r ≡ told_by_arrival op.id arrival → IfErr r (IsUntaken old op)
-  err_by (Applied count) new h r e = subst (λ (x : Result (Unit {0}) JoinFault). IfErr x (IsUntaken old op)) (sym e) tt
+  err_by : (arrival : Arrival) (new : NodeState) → Delivers old op arrival new → (r : Result (Unit {0}) JoinFault) → r ≡ join_fault_of_arrival op.id arrival → IfErr r (IsApplyFault old op)
+  err_by (Applied count) new h r e = subst (λ (x : Result (Unit {0}) JoinFault). IfErr x (IsApplyFault old op)) (sym e) tt
   err_by Held new h r e = untaken (NotCausal op.id) r e (refl, h.arrives.1.0)
   err_by Repeat new h r e = untaken (NotCausal op.id) r e (refl, received_not_ripe h.arrives.0)
 
   -- where it was not
-  pub take_err : (outcome : Outcome) (new : NodeState) → IsStep old (Deliver op) outcome new → (r : Result (Unit {0}) JoinFault) → r ≡ told_by op.id outcome → IfErr r (IsUntaken old op)
+  pub take_err : (outcome : Outcome) (new : NodeState) → IsStep old (Deliver op) outcome new → (r : Result (Unit {0}) JoinFault) → r ≡ join_fault_of op.id outcome → IfErr r (IsApplyFault old op)
   take_err (Delivered (Ok receipt)) new h r e = err_by receipt.arrival new h.0 r e
   take_err (Delivered (Err (delivering.Conflict other))) new h r e = untaken (NotCausal op.id) r e (refl, conflict_not_ripe h.0.1)
   take_err (Delivered (Err delivering.HeldFull)) new h r e = untaken (NotCausal op.id) r e (refl, h.0.1)
@@ -111,11 +111,11 @@ module _ (old : NodeState) (op : Op) (nothing : old.held ≡ []) where
   take_err PassedOver new h r e = absurd h
 
 -- the book behind a delivery, by its one entry more
-pub take_written : (old new : Recorded) (op given : Op) (outcome : Outcome) (r : Result (Unit {0}) JoinFault) → given ≡ op → new.journal ≡ old.journal ++ record { event = Deliver given; outcome = outcome } ∷ []
+pub take_written : (old new : BookState) (op given : Op) (outcome : Outcome) (r : Result (Unit {0}) JoinFault) → given ≡ op → new.journal ≡ old.journal ++ record { event = Deliver given; outcome = outcome } ∷ []
     → OnOk r (Took old.node op outcome new.node)
-    → OnOk r ((new ≡ record { node = record old.node { applied = old.node.applied ++ op ∷ [] }; journal = old.journal ++ taken op ∷ [] }) × IsRipe id_of clock_of old.node.applied op × (¬ Exhausts old.node.start old.node.applied (op ∷ [])))
+    → OnOk r ((new ≡ record { node = record old.node { applied = old.node.applied ++ op ∷ [] }; journal = old.journal ++ applied_entry op ∷ [] }) × IsRipe id_of clock_of old.node.applied op × (¬ Exhausts old.node.start old.node.applied (op ∷ [])))
 take_written old new op given outcome (Ok x) e j h =
-    let entry : new.journal ≡ old.journal ++ taken op ∷ [] = j ∙ (λ i. old.journal ++ record { event = Deliver (e i); outcome = h.0 i } ∷ []) in
+    let entry : new.journal ≡ old.journal ++ applied_entry op ∷ [] = j ∙ (λ i. old.journal ++ record { event = Deliver (e i); outcome = h.0 i } ∷ []) in
     ((λ i. record { node = h.1.0 i; journal = entry i }), h.1.1.0, h.1.1.1)
 take_written old new op given outcome (Err why) e j h = tt
 
@@ -130,33 +130,33 @@ cut_at [] i op l is = absurd (omega (arith, l))
 cut_at (x ∷ ops) zero op l is = (ops, ap (λ (y : Op). y ∷ ops) (sym is))
 cut_at (x ∷ ops) (suc i) op l is = let r = cut_at ops i op (omega (arith, l)) is in (r.0, ap (λ (ys : List Op). x ∷ ys) r.1)
 
-taken_more : (ops : List Op) (op : Op) → map taken (ops ++ op ∷ []) ≡ map taken ops ++ taken op ∷ []
+taken_more : (ops : List Op) (op : Op) → map applied_entry (ops ++ op ∷ []) ≡ map applied_entry ops ++ applied_entry op ∷ []
 taken_more [] op = refl
-taken_more (x ∷ ops) op = ap (λ (es : List Entry). taken x ∷ es) (taken_more ops op)
+taken_more (x ∷ ops) op = ap (λ (es : List JournalEntry). applied_entry x ∷ es) (taken_more ops op)
 
 -- How a book stands behind the first operations of a list.
-pub record StandsAt (name : ℕ) (front : List Op) (book : Recorded) : Type 0 where
+pub record StandsAt (name : ℕ) (front : List Op) (book : BookState) : Type 0 where
   pub is : book ≡ joined_book name front
   pub causal : IsCausal id_of clock_of front
   pub lasts : ¬ Exhausts (first_numbers name) [] front
 
-module _ (name : ℕ) (ops : List Op) (i : ℕ) (op : Op) (l : i < length ops) (at : op ≡ get_or ops i op) (book : Recorded) (s : StandsAt name (take i ops) book) where
+module _ (name : ℕ) (ops : List Op) (i : ℕ) (op : Op) (l : i < length ops) (at : op ≡ get_or ops i op) (book : BookState) (s : StandsAt name (take i ops) book) where
   pub holds_nothing : book.node.held ≡ []
-  holds_nothing = ap (λ (b : Recorded). b.node.held) s.is
+  holds_nothing = ap (λ (b : BookState). b.node.held) s.is
 
-  pub stands_next : (new : Recorded) → new ≡ record { node = record book.node { applied = book.node.applied ++ op ∷ [] }; journal = book.journal ++ taken op ∷ [] }
+  pub stands_next : (new : BookState) → new ≡ record { node = record book.node { applied = book.node.applied ++ op ∷ [] }; journal = book.journal ++ applied_entry op ∷ [] }
       → IsRipe id_of clock_of book.node.applied op → ¬ Exhausts book.node.start book.node.applied (op ∷ []) → StandsAt name (take (i + 1) ops) new
   stands_next new e ripe lasts =
       let next = take_next ops i op l at in
       record {
-        is = e ∙ ap (λ (b : Recorded). record { node = record b.node { applied = b.node.applied ++ op ∷ [] }; journal = b.journal ++ taken op ∷ [] }) s.is
-            ∙ ap (λ (es : List Entry). record { node = joined name (take i ops ++ op ∷ []); journal = es }) (sym (taken_more (take i ops) op))
+        is = e ∙ ap (λ (b : BookState). record { node = record b.node { applied = b.node.applied ++ op ∷ [] }; journal = b.journal ++ applied_entry op ∷ [] }) s.is
+            ∙ ap (λ (es : List JournalEntry). record { node = joined_node name (take i ops ++ op ∷ []); journal = es }) (sym (taken_more (take i ops) op))
             ∙ ap (joined_book name) (sym next);
-        causal = subst (IsCausal id_of clock_of) (sym next) (causal_more id_of clock_of (take i ops) op s.causal (subst (λ (b : Recorded). IsRipe id_of clock_of b.node.applied op) s.is ripe));
+        causal = subst (IsCausal id_of clock_of) (sym next) (causal_more id_of clock_of (take i ops) op s.causal (subst (λ (b : BookState). IsRipe id_of clock_of b.node.applied op) s.is ripe));
         lasts = λ h.
             elim (more_exhausted (first_numbers name) [] (take i ops) op (subst (λ (os : List Op). Exhausts (first_numbers name) [] os) next h)) [
               | inl t ↦ s.lasts t
-              | inr t ↦ subst (λ (b : Recorded). ¬ Exhausts b.node.start b.node.applied (op ∷ [])) s.is lasts
+              | inr t ↦ subst (λ (b : BookState). ¬ Exhausts b.node.start b.node.applied (op ∷ [])) s.is lasts
                   ([], op, [], refl, subst (λ (os : List Op). IsExhausted (first_numbers name) os op) (sym (append-nil (take i ops))) t)
             ];
       }
@@ -165,22 +165,22 @@ module _ (name : ℕ) (ops : List Op) (i : ℕ) (op : Op) (l : i < length ops) (
   stops Why h = let c = cut_at ops i op l at in record { front = take i ops; op = op; back = c.0; cut = c.1; causal = s.causal; lasts = s.lasts; why = h }
 
   -- where it stops
-  pub stops_here : (why : JoinFault) → IsUntaken book.node op why → IsLeastOwn id_of name ops None → IsUnjoined name ops why
+  pub stops_here : (why : JoinFault) → IsApplyFault book.node op why → IsLeastOwn id_of name ops None → IsJoinFault name ops why
   stops_here (Own id) h none = absurd h
   stops_here (NotCausal id) h none = (
     none,
-    stops (λ front o. (o.id ≡ id) × ¬ IsRipe id_of clock_of front o) (h.0, subst (λ (b : Recorded). ¬ IsRipe id_of clock_of b.node.applied op) s.is h.1),
+    stops (λ front o. (o.id ≡ id) × ¬ IsRipe id_of clock_of front o) (h.0, subst (λ (b : BookState). ¬ IsRipe id_of clock_of b.node.applied op) s.is h.1),
   )
   stops_here Exhausted h none = (
     none,
     stops (λ front o. IsRipe id_of clock_of front o × Exhausts (first_numbers name) front (o ∷ [])) (
-      subst (λ (b : Recorded). IsRipe id_of clock_of b.node.applied op) s.is h.0,
-      subst (λ (b : Recorded). Exhausts b.node.start b.node.applied (op ∷ [])) s.is h.1,
+      subst (λ (b : BookState). IsRipe id_of clock_of b.node.applied op) s.is h.0,
+      subst (λ (b : BookState). Exhausts b.node.start b.node.applied (op ∷ [])) s.is h.1,
     ),
   )
   stops_here NoMemory h none = none
 
-pub stands_first : (name : ℕ) (book : Recorded) → book ≡ joined_book name [] → StandsAt name [] book
+pub stands_first : (name : ℕ) (book : BookState) → book ≡ joined_book name [] → StandsAt name [] book
 stands_first name book e = record {
   is = e;
   causal = λ front o back h. absurd (no_cut front o back h);

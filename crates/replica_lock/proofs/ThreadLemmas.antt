@@ -8,12 +8,12 @@ use Rattle.std.proofs.sync.Mutex.TheSendSync as mutex
 use Rattle.std.proofs.sync.ledger.Book.TheSendSync as calls
 use Rattle.std.specs.declared.sync.ledger.Ledger as ledger
 use Rattle.imap_node.proofs.ThreadLemmas.{node_send}
-use Rattle.replica_lock.proofs.bells.Bells.TheSendSync as bells
-use Rattle.replica_lock.proofs.kept.Kept.TheSendSync as stored
+use Rattle.replica_lock.proofs.session_signals.SessionSignals.TheSendSync as bells
+use Rattle.replica_lock.proofs.compact_entry.CompactEntry.TheSendSync as stored
 use Rattle.replica_lock.specs.contracts.book.Book as book
 use Rattle.replica_lock.specs.contracts.book.Book.TheInside as told
-use Rattle.replica_lock.specs.contracts.locked.Locked as locked
-use Rattle.replica_lock.specs.contracts.locked.Locked.TheInside as kept
+use Rattle.replica_lock.specs.contracts.counted_book.CountedBook as locked
+use Rattle.replica_lock.specs.contracts.counted_book.CountedBook.TheInside as kept
 use Rattle.replica_lock.specs.contracts.shared.Shared as shared
 
 pub book_send : IsSend book.the_row

@@ -1,6 +1,6 @@
-pub mod Telling
-pub mod Keeping
+pub mod FetchAnswers
+pub mod CompactEntries
 pub mod Steps
 pub mod Histories
 pub mod Passes
-pub mod Joins
+pub mod JoinedBook

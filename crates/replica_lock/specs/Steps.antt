@@ -1,7 +1,7 @@
 use Rattle.std.specs.Prelude.{◌≡◌, ℕ, Bool, false, is_some}
 use Rattle.imap_node.specs.Nodes.{Idles, NodeState}
 use Rattle.imap_node.specs.Replies.{is_done}
-use Rattle.imap_node.specs.Respond.{Responds}
+use Rattle.imap_node.specs.Responses.{Responds}
 use Rattle.imap_node.specs.Sessions.{IsOpen, session_at}
 pub use Rattle.imap_node.specs.Steps.{ClosesAt, DeliversAt, DrainsAt, IsAwayAt, OpensAt}
 use Rattle.imap_node.specs.declared.input.Input.{Input}

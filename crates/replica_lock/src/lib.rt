@@ -5,31 +5,31 @@
 //! passes of a replica together count its journal's entries.
 #![tactic(auto)]
 
-mod bells;
+mod session_signals;
 mod book;
 mod comparing;
 mod event;
 mod faults;
-mod joining;
-mod kept;
+mod joined_book;
+mod compact_entry;
 mod laws;
-mod line;
-mod locked;
+mod fetch_line;
+mod counted_book;
 mod outcome;
 mod pass;
 mod shared;
-mod shown;
-mod stepping;
-mod told;
+mod fetch_answers;
+mod node_step;
+mod fetch_exchange;
 
-pub use book::{Book, Entry};
+pub use book::{Book, JournalEntry};
 pub use event::BookEvent;
 pub use faults::{CallFault, FinishFault, JoinFault, NoRoom};
-pub use kept::{Kept, Lent};
+pub use compact_entry::{CompactEntry, EntryRef};
 pub use laws::same_operations_hold_the_same;
-pub use line::{FetchLine, SystemFlags};
+pub use fetch_line::{FetchLine, SystemFlags};
 pub use outcome::Outcome;
 pub use pass::Pass;
-pub use shared::{Gate, Shared, Turn};
-pub use shown::Shown;
-pub use told::Told;
+pub use shared::{Gate, Shared, LockTurn};
+pub use fetch_answers::FetchAnswers;
+pub use fetch_exchange::FetchExchange;

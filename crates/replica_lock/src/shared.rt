@@ -1,16 +1,16 @@
 //! A replica that threads share.
 
 ghost use Rattle.std.specs.Prelude.{◌≡◌, ◌≢◌, OnOk, OnErr, ◌<◌, IfOk, IfErr, IfSome, IsSome, List, None, length, false};
-ghost use Rattle.causal_inbox.specs.Seen.{IsClockOf, uncovered};
-ghost use Rattle.crdt_ops.specs.declared.op.Op.{Op as Operation};
+ghost use Rattle.causal_inbox.specs.Inbox.{IsClockOf, uncovered_ops};
+ghost use Rattle.crdt_ops.specs.declared.op.Op.{Op};
 ghost use Rattle.merge_laws.specs.Orders.{IsCausal};
 ghost use Rattle.imap_node.specs.Operations.{clock_of, id_of};
 
-use crate::bells::Bells;
+use crate::session_signals::SessionSignals;
 use crate::book::Book;
 use crate::event::BookEvent;
 use crate::faults::{CallFault, FinishFault};
-use crate::locked::Locked;
+use crate::counted_book::CountedBook;
 use crate::outcome::Outcome;
 use crate::pass::Pass;
 use crdt_ops::SoundOp;
@@ -32,21 +32,21 @@ pub trait Gate {
 /// A replica under a lock. Each call takes the lock for one step of the replica, notes it in the caller's pass, and may wait for the lock.
 #[derive(Drop)]
 pub struct Shared<L: Ledger> {
-    locked: Mutex<Locked<L>>,
+    locked: Mutex<CountedBook<L>>,
     changed: Condvar,
     /// Signals, of each session, that it idles and may have something to be told, that it begins to idle, or that it was closed.
-    bells: Bells,
+    bells: SessionSignals,
 }
 
 /// A replica whose lock one caller has. Nobody is woken before `Shared::end` gives it back.
-pub struct Turn<'a, L: Ledger> {
-    locked: MutexGuard<'a, Locked<L>>,
+pub struct LockTurn<'a, L: Ledger> {
+    locked: MutexGuard<'a, CountedBook<L>>,
     /// How many entries there were up to the last one of which another session may have to be told.
     before: u64,
 }
 
-impl<'a, L: Ledger> Turn<'a, L> {
-    ghost use Rattle.replica_lock.specs.Passes.{IsCalled, IsCalledIn, IsRefused};
+impl<'a, L: Ledger> LockTurn<'a, L> {
+    ghost use Rattle.replica_lock.specs.Passes.{IsCalled, IsCalledIn, IsCallRefused};
     ghost use Rattle.replica_lock.specs.declared.event.BookEvent.TheVariants as events;
 
     fn call(
@@ -57,7 +57,7 @@ impl<'a, L: Ledger> Turn<'a, L> {
     ) -> Result<Option<Outcome>, CallFault>
         ensures called { OnOk result (IsCalled pass.old event pass.new) }
         ensures unchanged { OnErr result (pass.new ≡ pass.old) }
-        ensures refused { IfErr result (IsRefused pass.old.seen) }
+        ensures refused { IfErr result (IsCallRefused pass.old.seen) }
     {
         self.locked.call(alloc, pass, event)
     }
@@ -73,7 +73,7 @@ impl<'a, L: Ledger> Turn<'a, L> {
         requires session { IsSome pass.old.session }
         ensures called { OnOk result (IsCalledIn pass.old (λ n. events.Command n moment tagged) pass.new) }
         ensures unchanged { OnErr result (pass.new ≡ pass.old) }
-        ensures refused { IfErr result (IsRefused pass.old.seen) }
+        ensures refused { IfErr result (IsCallRefused pass.old.seen) }
     {
         let Some(session) = pass.session() else {
             unreachable!()
@@ -94,23 +94,23 @@ impl<'a, L: Ledger> Turn<'a, L> {
 }
 
 impl<L: Ledger> Shared<L> {
-    ghost use Rattle.replica_lock.specs.Passes.{Denies, Fits, IsCalled, IsCalledIn, IsRefused, is_missing, parts_of, unused};
-    ghost use Rattle.replica_lock.specs.declared.book.Entry.{Entry as Record};
+    ghost use Rattle.replica_lock.specs.Passes.{IsFinishFault, PassesFit, IsCalled, IsCalledIn, IsCallRefused, is_missing, parts_of, unused_pass};
+    ghost use Rattle.replica_lock.specs.declared.book.JournalEntry.{JournalEntry};
     ghost use Rattle.replica_lock.specs.declared.event.BookEvent.TheVariants as events;
 
     /// Puts a replica under a lock. The pass counts the entries that are there, and all others are cut from it.
     pub fn new(blank: Blank, book: Book) -> (Shared<L>, Pass<L>)
         requires name { blank.name ≡ L.name }
         requires parts { (blank.parts ≡ L.parts) × (L.parts ≡ 4294967295) }
-        ensures { result.1 ≡ unused 4294967295 (length book.journal) }
+        ensures { result.1 ≡ unused_pass 4294967295 (length book.journal) }
     {
         let (calls, share) = blank.open::<L>();
         let mut calls = calls;
         let entries = book.len();
-        let bells = Bells::new(book.alloc());
+        let bells = SessionSignals::new(book.alloc());
         let pass = Pass::whole(&mut calls, share, entries);
         let shared = Shared {
-            locked: Mutex::new(Locked::new(book, calls)),
+            locked: Mutex::new(CountedBook::new(book, calls)),
             changed: Condvar::new(),
             bells,
         };
@@ -126,14 +126,14 @@ impl<L: Ledger> Shared<L> {
     ) -> Result<(), CallFault>
         ensures called { OnOk result (IsCalled pass.old event pass.new) }
         ensures unchanged { OnErr result (pass.new ≡ pass.old) }
-        ensures refused { IfErr result (IsRefused pass.old.seen) }
+        ensures refused { IfErr result (IsCallRefused pass.old.seen) }
     {
-        let roused = roused_by(&event);
+        let roused = session_roused_by(&event);
         let mut turn = self.turn(rt);
         let result = turn.call(alloc, pass, event);
         self.end(turn);
         if let Some(session) = roused {
-            self.bells.of(session).notify_all();
+            self.bells.signal_of(session).notify_all();
         }
         // What came of the call before is let go no sooner than here, where the lock is given back: it may be long.
         match result {
@@ -146,17 +146,17 @@ impl<L: Ledger> Shared<L> {
     }
 
     /// Takes the lock, for which it may wait, for calls of one caller that come one behind another. All others wait until `end` gives it back.
-    pub fn turn<R: Wait>(&self, rt: &R) -> Turn<'_, L> {
+    pub fn turn<R: Wait>(&self, rt: &R) -> LockTurn<'_, L> {
         let locked = self.locked.lock(rt);
-        let before = locked.news();
-        Turn { locked, before }
+        let before = locked.last_visible();
+        LockTurn { locked, before }
     }
 
     /// Gives the lock back, and wakes whoever waits for what these calls changed.
-    pub fn end(&self, turn: Turn<'_, L>) {
-        let Turn { locked, before } = turn;
-        if locked.news() != before {
-            self.bells.ring(locked.book().node());
+    pub fn end(&self, turn: LockTurn<'_, L>) {
+        let LockTurn { locked, before } = turn;
+        if locked.last_visible() != before {
+            self.bells.notify(locked.book().node());
         }
         drop(locked);
         self.changed.notify_all();
@@ -173,7 +173,7 @@ impl<L: Ledger> Shared<L> {
         requires { pass.old.session ≡ None }
         ensures called { OnOk result (IsCalled pass.old (events.Open auth) pass.new) }
         ensures unchanged { OnErr result (pass.new ≡ pass.old) }
-        ensures refused { IfErr result (IsRefused pass.old.seen) }
+        ensures refused { IfErr result (IsCallRefused pass.old.seen) }
     {
         self.call(rt, alloc, pass, BookEvent::Open { auth })
     }
@@ -190,7 +190,7 @@ impl<L: Ledger> Shared<L> {
         requires { IsSome pass.old.session }
         ensures called { OnOk result (IsCalledIn pass.old (λ n. events.Command n moment tagged) pass.new) }
         ensures unchanged { OnErr result (pass.new ≡ pass.old) }
-        ensures refused { IfErr result (IsRefused pass.old.seen) }
+        ensures refused { IfErr result (IsCallRefused pass.old.seen) }
     {
         let Some(session) = pass.session() else {
             unreachable!()
@@ -214,7 +214,7 @@ impl<L: Ledger> Shared<L> {
         requires { IsSome pass.old.session }
         ensures called { OnOk result (IsCalledIn pass.old (λ n. events.Line n line) pass.new) }
         ensures unchanged { OnErr result (pass.new ≡ pass.old) }
-        ensures refused { IfErr result (IsRefused pass.old.seen) }
+        ensures refused { IfErr result (IsCallRefused pass.old.seen) }
     {
         let Some(session) = pass.session() else {
             unreachable!()
@@ -227,7 +227,7 @@ impl<L: Ledger> Shared<L> {
         requires { IsSome pass.old.session }
         ensures called { OnOk result (IsCalledIn pass.old (λ n. events.Poll n) pass.new) }
         ensures unchanged { OnErr result (pass.new ≡ pass.old) }
-        ensures refused { IfErr result (IsRefused pass.old.seen) }
+        ensures refused { IfErr result (IsCallRefused pass.old.seen) }
     {
         let Some(session) = pass.session() else {
             unreachable!()
@@ -245,7 +245,7 @@ impl<L: Ledger> Shared<L> {
     ) -> Result<(), CallFault>
         ensures called { OnOk result (IsCalled pass.old (events.Deliver op) pass.new) }
         ensures unchanged { OnErr result (pass.new ≡ pass.old) }
-        ensures refused { IfErr result (IsRefused pass.old.seen) }
+        ensures refused { IfErr result (IsCallRefused pass.old.seen) }
     {
         self.call(rt, alloc, pass, BookEvent::Deliver { op })
     }
@@ -254,7 +254,7 @@ impl<L: Ledger> Shared<L> {
     pub fn drain<R: Wait>(&self, rt: &R, alloc: Global, pass: &mut Pass<L>) -> Result<(), CallFault>
         ensures called { OnOk result (IsCalled pass.old events.Drain pass.new) }
         ensures unchanged { OnErr result (pass.new ≡ pass.old) }
-        ensures refused { IfErr result (IsRefused pass.old.seen) }
+        ensures refused { IfErr result (IsCallRefused pass.old.seen) }
     {
         self.call(rt, alloc, pass, BookEvent::Drain)
     }
@@ -264,7 +264,7 @@ impl<L: Ledger> Shared<L> {
         requires { IsSome pass.old.session }
         ensures called { OnOk result (IsCalledIn pass.old (λ n. events.Close n) pass.new) }
         ensures unchanged { OnErr result (pass.new ≡ pass.old) }
-        ensures refused { IfErr result (IsRefused pass.old.seen) }
+        ensures refused { IfErr result (IsCallRefused pass.old.seen) }
     {
         let Some(session) = pass.session() else {
             unreachable!()
@@ -284,15 +284,15 @@ impl<L: Ledger> Shared<L> {
 
     /// Waits until an entry behind the first `seen` may have to be told to this session, and tells the journal's length then; `None` where the session is closed.
     /// It looks again where the session begins to idle; while it idles, it is woken where its own feed has notes, or missed some, and at its close, by no other entry.
-    pub fn wait_news<R: Wait>(&self, rt: &R, session: SessionNo, seen: u64) -> Option<u64>
+    pub fn wait_session_change<R: Wait>(&self, rt: &R, session: SessionNo, seen: u64) -> Option<u64>
         ensures { IfSome result (λ length. seen < length) }
     {
-        let locked = self.bells.of(session).wait_while(
+        let locked = self.bells.signal_of(session).wait_while(
             rt,
             self.locked.lock(rt),
-            |locked| !locked.has_news(session, seen) && locked.book().node().is_open(session),
+            |locked| !locked.has_session_change(session, seen) && locked.book().node().is_open(session),
         );
-        if !locked.has_news(session, seen) {
+        if !locked.has_session_change(session, seen) {
             return None;
         }
         Some(locked.len())
@@ -310,12 +310,12 @@ impl<L: Ledger> Shared<L> {
     ) -> Result<Vec<SoundOp>, AllocError>
         ensures { IfOk result (λ ops. IsCausal id_of clock_of ops.items) }
     {
-        ops_copied_in(alloc, self.locked.lock(rt).book())
+        copies_of_ops(alloc, self.locked.lock(rt).book())
     }
 
     /// A copy of the clock that counts the operations that the replica applied; `Err` where there is no memory for it. It takes the lock, and makes no entry.
     pub fn clock<R: Wait>(&self, rt: &R, alloc: Global) -> Result<Clock, AllocError>
-        ensures { IfOk result (λ clock. (applied : List Operation) × IsCausal id_of clock_of applied × IsClockOf id_of applied clock) }
+        ensures { IfOk result (λ clock. (applied : List Op) × IsCausal id_of clock_of applied × IsClockOf id_of applied clock) }
     {
         clock_in(alloc, self.locked.lock(rt).book())
     }
@@ -328,7 +328,7 @@ impl<L: Ledger> Shared<L> {
         alloc: Global,
         clock: &Clock,
     ) -> Result<Vec<SoundOp>, AllocError>
-        ensures { IfOk result (λ ops. (applied : List Operation) × IsCausal id_of clock_of applied × (ops.items ≡ uncovered id_of clock.now applied)) }
+        ensures { IfOk result (λ ops. (applied : List Op) × IsCausal id_of clock_of applied × (ops.items ≡ uncovered_ops id_of clock.now applied)) }
     {
         ops_in(alloc, self.locked.lock(rt).book(), clock)
     }
@@ -337,8 +337,8 @@ impl<L: Ledger> Shared<L> {
     /// keeps another outcome than its call's.
     pub fn finish(self, passes: Vec<Pass<L>>) -> Result<Book, FinishFault>
         requires { L.parts ≡ 4294967295 }
-        ensures fits { IfOk result (λ book. Fits book.journal passes.items) }
-        ensures denied { IfErr result (λ fault. (journal : List Record) × Denies journal passes.items fault) }
+        ensures fits { IfOk result (λ book. PassesFit book.journal passes.items) }
+        ensures denied { IfErr result (λ fault. (journal : List JournalEntry) × IsFinishFault journal passes.items fault) }
         ensures whole { parts_of passes.items ≡ 4294967295 → IfErr result (λ fault. is_missing fault ≡ false) }
     {
         let Shared {
@@ -358,7 +358,7 @@ impl<L: Ledger> Shared<L> {
 }
 
 /// The session that an event closes, or lets idle: whoever waits for its news looks again, since what came while it didn't idle rang no bell.
-fn roused_by(event: &BookEvent) -> Option<SessionNo> {
+fn session_roused_by(event: &BookEvent) -> Option<SessionNo> {
     match event {
         BookEvent::Close { session } => Some(*session),
         BookEvent::Command {
@@ -377,7 +377,7 @@ fn roused_by(event: &BookEvent) -> Option<SessionNo> {
 }
 
 /// Copies of the operations applied, in their order.
-fn ops_copied_in(alloc: Global, book: &Book) -> Result<Vec<SoundOp>, AllocError>
+fn copies_of_ops(alloc: Global, book: &Book) -> Result<Vec<SoundOp>, AllocError>
     ensures ops { IfOk result (λ ops. ops.items ≡ book.now.node.applied) }
     ensures causal { IsCausal id_of clock_of book.now.node.applied }
 {
@@ -395,7 +395,7 @@ fn clock_in(alloc: Global, book: &Book) -> Result<Clock, AllocError>
 
 /// Copies of the operations applied that the clock doesn't cover, in their order.
 fn ops_in(alloc: Global, book: &Book, clock: &Clock) -> Result<Vec<SoundOp>, AllocError>
-    ensures ops { IfOk result (λ ops. ops.items ≡ uncovered id_of clock.now book.now.node.applied) }
+    ensures ops { IfOk result (λ ops. ops.items ≡ uncovered_ops id_of clock.now book.now.node.applied) }
     ensures causal { IsCausal id_of clock_of book.now.node.applied }
 {
     let _ops = book.node().op_list();

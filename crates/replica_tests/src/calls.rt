@@ -3,7 +3,7 @@
 use crate::fixtures::{Mailboxes, Trouble, empty, operations};
 use crate::telling::tell_mailboxes;
 use causal_inbox::Inbox;
-use merge_laws::{Follower, NotReady, OnFirst, Replicated, Unfollowed};
+use merge_laws::{Follower, NotReady, FirstFollower, Replicated, Unfollowed};
 use std::alloc::{AllocError, Global};
 use std::test::Fail;
 
@@ -39,8 +39,8 @@ fn values_are_prepared(rt: HostRuntime) -> Result<(), Fail> {
     Ok(())
 }
 
-fn follower() -> OnFirst<Unfollowed> {
-    OnFirst {
+fn follower() -> FirstFollower<Unfollowed> {
+    FirstFollower {
         follower: Unfollowed,
     }
 }
@@ -59,7 +59,7 @@ fn followers_are_ready(rt: HostRuntime) -> Result<(), Fail> {
     Ok(())
 }
 
-type Node = Inbox<Mailboxes, OnFirst<Unfollowed>>;
+type Node = Inbox<Mailboxes, FirstFollower<Unfollowed>>;
 
 fn node(alloc: Global) -> Result<Node, AllocError> {
     Inbox::new(alloc, empty(alloc), follower())

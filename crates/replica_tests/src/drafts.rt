@@ -33,7 +33,7 @@ pub fn draft(
 
 fn some_name(alloc: Global, dice: &mut Dice) -> Result<Name, AllocError> {
     match NAMES.get(dice.below(3)) {
-        Some(name) => Name::copied_from(alloc, name),
+        Some(name) => Name::from_slice(alloc, name),
         None => Name::inbox(alloc),
     }
 }
@@ -41,7 +41,7 @@ fn some_name(alloc: Global, dice: &mut Dice) -> Result<Name, AllocError> {
 /// A Delete of another folder than INBOX, which lists most of its tags.
 fn delete(alloc: Global, dice: &mut Dice, clock: &Clock, ops: &[SoundOp]) -> Result<Kind, Trouble> {
     let octets: &[u8] = if dice.below(2) == 0 { b"a" } else { b"b" };
-    let folder = Name::copied_from(alloc, octets)?;
+    let folder = Name::from_slice(alloc, octets)?;
     let seen = most_seen(alloc, dice, clock, ops, &folder)?;
     Ok(Kind::Delete { folder, seen })
 }
@@ -61,7 +61,7 @@ fn append(alloc: Global, dice: &mut Dice) -> Result<Kind, Trouble> {
     let folder = some_name(alloc, dice)?;
     let flags = some_flags(alloc, dice)?;
     let date = some_date(dice)?;
-    let text = Text::copied_from(alloc, &[some_letter(dice), some_letter(dice)])?;
+    let text = Text::from_slice(alloc, &[some_letter(dice), some_letter(dice)])?;
     Ok(Kind::Append {
         folder,
         flags,

@@ -8,7 +8,7 @@ ghost use Rattle.subs_state.specs.Table.{subscriptions_of};
 
 use crate::telling::{tell_delivered, tell_drained, tell_received, tell_stall};
 use causal_inbox::Inbox;
-use crdt_ops::{Op, OpFault, SoundOp, checked, read_op};
+use crdt_ops::{Op, OpFault, SoundOp, into_sound_op, read_op};
 use folder_state::Folders;
 use merge_laws::{Follower, Pair, Replicated, Unfollowed};
 use std::alloc::{AllocError, AllocFailed, Global};
@@ -49,7 +49,7 @@ pub fn operation(alloc: Global, line: &str) -> Result<SoundOp, Trouble> {
 
 /// The same operation, if it is sound.
 pub fn sound(op: Op) -> Result<SoundOp, Trouble> {
-    checked(op).ok_or(Trouble::NotTheForm)
+    into_sound_op(op).ok_or(Trouble::NotTheForm)
 }
 
 /// The operations of these lines.

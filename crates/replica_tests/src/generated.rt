@@ -79,7 +79,7 @@ fn issue(
 /// Another operation with this id.
 fn forge(alloc: Global, id: &OpId, clock: &Clock, ops: &mut Vec<SoundOp>) -> Result<(), Trouble> {
     let clock = clock.copy(alloc)?;
-    let folder = Name::copied_from(alloc, b"forged")?;
+    let folder = Name::from_slice(alloc, b"forged")?;
     add(ops, id, clock, Kind::Create { folder })
 }
 

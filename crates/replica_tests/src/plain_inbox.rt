@@ -159,7 +159,7 @@ pub fn is_at(ops: &[SoundOp], at: usize, op: &SoundOp) -> bool {
 
 /// Whether the operation may come next, behind those that the clock covers.
 fn is_ripe(clock: &Clock, op: &SoundOp) -> bool {
-    op.clock().is_within(clock) && !clock.covers(op.id())
+    op.clock().is_covered_by(clock) && !clock.covers(op.id())
 }
 
 /// The place of the first operation that may come next.

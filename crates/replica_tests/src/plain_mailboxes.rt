@@ -1,7 +1,7 @@
 //! Folders and subscriptions in plain lists: each answer looks through all tags.
 
 use crate::fixtures::Trouble;
-use crdt_ops::{Ids, Kind, Message, Op, place_name};
+use crdt_ops::{Ids, Kind, Message, Op, insert_name};
 use imap_types::{DateTime, Flags, Name, Text, add_flags};
 use std::alloc::{AllocError, Global};
 use tags_clocks::OpId;
@@ -60,7 +60,7 @@ impl PlainMailboxes {
 
     fn forget(&mut self, op: &Op) {
         let name = op.kind.name();
-        let removed = op.kind.removed();
+        let removed = op.kind.removed_ids();
         match &op.kind {
             Kind::Unsubscribe { .. } => forget_tags(&mut self.subscriptions, name, removed),
             Kind::Delete { .. } => {
@@ -116,7 +116,7 @@ impl PlainMailboxes {
         names.push(Name::inbox(alloc)?)?;
         place_names(alloc, &mut names, &self.folder_tags)?;
         for version in &self.versions {
-            place_name(alloc, &mut names, &version.folder)?;
+            insert_name(alloc, &mut names, &version.folder)?;
         }
         Ok(names)
     }
@@ -143,7 +143,7 @@ impl PlainMailboxes {
     pub fn losing(&self, alloc: Global, op: &Op) -> Result<Ids, AllocError> {
         let mut origins = Ids::none(alloc);
         for version in &self.versions {
-            if version.folder.same(op.kind.name()) && op.kind.removed().contains(&version.id) {
+            if version.folder.same(op.kind.name()) && op.kind.removed_ids().contains(&version.id) {
                 origins.insert(version.origin)?;
             }
         }
@@ -272,7 +272,7 @@ fn add_letter(
 
 fn place_names(alloc: Global, names: &mut Vec<Name>, tags: &[PlainTag]) -> Result<(), AllocError> {
     for tag in tags {
-        place_name(alloc, names, &tag.name)?;
+        insert_name(alloc, names, &tag.name)?;
     }
     Ok(())
 }

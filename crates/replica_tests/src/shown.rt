@@ -3,7 +3,7 @@
 use crate::plain_charts::{PlainLine, PlainReplica};
 use crdt_ops::{Ids, Message};
 use imap_types::Name;
-use mail_listing::{Row, Rows};
+use mailbox_rows::{Row, Rows};
 use std::alloc::{AllocError, Global};
 
 /// Whether both are the same names in the same order.

@@ -14,15 +14,15 @@ use causal_inbox::Inbox;
 use crdt_ops::SoundOp;
 use folder_state::Folders;
 use imap_types::Name;
-use merge_laws::{Caused, OnFirst};
+use merge_laws::{Caused, FirstFollower};
 use modseq_index::changed_since;
 use std::alloc::{AllocError, Global};
 use std::test::Fail;
 use subs_state::Subs;
 use tags_clocks::ReplicaId;
-use uid_projection::{Charts, Start};
+use uid_projection::{Charts, Counters};
 
-type Replica = Inbox<Mailboxes, OnFirst<Charts>>;
+type Replica = Inbox<Mailboxes, FirstFollower<Charts>>;
 
 /// A replica whose counters begin at 1, that has received nothing.
 fn replica(alloc: Global, number: u32) -> Result<Replica, Trouble> {
@@ -30,13 +30,13 @@ fn replica(alloc: Global, number: u32) -> Result<Replica, Trouble> {
         return Err(Trouble::NotTheForm);
     };
     let follower = charts(alloc, replica)?;
-    Ok(Inbox::new(alloc, empty(alloc), OnFirst { follower })?)
+    Ok(Inbox::new(alloc, empty(alloc), FirstFollower { follower })?)
 }
 
 fn charts(alloc: Global, replica: ReplicaId) -> Result<Charts, AllocError>
     ensures { IfOk result (λ charts. Follows charts []) }
 {
-    let start = Start {
+    let start = Counters {
         replica,
         uid: 1,
         k: 1,
@@ -227,7 +227,7 @@ fn is_name_alike_now_and_later(
     octets: &[u8],
     behind: &[SoundOp],
 ) -> Result<bool, AllocError> {
-    let name = Name::copied_from(alloc, octets)?;
+    let name = Name::from_slice(alloc, octets)?;
     Ok(
         is_name_alike(alloc, told, plain, &name)?
             && are_later_numbers_alike(told, later, &name, behind)

@@ -5,8 +5,8 @@ ghost use Rattle.clap.specs.Words.{app_of, found_of, matches_of, rows_of};
 ghost use Rattle.clap_laws.specs.Words.{Add, IsWord};
 ghost use Rattle.server_settings.specs.Options.{NamesAccess, join_word, named_word, preauth_word, replica_word, server_words, stop_word, with_access_words, with_replica_words};
 ghost use Rattle.server_settings.specs.Settings.{AreNames, HavePeers, IsJoinText, IsNameText, IsPlaceText, access_of, is_named, names_of, newcomers_of};
-ghost use Rattle.server_settings.specs.declared.settings.Join.{Join as Joining};
-ghost use Rattle.server_settings.specs.declared.settings.Place.{Place as Standing};
+ghost use Rattle.server_settings.specs.declared.settings.Join.{Join};
+ghost use Rattle.server_settings.specs.declared.settings.Place.{Place};
 
 use clap::builder::ValueParser;
 use clap::error::ErrorKind;
@@ -61,7 +61,7 @@ pub struct CommandLine<'a> {
 
 impl CommandLine<'_> {
     /// The place of the replica with this name among all, those that are to join behind the others.
-    pub fn place_named(&self, name: u16) -> Option<usize>
+    pub fn place_of_name(&self, name: u16) -> Option<usize>
         ensures some { IfSome result (λ place. slice_get (names_of self.now.places.items ++ newcomers_of self.now.joins.items) place ≡ Some name) }
         ensures none { IfNone result (is_named name (names_of self.now.places.items ++ newcomers_of self.now.joins.items) ≡ false) }
     {
@@ -141,7 +141,7 @@ pub fn read_settings<'a>(
     ensures names { IfOk result (λ settings. AreNames (names_of settings.places.items ++ newcomers_of settings.joins.items)) }
     ensures peers { IfOk result (λ settings. HavePeers (names_of settings.places.items) settings.joins.items) }
 {
-    let matches = match matched(alloc, words) {
+    let matches = match find_words(alloc, words) {
         Ok(matches) => matches,
         Err(error) => return Err(SettingsFault::Words(error)),
     };
@@ -180,15 +180,15 @@ fn access_in<'a>(matches: &ArgMatches<'a>) -> Option<Access<'a>>
     access_of(is_preauth, user, pass)
 }
 
-fn matched<'a>(alloc: Global, words: &'a [String]) -> Result<ArgMatches<'a>, Error>
+fn find_words<'a>(alloc: Global, words: &'a [String]) -> Result<ArgMatches<'a>, Error>
     ensures { IfOk result (λ matches. rows_of (found_of matches) ≡ matches_of server_words (map ⟦<String as AsStr>⟧.text words.entry.now)) }
 {
-    let command = described(alloc)?;
+    let command = command_words(alloc)?;
     command.try_get_matches_from(words)
 }
 
 /// The words that the program knows.
-fn described<'a>(alloc: Global) -> Result<Command<'a>, AllocError>
+fn command_words<'a>(alloc: Global) -> Result<Command<'a>, AllocError>
     ensures { IfOk result (λ command. app_of command ≡ server_words) }
 {
     let words = known_words(alloc)?;
@@ -204,8 +204,8 @@ fn known_words<'a>(alloc: Global) -> Result<Vec<Arg<'a>>, AllocError>
 {
     let words = vec![in alloc;
         preauth(alloc),
-        named(alloc, "user", "This is the name by which the user logs in."),
-        named(
+        word_with_value(alloc, "user", "This is the name by which the user logs in."),
+        word_with_value(
             alloc,
             "pass",
             "This is the password with which the user logs in.",
@@ -227,7 +227,7 @@ fn preauth<'a>(alloc: Global) -> Arg<'a>
 }
 
 /// A word with a value.
-fn named<'a>(alloc: Global, name: &'a str, help: &'a str) -> Arg<'a>
+fn word_with_value<'a>(alloc: Global, name: &'a str, help: &'a str) -> Arg<'a>
     ensures { IsWord result (named_word name.entry.now) }
 {
     Arg::new(alloc, name)
@@ -239,7 +239,7 @@ fn named<'a>(alloc: Global, name: &'a str, help: &'a str) -> Arg<'a>
 fn stop_after<'a>(alloc: Global) -> Arg<'a>
     ensures { IsWord result stop_word }
 {
-    named(
+    word_with_value(
         alloc,
         "stop-after",
         "The server stops behind so many connections. Else it runs until it is ended.",
@@ -333,7 +333,7 @@ fn add_join<'a>(
 ) -> Result<(), UsageFault<'a>>
     requires { AreNames names.old.items }
     ensures names { OnOk result (AreNames names.new.items) }
-    ensures more { OnOk result ((join : Joining) × (names.new.items ≡ names.old.items ++ join.place.replica ∷ []) × (is_named join.peer names.old.items ≡ true) × (joins.new.items ≡ joins.old.items ++ join ∷ [])) }
+    ensures more { OnOk result ((join : Join) × (names.new.items ≡ names.old.items ++ join.place.replica ∷ []) × (is_named join.peer names.old.items ≡ true) × (joins.new.items ≡ joins.old.items ++ join ∷ [])) }
 {
     let Some(join) = join_of(text) else {
         return Err(UsageFault::BadJoin(text));
@@ -399,7 +399,7 @@ fn add_name(names: &mut Vec<u16>, name: u16) -> Result<bool, AllocError>
 pub fn place_of(text: &str) -> Option<Place<'_>>
     ensures positive { IfSome result (λ place. 0 < place.replica) }
     ensures some { IfSome result (λ place. IsPlaceText text.now place) }
-    ensures none { IfNone result ((place : Standing) → IsPlaceText text.now place → ⊥) }
+    ensures none { IfNone result ((place : Place) → IsPlaceText text.now place → ⊥) }
 {
     let (name, address) = text.split_once('=')?;
     if address.is_empty() {
@@ -413,7 +413,7 @@ pub fn place_of(text: &str) -> Option<Place<'_>>
 pub fn join_of(text: &str) -> Option<Join<'_>>
     ensures positive { IfSome result (λ join. 0 < join.place.replica) }
     ensures some { IfSome result (λ join. IsJoinText text.now join) }
-    ensures none { IfNone result ((join : Joining) → IsJoinText text.now join → ⊥) }
+    ensures none { IfNone result ((join : Join) → IsJoinText text.now join → ⊥) }
 {
     let (place, peer) = text.rsplit_once('/')?;
     let place = place_of(place)?;

@@ -1,6 +1,6 @@
 //! What is printed of replicas that join.
 
-use mail_serving::{Join, JoinEnd, Place};
+use server_runtime::{Join, JoinEnd, Place};
 use std::alloc::Global;
 use std::test::*;
 

@@ -1,10 +1,10 @@
 //! Letters between the replicas of a house.
 
-use crdt_ops::{SoundOp, checked, read_op};
+use crdt_ops::{SoundOp, into_sound_op, read_op};
 use crossbeam_channel::{Receiver, unbounded};
-use mail_serving::{Access, House, Mail, Newcomers, Station, Stop};
+use server_runtime::{Access, ServerState, PeerSender, JoiningReplicas, ReplicaHandle, StopCounter};
 use merge_laws::Caused;
-use replica_links::{Letter, LinkMsg, Post};
+use replica_links::{PeerMsg, LinkMsg, PeerLinks};
 use std::alloc::Global;
 use std::net::{IpAddr, Ipv4Addr, SocketAddr};
 use std::sync::{Mutex, Wait};
@@ -14,7 +14,7 @@ use tags_clocks::{Clock, OpId, ReplicaId};
 /// The operation that a line spells, if it is sound.
 fn operation(alloc: Global, line: &str) -> Option<SoundOp> {
     let op = read_op(alloc, line.as_bytes()).ok()?;
-    checked(op)
+    into_sound_op(op)
 }
 
 /// The clock that covers the first replica's first operation.
@@ -38,7 +38,7 @@ enum Parcel {
 }
 
 /// What a letter brings.
-fn parcel_of(alloc: Global, letter: &Letter) -> Parcel {
+fn parcel_of(alloc: Global, letter: &PeerMsg) -> Parcel {
     match &letter.message {
         LinkMsg::Ops(ops) => match ops.as_slice() {
             [op] => Parcel::One(letter.from, op.id()),
@@ -58,7 +58,7 @@ fn is_clock_of_one(alloc: Global, clock: &Clock) -> bool {
 }
 
 /// What the next letter brings.
-fn next_letter<R: Wait>(rt: &R, alloc: Global, letters: &Receiver<Letter>) -> Parcel {
+fn next_letter<R: Wait>(rt: &R, alloc: Global, letters: &Receiver<PeerMsg>) -> Parcel {
     match letters.try_recv(rt) {
         Ok(letter) => parcel_of(alloc, &letter),
         Err(_) => Parcel::Nothing,
@@ -66,7 +66,7 @@ fn next_letter<R: Wait>(rt: &R, alloc: Global, letters: &Receiver<Letter>) -> Pa
 }
 
 /// What the next letter to the replica at a place brings.
-fn letter_at<R: Wait>(rt: &R, alloc: Global, letters: &[Receiver<Letter>], place: usize) -> Parcel {
+fn letter_at<R: Wait>(rt: &R, alloc: Global, letters: &[Receiver<PeerMsg>], place: usize) -> Parcel {
     match letters.get(place) {
         Some(letters) => next_letter(rt, alloc, letters),
         None => Parcel::Others,
@@ -76,8 +76,8 @@ fn letter_at<R: Wait>(rt: &R, alloc: Global, letters: &[Receiver<Letter>], place
 /// The stations of a house of three, of which the last isn't there yet, and what comes to each.
 #[derive(Drop)]
 struct Stations {
-    stations: Vec<Station>,
-    letters: Vec<Receiver<Letter>>,
+    replicas: Vec<ReplicaHandle>,
+    letters: Vec<Receiver<PeerMsg>>,
 }
 
 /// Adds a replica that listens at this address, or isn't there yet.
@@ -85,18 +85,18 @@ fn add_station(alloc: Global, address: Option<SocketAddr>, three: &mut Stations)
     let (link, letters) = unbounded(alloc).ok()?;
     let (orders, _) = unbounded(alloc).ok()?;
     three.letters.push(letters).ok()?;
-    let station = Station {
+    let station = ReplicaHandle {
         link,
         orders,
         address: Mutex::new(address),
         order: Mutex::new(()),
     };
-    three.stations.push(station).ok()
+    three.replicas.push(station).ok()
 }
 
 fn three_stations(alloc: Global) -> Option<Stations> {
     let mut three = Stations {
-        stations: Vec::new(alloc),
+        replicas: Vec::new(alloc),
         letters: Vec::new(alloc),
     };
     let address = SocketAddr::new(IpAddr::V4(Ipv4Addr::LOCALHOST), 1);
@@ -114,24 +114,24 @@ fn one_operation(alloc: Global, line: &str) -> Option<Vec<SoundOp>> {
 }
 
 /// The first replica of three hands an operation to the second, asks it, hands one to the third, which isn't there, and tells all of one.
-fn send_all<R: Wait>(rt: &R, alloc: Global, house: &House<'_>) -> Option<()> {
-    let mut mail = Mail::new(rt, house, 0);
-    mail.hand(1, one_operation(alloc, "1:1 - create a")?);
+fn send_all<R: Wait>(rt: &R, alloc: Global, house: &ServerState<'_>) -> Option<()> {
+    let mut mail = PeerSender::new(rt, house, 0);
+    mail.send_ops(1, one_operation(alloc, "1:1 - create a")?);
     mail.ask(1, clock_of_one(alloc)?);
-    mail.hand(2, one_operation(alloc, "1:2 1=1 create b")?);
+    mail.send_ops(2, one_operation(alloc, "1:2 1=1 create b")?);
     let told = one_operation(alloc, "1:3 1=2 create c")?;
-    mail.tell_all(alloc, &told);
+    mail.send_to_all(alloc, &told);
     Some(())
 }
 
 /// What the first replica of three sends. What comes to the first, the second and the third, in that order, until nothing does.
 fn sent<R: Wait>(rt: &R, alloc: Global) -> Option<[Parcel; 6]> {
-    let Stations { stations, letters } = three_stations(alloc)?;
-    let house = House {
+    let Stations { replicas: stations, letters } = three_stations(alloc)?;
+    let house = ServerState {
         access: Access::Preauth,
-        stations,
-        newcomers: Newcomers::new(Vec::new(alloc)),
-        stop: Stop::after(None),
+        replicas: stations,
+        joining: JoiningReplicas::new(Vec::new(alloc)),
+        stop: StopCounter::after(None),
     };
     match send_all(rt, alloc, &house) {
         Some(()) => Some(came(rt, alloc, &letters)),
@@ -139,7 +139,7 @@ fn sent<R: Wait>(rt: &R, alloc: Global) -> Option<[Parcel; 6]> {
     }
 }
 
-fn came<R: Wait>(rt: &R, alloc: Global, letters: &[Receiver<Letter>]) -> [Parcel; 6] {
+fn came<R: Wait>(rt: &R, alloc: Global, letters: &[Receiver<PeerMsg>]) -> [Parcel; 6] {
     [
         letter_at(rt, alloc, letters, 0),
         letter_at(rt, alloc, letters, 1),

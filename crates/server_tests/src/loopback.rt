@@ -2,7 +2,7 @@
 
 use crate::visits::Visit;
 use log::Log;
-use mail_serving::{CommandLine, open_all, read_settings, serve};
+use server_runtime::{CommandLine, open_all, read_settings, serve};
 use std::alloc::{AllocError, Global};
 use std::net::{Net, TcpListener, TcpStream};
 use std::rt::Clock;

@@ -6,7 +6,7 @@ use crate::callers::{Caller, Line, hear};
 use crate::doors::{Door, Keeper, Signs, Way, wait_for};
 use imap_node::Node;
 use log::Log;
-use mail_serving::{Access, Desk, House, Newcomers, Stop, serve_over};
+use server_runtime::{Access, ReplicaContext, ServerState, JoiningReplicas, StopCounter, serve_over};
 use replica_lock::{Book, Pass, Shared};
 use std::alloc::{AllocError, Global};
 use std::marker::Brand;
@@ -18,7 +18,7 @@ use std::sync::ledger::{Blank, Ledger};
 use std::thread::Threads;
 use std::{io, thread};
 use tags_clocks::ReplicaId;
-use uid_projection::Start;
+use uid_projection::Counters;
 
 /// Who calls, and how long the first replica's lock is held.
 #[derive(Drop)]
@@ -52,7 +52,7 @@ pub struct Course {
 
 /// A new replica with this number.
 fn fresh_book(alloc: Global, number: u32) -> Option<Book> {
-    let start = Start {
+    let start = Counters {
         replica: ReplicaId::new(number)?,
         uid: 1,
         k: 1,
@@ -225,7 +225,7 @@ type Served<L> = Result<(Vec<Pass<L>>, Vec<Vec<u8>>), AllocError>;
 fn side_served<L: Ledger + Send + Sync, R: Threads + Wait + Clock + Log + Sync>(
     rt: &R,
     alloc: Global,
-    desk: &Desk<'_, L>,
+    desk: &ReplicaContext<'_, L>,
     first: &mut Pass<L>,
     signs: &Signs,
     side: Side,
@@ -250,7 +250,7 @@ struct Entrance<'a> {
 fn served_behind<L: Ledger + Send + Sync, R: Threads + Wait + Clock + Log + Sync>(
     rt: &R,
     alloc: Global,
-    desk: &Desk<'_, L>,
+    desk: &ReplicaContext<'_, L>,
     first: &mut Pass<L>,
     signs: &Signs,
     entrance: Entrance<'_>,
@@ -280,7 +280,7 @@ fn both_given<L: Ledger>(
 /// Two replicas as the threads of their connections and clients see them.
 #[derive(Drop)]
 struct Stage<'a, L: Ledger, M: Ledger> {
-    house: &'a House<'a>,
+    server: &'a ServerState<'a>,
     one: &'a Shared<L>,
     two: &'a Shared<M>,
     signs: &'a Signs,
@@ -300,8 +300,8 @@ fn first_served<L: Ledger + Send + Sync, M: Ledger, R: Threads + Wait + Clock + 
     pass: &mut Pass<L>,
     side: Side,
 ) -> Served<L> {
-    let desk = Desk {
-        house: stage.house,
+    let desk = ReplicaContext {
+        server: stage.server,
         own: 0,
         shared: stage.one,
     };
@@ -316,8 +316,8 @@ fn second_served<L: Ledger, M: Ledger + Send + Sync, R: Threads + Wait + Clock +
     pass: &mut Pass<M>,
     side: Side,
 ) -> Served<M> {
-    let desk = Desk {
-        house: stage.house,
+    let desk = ReplicaContext {
+        server: stage.server,
         own: 0,
         shared: stage.two,
     };
@@ -459,18 +459,18 @@ fn played<L: Ledger + Send + Sync, M: Ledger + Send + Sync, R: Threads + Wait + 
 {
     let (one, mut near) = Shared::<L>::new(blanks.0, books.0);
     let (two, mut far) = Shared::<M>::new(blanks.1, books.1);
-    let house = House {
+    let house = ServerState {
         access: Access::Preauth,
-        stations: Vec::new(alloc),
-        newcomers: Newcomers::new(Vec::new(alloc)),
-        stop: Stop::after(None),
+        replicas: Vec::new(alloc),
+        joining: JoiningReplicas::new(Vec::new(alloc)),
+        stop: StopCounter::after(None),
     };
     let signs = Signs::new();
     let (heard, (served, other_served)) = served_on(
         rt,
         alloc,
         Stage {
-            house: &house,
+            server: &house,
             one: &one,
             two: &two,
             signs: &signs,

@@ -2,7 +2,7 @@
 
 use crate::clients::Client;
 use imap_types::Moment;
-use mail_serving::House;
+use server_runtime::ServerState;
 use mail_text::civil;
 use std::alloc::Global;
 use std::net::{Net, SocketAddr, TcpListener, TcpStream};
@@ -43,7 +43,7 @@ impl Visit {
         self,
         rt: &R,
         alloc: Global,
-        house: &House<'_>,
+        house: &ServerState<'_>,
     ) -> Option<bool> {
         match self {
             Visit::Two => visit_two(rt, alloc, house),
@@ -57,8 +57,8 @@ impl Visit {
 }
 
 /// The address at which the replica at a place listens, once it does.
-fn address_at<R: Wait + Clock>(rt: &R, house: &House<'_>, place: usize) -> Option<SocketAddr> {
-    let station = house.stations.get(place)?;
+fn address_at<R: Wait + Clock>(rt: &R, house: &ServerState<'_>, place: usize) -> Option<SocketAddr> {
+    let station = house.replicas.get(place)?;
     for _ in 0..6_000u32 {
         let address = *station.address.lock(rt);
         if address.is_some() {
@@ -73,7 +73,7 @@ fn address_at<R: Wait + Clock>(rt: &R, house: &House<'_>, place: usize) -> Optio
 fn client_at<R: Wait + Clock + Net<Listener = TcpListener, Stream = TcpStream>>(
     rt: &R,
     alloc: Global,
-    house: &House<'_>,
+    house: &ServerState<'_>,
     place: usize,
 ) -> Option<Client> {
     let address = address_at(rt, house, place)?;
@@ -81,8 +81,8 @@ fn client_at<R: Wait + Clock + Net<Listener = TcpListener, Stream = TcpStream>>(
 }
 
 /// Whether there is a replica at this place that hasn't joined.
-fn is_awaited<R: Wait>(rt: &R, house: &House<'_>, place: usize) -> bool {
-    match house.stations.get(place) {
+fn is_awaited<R: Wait>(rt: &R, house: &ServerState<'_>, place: usize) -> bool {
+    match house.replicas.get(place) {
         Some(station) => !station.is_open(rt),
         None => false,
     }
@@ -116,7 +116,7 @@ fn stir(client: &mut Client) {
 fn visit_two<R: Wait + Clock + Net<Listener = TcpListener, Stream = TcpStream>>(
     rt: &R,
     alloc: Global,
-    house: &House<'_>,
+    house: &ServerState<'_>,
 ) -> Option<bool> {
     let mut first = client_at(rt, alloc, house, 0)?;
     let mut second = client_at(rt, alloc, house, 1)?;
@@ -172,7 +172,7 @@ fn store_two(first: &mut Client, second: &mut Client) {
 fn visit_three<R: Wait + Clock + Net<Listener = TcpListener, Stream = TcpStream>>(
     rt: &R,
     alloc: Global,
-    house: &House<'_>,
+    house: &ServerState<'_>,
 ) -> Option<bool> {
     let mut second = client_at(rt, alloc, house, 1)?;
     let mut first = client_at(rt, alloc, house, 0)?;
@@ -216,7 +216,7 @@ fn append_in_turn(second: &mut Client, third: &mut Client) {
 fn visit_alone<R: Wait + Clock + Net<Listener = TcpListener, Stream = TcpStream>>(
     rt: &R,
     alloc: Global,
-    house: &House<'_>,
+    house: &ServerState<'_>,
 ) -> Option<bool> {
     let mut first = client_at(rt, alloc, house, 0)?;
     first.say(b"a CREATE work\r\n", b"a OK CREATE completed\r\n");
@@ -234,7 +234,7 @@ fn visit_alone<R: Wait + Clock + Net<Listener = TcpListener, Stream = TcpStream>
 fn visit_password<R: Wait + Clock + Net<Listener = TcpListener, Stream = TcpStream>>(
     rt: &R,
     alloc: Global,
-    house: &House<'_>,
+    house: &ServerState<'_>,
 ) -> Option<bool> {
     let mut client = client_at(rt, alloc, house, 0)?;
     let is_greeted = client.was_told(b"* OK [CAPABILITY IMAP4rev2 IDLE CONDSTORE] ready\r\n");
@@ -262,7 +262,7 @@ fn visit_password<R: Wait + Clock + Net<Listener = TcpListener, Stream = TcpStre
 fn visit_clock<R: Wait + Clock + Net<Listener = TcpListener, Stream = TcpStream>>(
     rt: &R,
     alloc: Global,
-    house: &House<'_>,
+    house: &ServerState<'_>,
 ) -> Option<bool> {
     let mut client = client_at(rt, alloc, house, 0)?;
     select(&mut client);
@@ -281,7 +281,7 @@ fn visit_clock<R: Wait + Clock + Net<Listener = TcpListener, Stream = TcpStream>
 fn visit_late<R: Wait + Clock + Net<Listener = TcpListener, Stream = TcpStream>>(
     rt: &R,
     alloc: Global,
-    house: &House<'_>,
+    house: &ServerState<'_>,
 ) -> Option<bool> {
     let mut client = client_at(rt, alloc, house, 0)?;
     select(&mut client);

@@ -6,21 +6,21 @@ use Rattle.std.specs.Str.{bytes_eq}
 use Rattle.std.proofs.Math.Dec.{eqb-suc-zero}
 use Rattle.std.proofs.lemmas.Bool.{cases_Bool, false≢true}
 use Rattle.std.proofs.lemmas.Slice.Eq.{bytes_eq-Decides}
-use Rattle.imap_types.specs.Ascending.{compared}
+use Rattle.imap_types.specs.Ascending.{octet_order}
 use Rattle.tags_clocks.specs.declared.id.OpId.{OpId}
 use Rattle.tags_clocks.proofs.Decide.{ids_decide}
 use Rattle.merge_laws.specs.Orders.{AreSound, IsCausal, IsIn, fold_of}
 use Rattle.crdt_ops.specs.declared.op.Op.{Op}
-use Rattle.crdt_ops.specs.Order.{IsListOf, id_order, in_order, same_id}
-use Rattle.crdt_ops.specs.Sets.{subscribed_at, subscribed_of, subscription_id, subscription_tags_of}
+use Rattle.crdt_ops.specs.SortedSets.{IsListOf, id_order, sorted_set, same_id}
+use Rattle.crdt_ops.specs.Sets.{subscribed_name, subscribed_names_of, subscription_id, subscription_tags_of}
 use Rattle.crdt_ops.specs.Sound.{IsSound}
 use Rattle.crdt_ops.specs.Tags.{SubscriptionTag, present_tags}
 use Rattle.crdt_ops.proofs.Members.{any_in, in_filter_map}
 use Rattle.crdt_ops.proofs.OrderLemmas.{id_order_same, id_order_total, listed_in_order, lists_by, names_same, names_total}
 use Rattle.crdt_ops.proofs.Presence.{changed, clock_of, id_of, present_after}
 use Rattle.crdt_ops.proofs.SetLemmas.{subscribed_in, subscription_tags_in}
-use Rattle.subs_state.specs.declared.table.NameTags.{NameTags}
-use Rattle.subs_state.specs.Entries.{held_at, ids_in, name_with_ids, tag_in}
+use Rattle.subs_state.specs.declared.subs_table.NameTags.{NameTags}
+use Rattle.subs_state.specs.Entries.{ids_entry, ids_in, name_with_ids, tag_in}
 use Rattle.subs_state.specs.Subscriptions.{IsMadeBy, IsSubscribed, Subscriptions, effect_of, no_subscriptions, subscriptions_by}
 
 abbrev Named : Type 0
@@ -30,13 +30,13 @@ abbrev same_key : Vec ℕ → Vec ℕ → Bool
 same_key x y = bytes_eq x.items y.items
 
 -- An entry's name leads to it, since no other has it.
-found_by_name : (tags : List Named) → IsDistinct same_key (keys_of tags) → (e : Named) → IsIn e tags → held_at e.0.items tags ≡ Some e.1
+found_by_name : (tags : List Named) → IsDistinct same_key (keys_of tags) → (e : Named) → IsIn e tags → ids_entry e.0.items tags ≡ Some e.1
 unfolding IsDistinct
 found_by_name [] d e h = absurd h
 found_by_name (x ∷ xs) d e (inl k) =
-    ap (λ t. cond t (Some x.1) (held_at e.0.items xs)) ((bytes_eq-Decides e.0.items x.0.items).1 (sym (ap (λ (y : Named). y.0.items) k))) ∙ ap (λ (y : Named). Some y.1) k
+    ap (λ t. cond t (Some x.1) (ids_entry e.0.items xs)) ((bytes_eq-Decides e.0.items x.0.items).1 (sym (ap (λ (y : Named). y.0.items) k))) ∙ ap (λ (y : Named). Some y.1) k
 found_by_name (x ∷ xs) d e (inr k) =
-    ap (λ t. cond t (Some x.1) (held_at e.0.items xs)) (other_name xs d.0 k) ∙ found_by_name xs d.1 e k
+    ap (λ t. cond t (Some x.1) (ids_entry e.0.items xs)) (other_name xs d.0 k) ∙ found_by_name xs d.1 e k
   where
     other_name : (ys : List Named) → AllByRecursion (λ (y : Vec ℕ). same_key x.0 y ≡ false) (keys_of ys) → IsIn e ys → bytes_eq e.0.items x.0.items ≡ false
     other_name [] a h = absurd h
@@ -52,9 +52,9 @@ entry_of : (tags : List Named) (n : List ℕ) (i : OpId) → tag_in tags n i ≡
 entry_of [] n i h = absurd (false≢true h)
 entry_of (x ∷ xs) n i h =
     elim (cases_Bool (bytes_eq n x.0.items)) [
-      | inl t ↦ (x, inl refl, sym ((bytes_eq-Decides n x.0.items).0 t), sym (ap (λ s. list_any (same_id i) (ids_in (cond s (Some x.1) (held_at n xs)))) t) ∙ h)
+      | inl t ↦ (x, inl refl, sym ((bytes_eq-Decides n x.0.items).0 t), sym (ap (λ s. list_any (same_id i) (ids_in (cond s (Some x.1) (ids_entry n xs)))) t) ∙ h)
       | inr f ↦
-          let w = entry_of xs n i (sym (ap (λ s. list_any (same_id i) (ids_in (cond s (Some x.1) (held_at n xs)))) f) ∙ h) in
+          let w = entry_of xs n i (sym (ap (λ s. list_any (same_id i) (ids_in (cond s (Some x.1) (ids_entry n xs)))) f) ∙ h) in
           (w.0, inr w.1, w.2, w.3)
     ]
 
@@ -67,7 +67,7 @@ id_of_some [] name n h = absurd cc
 id_of_some (j ∷ ids) name n h = (let e : Some name ≡ Some n = sym (ap (λ t. if t then None else Some name) (eqb-suc-zero (length ids))) ∙ h in cc, (j, ap (λ t. t || list_any (same_id j) ids) ((ids_decide j j).1 (λ k. j))))
 
 -- the names of the tags
-pub names_told : (tags : List Named) (names : List (List ℕ)) → IsDistinct same_key (keys_of tags) → names ≡ in_order compared (filter_map name_with_ids tags) → IsListOf compared (IsSubscribed (tag_in tags)) names
+pub names_told : (tags : List Named) (names : List (List ℕ)) → IsDistinct same_key (keys_of tags) → names ≡ sorted_set octet_order (filter_map name_with_ids tags) → IsListOf octet_order (IsSubscribed (tag_in tags)) names
 names_told tags names d e =
     lists_by names_total names_same (IsSubscribed (tag_in tags)) names (filter_map name_with_ids tags) e (λ n.
     let at = in_filter_map name_with_ids tags n in (
@@ -78,11 +78,11 @@ names_told tags names d e =
     ))
 
 -- the ids of a name's tags
-pub tags_told : (tags : List Named) (n : List ℕ) (ids : List OpId) → ids ≡ in_order id_order (ids_in (held_at n tags)) → IsListOf id_order (λ i. tag_in tags n i ≡ true) ids
+pub tags_told : (tags : List Named) (n : List ℕ) (ids : List OpId) → ids ≡ sorted_set id_order (ids_in (ids_entry n tags)) → IsListOf id_order (λ i. tag_in tags n i ≡ true) ids
 tags_told tags n ids e =
-    lists_by id_order_total id_order_same (λ i. tag_in tags n i ≡ true) ids (ids_in (held_at n tags)) e (λ i.
-    let any = any_in (same_id i) (ids_in (held_at n tags)) in (
-      λ h. let w = any.0 h in subst (λ (j : OpId). IsIn j (ids_in (held_at n tags))) (sym ((ids_decide i w.0).0 w.2)) w.1,
+    lists_by id_order_total id_order_same (λ i. tag_in tags n i ≡ true) ids (ids_in (ids_entry n tags)) e (λ i.
+    let any = any_in (same_id i) (ids_in (ids_entry n tags)) in (
+      λ h. let w = any.0 h in subst (λ (j : OpId). IsIn j (ids_in (ids_entry n tags))) (sym ((ids_decide i w.0).0 w.2)) w.1,
       λ h. any.1 (i, h, (ids_decide i i).1 (λ k. i)),
     ))
 
@@ -98,10 +98,10 @@ subscriptions_after os s c = λ k n i. (folded n i os no_subscriptions ∙ prese
 made : (v : Subscriptions) (os : List Op) → IsMadeBy v os → v ≡ subscriptions_by os
 made v os m = m.made ∙ subscriptions_after os m.sound m.causal
 
-pub names_by_set : (v : Subscriptions) (ops : List Op) (names : List (List ℕ)) → IsMadeBy v ops → IsListOf compared (IsSubscribed v) names → names ≡ subscribed_of ops
+pub names_by_set : (v : Subscriptions) (ops : List Op) (names : List (List ℕ)) → IsMadeBy v ops → IsListOf octet_order (IsSubscribed v) names → names ≡ subscribed_names_of ops
 names_by_set v ops names m h =
-    listed_in_order names_total names_same (IsSubscribed (subscriptions_by ops)) names (filter_map subscribed_at (present_tags ops))
-    (subst (λ (w : Subscriptions). IsListOf compared (IsSubscribed w) names) (made v ops m) h)
+    listed_in_order names_total names_same (IsSubscribed (subscriptions_by ops)) names (filter_map subscribed_name (present_tags ops))
+    (subst (λ (w : Subscriptions). IsListOf octet_order (IsSubscribed w) names) (made v ops m) h)
     (λ n. let e = subscribed_in ops n in (e.1, e.0))
 
 pub tags_by_set : (v : Subscriptions) (ops : List Op) (n : List ℕ) (ids : List OpId) → IsMadeBy v ops → IsListOf id_order (λ i. v n i ≡ true) ids → ids ≡ subscription_tags_of ops n

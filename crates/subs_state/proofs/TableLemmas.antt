@@ -10,10 +10,10 @@ use Rattle.std.proofs.lemmas.Slice.Eq.{bytes_eq-Decides}
 use Rattle.indexmap.specs.IndexSet.{spare}
 use Rattle.tags_clocks.specs.declared.id.OpId.{OpId}
 use Rattle.tags_clocks.proofs.Decide.{ids_decide}
-use Rattle.crdt_ops.specs.Order.{same_id}
-use Rattle.subs_state.specs.declared.table.NameTags.{NameTags}
+use Rattle.crdt_ops.specs.SortedSets.{same_id}
+use Rattle.subs_state.specs.declared.subs_table.NameTags.{NameTags}
 use Rattle.crdt_ops.specs.declared.op.Op.{Op}
-use Rattle.subs_state.specs.Entries.{held_at, ids_in, room_in, room_of, subscribes, tag_in}
+use Rattle.subs_state.specs.Entries.{ids_entry, ids_in, room_in, room_of, subscribes, tag_in}
 use Rattle.subs_state.specs.Keys.{is_among, is_at}
 
 abbrev Named : Type 0
@@ -32,7 +32,7 @@ itself : (name : List ℕ) → bytes_eq name name ≡ true
 itself name = (bytes_eq-Decides name name).1 (λ k. name)
 
 -- Another name's tags stay.
-beside : (name : List ℕ) (old new : List Named) → KeepsOthers same_key (has_name name) old new → (other : List ℕ) → bytes_eq other name ≡ false → held_at other new ≡ held_at other old
+beside : (name : List ℕ) (old new : List Named) → KeepsOthers same_key (has_name name) old new → (other : List ℕ) → bytes_eq other name ≡ false → ids_entry other new ≡ ids_entry other old
 unfolding KeepsOthers
 beside name old new keeps other d =
     keeps (has_name other)
@@ -40,30 +40,30 @@ beside name old new keeps other d =
     (λ k t. ap (bytes_eq other) (sym (same_name name k.items t)) ∙ d)
 
 -- What is true of one name's tags as they were and are, and of all that stays, is true of each name's.
-one_changed : (P : List ℕ → Option NameTags → Option NameTags → Type 0) (name : List ℕ) (old new : List Named) (a b : Option NameTags) → KeepsOthers same_key (has_name name) old new → held_at name old ≡ a → held_at name new ≡ b → P name a b → ((other : List ℕ) → bytes_eq other name ≡ false → (held : Option NameTags) → P other held held) → (n : List ℕ) → P n (held_at n old) (held_at n new)
+one_changed : (P : List ℕ → Option NameTags → Option NameTags → Type 0) (name : List ℕ) (old new : List Named) (a b : Option NameTags) → KeepsOthers same_key (has_name name) old new → ids_entry name old ≡ a → ids_entry name new ≡ b → P name a b → ((other : List ℕ) → bytes_eq other name ≡ false → (held : Option NameTags) → P other held held) → (n : List ℕ) → P n (ids_entry n old) (ids_entry n new)
 one_changed P name old new a b keeps was is here others n =
     elim (cases_Bool (bytes_eq n name)) [
       | inl t ↦
-          subst (λ (m : List ℕ). P m (held_at m old) (held_at m new)) (sym (same_name n name t))
-          (subst (λ (o : Option NameTags). P name o (held_at name new)) (sym was) (subst (P name a) (sym is) here))
-      | inr d ↦ subst (P n (held_at n old)) (sym (beside name old new keeps n d)) (others n d (held_at n old))
+          subst (λ (m : List ℕ). P m (ids_entry m old) (ids_entry m new)) (sym (same_name n name t))
+          (subst (λ (o : Option NameTags). P name o (ids_entry name new)) (sym was) (subst (P name a) (sym is) here))
+      | inr d ↦ subst (P n (ids_entry n old)) (sym (beside name old new keeps n d)) (others n d (ids_entry n old))
     ]
 
 -- One tag more of a name.
-pub put_found : (name : List ℕ) (id : OpId) (old new : List Named) (a b : NameTags) → KeepsOthers same_key (has_name name) old new → held_at name old ≡ Some a → held_at name new ≡ Some b → ((i : OpId) → list_any (same_id i) b.ids.keys ≡ (same_id i id || list_any (same_id i) a.ids.keys)) → (n : List ℕ) (i : OpId) → tag_in new n i ≡ (is_at n i name id || tag_in old n i)
+pub put_found : (name : List ℕ) (id : OpId) (old new : List Named) (a b : NameTags) → KeepsOthers same_key (has_name name) old new → ids_entry name old ≡ Some a → ids_entry name new ≡ Some b → ((i : OpId) → list_any (same_id i) b.ids.keys ≡ (same_id i id || list_any (same_id i) a.ids.keys)) → (n : List ℕ) (i : OpId) → tag_in new n i ≡ (is_at n i name id || tag_in old n i)
 put_found name id old new a b keeps was is says n i =
     one_changed (λ m o p. list_any (same_id i) (ids_in p) ≡ (is_at m i name id || list_any (same_id i) (ids_in o))) name old new (Some a) (Some b) keeps was is
     (says i ∙ ap (λ t. (t && same_id i id) || list_any (same_id i) a.ids.keys) (sym (itself name)))
     (λ other d held. ap (λ t. (t && same_id i id) || list_any (same_id i) (ids_in held)) (sym d)) n
 
-pub put_room : (name : List ℕ) (old new : List Named) (a b : NameTags) → KeepsOthers same_key (has_name name) old new → held_at name old ≡ Some a → held_at name new ≡ Some b → spare a.ids ≤ spare b.ids + 1 → (n : List ℕ) → room_of n old ≤ room_of n new + (if bytes_eq n name then 1 else 0)
+pub put_room : (name : List ℕ) (old new : List Named) (a b : NameTags) → KeepsOthers same_key (has_name name) old new → ids_entry name old ≡ Some a → ids_entry name new ≡ Some b → spare a.ids ≤ spare b.ids + 1 → (n : List ℕ) → room_of n old ≤ room_of n new + (if bytes_eq n name then 1 else 0)
 put_room name old new a b keeps was is says =
     one_changed (λ m o p. room_in o ≤ room_in p + (if bytes_eq m name then 1 else 0)) name old new (Some a) (Some b) keeps was is
     (subst (λ t. spare a.ids ≤ spare b.ids + (if t then 1 else 0)) (sym (itself name)) says)
     (λ other d held. omega arith)
 
 -- Tags of a name taken out.
-pub left_found : (name : List ℕ) (ids : List OpId) (old new : List Named) (a b : Option NameTags) → KeepsOthers same_key (has_name name) old new → held_at name old ≡ a → held_at name new ≡ b → ((i : OpId) → list_any (same_id i) (ids_in b) ≡ (not (list_any (same_id i) ids) && list_any (same_id i) (ids_in a))) → (n : List ℕ) (i : OpId) → tag_in new n i ≡ (not (is_among n i name ids) && tag_in old n i)
+pub left_found : (name : List ℕ) (ids : List OpId) (old new : List Named) (a b : Option NameTags) → KeepsOthers same_key (has_name name) old new → ids_entry name old ≡ a → ids_entry name new ≡ b → ((i : OpId) → list_any (same_id i) (ids_in b) ≡ (not (list_any (same_id i) ids) && list_any (same_id i) (ids_in a))) → (n : List ℕ) (i : OpId) → tag_in new n i ≡ (not (is_among n i name ids) && tag_in old n i)
 left_found name ids old new a b keeps was is says n i =
     one_changed (λ m o p. list_any (same_id i) (ids_in p) ≡ (not (is_among m i name ids) && list_any (same_id i) (ids_in o))) name old new a b keeps was is
     (says i ∙ ap (λ t. not (t && list_any (same_id i) ids) && list_any (same_id i) (ids_in a)) (sym (itself name)))
@@ -74,7 +74,7 @@ none_left true = refl
 none_left false = refl
 
 -- A name without tags loses none.
-pub none_found : (name : List ℕ) (ids : List OpId) (tags : List Named) → held_at name tags ≡ None → (n : List ℕ) (i : OpId) → tag_in tags n i ≡ (not (is_among n i name ids) && tag_in tags n i)
+pub none_found : (name : List ℕ) (ids : List OpId) (tags : List Named) → ids_entry name tags ≡ None → (n : List ℕ) (i : OpId) → tag_in tags n i ≡ (not (is_among n i name ids) && tag_in tags n i)
 none_found name ids tags was n i =
     elim (cases_Bool (bytes_eq n name)) [
       | inl t ↦
@@ -84,11 +84,11 @@ none_found name ids tags was n i =
     ]
 
 -- The same tags of a name, with other room.
-pub same_found : (name : List ℕ) (old new : List Named) (a b : Option NameTags) → KeepsOthers same_key (has_name name) old new → held_at name old ≡ a → held_at name new ≡ b → ids_in b ≡ ids_in a → (n : List ℕ) (i : OpId) → tag_in new n i ≡ tag_in old n i
+pub same_found : (name : List ℕ) (old new : List Named) (a b : Option NameTags) → KeepsOthers same_key (has_name name) old new → ids_entry name old ≡ a → ids_entry name new ≡ b → ids_in b ≡ ids_in a → (n : List ℕ) (i : OpId) → tag_in new n i ≡ tag_in old n i
 same_found name old new a b keeps was is same n i =
     one_changed (λ m o p. list_any (same_id i) (ids_in p) ≡ list_any (same_id i) (ids_in o)) name old new a b keeps was is (ap (list_any (same_id i)) same) (λ other d held. refl) n
 
-pub room_kept : (name : List ℕ) (old new : List Named) (a b : Option NameTags) → KeepsOthers same_key (has_name name) old new → held_at name old ≡ a → held_at name new ≡ b → room_in a ≤ room_in b → (n : List ℕ) → room_of n old ≤ room_of n new
+pub room_kept : (name : List ℕ) (old new : List Named) (a b : Option NameTags) → KeepsOthers same_key (has_name name) old new → ids_entry name old ≡ a → ids_entry name new ≡ b → room_in a ≤ room_in b → (n : List ℕ) → room_of n old ≤ room_of n new
 room_kept name old new a b keeps was is less =
     one_changed (λ m o p. room_in o ≤ room_in p) name old new a b keeps was is less (λ other d held. omega arith)
 

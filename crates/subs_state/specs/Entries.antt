@@ -8,12 +8,12 @@ use Rattle.tags_clocks.specs.declared.id.OpId.{OpId}
 use Rattle.crdt_ops.specs.declared.kind.Kind.{Kind}
 use Rattle.crdt_ops.specs.declared.kind.Kind.TheVariants.{Create, Delete, Append, Expunge, Store, Subscribe, Unsubscribe}
 use Rattle.crdt_ops.specs.declared.op.Op.{Op}
-use Rattle.crdt_ops.specs.Order.{same_id}
-use Rattle.subs_state.specs.declared.table.NameTags.{NameTags}
+use Rattle.crdt_ops.specs.SortedSets.{same_id}
+use Rattle.subs_state.specs.declared.subs_table.NameTags.{NameTags}
 
 -- What is kept of a name, where it is in the table.
-abbrev pub held_at : List ℕ → List (Vec ℕ × NameTags) → Option NameTags
-held_at name tags = lookup (λ (key : Vec ℕ). bytes_eq name key.items) tags
+abbrev pub ids_entry : List ℕ → List (Vec ℕ × NameTags) → Option NameTags
+ids_entry name tags = lookup (λ (key : Vec ℕ). bytes_eq name key.items) tags
 
 -- The ids that are kept of a name.
 abbrev pub ids_in : Option NameTags → List OpId
@@ -22,7 +22,7 @@ ids_in (Some held) = held.ids.keys
 
 -- Whether there is a tag of this name and id.
 abbrev pub tag_in : List (Vec ℕ × NameTags) → List ℕ → OpId → Bool
-tag_in tags name id = list_any (same_id id) (ids_in (held_at name tags))
+tag_in tags name id = list_any (same_id id) (ids_in (ids_entry name tags))
 
 -- The name of an entry with ids.
 abbrev pub name_with_ids : Vec ℕ × NameTags → Option (List ℕ)
@@ -35,7 +35,7 @@ room_in (Some held) = spare held.ids
 
 -- How many tags more of a name fit with no more memory.
 abbrev pub room_of : List ℕ → List (Vec ℕ × NameTags) → ℕ
-room_of name tags = room_in (held_at name tags)
+room_of name tags = room_in (ids_entry name tags)
 
 -- Whether the kind is a Subscribe to this name.
 abbrev pub is_subscribe : List ℕ → Kind → Bool

@@ -2,7 +2,7 @@ use Rattle.std.specs.Prelude.{ℕ, Bool, ◌&&◌, List}
 use Rattle.std.specs.List.{list_any}
 use Rattle.std.specs.Str.{bytes_eq}
 use Rattle.tags_clocks.specs.declared.id.OpId.{OpId}
-use Rattle.crdt_ops.specs.Order.{same_id}
+use Rattle.crdt_ops.specs.SortedSets.{same_id}
 
 -- Whether the name and the id are these.
 abbrev pub is_at : List ℕ → OpId → List ℕ → OpId → Bool

@@ -2,7 +2,7 @@
 
 ghost use Rattle.std.specs.Prelude.{◌≡◌, List};
 ghost use Rattle.merge_laws.specs.Orders.{AreSound, GivesOneValue, IsCausal, fold_of};
-ghost use Rattle.crdt_ops.specs.declared.op.Op.{Op as Operation};
+ghost use Rattle.crdt_ops.specs.declared.op.Op.{Op};
 ghost use Rattle.crdt_ops.specs.Sound.{IsSound};
 ghost use Rattle.folder_state.specs.Contents.{Contents};
 ghost use Rattle.folder_state.specs.Contents as folders;
@@ -29,5 +29,5 @@ pub fn whole_state_for_all_orders()
 
 /// A causal list of sound operations leaves in empty subscriptions the present subscription tags of the set of them.
 pub fn subscriptions_follow_the_set()
-    ensures { (ops : List Operation) → AreSound IsSound ops → IsCausal id_of clock_of ops → fold_of effect_of no_subscriptions ops ≡ subscriptions_by ops }
+    ensures { (ops : List Op) → AreSound IsSound ops → IsCausal id_of clock_of ops → fold_of effect_of no_subscriptions ops ≡ subscriptions_by ops }
 {}

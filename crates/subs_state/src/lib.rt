@@ -6,7 +6,7 @@
 
 mod laws;
 mod subs;
-mod table;
+mod subs_table;
 
 pub use laws::{subs_for_all_orders, subscriptions_follow_the_set, whole_state_for_all_orders};
 pub use subs::Subs;

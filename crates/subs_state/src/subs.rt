@@ -1,6 +1,6 @@
 //! The replicated subscriptions.
 
-use crate::table::{NameTags, forget_removed, keep_added, make_room, subscribed_names, tag_ids};
+use crate::subs_table::{NameTags, remove_tags_of, add_tag_of, make_room, subscribed_names, tag_ids};
 use crdt_ops::{Ids, SoundOp};
 use imap_types::Name;
 use indexmap::IndexMap;
@@ -22,10 +22,10 @@ impl Drop for Subs {
 
 impl Subs {
     ghost use Rattle.std.specs.Prelude.{◌≡◌, List, IfOk, true};
-    ghost use Rattle.imap_types.specs.Ascending.{compared};
-    ghost use Rattle.crdt_ops.specs.declared.op.Op.{Op as Operation};
-    ghost use Rattle.crdt_ops.specs.Order.{IsListOf, id_order};
-    ghost use Rattle.crdt_ops.specs.Sets.{subscribed_of, subscription_tags_of};
+    ghost use Rattle.imap_types.specs.Ascending.{octet_order};
+    ghost use Rattle.crdt_ops.specs.declared.op.Op.{Op};
+    ghost use Rattle.crdt_ops.specs.SortedSets.{IsListOf, id_order};
+    ghost use Rattle.crdt_ops.specs.Sets.{subscribed_names_of, subscription_tags_of};
     ghost use Rattle.subs_state.specs.Subscriptions.{IsMadeBy, IsSubscribed, no_subscriptions};
     ghost use Rattle.subs_state.specs.Table.{subscriptions_of};
 
@@ -40,8 +40,8 @@ impl Subs {
 
     /// The names that are subscribed to, ascending by octets; `Err` where there is no memory for them.
     pub fn names(&self, alloc: Global) -> Result<Vec<Name>, AllocError>
-        ensures contents { IfOk result (λ names. IsListOf compared (IsSubscribed (subscriptions_of self.now)) names.items) }
-        ensures set { (ops : List Operation) → IsMadeBy (subscriptions_of self.now) ops → IfOk result (λ names. names.items ≡ subscribed_of ops) }
+        ensures contents { IfOk result (λ names. IsListOf octet_order (IsSubscribed (subscriptions_of self.now)) names.items) }
+        ensures set { (ops : List Op) → IsMadeBy (subscriptions_of self.now) ops → IfOk result (λ names. names.items ≡ subscribed_names_of ops) }
     {
         let names = subscribed_names(alloc, &self.tags)?;
         Ok(names)
@@ -51,7 +51,7 @@ impl Subs {
     /// them.
     pub fn tags(&self, alloc: Global, name: &Name) -> Result<Ids, AllocError>
         ensures contents { IfOk result (λ ids. IsListOf id_order (λ i. subscriptions_of self.now name.now i ≡ true) ids) }
-        ensures set { (ops : List Operation) → IsMadeBy (subscriptions_of self.now) ops → IfOk result (λ ids. ids ≡ subscription_tags_of ops name.now) }
+        ensures set { (ops : List Op) → IsMadeBy (subscriptions_of self.now) ops → IfOk result (λ ids. ids ≡ subscription_tags_of ops name.now) }
     {
         let ids = tag_ids(alloc, &self.tags, name)?;
         Ok(ids)
@@ -85,7 +85,7 @@ impl Replicated for Subs {
 
     fn apply(&mut self, op: &SoundOp) {
         let op = op.op();
-        forget_removed(&mut self.tags, op);
-        keep_added(&mut self.tags, op);
+        remove_tags_of(&mut self.tags, op);
+        add_tag_of(&mut self.tags, op);
     }
 }

@@ -11,7 +11,7 @@ use Rattle.std.specs.Option.{SomeIff}
 use Rattle.std.specs.Result.{OkIff, result_ok}
 use Rattle.std.specs.Str.{IsUtf8}
 use Rattle.std.specs.Str.Parse.{ParsesUnsigned, digits_value}
-use Rattle.text_fields.specs.Reading.{◌>>=◌, cut_at, has_no_leading_zero, id_at, in_front, number_at, pair_at, positive, replica_at}
+use Rattle.text_fields.specs.FieldReading.{◌>>=◌, cut_at, has_no_leading_zero, id_at, in_front, number_at, pair_at, positive, replica_at}
 use Rattle.text_fields.specs.Fields.{IsEntry, IsId, IsNumber, IsReplica, entry_text, id_text}
 use Rattle.tags_clocks.specs.declared.id.OpId.{OpId}
 

@@ -11,16 +11,16 @@ use Rattle.imap_types.specs.declared.flags.Flags.{Flags}
 use Rattle.crdt_ops.specs.declared.kind.Kind.{Kind}
 use Rattle.crdt_ops.specs.declared.kind.Kind.TheVariants.{Append, Store}
 use Rattle.crdt_ops.specs.declared.op.Op.{Op}
-use Rattle.crdt_ops.specs.Order.{same_id}
-use Rattle.crdt_ops.specs.Sets.{Body, body_by, folders_of, origins_of}
-use Rattle.crdt_ops.specs.Tags.{MessageTag, added_by, is_some_tag, name_of}
+use Rattle.crdt_ops.specs.SortedSets.{same_id}
+use Rattle.crdt_ops.specs.Sets.{MessageTagData, tag_data_by, folders_of, origins_of}
+use Rattle.crdt_ops.specs.Tags.{MessageTag, tag_added_by, is_some_tag, name_of}
 use Rattle.crdt_ops.proofs.VersionLemmas.{origins_listed}
-use Rattle.uid_projection.specs.declared.start.Start.{Start}
+use Rattle.uid_projection.specs.declared.first_numbers.Counters.{Counters}
 use Rattle.uid_projection.specs.Applied.{IsApplied}
 use Rattle.uid_projection.specs.Exhaustion.{Exhausts, IsExhausted, LacksK, LacksUid}
-use Rattle.uid_projection.specs.History.{counted_all}
-use Rattle.uid_projection.specs.Incarnations.{begins, is_there}
-use Rattle.uid_projection.specs.Lines.{begins_line, begins_line_of, first_uid, has_version, holds_of, origin_added, uidnext_of}
+use Rattle.uid_projection.specs.Counting.{count_all}
+use Rattle.uid_projection.specs.Incarnations.{begins_incarnation, folder_exists}
+use Rattle.uid_projection.specs.UidsAndModSeqs.{begins_line, begins_line_of_origin, first_uid, has_version, holds_of_some, origin_added, uidnext_of}
 use Rattle.uid_projection.proofs.HistoryLemmas.{once, all-append}
 use Rattle.uid_projection.proofs.Presence.{applied_front, same_bool, there_in}
 use Rattle.uid_projection.proofs.Steps.{uidnext_gone, uidnext_here}
@@ -34,17 +34,17 @@ behind list front through o e = ap (λ xs. list ++ xs) e ∙ sym (append_assoc l
 pub applied_before : (list front through : List Op) (o : Op) → through ≡ front ++ o ∷ [] → IsApplied (list ++ through) → IsApplied (list ++ front)
 applied_before list front through o e a = applied_front (list ++ front) (o ∷ []) (subst IsApplied (behind list front through o e) a)
 
-pub there_as : (n : List ℕ) (ops : List Op) (r : Bool) → (r ≡ true) ↔ IsIn n (folders_of ops) → r ≡ is_there n ops
-there_as n ops r h = let l = there_in n ops in same_bool r (is_there n ops) (λ t. l.1 (h.0 t)) (λ t. h.1 (l.0 t))
+pub there_as : (n : List ℕ) (ops : List Op) (r : Bool) → (r ≡ true) ↔ IsIn n (folders_of ops) → r ≡ folder_exists n ops
+there_as n ops r h = let l = there_in n ops in same_bool r (folder_exists n ops) (λ t. l.1 (h.0 t)) (λ t. h.1 (l.0 t))
 
-pub begins_told : (list front through : List Op) (o : Op) (n : List ℕ) (a b : Bool) → through ≡ front ++ o ∷ [] → n ≡ name_of o.kind → a ≡ is_there n (list ++ through) → b ≡ is_there n (list ++ front) → (a && not b) ≡ begins (list ++ front) o
+pub begins_told : (list front through : List Op) (o : Op) (n : List ℕ) (a b : Bool) → through ≡ front ++ o ∷ [] → n ≡ name_of o.kind → a ≡ folder_exists n (list ++ through) → b ≡ folder_exists n (list ++ front) → (a && not b) ≡ begins_incarnation (list ++ front) o
 begins_told list front through o n a b e own x y =
-    (λ i. (x ∙ (λ k. is_there (own k) (behind list front through o e k))) i && not ((y ∙ ap (λ m. is_there m (list ++ front)) own) i))
+    (λ i. (x ∙ (λ k. folder_exists (own k) (behind list front through o e k))) i && not ((y ∙ ap (λ m. folder_exists m (list ++ front)) own) i))
 
-pub uid_told : (start : Start) (folder : List ℕ) (list front through : List Op) (o : Op) (there begun : Bool) (first uid r : ℕ) → through ≡ front ++ o ∷ [] → first ≡ first_uid start folder → there ≡ is_there folder (list ++ through) → begun ≡ begins_line folder (list ++ front) o → uid ≡ uidnext_of start folder (list ++ front) → r ≡ cond there (cond begun (uid + 1) uid) first → r ≡ uidnext_of start folder (list ++ through)
+pub uid_told : (start : Counters) (folder : List ℕ) (list front through : List Op) (o : Op) (there begun : Bool) (first uid r : ℕ) → through ≡ front ++ o ∷ [] → first ≡ first_uid start folder → there ≡ folder_exists folder (list ++ through) → begun ≡ begins_line folder (list ++ front) o → uid ≡ uidnext_of start folder (list ++ front) → r ≡ cond there (cond begun (uid + 1) uid) first → r ≡ uidnext_of start folder (list ++ through)
 uid_told start folder list front through o there begun first uid r e f x y u k =
     let w = behind list front through o e in
-    let is = x ∙ ap (is_there folder) w in
+    let is = x ∙ ap (folder_exists folder) w in
     k ∙ elim (cases_Bool there) [
       | inl t ↦
           let h = uidnext_here start folder (list ++ front) o (sym is ∙ t) in
@@ -60,11 +60,11 @@ uid_told start folder list front through o there begun first uid r e f x y u k =
     plus true n = refl
     plus false n = omega arith
 
-pub k_told : (start : Start) (list front through : List Op) (o : Op) (b : Bool) (k r : ℕ) → through ≡ front ++ o ∷ [] → b ≡ begins (list ++ front) o → k ≡ start.k + counted_all begins (list ++ front) → r ≡ k + once b → r ≡ start.k + counted_all begins (list ++ through)
+pub k_told : (start : Counters) (list front through : List Op) (o : Op) (b : Bool) (k r : ℕ) → through ≡ front ++ o ∷ [] → b ≡ begins_incarnation (list ++ front) o → k ≡ start.k + count_all begins_incarnation (list ++ front) → r ≡ k + once b → r ≡ start.k + count_all begins_incarnation (list ++ through)
 k_told start list front through o b k r e x y z =
-    let m = all-append begins (list ++ front) o in
-    let w : counted_all begins (list ++ through) ≡ counted_all begins ((list ++ front) ++ o ∷ []) = ap (counted_all begins) (behind list front through o e) in
-    let v : once b ≡ once (begins (list ++ front) o) = ap once x in
+    let m = all-append begins_incarnation (list ++ front) o in
+    let w : count_all begins_incarnation (list ++ through) ≡ count_all begins_incarnation ((list ++ front) ++ o ∷ []) = ap (count_all begins_incarnation) (behind list front through o e) in
+    let v : once b ≡ once (begins_incarnation (list ++ front) o) = ap once x in
     omega (arith, m, w, v, y, z)
 
 once_bound : (b : Bool) → once b ≤ 1
@@ -72,23 +72,23 @@ once_bound true = omega arith
 once_bound false = omega arith
 
 -- so many operations take no more UIDs, and begin no more incarnations
-pub uid_bound : (start : Start) (folder : List ℕ) (front list : List Op) (n : ℕ) → uidnext_of start folder list ≤ n → first_uid start folder ≤ n → uidnext_of start folder (list ++ front) ≤ n + length front
+pub uid_bound : (start : Counters) (folder : List ℕ) (front list : List Op) (n : ℕ) → uidnext_of start folder list ≤ n → first_uid start folder ≤ n → uidnext_of start folder (list ++ front) ≤ n + length front
 uid_bound start folder [] list n u f = let e = ap (uidnext_of start folder) (append-nil list) in omega (arith, u, e)
 uid_bound start folder (o ∷ front) list n u f =
     let e = ap (uidnext_of start folder) (append_assoc list (o ∷ []) front) in
-    let step : uidnext_of start folder (list ++ o ∷ []) ≤ n + 1 = elim (cases_Bool (is_there folder (list ++ o ∷ []))) [
+    let step : uidnext_of start folder (list ++ o ∷ []) ≤ n + 1 = elim (cases_Bool (folder_exists folder (list ++ o ∷ []))) [
       | inl t ↦ let h = uidnext_here start folder list o t in let b = once_bound (begins_line folder list o) in omega (arith, h, b, u)
       | inr g ↦ let h = uidnext_gone start folder list o g in omega (arith, h, f)
     ] in
     let r = uid_bound start folder front (list ++ o ∷ []) (n + 1) step (omega (arith, f)) in
     omega (arith, r, e)
 
-pub k_bound : (front list : List Op) → counted_all begins (list ++ front) ≤ counted_all begins list + length front
-k_bound [] list = let e = ap (counted_all begins) (append-nil list) in omega (arith, e)
+pub k_bound : (front list : List Op) → count_all begins_incarnation (list ++ front) ≤ count_all begins_incarnation list + length front
+k_bound [] list = let e = ap (count_all begins_incarnation) (append-nil list) in omega (arith, e)
 k_bound (o ∷ front) list =
-    let e = ap (counted_all begins) (append_assoc list (o ∷ []) front) in
-    let m = all-append begins list o in
-    let b = once_bound (begins list o) in
+    let e = ap (count_all begins_incarnation) (append_assoc list (o ∷ []) front) in
+    let m = all-append begins_incarnation list o in
+    let b = once_bound (begins_incarnation list o) in
     let r = k_bound front (list ++ o ∷ []) in
     omega (arith, r, e, m, b)
 
@@ -100,19 +100,19 @@ has_as folder ops g r h =
     let v = version_in folder ops g in
     same_bool r (has_version folder g ops) (λ t. v.1 (n.0 (h.0 t))) (λ t. h.1 (n.1 (v.0 t)))
 
-origin_put : (b c : Bool) (x : Body) → c ≡ true → option_map (λ (y : Body). y.origin) (cond (b && c) (Some x) None) ≡ cond b (Some x.origin) None
-origin_put true c x h = λ j. option_map (λ (y : Body). y.origin) (cond (h j) (Some x) None)
+origin_put : (b c : Bool) (x : MessageTagData) → c ≡ true → option_map (λ (y : MessageTagData). y.origin) (cond (b && c) (Some x) None) ≡ cond b (Some x.origin) None
+origin_put true c x h = λ j. option_map (λ (y : MessageTagData). y.origin) (cond (h j) (Some x) None)
 origin_put false c x h = refl
 
 -- a line begins where the origin that is added has no version before
 begins_chosen : (folder : List ℕ) (ops : List Op) (o : Op) → IsApplied (ops ++ o ∷ []) → (b : Bool) (g : OpId) → origin_added folder o ≡ cond b (Some g) None → (b && not (has_version folder g ops)) ≡ begins_line folder ops o
 begins_chosen folder ops o a true g e =
     let later : has_version folder g (ops ++ o ∷ []) ≡ true = (version_in folder (ops ++ o ∷ []) g).1 (o.id, version_added folder ops o a g e) in
-    sym (ap (holds_of (λ x. begins_line_of folder x ops o)) e ∙ (λ j. later j && not (has_version folder g ops)))
-begins_chosen folder ops o a false g e = sym (ap (holds_of (λ x. begins_line_of folder x ops o)) e)
+    sym (ap (holds_of_some (λ x. begins_line_of_origin folder x ops o)) e ∙ (λ j. later j && not (has_version folder g ops)))
+begins_chosen folder ops o a false g e = sym (ap (holds_of_some (λ x. begins_line_of_origin folder x ops o)) e)
 
 abbrev origin_by : List ℕ → OpId → Kind → Option OpId
-origin_by folder id kind = option_map (λ (y : Body). y.origin) (cond (is_some_tag (MessageTag folder id) (added_by id kind)) (body_by id kind) None)
+origin_by folder id kind = option_map (λ (y : MessageTagData). y.origin) (cond (is_some_tag (MessageTag folder id) (tag_added_by id kind)) (tag_data_by id kind) None)
 
 pub begins_append : (folder : List ℕ) (ops : List Op) (o : Op) → IsApplied (ops ++ o ∷ []) → (name : List ℕ) (flags : Flags) (date text : List ℕ) → o.kind ≡ Append name flags date text → bytes_eq folder name ≡ begins_line folder ops o
 begins_append folder ops o a name flags date text is =
@@ -137,21 +137,21 @@ pub applied_take : (list ops : List Op) (n : ℕ) → IsApplied (list ++ ops) �
 applied_take list ops n a = applied_front (list ++ take n ops) (drop n ops) (subst IsApplied (ap (λ xs. list ++ xs) (sym (take-append-drop n ops)) ∙ sym (append_assoc list (take n ops) (drop n ops))) a)
 
 -- far from a counter's end
-pub k_far : (start : Start) (list front : List Op) (o : Op) (next_k : ℕ) → next_k ≤ 65535 → length front ≤ 65535 - next_k → next_k ≡ start.k + counted_all begins list → (false ≡ true) ↔ LacksK start (list ++ front) o
+pub k_far : (start : Counters) (list front : List Op) (o : Op) (next_k : ℕ) → next_k ≤ 65535 → length front ≤ 65535 - next_k → next_k ≡ start.k + count_all begins_incarnation list → (false ≡ true) ↔ LacksK start (list ++ front) o
 k_far start list front o next_k l m is =
     let b = k_bound front list in
-    (λ h. absurd (false≢true h), λ w. let v = w.1 in absurd (impossible (start.k + counted_all begins (list ++ front)) v (omega (arith, b, is, l, m))))
+    (λ h. absurd (false≢true h), λ w. let v = w.1 in absurd (impossible (start.k + count_all begins_incarnation (list ++ front)) v (omega (arith, b, is, l, m))))
   where
     impossible : (n : ℕ) → 65535 < n → n ≤ 65535 → ⊥
     impossible n a b = omega (arith, a, b)
 
-pub k_near : (start : Start) (list front : List Op) (o : Op) (k : ℕ) (b : Bool) → b ≡ true → b ≡ begins (list ++ front) o → k ≡ start.k + counted_all begins (list ++ front) → (nat_lt 65535 k ≡ true) ↔ LacksK start (list ++ front) o
+pub k_near : (start : Counters) (list front : List Op) (o : Op) (k : ℕ) (b : Bool) → b ≡ true → b ≡ begins_incarnation (list ++ front) o → k ≡ start.k + count_all begins_incarnation (list ++ front) → (nat_lt 65535 k ≡ true) ↔ LacksK start (list ++ front) o
 k_near start list front o k b t e is = (
   λ h. (sym e ∙ t, subst (λ n. 65535 < n) is (ltb-true 65535 k h)),
   λ w. lt-ltb 65535 k (subst (λ n. 65535 < n) (sym is) w.1),
 )
 
-pub uid_far : (start : Start) (list front : List Op) (o : Op) (folder : List ℕ) (first now : ℕ) → folder ≡ name_of o.kind → nat_le (4294967295 - first) (length front) ≡ false → nat_le (4294967295 - now) (length front) ≡ false → first ≡ first_uid start folder → now ≡ uidnext_of start folder list → (false ≡ true) ↔ LacksUid start (list ++ front) o
+pub uid_far : (start : Counters) (list front : List Op) (o : Op) (folder : List ℕ) (first now : ℕ) → folder ≡ name_of o.kind → nat_le (4294967295 - first) (length front) ≡ false → nat_le (4294967295 - now) (length front) ≡ false → first ≡ first_uid start folder → now ≡ uidnext_of start folder list → (false ≡ true) ↔ LacksUid start (list ++ front) o
 uid_far start list front o folder first now own f n is next =
     let x = leb-false (4294967295 - first) (length front) f in
     let y = leb-false (4294967295 - now) (length front) n in
@@ -162,7 +162,7 @@ uid_far start list front o folder first now own f n is next =
     impossible : (n : ℕ) → n ≡ 4294967295 → n < 4294967295 → ⊥
     impossible n a b = omega (arith, a, b)
 
-pub uid_near : (start : Start) (list front : List Op) (o : Op) (folder : List ℕ) (b : Bool) (r : ℕ) → folder ≡ name_of o.kind → b ≡ true → b ≡ begins_line folder (list ++ front) o → r ≡ uidnext_of start folder (list ++ front) → (nat_eq r 4294967295 ≡ true) ↔ LacksUid start (list ++ front) o
+pub uid_near : (start : Counters) (list front : List Op) (o : Op) (folder : List ℕ) (b : Bool) (r : ℕ) → folder ≡ name_of o.kind → b ≡ true → b ≡ begins_line folder (list ++ front) o → r ≡ uidnext_of start folder (list ++ front) → (nat_eq r 4294967295 ≡ true) ↔ LacksUid start (list ++ front) o
 uid_near start list front o folder b r own t e is = (
   λ h. (ap (λ n. begins_line n (list ++ front) o) (sym own) ∙ sym e ∙ t, ap (λ n. uidnext_of start n (list ++ front)) (sym own) ∙ sym is ∙ eqb-true r 4294967295 h),
   λ w. eq-eqb r 4294967295 (is ∙ ap (λ n. uidnext_of start n (list ++ front)) own ∙ w.1),
@@ -170,12 +170,12 @@ uid_near start list front o folder b r own t e is = (
 
 -- ---- the first one that lacks a number
 
-pub none_exhausted : (start : Start) (list : List Op) → Exhausts start list [] → ⊥
+pub none_exhausted : (start : Counters) (list : List Op) → Exhausts start list [] → ⊥
 none_exhausted start list ([], o, back, e, x) = absurd cc
 none_exhausted start list (y ∷ front, o, back, e, x) = absurd cc
 
 -- one of these lacks a number behind those in front of it
-pub exhausted_at : (start : Start) (list ops : List Op) (at : ℕ) (o : Op) → take (at + 1) ops ≡ take at ops ++ o ∷ [] → IsExhausted start (list ++ take at ops) o → Exhausts start list ops
+pub exhausted_at : (start : Counters) (list ops : List Op) (at : ℕ) (o : Op) → take (at + 1) ops ≡ take at ops ++ o ∷ [] → IsExhausted start (list ++ take at ops) o → Exhausts start list ops
 exhausted_at start list ops at o next h =
     (take at ops, o, drop (at + 1) ops, sym (take-append-drop (at + 1) ops) ∙ ap (λ xs. xs ++ drop (at + 1) ops) next ∙ append_assoc (take at ops) (o ∷ []) (drop (at + 1) ops), h)
 
@@ -192,7 +192,7 @@ last_cut (y ∷ xs) (z ∷ front) back x o e =
       | inr w ↦ inr (w.0, (λ i. k i ∷ w.1 i))
     ]
 
-pub more_exhausted : (start : Start) (list xs : List Op) (x : Op) → Exhausts start list (xs ++ x ∷ []) → Exhausts start list xs ⊎ IsExhausted start (list ++ xs) x
+pub more_exhausted : (start : Counters) (list xs : List Op) (x : Op) → Exhausts start list (xs ++ x ∷ []) → Exhausts start list xs ⊎ IsExhausted start (list ++ xs) x
 more_exhausted start list xs x (front, o, back, e, h) =
     elim (last_cut xs front back x o e) [
       | inl w ↦ inr (subst (λ (p : Op). IsExhausted start (list ++ xs) p) (sym w.1) (subst (λ (ys : List Op). IsExhausted start (list ++ ys) o) (sym w.0) h))

@@ -6,17 +6,17 @@ use Rattle.imap_types.specs.Names.{inbox}
 use Rattle.tags_clocks.specs.declared.id.OpId.{OpId}
 use Rattle.merge_laws.specs.Orders.{IsIn}
 use Rattle.crdt_ops.specs.declared.op.Op.{Op}
-use Rattle.crdt_ops.specs.Order.{id_order, in_order}
+use Rattle.crdt_ops.specs.SortedSets.{id_order, sorted_set}
 use Rattle.crdt_ops.specs.Sets.{origins_of}
 use Rattle.crdt_ops.proofs.OrderLemmas.{id_order_same, id_order_total, one_ascending}
 use Rattle.crdt_ops.proofs.VersionLemmas.{origins_listed}
-use Rattle.mail_listing.specs.Listed.{Listed}
-use Rattle.uid_projection.specs.declared.start.Start.{Start}
+use Rattle.mailbox_rows.specs.ListedMessage.{ListedMessage}
+use Rattle.uid_projection.specs.declared.first_numbers.Counters.{Counters}
 use Rattle.uid_projection.specs.Applied.{IsApplied}
-use Rattle.uid_projection.specs.Incarnations.{is_there, k_of, uidvalidity_of}
-use Rattle.uid_projection.specs.Lines.{begins_line, begins_line_of, changes_versions, concerns, concerns_by, has_version, uid_of}
-use Rattle.uid_projection.specs.Listing.{listed_of, listed_origins, listing}
-use Rattle.uid_projection.specs.Touched.{AreElsewhere, IsShownAlike, LeaveOthers}
+use Rattle.uid_projection.specs.Incarnations.{folder_exists, k_of, uidvalidity_of}
+use Rattle.uid_projection.specs.UidsAndModSeqs.{begins_line, begins_line_of_origin, changes_versions, names_folder, kind_names_folder, has_version, uid_of}
+use Rattle.uid_projection.specs.Listing.{listed_message_of, listed_origins, listing}
+use Rattle.uid_projection.specs.TouchedMessages.{AreAboutOthers, IsShownAlike, LeaveOthers}
 use Rattle.uid_projection.proofs.ChartSteps.{none_there}
 use Rattle.uid_projection.proofs.HistoryLemmas.{once, counted-none}
 use Rattle.uid_projection.proofs.Listed.{listed_in, row_in}
@@ -32,7 +32,7 @@ map_alike : {X Y : Type 0} (f g : X → Y) (xs : List X) → ((x : X) → IsIn x
 map_alike f g [] h = refl
 map_alike f g (x ∷ xs) h = λ k. h x (inl refl) k ∷ map_alike f g xs (λ y i. h y (inr i)) k
 
-nobody : (rows : List Listed) → ((x : Listed) → IsIn x rows → ⊥) → rows ≡ []
+nobody : (rows : List ListedMessage) → ((x : ListedMessage) → IsIn x rows → ⊥) → rows ≡ []
 nobody [] h = refl
 nobody (x ∷ rows) h = absurd (h x (inl refl))
 
@@ -42,7 +42,7 @@ and_not false = refl
 
 -- ---- one operation that isn't about the folder
 
-module _ (start : Start) (folder : List ℕ) (list : List Op) (o : Op) (a : IsApplied (list ++ o ∷ [])) (other : concerns_by folder o.kind ≡ false) where
+module _ (start : Counters) (folder : List ℕ) (list : List Op) (o : Op) (a : IsApplied (list ++ o ∷ [])) (other : kind_names_folder folder o.kind ≡ false) where
   still : (g : OpId) → changes_versions folder g list o ≡ false
   still g = other_unchanged folder list o a g other
 
@@ -70,21 +70,21 @@ module _ (start : Start) (folder : List ℕ) (list : List Op) (o : Op) (a : IsAp
   no_line : begins_line folder list o ≡ false
   no_line = false_from_ne_true (begins_line folder list o) (λ t. false≢true (sym other ∙ line_about folder list o t))
 
-  no_line_of : (g : OpId) → begins_line_of folder g list o ≡ false
+  no_line_of : (g : OpId) → begins_line_of_origin folder g list o ≡ false
   no_line_of g = ap (λ b. b && not (has_version folder g list)) (version_still g) ∙ and_not (has_version folder g list)
 
   -- where the folder is there
-  module _ (t : is_there folder (list ++ o ∷ []) ≡ true) where
+  module _ (t : folder_exists folder (list ++ o ∷ []) ≡ true) where
     uid_still : (g : OpId) → uid_of start folder (list ++ o ∷ []) g ≡ uid_of start folder list g
     uid_still g = uid_kept start folder list o g t (no_line_of g)
 
     listed_still : listed_origins start folder (list ++ o ∷ []) ≡ listed_origins start folder list
-    listed_still = λ k. in_order (λ x y. ordering_then (nat_cmp (uid_still x k) (uid_still y k)) (id_order x y)) (origins_still k)
+    listed_still = λ k. sorted_set (λ x y. ordering_then (nat_cmp (uid_still x k) (uid_still y k)) (id_order x y)) (origins_still k)
 
     rows_still : listing start folder (list ++ o ∷ []) ≡ listing start folder list
     rows_still =
-        ap (map (listed_of start folder (list ++ o ∷ []))) listed_still
-        ∙ map_alike (listed_of start folder (list ++ o ∷ [])) (listed_of start folder list) (listed_origins start folder list)
+        ap (map (listed_message_of start folder (list ++ o ∷ []))) listed_still
+        ∙ map_alike (listed_message_of start folder (list ++ o ∷ [])) (listed_message_of start folder list) (listed_origins start folder list)
         (λ g i. row_kept folder list o a start g t (still g) ((listed_in start folder list g).0 i))
 
     alike_there : IsShownAlike start folder list (list ++ o ∷ [])
@@ -92,7 +92,7 @@ module _ (start : Start) (folder : List ℕ) (list : List Op) (o : Op) (a : IsAp
         let n = uidnext_here start folder list o t in
         let m = highest_here folder list o t in
         let z : once (begins_line folder list o) ≡ 0 = ap once no_line in
-        let y : once (concerns folder list o) ≡ 0 = ap once other in
+        let y : once (names_folder folder list o) ≡ 0 = ap once other in
         let w = other_there folder list o a other in
         let q = k_here start folder list o t in
         record {
@@ -104,19 +104,19 @@ module _ (start : Start) (folder : List ℕ) (list : List Op) (o : Op) (a : IsAp
 
 -- ---- a folder that isn't there
 
-module _ (start : Start) (folder : List ℕ) (list : List Op) (f : is_there folder list ≡ false) where
+module _ (start : Counters) (folder : List ℕ) (list : List Op) (f : folder_exists folder list ≡ false) where
   rows_away : listing start folder list ≡ []
   rows_away = nobody (listing start folder list) (λ x i. let w = row_in start folder list x i in none_there start folder list f w.0 w.1)
 
   validity_away : uidvalidity_of start folder list ≡ cond (bytes_eq folder inbox) (Some start.replica) None
   validity_away = ap (λ t. cond (bytes_eq folder inbox) (Some start.replica) (cond t (Some (65536 * k_of start folder list + start.replica)) None)) f
 
-alike_away : (start : Start) (folder : List ℕ) (list behind : List Op) → is_there folder list ≡ false → is_there folder behind ≡ false → IsShownAlike start folder list behind
+alike_away : (start : Counters) (folder : List ℕ) (list behind : List Op) → folder_exists folder list ≡ false → folder_exists folder behind ≡ false → IsShownAlike start folder list behind
 alike_away start folder list behind f g =
-    let u = counted-none (is_there folder) (begins_line folder) list f in
-    let v = counted-none (is_there folder) (begins_line folder) behind g in
-    let m = counted-none (is_there folder) (concerns folder) list f in
-    let n = counted-none (is_there folder) (concerns folder) behind g in
+    let u = counted-none (folder_exists folder) (begins_line folder) list f in
+    let v = counted-none (folder_exists folder) (begins_line folder) behind g in
+    let m = counted-none (folder_exists folder) (names_folder folder) list f in
+    let n = counted-none (folder_exists folder) (names_folder folder) behind g in
     record {
       rows = rows_away start folder behind g ∙ sym (rows_away start folder list f);
       uidvalidity = validity_away start folder behind g ∙ sym (validity_away start folder list f);
@@ -126,14 +126,14 @@ alike_away start folder list behind f g =
 
 -- ---- operations that aren't about it
 
-alike_step : (start : Start) (folder : List ℕ) (list : List Op) (o : Op) → IsApplied (list ++ o ∷ []) → concerns_by folder o.kind ≡ false → IsShownAlike start folder list (list ++ o ∷ [])
+alike_step : (start : Counters) (folder : List ℕ) (list : List Op) (o : Op) → IsApplied (list ++ o ∷ []) → kind_names_folder folder o.kind ≡ false → IsShownAlike start folder list (list ++ o ∷ [])
 alike_step start folder list o a other =
-    elim (cases_Bool (is_there folder (list ++ o ∷ []))) [
+    elim (cases_Bool (folder_exists folder (list ++ o ∷ []))) [
       | inl t ↦ alike_there start folder list o a other t
       | inr f ↦ alike_away start folder list (list ++ o ∷ []) (sym (other_there folder list o a other) ∙ f) f
     ]
 
-alike_all : (start : Start) (folder : List ℕ) (ops list : List Op) → IsApplied (list ++ ops) → AreElsewhere folder ops → IsShownAlike start folder list (list ++ ops)
+alike_all : (start : Counters) (folder : List ℕ) (ops list : List Op) → IsApplied (list ++ ops) → AreAboutOthers folder ops → IsShownAlike start folder list (list ++ ops)
 alike_all start folder [] list a e = subst (IsShownAlike start folder list) (sym (append-nil list)) (record { rows = refl; uidvalidity = refl; uidnext = refl; highest = refl })
 alike_all start folder (o ∷ ops) list a e =
     let whole : (list ++ o ∷ []) ++ ops ≡ list ++ o ∷ ops = append_assoc list (o ∷ []) ops in
@@ -147,5 +147,5 @@ alike_all start folder (o ∷ ops) list a e =
       highest = y.highest ∙ x.highest;
     })
 
-pub leave_others : (start : Start) → LeaveOthers start
+pub leave_others : (start : Counters) → LeaveOthers start
 leave_others start folder list ops a e = alike_all start folder ops list a e

@@ -9,29 +9,29 @@ use Rattle.std.proofs.lemmas.Bool.{cases_Bool, false≢true}
 use Rattle.imap_types.specs.declared.flags.Flags.{Flags}
 use Rattle.tags_clocks.specs.declared.id.OpId.{OpId}
 use Rattle.merge_laws.specs.Orders.{IsIn}
-use Rattle.crdt_ops.specs.Order.{is_some_id, same_id}
-use Rattle.crdt_ops.specs.Sets.{Body}
+use Rattle.crdt_ops.specs.SortedSets.{is_some_id, same_id}
+use Rattle.crdt_ops.specs.Sets.{MessageTagData}
 use Rattle.crdt_ops.proofs.Members.{any_in, in_map}
 use Rattle.imap_types.specs.declared.version.Version.{Version}
 use Rattle.imap_types.specs.Unions.{version_ids}
-use Rattle.folder_state.specs.Kept.{Kept as Folder, body_in_folder}
-use Rattle.uid_projection.specs.declared.changes.Change.{Change}
-use Rattle.uid_projection.specs.declared.messages.MessagesAhead.{MessagesAhead}
-use Rattle.uid_projection.specs.Changes.{AreFound, Grows, HasOrigin, IsListed, IsWhole, bodies_of, body_over, borne, change_of, changed, ids_listed, is_version, kept_of, list_of, origin_of}
+use Rattle.folder_state.specs.FolderTables.{FolderTables, body_in_folder}
+use Rattle.uid_projection.specs.declared.tag_changes.TagChange.{TagChange}
+use Rattle.uid_projection.specs.declared.messages_ahead.MessagesAhead.{MessagesAhead}
+use Rattle.uid_projection.specs.TagChanges.{AreFound, Grows, HasOrigin, IsListed, IsWhole, bodies_of, body_over, body_lent, change_of, after_change, ids_listed, is_version, kept_of, list_of, origin_of}
 use Rattle.uid_projection.proofs.IdLemmas.{own_id, same_is}
 
 abbrev Changed : Type 0
-Changed = List (OpId × Change)
+Changed = List (OpId × TagChange)
 
 abbrev Lists : Type 0
 Lists = List (OpId × Vec OpId)
 
 -- one change more
-module _ (kept : Option Folder) (id : OpId) (change : Change) (old new : Changed) (is : (i : OpId) → lookup (same_id i) new ≡ cond (same_id id i) (Some change) (lookup (same_id i) old)) where
-  pub body_changed : (i : OpId) → body_over new kept i ≡ cond (same_id id i) (borne change) (body_over old kept i)
-  body_changed i = ap (λ (x : Option Change). changed (body_in_folder kept i) (option_map borne x)) (is i) ∙ step (same_id id i)
+module _ (kept : Option FolderTables) (id : OpId) (change : TagChange) (old new : Changed) (is : (i : OpId) → lookup (same_id i) new ≡ cond (same_id id i) (Some change) (lookup (same_id i) old)) where
+  pub body_changed : (i : OpId) → body_over new kept i ≡ cond (same_id id i) (body_lent change) (body_over old kept i)
+  body_changed i = ap (λ (x : Option TagChange). after_change (body_in_folder kept i) (option_map body_lent x)) (is i) ∙ step (same_id id i)
     where
-      step : (b : Bool) → changed (body_in_folder kept i) (option_map borne (cond b (Some change) (lookup (same_id i) old))) ≡ cond b (borne change) (body_over old kept i)
+      step : (b : Bool) → after_change (body_in_folder kept i) (option_map body_lent (cond b (Some change) (lookup (same_id i) old))) ≡ cond b (body_lent change) (body_over old kept i)
       step true = refl
       step false = refl
 
@@ -49,8 +49,8 @@ module _ (kept : Option Folder) (id : OpId) (change : Change) (old new : Changed
     listed = λ i x e s. elim (cases_Bool (same_id id i)) [
       | inl t ↦
           let k : change ≡ x = (let q = sym (here i t) ∙ e in cc) in
-          subst (λ (x : Change). IsListed i (lookup (same_id x.origin) after)) k
-          (subst (λ j. IsListed j (lookup (same_id change.origin) after)) (same_is id i t) (listed (subst (λ (x : Change). IsSome x.flags) (sym k) s)))
+          subst (λ (x : TagChange). IsListed i (lookup (same_id x.origin) after)) k
+          (subst (λ j. IsListed j (lookup (same_id change.origin) after)) (same_is id i t) (listed (subst (λ (x : TagChange). IsSome x.flags) (sym k) s)))
       | inr f ↦ grows.listed x.origin i (h.listed i x (sym (beside i f) ∙ e) s)
     ];
     touched = λ i o s k. elim (cases_Bool (same_id id i)) [
@@ -59,7 +59,7 @@ module _ (kept : Option Folder) (id : OpId) (change : Change) (old new : Changed
     ];
   }
 
-pub found_grown : (kept : Option Folder) (changes : Changed) (before after : Lists) → Grows before after → AreFound changes before kept → AreFound changes after kept
+pub found_grown : (kept : Option FolderTables) (changes : Changed) (before after : Lists) → Grows before after → AreFound changes before kept → AreFound changes after kept
 found_grown kept changes before after grows h = record {
   listed = λ i x e s. grows.listed x.origin i (h.listed i x e s);
   touched = λ i o s k. grows.touched o (h.touched i o s k);
@@ -74,29 +74,29 @@ version_is o (Some i) h = ap (λ z. Some z) (sym (same_is o i h))
 pub is_version_of : (o : OpId) (x : Option OpId) → x ≡ Some o → is_some_id o x ≡ true
 is_version_of o x e = ap (is_some_id o) e ∙ own_id o
 
-pub any_version : {X : Type 0} (id : X → OpId) (bodies : OpId → Option Body) (o : OpId) (xs : List X) → list_any (λ x. is_version bodies o (id x)) xs ≡ true → HasOrigin bodies o
+pub any_version : {X : Type 0} (id : X → OpId) (bodies : OpId → Option MessageTagData) (o : OpId) (xs : List X) → list_any (λ x. is_version bodies o (id x)) xs ≡ true → HasOrigin bodies o
 any_version id bodies o xs h =
     let w = (any_in (λ x. is_version bodies o (id x)) xs).0 h in
     (id w.0, version_is o (origin_of (bodies (id w.0))) w.2)
 
-pub no_version : {X : Type 0} (id : X → OpId) (bodies : OpId → Option Body) (o : OpId) (xs : List X) → list_any (λ x. is_version bodies o (id x)) xs ≡ false → (x : X) → IsIn x xs → origin_of (bodies (id x)) ≡ Some o → ⊥
+pub no_version : {X : Type 0} (id : X → OpId) (bodies : OpId → Option MessageTagData) (o : OpId) (xs : List X) → list_any (λ x. is_version bodies o (id x)) xs ≡ false → (x : X) → IsIn x xs → origin_of (bodies (id x)) ≡ Some o → ⊥
 no_version id bodies o xs h x t e = false≢true (sym h ∙ (any_in (λ x. is_version bodies o (id x)) xs).1 (x, t, is_version_of o (origin_of (bodies (id x))) e))
 
-pub no_version_id : (bodies : OpId → Option Body) (o : OpId) (vs : List Version) → list_any (λ v. is_version bodies o v.id) vs ≡ false → (i : OpId) → IsIn i (version_ids vs) → origin_of (bodies i) ≡ Some o → ⊥
+pub no_version_id : (bodies : OpId → Option MessageTagData) (o : OpId) (vs : List Version) → list_any (λ v. is_version bodies o v.id) vs ≡ false → (i : OpId) → IsIn i (version_ids vs) → origin_of (bodies i) ≡ Some o → ⊥
 no_version_id bodies o vs h i t e =
     let w = (in_map (λ (v : Version). v.id) vs i).0 t in
     no_version (λ (v : Version). v.id) bodies o vs h w.0 w.1 (ap (λ z. origin_of (bodies z)) w.2 ∙ e)
 
 -- a version of an origin is kept and not changed, or was put in and is listed
-pub whence : (m : MessagesAhead) (o i : OpId) → IsWhole m → origin_of (bodies_of m i) ≡ Some o → (x : Option Change) → change_of m i ≡ x
-    → ((x ≡ None) × (origin_of (body_in_folder (kept_of m) i) ≡ Some o)) ⊎ ((change : Change) × (change_of m i ≡ Some change) × (origin_of (borne change) ≡ Some o) × IsIn i (ids_listed (list_of m o)))
-whence m o i whole e None x = inl (refl, ap (λ (x : Option Change). origin_of (changed (body_in_folder (kept_of m) i) (option_map borne x))) (sym x) ∙ e)
+pub whence : (m : MessagesAhead) (o i : OpId) → IsWhole m → origin_of (bodies_of m i) ≡ Some o → (x : Option TagChange) → change_of m i ≡ x
+    → ((x ≡ None) × (origin_of (body_in_folder (kept_of m) i) ≡ Some o)) ⊎ ((change : TagChange) × (change_of m i ≡ Some change) × (origin_of (body_lent change) ≡ Some o) × IsIn i (ids_listed (list_of m o)))
+whence m o i whole e None x = inl (refl, ap (λ (x : Option TagChange). origin_of (after_change (body_in_folder (kept_of m) i) (option_map body_lent x))) (sym x) ∙ e)
 whence m o i whole e (Some change) x =
-    let b : origin_of (borne change) ≡ Some o = ap (λ (x : Option Change). origin_of (changed (body_in_folder (kept_of m) i) (option_map borne x))) (sym x) ∙ e in
+    let b : origin_of (body_lent change) ≡ Some o = ap (λ (x : Option TagChange). origin_of (after_change (body_in_folder (kept_of m) i) (option_map body_lent x))) (sym x) ∙ e in
     let p = put_parts change.flags change.origin o b in
     inr (change, x, b, listed_in i (list_of m o) (subst (λ z. IsListed i (list_of m z)) p.1 (whole.listed i change x p.0)))
   where
-    put_parts : (flags : Option (Bor Flags)) (a o : OpId) → origin_of (borne (record { flags = flags; origin = a })) ≡ Some o → IsSome flags × (a ≡ o)
+    put_parts : (flags : Option (Bor Flags)) (a o : OpId) → origin_of (body_lent (record { flags = flags; origin = a })) ≡ Some o → IsSome flags × (a ≡ o)
     put_parts None a o h = absurd cc
     put_parts (Some f) a o h = (cc, cc)
 

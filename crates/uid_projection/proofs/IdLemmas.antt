@@ -11,8 +11,8 @@ use Rattle.tags_clocks.specs.declared.id.OpId.{OpId}
 use Rattle.tags_clocks.proofs.Decide.{ids_decide}
 use Rattle.merge_laws.specs.Orders.{IsIn}
 use Rattle.merge_laws.proofs.Lists.{in_parts}
-use Rattle.crdt_ops.specs.Order.{same_id}
-use Rattle.uid_projection.specs.Changes.{at_key}
+use Rattle.crdt_ops.specs.SortedSets.{same_id}
+use Rattle.uid_projection.specs.TagChanges.{value_at_key}
 
 pub same_is : (i j : OpId) → same_id i j ≡ true → i ≡ j
 same_is i j h = (ids_decide i j).0 h
@@ -112,16 +112,16 @@ key_place i (e ∷ es) h =
       | inr f ↦ let w = key_place i es (subst (λ b. IsSome (cond b (Some e.1) (lookup (same_id i) es))) f h) in (suc w.0, w.1, w.2, w.3)
     ]
 
-pub at_key_some : {X : Type 0} (test : Option X → Bool) (es : List (OpId × X)) (x : Option (OpId × X)) → at_key test es x ≡ true → (i : OpId) × (test (lookup (same_id i) es) ≡ true)
+pub at_key_some : {X : Type 0} (test : Option X → Bool) (es : List (OpId × X)) (x : Option (OpId × X)) → value_at_key test es x ≡ true → (i : OpId) × (test (lookup (same_id i) es) ≡ true)
 at_key_some test es None h = absurd (false≢true h)
 at_key_some test es (Some e) h = (e.0, h)
 
 -- no place has it, so no key
-pub at_no_key : {X : Type 0} (test : Option X → Bool) (es : List (OpId × X)) → (test None ≡ true → ⊥) → ((place : ℕ) → at_key test es (slice_get es place) ≡ false) → (i : OpId) → test (lookup (same_id i) es) ≡ true → ⊥
+pub at_no_key : {X : Type 0} (test : Option X → Bool) (es : List (OpId × X)) → (test None ≡ true → ⊥) → ((place : ℕ) → value_at_key test es (slice_get es place) ≡ false) → (i : OpId) → test (lookup (same_id i) es) ≡ true → ⊥
 at_no_key {X} test es none h i t = at (lookup (same_id i) es) refl
   where
     at : (x : Option X) → lookup (same_id i) es ≡ x → ⊥
     at None e = none (ap test (sym e) ∙ t)
     at (Some v) e =
         let w = key_place i es (subst IsSome (sym e) cc) in
-        false≢true (sym (h w.0) ∙ ap (at_key test es) w.2 ∙ ap (λ z. test (lookup (same_id z) es)) w.3 ∙ t)
+        false≢true (sym (h w.0) ∙ ap (value_at_key test es) w.2 ∙ ap (λ z. test (lookup (same_id z) es)) w.3 ∙ t)

@@ -5,8 +5,8 @@ use Rattle.std.specs.Map.{KeepsOthers, lookup}
 use Rattle.std.proofs.lemmas.Bool.{cases_Bool, false≢true, false_from_ne_true}
 use Rattle.tags_clocks.specs.declared.id.OpId.{OpId}
 use Rattle.merge_laws.specs.Orders.{IsIn}
-use Rattle.crdt_ops.specs.Order.{same_id}
-use Rattle.uid_projection.specs.Changes.{Grows, IsListed}
+use Rattle.crdt_ops.specs.SortedSets.{same_id}
+use Rattle.uid_projection.specs.TagChanges.{Grows, IsListed}
 use Rattle.uid_projection.proofs.IdLemmas.{own_id, same_is}
 
 abbrev Lists : Type 0

@@ -5,26 +5,26 @@ use Rattle.std.specs.Ordering.{match_ordering}
 use Rattle.std.specs.declared.cmp.Ordering.{Ordering}
 use Rattle.std.specs.declared.cmp.Ordering.TheVariants.{Less, Equal, Greater}
 use Rattle.std.proofs.lemmas.Bool.{and_from, and_parts}
-use Rattle.imap_types.specs.Ascending.{compared}
+use Rattle.imap_types.specs.Ascending.{octet_order}
 use Rattle.imap_types.specs.declared.flags.Flags.{Flags}
-use Rattle.imap_types.specs.Keywords.{is_lawful_keyword, with_text}
+use Rattle.imap_types.specs.Keywords.{is_lawful_keyword, with_word}
 use Rattle.imap_types.specs.Flags.{IsLawfulFlags}
 use Rattle.tags_clocks.specs.declared.id.OpId.{OpId}
 use Rattle.merge_laws.specs.Orders.{IsIn}
 use Rattle.merge_laws.proofs.Lists.{id_of_element, in_parts}
-use Rattle.mail_listing.specs.Listed.{Listed}
+use Rattle.mailbox_rows.specs.ListedMessage.{ListedMessage}
 use Rattle.crdt_ops.specs.declared.kind.Kind.{Kind}
 use Rattle.crdt_ops.specs.declared.kind.Kind.TheVariants.{Create, Delete, Append, Expunge, Store, Subscribe, Unsubscribe}
 use Rattle.crdt_ops.specs.declared.op.Op.{Op}
-use Rattle.crdt_ops.specs.Sets.{Body, body_by, body_from, body_of, message_of, tag_flags_of, versions_of}
+use Rattle.crdt_ops.specs.Sets.{MessageTagData, tag_data_by, tag_data_from, tag_data_of, message_of, tag_flags_of, versions_of}
 use Rattle.crdt_ops.specs.Sound.{HasLawfulFlags}
 use Rattle.crdt_ops.specs.Tags.{MessageTag, adds, removes}
 use Rattle.crdt_ops.specs.TagLaws.{adds_own}
 use Rattle.crdt_ops.proofs.Members.{any_in, in_filter_map}
 use Rattle.crdt_ops.proofs.Presence.{Has, id_of}
 use Rattle.crdt_ops.proofs.VersionLemmas.{versions_listed}
-use Rattle.uid_projection.specs.declared.start.Start.{Start}
-use Rattle.uid_projection.specs.Listing.{AreKeywordsLawful, AreNamesApplied}
+use Rattle.uid_projection.specs.declared.first_numbers.Counters.{Counters}
+use Rattle.uid_projection.specs.Listing.{AreKeywordsLawful, AreIdsApplied}
 use Rattle.uid_projection.proofs.Listed.{row_in}
 use Rattle.uid_projection.proofs.Versions.{body_chosen, given_by, origin_applied, version_in}
 
@@ -38,24 +38,24 @@ one_at_least : {X : Type 0} (x : X) (xs : List X) → IsIn x xs → 1 ≤ length
 one_at_least x [] i = absurd i
 one_at_least x (y ∷ xs) i = omega arith
 
-pub names_applied : (start : Start) → AreNamesApplied start
+pub names_applied : (start : Counters) → AreIdsApplied start
 names_applied start folder ops row a i =
     let w = row_in start folder ops row i in
     let l = versions_listed ops folder w.0 in
     let v = (version_in folder ops w.0).0 w.1 in (
       λ id h.
-          let u = (l.1 id).0 (subst (IsIn id) (sym (ap (λ (r : Listed). r.versions) w.2)) h) in
+          let u = (l.1 id).0 (subst (IsIn id) (sym (ap (λ (r : ListedMessage). r.versions) w.2)) h) in
           own_there folder ops id (and_parts (list_any (adds (MessageTag folder id)) ops) (not (list_any (removes (MessageTag folder id)) ops)) u.0).0,
-      subst (Has ops) (ap (λ (r : Listed). r.origin) w.2) (origin_applied folder ops w.0 a w.1),
-      subst (λ (is : List OpId). 1 ≤ length is) (ap (λ (r : Listed). r.versions) w.2) (one_at_least v.0 (versions_of ops folder w.0) ((l.1 v.0).1 v.1)),
+      subst (Has ops) (ap (λ (r : ListedMessage). r.origin) w.2) (origin_applied folder ops w.0 a w.1),
+      subst (λ (is : List OpId). 1 ≤ length is) (ap (λ (r : ListedMessage). r.versions) w.2) (one_at_least v.0 (versions_of ops folder w.0) ((l.1 v.0).1 v.1)),
     )
 
-flags_by : (id : OpId) (kind : Kind) (b : Body) → HasLawfulFlags kind → body_by id kind ≡ Some b → IsLawfulFlags b.flags
+flags_by : (id : OpId) (kind : Kind) (b : MessageTagData) → HasLawfulFlags kind → tag_data_by id kind ≡ Some b → IsLawfulFlags b.flags
 flags_by id (Create folder) b h e = absurd cc
 flags_by id (Delete folder seen) b h e = absurd cc
-flags_by id (Append folder flags date text) b h e = let k : record { flags = flags; origin = id } ≡ b = cc in subst (λ (x : Body). IsLawfulFlags x.flags) k h
+flags_by id (Append folder flags date text) b h e = let k : record { flags = flags; origin = id } ≡ b = cc in subst (λ (x : MessageTagData). IsLawfulFlags x.flags) k h
 flags_by id (Expunge folder olds) b h e = absurd cc
-flags_by id (Store folder flags olds origin) b h e = let k : record { flags = flags; origin = origin } ≡ b = cc in subst (λ (x : Body). IsLawfulFlags x.flags) k h
+flags_by id (Store folder flags olds origin) b h e = let k : record { flags = flags; origin = origin } ≡ b = cc in subst (λ (x : MessageTagData). IsLawfulFlags x.flags) k h
 flags_by id (Subscribe folder) b h e = absurd cc
 flags_by id (Unsubscribe folder seen) b h e = absurd cc
 
@@ -73,7 +73,7 @@ in_flat : {X Y : Type 0} (f : X → List Y) (xs : List X) (y : Y) → IsIn y (fl
 in_flat f [] y h = absurd h
 in_flat f (x ∷ xs) y h = elim (in_parts y (f x) (flat_map f xs) h) [ inl i ↦ (x, inl refl, i) | inr i ↦ let w = in_flat f xs y i in (w.0, inr w.1, w.2) ]
 
-flags_some : (x : Option Body) (flags : Flags) → option_map (λ (b : Body). b.flags) x ≡ Some flags → (b : Body) × (x ≡ Some b) × (b.flags ≡ flags)
+flags_some : (x : Option MessageTagData) (flags : Flags) → option_map (λ (b : MessageTagData). b.flags) x ≡ Some flags → (b : MessageTagData) × (x ≡ Some b) × (b.flags ≡ flags)
 flags_some None flags h = absurd (let k = h in cc)
 flags_some (Some b) flags h = let k : b.flags ≡ flags = cc in (b, refl, k)
 
@@ -84,13 +84,13 @@ all_step p w v vs more Less a h m = and_from (p w) (p v && list_all p vs) a h
 all_step p w v vs more Equal a h m = h
 all_step p w v vs more Greater a h m = and_from (p v) (list_all p more) (and_parts (p v) (list_all p vs) h).0 m
 
-all_with : (p : List ℕ → Bool) (w : List ℕ) (vs : List (List ℕ)) → p w ≡ true → list_all p vs ≡ true → list_all p (with_text w vs) ≡ true
+all_with : (p : List ℕ → Bool) (w : List ℕ) (vs : List (List ℕ)) → p w ≡ true → list_all p vs ≡ true → list_all p (with_word w vs) ≡ true
 all_with p w [] a h = and_from (p w) true a refl
-all_with p w (v ∷ vs) a h = all_step p w v vs (with_text w vs) (compared w v) a h (all_with p w vs a (and_parts (p v) (list_all p vs) h).1)
+all_with p w (v ∷ vs) a h = all_step p w v vs (with_word w vs) (octet_order w v) a h (all_with p w vs a (and_parts (p v) (list_all p vs) h).1)
 
-all_folded : (p : List ℕ → Bool) (start words : List (List ℕ)) → list_all p start ≡ true → list_all p words ≡ true → list_all p (fold (λ done word. with_text word done) start words) ≡ true
+all_folded : (p : List ℕ → Bool) (start words : List (List ℕ)) → list_all p start ≡ true → list_all p words ≡ true → list_all p (fold (λ done word. with_word word done) start words) ≡ true
 all_folded p start [] a h = a
-all_folded p start (w ∷ ws) a h = let q = and_parts (p w) (list_all p ws) h in all_folded p (with_text w start) ws (all_with p w start q.0 a) q.1
+all_folded p start (w ∷ ws) a h = let q = and_parts (p w) (list_all p ws) h in all_folded p (with_word w start) ws (all_with p w start q.0 a) q.1
 
 -- ---- the flags of a message
 
@@ -103,17 +103,17 @@ keywords_have p ops folder g h =
     of_all p u.0.keywords (h u.0 u.1) word u.2))
 
 -- each version's flags are carried by an operation
-pub flags_carried : (ops : List Op) (folder : List ℕ) (g : OpId) (flags : Flags) → IsIn flags (filter_map (tag_flags_of ops folder) (versions_of ops folder g)) → (o : Op) × (b : Body) × IsIn o ops × (body_by o.id o.kind ≡ Some b) × (b.flags ≡ flags)
+pub flags_carried : (ops : List Op) (folder : List ℕ) (g : OpId) (flags : Flags) → IsIn flags (filter_map (tag_flags_of ops folder) (versions_of ops folder g)) → (o : Op) × (b : MessageTagData) × IsIn o ops × (tag_data_by o.id o.kind ≡ Some b) × (b.flags ≡ flags)
 flags_carried ops folder g flags i =
     let v = (in_filter_map (tag_flags_of ops folder) (versions_of ops folder g) flags).0 i in
-    let b = flags_some (body_of ops folder v.0) flags v.2 in
-    let z = given_by (body_from folder v.0) ops b.0 b.1 in
-    (z.0, b.0, z.1, body_chosen (adds (MessageTag folder v.0) z.0) (body_by z.0.id z.0.kind) b.0 z.2, b.2)
+    let b = flags_some (tag_data_of ops folder v.0) flags v.2 in
+    let z = given_by (tag_data_from folder v.0) ops b.0 b.1 in
+    (z.0, b.0, z.1, body_chosen (adds (MessageTag folder v.0) z.0) (tag_data_by z.0.id z.0.kind) b.0 z.2, b.2)
 
-pub keywords_lawful : (start : Start) → AreKeywordsLawful start
+pub keywords_lawful : (start : Counters) → AreKeywordsLawful start
 keywords_lawful start folder ops row a i =
     let w = row_in start folder ops row i in
-    subst (λ (r : Listed). list_all is_lawful_keyword r.flags.keywords ≡ true) w.2 (keywords_have is_lawful_keyword ops folder w.0 (λ flags j.
+    subst (λ (r : ListedMessage). list_all is_lawful_keyword r.flags.keywords ≡ true) w.2 (keywords_have is_lawful_keyword ops folder w.0 (λ flags j.
     let v = flags_carried ops folder w.0 flags j in
     let by = flags_by v.0.id v.0.kind v.1 (a.sound v.0 v.2).flags v.3 in
     subst (λ (f : Flags). list_all is_lawful_keyword f.keywords ≡ true) v.4 by.1))

@@ -8,47 +8,47 @@ use Rattle.std.proofs.lemmas.Bool.{cases_Bool, cases_order}
 use Rattle.tags_clocks.specs.declared.id.OpId.{OpId}
 use Rattle.merge_laws.specs.Orders.{IsIn}
 use Rattle.crdt_ops.specs.declared.message.Message.{Message}
-use Rattle.crdt_ops.specs.Order.{same_id}
-use Rattle.crdt_ops.specs.Sets.{Body, Letter, no_letter}
+use Rattle.crdt_ops.specs.SortedSets.{same_id}
+use Rattle.crdt_ops.specs.Sets.{MessageTagData, DatedText, no_dated_text}
 use Rattle.crdt_ops.proofs.Members.{in_map}
 use Rattle.imap_types.specs.declared.version.Version.{Version}
-use Rattle.imap_types.specs.Unions.{union_of, united, version_ids}
-use Rattle.mail_listing.specs.Listing.{epoch}
-use Rattle.mail_listing.specs.Telling.{first_of, told_by, told_in}
-use Rattle.mail_listing.specs.declared.mailbox.HeldMessage.{HeldMessage}
+use Rattle.imap_types.specs.Unions.{union_of, united_flags, version_ids}
+use Rattle.mailbox_rows.specs.RowViews.{epoch}
+use Rattle.mailbox_rows.specs.MessageData.{first_of, owned_message_data, kept_message_data}
+use Rattle.mailbox_rows.specs.declared.folder_messages.OwnedMessage.{OwnedMessage}
 use Rattle.folder_state.specs.Contents.{AreVersions, Contents, HasVersion, IsMessageOf, IsVersion, flags_in, message_in}
-use Rattle.folder_state.specs.Kept.{body_in_folder}
+use Rattle.folder_state.specs.FolderTables.{body_in_folder}
 use Rattle.folder_state.specs.Tables.{contents_of}
-use Rattle.folder_state.specs.Telling.{message_told}
-use Rattle.uid_projection.specs.declared.changes.Change.{Change}
-use Rattle.uid_projection.specs.declared.changes.LentLetter.{LentLetter}
-use Rattle.uid_projection.specs.declared.folder.FolderAhead.{FolderAhead}
-use Rattle.uid_projection.specs.declared.folder.MailboxAhead.{MailboxAhead}
-use Rattle.uid_projection.specs.declared.messages.MessagesAhead.{MessagesAhead}
-use Rattle.uid_projection.specs.FolderAhead.{IsAhead, IsHeld, IsHeldAt, IsOrderly, letters_ahead, message_ahead}
-use Rattle.uid_projection.specs.Changes.{IsWhole, bodies_of, change_of, changed, ids_listed, kept_of, list_of, origin_of, written}
+use Rattle.folder_state.specs.LentMessages.{message_of_data}
+use Rattle.uid_projection.specs.declared.tag_changes.TagChange.{TagChange}
+use Rattle.uid_projection.specs.declared.tag_changes.LentDatedText.{LentDatedText}
+use Rattle.uid_projection.specs.declared.folder_ahead.FolderAhead.{FolderAhead}
+use Rattle.uid_projection.specs.declared.folder_ahead.MailboxAhead.{MailboxAhead}
+use Rattle.uid_projection.specs.declared.messages_ahead.MessagesAhead.{MessagesAhead}
+use Rattle.uid_projection.specs.FolderAhead.{IsAhead, IsHeld, IsHeldAt, IsOrderly, dated_texts_ahead, message_ahead}
+use Rattle.uid_projection.specs.TagChanges.{IsWhole, bodies_of, change_of, after_change, ids_listed, kept_of, list_of, origin_of, change_value}
 use Rattle.uid_projection.proofs.FoundLemmas.{whence}
 use Rattle.uid_projection.proofs.IdLemmas.{behind_all, key_place, own_id, same_is}
 use Rattle.uid_projection.proofs.PlaceLemmas.{left_body}
 
 abbrev Fresh : Type 0
-Fresh = List (OpId × HeldMessage)
+Fresh = List (OpId × OwnedMessage)
 
 -- ---- the message of an origin, with versions of its own
 
 flags_found : (c : Contents) (f : List ℕ) (o : OpId) (vs : List Version) → ((v : Version) → IsIn v vs → c.bodies f v.id ≡ Some (record { flags = v.flags; origin = o })) → map (λ (v : Version). v.flags) vs ≡ filter_map (flags_in c f) (version_ids vs)
 flags_found c f o [] h = refl
-flags_found c f o (v ∷ vs) h = λ k. cons_option (option_map (λ (b : Body). b.flags) (sym (h v (inl refl)) k)) (flags_found c f o vs (λ w t. h w (inr t)) k)
+flags_found c f o (v ∷ vs) h = λ k. cons_option (option_map (λ (b : MessageTagData). b.flags) (sym (h v (inl refl)) k)) (flags_found c f o vs (λ w t. h w (inr t)) k)
 
-date_of : (x : Option Letter) → unwrap_or (option_map (λ (l : Letter). l.date) x) epoch ≡ (unwrap_or x no_letter).date
+date_of : (x : Option DatedText) → unwrap_or (option_map (λ (l : DatedText). l.date) x) epoch ≡ (unwrap_or x no_dated_text).date
 date_of None = refl
 date_of (Some l) = refl
 
-text_of : (x : Option Letter) → unwrap_or (option_map (λ (l : Letter). l.text) x) [] ≡ (unwrap_or x no_letter).text
+text_of : (x : Option DatedText) → unwrap_or (option_map (λ (l : DatedText). l.text) x) [] ≡ (unwrap_or x no_dated_text).text
 text_of None = refl
 text_of (Some l) = refl
 
-pub held_told : (a : FolderAhead) (c : Contents) (o : OpId) (m : HeldMessage) → IsAhead c a → IsHeld a o m → HasVersion c a.name o → IsMessageOf c a.name o (Some (message_told o (told_by m)))
+pub held_told : (a : FolderAhead) (c : Contents) (o : OpId) (m : OwnedMessage) → IsAhead c a → IsHeld a o m → HasVersion c a.name o → IsMessageOf c a.name o (Some (message_of_data o (owned_message_data m)))
 held_told a c o m h held has =
     let n = a.name in
     let vs = m.versions.items in
@@ -62,11 +62,11 @@ held_told a c o m h held has =
         λ e. all.all i (ap origin_of (h.bodies i) ∙ e),
       ),
     ) in
-    let flags : united vs ≡ union_of (filter_map (flags_in c n) (version_ids vs)) = ap union_of (flags_found c n o vs carried) in
-    let date : unwrap_or (option_map (λ date. date.now) m.date) epoch ≡ (unwrap_or (c.letters o) no_letter).date =
-    ap (λ x. unwrap_or x epoch) (held.date ∙ ap (option_map (λ (l : Letter). l.date)) (h.letters o)) ∙ date_of (c.letters o) in
-    let text : unwrap_or (option_map (λ text. text.now) m.text) [] ≡ (unwrap_or (c.letters o) no_letter).text =
-    ap (λ x. unwrap_or x []) (held.text ∙ ap (option_map (λ (l : Letter). l.text)) (h.letters o)) ∙ text_of (c.letters o) in
+    let flags : united_flags vs ≡ union_of (filter_map (flags_in c n) (version_ids vs)) = ap union_of (flags_found c n o vs carried) in
+    let date : unwrap_or (option_map (λ date. date.now) m.date) epoch ≡ (unwrap_or (c.letters o) no_dated_text).date =
+    ap (λ x. unwrap_or x epoch) (held.date ∙ ap (option_map (λ (l : DatedText). l.date)) (h.letters o)) ∙ date_of (c.letters o) in
+    let text : unwrap_or (option_map (λ text. text.now) m.text) [] ≡ (unwrap_or (c.letters o) no_dated_text).text =
+    ap (λ x. unwrap_or x []) (held.text ∙ ap (option_map (λ (l : DatedText). l.text)) (h.letters o)) ∙ text_of (c.letters o) in
     (refl, has, (listed, λ k. record { origin = o; versions = version_ids vs; flags = flags k; date = date k; text = text k }))
 
 -- ---- a message that is as it is kept
@@ -85,10 +85,10 @@ module _ (c v : Contents) (n : List ℕ) (o : OpId) (after : (i : OpId) → IsVe
   same_whole : (m : Message) → c.letters o ≡ v.letters o → AreVersions v n o m.versions → m ≡ message_in v n o m.versions → AreVersions c n o m.versions × (m ≡ message_in c n o m.versions)
   same_whole m letters versions is =
       let flags : filter_map (flags_in v n) m.versions ≡ filter_map (flags_in c n) m.versions =
-      filter_map_same (flags_in v n) (flags_in c n) m.versions (λ i t. sym (ap (option_map (λ (b : Body). b.flags)) (before i ((versions.1 i).0 t)))) in
+      filter_map_same (flags_in v n) (flags_in c n) m.versions (λ i t. sym (ap (option_map (λ (b : MessageTagData). b.flags)) (before i ((versions.1 i).0 t)))) in
       let back : v.letters o ≡ c.letters o = sym letters in (
         (versions.0, λ i. (λ t. now_version i ((versions.1 i).0 t), λ e. (versions.1 i).1 (then_version i e))),
-        is ∙ (λ k. record { origin = o; versions = m.versions; flags = union_of (flags k); date = (unwrap_or (back k) no_letter).date; text = (unwrap_or (back k) no_letter).text }),
+        is ∙ (λ k. record { origin = o; versions = m.versions; flags = union_of (flags k); date = (unwrap_or (back k) no_dated_text).date; text = (unwrap_or (back k) no_dated_text).text }),
       )
 
   pub same_message : (x : Option Message) → c.letters o ≡ v.letters o → HasVersion c n o → IsMessageOf v n o x → IsMessageOf c n o x
@@ -100,7 +100,7 @@ module _ (c v : Contents) (n : List ℕ) (o : OpId) (after : (i : OpId) → IsVe
 
 -- ---- an origin that isn't touched
 
-untouched_kept : (m : MessagesAhead) (o i : OpId) → IsWhole m → list_of m o ≡ None → origin_of (body_in_folder (kept_of m) i) ≡ Some o → (x : Option Change) → change_of m i ≡ x → bodies_of m i ≡ body_in_folder (kept_of m) i
+untouched_kept : (m : MessagesAhead) (o i : OpId) → IsWhole m → list_of m o ≡ None → origin_of (body_in_folder (kept_of m) i) ≡ Some o → (x : Option TagChange) → change_of m i ≡ x → bodies_of m i ≡ body_in_folder (kept_of m) i
 untouched_kept m o i whole none kept None x = left_body m i _ x refl
 untouched_kept m o i whole none kept (Some change) x =
     absurd (let t = whole.touched i o (subst IsSome (sym x) cc) kept in let n = subst IsSome none t in cc)
@@ -112,8 +112,8 @@ untouched_ahead m o i whole none here =
       | inr p ↦ absurd (subst (λ x. IsIn i (ids_listed x)) none p.3)
     ]
 
-untouched_letter : (a : FolderAhead) (o : OpId) → IsOrderly a → list_of a.messages o ≡ None → (x : Option LentLetter) → lookup (same_id o) a.letters.entries ≡ x → letters_ahead a o ≡ (contents_of a.value.now).letters o
-untouched_letter a o orderly none None x = ap (λ (y : Option LentLetter). changed ((contents_of a.value.now).letters o) (option_map (λ letter. Some (written letter)) y)) x
+untouched_letter : (a : FolderAhead) (o : OpId) → IsOrderly a → list_of a.messages o ≡ None → (x : Option LentDatedText) → lookup (same_id o) a.letters.entries ≡ x → dated_texts_ahead a o ≡ (contents_of a.value.now).letters o
+untouched_letter a o orderly none None x = ap (λ (y : Option LentDatedText). after_change ((contents_of a.value.now).letters o) (option_map (λ letter. Some (change_value letter)) y)) x
 untouched_letter a o orderly none (Some letter) x =
     absurd (let t = orderly.letters o (subst IsSome (sym x) cc) in let n = subst IsSome none t in cc)
 
@@ -131,7 +131,7 @@ kept_told a c o x h none has told =
 
 -- Each message is that of its origin.
 abbrev pub AreHeld : FolderAhead → Fresh → Type 0
-AreHeld a fresh = (o : OpId) (m : HeldMessage) → lookup (same_id o) fresh ≡ Some m → IsHeld a o m
+AreHeld a fresh = (o : OpId) (m : OwnedMessage) → lookup (same_id o) fresh ≡ Some m → IsHeld a o m
 
 -- Each origin that stands in front of this place is there.
 abbrev pub AreThere : FolderAhead → ℕ → Fresh → Type 0
@@ -177,7 +177,7 @@ there_more a at old new w h = λ place o l e.
         ]
 
 pub all_told : (a : FolderAhead) (at : ℕ) (m : MailboxAhead) → length a.messages.versions.entries ≤ at → (IsOrderly a → AreHeld a m.fresh.entries) → AreThere a at m.fresh.entries
-    → ((o : OpId) → IsMessageOf (contents_of a.value.now) a.name o (option_map (message_told o) (told_in m.mailbox o)))
+    → ((o : OpId) → IsMessageOf (contents_of a.value.now) a.name o (option_map (message_of_data o) (kept_message_data m.mailbox o)))
     → (c : Contents) → IsAhead c a → (o : OpId) → HasVersion c a.name o → IsMessageOf c a.name o (message_ahead m o)
 all_told a at m long held there kept c h o has = from (lookup (same_id o) m.fresh.entries) refl
   where
@@ -194,6 +194,6 @@ all_told a at m long held there kept c h o has = from (lookup (same_id o) m.fres
           | inr (inr b) ↦ absurd (let n = behind_all a.messages.versions.entries place (omega (arith, long, b)) in let q = sym n ∙ s in cc)
         ]
 
-    from : (x : Option HeldMessage) → lookup (same_id o) m.fresh.entries ≡ x → IsMessageOf c a.name o (message_ahead m o)
-    from None e = subst (λ (x : Option HeldMessage). IsMessageOf c a.name o (option_map (message_told o) (first_of (option_map told_by x) (told_in m.mailbox o)))) (sym e) (kept_told a c o _ h (no_list (list_of a.messages o) refl e) has (kept o))
-    from (Some message) e = subst (λ (x : Option HeldMessage). IsMessageOf c a.name o (option_map (message_told o) (first_of (option_map told_by x) (told_in m.mailbox o)))) (sym e) (held_told a c o message h (held h.orderly o message e) has)
+    from : (x : Option OwnedMessage) → lookup (same_id o) m.fresh.entries ≡ x → IsMessageOf c a.name o (message_ahead m o)
+    from None e = subst (λ (x : Option OwnedMessage). IsMessageOf c a.name o (option_map (message_of_data o) (first_of (option_map owned_message_data x) (kept_message_data m.mailbox o)))) (sym e) (kept_told a c o _ h (no_list (list_of a.messages o) refl e) has (kept o))
+    from (Some message) e = subst (λ (x : Option OwnedMessage). IsMessageOf c a.name o (option_map (message_of_data o) (first_of (option_map owned_message_data x) (kept_message_data m.mailbox o)))) (sym e) (held_told a c o message h (held h.orderly o message e) has)

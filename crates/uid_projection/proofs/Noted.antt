@@ -13,16 +13,16 @@ use Rattle.crdt_ops.specs.Tags.{name_of}
 use Rattle.folder_state.specs.Contents.{Contents, IsMadeBy, effect_of, no_contents}
 use Rattle.uid_projection.specs.declared.chart.Chart.{Chart}
 use Rattle.uid_projection.specs.declared.charts.Charts.{Charts}
-use Rattle.uid_projection.specs.declared.start.Start.{Start}
+use Rattle.uid_projection.specs.declared.first_numbers.Counters.{Counters}
 use Rattle.uid_projection.specs.Applied.{IsApplied}
 use Rattle.uid_projection.specs.Chart.{AreVersions}
 use Rattle.uid_projection.specs.Exhaustion.{IsExhausted}
 use Rattle.uid_projection.specs.Following.{Follows, IsReadyFor}
-use Rattle.uid_projection.specs.Incarnations.{is_there, k_of, uidvalidity_of}
-use Rattle.uid_projection.specs.Lines.{concerns_by}
-use Rattle.uid_projection.specs.Moves.{added_origin}
+use Rattle.uid_projection.specs.Incarnations.{folder_exists, k_of, uidvalidity_of}
+use Rattle.uid_projection.specs.UidsAndModSeqs.{kind_names_folder}
+use Rattle.uid_projection.specs.EntryMoves.{added_origin}
 use Rattle.uid_projection.specs.Readiness.{less_room}
-use Rattle.uid_projection.specs.Table.{HasRooms, IsNextOn, IsTable, IsUpTo, chart_at, origin_at}
+use Rattle.uid_projection.specs.ChartTable.{HasRooms, IsNextOn, IsTable, IsUpTo, chart_at, origin_at}
 use Rattle.uid_projection.proofs.ChartOf.{chart_first}
 use Rattle.uid_projection.proofs.Lasting.{about_name}
 use Rattle.uid_projection.proofs.Presence.{inbox_there, there_tags}
@@ -60,16 +60,16 @@ others_ready x y list o rest same rooms r = record {
   applied = subst IsApplied (sym (append_assoc list (o ∷ []) rest)) r.applied;
   lasts = λ e.
       let (front, p, back, k, h) = e in
-      let h2 : IsExhausted x.start (list ++ o ∷ front) p = subst (λ (xs : List Op). IsExhausted x.start xs p) (append_assoc list (o ∷ []) front) (subst (λ (s : Start). IsExhausted s ((list ++ o ∷ []) ++ front) p) same h) in
+      let h2 : IsExhausted x.start (list ++ o ∷ front) p = subst (λ (xs : List Op). IsExhausted x.start xs p) (append_assoc list (o ∷ []) front) (subst (λ (s : Counters). IsExhausted s ((list ++ o ∷ []) ++ front) p) same h) in
       r.lasts (o ∷ front, p, back, ap (λ xs. o ∷ xs) k, h2);
   rooms = λ p i about. rooms (added_origin p) (length rest) (name_of p.kind) (less_room (added_origin p) (length rest + 1) (length (o ∷ rest)) (name_of p.kind) x.charts.entries (omega arith) (r.rooms p (inr i) about));
 }
 
 -- an operation that is about no folder
-pub nobody : (o : Op) → concerns_by (name_of o.kind) o.kind ≡ false → (folder : List ℕ) → concerns_by folder o.kind ≡ false
-nobody o f folder = false_from_ne_true (concerns_by folder o.kind) (λ t. false≢true (sym f ∙ subst (λ (n : List ℕ). concerns_by n o.kind ≡ true) (about_name folder o.kind t) t))
+pub nobody : (o : Op) → kind_names_folder (name_of o.kind) o.kind ≡ false → (folder : List ℕ) → kind_names_folder folder o.kind ≡ false
+nobody o f folder = false_from_ne_true (kind_names_folder folder o.kind) (λ t. false≢true (sym f ∙ subst (λ (n : List ℕ). kind_names_folder n o.kind ≡ true) (about_name folder o.kind t) t))
 
-pub unmoved : (x : Charts) (list : List Op) (o : Op) → concerns_by (name_of o.kind) o.kind ≡ false → Follows x list → IsReadyFor x list (o ∷ []) → Follows x (list ++ o ∷ [])
+pub unmoved : (x : Charts) (list : List Op) (o : Op) → kind_names_folder (name_of o.kind) o.kind ≡ false → Follows x list → IsReadyFor x list (o ∷ []) → Follows x (list ++ o ∷ [])
 unmoved x list o f w r = record {
   first = w.first;
   applied = r.applied;
@@ -78,7 +78,7 @@ unmoved x list o f w r = record {
 }
 
 -- nothing applied
-first_up : (start : Start) (c : Chart) → c.there ≡ true → c.k ≡ start.k → c.uidnext ≡ start.uid → c.highest ≡ 1 → c.entries.entries ≡ [] → c.versions.entries ≡ [] → IsUpTo start inbox [] c
+first_up : (start : Counters) (c : Chart) → c.there ≡ true → c.k ≡ start.k → c.uidnext ≡ start.uid → c.highest ≡ 1 → c.entries.entries ≡ [] → c.versions.entries ≡ [] → IsUpTo start inbox [] c
 first_up start c t k u h es vs =
     let first : start.k ≡ k_of start inbox [] = omega arith in
     record {
@@ -89,7 +89,7 @@ first_up start c t k u h es vs =
       small = λ q n. absurd (n refl);
     }
 
-pub first_table : (start : Start) (name : List ℕ) (old charts : List Named) (c : Chart) → old ≡ [] → KeepsOthers same_key (has_name name) old charts → chart_at name charts ≡ Some c → name ≡ inbox → c.there ≡ true → c.k ≡ start.k → c.uidnext ≡ start.uid → c.highest ≡ 1 → c.entries.entries ≡ [] → c.versions.entries ≡ [] → IsTable start [] start.k charts
+pub first_table : (start : Counters) (name : List ℕ) (old charts : List Named) (c : Chart) → old ≡ [] → KeepsOthers same_key (has_name name) old charts → chart_at name charts ≡ Some c → name ≡ inbox → c.there ≡ true → c.k ≡ start.k → c.uidnext ≡ start.uid → c.highest ≡ 1 → c.entries.entries ≡ [] → c.versions.entries ≡ [] → IsTable start [] start.k charts
 first_table start name old charts c none keeps is own t k u h es vs =
     let first : IsUpTo start name [] c = subst (λ n. IsUpTo start n [] c) (sym own) (first_up start c t k u h es vs) in
     record {
@@ -100,7 +100,7 @@ first_table start name old charts c none keeps is own t k u h es vs =
       ];
       covers = λ folder e. elim (cases_Bool (bytes_eq folder name)) [
         | inl y ↦ absurd (own_there name old charts c keeps is folder y e)
-        | inr f ↦ false_from_ne_true (is_there folder []) (λ h. elim ((there_tags folder []).0 h) [
+        | inr f ↦ false_from_ne_true (folder_exists folder []) (λ h. elim ((there_tags folder []).0 h) [
           | inl q ↦ false≢true (sym f ∙ (bytes_eq-Decides folder name).1 (q ∙ sym own))
           | inr w ↦ elim w.1 [ inl x ↦ false≢true x | inr x ↦ false≢true x ]
         ])
@@ -108,10 +108,10 @@ first_table start name old charts c none keeps is own t k u h es vs =
     }
 
 -- the UIDVALIDITY by the chart
-pub validity_at : (start : Start) (list : List Op) (k : ℕ) (charts : List Named) (name : List ℕ) (t : IsTable start list k charts) (c : Chart) (r : Option ℕ) → chart_at name charts ≡ Some c → bytes_eq name inbox ≡ false → (c.there ≡ false → r ≡ None) → (c.there ≡ true → c.k ≤ 65535 → r ≡ Some (65536 * c.k + start.replica)) → r ≡ uidvalidity_of start name list
+pub validity_at : (start : Counters) (list : List Op) (k : ℕ) (charts : List Named) (name : List ℕ) (t : IsTable start list k charts) (c : Chart) (r : Option ℕ) → chart_at name charts ≡ Some c → bytes_eq name inbox ≡ false → (c.there ≡ false → r ≡ None) → (c.there ≡ true → c.k ≤ 65535 → r ≡ Some (65536 * c.k + start.replica)) → r ≡ uidvalidity_of start name list
 validity_at start list k charts name t c r is other away there =
     let up = t.shows name c is in
-    let was : c.there ≡ is_there name list = up.there in
+    let was : c.there ≡ folder_exists name list = up.there in
     elim (cases_Bool c.there) [
       | inl q ↦
           let small = up.small q (λ e. false≢true (sym other ∙ (bytes_eq-Decides name inbox).1 e)) in
@@ -120,13 +120,13 @@ validity_at start list k charts name t c r is other away there =
       | inr f ↦ away f ∙ (λ i. cond (sym other i) (Some start.replica) (cond ((sym f ∙ was) i) (Some (65536 * k_of start name list + start.replica)) None))
     ]
 
-pub validity_gone : (start : Start) (list : List Op) (name : List ℕ) → bytes_eq name inbox ≡ false → is_there name list ≡ false → ◌≡◌ {A = Option ℕ} None (uidvalidity_of start name list)
+pub validity_gone : (start : Counters) (list : List Op) (name : List ℕ) → bytes_eq name inbox ≡ false → folder_exists name list ≡ false → ◌≡◌ {A = Option ℕ} None (uidvalidity_of start name list)
 validity_gone start list name other gone = (λ i. cond (sym other i) (Some start.replica) (cond (sym gone i) (Some (65536 * k_of start name list + start.replica)) None))
 
-pub validity_there : (start : Start) (list : List Op) (name : List ℕ) → bytes_eq name inbox ≡ false → is_there name list ≡ true → (k : ℕ) → k ≡ k_of start name list → ◌≡◌ {A = Option ℕ} (Some (65536 * k + start.replica)) (uidvalidity_of start name list)
+pub validity_there : (start : Counters) (list : List Op) (name : List ℕ) → bytes_eq name inbox ≡ false → folder_exists name list ≡ true → (k : ℕ) → k ≡ k_of start name list → ◌≡◌ {A = Option ℕ} (Some (65536 * k + start.replica)) (uidvalidity_of start name list)
 validity_there start list name other there k is =
     (λ i. Some (65536 * is i + start.replica))
     ∙ (λ i. cond (sym other i) (Some start.replica) (cond (sym there i) (Some (65536 * k_of start name list + start.replica)) None))
 
-pub validity_inbox : (start : Start) (list : List Op) (name : List ℕ) → bytes_eq name inbox ≡ true → ◌≡◌ {A = Option ℕ} (Some start.replica) (uidvalidity_of start name list)
-validity_inbox start list name own = (λ i. cond (sym own i) (Some start.replica) (cond (is_there name list) (Some (65536 * k_of start name list + start.replica)) None))
+pub validity_inbox : (start : Counters) (list : List Op) (name : List ℕ) → bytes_eq name inbox ≡ true → ◌≡◌ {A = Option ℕ} (Some start.replica) (uidvalidity_of start name list)
+validity_inbox start list name own = (λ i. cond (sym own i) (Some start.replica) (cond (folder_exists name list) (Some (65536 * k_of start name list + start.replica)) None))

@@ -2,22 +2,22 @@ use Rattle.std.specs.Result.{is_err}
 use Rattle.std.proofs.Common.{Result, Ok, Err, OnOk, OnErr, ◌≡◌, ◌↔◌, ◌⊎◌, inl, inr, ℕ, zero, suc, ◌+◌, ◌-◌, ◌<◌, ◌≤◌, Bool, true, false, cond, List, [], ◌∷◌, ◌++◌, Option, None, Some, length, get_or, refl, sym, ap, ◌∙◌, subst, arith}
 use Rattle.tags_clocks.specs.declared.id.OpId.{OpId}
 use Rattle.merge_laws.specs.Orders.{fold_of}
-use Rattle.mail_listing.specs.declared.entry.Entry.{Entry}
-use Rattle.mail_listing.specs.Entries.{AreBelow, AreRising}
+use Rattle.mailbox_rows.specs.declared.entry.ListingEntry.{ListingEntry}
+use Rattle.mailbox_rows.specs.ListingEntries.{AreBelow, AreRising}
 use Rattle.crdt_ops.specs.declared.op.Op.{Op}
 use Rattle.crdt_ops.specs.Meanings.{IsVersion as IsVersionBySet}
 use Rattle.crdt_ops.specs.Tags.{removed_ids}
 use Rattle.folder_state.specs.Contents.{Contents, HasVersion, IsFolder, IsMadeBy, IsVersion, effect_of, no_contents, origin_in}
-use Rattle.folder_state.specs.Later.{after}
+use Rattle.folder_state.specs.AfterOps.{after}
 use Rattle.folder_state.proofs.ToldLemmas.{exists_by_set}
 use Rattle.folder_state.proofs.VersionLemmas.{has_version_by_set, version_is}
 use Rattle.folder_state.proofs.SetLemmas.{contents_made}
-use Rattle.uid_projection.specs.declared.start.Start.{Start}
+use Rattle.uid_projection.specs.declared.first_numbers.Counters.{Counters}
 use Rattle.uid_projection.specs.Applied.{IsApplied}
 use Rattle.uid_projection.specs.Chart.{AreVersions, IsChart}
-use Rattle.uid_projection.specs.Incarnations.{is_there}
-use Rattle.uid_projection.specs.Lines.{concerns_by, has_version}
-use Rattle.uid_projection.specs.Moves.{AreApart, IsNext, added_origin, is_held, loses, moved, with_line}
+use Rattle.uid_projection.specs.Incarnations.{folder_exists}
+use Rattle.uid_projection.specs.UidsAndModSeqs.{kind_names_folder, has_version}
+use Rattle.uid_projection.specs.EntryMoves.{AreApart, IsNext, added_origin, has_entry, loses, moved_entries, with_line}
 use Rattle.uid_projection.proofs.Advancing.{advanced_none, advanced_some, apart_chart, apart_moved, moved_alike}
 use Rattle.uid_projection.proofs.Coming.{has_as, there_as}
 use Rattle.uid_projection.proofs.Numbers.{stays_added}
@@ -58,7 +58,7 @@ made_after c list ops m a = record {
 pub versions_in_list : (c : Contents) (list : List Op) (folder : List ℕ) → IsMadeBy c list → AreVersions folder list (origin_in c folder)
 versions_in_list c list folder m i g = subst (λ (w : Contents). IsVersion w folder g i ↔ IsVersionBySet list folder g i) (sym (contents_made c list m)) (version_is list folder g i)
 
-pub there_told : (c : Contents) (list : List Op) (folder : List ℕ) (r : Bool) → IsMadeBy c list → (r ≡ true) ↔ IsFolder c folder → r ≡ is_there folder list
+pub there_told : (c : Contents) (list : List Op) (folder : List ℕ) (r : Bool) → IsMadeBy c list → (r ≡ true) ↔ IsFolder c folder → r ≡ folder_exists folder list
 there_told c list folder r m h = there_as folder list r (exists_by_set c list folder r m h)
 
 pub has_told : (c : Contents) (list : List Op) (folder : List ℕ) (g : OpId) (r : Bool) → IsMadeBy c list → (r ≡ true) ↔ HasVersion c folder g → r ≡ has_version folder g list
@@ -66,27 +66,27 @@ has_told c list folder g r m h = let s = has_version_by_set c list folder g m in
 
 -- ---- an operation about a folder that is there behind it
 
-module _ (start : Start) (folder : List ℕ) (ops : List Op) (o : Op) (a : IsApplied (ops ++ o ∷ [])) (there : is_there folder (ops ++ o ∷ []) ≡ true) (about : concerns_by folder o.kind ≡ true) (u h : ℕ) (es : List Entry) (k : IsChart start folder ops u h es) (f : OpId → Option OpId) (l : AreVersions folder ops f) (lost : OpId → Bool) (is_lost : (g : OpId) → lost g ≡ loses f (removed_ids o.kind) g) (now : List Entry) (is : AreApart es → now ≡ moved lost (λ g. has_version folder g (ops ++ o ∷ [])) (h + 1) es) where
+module _ (start : Counters) (folder : List ℕ) (ops : List Op) (o : Op) (a : IsApplied (ops ++ o ∷ [])) (there : folder_exists folder (ops ++ o ∷ []) ≡ true) (about : kind_names_folder folder o.kind ≡ true) (u h : ℕ) (es : List ListingEntry) (k : IsChart start folder ops u h es) (f : OpId → Option OpId) (l : AreVersions folder ops f) (lost : OpId → Bool) (is_lost : (g : OpId) → lost g ≡ loses f (removed_ids o.kind) g) (now : List ListingEntry) (is : AreApart es → now ≡ moved_entries lost (λ g. has_version folder g (ops ++ o ∷ [])) (h + 1) es) where
   abbrev stays : OpId → Bool
   stays g = has_version folder g (ops ++ o ∷ [])
 
-  now_is : now ≡ moved (loses f (removed_ids o.kind)) stays (h + 1) es
+  now_is : now ≡ moved_entries (loses f (removed_ids o.kind)) stays (h + 1) es
   now_is = is (apart_chart start folder ops u h es k) ∙ moved_alike lost (loses f (removed_ids o.kind)) stays (h + 1) es is_lost
 
   pub ahead_none : added_origin o ≡ None → IsChart start folder (ops ++ o ∷ []) u (h + 1) now
   ahead_none e = subst (IsChart start folder (ops ++ o ∷ []) u (h + 1)) (sym now_is) (advanced_none start folder ops o a there about u h es k f l e)
 
-  pub ahead_some : (g : OpId) → added_origin o ≡ Some g → (v m : ℕ) (fs : List Entry) → v ≡ cond (is_held now g) u (u + 1) → m ≡ h + 1 → (AreApart now → fs ≡ with_line g u (h + 1) now) → IsChart start folder (ops ++ o ∷ []) v m fs
+  pub ahead_some : (g : OpId) → added_origin o ≡ Some g → (v m : ℕ) (fs : List ListingEntry) → v ≡ cond (has_entry now g) u (u + 1) → m ≡ h + 1 → (AreApart now → fs ≡ with_line g u (h + 1) now) → IsChart start folder (ops ++ o ∷ []) v m fs
   ahead_some g e v m fs p q line =
       let apart : AreApart now = subst AreApart (sym now_is) (apart_moved (loses f (removed_ids o.kind)) stays (h + 1) es (apart_chart start folder ops u h es k)) in
       let x = advanced_some start folder ops o a there about u h es k f l g e (stays_added folder ops o a about g e) in
       chart_as start folder (ops ++ o ∷ []) _ _ _ _ _ _
-      (p ∙ ap (λ xs. cond (is_held xs g) u (u + 1)) now_is) q
+      (p ∙ ap (λ xs. cond (has_entry xs g) u (u + 1)) now_is) q
       (line apart ∙ ap (with_line g u (h + 1)) now_is) x
 
 -- ---- a UID that can follow
 
-below_from : (low uid k : ℕ) (es : List Entry) → AreRising low es → length es ≡ suc k → ((e : Entry) → (get_or es k e).uid < uid) → AreBelow uid es × (low + length es ≤ uid)
+below_from : (low uid k : ℕ) (es : List ListingEntry) → AreRising low es → length es ≡ suc k → ((e : ListingEntry) → (get_or es k e).uid < uid) → AreBelow uid es × (low + length es ≤ uid)
 below_from low uid k [] r n b = absurd (omega (arith, n))
 below_from low uid zero (e ∷ []) r n b = let f = r.0 in let l : e.uid < uid = b e in ((l, tt), omega (arith, l, f))
 below_from low uid zero (e ∷ x ∷ es) r n b = absurd (omega (arith, n))
@@ -96,13 +96,13 @@ below_from low uid (suc k) (e ∷ es) r n b =
     let f = r.0 in
     ((omega (arith, m), w.0), omega (arith, m, f))
 
-pub follows_last : (uid : ℕ) (es : List Entry) → AreRising 1 es → 1 ≤ uid → uid < 4294967295 → (length es ≡ 0) ⊎ ((e : Entry) → (get_or es (length es - 1) e).uid < uid) → IsNext uid es × (uid < 4294967295)
+pub follows_last : (uid : ℕ) (es : List ListingEntry) → AreRising 1 es → 1 ≤ uid → uid < 4294967295 → (length es ≡ 0) ⊎ ((e : ListingEntry) → (get_or es (length es - 1) e).uid < uid) → IsNext uid es × (uid < 4294967295)
 follows_last uid [] r l m h = (record { first = l; beyond = tt; few = omega arith }, m)
 follows_last uid (e ∷ es) r l m h = elim h [
   | inl z ↦ absurd (omega (arith, z))
   | inr b ↦
       let at : length (e ∷ es) - 1 ≡ length es = omega arith in
-      let w = below_from 1 uid (length es) (e ∷ es) r refl (subst (λ j. (d : Entry) → (get_or (e ∷ es) j d).uid < uid) at b) in
+      let w = below_from 1 uid (length es) (e ∷ es) r refl (subst (λ j. (d : ListingEntry) → (get_or (e ∷ es) j d).uid < uid) at b) in
       let n = w.1 in
       (record { first = l; beyond = w.0; few = omega (arith, n, m) }, m)
 ]

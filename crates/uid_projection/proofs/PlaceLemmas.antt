@@ -7,63 +7,63 @@ use Rattle.std.specs.declared.cmp.Ordering.TheVariants.{Less, Equal, Greater}
 use Rattle.imap_types.specs.declared.flags.Flags.{Flags}
 use Rattle.tags_clocks.specs.declared.id.OpId.{OpId}
 use Rattle.merge_laws.specs.Orders.{IsIn}
-use Rattle.crdt_ops.specs.Order.{IsAscending, id_order, placed}
-use Rattle.crdt_ops.specs.Sets.{Body}
+use Rattle.crdt_ops.specs.SortedSets.{IsAscending, id_order, insert_ordered}
+use Rattle.crdt_ops.specs.Sets.{MessageTagData}
 use Rattle.crdt_ops.proofs.Members.{in_map}
 use Rattle.crdt_ops.proofs.OrderLemmas.{ascending-placed, id_order_same, id_order_total}
 use Rattle.imap_types.specs.declared.version.Version.{Version}
 use Rattle.imap_types.specs.Unions.{version_ids}
-use Rattle.folder_state.specs.Kept.{body_in_folder}
-use Rattle.uid_projection.specs.declared.changes.Change.{Change}
-use Rattle.uid_projection.specs.declared.messages.MessagesAhead.{MessagesAhead}
-use Rattle.uid_projection.specs.Changes.{AreAll, IsLeft, IsPlaced, IsPut, IsWhole, bodies_of, borne, by_id, change_of, changed, ids_listed, kept_of, list_of}
+use Rattle.folder_state.specs.FolderTables.{body_in_folder}
+use Rattle.uid_projection.specs.declared.tag_changes.TagChange.{TagChange}
+use Rattle.uid_projection.specs.declared.messages_ahead.MessagesAhead.{MessagesAhead}
+use Rattle.uid_projection.specs.TagChanges.{AreAll, IsLeft, IsPlaced, IsPut, IsWhole, bodies_of, body_lent, by_id, change_of, after_change, ids_listed, kept_of, list_of}
 use Rattle.uid_projection.proofs.FoundLemmas.{whence}
 use Rattle.uid_projection.proofs.IdLemmas.{in_more}
 
-ids_placed : (v : Version) (vs : List Version) → version_ids (placed by_id v vs) ≡ placed id_order v.id (version_ids vs)
+ids_placed : (v : Version) (vs : List Version) → version_ids (insert_ordered by_id v vs) ≡ insert_ordered id_order v.id (version_ids vs)
 ids_placed v [] = refl
 ids_placed v (w ∷ ws) = at (id_order v.id w.id) (ids_placed v ws)
   where
-    at : (o : Ordering) → version_ids (placed by_id v ws) ≡ placed id_order v.id (version_ids ws) → version_ids (match_ordering o (v ∷ w ∷ ws) (w ∷ ws) (w ∷ placed by_id v ws)) ≡ match_ordering o (v.id ∷ w.id ∷ version_ids ws) (w.id ∷ version_ids ws) (w.id ∷ placed id_order v.id (version_ids ws))
+    at : (o : Ordering) → version_ids (insert_ordered by_id v ws) ≡ insert_ordered id_order v.id (version_ids ws) → version_ids (match_ordering o (v ∷ w ∷ ws) (w ∷ ws) (w ∷ insert_ordered by_id v ws)) ≡ match_ordering o (v.id ∷ w.id ∷ version_ids ws) (w.id ∷ version_ids ws) (w.id ∷ insert_ordered id_order v.id (version_ids ws))
     at Less h = refl
     at Equal h = refl
     at Greater h = λ k. w.id ∷ h k
 
-placed_own : (i : OpId) (is : List OpId) → IsIn i (placed id_order i is)
+placed_own : (i : OpId) (is : List OpId) → IsIn i (insert_ordered id_order i is)
 placed_own i [] = inl refl
 placed_own i (j ∷ js) = at (id_order i j) refl (placed_own i js)
   where
-    at : (o : Ordering) → id_order i j ≡ o → IsIn i (placed id_order i js) → IsIn i (match_ordering o (i ∷ j ∷ js) (j ∷ js) (j ∷ placed id_order i js))
+    at : (o : Ordering) → id_order i j ≡ o → IsIn i (insert_ordered id_order i js) → IsIn i (match_ordering o (i ∷ j ∷ js) (j ∷ js) (j ∷ insert_ordered id_order i js))
     at Less e h = inl refl
     at Equal e h = inl (sym (id_order_same i j e))
     at Greater e h = inr h
 
-placed_kept : (i k : OpId) (is : List OpId) → IsIn k is → IsIn k (placed id_order i is)
+placed_kept : (i k : OpId) (is : List OpId) → IsIn k is → IsIn k (insert_ordered id_order i is)
 placed_kept i k [] h = absurd h
 placed_kept i k (j ∷ js) h = at (id_order i j) h (placed_kept i k js)
   where
-    at : (o : Ordering) → IsIn k (j ∷ js) → (IsIn k js → IsIn k (placed id_order i js)) → IsIn k (match_ordering o (i ∷ j ∷ js) (j ∷ js) (j ∷ placed id_order i js))
+    at : (o : Ordering) → IsIn k (j ∷ js) → (IsIn k js → IsIn k (insert_ordered id_order i js)) → IsIn k (match_ordering o (i ∷ j ∷ js) (j ∷ js) (j ∷ insert_ordered id_order i js))
     at Less h more = inr h
     at Equal h more = h
     at Greater h more = elim h [ inl e ↦ inl e | inr t ↦ inr (more t) ]
 
-placed_in : (v w : Version) (vs : List Version) → IsIn w (placed by_id v vs) → (v ≡ w) ⊎ IsIn w vs
+placed_in : (v w : Version) (vs : List Version) → IsIn w (insert_ordered by_id v vs) → (v ≡ w) ⊎ IsIn w vs
 placed_in v w [] h = h
 placed_in v w (x ∷ xs) h = at (by_id v x) h (placed_in v w xs)
   where
-    at : (o : Ordering) → IsIn w (match_ordering o (v ∷ x ∷ xs) (x ∷ xs) (x ∷ placed by_id v xs)) → (IsIn w (placed by_id v xs) → (v ≡ w) ⊎ IsIn w xs) → (v ≡ w) ⊎ IsIn w (x ∷ xs)
+    at : (o : Ordering) → IsIn w (match_ordering o (v ∷ x ∷ xs) (x ∷ xs) (x ∷ insert_ordered by_id v xs)) → (IsIn w (insert_ordered by_id v xs) → (v ≡ w) ⊎ IsIn w xs) → (v ≡ w) ⊎ IsIn w (x ∷ xs)
     at Less h more = h
     at Equal h more = inr h
     at Greater h more = elim h [ inl e ↦ inr (inl e) | inr t ↦ elim (more t) [ inl e ↦ inl e | inr u ↦ inr (inr u) ] ]
 
-module _ (bodies : OpId → Option Body) (origin : OpId) where
+module _ (bodies : OpId → Option MessageTagData) (origin : OpId) where
   pub placed_none : (P : OpId → Type 0) (vs : List Version) → ((i : OpId) → P i → ⊥) → IsPlaced bodies origin P vs vs
   placed_none P vs none = record { some = λ h. h; kept = λ i h. h; all = λ i p. absurd (none i p) }
 
   -- a version of the origin in its place
-  pub placed_one : (P : OpId → Type 0) (v : Version) (old new : List Version) → new ≡ placed by_id v old → bodies v.id ≡ Some (record { flags = v.flags; origin = origin }) → ((i : OpId) → P i → i ≡ v.id) → IsPlaced bodies origin P old new
+  pub placed_one : (P : OpId → Type 0) (v : Version) (old new : List Version) → new ≡ insert_ordered by_id v old → bodies v.id ≡ Some (record { flags = v.flags; origin = origin }) → ((i : OpId) → P i → i ≡ v.id) → IsPlaced bodies origin P old new
   placed_one P v old new e right only =
-      let ids : version_ids new ≡ placed id_order v.id (version_ids old) = ap version_ids e ∙ ids_placed v old in
+      let ids : version_ids new ≡ insert_ordered id_order v.id (version_ids old) = ap version_ids e ∙ ids_placed v old in
       record {
         some = λ h. record {
           ascending = subst (IsAscending id_order) (sym ids) (ascending-placed id_order_total v.id (version_ids old) h.ascending);
@@ -73,7 +73,7 @@ module _ (bodies : OpId → Option Body) (origin : OpId) where
           ];
         };
         kept = λ i h. subst (IsIn i) (sym ids) (placed_kept v.id i (version_ids old) h);
-        all = λ i p. subst (IsIn i) (sym ids) (subst (λ j. IsIn j (placed id_order v.id (version_ids old))) (sym (only i p)) (placed_own v.id (version_ids old)));
+        all = λ i p. subst (IsIn i) (sym ids) (subst (λ j. IsIn j (insert_ordered id_order v.id (version_ids old))) (sym (only i p)) (placed_own v.id (version_ids old)));
       }
 
   -- one step behind another
@@ -94,8 +94,8 @@ in_more_ids i vs k v l e h =
     ]
 
 -- what is kept and not changed carries what it did
-pub left_body : (m : MessagesAhead) (i : OpId) (x : Option Body) → change_of m i ≡ None → body_in_folder (kept_of m) i ≡ x → bodies_of m i ≡ x
-left_body m i x n e = ap (λ (c : Option Change). changed (body_in_folder (kept_of m) i) (option_map borne c)) n ∙ e
+pub left_body : (m : MessagesAhead) (i : OpId) (x : Option MessageTagData) → change_of m i ≡ None → body_in_folder (kept_of m) i ≡ x → bodies_of m i ≡ x
+left_body m i x n e = ap (λ (c : Option TagChange). after_change (body_in_folder (kept_of m) i) (option_map body_lent c)) n ∙ e
 
 -- one kept version more: it has its place, or it is changed
 pub left_more : (m : MessagesAhead) (o : OpId) (vs : List Version) (k : ℕ) (v : Version) (old mid new : List Version) → k < length vs → v ≡ get_or vs k v
@@ -106,14 +106,14 @@ left_more m o vs k v old mid new l e a b =
     placed_twice (bodies_of m) o _ _ _ old mid new (λ i r. elim (in_more_ids i vs k v l e r.1) [ inl t ↦ inl (r.0, t) | inr q ↦ inr (r.0, q) ]) a b
 
 -- a version that isn't changed in its place
-pub left_one : (m : MessagesAhead) (o : OpId) (v : Version) (old new : List Version) → new ≡ placed by_id v old → change_of m v.id ≡ None → body_in_folder (kept_of m) v.id ≡ Some (record { flags = v.flags; origin = o }) → IsPlaced (bodies_of m) o (λ i. IsLeft m o i × (i ≡ v.id)) old new
+pub left_one : (m : MessagesAhead) (o : OpId) (v : Version) (old new : List Version) → new ≡ insert_ordered by_id v old → change_of m v.id ≡ None → body_in_folder (kept_of m) v.id ≡ Some (record { flags = v.flags; origin = o }) → IsPlaced (bodies_of m) o (λ i. IsLeft m o i × (i ≡ v.id)) old new
 left_one m o v old new e none kept = placed_one (bodies_of m) o _ v old new e (left_body m v.id _ none kept) (λ i p. p.1)
 
 -- a version that is changed
 pub left_none : (m : MessagesAhead) (o : OpId) (v : Version) (old : List Version) → IsSome (change_of m v.id) → IsPlaced (bodies_of m) o (λ i. IsLeft m o i × (i ≡ v.id)) old old
 left_none m o v old some = placed_none (bodies_of m) o _ old (λ i p. absurd (cc (p.0.0, subst (λ j. IsSome (change_of m j)) (sym p.1) some)))
 
-pub right_with : (body : Option Body) (a b : Flags) (origin : OpId) → body ≡ Some (record { flags = a; origin = origin }) → b ≡ a → body ≡ Some (record { flags = b; origin = origin })
+pub right_with : (body : Option MessageTagData) (a b : Flags) (origin : OpId) → body ≡ Some (record { flags = a; origin = origin }) → b ≡ a → body ≡ Some (record { flags = b; origin = origin })
 right_with body a b origin e f = e ∙ ap (λ (flags : Flags). Some (record { flags = flags; origin = origin })) (sym f)
 
 -- all versions of an origin, those that are kept and those that were put in

@@ -3,18 +3,18 @@ use Rattle.std.proofs.lemmas.Bool.{cases_Bool}
 use Rattle.indexmap.specs.IndexMap.{spare}
 use Rattle.imap_types.specs.Names.{inbox}
 use Rattle.tags_clocks.specs.declared.id.OpId.{OpId}
-use Rattle.mail_listing.specs.declared.entry.Entry.{Entry}
+use Rattle.mailbox_rows.specs.declared.entry.ListingEntry.{ListingEntry}
 use Rattle.crdt_ops.specs.declared.op.Op.{Op}
 use Rattle.crdt_ops.specs.Tags.{name_of, removed_ids}
 use Rattle.folder_state.specs.Contents.{Contents}
 use Rattle.uid_projection.specs.declared.chart.Chart.{Chart}
-use Rattle.uid_projection.specs.declared.start.Start.{Start}
+use Rattle.uid_projection.specs.declared.first_numbers.Counters.{Counters}
 use Rattle.uid_projection.specs.Chart.{AreVersions, IsChart}
-use Rattle.uid_projection.specs.History.{counted_all}
-use Rattle.uid_projection.specs.Incarnations.{begins, is_there, k_of}
-use Rattle.uid_projection.specs.Lines.{has_version}
-use Rattle.uid_projection.specs.Moves.{AreApart, IsNext, added_origin, is_held, loses, moved, with_id, with_line, without}
-use Rattle.uid_projection.specs.Table.{Advances, IsNextAt, IsUpTo, origin_at}
+use Rattle.uid_projection.specs.Counting.{count_all}
+use Rattle.uid_projection.specs.Incarnations.{begins_incarnation, folder_exists, k_of}
+use Rattle.uid_projection.specs.UidsAndModSeqs.{has_version}
+use Rattle.uid_projection.specs.EntryMoves.{AreApart, IsNext, added_origin, has_entry, loses, moved_entries, origins_with, with_line, origins_without}
+use Rattle.uid_projection.specs.ChartTable.{Advances, IsNextAt, IsUpTo, origin_at}
 use Rattle.uid_projection.proofs.Advancing.{advanced_none, advanced_some, apart_chart, apart_moved, left_held, next_moved}
 use Rattle.uid_projection.proofs.HistoryLemmas.{once, all-append}
 use Rattle.uid_projection.proofs.Numbers.{k_begins, stays_added, uid_lasts}
@@ -24,7 +24,7 @@ use Rattle.uid_projection.proofs.Touching.{origin_here, removed_here, versions_l
 
 -- ---- an operation about a folder that is there behind it
 
-module _ (start : Start) (folder : List ℕ) (value : Contents) (ops : List Op) (o : Op) (c : Chart) (r : Advances start folder value ops o c) where
+module _ (start : Counters) (folder : List ℕ) (value : Contents) (ops : List Op) (o : Op) (c : Chart) (r : Advances start folder value ops o c) where
   abbrev f : OpId → Option OpId
   f = origin_at c.versions.entries
 
@@ -34,18 +34,18 @@ module _ (start : Start) (folder : List ℕ) (value : Contents) (ops : List Op) 
   pub all_apart : AreApart c.entries.entries
   all_apart = apart_chart start folder ops c.uidnext c.highest c.entries.entries r.shows
 
-  module _ (ids : List OpId) (own : ids ≡ removed_ids o.kind) (now : List Entry) (is : now ≡ moved (loses f ids) stays (c.highest + 1) c.entries.entries) where
-    now_is : now ≡ moved (loses f (removed_ids o.kind)) stays (c.highest + 1) c.entries.entries
-    now_is = is ∙ ap (λ xs. moved (loses f xs) stays (c.highest + 1) c.entries.entries) own
+  module _ (ids : List OpId) (own : ids ≡ removed_ids o.kind) (now : List ListingEntry) (is : now ≡ moved_entries (loses f ids) stays (c.highest + 1) c.entries.entries) where
+    now_is : now ≡ moved_entries (loses f (removed_ids o.kind)) stays (c.highest + 1) c.entries.entries
+    now_is = is ∙ ap (λ xs. moved_entries (loses f xs) stays (c.highest + 1) c.entries.entries) own
 
     now_apart : AreApart now
     now_apart = subst AreApart (sym is) (apart_moved (loses f ids) stays (c.highest + 1) c.entries.entries all_apart)
 
     -- the UID that the added origin needs is there
-    pub uid_for : (g : OpId) → added_origin o ≡ Some g → is_held now g ≡ false → c.uidnext < 4294967295
+    pub uid_for : (g : OpId) → added_origin o ≡ Some g → has_entry now g ≡ false → c.uidnext < 4294967295
     uid_for g e h =
         let held = left_held start folder ops o r.applied r.is_there_now r.about c.uidnext c.highest c.entries.entries r.shows f r.versions g e (stays_added folder ops o r.applied r.about g e) in
-        uid_lasts start folder ops o r.applied r.about r.lasts c.uidnext c.entries.entries r.shows.are_entries r.shows.is_uidnext r.roomy.uidnext g e (sym held ∙ ap (λ xs. is_held xs g) (sym now_is) ∙ h)
+        uid_lasts start folder ops o r.applied r.about r.lasts c.uidnext c.entries.entries r.shows.are_entries r.shows.is_uidnext r.roomy.uidnext g e (sym held ∙ ap (λ xs. has_entry xs g) (sym now_is) ∙ h)
 
     pub next_for : c.uidnext < 4294967295 → IsNext c.uidnext now
     next_for l = subst (IsNext c.uidnext) (sym is) (next_moved start folder ops c.uidnext c.highest c.entries.entries (loses f ids) stays (c.highest + 1) r.first r.shows l)
@@ -53,50 +53,50 @@ module _ (start : Start) (folder : List ℕ) (value : Contents) (ops : List Op) 
     pub shows_none : added_origin o ≡ None → IsChart start folder (ops ++ o ∷ []) c.uidnext (c.highest + 1) now
     shows_none e = subst (IsChart start folder (ops ++ o ∷ []) c.uidnext (c.highest + 1)) (sym now_is) (advanced_none start folder ops o r.applied r.is_there_now r.about c.uidnext c.highest c.entries.entries r.shows f r.versions e)
 
-    pub shows_some : (g : OpId) → added_origin o ≡ Some g → (u h : ℕ) (es : List Entry) → u ≡ cond (is_held now g) c.uidnext (c.uidnext + 1) → h ≡ c.highest + 1 → (AreApart now → es ≡ with_line g c.uidnext (c.highest + 1) now) → IsChart start folder (ops ++ o ∷ []) u h es
+    pub shows_some : (g : OpId) → added_origin o ≡ Some g → (u h : ℕ) (es : List ListingEntry) → u ≡ cond (has_entry now g) c.uidnext (c.uidnext + 1) → h ≡ c.highest + 1 → (AreApart now → es ≡ with_line g c.uidnext (c.highest + 1) now) → IsChart start folder (ops ++ o ∷ []) u h es
     shows_some g e u h es p q line =
         let x = advanced_some start folder ops o r.applied r.is_there_now r.about c.uidnext c.highest c.entries.entries r.shows f r.versions g e (stays_added folder ops o r.applied r.about g e) in
         chart_as start folder (ops ++ o ∷ []) _ _ _ _ _ _
-        (p ∙ ap (λ xs. cond (is_held xs g) c.uidnext (c.uidnext + 1)) now_is) q
+        (p ∙ ap (λ xs. cond (has_entry xs g) c.uidnext (c.uidnext + 1)) now_is) q
         (line now_apart ∙ ap (with_line g c.uidnext (c.highest + 1)) now_is) x
 
-  module _ (ids : List OpId) (own : ids ≡ removed_ids o.kind) (left : OpId → Option OpId) (told : (i : OpId) → left i ≡ without f ids i) where
-    left_is : left ≡ without f (removed_ids o.kind)
-    left_is = λ k i. (told i ∙ ap (λ xs. without f xs i) own) k
+  module _ (ids : List OpId) (own : ids ≡ removed_ids o.kind) (left : OpId → Option OpId) (told : (i : OpId) → left i ≡ origins_without f ids i) where
+    left_is : left ≡ origins_without f (removed_ids o.kind)
+    left_is = λ k i. (told i ∙ ap (λ xs. origins_without f xs i) own) k
 
     pub tells_none : added_origin o ≡ None → AreVersions folder (ops ++ o ∷ []) left
     tells_none e =
         subst (AreVersions folder (ops ++ o ∷ [])) (sym left_is)
         (versions_left folder ops o r.applied (removed_ids o.kind) (removed_here folder o r.about) (added_origin o) (sym (origin_here folder o r.about)) f r.versions (origin_here folder o r.about ∙ e))
 
-    pub tells_some : (g : OpId) → added_origin o ≡ Some g → (all : OpId → Option OpId) → ((i : OpId) → all i ≡ with_id left o.id g i) → AreVersions folder (ops ++ o ∷ []) all
+    pub tells_some : (g : OpId) → added_origin o ≡ Some g → (all : OpId → Option OpId) → ((i : OpId) → all i ≡ origins_with left o.id g i) → AreVersions folder (ops ++ o ∷ []) all
     tells_some g e all h =
-        subst (AreVersions folder (ops ++ o ∷ [])) (sym ((λ k i. h i k) ∙ (λ k i. with_id (left_is k) o.id g i)))
+        subst (AreVersions folder (ops ++ o ∷ [])) (sym ((λ k i. h i k) ∙ (λ k i. origins_with (left_is k) o.id g i)))
         (versions_more folder ops o r.applied (removed_ids o.kind) (removed_here folder o r.about) (added_origin o) (sym (origin_here folder o r.about)) f r.versions g (origin_here folder o r.about ∙ e))
 
 -- ---- an operation about a folder, there behind it or not
 
-module _ (start : Start) (k : ℕ) (value : Contents) (ops : List Op) (o : Op) (c : Chart) (r : IsNextAt start k value ops o c) where
+module _ (start : Counters) (k : ℕ) (value : Contents) (ops : List Op) (o : Op) (c : Chart) (r : IsNextAt start k value ops o c) where
   abbrev folder : List ℕ
   folder = name_of o.kind
 
   -- the folder is away behind it
-  pub k_away : is_there folder (ops ++ o ∷ []) ≡ false → k ≡ start.k + counted_all begins (ops ++ o ∷ [])
+  pub k_away : folder_exists folder (ops ++ o ∷ []) ≡ false → k ≡ start.k + count_all begins_incarnation (ops ++ o ∷ [])
   k_away f =
-      let m = all-append begins ops o in
-      let z : once (begins ops o) ≡ 0 = ap (λ b. once (b && not (is_there folder ops))) f in
+      let m = all-append begins_incarnation ops o in
+      let z : once (begins_incarnation ops o) ≡ 0 = ap (λ b. once (b && not (folder_exists folder ops))) f in
       let is = r.next.is_k in
       omega (arith, m, z, is)
 
   -- or there
-  module _ (t : is_there folder (ops ++ o ∷ []) ≡ true) where
-    begins_is : begins ops o ≡ not c.there
-    begins_is = (λ j. t j && not (is_there folder ops)) ∙ ap not (sym r.up.there)
+  module _ (t : folder_exists folder (ops ++ o ∷ []) ≡ true) where
+    begins_is : begins_incarnation ops o ≡ not c.there
+    begins_is = (λ j. t j && not (folder_exists folder ops)) ∙ ap not (sym r.up.there)
 
-    pub k_there : (l : ℕ) → l ≡ cond c.there k (k + 1) → l ≡ start.k + counted_all begins (ops ++ o ∷ [])
+    pub k_there : (l : ℕ) → l ≡ cond c.there k (k + 1) → l ≡ start.k + count_all begins_incarnation (ops ++ o ∷ [])
     k_there l e =
-        let m = all-append begins ops o in
-        let z : once (begins ops o) ≡ once (not c.there) = ap once begins_is in
+        let m = all-append begins_incarnation ops o in
+        let z : once (begins_incarnation ops o) ≡ once (not c.there) = ap once begins_is in
         let is = r.next.is_k in
         let p : cond c.there k (k + 1) ≡ k + once (not c.there) = plus c.there in
         omega (arith, m, z, is, e, p)

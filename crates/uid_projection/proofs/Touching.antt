@@ -9,19 +9,19 @@ use Rattle.crdt_ops.specs.declared.kind.Kind.{Kind}
 use Rattle.crdt_ops.specs.declared.kind.Kind.TheVariants.{Create, Delete, Append, Expunge, Store, Subscribe, Unsubscribe}
 use Rattle.crdt_ops.specs.declared.op.Op.{Op}
 use Rattle.crdt_ops.specs.Meanings.{IsVersion}
-use Rattle.crdt_ops.specs.Order.{is_some_id, same_id}
-use Rattle.crdt_ops.specs.Sets.{Body, body_by, versions_of}
-use Rattle.crdt_ops.specs.Tags.{MessageTag, added_by, adds, is_present, is_some_tag, removed_by, removed_ids, removes, same_tag}
+use Rattle.crdt_ops.specs.SortedSets.{is_some_id, same_id}
+use Rattle.crdt_ops.specs.Sets.{MessageTagData, tag_data_by, versions_of}
+use Rattle.crdt_ops.specs.Tags.{MessageTag, tag_added_by, adds, is_present, is_some_tag, tags_removed_by, removed_ids, removes, same_tag}
 use Rattle.crdt_ops.specs.TagLaws.{adds_own, delete_removes_message_tags, olds_remove_message_tags, same_id_is}
 use Rattle.crdt_ops.proofs.Members.{any_in}
 use Rattle.crdt_ops.proofs.OrderLemmas.{id_order_same, id_order_total, one_ascending}
 use Rattle.crdt_ops.proofs.VersionLemmas.{some_id, versions_listed}
-use Rattle.mail_listing.specs.declared.entry.Entry.{Entry}
-use Rattle.uid_projection.specs.declared.start.Start.{Start}
+use Rattle.mailbox_rows.specs.declared.entry.ListingEntry.{ListingEntry}
+use Rattle.uid_projection.specs.declared.first_numbers.Counters.{Counters}
 use Rattle.uid_projection.specs.Applied.{IsApplied}
 use Rattle.uid_projection.specs.Chart.{AreEntries, AreVersions}
-use Rattle.uid_projection.specs.Lines.{begins_line, begins_line_of, changes_versions, concerns_by, has_version, holds_of, modseq_of, origin_added, same_ids, uid_of}
-use Rattle.uid_projection.specs.Moves.{added_origin, is_held, loses, with_id, without}
+use Rattle.uid_projection.specs.UidsAndModSeqs.{begins_line, begins_line_of_origin, changes_versions, kind_names_folder, has_version, holds_of_some, modseq_of, origin_added, same_ids, uid_of}
+use Rattle.uid_projection.specs.EntryMoves.{added_origin, has_entry, loses, origins_with, origins_without}
 use Rattle.uid_projection.proofs.Presence.{added_once, adds_about, presence_step, same_bool}
 use Rattle.uid_projection.proofs.Versions.{origin_new, same_itself, unchanged, version_cases, version_in, version_kept}
 
@@ -36,20 +36,20 @@ no_origin g e = cc
 
 -- ---- what an operation about a folder adds and removes
 
-origin_by : (folder : List ℕ) (id : OpId) (kind : Kind) → concerns_by folder kind ≡ true → option_map (λ (b : Body). b.origin) (cond (is_some_tag (MessageTag folder id) (added_by id kind)) (body_by id kind) None) ≡ option_map (λ (b : Body). b.origin) (body_by id kind)
+origin_by : (folder : List ℕ) (id : OpId) (kind : Kind) → kind_names_folder folder kind ≡ true → option_map (λ (b : MessageTagData). b.origin) (cond (is_some_tag (MessageTag folder id) (tag_added_by id kind)) (tag_data_by id kind) None) ≡ option_map (λ (b : MessageTagData). b.origin) (tag_data_by id kind)
 origin_by folder id (Create name) h = refl
 origin_by folder id (Delete name seen) h = refl
-origin_by folder id (Append name flags date text) h = λ k. option_map (λ (b : Body). b.origin) (cond (h k && own_id id k) (body_by id (Append name flags date text)) None)
+origin_by folder id (Append name flags date text) h = λ k. option_map (λ (b : MessageTagData). b.origin) (cond (h k && own_id id k) (tag_data_by id (Append name flags date text)) None)
 origin_by folder id (Expunge name olds) h = refl
-origin_by folder id (Store name flags olds origin) h = λ k. option_map (λ (b : Body). b.origin) (cond (h k && own_id id k) (body_by id (Store name flags olds origin)) None)
+origin_by folder id (Store name flags olds origin) h = λ k. option_map (λ (b : MessageTagData). b.origin) (cond (h k && own_id id k) (tag_data_by id (Store name flags olds origin)) None)
 origin_by folder id (Subscribe name) h = absurd (false≢true h)
 origin_by folder id (Unsubscribe name seen) h = absurd (false≢true h)
 
 -- the origin of the tag that an operation about the folder adds
-pub origin_here : (folder : List ℕ) (o : Op) → concerns_by folder o.kind ≡ true → origin_added folder o ≡ added_origin o
+pub origin_here : (folder : List ℕ) (o : Op) → kind_names_folder folder o.kind ≡ true → origin_added folder o ≡ added_origin o
 origin_here folder o h = origin_by folder o.id o.kind h
 
-removed_by_kind : (folder : List ℕ) (i : OpId) (kind : Kind) → concerns_by folder kind ≡ true → list_any (same_tag (MessageTag folder i)) (removed_by kind) ≡ list_any (same_id i) (removed_ids kind)
+removed_by_kind : (folder : List ℕ) (i : OpId) (kind : Kind) → kind_names_folder folder kind ≡ true → list_any (same_tag (MessageTag folder i)) (tags_removed_by kind) ≡ list_any (same_id i) (removed_ids kind)
 removed_by_kind folder i (Create name) h = refl
 removed_by_kind folder i (Delete name seen) h = delete_removes_message_tags folder name i seen ∙ ap (λ b. b && list_any (same_id i) seen) h
 removed_by_kind folder i (Append name flags date text) h = refl
@@ -59,15 +59,15 @@ removed_by_kind folder i (Subscribe name) h = absurd (false≢true h)
 removed_by_kind folder i (Unsubscribe name seen) h = absurd (false≢true h)
 
 -- the message tags that it removes
-pub removed_here : (folder : List ℕ) (o : Op) → concerns_by folder o.kind ≡ true → (i : OpId) → removes (MessageTag folder i) o ≡ list_any (same_id i) (removed_ids o.kind)
+pub removed_here : (folder : List ℕ) (o : Op) → kind_names_folder folder o.kind ≡ true → (i : OpId) → removes (MessageTag folder i) o ≡ list_any (same_id i) (removed_ids o.kind)
 removed_here folder o h i = removed_by_kind folder i o.kind h
 
 -- a line begins by an operation about its folder
-pub line_about : (folder : List ℕ) (ops : List Op) (o : Op) → begins_line folder ops o ≡ true → concerns_by folder o.kind ≡ true
+pub line_about : (folder : List ℕ) (ops : List Op) (o : Op) → begins_line folder ops o ≡ true → kind_names_folder folder o.kind ≡ true
 line_about folder ops o h =
     elim (cases_Bool (adds (MessageTag folder o.id) o)) [
       | inl t ↦ adds_about folder o.id o.id o.kind (inr t)
-      | inr f ↦ absurd (false≢true (sym (ap (λ b. holds_of (λ g. begins_line_of folder g ops o) (option_map (λ (x : Body). x.origin) (cond b (body_by o.id o.kind) None))) f) ∙ h))
+      | inr f ↦ absurd (false≢true (sym (ap (λ b. holds_of_some (λ g. begins_line_of_origin folder g ops o) (option_map (λ (x : MessageTagData). x.origin) (cond b (tag_data_by o.id o.kind) None))) f) ∙ h))
     ]
 
 -- ---- one operation more
@@ -78,7 +78,7 @@ module _ (folder : List ℕ) (ops : List Op) (o : Op) (a : IsApplied (ops ++ o �
   tag_added g h =
       elim (cases_Bool (adds (MessageTag folder o.id) o)) [
         | inl t ↦ t
-        | inr f ↦ absurd (no_origin g (sym (ap (λ b. option_map (λ (x : Body). x.origin) (cond b (body_by o.id o.kind) None)) f) ∙ h))
+        | inr f ↦ absurd (no_origin g (sym (ap (λ b. option_map (λ (x : MessageTagData). x.origin) (cond b (tag_data_by o.id o.kind) None)) f) ∙ h))
       ]
 
   -- it is a version of the origin
@@ -169,18 +169,18 @@ module _ (folder : List ℕ) (ops : List Op) (o : Op) (a : IsApplied (ops ++ o �
               n ∙ sym (unchanged_by g (lost_none g p.0) (λ e. false≢true (sym p.1 ∙ (some_id g added).1 (own ∙ e))))
         ]
 
-    old_left : (i g : OpId) → without f removed i ≡ Some g → IsVersion (ops ++ o ∷ []) folder g i
+    old_left : (i g : OpId) → origins_without f removed i ≡ Some g → IsVersion (ops ++ o ∷ []) folder g i
     old_left i g h =
         elim (cases_Bool (list_any (same_id i) removed)) [
           | inl t ↦ absurd (no_origin g (sym (ap (λ b. cond b None (f i)) t) ∙ h))
           | inr n ↦ version_kept folder ops o a g i ((l i g).0 (sym (ap (λ b. cond b None (f i)) n) ∙ h)) (takes i ∙ n)
         ]
 
-    left_old : (i g : OpId) → IsVersion ops folder g i → removes (MessageTag folder i) o ≡ false → without f removed i ≡ Some g
+    left_old : (i g : OpId) → IsVersion ops folder g i → removes (MessageTag folder i) o ≡ false → origins_without f removed i ≡ Some g
     left_old i g x r = ap (λ b. cond b None (f i)) (sym (takes i) ∙ r) ∙ (l i g).1 x
 
     -- after an operation that adds none
-    pub versions_left : origin_added folder o ≡ None → AreVersions folder (ops ++ o ∷ []) (without f removed)
+    pub versions_left : origin_added folder o ≡ None → AreVersions folder (ops ++ o ∷ []) (origins_without f removed)
     versions_left none i g = (
       old_left i g,
       λ x. elim (version_cases folder ops o a g i x) [
@@ -190,12 +190,12 @@ module _ (folder : List ℕ) (ops : List Op) (o : Op) (a : IsApplied (ops ++ o �
     )
 
     -- after one that adds a version
-    pub versions_more : (g : OpId) → origin_added folder o ≡ Some g → AreVersions folder (ops ++ o ∷ []) (with_id (without f removed) o.id g)
+    pub versions_more : (g : OpId) → origin_added folder o ≡ Some g → AreVersions folder (ops ++ o ∷ []) (origins_with (origins_without f removed) o.id g)
     versions_more g e i h =
         elim (cases_Bool (same_id o.id i)) [
           | inl t ↦
               let is : o.id ≡ i = same_id_is o.id i t in
-              let here : with_id (without f removed) o.id g i ≡ Some g = ap (λ b. cond b (Some g) (without f removed i)) t in (
+              let here : origins_with (origins_without f removed) o.id g i ≡ Some g = ap (λ b. cond b (Some g) (origins_without f removed i)) t in (
                 λ x. let same : g ≡ h = same_origin g h (sym here ∙ x) in subst (λ (j : OpId). IsVersion (ops ++ o ∷ []) folder h j) is (subst (λ (k : OpId). IsVersion (ops ++ o ∷ []) folder k o.id) same (version_added g e)),
                 λ x. here ∙ elim (version_cases folder ops o a h i x) [
                   | inl w ↦ absurd (version_new g h e (subst (λ (j : OpId). IsVersion ops folder h j) (sym is) w.0))
@@ -203,7 +203,7 @@ module _ (folder : List ℕ) (ops : List Op) (o : Op) (a : IsApplied (ops ++ o �
                 ],
               )
           | inr n ↦
-              let past : with_id (without f removed) o.id g i ≡ without f removed i = ap (λ b. cond b (Some g) (without f removed i)) n in (
+              let past : origins_with (origins_without f removed) o.id g i ≡ origins_without f removed i = ap (λ b. cond b (Some g) (origins_without f removed i)) n in (
                 λ x. old_left i h (sym past ∙ x),
                 λ x. past ∙ elim (version_cases folder ops o a h i x) [
                   | inl w ↦ left_old i h w.0 w.1
@@ -213,12 +213,12 @@ module _ (folder : List ℕ) (ops : List Op) (o : Op) (a : IsApplied (ops ++ o �
         ]
 
 -- where an origin has an entry, it has a version
-pub held_is : (start : Start) (folder : List ℕ) (ops : List Op) (es : List Entry) → AreEntries start folder ops es → (g : OpId) → is_held es g ≡ has_version folder g ops
+pub held_is : (start : Counters) (folder : List ℕ) (ops : List Op) (es : List ListingEntry) → AreEntries start folder ops es → (g : OpId) → has_entry es g ≡ has_version folder g ops
 held_is start folder ops es l g =
-    same_bool (is_held es g) (has_version folder g ops)
+    same_bool (has_entry es g) (has_version folder g ops)
     (λ h.
-    let w = (any_in (λ (e : Entry). same_id g e.origin) es).0 h in
+    let w = (any_in (λ (e : ListingEntry). same_id g e.origin) es).0 h in
     subst (λ (x : OpId). has_version folder x ops ≡ true) (sym (same_id_is g w.0.origin w.2)) ((l w.0).0 w.1).there)
     (λ h.
-    let x : Entry = record { origin = g; uid = uid_of start folder ops g; modseq = modseq_of folder ops g } in
-    (any_in (λ (e : Entry). same_id g e.origin) es).1 (x, (l x).1 (record { there = h; uid = refl; modseq = refl }), own_id g))
+    let x : ListingEntry = record { origin = g; uid = uid_of start folder ops g; modseq = modseq_of folder ops g } in
+    (any_in (λ (e : ListingEntry). same_id g e.origin) es).1 (x, (l x).1 (record { there = h; uid = refl; modseq = refl }), own_id g))

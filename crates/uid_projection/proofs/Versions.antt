@@ -11,22 +11,22 @@ use Rattle.crdt_ops.specs.declared.kind.Kind.{Kind}
 use Rattle.crdt_ops.specs.declared.kind.Kind.TheVariants.{Create, Delete, Append, Expunge, Store, Subscribe, Unsubscribe}
 use Rattle.crdt_ops.specs.declared.op.Op.{Op}
 use Rattle.crdt_ops.specs.Meanings.{IsVersion}
-use Rattle.crdt_ops.specs.Order.{same_id}
-use Rattle.crdt_ops.specs.Sets.{Body, body_by, body_from, first_given, letter_by, letter_from, letter_of, origin_of, origins_of, versions_of}
-use Rattle.crdt_ops.specs.Sound.{CoversNamed}
-use Rattle.crdt_ops.specs.Tags.{MessageTag, added_by, adds, is_present, is_some_tag, removes}
+use Rattle.crdt_ops.specs.SortedSets.{same_id}
+use Rattle.crdt_ops.specs.Sets.{MessageTagData, tag_data_by, tag_data_from, first_some, dated_text_by, dated_text_from, dated_text_of, origin_of, origins_of, versions_of}
+use Rattle.crdt_ops.specs.Sound.{CoversReferenced}
+use Rattle.crdt_ops.specs.Tags.{MessageTag, tag_added_by, adds, is_present, is_some_tag, removes}
 use Rattle.crdt_ops.specs.TagLaws.{adds_own, same_id_is}
 use Rattle.crdt_ops.proofs.Members.{any_in, given_in}
 use Rattle.crdt_ops.proofs.OrderLemmas.{id_order_same, id_order_total, one_ascending}
 use Rattle.crdt_ops.proofs.Presence.{Has, id_of}
 use Rattle.crdt_ops.proofs.VersionLemmas.{origins_listed, versions_listed}
 use Rattle.uid_projection.specs.Applied.{IsApplied}
-use Rattle.uid_projection.specs.Lines.{begins_line, begins_line_of, changes_versions, concerns_by, has_version, holds_of, origin_added, same_ids}
+use Rattle.uid_projection.specs.UidsAndModSeqs.{begins_line, begins_line_of_origin, changes_versions, kind_names_folder, has_version, holds_of_some, origin_added, same_ids}
 use Rattle.uid_projection.proofs.Presence.{added_once, adds_about, presence_step, removed_about}
 use Rattle.uid_projection.proofs.Steps.{given_append}
 
 -- an operation that adds a message tag carries something
-carries : (f : List ℕ) (i id : OpId) (kind : Kind) → is_some_tag (MessageTag f i) (added_by id kind) ≡ true → IsSome (body_by id kind)
+carries : (f : List ℕ) (i id : OpId) (kind : Kind) → is_some_tag (MessageTag f i) (tag_added_by id kind) ≡ true → IsSome (tag_data_by id kind)
 carries f i id (Create folder) h = absurd (false≢true h)
 carries f i id (Delete folder seen) h = absurd (false≢true h)
 carries f i id (Append folder flags date text) h = refl
@@ -37,90 +37,90 @@ carries f i id (Unsubscribe name seen) h = absurd (false≢true h)
 
 -- ---- what a tag carries stays
 
-pub given_more : {X Y : Type 0} (f : X → Option Y) (xs ys : List X) (y : Y) → first_given f xs ≡ Some y → first_given f (xs ++ ys) ≡ Some y
-given_more f xs ys y h = given_append f xs ys ∙ ap (λ o. option_or o (first_given f ys)) h
+pub given_more : {X Y : Type 0} (f : X → Option Y) (xs ys : List X) (y : Y) → first_some f xs ≡ Some y → first_some f (xs ++ ys) ≡ Some y
+given_more f xs ys y h = given_append f xs ys ∙ ap (λ o. option_or o (first_some f ys)) h
 
 -- an id that came earlier has no date and text later
-pub letter_later : (id : OpId) (ops more : List Op) → IsApplied (ops ++ more) → Has ops id → letter_of (ops ++ more) id ≡ letter_of ops id
+pub letter_later : (id : OpId) (ops more : List Op) → IsApplied (ops ++ more) → Has ops id → dated_text_of (ops ++ more) id ≡ dated_text_of ops id
 letter_later id ops more a h =
-    given_append (letter_from id) ops more ∙ ap (option_or (letter_of ops id)) (none_later more (λ o i.
+    given_append (dated_text_from id) ops more ∙ ap (option_or (dated_text_of ops id)) (none_later more (λ o i.
     let s = split_at o more i in
     let w : ops ++ more ≡ (ops ++ s.0) ++ o ∷ s.1 = ap (λ xs. ops ++ xs) s.2 ∙ sym (append_assoc ops s.0 (o ∷ s.1)) in
     false_from_ne_true (same_id id o.id) (λ t. (a.causal (ops ++ s.0) o s.1 w).1 (id_in_front id_of o.id ops s.0 (subst (Has ops) (same_id_is id o.id t) h)))))
-    ∙ or-none (letter_of ops id)
+    ∙ or-none (dated_text_of ops id)
   where
-    none_later : (xs : List Op) → ((o : Op) → IsIn o xs → same_id id o.id ≡ false) → letter_of xs id ≡ None
+    none_later : (xs : List Op) → ((o : Op) → IsIn o xs → same_id id o.id ≡ false) → dated_text_of xs id ≡ None
     none_later [] k = refl
-    none_later (x ∷ xs) k = λ j. option_or (cond (k x (inl refl) j) (letter_by x.kind) None) (none_later xs (λ o i. k o (inr i)) j)
+    none_later (x ∷ xs) k = λ j. option_or (cond (k x (inl refl) j) (dated_text_by x.kind) None) (none_later xs (λ o i. k o (inr i)) j)
 
     or-none : {Y : Type 0} (x : Option Y) → option_or x None ≡ x
     or-none None = refl
     or-none (Some y) = refl
 
 -- what a tag carries in the list in which it was added first
-carried_of : (folder : List ℕ) (ops : List Op) (o : Op) → IsApplied (ops ++ o ∷ []) → adds (MessageTag folder o.id) o ≡ true → first_given (body_from folder o.id) (ops ++ o ∷ []) ≡ body_by o.id o.kind
+carried_of : (folder : List ℕ) (ops : List Op) (o : Op) → IsApplied (ops ++ o ∷ []) → adds (MessageTag folder o.id) o ≡ true → first_some (tag_data_from folder o.id) (ops ++ o ∷ []) ≡ tag_data_by o.id o.kind
 carried_of folder ops o a t =
-    given_append (body_from folder o.id) ops (o ∷ [])
-    ∙ (λ k. option_or (none_given folder o.id ops (added_once ops o (MessageTag folder o.id) a t) k) (option_or (cond (t k) (body_by o.id o.kind) None) None))
-    ∙ or-none (body_by o.id o.kind)
+    given_append (tag_data_from folder o.id) ops (o ∷ [])
+    ∙ (λ k. option_or (none_given folder o.id ops (added_once ops o (MessageTag folder o.id) a t) k) (option_or (cond (t k) (tag_data_by o.id o.kind) None) None))
+    ∙ or-none (tag_data_by o.id o.kind)
   where
     or-none : {Y : Type 0} (x : Option Y) → option_or x None ≡ x
     or-none None = refl
     or-none (Some y) = refl
 
-    none_given : (f : List ℕ) (i : OpId) (os : List Op) → list_any (adds (MessageTag f i)) os ≡ false → first_given (body_from f i) os ≡ None
+    none_given : (f : List ℕ) (i : OpId) (os : List Op) → list_any (adds (MessageTag f i)) os ≡ false → first_some (tag_data_from f i) os ≡ None
     none_given f i [] h = refl
     none_given f i (o ∷ os) h =
         let p = or_parts (adds (MessageTag f i) o) (list_any (adds (MessageTag f i)) os) h in
-        (λ k. option_or (cond (p.0 k) (body_by o.id o.kind) None) (first_given (body_from f i) os)) ∙ none_given f i os p.1
+        (λ k. option_or (cond (p.0 k) (tag_data_by o.id o.kind) None) (first_some (tag_data_from f i) os)) ∙ none_given f i os p.1
 
 some_of : {Y : Type 0} (o : Option Y) → IsSome o → (y : Y) × (o ≡ Some y)
 some_of None h = absurd (false≢true h)
 some_of (Some y) h = (y, refl)
 
 -- a present tag carries something
-pub present_carries : (folder : List ℕ) (ops : List Op) (id : OpId) → is_present ops (MessageTag folder id) ≡ true → (b : Body) × (first_given (body_from folder id) ops ≡ Some b)
+pub present_carries : (folder : List ℕ) (ops : List Op) (id : OpId) → is_present ops (MessageTag folder id) ≡ true → (b : MessageTagData) × (first_some (tag_data_from folder id) ops ≡ Some b)
 present_carries folder ops id p =
     let w = (any_in (adds (MessageTag folder id)) ops).0 (and_parts (list_any (adds (MessageTag folder id)) ops) (not (list_any (removes (MessageTag folder id)) ops)) p).0 in
-    let here : IsSome (body_from folder id w.0) = subst (λ (b : Bool). IsSome (cond b (body_by w.0.id w.0.kind) None)) (sym w.2) (carries folder id w.0.id w.0.kind w.2) in
-    some_of (first_given (body_from folder id) ops) ((given_in (body_from folder id) ops).1 (w.0, w.1, here))
+    let here : IsSome (tag_data_from folder id w.0) = subst (λ (b : Bool). IsSome (cond b (tag_data_by w.0.id w.0.kind) None)) (sym w.2) (carries folder id w.0.id w.0.kind w.2) in
+    some_of (first_some (tag_data_from folder id) ops) ((given_in (tag_data_from folder id) ops).1 (w.0, w.1, here))
 
 one_some : {Y : Type 0} (o : Option Y) (x y : Y) → o ≡ Some x → o ≡ Some y → x ≡ y
 one_some o x y h k = cc
 
 -- ---- where origins come from
 
-given_step : {X Y : Type 0} (f : X → Option Y) (x : X) (xs : List X) (y : Y) (o : Option Y) → o ≡ f x → option_or o (first_given f xs) ≡ Some y → (first_given f xs ≡ Some y → (z : X) × IsIn z xs × (f z ≡ Some y)) → (z : X) × IsIn z (x ∷ xs) × (f z ≡ Some y)
+given_step : {X Y : Type 0} (f : X → Option Y) (x : X) (xs : List X) (y : Y) (o : Option Y) → o ≡ f x → option_or o (first_some f xs) ≡ Some y → (first_some f xs ≡ Some y → (z : X) × IsIn z xs × (f z ≡ Some y)) → (z : X) × IsIn z (x ∷ xs) × (f z ≡ Some y)
 given_step f x xs y None e h k = let w = k h in (w.0, inr w.1, w.2)
 given_step f x xs y (Some v) e h k = (x, inl refl, sym e ∙ h)
 
-pub given_by : {X Y : Type 0} (f : X → Option Y) (xs : List X) (y : Y) → first_given f xs ≡ Some y → (x : X) × IsIn x xs × (f x ≡ Some y)
+pub given_by : {X Y : Type 0} (f : X → Option Y) (xs : List X) (y : Y) → first_some f xs ≡ Some y → (x : X) × IsIn x xs × (f x ≡ Some y)
 given_by f [] y h = absurd cc
 given_by f (x ∷ xs) y h = given_step f x xs y (f x) refl h (given_by f xs y)
 
-pub body_chosen : (b : Bool) (o : Option Body) (y : Body) → cond b o None ≡ Some y → o ≡ Some y
+pub body_chosen : (b : Bool) (o : Option MessageTagData) (y : MessageTagData) → cond b o None ≡ Some y → o ≡ Some y
 body_chosen true o y h = h
 body_chosen false o y h = absurd cc
 
 -- the origin of what a tag carries came earlier, or is the tag's own
-origin_by : (ops : List Op) (id : OpId) (kind : Kind) (clock : List (ℕ × ℕ)) (b : Body) → CoversNamed clock kind → ((i : OpId) → IsCause clock i → Has ops i) → Has ops id → body_by id kind ≡ Some b → Has ops b.origin
+origin_by : (ops : List Op) (id : OpId) (kind : Kind) (clock : List (ℕ × ℕ)) (b : MessageTagData) → CoversReferenced clock kind → ((i : OpId) → IsCause clock i → Has ops i) → Has ops id → tag_data_by id kind ≡ Some b → Has ops b.origin
 origin_by ops id (Create folder) clock b c h i e = absurd cc
 origin_by ops id (Delete folder seen) clock b c h i e = absurd cc
-origin_by ops id (Append folder flags date text) clock b c h i e = let k : record { flags = flags; origin = id } ≡ b = cc in subst (λ (x : Body). Has ops x.origin) k i
+origin_by ops id (Append folder flags date text) clock b c h i e = let k : record { flags = flags; origin = id } ≡ b = cc in subst (λ (x : MessageTagData). Has ops x.origin) k i
 origin_by ops id (Expunge folder olds) clock b c h i e = absurd cc
-origin_by ops id (Store folder flags olds origin) clock b c h i e = let k : record { flags = flags; origin = origin } ≡ b = cc in subst (λ (x : Body). Has ops x.origin) k (h origin c.1)
+origin_by ops id (Store folder flags olds origin) clock b c h i e = let k : record { flags = flags; origin = origin } ≡ b = cc in subst (λ (x : MessageTagData). Has ops x.origin) k (h origin c.1)
 origin_by ops id (Subscribe folder) clock b c h i e = absurd cc
 origin_by ops id (Unsubscribe folder seen) clock b c h i e = absurd cc
 
-pub origin_there : (folder : List ℕ) (ops : List Op) (id : OpId) (b : Body) → IsApplied ops → first_given (body_from folder id) ops ≡ Some b → Has ops b.origin
+pub origin_there : (folder : List ℕ) (ops : List Op) (id : OpId) (b : MessageTagData) → IsApplied ops → first_some (tag_data_from folder id) ops ≡ Some b → Has ops b.origin
 origin_there folder ops id b a h =
-    let w = given_by (body_from folder id) ops b h in
+    let w = given_by (tag_data_from folder id) ops b h in
     let s = split_at w.0 ops w.1 in
     let ripe = a.causal s.0 w.0 s.1 s.2 in
     origin_by ops w.0.id w.0.kind w.0.clock b (a.sound w.0 w.1).covered
     (λ i c. subst (λ xs. Has xs i) (sym s.2) (id_in_front id_of i s.0 (w.0 ∷ s.1) (ripe.0 i c)))
     (id_of_element id_of w.0 ops w.1)
-    (body_chosen (adds (MessageTag folder id) w.0) (body_by w.0.id w.0.kind) b w.2)
+    (body_chosen (adds (MessageTag folder id) w.0) (tag_data_by w.0.id w.0.kind) b w.2)
 
 -- ---- an origin has a version
 
@@ -136,7 +136,7 @@ pub origin_applied : (folder : List ℕ) (ops : List Op) (g : OpId) → IsApplie
 origin_applied folder ops g a h =
     let v = (version_in folder ops g).0 h in
     let b = present_carries folder ops v.0 v.1.0 in
-    let e : ◌≡◌ {A = Option OpId} (Some b.0.origin) (Some g) = sym (ap (option_map (λ (x : Body). x.origin)) b.1) ∙ v.1.1 in
+    let e : ◌≡◌ {A = Option OpId} (Some b.0.origin) (Some g) = sym (ap (option_map (λ (x : MessageTagData). x.origin)) b.1) ∙ v.1.1 in
     let k : b.0.origin ≡ g = cc in
     subst (Has ops) k (origin_there folder ops v.0 b.0 a b.1)
 
@@ -161,11 +161,11 @@ module _ (folder : List ℕ) (ops : List Op) (o : Op) (a : IsApplied (ops ++ o �
   origin_kept : (i : OpId) → is_present ops (MessageTag folder i) ≡ true → origin_of (ops ++ o ∷ []) folder i ≡ origin_of ops folder i
   origin_kept i p =
       let b = present_carries folder ops i p in
-      ap (option_map (λ (x : Body). x.origin)) (given_more (body_from folder i) ops (o ∷ []) b.0 b.1 ∙ sym b.1)
+      ap (option_map (λ (x : MessageTagData). x.origin)) (given_more (tag_data_from folder i) ops (o ∷ []) b.0 b.1 ∙ sym b.1)
 
   -- the tag that the operation adds has the operation's origin
   pub origin_new : adds (MessageTag folder o.id) o ≡ true → origin_of (ops ++ o ∷ []) folder o.id ≡ origin_added folder o
-  origin_new t = ap (option_map (λ (x : Body). x.origin)) (carried_of folder ops o a t ∙ (λ k. cond (sym t k) (body_by o.id o.kind) None))
+  origin_new t = ap (option_map (λ (x : MessageTagData). x.origin)) (carried_of folder ops o a t ∙ (λ k. cond (sym t k) (tag_data_by o.id o.kind) None))
 
   pub version_kept : (g i : OpId) → IsVersion ops folder g i → removes (MessageTag folder i) o ≡ false → IsVersion (ops ++ o ∷ []) folder g i
   version_kept g i v r = (
@@ -185,7 +185,7 @@ module _ (folder : List ℕ) (ops : List Op) (o : Op) (a : IsApplied (ops ++ o �
       ]
 
   -- where an origin's first version comes, the operation adds it
-  pub begun_added : (g : OpId) → begins_line_of folder g ops o ≡ true → origin_added folder o ≡ Some g
+  pub begun_added : (g : OpId) → begins_line_of_origin folder g ops o ≡ true → origin_added folder o ≡ Some g
   begun_added g h =
       let p = and_parts (has_version folder g (ops ++ o ∷ [])) (not (has_version folder g ops)) h in
       let v = (version_in folder (ops ++ o ∷ []) g).0 p.0 in
@@ -198,11 +198,11 @@ module _ (folder : List ℕ) (ops : List Op) (o : Op) (a : IsApplied (ops ++ o �
       not_both true h k = false≢true h
       not_both false h k = false≢true k
 
-  pub line_begun : (g : OpId) → begins_line_of folder g ops o ≡ true → begins_line folder ops o ≡ true
-  line_begun g h = ap (holds_of (λ origin. begins_line_of folder origin ops o)) (begun_added g h) ∙ h
+  pub line_begun : (g : OpId) → begins_line_of_origin folder g ops o ≡ true → begins_line folder ops o ≡ true
+  line_begun g h = ap (holds_of_some (λ origin. begins_line_of_origin folder origin ops o)) (begun_added g h) ∙ h
 
   -- an operation about another folder leaves the versions
-  pub versions_other : (g : OpId) → concerns_by folder o.kind ≡ false → versions_of (ops ++ o ∷ []) folder g ≡ versions_of ops folder g
+  pub versions_other : (g : OpId) → kind_names_folder folder o.kind ≡ false → versions_of (ops ++ o ∷ []) folder g ≡ versions_of ops folder g
   versions_other g f =
       let l = versions_listed (ops ++ o ∷ []) folder g in
       let m = versions_listed ops folder g in
@@ -235,15 +235,15 @@ module _ (folder : List ℕ) (ops : List Op) (o : Op) where
   unchanged g h = same_are (versions_of ops folder g) (versions_of (ops ++ o ∷ []) folder g) (not_false (same_ids (versions_of ops folder g) (versions_of (ops ++ o ∷ []) folder g)) h)
 
   -- an operation that changes a message's versions is about its folder
-  pub changed_about : (g : OpId) → IsApplied (ops ++ o ∷ []) → changes_versions folder g ops o ≡ true → concerns_by folder o.kind ≡ true
+  pub changed_about : (g : OpId) → IsApplied (ops ++ o ∷ []) → changes_versions folder g ops o ≡ true → kind_names_folder folder o.kind ≡ true
   changed_about g a h =
-      elim (cases_Bool (concerns_by folder o.kind)) [
+      elim (cases_Bool (kind_names_folder folder o.kind)) [
         | inl t ↦ t
         | inr f ↦ absurd (false≢true (sym (ap not (ap (same_ids (versions_of ops folder g)) (versions_other folder ops o a g f) ∙ same_itself (versions_of ops folder g))) ∙ h))
       ]
 
   -- one with which a line begins changes them
-  pub begun_changed : (g : OpId) → begins_line_of folder g ops o ≡ true → changes_versions folder g ops o ≡ true
+  pub begun_changed : (g : OpId) → begins_line_of_origin folder g ops o ≡ true → changes_versions folder g ops o ≡ true
   begun_changed g h =
       elim (cases_Bool (changes_versions folder g ops o)) [
         | inl t ↦ t

@@ -10,8 +10,8 @@ use Rattle.uid_projection.specs.declared.charts.Charts.{Charts}
 use Rattle.uid_projection.specs.declared.chart.Chart.{Chart}
 use Rattle.uid_projection.specs.Applied.{IsApplied}
 use Rattle.uid_projection.specs.Following.{IsReadyFor}
-use Rattle.uid_projection.specs.Moves.{added_origin}
-use Rattle.uid_projection.specs.Table.{HasRooms, HasRoomsIn, chart_at}
+use Rattle.uid_projection.specs.EntryMoves.{added_origin}
+use Rattle.uid_projection.specs.ChartTable.{HasRooms, HasRoomsIn, chart_at}
 
 -- Room for more operations is room for fewer.
 pub less_room : (origin : Option OpId) (m n : ℕ) (folder : List ℕ) (charts : List (Vec ℕ × Chart)) → m ≤ n → HasRooms origin n folder charts → HasRooms origin m folder charts

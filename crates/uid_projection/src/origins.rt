@@ -2,10 +2,10 @@
 
 ghost use Rattle.std.specs.Prelude.{◌≡◌, ◌<◌, ◌≤◌, ◌+◌, None, if◌then◌else◌};
 ghost use Rattle.indexmap.specs.IndexMap.{spare};
-ghost use Rattle.tags_clocks.specs.declared.id.OpId.{OpId as Id};
-ghost use Rattle.crdt_ops.specs.Order.{same_id};
-ghost use Rattle.uid_projection.specs.Moves.{with_id, without};
-ghost use Rattle.uid_projection.specs.Table.{origin_at};
+ghost use Rattle.tags_clocks.specs.declared.id.OpId.{OpId};
+ghost use Rattle.crdt_ops.specs.SortedSets.{same_id};
+ghost use Rattle.uid_projection.specs.EntryMoves.{origins_with, origins_without};
+ghost use Rattle.uid_projection.specs.ChartTable.{origin_at};
 
 use indexmap::IndexMap;
 use tags_clocks::OpId;
@@ -19,7 +19,7 @@ pub fn origin_at(versions: &IndexMap<OpId, OpId>, id: &OpId) -> Option<OpId>
 
 /// Takes the versions with these ids out.
 pub fn take_versions(versions: &mut IndexMap<OpId, OpId>, removed: &[OpId])
-    ensures told { (i : Id) → origin_at versions.new.entries i ≡ without (origin_at versions.old.entries) removed.now i }
+    ensures told { (i : OpId) → origin_at versions.new.entries i ≡ origins_without (origin_at versions.old.entries) removed.now i }
     ensures room { spare versions.old ≤ spare versions.new }
 {
     for id in removed {
@@ -29,7 +29,7 @@ pub fn take_versions(versions: &mut IndexMap<OpId, OpId>, removed: &[OpId])
 
 /// Takes the version with this id out.
 fn take_version(versions: &mut IndexMap<OpId, OpId>, id: &OpId)
-    ensures told { (i : Id) → origin_at versions.new.entries i ≡ (if same_id id.now i then None else origin_at versions.old.entries i) }
+    ensures told { (i : OpId) → origin_at versions.new.entries i ≡ (if same_id id.now i then None else origin_at versions.old.entries i) }
     ensures room { spare versions.old ≤ spare versions.new }
 {
     versions.swap_remove(id);
@@ -38,7 +38,7 @@ fn take_version(versions: &mut IndexMap<OpId, OpId>, id: &OpId)
 /// Puts a version of this origin in, for which there is room.
 pub fn put_version(versions: &mut IndexMap<OpId, OpId>, id: &OpId, origin: &OpId)
     requires { 0 < spare versions.old }
-    ensures told { (i : Id) → origin_at versions.new.entries i ≡ with_id (origin_at versions.old.entries) id.now origin.now i }
+    ensures told { (i : OpId) → origin_at versions.new.entries i ≡ origins_with (origin_at versions.old.entries) id.now origin.now i }
     ensures room { spare versions.old ≤ spare versions.new + 1 }
 {
     if versions.insert(*id, *origin).is_err() {

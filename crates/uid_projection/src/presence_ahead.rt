@@ -3,21 +3,21 @@
 ghost use Rattle.std.specs.Prelude.{◌≡◌, true, false, Some};
 ghost use Rattle.std.specs.List.{slice_get};
 ghost use Rattle.std.specs.Map.{lookup};
-ghost use Rattle.tags_clocks.specs.declared.id.OpId.{OpId as Id};
-ghost use Rattle.crdt_ops.specs.Order.{same_id};
-ghost use Rattle.folder_state.specs.Kept.{folder_ids};
-ghost use Rattle.uid_projection.specs.Changes.{IsKeptTag, at_key, is_put, is_tag, is_there, is_there_at, kept_of, tag_over};
+ghost use Rattle.tags_clocks.specs.declared.id.OpId.{OpId};
+ghost use Rattle.crdt_ops.specs.SortedSets.{same_id};
+ghost use Rattle.folder_state.specs.FolderTables.{folder_ids};
+ghost use Rattle.uid_projection.specs.TagChanges.{IsKeptTag, value_at_key, is_put, is_tag, is_there, is_there_at, kept_of, tag_over};
 
-use crate::changes::Change;
-use crate::messages::MessagesAhead;
+use crate::tag_changes::TagChange;
+use crate::messages_ahead::MessagesAhead;
 use folder_state::Folder;
 use indexmap::IndexMap;
 use tags_clocks::OpId;
 
 /// Whether one of these folder tags is there.
 pub fn has_tag_put(tags: &IndexMap<OpId, bool>) -> bool
-    ensures yes { result ≡ true → (i : Id) × (is_tag (lookup (same_id i) tags.now.entries) ≡ true) }
-    ensures no { result ≡ false → (i : Id) → is_tag (lookup (same_id i) tags.now.entries) ≡ true → ⊥ }
+    ensures yes { result ≡ true → (i : OpId) × (is_tag (lookup (same_id i) tags.now.entries) ≡ true) }
+    ensures no { result ≡ false → (i : OpId) → is_tag (lookup (same_id i) tags.now.entries) ≡ true → ⊥ }
 {
     let mut at = tags.len();
     while at > 0 {
@@ -31,7 +31,7 @@ pub fn has_tag_put(tags: &IndexMap<OpId, bool>) -> bool
 
 /// Whether the folder tag at this place is there.
 fn is_tag_at(tags: &IndexMap<OpId, bool>, place: usize) -> bool
-    ensures { result ≡ at_key is_tag tags.now.entries (slice_get tags.now.entries place) }
+    ensures { result ≡ value_at_key is_tag tags.now.entries (slice_get tags.now.entries place) }
 {
     match tags.get_index(place) {
         Some((id, _)) => is_tag(tags, id),
@@ -50,9 +50,9 @@ fn is_tag(tags: &IndexMap<OpId, bool>, id: &OpId) -> bool
 }
 
 /// Whether one of these message tags is there.
-pub fn has_change_put(changes: &IndexMap<OpId, Change<'_>>) -> bool
-    ensures yes { result ≡ true → (i : Id) × (is_put (lookup (same_id i) changes.now.entries) ≡ true) }
-    ensures no { result ≡ false → (i : Id) → is_put (lookup (same_id i) changes.now.entries) ≡ true → ⊥ }
+pub fn has_change_put(changes: &IndexMap<OpId, TagChange<'_>>) -> bool
+    ensures yes { result ≡ true → (i : OpId) × (is_put (lookup (same_id i) changes.now.entries) ≡ true) }
+    ensures no { result ≡ false → (i : OpId) → is_put (lookup (same_id i) changes.now.entries) ≡ true → ⊥ }
 {
     let mut at = changes.len();
     while at > 0 {
@@ -65,8 +65,8 @@ pub fn has_change_put(changes: &IndexMap<OpId, Change<'_>>) -> bool
 }
 
 /// Whether the message tag at this place is there.
-fn is_put_at(changes: &IndexMap<OpId, Change<'_>>, place: usize) -> bool
-    ensures { result ≡ at_key is_put changes.now.entries (slice_get changes.now.entries place) }
+fn is_put_at(changes: &IndexMap<OpId, TagChange<'_>>, place: usize) -> bool
+    ensures { result ≡ value_at_key is_put changes.now.entries (slice_get changes.now.entries place) }
 {
     match changes.get_index(place) {
         Some((id, _)) => is_put(changes, id),
@@ -75,7 +75,7 @@ fn is_put_at(changes: &IndexMap<OpId, Change<'_>>, place: usize) -> bool
 }
 
 /// Whether the message tag with this id is there, by these changes.
-fn is_put(changes: &IndexMap<OpId, Change<'_>>, id: &OpId) -> bool
+fn is_put(changes: &IndexMap<OpId, TagChange<'_>>, id: &OpId) -> bool
     ensures { result ≡ is_put (lookup (same_id id.now) changes.now.entries) }
 {
     match changes.get(id).copied() {
@@ -86,8 +86,8 @@ fn is_put(changes: &IndexMap<OpId, Change<'_>>, id: &OpId) -> bool
 
 /// Whether a tag that is kept is there.
 pub fn has_tag_left(tags: &IndexMap<OpId, bool>, messages: &MessagesAhead<'_>) -> bool
-    ensures yes { result ≡ true → (i : Id) × (is_there tags.now.entries messages.now i ≡ true) }
-    ensures no { result ≡ false → (i : Id) → IsKeptTag (kept_of messages.now) i → is_there tags.now.entries messages.now i ≡ true → ⊥ }
+    ensures yes { result ≡ true → (i : OpId) × (is_there tags.now.entries messages.now i ≡ true) }
+    ensures no { result ≡ false → (i : OpId) → IsKeptTag (kept_of messages.now) i → is_there tags.now.entries messages.now i ≡ true → ⊥ }
 {
     match messages.kept {
         Some(folder) => has_tag_left_in(tags, messages, folder),
@@ -102,8 +102,8 @@ fn has_tag_left_in(
     folder: &Folder,
 ) -> bool
     requires { kept_of messages.now ≡ Some folder.now }
-    ensures yes { result ≡ true → (i : Id) × (is_there tags.now.entries messages.now i ≡ true) }
-    ensures no { result ≡ false → (i : Id) → IsKeptTag (kept_of messages.now) i → is_there tags.now.entries messages.now i ≡ true → ⊥ }
+    ensures yes { result ≡ true → (i : OpId) × (is_there tags.now.entries messages.now i ≡ true) }
+    ensures no { result ≡ false → (i : OpId) → IsKeptTag (kept_of messages.now) i → is_there tags.now.entries messages.now i ≡ true → ⊥ }
 {
     for place in 0..folder.count() {
         if is_there_at(tags, messages, folder, place) {

@@ -1,15 +1,15 @@
 //! Versions in their order.
 
 ghost use Rattle.std.specs.Prelude.{◌≡◌, ◌≤◌, OnOk, MatchResult, insert, length};
-ghost use Rattle.crdt_ops.specs.Order.{placed};
-ghost use Rattle.uid_projection.specs.Changes.{by_id};
+ghost use Rattle.crdt_ops.specs.SortedSets.{insert_ordered};
+ghost use Rattle.uid_projection.specs.TagChanges.{by_id};
 
 use imap_types::Version;
 use std::alloc::AllocError;
 
 /// Puts a version in its place; where its id is there, all stays.
 pub fn place(versions: &mut Vec<Version>, version: Version) -> Result<(), AllocError>
-    ensures { OnOk result (versions.new.items ≡ placed by_id version versions.old.items) }
+    ensures { OnOk result (versions.new.items ≡ insert_ordered by_id version versions.old.items) }
 {
     if let Err(at) = place_of(versions, &version) {
         if versions.insert(at, version).is_err() {
@@ -22,8 +22,8 @@ pub fn place(versions: &mut Vec<Version>, version: Version) -> Result<(), AllocE
 /// Where a version with this one's id stands, or where this one would be put.
 fn place_of(versions: &[Version], version: &Version) -> Result<usize, usize>
     ensures { MatchResult result
-        (λ at. placed by_id version.now versions.now ≡ versions.now)
-        (λ at. (at ≤ length versions.now) × (placed by_id version.now versions.now ≡ insert versions.now at version.now)) }
+        (λ at. insert_ordered by_id version.now versions.now ≡ versions.now)
+        (λ at. (at ≤ length versions.now) × (insert_ordered by_id version.now versions.now ≡ insert versions.now at version.now)) }
 {
     for (at, other) in versions.iter().enumerate() {
         if version.id == other.id {

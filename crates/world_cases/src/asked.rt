@@ -1,13 +1,13 @@
 //! Lines that say what happens in a world.
 
-use case_text::{Trouble, number, replica};
+use case_lines::{Trouble, number, replica};
 use imap_grammar::{Tagged, idle_line, parse};
 use imap_node::{Auth, SessionNo};
 use imap_types::{Escape, Moment, read_escaped};
 use std::alloc::Global;
 use tags_clocks::{OpId, ReplicaId};
 use text_fields::id;
-use uid_projection::Start;
+use uid_projection::Counters;
 use world_core::Event;
 
 /// What stands before the first space and behind it; without one the whole text and nothing.
@@ -105,7 +105,7 @@ fn session_in(text: &str) -> Result<SessionNo, Trouble> {
 }
 
 /// The replicas that a line declares: names with single spaces, each also as `R:U:K` with its first numbers.
-pub fn starts(alloc: Global, text: &str) -> Result<Vec<Start>, Trouble> {
+pub fn starts(alloc: Global, text: &str) -> Result<Vec<Counters>, Trouble> {
     let mut starts = Vec::new(alloc);
     for word in text.split(' ') {
         starts.push(start(word)?)?;
@@ -113,9 +113,9 @@ pub fn starts(alloc: Global, text: &str) -> Result<Vec<Start>, Trouble> {
     Ok(starts)
 }
 
-fn start(word: &str) -> Result<Start, Trouble> {
+fn start(word: &str) -> Result<Counters, Trouble> {
     let Some((name, numbers)) = word.split_once(':') else {
-        return Ok(Start {
+        return Ok(Counters {
             replica: replica(word)?,
             uid: 1,
             k: 1,
@@ -124,7 +124,7 @@ fn start(word: &str) -> Result<Start, Trouble> {
     let Some((uid, k)) = numbers.split_once(':') else {
         return Err(Trouble::NotACase);
     };
-    Ok(Start {
+    Ok(Counters {
         replica: replica(name)?,
         uid: number(uid)?,
         k: number(k)?,

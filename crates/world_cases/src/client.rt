@@ -2,7 +2,7 @@
 
 use imap_answers::{Answer, FetchItems, Notice};
 use imap_types::Flags;
-use session_view::{Entries, Silent};
+use session_view::{ViewEntries, SilentFlags};
 use std::alloc::{AllocError, Global};
 
 /// A message as the client knows it.
@@ -72,14 +72,14 @@ impl Client {
 
     /// Takes flags that it set in silence (RFC 9051, section 6.4.6), of one message after another. An error says that there is no
     /// memory.
-    pub fn set_all(&mut self, alloc: Global, silents: &[Silent]) -> Result<(), AllocError> {
+    pub fn set_all(&mut self, alloc: Global, silents: &[SilentFlags]) -> Result<(), AllocError> {
         for silent in silents {
             self.set(alloc, silent)?;
         }
         Ok(())
     }
 
-    fn set(&mut self, alloc: Global, silent: &Silent) -> Result<(), AllocError> {
+    fn set(&mut self, alloc: Global, silent: &SilentFlags) -> Result<(), AllocError> {
         match self.slots.get_mut(place_of(silent.number)) {
             Some(slot) => slot.flags = Some(silent.flags.copy(alloc)?),
             None => self.is_lost = true,
@@ -141,7 +141,7 @@ impl Client {
     }
 
     /// Whether all that the client knows of messages is as a session sees it.
-    pub fn is_right_for(&self, entries: &Entries) -> bool {
+    pub fn is_right_for(&self, entries: &ViewEntries) -> bool {
         if self.is_lost || self.slots.len() != entries.len() {
             return false;
         }

@@ -5,7 +5,7 @@ ghost use Rattle.std.specs.Prelude.{◌<◌};
 use crate::asked::spelled;
 use crate::chance::Chance;
 use crate::commands::{Sort, command};
-use case_text::Trouble;
+use case_lines::Trouble;
 use imap_commands::Credentials;
 use imap_grammar::IdleLine;
 use imap_node::{Auth, Node, Session, SessionNo, State};
@@ -85,8 +85,8 @@ fn opening(alloc: Global, chance: &mut Chance, at: ReplicaId) -> Result<Event, T
         });
     }
     let credentials = Credentials {
-        user: Octets::copied_from(alloc, b"u")?,
-        password: Octets::copied_from(alloc, b"p")?,
+        user: Octets::from_slice(alloc, b"u")?,
+        password: Octets::from_slice(alloc, b"p")?,
     };
     Ok(Event::Open {
         at,

@@ -5,11 +5,11 @@ ghost use Rattle.world_core.specs.Worlds.{AreFromOne};
 
 use imap_node::Node;
 use std::alloc::Global;
-use uid_projection::Start;
+use uid_projection::Counters;
 use world_core::{Agreement, SettleFault, agree, settle};
 
 /// Whether their UIDs begin with 1 or more.
-pub fn are_from_one(starts: &[Start]) -> bool
+pub fn are_from_one(starts: &[Counters]) -> bool
     ensures { IsTrue result → AreFromOne starts.now }
 {
     for start in starts {

@@ -7,12 +7,12 @@ use crate::chance::Chance;
 use crate::deeds::{Note, deed};
 use crate::tally::Tally;
 use crate::watch::Watch;
-use case_text::{Trouble, Words, long_number};
+use case_lines::{Trouble, Words, long_number};
 use imap_node::Node;
-use imap_talk::write_dump;
+use imap_connection::write_dump;
 use std::alloc::{AllocError, Global};
 use tags_clocks::ReplicaId;
-use uid_projection::Start;
+use uid_projection::Counters;
 use world_core::{Agreement, Event, Outcomes, World, agree, run, settle};
 
 /// How many events happen in a random world.
@@ -87,11 +87,11 @@ fn world(alloc: Global) -> Result<World, Trouble> {
     }
 }
 
-fn start(number: u32) -> Result<Start, Trouble>
+fn start(number: u32) -> Result<Counters, Trouble>
     ensures { IfOk result (λ start. start.uid ≡ 1) }
 {
     match ReplicaId::new(number) {
-        Some(replica) => Ok(Start {
+        Some(replica) => Ok(Counters {
             replica,
             uid: 1,
             k: 1,

@@ -1,6 +1,6 @@
 //! What came in random worlds.
 
-use case_text::Words;
+use case_lines::Words;
 use causal_inbox::{Arrival, Delivered};
 use imap_answers::Answer;
 use imap_node::Reply;

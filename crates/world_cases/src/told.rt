@@ -1,7 +1,7 @@
 //! What came of events, as text.
 
 use crate::asked::cut;
-use case_text::Words;
+use case_lines::Words;
 use causal_inbox::{Arrival, DeliverFault, Delivered, Drained};
 use imap_answers::{Answer, Refusal};
 use imap_node::{Issued, OpenFault, Reply, Silents};
@@ -135,5 +135,5 @@ fn tag_in(alloc: Global, line: &str) -> Result<Octets, AllocError> {
     let (_, rest) = cut(rest);
     let (_, text) = cut(rest);
     let (tag, _) = cut(text);
-    Octets::copied_from(alloc, tag.as_bytes())
+    Octets::from_slice(alloc, tag.as_bytes())
 }

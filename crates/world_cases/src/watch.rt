@@ -6,7 +6,7 @@ use crate::deeds::{Note, REPLICAS, SESSIONS};
 use crate::tally::Tally;
 use imap_answers::Answer;
 use imap_node::{Node, Reply, Session, SessionNo, State};
-use session_view::{Silent, View};
+use session_view::{SilentFlags, View};
 use std::alloc::{AllocError, Global};
 use world_core::Outcome;
 
@@ -89,7 +89,7 @@ impl Watch {
         &mut self,
         alloc: Global,
         note: Note,
-        silents: &[Silent],
+        silents: &[SilentFlags],
         answers: &[Answer],
     ) -> Result<(), AllocError> {
         let Some(Some(client)) = self.clients.get_mut(place_of(note)) else {

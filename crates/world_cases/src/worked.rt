@@ -4,11 +4,11 @@ use crate::asked::{cut, event, starts};
 use crate::ending::{agreement, are_from_one, ended};
 use crate::games::tell_random;
 use crate::told::tell;
-use case_text::{Trouble, Words, replica};
+use case_lines::{Trouble, Words, replica};
 use imap_node::Node;
 use std::alloc::{AllocError, Global};
 use tags_clocks::ReplicaId;
-use uid_projection::Start;
+use uid_projection::Counters;
 use world_core::{Event, Outcomes, World, WorldFault, run};
 
 /// The replicas behind all that happened so far.
@@ -35,7 +35,7 @@ impl Behind {
 /// A worked world as far as it was read.
 #[derive(Drop)]
 struct Worked<'a> {
-    starts: Vec<Start>,
+    starts: Vec<Counters>,
     /// What happens in the next run, and the lines that say so.
     lines: Vec<&'a str>,
     events: Vec<Event>,

@@ -1,12 +1,12 @@
 use Rattle.std.proofs.Common.{◌≡◌, ℕ, ◌+◌, List, [], ◌∷◌, append-nil, refl, sym, ap, ◌∙◌, subst}
 use Rattle.std.specs.Prelude.{Ok}
-use Rattle.causal_inbox.specs.Seen.{IsClockOf}
+use Rattle.causal_inbox.specs.Inbox.{IsClockOf}
 use Rattle.crdt_ops.specs.declared.kind.Kind.{Kind}
 use Rattle.crdt_ops.specs.declared.op.Op.{Op}
 use Rattle.crdt_ops.specs.Sound.{IsSound}
 use Rattle.imap_commands.specs.declared.session.State.{State}
 use Rattle.imap_node.specs.Operations.{AreNext, CanIssueAll, id_of}
-use Rattle.imap_node.specs.Respond.{wants_of}
+use Rattle.imap_node.specs.Responses.{input_intent}
 use Rattle.imap_node.specs.declared.input.Input.{Input}
 use Rattle.imap_node.proofs.CanLemmas.{input_can}
 use Rattle.imap_node.proofs.NextLemmas.{can_by}
@@ -14,7 +14,7 @@ use Rattle.imap_node.proofs.ThereLemmas.{mapped_in}
 use Rattle.merge_laws.specs.Orders.{AreSound, IsIn}
 use Rattle.merge_laws.proofs.Lists.{split_at}
 use Rattle.tags_clocks.specs.Clock.{count_of}
-use Rattle.uid_projection.specs.declared.start.Start.{Start}
+use Rattle.uid_projection.specs.declared.first_numbers.Counters.{Counters}
 use Rattle.uid_projection.specs.Applied.{IsApplied}
 
 -- ---- what was issued
@@ -39,7 +39,7 @@ next_sound replica applied kinds ops all h = λ o i.
       count = can.lawful.count;
     }
 
-module _ (start : Start) (applied : List Op) (a : IsApplied applied) (stamp : List ℕ) (state : State) (input : Input) (given : List Kind) (wanted : wants_of start applied stamp state input ≡ Ok given) (ops : List Op) (next : AreNext start.replica applied given ops) where
+module _ (start : Counters) (applied : List Op) (a : IsApplied applied) (stamp : List ℕ) (state : State) (input : Input) (given : List Kind) (wanted : input_intent start applied stamp state input ≡ Ok given) (ops : List Op) (next : AreNext start.replica applied given ops) where
   -- what an input issues is sound
   pub issue_sound : AreSound IsSound ops
   issue_sound = next_sound start.replica applied given ops (input_can start applied a stamp state input given wanted) next

@@ -1,19 +1,19 @@
 //! Replicas that join a world.
 
 ghost use Rattle.std.specs.Prelude.{◌≡◌, ◌≢◌, ◌∷◌, ◌++◌, [], Err, IfErr, IsTrue, MatchResult, None, OnErr, OnOk, false};
-ghost use Rattle.crdt_ops.specs.declared.op.Op.{Op as Operation};
-ghost use Rattle.imap_node.specs.Nodes.{NodeState, joined, unused_node};
+ghost use Rattle.crdt_ops.specs.declared.op.Op.{Op};
+ghost use Rattle.imap_node.specs.Nodes.{NodeState, joined_node, unused_node};
 ghost use Rattle.merge_laws.specs.Orders.{IsCausal, IsRipe};
 ghost use Rattle.uid_projection.specs.Exhaustion.{Exhausts};
 ghost use Rattle.world_core.specs.Joins.{IsNotJoined, LacksNumbers, outcome_of};
 ghost use Rattle.imap_node.specs.Operations.{clock_of, id_of};
-ghost use Rattle.world_core.specs.Replicas.{IsAt, by_name, states_of};
+ghost use Rattle.world_core.specs.Replicas.{IsAt, nodes_by_name, all_without_room};
 ghost use Rattle.world_core.specs.Steps.{Steps};
 ghost use Rattle.world_core.specs.declared.event.Event.TheVariants as events;
 ghost use Rattle.world_core.specs.declared.joining.JoinRefusal.TheVariants.{Exhausted as UsedUp};
 
 use crate::event::Outcome;
-use crate::places::place_of;
+use crate::node_places::place_of;
 use crate::world::WorldFault;
 use causal_inbox::DeliverFault;
 use crdt_ops::SoundOp;
@@ -22,7 +22,7 @@ use merge_laws::Caused;
 use std::alloc::Global;
 use tags_clocks::ReplicaId;
 use thiserror::Error;
-use uid_projection::Start;
+use uid_projection::Counters;
 
 /// Why a replica with another one's operations is not made.
 #[derive(Clone, Copy, Debug, PartialEq, Eq, Error)]
@@ -42,9 +42,9 @@ pub fn join(
     name: ReplicaId,
     peer: ReplicaId,
 ) -> Result<(), WorldFault>
-    ensures ok { OnOk result ((from : NodeState) × IsAt (by_name (states_of nodes.old.items)) peer from × (by_name (states_of nodes.old.items) name ≡ None) × (¬ LacksNumbers name from.applied)
-        × (states_of nodes.new.items ≡ states_of nodes.old.items ++ joined name from.applied ∷ [])) }
-    ensures why { IfErr result (IsNotJoined (by_name (states_of nodes.old.items)) name peer) }
+    ensures ok { OnOk result ((from : NodeState) × IsAt (nodes_by_name (all_without_room nodes.old.items)) peer from × (nodes_by_name (all_without_room nodes.old.items) name ≡ None) × (¬ LacksNumbers name from.applied)
+        × (all_without_room nodes.new.items ≡ all_without_room nodes.old.items ++ joined_node name from.applied ∷ [])) }
+    ensures why { IfErr result (IsNotJoined (nodes_by_name (all_without_room nodes.old.items)) name peer) }
     ensures err { OnErr result (nodes.new.items ≡ nodes.old.items) }
 {
     if is_taken(nodes, name) {
@@ -68,8 +68,8 @@ pub fn join(
 
 /// Whether a replica has this name.
 fn is_taken(nodes: &[Node], name: ReplicaId) -> bool
-    ensures yes { IsTrue result → by_name (states_of nodes.now) name ≢ None }
-    ensures no { result ≡ false → by_name (states_of nodes.now) name ≡ None }
+    ensures yes { IsTrue result → nodes_by_name (all_without_room nodes.now) name ≢ None }
+    ensures no { result ≡ false → nodes_by_name (all_without_room nodes.now) name ≡ None }
 {
     match place_of(nodes, name) {
         Some(_) => true,
@@ -79,14 +79,14 @@ fn is_taken(nodes: &[Node], name: ReplicaId) -> bool
 
 /// Takes the event that a replica joins.
 pub fn join_step(alloc: Global, nodes: &mut Vec<Node>, name: ReplicaId, peer: ReplicaId) -> Outcome
-    ensures { Steps (by_name (states_of nodes.old.items)) (events.Join name peer) result (by_name (states_of nodes.new.items)) }
+    ensures { Steps (nodes_by_name (all_without_room nodes.old.items)) (events.Join name peer) result (nodes_by_name (all_without_room nodes.new.items)) }
 {
     let answer = join(alloc, nodes, name, peer);
-    told(&answer)
+    outcome_of_join(&answer)
 }
 
 /// What the event comes to, by what its call answered.
-fn told(answer: &Result<(), WorldFault>) -> Outcome
+fn outcome_of_join(answer: &Result<(), WorldFault>) -> Outcome
     ensures { result ≡ outcome_of answer.now }
 {
     match answer {
@@ -107,9 +107,9 @@ fn told(answer: &Result<(), WorldFault>) -> Outcome
 ///
 /// It costs what the deliveries of these operations do.
 pub fn with_operations_of(alloc: Global, name: ReplicaId, from: &Node) -> Result<Node, JoinRefusal>
-    ensures { MatchResult result (λ node. (node.state ≡ joined name from.now.state.applied) × (¬ LacksNumbers name from.now.state.applied)) (λ why. why ≡ UsedUp → LacksNumbers name from.now.state.applied) }
+    ensures { MatchResult result (λ node. (node.state ≡ joined_node name from.now.state.applied) × (¬ LacksNumbers name from.now.state.applied)) (λ why. why ≡ UsedUp → LacksNumbers name from.now.state.applied) }
 {
-    let start = Start {
+    let start = Counters {
         replica: name,
         uid: 1,
         k: 1,

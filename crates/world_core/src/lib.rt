@@ -5,22 +5,22 @@
 //! for which the project exists.
 #![tactic(auto)]
 
-mod agreeing;
+mod agreement;
 mod conflicts;
 mod event;
 mod joining;
 mod laws;
-mod places;
-mod running;
+mod node_places;
+mod run_events;
 mod settling;
 mod stepping;
-mod taking;
+mod session_events;
 mod world;
 
-pub use agreeing::{Agreement, agree};
+pub use agreement::{Agreement, agree};
 pub use event::{Event, Outcome};
 pub use joining::{JoinRefusal, with_operations_of};
 pub use laws::{settling_keeps_promises, worlds_keep_their_promises};
-pub use running::{Outcomes, run};
+pub use run_events::{Outcomes, run};
 pub use settling::{SettleFault, settle};
 pub use world::{World, WorldFault};

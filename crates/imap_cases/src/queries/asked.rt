@@ -1,7 +1,7 @@
 //! What is answered by yes or no.
 
 use crate::queries::fields::octets;
-use case_text::{Words, parted};
+use case_lines::{Words, parted};
 use imap_query::matches;
 use imap_types::Escape;
 use mail_text::{contains_nocase, date_ok, field_contains_nocase};

@@ -4,7 +4,7 @@ use crate::queries::asked::{Asked, put_asked};
 use crate::queries::commands::put_command;
 use crate::queries::stage::Stage;
 use crate::queries::texts::put_of_text;
-use case_text::Words;
+use case_lines::Words;
 use std::alloc::Global;
 
 /// What the code answers to a query.

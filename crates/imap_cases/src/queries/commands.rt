@@ -7,12 +7,12 @@ use crate::queries::messages::rows_of;
 use crate::queries::searches::{are_rising, is_in_range, named};
 use crate::queries::stage::Stage;
 use crate::round_trips::printed_behind;
-use case_text::{Trouble, Words};
+use case_lines::{Trouble, Words};
 use imap_answers::{Answer, SearchResults};
 use imap_grammar::{Command, Fetch, ListNames, ParseFault, Search, StatusItem, Tagged, parse};
-use imap_query::{FetchMode, ListMode, Shown, fetch, list_names, search, status};
+use imap_query::{FetchMode, ListMode, ViewedMessage, fetch, list_names, search, status};
 use imap_types::{Escape, Name, Octets};
-use mail_listing::Rows;
+use mailbox_rows::Rows;
 use std::alloc::{AllocError, Global};
 
 /// The answers to the command that a line spells, its tagged one left out.
@@ -174,7 +174,7 @@ fn put_fetched(
     alloc: Global,
     words: &mut Words,
     mailbox: &Mailbox,
-    named: &[Shown],
+    named: &[ViewedMessage],
     before: &Rows<'_>,
     asked: &Fetch,
 ) {

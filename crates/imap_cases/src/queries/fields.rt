@@ -1,6 +1,6 @@
 //! The fields of a line: octets, names, and lists of what fields spell.
 
-use case_text::Trouble;
+use case_lines::Trouble;
 use imap_types::{Escape, Name, Octets};
 use std::alloc::Global;
 
@@ -9,7 +9,7 @@ pub fn octets(alloc: Global, escape: Escape, text: &str) -> Result<Octets, Troub
     if text == "\"\"" {
         Ok(Octets::new(Vec::new(alloc)))
     } else {
-        case_text::octets(alloc, escape, text)
+        case_lines::octets(alloc, escape, text)
     }
 }
 

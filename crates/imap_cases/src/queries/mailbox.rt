@@ -2,8 +2,8 @@
 
 use crate::queries::fields::{Gathers, add, gathered, set};
 use crate::queries::messages::{Message, message_in};
-use case_text::{Trouble, long_number, meaning, number, parted};
-use imap_query::{Marks, Shown};
+use case_lines::{Trouble, long_number, meaning, number, parted};
+use imap_query::{MailboxCounters, ViewedMessage};
 use std::alloc::Global;
 
 /// The mailbox that commands look at, and how a session sees it.
@@ -12,8 +12,8 @@ pub struct Mailbox {
     /// By ascending UIDs.
     pub messages: Vec<Message>,
     /// The messages that a session was told of.
-    pub view: Vec<Shown>,
-    pub marks: Marks,
+    pub view: Vec<ViewedMessage>,
+    pub marks: MailboxCounters,
     pub is_writable: bool,
     /// Whether mod-sequences are told with flags.
     pub condstore: bool,
@@ -33,7 +33,7 @@ impl Mailbox {
         Mailbox {
             messages: Vec::new(alloc),
             view: Vec::new(alloc),
-            marks: Marks {
+            marks: MailboxCounters {
                 uidvalidity: 1,
                 uidnext: 1,
                 highest_modseq: 1,
@@ -80,10 +80,10 @@ impl Mailbox {
 }
 
 /// `UIDVALIDITY UIDNEXT HIGHESTMODSEQ`.
-fn marks(text: &str) -> Result<Marks, Trouble> {
+fn marks(text: &str) -> Result<MailboxCounters, Trouble> {
     let (uidvalidity, rest) = parted(text, " ");
     let (uidnext, highest_modseq) = parted(rest, " ");
-    Ok(Marks {
+    Ok(MailboxCounters {
         uidvalidity: number(uidvalidity)?,
         uidnext: number(uidnext)?,
         highest_modseq: long_number(highest_modseq)?,
@@ -91,9 +91,9 @@ fn marks(text: &str) -> Result<Marks, Trouble> {
 }
 
 /// The messages of UIDs, numbered from 1.
-impl Gathers for Vec<Shown> {
+impl Gathers for Vec<ViewedMessage> {
     fn take(&mut self, _alloc: Global, uid: &str) -> Result<(), Trouble> {
-        let shown = Shown {
+        let shown = ViewedMessage {
             number: u32::try_from(self.len())
                 .unwrap_or(u32::MAX)
                 .saturating_add(1),

@@ -1,13 +1,13 @@
 //! Messages, and their rows before and after a command.
 
 ghost use Rattle.std.specs.Prelude.{◌≡◌};
-ghost use Rattle.mail_listing.specs.Listing.{held};
+ghost use Rattle.mailbox_rows.specs.RowViews.{owned_message};
 
 use crate::parts::flags_named;
 use crate::queries::fields::octets;
-use case_text::{Trouble, long_number, number, parted};
+use case_lines::{Trouble, long_number, number, parted};
 use imap_types::{DATE_TIME_OCTETS, DateTime, Escape, Flags, Text, Version, Versions};
-use mail_listing::{HeldRow, HeldVersions, Rows};
+use mailbox_rows::{OwnedRow, VersionsCow, Rows};
 use std::alloc::Global;
 use tags_clocks::{OpId, ReplicaId};
 
@@ -61,15 +61,15 @@ impl Message {
     }
 
     /// Its row, as it is after a command or before it.
-    fn row(&self, is_after: bool) -> HeldRow<'_>
-        ensures { (held result).uid ≡ self.now.uid }
+    fn row(&self, is_after: bool) -> OwnedRow<'_>
+        ensures { (owned_message result).uid ≡ self.now.uid }
     {
         let standing = self.stands(is_after);
-        HeldRow {
+        OwnedRow {
             uid: self.uid,
             modseq: standing.modseq,
             origin: standing.versions[0].id,
-            versions: HeldVersions::Lent(Versions::new(&standing.versions)),
+            versions: VersionsCow::Lent(Versions::new(&standing.versions)),
             date: Some(&self.date),
             text: self.text.as_ref(),
         }

@@ -2,14 +2,14 @@
 
 ghost use Rattle.std.specs.Prelude.{◌≡◌, ◌↔◌, map, IsTrue};
 ghost use Rattle.imap_types.specs.Numbers.{AreRisingFrom};
-ghost use Rattle.imap_query.specs.Search.{name_of};
+ghost use Rattle.imap_query.specs.Search.{number_or_uid};
 
-use imap_query::Shown;
+use imap_query::ViewedMessage;
 use imap_types::{SequenceBound, SequenceRange};
 use std::alloc::{AllocError, Global};
 
 /// The greatest number, or UID, of a view; 0 where it shows nothing.
-fn top_of(view: &[Shown], by_uid: bool) -> u32 {
+fn top_of(view: &[ViewedMessage], by_uid: bool) -> u32 {
     match view.last() {
         Some(last) => name_of(by_uid, *last),
         None => 0,
@@ -17,7 +17,7 @@ fn top_of(view: &[Shown], by_uid: bool) -> u32 {
 }
 
 /// Whether each number of a set of numbers is that of a message of the view. UIDs may be those of none.
-pub fn is_in_range(view: &[Shown], set: &[SequenceRange], by_uid: bool) -> bool {
+pub fn is_in_range(view: &[ViewedMessage], set: &[SequenceRange], by_uid: bool) -> bool {
     let top = top_of(view, by_uid);
     for range in set {
         if !by_uid && !is_within(top, range) {
@@ -30,10 +30,10 @@ pub fn is_in_range(view: &[Shown], set: &[SequenceRange], by_uid: bool) -> bool 
 /// The messages of a view that a set of numbers, or of UIDs, names.
 pub fn named(
     alloc: Global,
-    view: &[Shown],
+    view: &[ViewedMessage],
     set: &[SequenceRange],
     by_uid: bool,
-) -> Result<Vec<Shown>, AllocError> {
+) -> Result<Vec<ViewedMessage>, AllocError> {
     let top = top_of(view, by_uid);
     let mut named = Vec::new(alloc);
     for message in view {
@@ -73,8 +73,8 @@ fn bound_of(top: u32, bound: SequenceBound) -> u32 {
 }
 
 /// Whether the numbers, or the UIDs, of these messages ascend from 1 on.
-pub fn are_rising(by_uid: bool, shown: &[Shown]) -> bool
-    ensures { IsTrue result ↔ AreRisingFrom 1 (map (name_of by_uid) shown.now) }
+pub fn are_rising(by_uid: bool, shown: &[ViewedMessage]) -> bool
+    ensures { IsTrue result ↔ AreRisingFrom 1 (map (number_or_uid by_uid) shown.now) }
 {
     let mut low = 1;
     for message in shown {
@@ -88,8 +88,8 @@ pub fn are_rising(by_uid: bool, shown: &[Shown]) -> bool
 }
 
 /// The number by which a search names a message.
-fn name_of(by_uid: bool, shown: Shown) -> u32
-    ensures { result ≡ name_of by_uid shown }
+fn name_of(by_uid: bool, shown: ViewedMessage) -> u32
+    ensures { result ≡ number_or_uid by_uid shown }
 {
     if by_uid { shown.uid } else { shown.number }
 }

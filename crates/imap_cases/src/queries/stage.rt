@@ -2,7 +2,7 @@
 
 use crate::queries::fields::{gathered, octets, set};
 use crate::queries::mailbox::Mailbox;
-use case_text::Trouble;
+use case_lines::Trouble;
 use imap_types::{Escape, Name, Octets};
 use std::alloc::Global;
 

@@ -3,7 +3,7 @@
 use crate::parts::put_day;
 use crate::queries::fields::take_each;
 use crate::queries::messages::date_time;
-use case_text::{Trouble, Words, long_number, pair};
+use case_lines::{Trouble, Words, long_number, pair};
 use imap_types::{Moment, Octets};
 use mail_text::{body, civil, fields, header, other_fields, partial, written_day};
 use std::alloc::{AllocError, Global};

@@ -1,8 +1,8 @@
 //! Lines that are tried one by one behind a script.
 
 use crate::mail_rows::replays::{Replayed, play_script, put_shortened};
-use case_text::Words;
-use mail_tooling::ReplayEnd;
+use case_lines::Words;
+use mail_replay::ReplayEnd;
 use std::alloc::Global;
 
 /// Replays a script with this line behind it, and tells what the line prints and how it ends. Without its end it does the

@@ -4,7 +4,7 @@ ghost use Rattle.std.specs.Prelude.{◌<◌};
 
 use crate::mail_rows::directives::octets_of;
 use crate::mail_rows::replays::{Replayed, play_script};
-use case_text::Words;
+use case_lines::Words;
 use std::alloc::Global;
 
 /// Sends octets, given in the escape, to a session behind a script, tells what is printed, and whether it is the same where

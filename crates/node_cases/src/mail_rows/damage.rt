@@ -3,9 +3,9 @@
 ghost use Rattle.std.specs.Prelude.{◌<◌, length};
 
 use crate::mail_rows::replays::{Replayed, play_script};
-use case_text::Words;
+use case_lines::Words;
 use mail_audit::{AuditEnd, audit};
-use mail_tooling::ReplayEnd;
+use mail_replay::ReplayEnd;
 use std::alloc::Global;
 
 /// The octets that take the place of others.

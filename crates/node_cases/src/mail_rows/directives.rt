@@ -1,6 +1,6 @@
 //! The lines of a row that say what is done with its script, and those that add to it what a line of text can't show.
 
-use case_text::Words;
+use case_lines::Words;
 use imap_types::{Escape, Octets, read_escaped};
 use std::alloc::Global;
 

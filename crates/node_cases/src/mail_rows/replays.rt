@@ -1,8 +1,8 @@
 //! Replays of scripts, and what is told of them.
 
-use case_text::Words;
+use case_lines::Words;
 use mail_audit::audit;
-use mail_tooling::{ReplayEnd, replay};
+use mail_replay::{ReplayEnd, replay};
 use std::alloc::Global;
 
 /// A run of more octets of one kind than these is printed as their number.

@@ -5,7 +5,7 @@ use crate::mail_rows::cuts::tell_pieces;
 use crate::mail_rows::damage::{Tried, tell_damage, tell_wrong};
 use crate::mail_rows::directives::{Way, build, cut, octets_of, way_of};
 use crate::mail_rows::replays::play_script;
-use case_text::Words;
+use case_lines::Words;
 use std::alloc::{AllocError, Global};
 
 /// Plays the rows of a text, each behind a line `== TITLE`; what stands before the first is left out. An error says that there is no memory.

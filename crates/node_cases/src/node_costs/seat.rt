@@ -8,7 +8,7 @@ use std::alloc::Global;
 use std::io::{self, ErrorKind};
 use std::time::Instant;
 use tags_clocks::ReplicaId;
-use uid_projection::Start;
+use uid_projection::Counters;
 
 /// A node and a session of it.
 #[derive(Drop)]
@@ -23,7 +23,7 @@ impl Seat {
         let Some(replica) = ReplicaId::new(replica) else {
             return Err(io::Error::other("not a line"));
         };
-        let start = Start {
+        let start = Counters {
             replica,
             uid: 1,
             k: 1,

@@ -1,7 +1,7 @@
 //! Audits: inputs that come in pieces, readers and writers that fail, and the status with which an audit ends.
 
 use mail_audit::{AuditEnd, MAX_READS, audit};
-use mail_tooling::{audit_file, audit_from};
+use mail_replay::{audit_file, audit_from};
 use std::alloc::{AllocError, Global};
 use std::cell::RefCell;
 use std::fmt::Display;

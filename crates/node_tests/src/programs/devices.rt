@@ -1,6 +1,6 @@
 //! Replays from readers and to writers that fail, and what is said of how a replay ended.
 
-use mail_tooling::{MAX_READS, ReplayEnd, replay, tell};
+use mail_replay::{MAX_READS, ReplayEnd, replay, tell};
 use std::alloc::Global;
 use std::io;
 use std::io::{ErrorKind, Read, Write};

@@ -3,7 +3,7 @@
 ghost use Rattle.std.specs.Prelude.{◌<◌};
 
 use itoa::Buffer;
-use mail_tooling::{ReplayEnd, replay};
+use mail_replay::{ReplayEnd, replay};
 use std::alloc::{AllocError, Global};
 use std::str;
 

@@ -1,7 +1,7 @@
 //! The command lines of `mail_tool`.
 
 use clap::error::ErrorKind;
-use mail_tooling::{Request, read_words};
+use mail_replay::{ProgramRequest, read_words};
 use std::alloc::{AllocError, Global};
 
 fn owned(alloc: Global, words: &[&str]) -> Result<Vec<String>, AllocError> {
@@ -18,7 +18,7 @@ fn asks_for(alloc: Global, words: &[&str], file: Option<&str>) -> bool {
         return false;
     };
     match read_words(alloc, &words) {
-        Ok(request) => request == Request::Replay { file },
+        Ok(request) => request == ProgramRequest::Replay { file },
         Err(_) => false,
     }
 }
@@ -29,7 +29,7 @@ fn asks_for_audit(alloc: Global, words: &[&str], file: Option<&str>) -> bool {
         return false;
     };
     match read_words(alloc, &words) {
-        Ok(request) => request == Request::Audit { file },
+        Ok(request) => request == ProgramRequest::Audit { file },
         Err(_) => false,
     }
 }

@@ -6,12 +6,12 @@ use crate::fields::add_op;
 use crate::lines::{Plays, played};
 use crate::uids::stage::{Node, Stage, deliver, make_ready};
 use crate::uids::tables::{Asked, tell_of};
-use case_text::{Trouble, Words, meaning, operation, pair, parted, replica};
+use case_lines::{Trouble, Words, meaning, operation, pair, parted, replica};
 use causal_inbox::{Arrival, DeliverFault, Delivered};
 use crdt_ops::SoundOp;
 use std::alloc::{AllocError, Global};
 use std::mem;
-use uid_projection::Start;
+use uid_projection::Counters;
 
 /// What the first word of a line asks.
 #[derive(Clone, Copy)]
@@ -52,7 +52,7 @@ pub fn play(alloc: Global, text: &str) -> Result<Vec<u8>, AllocError> {
     }
 }
 
-fn play_from(alloc: Global, start: Start, text: &str) -> Result<Vec<u8>, AllocError>
+fn play_from(alloc: Global, start: Counters, text: &str) -> Result<Vec<u8>, AllocError>
     requires { 1 ≤ start.uid }
 {
     match Stage::new(alloc, start) {
@@ -85,7 +85,7 @@ fn begin(stage: &mut Stage, fields: &str, answer: &mut Words) {
     }
 }
 
-fn restart(stage: &mut Stage, start: Start, answer: &mut Words)
+fn restart(stage: &mut Stage, start: Counters, answer: &mut Words)
     requires { 1 ≤ start.uid }
 {
     match Stage::new(answer.alloc(), start) {
@@ -94,14 +94,14 @@ fn restart(stage: &mut Stage, start: Start, answer: &mut Words)
     }
 }
 
-fn start(fields: &str) -> Result<Start, Trouble>
+fn start(fields: &str) -> Result<Counters, Trouble>
     ensures { IfOk result (λ start. 1 ≤ start.uid) }
 {
     let (own, counters) = parted(fields, " ");
     let replica = replica(own)?;
     match pair(" ", counters)? {
         (0, _) => Err(Trouble::NotACase),
-        (uid, k) => Ok(Start { replica, uid, k }),
+        (uid, k) => Ok(Counters { replica, uid, k }),
     }
 }
 

@@ -11,13 +11,13 @@ use causal_inbox::{DeliverFault, Delivered, Inbox, IssueFault};
 use crdt_ops::SoundOp;
 use folder_state::Folders;
 use imap_types::Name;
-use mail_listing::Rows;
-use merge_laws::OnFirst;
+use mailbox_rows::Rows;
+use merge_laws::FirstFollower;
 use std::alloc::{AllocError, Global};
-use uid_projection::{Charts, Start};
+use uid_projection::{Charts, Counters};
 
 /// A replica's inbox, whose charts follow its folders.
-pub type Node = Inbox<Mailboxes, OnFirst<Charts>>;
+pub type Node = Inbox<Mailboxes, FirstFollower<Charts>>;
 
 /// What a case works on: an inbox, and operations that come next.
 #[derive(Drop)]
@@ -30,7 +30,7 @@ pub struct Stage {
 
 impl Stage {
     /// An inbox that received nothing, whose counters begin so, and no operations. An error says that there is no memory.
-    pub fn new(alloc: Global, start: Start) -> Result<Stage, AllocError>
+    pub fn new(alloc: Global, start: Counters) -> Result<Stage, AllocError>
         requires { 1 ≤ start.uid }
     {
         match node(alloc, start) {
@@ -44,11 +44,11 @@ impl Stage {
 }
 
 /// An inbox that received nothing. An error says that there is no memory.
-fn node(alloc: Global, start: Start) -> Result<Node, AllocError>
+fn node(alloc: Global, start: Counters) -> Result<Node, AllocError>
     requires { 1 ≤ start.uid }
 {
     let charts = Charts::new(alloc, start)?;
-    Inbox::new(alloc, empty(alloc), OnFirst { follower: charts })
+    Inbox::new(alloc, empty(alloc), FirstFollower { follower: charts })
 }
 
 /// Delivers an operation.

@@ -1,9 +1,9 @@
 //! What the charts tell of a folder.
 
 use crate::uids::stage::{Node, Stage, charts, folders, listing};
-use case_text::{Words, long_number, name, number, parted};
+use case_lines::{Words, long_number, name, number, parted};
 use imap_types::Name;
-use mail_listing::{Row, Rows};
+use mailbox_rows::{Row, Rows};
 use modseq_index::{changed_since, highest};
 use std::alloc::AllocError;
 

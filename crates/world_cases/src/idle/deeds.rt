@@ -2,7 +2,7 @@
 
 use crate::chance::Chance;
 use crate::idle::scene::{give_text, selected};
-use case_text::Trouble;
+use case_lines::Trouble;
 use imap_node::{Node, SessionNo};
 use std::alloc::{AllocError, Global};
 

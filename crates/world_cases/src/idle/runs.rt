@@ -5,7 +5,7 @@ use crate::client::Client;
 use crate::idle::deeds::{append, deed};
 use crate::idle::scene::{Scene, command, done, give, give_text, poll, selected, session};
 use crate::idle::watch::Watch;
-use case_text::Trouble;
+use case_lines::Trouble;
 use crdt_ops::SoundOp;
 use imap_node::{Answers, Node, SessionNo};
 use std::alloc::Global;

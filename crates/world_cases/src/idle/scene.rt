@@ -1,13 +1,13 @@
 //! Two replicas and their sessions.
 
 use crate::client::Client;
-use case_text::Trouble;
+use case_lines::Trouble;
 use imap_grammar::{IdleLine, Tagged, parse};
 use imap_node::{Answers, Auth, Node, Reply, SessionNo};
 use imap_types::Moment;
 use std::alloc::{AllocError, Global};
 use tags_clocks::ReplicaId;
-use uid_projection::Start;
+use uid_projection::Counters;
 
 /// Two replicas, and their sessions.
 #[derive(Drop)]
@@ -71,7 +71,7 @@ fn node(alloc: Global, replica: u32) -> Result<Node, Trouble> {
     match ReplicaId::new(replica) {
         Some(replica) => made(Node::new(
             alloc,
-            Start {
+            Counters {
                 replica,
                 uid: 1,
                 k: 1,

@@ -1,7 +1,7 @@
 //! What is told of a hundred runs.
 
 use crate::idle::runs::{Ending, played};
-use case_text::Trouble;
+use case_lines::Trouble;
 use std::alloc::{AllocError, Global};
 
 /// How many hundreds of runs are played.

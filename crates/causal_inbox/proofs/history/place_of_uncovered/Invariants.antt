@@ -1,6 +1,6 @@
 use Rattle.std.proofs.Common.{ℕ, ◌≤◌, length, take}
 use Rattle.merge_laws.specs.Orders.{IsIn}
-use Rattle.causal_inbox.specs.Kept.{LacksNext}
+use Rattle.causal_inbox.specs.InboxState.{LacksNext}
 use Rattle.causal_inbox.proofs.history.place_of_uncovered.Given as goal
 
 abbrev pub invariant-loop-replica : goal.invariant-loop-replica

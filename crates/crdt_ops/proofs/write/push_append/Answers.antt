@@ -1,5 +1,5 @@
 use Rattle.std.proofs.Common.{[], ◌∷◌, ◌++◌, codes, refl}
-use Rattle.imap_types.specs.Escape.{escaped}
+use Rattle.imap_types.specs.Escape.{escape_text}
 use Rattle.imap_types.specs.declared.escape.Escape.TheVariants.{Text}
 use Rattle.crdt_ops.specs.Text.{flags_text, name_text}
 use Rattle.crdt_ops.proofs.TextLemmas.{extends_more, two_appended}
@@ -22,7 +22,7 @@ returns-in_err-push_octets-2-clause-kept c = extends_more _ _ _ _ c.in_ok-push_w
 
 pub returns-clause-ok : goal.returns-clause-ok
 returns-clause-ok c =
-    let letter = escaped Text c.args.text.now in
+    let letter = escape_text Text c.args.text.now in
     let marked = codes " =" ++ letter in
     let dated = c.args.date.now ++ marked in
     let flags = 32 ∷ flags_text c.args.flags.now in

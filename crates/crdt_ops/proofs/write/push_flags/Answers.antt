@@ -1,6 +1,6 @@
 use Rattle.std.proofs.Common.{[], ◌∷◌, ◌++◌, refl}
 use Rattle.imap_types.specs.Flags.{flag_texts}
-use Rattle.crdt_ops.specs.Text.{joined}
+use Rattle.crdt_ops.specs.Text.{join_fields}
 use Rattle.crdt_ops.proofs.TextLemmas.{extends_more, two_appended}
 use Rattle.crdt_ops.proofs.write.push_flags.Goals as goal
 
@@ -12,7 +12,7 @@ returns-in_err-push_all_flags-clause-kept c = extends_more _ _ _ _ c.in_ok-push_
 
 pub returns-clause-ok : goal.returns-clause-ok
 returns-clause-ok c =
-    let fields = joined 32 (flag_texts c.args.flags.now) in
+    let fields = join_fields 32 (flag_texts c.args.flags.now) in
     two_appended _ _ _ _ (40 ∷ []) (fields ++ 41 ∷ []) _ c.in_ok-push_octet.ensures.ok
     (two_appended _ _ _ _ fields (41 ∷ []) _ c.in_ok-push_all_flags.ensures.ok c.push_octet-2.ensures.ok refl)
     refl

@@ -1,6 +1,6 @@
 use Rattle.std.proofs.Common.{ℕ, List, [], ◌∷◌, ◌++◌, take, sym, ap, ◌∙◌, subst}
 use Rattle.std.proofs.lemmas.List.{append-nil}
-use Rattle.crdt_ops.specs.Text.{HasSpaced, joined}
+use Rattle.crdt_ops.specs.Text.{HasSpaced, join_fields}
 use Rattle.crdt_ops.proofs.PartLemmas.{all_taken}
 use Rattle.crdt_ops.proofs.LoopLemmas.{field_more}
 use Rattle.crdt_ops.proofs.TextLemmas.{extends_on}
@@ -27,7 +27,7 @@ returns-in_err-is_first-clause-kept c = extends_on _ _ _ c.loop-keyword.invarian
 
 pub returns-clause-ok : goal.returns-clause-ok
 returns-clause-ok c = λ before front h.
-    (c.loop-keyword.invariant.spaced before front h).0 ∙ ap (λ words. before ++ joined 32 (front ++ words)) (all_taken c.args.keywords.now c.loop-keyword.keyword-index c.loop-keyword-test.false)
+    (c.loop-keyword.invariant.spaced before front h).0 ∙ ap (λ words. before ++ join_fields 32 (front ++ words)) (all_taken c.args.keywords.now c.loop-keyword.keyword-index c.loop-keyword-test.false)
 
 pub returns-clause-kept : goal.returns-clause-kept
 returns-clause-kept c = c.loop-keyword.invariant.kept

@@ -13,8 +13,8 @@ pub returns-clause-ok : goal.returns-clause-ok
 returns-clause-ok c =
     let behind = clock_text c.args.op.now.clock ++ 32 ∷ kind_text c.args.op.now.kind in
     two_appended _ _ _ _ (id_text c.args.op.now.id) (32 ∷ behind) _ c.in_ok-push_id.ensures.ok
-    (two_appended _ _ _ _ (32 ∷ []) behind _ c.in_ok-push_octet.ensures.ok c.push_behind_id.ensures.ok refl)
+    (two_appended _ _ _ _ (32 ∷ []) behind _ c.in_ok-push_octet.ensures.ok c.push_clock_and_kind.ensures.ok refl)
     refl
 
 pub returns-clause-kept : goal.returns-clause-kept
-returns-clause-kept c = extends_more _ _ _ _ c.in_ok-push_id.ensures.ok (extends_more _ _ _ _ c.in_ok-push_octet.ensures.ok c.push_behind_id.ensures.kept)
+returns-clause-kept c = extends_more _ _ _ _ c.in_ok-push_id.ensures.ok (extends_more _ _ _ _ c.in_ok-push_octet.ensures.ok c.push_clock_and_kind.ensures.kept)

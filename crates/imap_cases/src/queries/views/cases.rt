@@ -3,10 +3,10 @@
 use crate::queries::messages::{Message, rows_of};
 use crate::queries::views::reading::{messages_in, set_in, view_in};
 use crate::queries::views::writing::{put_answers, put_entries, put_numbers};
-use case_text::{Trouble, Words, meaning, parted};
+use case_lines::{Trouble, Words, meaning, parted};
 use imap_answers::Answer;
-use mail_listing::Rows;
-use session_view::{BadSet, SyncForm, SyncKind, View, replayed};
+use mailbox_rows::Rows;
+use session_view::{BadSet, SyncForm, SyncKind, View, replay_reply};
 use std::alloc::{AllocError, Global};
 
 /// The words for syncs.
@@ -152,7 +152,7 @@ fn put_replayed(
     rows: &Rows<'_>,
     answers: &[Answer],
 ) {
-    match replayed(alloc, rows, view.entries(), &[], answers) {
+    match replay_reply(alloc, rows, view.entries(), &[], answers) {
         Ok(replayed) => {
             words.put(" => ");
             put_entries(words, &replayed);

@@ -2,10 +2,10 @@
 
 use crate::queries::fields::{Gathers, add, gathered, take_each};
 use crate::queries::messages::{Message, standing_with};
-use case_text::{Trouble, long_number, number};
+use case_lines::{Trouble, long_number, number};
 use chunk_list::ChunkList;
 use imap_types::{DateTime, Flags, Name, SequenceBound, SequenceRange, SequenceSet};
-use session_view::{Entries, Entry, View, are_rising};
+use session_view::{ViewEntries, ViewEntry, View, are_rising};
 use std::alloc::Global;
 
 /// A view of INBOX, whose UIDs ascend.
@@ -16,7 +16,7 @@ pub fn view_in(alloc: Global, text: &str) -> Result<View, Trouble> {
     }
 }
 
-fn view_of(alloc: Global, entries: Entries) -> Result<View, Trouble> {
+fn view_of(alloc: Global, entries: ViewEntries) -> Result<View, Trouble> {
     if !are_rising(&entries) {
         drop(entries);
         return Err(Trouble::NotACase);
@@ -28,7 +28,7 @@ fn view_of(alloc: Global, entries: Entries) -> Result<View, Trouble> {
     Ok(View::new(name, 1, entries))
 }
 
-impl Gathers for Entries {
+impl Gathers for ViewEntries {
     fn take(&mut self, alloc: Global, field: &str) -> Result<(), Trouble> {
         self.push(alloc, entry_in(alloc, field)?)?;
         Ok(())
@@ -36,9 +36,9 @@ impl Gathers for Entries {
 }
 
 /// `UID/FLAGS`, or `UID` alone where there are none.
-fn entry_in(alloc: Global, text: &str) -> Result<Entry, Trouble> {
+fn entry_in(alloc: Global, text: &str) -> Result<ViewEntry, Trouble> {
     let (uid, flags) = text.split_once('/').unwrap_or((text, "-"));
-    Ok(Entry {
+    Ok(ViewEntry {
         uid: number(uid)?,
         flags: flags_in(alloc, flags)?,
     })
@@ -83,7 +83,7 @@ impl Gathers for Vec<Message> {
 fn message_in(alloc: Global, text: &str) -> Result<Message, Trouble> {
     let (front, modseq) = text.split_once('@').unwrap_or((text, "1"));
     let modseq = long_number(modseq)?;
-    let Entry { uid, flags } = entry_in(alloc, front)?;
+    let ViewEntry { uid, flags } = entry_in(alloc, front)?;
     let before = standing_with(modseq, flags)?;
     Ok(Message::new(uid, before, DateTime::epoch(), None))
 }

@@ -1,9 +1,9 @@
 //! Views, answers and numbers, as text.
 
-use case_text::Words;
+use case_lines::Words;
 use imap_answers::{Answer, FetchItems};
 use imap_types::Flags;
-use session_view::Entries;
+use session_view::ViewEntries;
 
 /// Numbers with commas between them, `none` where there are none.
 pub fn put_numbers(words: &mut Words, numbers: &[u32]) {
@@ -16,7 +16,7 @@ pub fn put_numbers(words: &mut Words, numbers: &[u32]) {
 }
 
 /// The messages of a view, `-` where there are none.
-pub fn put_entries(words: &mut Words, entries: &Entries) {
+pub fn put_entries(words: &mut Words, entries: &ViewEntries) {
     let mut comma = "";
     for entry in entries.iter_from(0) {
         words.put_number(comma, u64::from(entry.uid));

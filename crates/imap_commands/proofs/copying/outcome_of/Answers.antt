@@ -1,10 +1,10 @@
 use Rattle.std.proofs.Common.{ℕ, true, List, ap, subst, sym, ◌∙◌}
 use Rattle.std.specs.Prelude.{not}
 use Rattle.imap_types.specs.Numbers.{AreRisingFrom}
-use Rattle.session_view.specs.Sets.{resolved}
-use Rattle.imap_commands.specs.Asked.{OpenMailbox}
-use Rattle.imap_commands.specs.Found.{Found}
-use Rattle.imap_commands.specs.Told.{is_gone, message_at}
+use Rattle.session_view.specs.Sets.{numbers_in_set}
+use Rattle.imap_commands.specs.Arguments.{OpenMailbox}
+use Rattle.imap_commands.specs.NamedMessages.{NamedMessages}
+use Rattle.imap_commands.specs.Report.{is_gone, message_at}
 use Rattle.imap_commands.proofs.NamedLemmas.{chosen_rising}
 use Rattle.imap_commands.proofs.copying.outcome_of.Goals as goal
 
@@ -15,4 +15,4 @@ set_of-requires c =
     subst (λ (uids : List ℕ). AreRisingFrom 1 uids) (sym (c.deref-2.ensures.value ∙ c.in_ok-uids.ensures {u = tt}))
     (chosen_rising true by_uid set (λ n. not (is_gone (message_at c.mailbox.inside.rows c.entries-view.result.now.items n))) c.mailbox.inside.view.now.entries c.entries-view.result.now.items c.numbers.result.now c.deref.result.now
     c.entries-view.ensures.entries c.entries-view.ensures.rising (c.deref.ensures.value ∙ c.in_ok-there.ensures {u = tt})
-    (c.numbers.ensures ∙ ap (λ (f : Found). f.numbers) c.requires.2 ∙ ap (λ (m : OpenMailbox). resolved by_uid set m.view) (sym c.mailbox.view_is)))
+    (c.numbers.ensures ∙ ap (λ (f : NamedMessages). f.numbers) c.requires.2 ∙ ap (λ (m : OpenMailbox). numbers_in_set by_uid set m.view) (sym c.mailbox.view_is)))

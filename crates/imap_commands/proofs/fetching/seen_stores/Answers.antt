@@ -1,7 +1,7 @@
 use Rattle.std.proofs.Common.{◌∙◌, ap, sym}
 use Rattle.std.specs.List.{list_any}
 use Rattle.imap_query.specs.Fetching.{sets_seen}
-use Rattle.imap_commands.specs.Asked.{FetchAsked, OpenMailbox}
+use Rattle.imap_commands.specs.Arguments.{FetchArgs, OpenMailbox}
 use Rattle.imap_commands.proofs.SeenLemmas.{read_only_stores, unset_stores}
 use Rattle.imap_commands.proofs.fetching.seen_stores.Goals.{then-mailbox-via-then-mailbox, then-mailbox-via-else-mailbox+then-not-set_seen}
 use Rattle.imap_commands.proofs.fetching.seen_stores.Goals as goal
@@ -14,5 +14,5 @@ returns-then-mailbox c =
     c.new-kinds.ensures.items
     ∙ elim c.then-mailbox.branch [
       | then-mailbox-via-then-mailbox w ↦ read_only_stores mailbox asked numbers (sym (ap (λ (m : OpenMailbox). m.read_only) c.mailbox.view_is) ∙ w.if-mailbox.true)
-      | then-mailbox-via-else-mailbox+then-not-set_seen w ↦ unset_stores mailbox asked numbers (sym (ap (λ (a : FetchAsked). list_any sets_seen a.items) c.asked.view_is) ∙ sym w.set_seen.ensures ∙ w.if-not-set_seen.true)
+      | then-mailbox-via-else-mailbox+then-not-set_seen w ↦ unset_stores mailbox asked numbers (sym (ap (λ (a : FetchArgs). list_any sets_seen a.items) c.asked.view_is) ∙ sym w.set_seen.ensures ∙ w.if-not-set_seen.true)
     ]

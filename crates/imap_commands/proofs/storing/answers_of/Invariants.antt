@@ -1,7 +1,7 @@
 use Rattle.std.proofs.Common.{◌≡◌, ◌++◌, drop}
 use Rattle.std.specs.List.{flat_map}
 use Rattle.imap_commands.specs.Storing.{stored_answer}
-use Rattle.imap_commands.specs.Told.{message_at}
+use Rattle.imap_commands.specs.Report.{message_at}
 use Rattle.imap_commands.proofs.storing.answers_of.Given as goal
 
 abbrev pub invariant-loop-number : goal.invariant-loop-number

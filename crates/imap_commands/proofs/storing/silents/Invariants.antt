@@ -1,7 +1,7 @@
 use Rattle.std.proofs.Common.{◌≡◌, ◌++◌, drop}
 use Rattle.std.specs.List.{flat_map}
 use Rattle.imap_commands.specs.Storing.{silent_at}
-use Rattle.imap_commands.specs.Told.{entry_at}
+use Rattle.imap_commands.specs.Report.{entry_at}
 use Rattle.imap_commands.proofs.storing.silents.Given as goal
 
 abbrev pub invariant-loop-number : goal.invariant-loop-number

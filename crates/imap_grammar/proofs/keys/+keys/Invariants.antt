@@ -14,8 +14,8 @@ decreases-spaced_key l = 5 * l.levels + 1
 abbrev pub decreases-keys : goal.decreases-keys
 decreases-keys l = 5 * l.levels + 2
 
-abbrev pub decreases-worded : goal.decreases-worded
-decreases-worded l = 5 * l.levels + 3
+abbrev pub decreases-key_of_word : goal.decreases-key_of_word
+decreases-key_of_word l = 5 * l.levels + 3
 
 abbrev pub decreases-level : goal.decreases-level
 decreases-level l = 5 * l.levels + 4

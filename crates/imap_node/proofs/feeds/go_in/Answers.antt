@@ -1,11 +1,11 @@
 use Rattle.std.proofs.Common.{◌≡◌, ◌<◌, ◌≤◌, ◌-◌, ℕ, Some, sym, subst, ap, ◌∙◌, arith, length}
-use Rattle.idle_feed.specs.Feeds.{Kept}
+use Rattle.idle_feed.specs.Feeds.{FeedState}
 use Rattle.imap_commands.specs.declared.session.Session.{Session}
-use Rattle.imap_node.specs.Feeds.{IsNotedFor, lacking, pending_at}
-use Rattle.imap_node.specs.Going.{LeavesNoted}
+use Rattle.imap_node.specs.SessionFeeds.{IsNotedFor, missing_feed, pending_at}
+use Rattle.imap_node.specs.SessionChanges.{LeavesNoted}
 use Rattle.imap_node.specs.Replays.{view_in}
 use Rattle.imap_node.specs.Sessions.{session_at}
-use Rattle.session_view.specs.Seen.{Seen}
+use Rattle.session_view.specs.ViewState.{ViewState}
 use Rattle.imap_node.proofs.GoingLemmas.{all_gone, all_lacking, gone_noted, kept_pending, own_session}
 use Rattle.imap_node.proofs.feeds.go_in.Goals as goal
 
@@ -21,7 +21,7 @@ returns-then-place-len-2-clause-noted c = λ start ops leaves noted.
     all_gone start ops places feeds n c.get-place.ensures.positive inside noted c.go.new.place c.go.new.feed within
     (gone_noted start ops c.args.going old c.go.new.place was.pending c.go.new.feed.pending c.go.ensures.place (λ s at. c.go.ensures.noted start ops s at)
     (λ s at. leaves s (subst (λ (m : ℕ). session_at places m ≡ Some s) c.get-place.ensures.number (own_session places n old c.get-place.ensures.positive inside c.index_mut.ensures.value ∙ at)))
-    (λ view q. subst (λ (k : Kept). IsNotedFor start ops k.pending view) (kept_pending feeds (n - 1) was within c.index_mut-then-place-len-2.ensures.value) (noted n view (ap view_in (own_session places n old c.get-place.ensures.positive inside c.index_mut.ensures.value) ∙ q))))
+    (λ view q. subst (λ (k : FeedState). IsNotedFor start ops k.pending view) (kept_pending feeds (n - 1) was within c.index_mut-then-place-len-2.ensures.value) (noted n view (ap view_in (own_session places n old c.get-place.ensures.positive inside c.index_mut.ensures.value) ∙ q))))
 
 pub returns-else-place-len-2-clause-noted : goal.returns-else-place-len-2-clause-noted
 returns-else-place-len-2-clause-noted c = λ start ops leaves noted.

@@ -7,11 +7,11 @@ pub returns : goal.returns
 returns c =
     let old = c.args.feeds.now.items in
     let ended : length old ≤ c.loop-place.place = let a = c.loop-place-test.false in let b = c.len-place-end.ensures in let k = c.args.feeds.now.ok.0 in omega (arith, a, b, k) in
-    each_behind c.args.news.now c.args.places.now old c.loop-place.feeds.items c.loop-place.place c.loop-place.invariant.len ended c.loop-place.invariant.done c.loop-place.invariant.rest
+    each_behind c.args.change_notes.now c.args.places.now old c.loop-place.feeds.items c.loop-place.place c.loop-place.invariant.len ended c.loop-place.invariant.done c.loop-place.invariant.rest
 
 pub loop-place-preserved : goal.loop-place-preserved
 loop-place-preserved c =
-    let news = c.args.news.now in
+    let change_notes = c.args.change_notes.now in
     let places = c.args.places.now in
     let old = c.args.feeds.now.items in
     let cur = c.loop-place.feeds.items in
@@ -21,6 +21,6 @@ loop-place-preserved c =
     let within : k < length cur = let a = c.loop-place-test.true in let b = c.len-place-end.ensures in let g = c.args.feeds.now.ok.0 in let e = c.loop-place.invariant.len in omega (arith, a, b, g, e) in
     record {
       len = length-set cur k feed ∙ c.loop-place.invariant.len;
-      done = done_more news places old cur k was feed within c.index_mut.ensures.value c.note_at.ensures c.loop-place.invariant.done c.loop-place.invariant.rest;
-      rest = rest_more news places old cur k was feed within c.index_mut.ensures.value c.note_at.ensures c.loop-place.invariant.rest;
+      done = done_more change_notes places old cur k was feed within c.index_mut.ensures.value c.note_at.ensures c.loop-place.invariant.done c.loop-place.invariant.rest;
+      rest = rest_more change_notes places old cur k was feed within c.index_mut.ensures.value c.note_at.ensures c.loop-place.invariant.rest;
     }

@@ -1,5 +1,5 @@
 use Rattle.std.proofs.Common.{◌≡◌, ℕ}
-use Rattle.imap_node.specs.Feeds.{pending_at}
+use Rattle.imap_node.specs.SessionFeeds.{pending_at}
 use Rattle.imap_node.proofs.feeds.open_in.Given as goal
 
 abbrev pub invariant-loop-place : goal.invariant-loop-place

@@ -1,5 +1,5 @@
 use Rattle.std.proofs.Common.{List, ap, ◌∙◌}
-use Rattle.mail_listing.specs.Listed.{Listed}
+use Rattle.mailbox_rows.specs.ListedMessage.{ListedMessage}
 use Rattle.imap_query.specs.Fetching.{fetch_answers}
 use Rattle.imap_query.proofs.ChangedLemmas.{changed_alike, if_ok}
 use Rattle.imap_query.proofs.fetching.fetch_unchanged.Goals as goal
@@ -11,5 +11,5 @@ returns-in_ok-changed-in-Some c =
     let rows = c.args.rows.now in
     let named = c.args.named.now in
     if_ok c.fetch_in-in-Some.result
-    (λ answers is. is ∙ ap (λ (changed : List Listed). fetch_answers items mode changed changed named) (c.in_ok-changed-in-Some.ensures {u = tt}) ∙ changed_alike items mode c.in-Some.modseq rows named c.in-Some.is c.count-count.ensures.rising)
+    (λ answers is. is ∙ ap (λ (changed : List ListedMessage). fetch_answers items mode changed changed named) (c.in_ok-changed-in-Some.ensures {u = tt}) ∙ changed_alike items mode c.in-Some.modseq rows named c.in-Some.is c.count-count.ensures.rising)
     c.fetch_in-in-Some.ensures

@@ -1,9 +1,9 @@
 use Rattle.std.proofs.Common.{◌≡◌, [], drop}
 use Rattle.std.specs.Prelude.{reverse}
-use Rattle.mail_listing.specs.Listing.{listed}
-use Rattle.imap_query.specs.Tests.{is_so}
+use Rattle.mailbox_rows.specs.RowViews.{listed_message}
+use Rattle.imap_query.specs.Tests.{test_holds}
 use Rattle.imap_query.specs.Runs.{run}
 use Rattle.imap_query.proofs.keys.hits.Given as goal
 
 abbrev pub invariant-loop-step : goal.invariant-loop-step
-invariant-loop-step l = run (is_so l.last l.shown (listed l.row)) (drop l.step-index l.steps) (reverse l.results.items) ≡ run (is_so l.last l.shown (listed l.row)) l.steps []
+invariant-loop-step l = run (test_holds l.last l.shown (listed_message l.row)) (drop l.step-index l.steps) (reverse l.results.items) ≡ run (test_holds l.last l.shown (listed_message l.row)) l.steps []

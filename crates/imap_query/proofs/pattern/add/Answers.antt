@@ -1,6 +1,6 @@
 use Rattle.std.proofs.Common.{◌≡◌, ◌∙◌, ◌++◌, ◌∷◌, ◌-◌, ap, sym, true, ne_eqb, slice_set}
 use Rattle.std.proofs.lemmas.Bool.{and_parts}
-use Rattle.imap_query.specs.Rows.{is_match}
+use Rattle.imap_query.specs.PatternRows.{is_match}
 use Rattle.imap_query.specs.Simpler.{ends_wild}
 use Rattle.imap_query.proofs.SimplerLemmas.{left_out, starred}
 use Rattle.imap_query.proofs.pattern.add.Goals as goal

@@ -1,5 +1,5 @@
 use Rattle.std.proofs.Common.{◌≡◌, ◌&&◌, ◌++◌, take, drop}
-use Rattle.imap_query.specs.Rows.{cells, is_wildcard}
+use Rattle.imap_query.specs.PatternRows.{cells, is_wildcard}
 use Rattle.imap_query.proofs.pattern.advance.Given as goal
 
 abbrev pub invariant-loop-at : goal.invariant-loop-at

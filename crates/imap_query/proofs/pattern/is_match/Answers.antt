@@ -1,6 +1,6 @@
 use Rattle.std.proofs.Common.{◌≡◌, ◌∙◌, ap, arith, drop, length, sym, true}
 use Rattle.std.proofs.lemmas.Grind.{common_steps}
-use Rattle.imap_query.specs.Rows.{answer_after, is_unset, last_of}
+use Rattle.imap_query.specs.PatternRows.{answer_after, is_unset, last_of}
 use Rattle.imap_query.proofs.RowLemmas.{answer_is, unset_never}
 use Rattle.imap_query.proofs.pattern.is_match.Goals as goal
 

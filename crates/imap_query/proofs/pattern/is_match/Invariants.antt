@@ -1,5 +1,5 @@
 use Rattle.std.proofs.Common.{◌≡◌, length, drop}
-use Rattle.imap_query.specs.Rows.{answer_after}
+use Rattle.imap_query.specs.PatternRows.{answer_after}
 use Rattle.imap_query.proofs.pattern.is_match.Given as goal
 
 abbrev pub invariant-loop-octet : goal.invariant-loop-octet

@@ -1,7 +1,7 @@
 use Rattle.std.proofs.Common.{◌∙◌, ap, sym}
 use Rattle.std.proofs.lemmas.Result.{IfOk-weaker}
 use Rattle.imap_query.specs.Heads.{flag_key}
-use Rattle.imap_query.specs.Keys.{Key}
+use Rattle.imap_query.specs.KeyHits.{Key}
 use Rattle.imap_query.specs.Search.{hits_in}
 use Rattle.imap_query.proofs.HeadLemmas.{flag_steps}
 use Rattle.imap_query.proofs.KeyLemmas.{one_key}
@@ -17,6 +17,6 @@ loop-shown-preserved c = (
 pub returns-in-Some-clause-hits : goal.returns-in-Some-clause-hits
 returns-in-Some-clause-hits c =
     let by_uid = c.args.by_uid in
-    IfOk-weaker c.flagged.result _ _
+    IfOk-weaker c.flagged_hits.result _ _
     (λ hits h key e. h ∙ ap (λ (k : Key). hits_in by_uid k c.args.rows.now c.args.view.now) (one_key (flag_key c.in-Some.test) key (sym (flag_steps c.flag_test.result c.in-Some.test c.args.steps.now c.in-Some.is c.flag_test.ensures) ∙ e)))
-    c.flagged.ensures.hits
+    c.flagged_hits.ensures.hits

@@ -1,6 +1,6 @@
 use Rattle.std.proofs.Common.{arith, ◌≡◌, ◌++◌, ◌∷◌, [], ℕ, List, Some, subst}
 use Rattle.mail_script.specs.Reading.{cut_at}
-use Rattle.mail_audit.specs.Standing.{Advances, EndsAt, Stands}
+use Rattle.mail_audit.specs.AuditProgress.{Advances, EndsAt, HasTaken}
 use Rattle.mail_audit.proofs.AuditingLemmas.{advance_at_first, advance_on, cut_parts, ends_there}
 use Rattle.mail_audit.proofs.auditing.take_piece.Goals as goal
 
@@ -27,4 +27,4 @@ lines-preserved c = λ front s.
     let cut : cut_at 10 c.lines.progress.lines ≡ Some (c.in-Ok-Some.line, c.next_line.new.self) = rw c.in-Ok-Some.field-0-is at c.in-Ok-Some.ensures.ok in
     let a = c.lines.invariant front s in
     advance_on front c.args.progress.now.audit (c.args.progress.now.lines ++ c.args.piece.now) c.lines.progress.audit c.lines.progress.lines a c.in-Ok-Some.line c.next_line.new.self cut c.take_line.new.audit
-    (subst (λ (z : List ℕ). Stands ((front ++ a.done) ++ z ∷ []) c.take_line.new.audit) c.as_bytes.ensures (c.in_default-take_line.ensures {u = tt} (front ++ a.done) a.stands))
+    (subst (λ (z : List ℕ). HasTaken ((front ++ a.done) ++ z ∷ []) c.take_line.new.audit) c.as_bytes.ensures (c.in_default-take_line.ensures {u = tt} (front ++ a.done) a.stands))

@@ -1,5 +1,5 @@
 use Rattle.std.proofs.Common.{◌≡◌, ℕ, List, Option, IsTrue, MatchOption, ◌∙◌, sym, subst, rules}
-use Rattle.imap_types.specs.Escape.{AreOctets, escaped}
+use Rattle.imap_types.specs.Escape.{AreOctets, escape_text}
 use Rattle.imap_types.specs.declared.escape.Escape.TheVariants.{Text}
 use Rattle.mail_script.specs.Fields.{is_session_name}
 use Rattle.mail_audit.proofs.LineLemmas.{no_name, no_speech, no_text, not_cut, spoken_of}
@@ -10,7 +10,7 @@ returns-in-Some-new c =
     let copied : c.in_ok-to_vec.field-0.items ≡ c.in-Some.name.now = search rules in
     let named = c.in-Some-new.ensures in
     let heard = c.in-Some-speech.text.now in
-    let read = subst (λ (found : Option (List ℕ)). MatchOption found ((octets : List ℕ) → AreOctets octets → heard ≡ escaped Text octets → ⊥) (λ octets. AreOctets octets × (heard ≡ escaped Text octets))) c.in-Some-2.is c.in_ok-text.ensures in (
+    let read = subst (λ (found : Option (List ℕ)). MatchOption found ((octets : List ℕ) → AreOctets octets → heard ≡ escape_text Text octets → ⊥) (λ octets. AreOctets octets × (heard ≡ escape_text Text octets))) c.in-Some-2.is c.in_ok-text.ensures in (
       search rules,
       read.0,
       spoken_of c.args.line.now c.in-Some.name.now c.in-Some.said.now heard c.in-Some-new.session c.in-Some-2.text c.in-Some-speech.speaker c.in-Some.ensures (named.1 ∙ copied) c.in-Some-speech.ensures read.1,

@@ -1,5 +1,5 @@
 use Rattle.std.proofs.Common.{◌≡◌, ◌+◌, ◌≤◌, length}
-use Rattle.mail_text.specs.Places.{any_field_holds}
+use Rattle.mail_text.specs.TextSearch.{any_field_holds}
 use Rattle.mail_text.proofs.field_words.field_contains_nocase.Given as goal
 
 abbrev pub invariant-loop : goal.invariant-loop

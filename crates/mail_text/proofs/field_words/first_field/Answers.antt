@@ -4,6 +4,6 @@ use Rattle.mail_text.proofs.field_words.first_field.Goals as goal
 
 pub returns : goal.returns
 returns c =
-    is_first c.args.text.now c.first_line.result.0.now c.first_line.result.1.now c.split_at.result.0.now c.behind_lines-rest.result.now
+    is_first c.args.text.now c.first_line.result.0.now c.first_line.result.1.now c.split_at.result.0.now c.after_continuations-rest.result.now
     c.first_line.ensures.lines c.first_line.ensures.parts c.first_line.ensures.shorter (sym c.is_empty_line.ensures ∙ c.if-is_empty_line.false)
-    c.behind_lines-rest.ensures.cut c.behind_lines-rest.ensures.within c.split_at.ensures.front
+    c.after_continuations-rest.ensures.cut c.after_continuations-rest.ensures.within c.split_at.ensures.front

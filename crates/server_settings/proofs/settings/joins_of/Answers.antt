@@ -1,6 +1,6 @@
 use Rattle.std.proofs.Common.{◌≡◌, ◌∙◌, ◌∷◌, ◌++◌, [], true, ℕ, List, ap, append_assoc, sym, subst}
 use Rattle.server_settings.specs.Settings.{HavePeers, is_named, newcomers_of}
-use Rattle.server_settings.specs.declared.settings.Join.{Join as Joining}
+use Rattle.server_settings.specs.declared.settings.Join.{Join}
 use Rattle.server_settings.proofs.NameLemmas.{newcomers_more, peers_more}
 use Rattle.server_settings.proofs.settings.joins_of.Goals as goal
 
@@ -15,6 +15,6 @@ loop-text-preserved c =
     record {
       names = c.in-Ok.ensures.names;
       same = more.1 ∙ ap (λ (xs : List ℕ). xs ++ name ∷ []) c.loop-text.invariant.same ∙ append_assoc first (newcomers_of joins) (name ∷ [])
-          ∙ ap (λ (xs : List ℕ). first ++ xs) (sym (newcomers_more joins join)) ∙ ap (λ (js : List Joining). first ++ newcomers_of js) (sym more.3);
+          ∙ ap (λ (xs : List ℕ). first ++ xs) (sym (newcomers_more joins join)) ∙ ap (λ (js : List Join). first ++ newcomers_of js) (sym more.3);
       peers = subst (HavePeers first) (sym more.3) (peers_more first joins join c.loop-text.invariant.peers named);
     }

@@ -6,7 +6,7 @@ use Rattle.std.proofs.alloc.Global.TheSendSync as heap
 use Rattle.std.specs.declared.sync.ledger.Ledger as ledger
 use Rattle.replica_lock.proofs.ThreadLemmas.{shared_sync}
 use Rattle.replica_lock.proofs.pass.Pass.TheSendSync as pass
-use Rattle.mail_serving.proofs.house.House.TheSendSync as house
+use Rattle.server_runtime.proofs.server_state.ServerState.TheSendSync as house
 use Rattle.server_tests.proofs.doors.Signs.TheSendSync as signs
 use Rattle.server_tests.proofs.scene.Hold.TheSendSync as hold
 use Rattle.server_tests.proofs.scene.Side.TheSendSync as side

@@ -4,7 +4,7 @@ use denote.Ref.{NamedLft}
 use denote.Struct.Declared.{shape}
 use Rattle.std.specs.declared.sync.ledger.Ledger as ledger
 use Rattle.replica_lock.proofs.ThreadLemmas.{shared_sync}
-use Rattle.mail_serving.proofs.house.House.TheSendSync as house
+use Rattle.server_runtime.proofs.server_state.ServerState.TheSendSync as house
 use Rattle.server_tests.proofs.doors.Signs.TheSendSync as signs
 use Rattle.server_tests.proofs.scene.Hold.TheSendSync as hold
 use Rattle.server_tests.specs.contracts.scene.Stage as stage

@@ -1,6 +1,6 @@
 use Rattle.std.proofs.Common.{◌++◌, List, [], sym, ap, ◌∙◌, append-nil}
 use Rattle.session_view.specs.Replay.{after_silent}
-use Rattle.session_view.specs.declared.replaying.Silent.{Silent}
+use Rattle.session_view.specs.declared.reply_replay.SilentFlags.{SilentFlags}
 use Rattle.session_view.proofs.flagging.flags_to_set.Goals as goal
 
 pub returns : goal.returns
@@ -9,5 +9,5 @@ returns c =
     let silents = c.args.silents.now in
     ap after (sym (append-nil c.push_all_to_set.new.left.items))
     ∙ (c.in_ok-push_all_to_set.ensures {u = tt}).same []
-    ∙ ap (λ (front : List Silent). after (front ++ (silents ++ []))) c.new-left.ensures.items
+    ∙ ap (λ (front : List SilentFlags). after (front ++ (silents ++ []))) c.new-left.ensures.items
     ∙ ap after (append-nil silents)

@@ -1,9 +1,9 @@
 use Rattle.std.proofs.Common.{◌∙◌, Bool, Option, refl, ap, sym, subst, arith}
 use Rattle.std.proofs.lemmas.List.{take_all}
 use Rattle.tags_clocks.specs.declared.id.OpId.{OpId}
-use Rattle.uid_projection.specs.Lines.{has_version}
-use Rattle.uid_projection.specs.Moves.{AreApart, loses, moved}
-use Rattle.uid_projection.specs.Table.{origin_at}
+use Rattle.uid_projection.specs.UidsAndModSeqs.{has_version}
+use Rattle.uid_projection.specs.EntryMoves.{AreApart, loses, moved_entries}
+use Rattle.uid_projection.specs.ChartTable.{origin_at}
 use Rattle.uid_projection.proofs.Advancing.{apart_moved, lost_more, moved_still}
 use Rattle.uid_projection.proofs.chart.lose.Goals as goal
 
@@ -25,7 +25,7 @@ loop-id-preserved c =
           let old = h.entries list m a in
           let apart = subst AreApart (sym old) (apart_moved _ s c.args.modseq c.args.entries.now.entries a) in
           c.lose_one-near.ensures.entries list m apart
-          ∙ ap (moved _ s c.args.modseq) old
+          ∙ ap (moved_entries _ s c.args.modseq) old
           ∙ lost_more f s c.args.modseq c.args.entries.now.entries c.args.removed.now c.loop-id.id-index c.id-item.result c.loop-id-test.true c.id-item.is;
       room = omega (arith, p, q);
     }
@@ -34,4 +34,4 @@ pub returns-clause-entries : goal.returns-clause-entries
 returns-clause-entries c = λ list m a.
     let stop = c.loop-id-test.false in
     c.loop-id.invariant.entries list m a
-    ∙ ap (λ ids. moved (loses (origin_at c.args.versions.now.entries) ids) (λ g. has_version c.args.folder.now g list) c.args.modseq c.args.entries.now.entries) (take_all c.loop-id.id-index c.args.removed.now (omega (arith, stop)))
+    ∙ ap (λ ids. moved_entries (loses (origin_at c.args.versions.now.entries) ids) (λ g. has_version c.args.folder.now g list) c.args.modseq c.args.entries.now.entries) (take_all c.loop-id.id-index c.args.removed.now (omega (arith, stop)))

@@ -1,8 +1,8 @@
 use Rattle.std.proofs.Common.{◌∙◌, Bool, ap, sym}
 use Rattle.tags_clocks.specs.declared.id.OpId.{OpId}
-use Rattle.crdt_ops.specs.Order.{is_some_id}
-use Rattle.uid_projection.specs.Lines.{has_version}
-use Rattle.uid_projection.specs.Moves.{moved}
+use Rattle.crdt_ops.specs.SortedSets.{is_some_id}
+use Rattle.uid_projection.specs.UidsAndModSeqs.{has_version}
+use Rattle.uid_projection.specs.EntryMoves.{moved_entries}
 use Rattle.uid_projection.proofs.Advancing.{moved_by_one, moved_still}
 use Rattle.uid_projection.proofs.chart.lose_one.Goals as goal
 
@@ -13,7 +13,7 @@ returns-in-Some-clause-entries c = λ list m a.
     let s : OpId → Bool = λ x. has_version c.args.folder.now x list in
     c.settle.ensures.entries a
     ∙ moved_by_one g c.has_version.result s c.args.modseq es (c.has_version.ensures list m)
-    ∙ (λ k. moved (λ x. is_some_id x ((sym c.in-Some.is ∙ c.origin_at.ensures) k)) s c.args.modseq es)
+    ∙ (λ k. moved_entries (λ x. is_some_id x ((sym c.in-Some.is ∙ c.origin_at.ensures) k)) s c.args.modseq es)
 
 pub returns-in-None-clause-entries : goal.returns-in-None-clause-entries
 returns-in-None-clause-entries c = λ list m a.

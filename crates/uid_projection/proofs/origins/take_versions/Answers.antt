@@ -1,7 +1,7 @@
 use Rattle.std.proofs.Common.{◌∙◌, ap, arith}
 use Rattle.std.proofs.lemmas.List.{take_all}
-use Rattle.uid_projection.specs.Moves.{without}
-use Rattle.uid_projection.specs.Table.{origin_at}
+use Rattle.uid_projection.specs.EntryMoves.{origins_without}
+use Rattle.uid_projection.specs.ChartTable.{origin_at}
 use Rattle.uid_projection.proofs.Advancing.{without_more}
 use Rattle.uid_projection.proofs.origins.take_versions.Goals as goal
 
@@ -18,4 +18,4 @@ loop-id-preserved c =
 pub returns-clause-told : goal.returns-clause-told
 returns-clause-told c = λ i.
     let stop = c.loop-id-test.false in
-    c.loop-id.invariant.told i ∙ ap (λ ids. without (origin_at c.args.versions.now.entries) ids i) (take_all c.loop-id.id-index c.args.removed.now (omega (arith, stop)))
+    c.loop-id.invariant.told i ∙ ap (λ ids. origins_without (origin_at c.args.versions.now.entries) ids i) (take_all c.loop-id.id-index c.args.removed.now (omega (arith, stop)))

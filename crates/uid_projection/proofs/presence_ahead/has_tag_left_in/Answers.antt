@@ -1,7 +1,7 @@
 use Rattle.std.proofs.Common.{◌<◌, ap, arith, subst, sym, ◌∙◌}
 use Rattle.std.proofs.lemmas.Bool.{false≢true}
-use Rattle.folder_state.specs.Kept.{folder_ids}
-use Rattle.uid_projection.specs.Changes.{IsKeptTag, is_there_at}
+use Rattle.folder_state.specs.FolderTables.{folder_ids}
+use Rattle.uid_projection.specs.TagChanges.{IsKeptTag, is_there_at}
 use Rattle.uid_projection.proofs.IdLemmas.{place_of}
 use Rattle.uid_projection.proofs.presence_ahead.has_tag_left_in.Goals as goal
 

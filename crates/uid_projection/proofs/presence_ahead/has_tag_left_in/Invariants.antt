@@ -1,7 +1,7 @@
 use Rattle.std.proofs.Common.{◌≡◌, ◌<◌, ℕ, false}
 use Rattle.std.specs.List.{slice_get}
-use Rattle.folder_state.specs.Kept.{folder_ids}
-use Rattle.uid_projection.specs.Changes.{is_there_at}
+use Rattle.folder_state.specs.FolderTables.{folder_ids}
+use Rattle.uid_projection.specs.TagChanges.{is_there_at}
 use Rattle.uid_projection.proofs.presence_ahead.has_tag_left_in.Given as goal
 
 abbrev pub invariant-loop-place : goal.invariant-loop-place

@@ -1,6 +1,6 @@
 use Rattle.std.proofs.Common.{◌≤◌, arith}
 use Rattle.std.proofs.lemmas.Bool.{false≢true}
-use Rattle.uid_projection.specs.Changes.{is_tag}
+use Rattle.uid_projection.specs.TagChanges.{is_tag}
 use Rattle.uid_projection.proofs.IdLemmas.{at_no_key}
 use Rattle.uid_projection.proofs.presence_ahead.has_tag_put.Goals as goal
 

@@ -1,4 +1,4 @@
-use Rattle.folder_state.specs.Kept.{folder_contents}
+use Rattle.folder_state.specs.FolderTables.{folder_contents}
 use Rattle.folder_state.proofs.Filed.{version_there}
 use Rattle.folder_state.proofs.folder.Folder.has_versions.Goals as goal
 

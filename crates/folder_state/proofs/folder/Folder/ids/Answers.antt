@@ -1,7 +1,7 @@
 use Rattle.std.proofs.Common.{◌∙◌, ◌++◌, ◌≤◌, [], sym, subst}
 use Rattle.std.specs.List.{cons_option}
 use Rattle.std.proofs.lemmas.List.{take_all}
-use Rattle.folder_state.specs.Kept.{folder_ids}
+use Rattle.folder_state.specs.FolderTables.{folder_ids}
 use Rattle.folder_state.proofs.Listing.{given_more}
 use Rattle.folder_state.proofs.folder.Folder.ids.Goals as goal
 

@@ -1,21 +1,21 @@
 use Rattle.std.proofs.Common.{◌≡◌, ◌↔◌, IsTrue, length, sym, subst, ◌∙◌}
 use Rattle.std.proofs.lemmas.Bool.{false≢true}
-use Rattle.folder_state.specs.Kept.{AreFiled, Kept}
+use Rattle.folder_state.specs.FolderTables.{AreIndexed, FolderTables}
 use Rattle.folder_state.proofs.Filed.{emptied, empty_told, tagged}
 use Rattle.folder_state.proofs.folder.Folder.is_empty.Goals as goal
 
 pub returns-then-is_empty-clause-ids : goal.returns-then-is_empty-clause-ids
 returns-then-is_empty-clause-ids c =
     emptied c.args.self.now c.is_empty-then-is_empty.result
-    (subst (λ (k : Kept). length k.tags ≡ 0) c.self.view_is (c.is_empty.ensures.0 c.if-is_empty.true))
-    (subst (λ (k : Kept). IsTrue c.is_empty-then-is_empty.result ↔ (length k.origins ≡ 0)) c.self.view_is c.is_empty-then-is_empty.ensures)
+    (subst (λ (k : FolderTables). length k.tags ≡ 0) c.self.view_is (c.is_empty.ensures.0 c.if-is_empty.true))
+    (subst (λ (k : FolderTables). IsTrue c.is_empty-then-is_empty.result ↔ (length k.origins ≡ 0)) c.self.view_is c.is_empty-then-is_empty.ensures)
 
 pub returns-then-is_empty-clause-tags : goal.returns-then-is_empty-clause-tags
-returns-then-is_empty-clause-tags c = empty_told c.args.self.now (subst (λ (k : Kept). AreFiled k.messages k.origins) c.self.view_is c.self.invariant) _ (returns-then-is_empty-clause-ids c)
+returns-then-is_empty-clause-tags c = empty_told c.args.self.now (subst (λ (k : FolderTables). AreIndexed k.messages k.origins) c.self.view_is c.self.invariant) _ (returns-then-is_empty-clause-ids c)
 
 pub returns-else-is_empty-clause-ids : goal.returns-else-is_empty-clause-ids
 returns-else-is_empty-clause-ids c =
-    c.if-is_empty.false ∙ tagged c.args.self.now (λ h. false≢true (sym c.if-is_empty.false ∙ c.is_empty.ensures.1 (subst (λ (k : Kept). length k.tags ≡ 0) (sym c.self.view_is) h)))
+    c.if-is_empty.false ∙ tagged c.args.self.now (λ h. false≢true (sym c.if-is_empty.false ∙ c.is_empty.ensures.1 (subst (λ (k : FolderTables). length k.tags ≡ 0) (sym c.self.view_is) h)))
 
 pub returns-else-is_empty-clause-tags : goal.returns-else-is_empty-clause-tags
-returns-else-is_empty-clause-tags c = empty_told c.args.self.now (subst (λ (k : Kept). AreFiled k.messages k.origins) c.self.view_is c.self.invariant) _ (returns-else-is_empty-clause-ids c)
+returns-else-is_empty-clause-tags c = empty_told c.args.self.now (subst (λ (k : FolderTables). AreIndexed k.messages k.origins) c.self.view_is c.self.invariant) _ (returns-else-is_empty-clause-ids c)

@@ -1,28 +1,28 @@
 use Rattle.std.proofs.Common.{◌≡◌, ◌+◌, arith, None, Some, cond, sym, subst, ◌∙◌}
 use Rattle.std.specs.Map.{lookup}
-use Rattle.crdt_ops.specs.Order.{same_id}
-use Rattle.folder_state.specs.Kept.{Kept, body_at}
-use Rattle.folder_state.specs.Rooms.{HasPlaces, HasVersionRoom}
+use Rattle.crdt_ops.specs.SortedSets.{same_id}
+use Rattle.folder_state.specs.FolderTables.{FolderTables, body_at}
+use Rattle.folder_state.specs.OpRoom.{HasPlaces, HasVersionRoom}
 use Rattle.folder_state.proofs.Filed.{bodies_put, carrying, filed_put}
 use Rattle.folder_state.proofs.folder.Folder.put_version.Goals as goal
 
 pub invariant_of-self : goal.invariant_of-self
 invariant_of-self c =
-    filed_put c.args.origin.now c.args.version c.self.inside.messages.entries c.put_in.new.messages.entries c.put_in.ensures.put c.self.inside.origins.entries c.tell_origin.new.origins.entries c.self.invariant
-    (subst (λ (k : Kept). lookup (same_id c.args.version.id) k.origins ≡ None) (sym c.self.view_is) c.requires.apart)
-    c.tell_origin.ensures.told
+    filed_put c.args.origin.now c.args.version c.self.inside.messages.entries c.put_in.new.messages.entries c.put_in.ensures.put c.self.inside.origins.entries c.index_origin.new.origins.entries c.self.invariant
+    (subst (λ (k : FolderTables). lookup (same_id c.args.version.id) k.origins ≡ None) (sym c.self.view_is) c.requires.apart)
+    c.index_origin.ensures.told
 
 pub returns-clause-bodies : goal.returns-clause-bodies
 returns-clause-bodies c = λ i.
-    bodies_put c.args.origin.now c.args.version c.self.inside.messages.entries c.put_in.new.messages.entries c.put_in.ensures.put c.self.inside.origins.entries c.tell_origin.new.origins.entries c.self.invariant
-    (subst (λ (k : Kept). lookup (same_id c.args.version.id) k.origins ≡ None) (sym c.self.view_is) c.requires.apart)
-    c.tell_origin.ensures.told i
+    bodies_put c.args.origin.now c.args.version c.self.inside.messages.entries c.put_in.new.messages.entries c.put_in.ensures.put c.self.inside.origins.entries c.index_origin.new.origins.entries c.self.invariant
+    (subst (λ (k : FolderTables). lookup (same_id c.args.version.id) k.origins ≡ None) (sym c.self.view_is) c.requires.apart)
+    c.index_origin.ensures.told i
     ∙ (λ j. cond (same_id i c.args.version.id) (Some (carrying c.args.origin.now c.args.version.flags)) (body_at (c.self.view_is j).messages i (lookup (same_id i) (c.self.view_is j).origins)))
 
 pub returns-clause-room : goal.returns-clause-room
 returns-clause-room c = λ o n h.
-    let before = subst (λ (k : Kept). HasPlaces k o (n + 1)) (sym c.self.view_is) h in
-    let told = c.tell_origin.ensures.room in
+    let before = subst (λ (k : FolderTables). HasPlaces k o (n + 1)) (sym c.self.view_is) h in
+    let told = c.index_origin.ensures.room in
     let put = c.put_in.ensures.room in
     record {
       tags = let a = before.tags in omega (arith, a);
@@ -31,4 +31,4 @@ returns-clause-room c = λ o n h.
     }
 
 pub returns-clause-versions : goal.returns-clause-versions
-returns-clause-versions c = λ o n h k. c.put_in.ensures.versions o n (subst (λ (f : Kept). HasVersionRoom f.messages o (cond (same_id o c.args.origin.now) 1 0 + n)) (sym c.self.view_is) h) k
+returns-clause-versions c = λ o n h k. c.put_in.ensures.versions o n (subst (λ (f : FolderTables). HasVersionRoom f.messages o (cond (same_id o c.args.origin.now) 1 0 + n)) (sym c.self.view_is) h) k

@@ -1,6 +1,6 @@
 use Rattle.std.proofs.Common.{◌∙◌, ◌≤◌, arith, sym, subst}
-use Rattle.folder_state.specs.Kept.{Kept}
-use Rattle.folder_state.specs.Rooms.{AreRoomierLists}
+use Rattle.folder_state.specs.FolderTables.{FolderTables}
+use Rattle.folder_state.specs.OpRoom.{AreRoomierLists}
 use Rattle.folder_state.proofs.Roomier.{filed_roomier, roomier_lists}
 use Rattle.folder_state.proofs.folder.Folder.reserve.Goals as goal
 
@@ -15,12 +15,12 @@ returns-in-Some-clause-roomier c =
       tags = (λ j. (c.self.view_is j).tags) ∙ same.0;
       origins = (λ j. (c.self.view_is j).origins) ∙ same.2;
       versions = subst (λ m. AreRoomierLists m c.reserve_versions.new.messages.entries) ((λ j. (c.self.view_is j).messages) ∙ same.1) c.reserve_versions.ensures.roomier;
-      tag_room = subst (λ (k : Kept). c.args.self.now.tag_room ≤ k.tag_room) (sym c.self.view_is) grown.0;
+      tag_room = subst (λ (k : FolderTables). c.args.self.now.tag_room ≤ k.tag_room) (sym c.self.view_is) grown.0;
       message_room =
-          let a = subst (λ (k : Kept). c.args.self.now.message_room ≤ k.message_room) (sym c.self.view_is) grown.1 in
+          let a = subst (λ (k : FolderTables). c.args.self.now.message_room ≤ k.message_room) (sym c.self.view_is) grown.1 in
           let b = c.reserve_versions.ensures.spare in
           omega (arith, a, b);
-      origin_room = subst (λ (k : Kept). c.args.self.now.origin_room ≤ k.origin_room) (sym c.self.view_is) grown.2;
+      origin_room = subst (λ (k : FolderTables). c.args.self.now.origin_room ≤ k.origin_room) (sym c.self.view_is) grown.2;
     }
 
 pub returns-in-None-clause-roomier : goal.returns-in-None-clause-roomier

@@ -1,7 +1,7 @@
 use Rattle.std.proofs.Common.{◌++◌}
 use Rattle.std.specs.Option.{option_copied}
-use Rattle.folder_state.specs.Kept.{versions_in}
-use Rattle.folder_state.specs.Later.{after}
+use Rattle.folder_state.specs.FolderTables.{versions_in}
+use Rattle.folder_state.specs.AfterOps.{after}
 use Rattle.folder_state.specs.Tables.{contents_of}
 use Rattle.folder_state.proofs.LaterLemmas.{made_after, version_left}
 use Rattle.folder_state.proofs.VersionLemmas.{has_version_by_set}
@@ -10,8 +10,8 @@ use Rattle.folder_state.proofs.folders.Folders.has_version_after.Goals as goal
 pub returns-clause-contents : goal.returns-clause-contents
 returns-clause-contents c =
     let held = option_copied c.folder.result in
-    let left = c.has_version_left.ensures in
-    version_left (contents_of c.args.self.now) c.args.folder.now held c.folder.ensures.tags c.folder.ensures.bodies c.args.ops.now c.args.origin.now (versions_in held c.args.origin.now) left.versions c.has_version_left.result left.left
+    let left = c.has_version_after_all.ensures in
+    version_left (contents_of c.args.self.now) c.args.folder.now held c.folder.ensures.tags c.folder.ensures.bodies c.args.ops.now c.args.origin.now (versions_in held c.args.origin.now) left.versions c.has_version_after_all.result left.left
 
 pub returns-clause-set : goal.returns-clause-set
 returns-clause-set c = λ list m s d.

@@ -7,6 +7,6 @@ use Rattle.folder_state.proofs.folders.Folders.mailbox.Goals as goal
 pub returns : goal.returns
 returns c = record {
   contents = λ o.
-      mailbox_told (contents_of c.args.self.now) c.args.name.now (option_copied c.folder.result) c.messages_lent.ensures.filed c.folder.ensures.bodies c.args.self.now.letters.entries (λ i. refl) o
-      (option_map (λ messages. messages.now.entries) c.messages_lent.result) c.messages_lent.ensures.messages;
+      mailbox_told (contents_of c.args.self.now) c.args.name.now (option_copied c.folder.result) c.lent_messages.ensures.filed c.folder.ensures.bodies c.args.self.now.letters.entries (λ i. refl) o
+      (option_map (λ messages. messages.now.entries) c.lent_messages.result) c.lent_messages.ensures.messages;
 }

@@ -3,9 +3,9 @@ use Rattle.std.specs.Global.{Vec}
 use Rattle.tags_clocks.specs.declared.id.OpId.{OpId}
 use Rattle.imap_types.specs.declared.version.Version.{Version}
 use Rattle.crdt_ops.specs.declared.op.Op.{Op}
-use Rattle.crdt_ops.specs.Order.{is_some_id}
-use Rattle.folder_state.specs.Kept.{folder_at}
-use Rattle.folder_state.specs.Rooms.{HasRoomFor, HaveLists, origin_by, versions_wanted, wanted_by}
+use Rattle.crdt_ops.specs.SortedSets.{is_some_id}
+use Rattle.folder_state.specs.FolderTables.{find_folder}
+use Rattle.folder_state.specs.OpRoom.{HasRoomFor, HaveLists, origin_by, versions_added, counts_of}
 use Rattle.folder_state.proofs.folders.Folders.prepare_one.Goals as goal
 
 at_most_one : (b : Bool) → cond b 1 0 + 0 ≤ 1
@@ -13,7 +13,7 @@ at_most_one true = omega arith
 at_most_one false = omega arith
 
 -- one operation adds one version at most
-one_wanted : (op : Op) (x : Option OpId) → wanted_by (versions_wanted (op ∷ [])) x ≤ 1
+one_wanted : (op : Op) (x : Option OpId) → counts_of (versions_added (op ∷ [])) x ≤ 1
 one_wanted op None = omega arith
 one_wanted op (Some o) = at_most_one (is_some_id o (origin_by op.id op.kind))
 
@@ -24,13 +24,13 @@ returns-clause-prepared c =
     let list = c.in_ok-list.list in
     let few = one_wanted op (origin_by op.id op.kind) in
     let places = (c.in_ok-list.ensures {u = tt}).exact in
-    let here : HasRoomFor (op ∷ []) op (λ n. folder_at n folders) =
-    subst (λ (o : Op). HasRoomFor (o ∷ []) o (λ n. folder_at n folders)) c.op.ensures.op (c.in_ok-reserve_one.ensures {u = tt}).room in
+    let here : HasRoomFor (op ∷ []) op (λ n. find_folder n folders) =
+    subst (λ (o : Op). HasRoomFor (o ∷ []) o (λ n. find_folder n folders)) c.op.ensures.op (c.in_ok-reserve_one.ensures {u = tt}).room in
     record {
       copies = ([], (c.in_ok-push_back-2.ensures {u = tt}).items ∙ (λ k. c.clear-2.ensures.items k ++ c.in_ok-copy.ensures {u = tt} k ∷ []));
       lists = subst (HaveLists (op ∷ [])) (sym ((c.in_ok-push_back.ensures {u = tt}).items ∙ ap (λ (ls : List (Vec Version)). ls ++ list ∷ []) c.clear.ensures.items)) ((c.in_ok-list.ensures {u = tt}).items, omega (arith, few, places), tt);
       rooms = λ o h. elim h [
-        | inl e ↦ subst (λ (p : Op). HasRoomFor (op ∷ []) p (λ n. folder_at n folders)) e here
+        | inl e ↦ subst (λ (p : Op). HasRoomFor (op ∷ []) p (λ n. find_folder n folders)) e here
         | inr n ↦ absurd n
       ];
       letters = (c.in_ok-reserve.ensures {u = tt}).ok;

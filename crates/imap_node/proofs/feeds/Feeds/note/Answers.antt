@@ -1,12 +1,12 @@
 use Rattle.std.proofs.Common.{List, sym, subst, ◌∙◌}
-use Rattle.idle_feed.specs.Feeds.{Kept}
-use Rattle.imap_node.specs.Feeds.{AreAllNoted}
+use Rattle.idle_feed.specs.Feeds.{FeedState}
+use Rattle.imap_node.specs.SessionFeeds.{AreAllNoted}
 use Rattle.imap_node.specs.Sessions.{Places}
 use Rattle.imap_node.proofs.feeds.Feeds.note.Goals as goal
 
 pub returns : goal.returns
-returns c = λ start before after news noted.
+returns c = λ start before after change_notes noted.
     let lent = c.deref.ensures.value ∙ c.sessions.view_is in
     subst (λ (places : Places). AreAllNoted start after places c.note_in.new.feeds.items) lent
-    (c.note_in.ensures start before after news
-    (subst (λ (places : Places). AreAllNoted start before places c.self.inside.feeds.items) (sym lent) (subst (λ (feeds : List Kept). AreAllNoted start before c.args.sessions.now feeds) (sym c.self.view_is) noted)))
+    (c.note_in.ensures start before after change_notes
+    (subst (λ (places : Places). AreAllNoted start before places c.self.inside.feeds.items) (sym lent) (subst (λ (feeds : List FeedState). AreAllNoted start before c.args.sessions.now feeds) (sym c.self.view_is) noted)))

@@ -1,16 +1,16 @@
 use Rattle.std.proofs.Common.{◌≡◌, Option, None, Some, subst, sym}
-use Rattle.imap_node.specs.Feeds.{AreAllNoted}
-use Rattle.imap_node.specs.Nodes.{NodeKept}
+use Rattle.imap_node.specs.SessionFeeds.{AreAllNoted}
+use Rattle.imap_node.specs.Nodes.{NodeWithRoom}
 use Rattle.imap_node.specs.Sessions.{IsOpen, Places, session_at}
 use Rattle.imap_node.proofs.GoingLemmas.{all_kept}
 use Rattle.imap_node.proofs.SessionLemmas.{open_is}
-use Rattle.session_view.specs.Seen.{Seen}
+use Rattle.session_view.specs.ViewState.{ViewState}
 use Rattle.imap_node.proofs.node.Node.close.Goals as goal
 
 pub invariant_of-self : goal.invariant_of-self
 invariant_of-self c =
     let old = c.self.inside in
-    let opened : IsOpen old.sessions c.args.session = subst (λ (k : NodeKept). IsOpen k.state.sessions c.args.session) (sym c.self.view_is) c.requires in
+    let opened : IsOpen old.sessions c.args.session = subst (λ (k : NodeWithRoom). IsOpen k.state.sessions c.args.session) (sym c.self.view_is) c.requires in
     let found = open_is (session_at old.sessions c.args.session) opened in
     subst (λ (places : Places). AreAllNoted old.replica.start old.replica.applied places old.feeds) (sym c.set.ensures)
-    (all_kept old.replica.start old.replica.applied old.sessions old.feeds c.args.session None found.0 found.1 c.self.invariant (λ view q. let e : ◌≡◌ {A = Option Seen} None (Some view) = q in cc))
+    (all_kept old.replica.start old.replica.applied old.sessions old.feeds c.args.session None found.0 found.1 c.self.invariant (λ view q. let e : ◌≡◌ {A = Option ViewState} None (Some view) = q in cc))

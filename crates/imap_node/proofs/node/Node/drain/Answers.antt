@@ -12,7 +12,7 @@ note_since-requires c =
     let old = c.self.inside.replica in
     let new = c.drain-drained.new.self in
     let grown = releases_grow id_of clock_of Exhausts c.drain-drained.result.applied (replica_received old) (replica_received new) c.drain-drained.ensures.released in
-    let e = ap (λ (ops : List Op). length ops) c.applied-count.ensures.applied in
+    let e = ap (λ (ops : List Op). length ops) c.op_list-count.ensures.applied in
     let l = grown_long old.applied new.applied grown in
     omega (arith, e, l)
 
@@ -22,6 +22,6 @@ invariant_of-self c =
     let new = c.drain-drained.new.self in
     let grown = releases_grow id_of clock_of Exhausts c.drain-drained.result.applied (replica_received old) (replica_received new) c.drain-drained.ensures.released in
     let same = releases_start id_of clock_of Exhausts c.drain-drained.result.applied (replica_received old) (replica_received new) c.drain-drained.ensures.released in
-    let front = ap (λ (ops : List Op). take (length ops) new.applied) c.applied-count.ensures.applied ∙ grown_take old.applied new.applied grown in
+    let front = ap (λ (ops : List Op). take (length ops) new.applied) c.op_list-count.ensures.applied ∙ grown_take old.applied new.applied grown in
     c.note_since.ensures new.start
-    (noted_as old.start new.start old.applied (take (length c.applied-count.result.now) new.applied) c.self.inside.sessions c.self.inside.sessions c.self.inside.feeds c.self.inside.feeds same front refl (λ n. refl) c.self.invariant)
+    (noted_as old.start new.start old.applied (take (length c.op_list-count.result.now) new.applied) c.self.inside.sessions c.self.inside.sessions c.self.inside.feeds c.self.inside.feeds same front refl (λ n. refl) c.self.invariant)

@@ -1,8 +1,8 @@
 use Rattle.std.specs.Option.{option_copied}
 use Rattle.std.proofs.Common.{◌≡◌, Option, Some, sym, ap, ◌∙◌, subst}
 use Rattle.imap_commands.specs.declared.session.Session.{Session}
-use Rattle.imap_node.specs.Feeds.{IsCurrent}
-use Rattle.imap_node.specs.Nodes.{NodeKept}
+use Rattle.imap_node.specs.SessionFeeds.{IsCurrent}
+use Rattle.imap_node.specs.Nodes.{NodeWithRoom}
 use Rattle.imap_node.specs.Replays.{view_at, view_in, view_of}
 use Rattle.imap_node.specs.Sessions.{session_at}
 use Rattle.imap_node.proofs.FeedLemmas.{current_by}
@@ -15,6 +15,6 @@ returns-in-Some c = λ h view v.
     let session = c.in-Some.found.now in
     let found : Some session ≡ session_at c.args.self.now.state.sessions n = ap option_copied (sym c.in-Some.is) ∙ c.session.ensures in
     let seen : view_of session.state ≡ Some view = subst (λ (place : Option Session). view_in place ≡ Some view) (sym found) v in
-    subst (λ (node : NodeKept). view_at node.state.sessions n ≡ Some view → IsCurrent node.state.start node.state.applied view) c.self.view_is
-    (current_by own.replica.start own.replica.applied own.sessions own.feeds n c.of.result.now.pending view c.self.invariant c.of.ensures (c.may_be_told.ensures.missed h view seen) (c.may_be_told.ensures.none h view seen))
+    subst (λ (node : NodeWithRoom). view_at node.state.sessions n ≡ Some view → IsCurrent node.state.start node.state.applied view) c.self.view_is
+    (current_by own.replica.start own.replica.applied own.sessions own.feeds n c.feed_of.result.now.pending view c.self.invariant c.feed_of.ensures (c.may_be_told.ensures.missed h view seen) (c.may_be_told.ensures.none h view seen))
     v

@@ -2,11 +2,11 @@ use Rattle.std.proofs.Common.{subst}
 use Rattle.crdt_ops.specs.Sound.{IsSound}
 use Rattle.merge_laws.specs.Orders.{AreSound}
 use Rattle.imap_node.specs.Deliveries.{IsOrderly}
-use Rattle.imap_node.specs.Nodes.{NodeKept}
+use Rattle.imap_node.specs.Nodes.{NodeWithRoom}
 use Rattle.imap_node.proofs.node.Node.op_list.Goals as goal
 
 pub returns-clause-orderly : goal.returns-clause-orderly
-returns-clause-orderly c = subst (λ (n : NodeKept). IsOrderly n.state) c.self.view_is c.applied.ensures.lawful
+returns-clause-orderly c = subst (λ (n : NodeWithRoom). IsOrderly n.state) c.self.view_is c.op_list.ensures.lawful
 
 pub returns-clause-sound : goal.returns-clause-sound
-returns-clause-sound c = subst (λ (n : NodeKept). AreSound IsSound n.state.applied) c.self.view_is c.applied.ensures.sound
+returns-clause-sound c = subst (λ (n : NodeWithRoom). AreSound IsSound n.state.applied) c.self.view_is c.op_list.ensures.sound

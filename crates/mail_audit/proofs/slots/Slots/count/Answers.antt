@@ -1,6 +1,6 @@
 use Rattle.std.proofs.Common.{◌≡◌, ◌-◌, length, ap, ◌∙◌, arith}
-use Rattle.mail_audit.specs.Kept.{places_from}
-use Rattle.mail_audit.specs.Steps.{Known}
+use Rattle.mail_audit.specs.KnownUids.{places_from}
+use Rattle.mail_audit.specs.SlotSteps.{SlotKnowledge}
 use Rattle.mail_audit.proofs.SlotLemmas.{few}
 use Rattle.mail_audit.proofs.slots.Slots.count.Goals as goal
 use Rattle.mail_audit.proofs.GoneLemmas.{gone_low, length_places}
@@ -24,4 +24,4 @@ returns c =
     let l = gone_low 0 s.gone s.came c.self.invariant.gone_ascend in
     let n = length_places 0 s.gone s.came c.self.invariant.gone_ascend in
     let e : s.came - c.len.result ≡ length (places_from 0 s.gone s.came) = grind (arith, l, n, c.len.ensures) in
-    e ∙ ap (λ (k : Known). length k.there) c.self.view_is
+    e ∙ ap (λ (k : SlotKnowledge). length k.there) c.self.view_is

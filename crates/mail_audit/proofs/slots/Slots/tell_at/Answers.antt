@@ -1,72 +1,72 @@
 use Rattle.std.proofs.Common.{◌≡◌, ◌↔◌, ◌<◌, ◌≤◌, true, false, IsTrue, List, get_or, set, length, None, Some, sym, ap, ◌∙◌, subst, arith, rules}
-use Rattle.mail_audit.specs.Gaps.{FitsAt, IsTold, IsUntold}
-use Rattle.mail_audit.specs.Kept.{AreKept, slots_from}
-use Rattle.mail_audit.specs.Passing.{HasRoomAbove, MayBe}
+use Rattle.mail_audit.specs.Gaps.{FitsAt, IsUidKnown, IsUidUnknown}
+use Rattle.mail_audit.specs.KnownUids.{AreKnownUids, slots_from}
+use Rattle.mail_audit.specs.Passing.{HasRoomAbove, MayBeUid}
 use Rattle.std.specs.Prelude.{nat_eq}
-use Rattle.mail_audit.specs.Steps.{Known}
-use Rattle.mail_audit.specs.declared.slots.Told.{Told}
+use Rattle.mail_audit.specs.SlotSteps.{SlotKnowledge}
+use Rattle.mail_audit.specs.declared.slots.KnownUid.{KnownUid}
 use Rattle.mail_audit.proofs.SlotLemmas.{iff_at, iff_both, known_by, same_test, slots_count, tell_again, tell_again_next, tell_first, tell_kept, tell_next}
 use Rattle.mail_audit.proofs.slots.Slots.tell_at.Goals as goal
 
 pub returns-in-Some-clause-fits : goal.returns-in-Some-clause-fits
 returns-in-Some-clause-fits c =
     let s = c.self.inside in
-    let t : IsTold c.find-at.result c.args.place c.in-Some.known s.tolds = c.in-Some.ensures {u = tt} in
-    subst (λ (k : Known). IsTrue (nat_eq c.in-Some.known c.args.uid) ↔ (MayBe (get_or k.slots c.args.place None) c.args.uid × HasRoomAbove 0 (set k.slots c.args.place (Some c.args.uid)))) c.self.view_is
-    (iff_both (same_test c.in-Some.known c.args.uid) (tell_again s.gone s.tolds s.came c.find-at.result c.args.place c.args.uid c.self.invariant c.in-Some.known t))
+    let t : IsUidKnown c.known_before-at.result c.args.place c.in-Some.known s.tolds = c.in-Some.ensures {u = tt} in
+    subst (λ (k : SlotKnowledge). IsTrue (nat_eq c.in-Some.known c.args.uid) ↔ (MayBeUid (get_or k.slots c.args.place None) c.args.uid × HasRoomAbove 0 (set k.slots c.args.place (Some c.args.uid)))) c.self.view_is
+    (iff_both (same_test c.in-Some.known c.args.uid) (tell_again s.gone s.tolds s.came c.known_before-at.result c.args.place c.args.uid c.self.invariant c.in-Some.known t))
 
 pub returns-in-Some-clause-next : goal.returns-in-Some-clause-next
 returns-in-Some-clause-next c = λ i.
     let s = c.self.inside in
-    let t : IsTold c.find-at.result c.args.place c.in-Some.known s.tolds = c.in-Some.ensures {u = tt} in
-    subst (λ (k : Known). k ≡ record k { slots = set k.slots c.args.place (Some c.args.uid) }) c.self.view_is
-    (tell_again_next s.gone s.tolds s.came c.find-at.result c.args.place c.args.uid c.self.invariant c.in-Some.known t ((same_test c.in-Some.known c.args.uid).0 i))
+    let t : IsUidKnown c.known_before-at.result c.args.place c.in-Some.known s.tolds = c.in-Some.ensures {u = tt} in
+    subst (λ (k : SlotKnowledge). k ≡ record k { slots = set k.slots c.args.place (Some c.args.uid) }) c.self.view_is
+    (tell_again_next s.gone s.tolds s.came c.known_before-at.result c.args.place c.args.uid c.self.invariant c.in-Some.known t ((same_test c.in-Some.known c.args.uid).0 i))
 
 pub returns-then-not-fits_between-clause-fits : goal.returns-then-not-fits_between-clause-fits
 returns-then-not-fits_between-clause-fits c =
     let s = c.self.inside in
-    let u : IsUntold c.find-at.result c.args.place s.tolds = c.in_default.ensures {u = tt} in
-    let fits : IsTrue c.fits_between.result ↔ FitsAt 0 0 c.find-at.result s.tolds (record { place = c.args.place; uid = c.args.uid }) s.came = c.fits_between.ensures in
+    let u : IsUidUnknown c.known_before-at.result c.args.place s.tolds = c.in_default.ensures {u = tt} in
+    let fits : IsTrue c.fits_between.result ↔ FitsAt 0 0 c.known_before-at.result s.tolds (record { place = c.args.place; uid = c.args.uid }) s.came = c.fits_between.ensures in
     let small : c.args.uid ≤ 4294967295 = grind (arith, c.ranges.uid.fits) in
     let count = slots_count s.gone s.tolds s.came c.self.invariant in
-    let r : c.args.place < length (slots_from 0 s.tolds s.came) = subst (λ (k : Known). c.args.place < length k.slots) (sym c.self.view_is) c.requires in
+    let r : c.args.place < length (slots_from 0 s.tolds s.came) = subst (λ (k : SlotKnowledge). c.args.place < length k.slots) (sym c.self.view_is) c.requires in
     let came : c.args.place < s.came = omega (arith, r, count) in
-    subst (λ (k : Known). IsTrue false ↔ (MayBe (get_or k.slots c.args.place None) c.args.uid × HasRoomAbove 0 (set k.slots c.args.place (Some c.args.uid)))) c.self.view_is
-    (iff_at c.fits_between.result false c.if-not-fits_between.true fits (tell_first s.gone s.tolds s.came c.find-at.result c.args.place c.args.uid c.self.invariant u small came))
+    subst (λ (k : SlotKnowledge). IsTrue false ↔ (MayBeUid (get_or k.slots c.args.place None) c.args.uid × HasRoomAbove 0 (set k.slots c.args.place (Some c.args.uid)))) c.self.view_is
+    (iff_at c.fits_between.result false c.if-not-fits_between.true fits (tell_first s.gone s.tolds s.came c.known_before-at.result c.args.place c.args.uid c.self.invariant u small came))
 
 pub invariant_of-self-2 : goal.invariant_of-self-2
 invariant_of-self-2 c =
     let s = c.self.inside in
-    let u : IsUntold c.find-at.result c.args.place s.tolds = c.in_default.ensures {u = tt} in
-    let fits : IsTrue c.fits_between.result ↔ FitsAt 0 0 c.find-at.result s.tolds (record { place = c.args.place; uid = c.args.uid }) s.came = c.fits_between.ensures in
+    let u : IsUidUnknown c.known_before-at.result c.args.place s.tolds = c.in_default.ensures {u = tt} in
+    let fits : IsTrue c.fits_between.result ↔ FitsAt 0 0 c.known_before-at.result s.tolds (record { place = c.args.place; uid = c.args.uid }) s.came = c.fits_between.ensures in
     let small : c.args.uid ≤ 4294967295 = grind (arith, c.ranges.uid.fits) in
     let count = slots_count s.gone s.tolds s.came c.self.invariant in
-    let r : c.args.place < length (slots_from 0 s.tolds s.came) = subst (λ (k : Known). c.args.place < length k.slots) (sym c.self.view_is) c.requires in
+    let r : c.args.place < length (slots_from 0 s.tolds s.came) = subst (λ (k : SlotKnowledge). c.args.place < length k.slots) (sym c.self.view_is) c.requires in
     let came : c.args.place < s.came = omega (arith, r, count) in
-    subst (λ (ts : List Told). AreKept s.gone ts s.came) (sym (c.in_ok-insert.ensures {u = tt}).ok)
-    (tell_kept s.gone s.tolds s.came c.find-at.result c.args.place c.args.uid c.self.invariant u small came (fits.0 (search rules)))
+    subst (λ (ts : List KnownUid). AreKnownUids s.gone ts s.came) (sym (c.in_ok-insert.ensures {u = tt}).ok)
+    (tell_kept s.gone s.tolds s.came c.known_before-at.result c.args.place c.args.uid c.self.invariant u small came (fits.0 (search rules)))
 
 pub returns-clause-fits : goal.returns-clause-fits
 returns-clause-fits c =
     let s = c.self.inside in
-    let u : IsUntold c.find-at.result c.args.place s.tolds = c.in_default.ensures {u = tt} in
-    let fits : IsTrue c.fits_between.result ↔ FitsAt 0 0 c.find-at.result s.tolds (record { place = c.args.place; uid = c.args.uid }) s.came = c.fits_between.ensures in
+    let u : IsUidUnknown c.known_before-at.result c.args.place s.tolds = c.in_default.ensures {u = tt} in
+    let fits : IsTrue c.fits_between.result ↔ FitsAt 0 0 c.known_before-at.result s.tolds (record { place = c.args.place; uid = c.args.uid }) s.came = c.fits_between.ensures in
     let small : c.args.uid ≤ 4294967295 = grind (arith, c.ranges.uid.fits) in
     let count = slots_count s.gone s.tolds s.came c.self.invariant in
-    let r : c.args.place < length (slots_from 0 s.tolds s.came) = subst (λ (k : Known). c.args.place < length k.slots) (sym c.self.view_is) c.requires in
+    let r : c.args.place < length (slots_from 0 s.tolds s.came) = subst (λ (k : SlotKnowledge). c.args.place < length k.slots) (sym c.self.view_is) c.requires in
     let came : c.args.place < s.came = omega (arith, r, count) in
-    subst (λ (k : Known). IsTrue true ↔ (MayBe (get_or k.slots c.args.place None) c.args.uid × HasRoomAbove 0 (set k.slots c.args.place (Some c.args.uid)))) c.self.view_is
-    (iff_at c.fits_between.result true c.if-not-fits_between.false fits (tell_first s.gone s.tolds s.came c.find-at.result c.args.place c.args.uid c.self.invariant u small came))
+    subst (λ (k : SlotKnowledge). IsTrue true ↔ (MayBeUid (get_or k.slots c.args.place None) c.args.uid × HasRoomAbove 0 (set k.slots c.args.place (Some c.args.uid)))) c.self.view_is
+    (iff_at c.fits_between.result true c.if-not-fits_between.false fits (tell_first s.gone s.tolds s.came c.known_before-at.result c.args.place c.args.uid c.self.invariant u small came))
 
 pub returns-clause-next : goal.returns-clause-next
 returns-clause-next c = λ i.
     let s = c.self.inside in
-    let u : IsUntold c.find-at.result c.args.place s.tolds = c.in_default.ensures {u = tt} in
-    let fits : IsTrue c.fits_between.result ↔ FitsAt 0 0 c.find-at.result s.tolds (record { place = c.args.place; uid = c.args.uid }) s.came = c.fits_between.ensures in
+    let u : IsUidUnknown c.known_before-at.result c.args.place s.tolds = c.in_default.ensures {u = tt} in
+    let fits : IsTrue c.fits_between.result ↔ FitsAt 0 0 c.known_before-at.result s.tolds (record { place = c.args.place; uid = c.args.uid }) s.came = c.fits_between.ensures in
     let small : c.args.uid ≤ 4294967295 = grind (arith, c.ranges.uid.fits) in
     let count = slots_count s.gone s.tolds s.came c.self.invariant in
-    let r : c.args.place < length (slots_from 0 s.tolds s.came) = subst (λ (k : Known). c.args.place < length k.slots) (sym c.self.view_is) c.requires in
+    let r : c.args.place < length (slots_from 0 s.tolds s.came) = subst (λ (k : SlotKnowledge). c.args.place < length k.slots) (sym c.self.view_is) c.requires in
     let came : c.args.place < s.came = omega (arith, r, count) in
-    ap (λ (ts : List Told). known_by s.gone ts s.came) (c.in_ok-insert.ensures {u = tt}).ok
-    ∙ tell_next s.gone s.tolds s.came c.find-at.result c.args.place c.args.uid c.self.invariant u small came
-    ∙ ap (λ (k : Known). record k { slots = set k.slots c.args.place (Some c.args.uid) }) c.self.view_is
+    ap (λ (ts : List KnownUid). known_by s.gone ts s.came) (c.in_ok-insert.ensures {u = tt}).ok
+    ∙ tell_next s.gone s.tolds s.came c.known_before-at.result c.args.place c.args.uid c.self.invariant u small came
+    ∙ ap (λ (k : SlotKnowledge). record k { slots = set k.slots c.args.place (Some c.args.uid) }) c.self.view_is

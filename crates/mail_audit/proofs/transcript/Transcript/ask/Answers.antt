@@ -1,10 +1,10 @@
 use Rattle.std.proofs.Common.{Bool, false, inl, inr, refl, rules, IsFalse, ap, subst, ◌∙◌}
 use Rattle.std.specs.List.{list_any}
 use Rattle.std.proofs.lemmas.Result.{on_ok_weaker}
-use Rattle.mail_audit.specs.Hearings.{Hearing}
+use Rattle.mail_audit.specs.HeardSessions.{SessionKnowledge}
 use Rattle.mail_audit.specs.Transcripts.{event_by}
 use Rattle.mail_audit.specs.declared.event.SlotEvent.TheVariants.{Passes}
-use Rattle.mail_audit.specs.declared.running.Running.{Running}
+use Rattle.mail_audit.specs.declared.in_progress.RunningCommand.{RunningCommand}
 use Rattle.mail_audit.proofs.transcript.Transcript.ask.Goals as goal
 
 awake : IsFalse false
@@ -12,7 +12,7 @@ awake = search rules
 
 pub returns-in-Ok : goal.returns-in-Ok
 returns-in-Ok c =
-    let e = c.if-idles.ensures {u = tt} ∙ ap (λ (h : Hearing). list_any (λ (r : Running). r.idles) h.running) c.self.view_is in
+    let e = c.if-idles.ensures {u = tt} ∙ ap (λ (h : SessionKnowledge). list_any (λ (r : RunningCommand). r.idles) h.running) c.self.view_is in
     let f = subst (λ (b : Bool). IsFalse b) e awake in
     let s = (c.in-Ok.ensures {u = tt}).found in
     on_ok_weaker c.begin.result (λ o. (event_by c.in-Ok.tagged.command, inl (c.in-Ok.tagged, (f, s), o.0, refl), o.2, o.1)) c.begin.ensures

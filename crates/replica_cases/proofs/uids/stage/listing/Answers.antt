@@ -1,5 +1,5 @@
 use Rattle.std.proofs.Common.{◌≡◌, ap, ◌∙◌}
-use Rattle.uid_projection.specs.declared.start.Start.{Start}
+use Rattle.uid_projection.specs.declared.first_numbers.Counters.{Counters}
 use Rattle.uid_projection.specs.Listing.{listing}
 use Rattle.uid_projection.proofs.Asked.{if_ok}
 use Rattle.replica_cases.proofs.uids.stage.listing.Goals as goal
@@ -7,4 +7,4 @@ use Rattle.replica_cases.proofs.uids.stage.listing.Goals as goal
 pub returns : goal.returns
 returns c =
     let list = c.args.inbox.now.seen.applied in
-    if_ok c.rows.result (λ rows h. h ∙ ap (λ (s : Start). listing s c.args.name.now list) c.charts.ensures.start) (c.rows.ensures list c.charts.ensures.follows c.folders.ensures)
+    if_ok c.rows.result (λ rows h. h ∙ ap (λ (s : Counters). listing s c.args.name.now list) c.charts.ensures.start) (c.rows.ensures list c.charts.ensures.follows c.folders.ensures)

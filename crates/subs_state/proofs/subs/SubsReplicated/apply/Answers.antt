@@ -7,14 +7,14 @@ use Rattle.subs_state.proofs.subs.SubsReplicated.apply.Goals as goal
 
 pub returns-clause-meaning : goal.returns-clause-meaning
 returns-clause-meaning c = λ k n i. (
-    c.keep_added.ensures.found n i
-    ∙ ap (λ b. adds (SubscriptionTag n i) c.op-op.result.now || b) (c.forget_removed.ensures.found n i)
+    c.add_tag_of.ensures.found n i
+    ∙ ap (λ b. adds (SubscriptionTag n i) c.op-op.result.now || b) (c.remove_tags_of.ensures.found n i)
     ∙ ap (λ (o : Op). adds (SubscriptionTag n i) o || (not (removes (SubscriptionTag n i) o) && tag_in c.args.self.now.tags.entries n i)) c.op-op.ensures.op
     ) k
 
 pub returns-clause-others : goal.returns-clause-others
 returns-clause-others c = λ rest p. record {
   room = λ n.
-      room_after n c.args.op.now c.op-op.result.now rest (room_of n c.args.self.now.tags.entries) (room_of n c.forget_removed.new.tags.entries) (room_of n c.keep_added.new.tags.entries)
-      c.op-op.ensures.op (p.room n) (c.forget_removed.ensures.room n) (c.keep_added.ensures.room n);
+      room_after n c.args.op.now c.op-op.result.now rest (room_of n c.args.self.now.tags.entries) (room_of n c.remove_tags_of.new.tags.entries) (room_of n c.add_tag_of.new.tags.entries)
+      c.op-op.ensures.op (p.room n) (c.remove_tags_of.ensures.room n) (c.add_tag_of.ensures.room n);
 }

@@ -1,5 +1,5 @@
 use Rattle.std.proofs.Common.{◌≤◌, min, ap, ◌∙◌, arith}
-use Rattle.uid_projection.specs.Lines.{highest_modseq_of}
+use Rattle.uid_projection.specs.UidsAndModSeqs.{highest_modseq_of}
 use Rattle.uid_projection.proofs.LaterNumbers.{highest_within}
 use Rattle.uid_projection.proofs.charts.Charts.highest_after.Goals as goal
 

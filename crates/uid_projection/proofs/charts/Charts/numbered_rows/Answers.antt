@@ -1,7 +1,7 @@
 use Rattle.std.proofs.Common.{◌∙◌, Option}
 use Rattle.tags_clocks.specs.declared.id.OpId.{OpId}
 use Rattle.folder_state.specs.Tables.{contents_of}
-use Rattle.mail_listing.specs.Telling.{Told, rows_by, told_in}
+use Rattle.mailbox_rows.specs.MessageData.{MessageData, rows_by, kept_message_data}
 use Rattle.uid_projection.proofs.RowLemmas.{rows_seen}
 use Rattle.uid_projection.proofs.charts.Charts.numbered_rows.Goals as goal
 
@@ -13,8 +13,8 @@ returns-clause-rows c = λ list f m.
     let s = c.args.self.now in
     let n = c.args.name.now in
     let x = c.in_ok-entries.field-0 in
-    let told : OpId → Option Told = told_in c.mailbox.result in
+    let told : OpId → Option MessageData = kept_message_data c.mailbox.result in
     let chart = c.in_ok-entries.ensures list s.next_k f.table c.chart_of-chart.ensures f.nothing in
-    c.through.ensures ∙ c.new-window.ensures
+    c.of_window.ensures ∙ c.new-window.ensures
     ∙ (λ i. rows_by (c.new.ensures.empty i) c.mailbox.result x.entries.entries)
     ∙ rows_seen s.start n list (contents_of c.args.value.now) m told (λ g there. c.mailbox.ensures.contents g) x.uidnext x.highest x.entries.entries chart

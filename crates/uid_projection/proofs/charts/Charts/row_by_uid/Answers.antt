@@ -1,5 +1,5 @@
 use Rattle.std.proofs.Common.{[], ap, sym}
-use Rattle.mail_listing.specs.Listing.{row_of}
+use Rattle.mailbox_rows.specs.RowViews.{row_of}
 use Rattle.uid_projection.proofs.Asked.{chart_without}
 use Rattle.uid_projection.proofs.RowLemmas.{rows_told}
 use Rattle.uid_projection.proofs.charts.Charts.row_by_uid.Goals as goal

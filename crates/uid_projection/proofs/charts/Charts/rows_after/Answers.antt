@@ -1,8 +1,8 @@
 use Rattle.std.proofs.Common.{◌≡◌, ◌∙◌, ◌++◌, ap, sym, subst}
-use Rattle.folder_state.specs.Later.{after}
+use Rattle.folder_state.specs.AfterOps.{after}
 use Rattle.folder_state.specs.Tables.{contents_of}
 use Rattle.uid_projection.specs.FolderAhead.{folder_of}
-use Rattle.uid_projection.specs.Ahead.{IsNextAhead}
+use Rattle.uid_projection.specs.NextOps.{IsNextAhead}
 use Rattle.uid_projection.specs.Chart.{IsChart}
 use Rattle.uid_projection.specs.Listing.{listing}
 use Rattle.uid_projection.proofs.Asked.{if_ok}
@@ -16,10 +16,10 @@ returns c = λ list f m a lasts.
     let ops = c.args.ops.now in
     let value = contents_of c.args.value.now in
     let first = c.in_ok-ahead.ensures in
-    let b = c.in_ok-bring_through.ensures in
-    let behind = c.bring_through.new.ahead in
-    let y = c.bring_through.new.chart in
-    let own : folder_of behind ≡ n = c.bring_through.ensures.folder ∙ first.folder in
+    let b = c.in_ok-advance_over.ensures in
+    let behind = c.advance_over.new.ahead in
+    let y = c.advance_over.new.chart in
+    let own : folder_of behind ≡ n = c.advance_over.ensures.folder ∙ first.folder in
     let w : IsNextAhead s.start n s.nothing.entries value list ops c.in_ok-ahead.ahead = record {
       own = first.folder;
       none = f.nothing;
@@ -29,5 +29,5 @@ returns c = λ list f m a lasts.
     } in
     let chart = b.shows list value w (c.in_ok-chart.ensures list s.next_k f.table f.nothing) in
     let shown = subst (λ m. IsChart s.start m (list ++ ops) y.uidnext y.highest y.entries.entries) (sym own) chart in
-    if_ok c.seen_ahead.result (λ rows e. e ∙ ap (λ m. listing s.start m (list ++ ops)) own)
-    (c.seen_ahead.ensures s.start (list ++ ops) (after value ops) (made_after value list ops m a) (b.ahead value first.ahead) shown)
+    if_ok c.folder_and_chart_ahead.result (λ rows e. e ∙ ap (λ m. listing s.start m (list ++ ops)) own)
+    (c.folder_and_chart_ahead.ensures s.start (list ++ ops) (after value ops) (made_after value list ops m a) (b.ahead value first.ahead) shown)

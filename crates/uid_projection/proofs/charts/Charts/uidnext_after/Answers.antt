@@ -1,5 +1,5 @@
 use Rattle.std.proofs.Common.{◌≤◌, ◌∙◌, arith}
-use Rattle.uid_projection.specs.Lines.{first_uid, uidnext_of}
+use Rattle.uid_projection.specs.UidsAndModSeqs.{first_uid, uidnext_of}
 use Rattle.uid_projection.proofs.LaterNumbers.{uidnext_within}
 use Rattle.uid_projection.proofs.charts.Charts.uidnext_after.Goals as goal
 
@@ -13,4 +13,4 @@ returns c = λ list f m a lasts.
     let least : first_uid s.start n ≤ 4294967295 = omega (arith, first) in
     let was : uidnext_of s.start n list ≤ 4294967295 = omega (arith, now) in
     let w = uidnext_within s.start n c.args.ops.now list was least lasts in
-    c.small_uid.ensures (omega (arith, e, w)) ∙ e
+    c.uid_in_32_bits.ensures (omega (arith, e, w)) ∙ e

@@ -2,9 +2,9 @@ use Rattle.std.proofs.Common.{◌≡◌, ◌++◌, ◌∷◌, [], ◌+◌, false
 use Rattle.crdt_ops.specs.declared.op.Op.{Op}
 use Rattle.crdt_ops.specs.Tags.{name_of}
 use Rattle.folder_state.specs.Tables.{contents_of}
-use Rattle.uid_projection.specs.Lines.{concerns_by}
+use Rattle.uid_projection.specs.UidsAndModSeqs.{kind_names_folder}
 use Rattle.uid_projection.specs.Readiness.{less_room}
-use Rattle.uid_projection.specs.Table.{IsTable}
+use Rattle.uid_projection.specs.ChartTable.{IsTable}
 use Rattle.uid_projection.proofs.Noted.{made_by, next_on, others_ready, unmoved}
 use Rattle.uid_projection.proofs.charts.ChartsFollowerFolders.note.Goals as goal
 
@@ -34,7 +34,7 @@ returns-then-names_folder-clause-others c = λ list rest f r d m.
 
 pub returns-else-names_folder-clause-follows : goal.returns-else-names_folder-clause-follows
 returns-else-names_folder-clause-follows c = λ list f r d m.
-    unmoved c.args.self.now list c.args.op.now (subst (λ (q : Op). concerns_by (name_of q.kind) q.kind ≡ false) c.op-op.ensures.op (sym c.names_folder.ensures ∙ c.if-names_folder.false)) f r
+    unmoved c.args.self.now list c.args.op.now (subst (λ (q : Op). kind_names_folder (name_of q.kind) q.kind ≡ false) c.op-op.ensures.op (sym c.names_folder.ensures ∙ c.if-names_folder.false)) f r
 
 pub returns-else-names_folder-clause-others : goal.returns-else-names_folder-clause-others
 returns-else-names_folder-clause-others c = λ list rest f r d m.

@@ -1,0 +1,93 @@
+//! The fields of a line.
+
+use crate::Trouble;
+use crdt_ops::{OpFault, SoundOp, into_sound_op, read_op};
+use imap_types::{Escape, Name, Octets, read_escaped};
+use std::alloc::{AllocError, Global};
+use tags_clocks::ReplicaId;
+
+/// What stands in front of a line's last ` =>`; the whole of a comment, which begins with `#`.
+pub fn asked(line: &str) -> &str {
+    if line.starts_with('#') {
+        return line;
+    }
+    match line.rsplit_once(" =>") {
+        Some((asked, _)) => asked,
+        None => line,
+    }
+}
+
+/// The first field, and what follows behind a space.
+pub fn cut(text: &str) -> Result<(&str, &str), Trouble> {
+    text.split_once(' ').ok_or(Trouble::NotACase)
+}
+
+/// What stands in front of the first such mark, and what follows it; the whole, and nothing, where there is none.
+pub fn parted<'a>(text: &'a str, mark: &str) -> (&'a str, &'a str) {
+    text.split_once(mark).unwrap_or((text, ""))
+}
+
+/// A number of up to 32 bits.
+pub fn number(text: &str) -> Result<u32, Trouble> {
+    text.parse::<u32>().ok().ok_or(Trouble::NotACase)
+}
+
+/// Two numbers with this mark between them.
+pub fn pair(mark: &str, text: &str) -> Result<(u32, u32), Trouble> {
+    let (first, second) = parted(text, mark);
+    Ok((number(first)?, number(second)?))
+}
+
+/// A number of up to 64 bits.
+pub fn long_number(text: &str) -> Result<u64, Trouble> {
+    text.parse::<u64>().ok().ok_or(Trouble::NotACase)
+}
+
+/// What a word means by a table; `None` where it isn't in it.
+pub fn meaning<T: Copy>(table: &[(&str, T)], word: &str) -> Option<T> {
+    for (name, meaning) in table {
+        if *name == word {
+            return Some(*meaning);
+        }
+    }
+    None
+}
+
+/// The text with the octet at this place replaced.
+pub fn with_octet(
+    alloc: Global,
+    text: &[u8],
+    place: usize,
+    octet: u8,
+) -> Result<Vec<u8>, AllocError> {
+    let mut copy = text.to_vec(alloc)?;
+    if let Some(old) = copy.get_mut(place) {
+        *old = octet;
+    }
+    Ok(copy)
+}
+
+/// The replica that a number names.
+pub fn replica(text: &str) -> Result<ReplicaId, Trouble> {
+    ReplicaId::new(number(text)?).ok_or(Trouble::NotACase)
+}
+
+/// The octets that a text in the escape stands for.
+pub fn octets(alloc: Global, escape: Escape, text: &str) -> Result<Octets, Trouble> {
+    Ok(read_escaped(alloc, escape, text.as_bytes())?)
+}
+
+/// The name that a field in the escape stands for.
+pub fn name(alloc: Global, text: &str) -> Result<Name, Trouble> {
+    let octets = octets(alloc, Escape::Field, text)?;
+    Ok(Name::new(octets.into_vec()))
+}
+
+/// The sound operation that a text spells.
+pub fn operation(alloc: Global, text: &str) -> Result<SoundOp, Trouble> {
+    match read_op(alloc, text.as_bytes()) {
+        Ok(op) => into_sound_op(op).ok_or(Trouble::NotACase),
+        Err(OpFault::NotTheForm) => Err(Trouble::NotACase),
+        Err(OpFault::NoMemory) => Err(Trouble::NoMemory),
+    }
+}

@@ -1,0 +1,107 @@
+use Rattle.std.specs.Prelude.{◌≡◌, ◌↔◌, ◌⊎◌, ℕ, ◌+◌, ◌<◌, ◌≤◌, suc, zero, List, [], ◌∷◌, ◌++◌, length, slice_index_or, Bool, not, ◌&&◌, nat_lt, nat_le}
+use Rattle.std.specs.List.{filter}
+use Rattle.tags_clocks.specs.declared.id.OpId.{OpId}
+use Rattle.tags_clocks.specs.Clock.{IsCause, count_of}
+use Rattle.merge_laws.specs.Orders.{IsIn, HasId, IdsDetermine, HaveSameElements, IsRipe, IsCausal}
+
+-- Whether the operation with this id came before, by this clock.
+abbrev pub is_cause : List (ℕ × ℕ) → OpId → Bool
+is_cause clock id = nat_lt 0 id.number && nat_le id.number (count_of clock id.replica)
+
+-- What an inbox has received: what its follower began with, the operations applied, in their order, and those held,
+-- by ascending ids.
+pub record ReceivedOps (S O : Type 0) : Type 0 where
+  pub start : S
+  pub applied : List O
+  pub held : List O
+
+-- Ids are ordered by replica, then by number.
+abbrev pub IsLess : OpId → OpId → Type 0
+IsLess i j = (i.replica < j.replica) ⊎ ((i.replica ≡ j.replica) × (i.number < j.number))
+
+-- The ids ascend strictly, so none stands twice.
+abbrev pub AreAscending : {O : Type 0} → (O → OpId) → List O → Type 0
+AreAscending id [] = Unit {0}
+AreAscending {O} id (o ∷ os) = ((p : O) → IsIn p os → IsLess (id o) (id p)) × AreAscending id os
+
+-- The clock covers the operations of the list and no others.
+abbrev pub IsClockOf : {O : Type 0} → (O → OpId) → List O → List (ℕ × ℕ) → Type 0
+IsClockOf id os clock = (i : OpId) → IsCause clock i ↔ HasId id os i
+
+-- The most operations that are held at one time.
+abbrev pub held_limit : ℕ
+held_limit = 65536
+
+-- What holds of an inbox at any time.
+pub record IsLawfulInbox {S O : Type 0} (id : O → OpId) (clock : O → List (ℕ × ℕ)) (s : ReceivedOps S O) : Type 0 where
+  -- the list is causal
+  pub causal : IsCausal id clock s.applied
+  -- no id stands in both
+  pub apart : (i : OpId) → HasId id s.held i → ¬ HasId id s.applied i
+  -- over all that was received an id determines the operation
+  pub determined : IdsDetermine id (s.applied ++ s.held)
+  pub ascending : AreAscending id s.held
+  pub limited : length s.held ≤ held_limit
+
+-- The operation was received here: it is applied or held.
+abbrev pub IsReceived : {S O : Type 0} → ReceivedOps S O → O → Type 0
+IsReceived s o = IsIn o s.applied ⊎ IsIn o s.held
+
+-- No operation with its id was received here.
+abbrev pub IsNew : {S O : Type 0} → (O → OpId) → ReceivedOps S O → O → Type 0
+IsNew id s o = (¬ HasId id s.applied (id o)) × ¬ HasId id s.held (id o)
+
+-- A ripe operation is held.
+abbrev pub IsStalled : {S O : Type 0} → (O → OpId) → (O → List (ℕ × ℕ)) → ReceivedOps S O → Type 0
+IsStalled {S} {O} id clock s = (o : O) × IsIn o s.held × IsRipe id clock s.applied o
+
+-- The held operation is ripe, and no ripe one has a lesser id: it is the one that is released next.
+pub record IsNextReleased {S O : Type 0} (id : O → OpId) (clock : O → List (ℕ × ℕ)) (s : ReceivedOps S O) (op : O) : Type 0 where
+  pub held : IsIn op s.held
+  pub ripe : IsRipe id clock s.applied op
+  pub least : (o : O) → IsIn o s.held → IsRipe id clock s.applied o → ¬ IsLess (id o) (id op)
+
+-- Of the held operations the ripe one of the least id was applied, for which the counters had their numbers.
+pub record IsReleased {S O : Type 0} (id : O → OpId) (clock : O → List (ℕ × ℕ)) (exhausts : S → List O → List O → Type 0) (old new : ReceivedOps S O) : Type 0 where
+  pub op : O
+  pub next : IsNextReleased id clock old op
+  pub in_reach : ¬ exhausts old.start old.applied (op ∷ [])
+  pub start : new.start ≡ old.start
+  pub applied : new.applied ≡ old.applied ++ op ∷ []
+  pub held : HaveSameElements old.held (op ∷ new.held)
+  pub let_go : ¬ IsIn op new.held
+
+-- So many held operations were applied, one after another.
+abbrev pub AreReleasedInTurn : {S O : Type 0} → (O → OpId) → (O → List (ℕ × ℕ)) → (S → List O → List O → Type 0) → ℕ → ReceivedOps S O → ReceivedOps S O → Type 0
+AreReleasedInTurn id clock exhausts zero old new = new ≡ old
+AreReleasedInTurn {S} {O} id clock exhausts (suc n) old new =
+    (before : ReceivedOps S O) × AreReleasedInTurn id clock exhausts n old before × IsReleased id clock exhausts before new
+
+-- Each of the operations may come next behind the list and those in front of it.
+abbrev pub AreRipe : {O : Type 0} → (O → OpId) → (O → List (ℕ × ℕ)) → List O → List O → Type 0
+AreRipe {O} id clock applied ops =
+    (front : List O) (o : O) (back : List O) → ops ≡ front ++ o ∷ back → IsRipe id clock (applied ++ front) o
+
+-- An operation issued behind the list: its clock covers all of the list, and its number is its clock's next.
+abbrev pub IsIssued : {O : Type 0} → (O → OpId) → (O → List (ℕ × ℕ)) → List O → O → Type 0
+IsIssued id clock os o = IsClockOf id os (clock o) × (count_of (clock o) (id o).replica + 1 ≡ (id o).number)
+
+-- Each of the operations is issued behind the list and those in front of it.
+abbrev pub AreIssued : {O : Type 0} → (O → OpId) → (O → List (ℕ × ℕ)) → List O → List O → Type 0
+AreIssued {O} id clock applied ops =
+    (front : List O) (o : O) (back : List O) → ops ≡ front ++ o ∷ back → IsIssued id clock (applied ++ front) o
+
+-- The held operations, less those whose id was issued.
+abbrev pub AreHeldStill : {O : Type 0} → (O → OpId) → List O → List O → List O → Type 0
+AreHeldStill {O} id ops old new = (o : O) → IsIn o new ↔ (IsIn o old × ¬ HasId id ops (id o))
+
+-- The held operation at this place is ripe, and no ripe one has a lesser id.
+abbrev pub IsLeastRipe : {S O : Type 0} → (O → OpId) → (O → List (ℕ × ℕ)) → ReceivedOps S O → ℕ → Type 0
+IsLeastRipe {S} {O} id clock s at =
+    (at < length s.held)
+    × ((o : O) → o ≡ slice_index_or s.held at o → IsRipe id clock s.applied o)
+    × ((o p : O) → o ≡ slice_index_or s.held at o → IsIn p s.held → IsRipe id clock s.applied p → ¬ IsLess (id p) (id o))
+
+-- The applied operations that a clock doesn't cover.
+abbrev pub uncovered_ops : {O : Type 0} → (O → OpId) → List (ℕ × ℕ) → List O → List O
+uncovered_ops id clock os = filter (λ o. not (is_cause clock (id o))) os

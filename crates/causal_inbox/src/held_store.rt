@@ -1,0 +1,210 @@
+//! The held operations, by ascending ids, with their file.
+
+ghost use Rattle.std.specs.Prelude.{◌≡◌, ◌↔◌, ◌≢◌, ℕ, ◌+◌, ◌<◌, ◌≤◌, ◌^◌, List, [], ◌∷◌, ◌++◌, drop, insert, length, map, take, IsTrue, MatchOption, OnOk, OnErr, remove, slice_get, slice_index_or};
+ghost use Rattle.tags_clocks.specs.declared.id.OpId.{OpId};
+ghost use Rattle.merge_laws.specs.Orders.{IsIn, HasId, HaveSameElements, IsRipe};
+ghost use Rattle.causal_inbox.specs.Inbox.{AreAscending, AreHeldStill, IsClockOf, IsLess, held_limit};
+ghost use Rattle.causal_inbox.specs.CauseIndex.{AreApart, AreIndexed, IsReindexed};
+
+use crate::op_cell::OpCell;
+use crate::cause_index::{CauseEntry, entry_of, first_waiting_for, place_of};
+use merge_laws::Caused;
+use std::alloc::{AllocError, Global};
+use std::marker::Model;
+use tags_clocks::{Clock, OpId};
+use tree_list::{Slot, TreeList};
+
+/// The number of operations whose ids are less.
+fn held_place<O: Caused + Drop>(list: &TreeList<OpCell<O>>, id: OpId) -> usize
+    requires { AreAscending O.id list.now }
+    ensures within { result ≤ length list.now }
+    ensures place { (o : O) → O.id o ≡ id → ¬ HasId O.id list.now id → AreAscending O.id (insert list.now result o) }
+    ensures found { (o : O) → IsIn o list.now → O.id o ≡ id → slice_get list.now result ≡ Some o }
+{
+    list.partition_point(|_, cell| cell.has_lesser_id(&id))
+}
+
+/// The place of the operation with this id.
+pub fn place_of_id<O: Caused + Drop>(list: &TreeList<OpCell<O>>, id: OpId) -> Option<usize>
+    requires { AreAscending O.id list.now }
+    ensures { MatchOption result (¬ HasId O.id list.now id)
+        (λ at. (at < length list.now) × ((o : O) → o ≡ slice_index_or list.now at o → O.id o ≡ id)) }
+{
+    let at = held_place(list, id);
+    let cell = list.get(at)?;
+    if cell.has_id(&id) { Some(at) } else { None }
+}
+
+/// The operation with this id.
+pub fn find_held_op<O: Caused + Drop>(list: &TreeList<OpCell<O>>, id: OpId) -> Option<&O>
+    requires { AreAscending O.id list.now }
+    ensures { MatchOption result (¬ HasId O.id list.now id) (λ found. IsIn found.now list.now × (O.id found.now ≡ id)) }
+{
+    let at = held_place(list, id);
+    let cell = list.get(at)?;
+    if cell.has_id(&id) {
+        Some(cell.op())
+    } else {
+        None
+    }
+}
+
+/// Held operations.
+#[derive(Drop)]
+pub struct HeldStore<O: Caused> {
+    list: TreeList<OpCell<O>>,
+    file: TreeList<CauseEntry>,
+}
+
+impl<O: Caused> Model for HeldStore<O> {
+    ghost use Rattle.std.specs.Prelude.{◌≡◌, length};
+    ghost use Rattle.causal_inbox.specs.Inbox.{AreAscending};
+    ghost use Rattle.causal_inbox.specs.CauseIndex.{IsCauseIndex, HeldState};
+
+    ghost Value = { HeldState O };
+
+    ghost view = { λ h. record { list = h.list; file = h.file } };
+
+    ghost invariant = { λ h. record { ascending : AreAscending O.id h.list; count : length h.file ≡ length h.list; file : IsCauseIndex O.id h.list h.file } };
+}
+
+impl<O: Caused + Drop> HeldStore<O> {
+    /// Nothing held.
+    pub fn new() -> HeldStore<O>
+        ensures { result ≡ record { list = []; file = [] } }
+    {
+        HeldStore {
+            list: TreeList::new(),
+            file: TreeList::new(),
+        }
+    }
+
+    /// The operations, by ascending ids.
+    pub fn list(&self) -> &TreeList<OpCell<O>>
+        ensures list { result.now ≡ self.now.list }
+        ensures ascending { AreAscending O.id self.now.list }
+    {
+        &self.list
+    }
+
+    /// The operation at this place, as a slice.
+    pub fn slice_at(&self, at: usize) -> &[O]
+        requires { at < length self.now.list }
+        ensures { (op : O) → op ≡ slice_index_or self.now.list at op → result.now ≡ op ∷ [] }
+    {
+        match self.list.get(at) {
+            None => unreachable!(),
+            Some(cell) => cell.slice(),
+        }
+    }
+
+    /// The place of the ripe operation of the least id.
+    pub fn next_ripe(&self) -> Option<usize>
+        ensures { (applied : List O) → AreIndexed O.id O.clock [] applied self.now.list self.now.file → MatchOption result
+            ((o : O) → IsIn o self.now.list → ¬ IsRipe O.id O.clock applied o)
+            (λ at. (at < length self.now.list)
+            × ((o : O) → o ≡ slice_index_or self.now.list at o → IsRipe O.id O.clock applied o)
+            × ((o p : O) → o ≡ slice_index_or self.now.list at o → IsIn p self.now.list → IsRipe O.id O.clock applied p → ¬ IsLess (O.id p) (O.id o))) }
+    {
+        let first = self.file.get(0)?;
+        if first.cause.is_some() {
+            return None;
+        }
+        place_of_id(&self.list, first.id)
+    }
+
+    /// Holds an operation. An error leaves all as it was.
+    pub fn hold(&mut self, alloc: Global, clock: &Clock, op: O) -> Result<(), AllocError>
+        requires new_id { ¬ HasId O.id self.old.list (O.id op) }
+        requires few { length self.old.list < held_limit }
+        ensures elements { OnOk result (HaveSameElements self.new.list (op ∷ self.old.list)) }
+        ensures count { OnOk result (length self.new.list ≡ length self.old.list + 1) }
+        ensures filed { OnOk result ((applied : List O) → IsClockOf O.id applied clock.now → ¬ HasId O.id applied (O.id op) → AreIndexed O.id O.clock [] applied self.old.list self.old.file → AreIndexed O.id O.clock [] applied self.new.list self.new.file) }
+        ensures err { OnErr result (self.new ≡ self.old) }
+    {
+        let entry = entry_of(clock, &op);
+        let slot = Slot::new(alloc, entry)?;
+        let at = held_place(&self.list, entry.id);
+        self.list.insert(alloc, at, OpCell::new(alloc, op)?)?;
+        let to = place_of(&self.file, &entry);
+        self.file.put(to, slot);
+        Ok(())
+    }
+
+    /// Takes out the operation at this place, and its entry.
+    pub fn take_out(&mut self, clock: &Clock, at: usize) -> O
+        requires within { at < length self.old.list }
+        requires filed { (applied : List O) × IsClockOf O.id applied clock.now × AreApart O.id self.old.list applied × AreIndexed O.id O.clock [] applied self.old.list self.old.file }
+        ensures op { result ≡ slice_index_or self.old.list at result }
+        ensures list { self.new.list ≡ remove self.old.list at }
+        ensures filed { (woken : List OpId) (applied : List O) → AreIndexed O.id O.clock woken applied self.old.list self.old.file → AreIndexed O.id O.clock woken applied self.new.list self.new.file }
+    {
+        let op = self.list.take(at).into_item().into_op();
+        let there = place_of(&self.file, &entry_of(clock, &op));
+        let _ = self.file.take(there);
+        op
+    }
+
+    /// Takes out the operation with this id, where it is there.
+    fn discard(&mut self, clock: &Clock, id: OpId)
+        requires { (applied : List O) × IsClockOf O.id applied clock.now × AreApart O.id self.old.list applied × AreIndexed O.id O.clock [] applied self.old.list self.old.file }
+        ensures others { (o : O) → IsIn o self.new.list ↔ (IsIn o self.old.list × (O.id o ≢ id)) }
+        ensures count { length self.new.list ≤ length self.old.list }
+        ensures filed { (woken : List OpId) (applied : List O) → AreIndexed O.id O.clock woken applied self.old.list self.old.file → AreIndexed O.id O.clock woken applied self.new.list self.new.file }
+    {
+        if let Some(at) = place_of_id(&self.list, id) {
+            let _ = self.take_out(clock, at);
+        }
+    }
+
+    /// Takes out the operations that have the id of one of these.
+    pub fn discard_all(&mut self, clock: &Clock, ops: &[O])
+        requires { (applied : List O) × IsClockOf O.id applied clock.now × AreApart O.id self.old.list applied × AreIndexed O.id O.clock [] applied self.old.list self.old.file }
+        ensures kept { AreHeldStill O.id ops.now self.old.list self.new.list }
+        ensures count { length self.new.list ≤ length self.old.list }
+        ensures filed { (woken : List OpId) (applied : List O) → AreIndexed O.id O.clock woken applied self.old.list self.old.file → AreIndexed O.id O.clock woken applied self.new.list self.new.file }
+    {
+        for op in ops {
+            self.discard(clock, op.id());
+        }
+    }
+
+    /// Files the entry at this place again, by the operation's least missing cause now. It takes no memory.
+    fn reindex(&mut self, clock: &Clock, at: usize)
+        requires { at < length self.old.file }
+        ensures list { self.new.list ≡ self.old.list }
+        ensures file { IsReindexed O.id O.clock clock.now self.old.list at self.old.file self.new.file }
+    {
+        let mut slot = self.file.take(at);
+        match find_held_op(&self.list, slot.item().id) {
+            None => unreachable!(),
+            Some(op) => slot.replace(entry_of(clock, op)),
+        }
+        let to = place_of(&self.file, slot.item());
+        self.file.put(to, slot);
+    }
+
+    /// Files again what waits for an operation that was applied. It takes no memory.
+    pub fn reindex_waiting(&mut self, clock: &Clock, id: OpId)
+        ensures list { self.new.list ≡ self.old.list }
+        ensures filed { (woken : List OpId) (applied : List O) → IsClockOf O.id applied clock.now → HasId O.id applied id → AreApart O.id self.old.list applied → AreIndexed O.id O.clock (id ∷ woken) applied self.old.list self.old.file → AreIndexed O.id O.clock woken applied self.new.list self.new.file }
+    {
+        let cause = Some(id);
+        for _ in 0..self.file.len() {
+            match first_waiting_for(&self.file, &cause) {
+                None => return,
+                Some(at) => self.reindex(clock, at),
+            }
+        }
+    }
+
+    /// Files again what waits for operations that were applied. It takes no memory.
+    pub fn reindex_all_waiting(&mut self, clock: &Clock, ops: &[O])
+        ensures list { self.new.list ≡ self.old.list }
+        ensures filed { (applied : List O) → IsClockOf O.id applied clock.now → ((o : O) → IsIn o ops.now → HasId O.id applied (O.id o)) → AreApart O.id self.old.list applied → AreIndexed O.id O.clock (map O.id ops.now) applied self.old.list self.old.file → AreIndexed O.id O.clock [] applied self.new.list self.new.file }
+    {
+        for op in ops {
+            self.reindex_waiting(clock, op.id());
+        }
+    }
+}

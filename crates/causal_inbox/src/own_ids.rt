@@ -1,0 +1,45 @@
+//! The ids among operations that name one replica.
+
+ghost use Rattle.std.specs.Prelude.{◌≡◌, ◌↔◌, IsTrue};
+ghost use Rattle.causal_inbox.specs.Inbox.{IsLess};
+ghost use Rattle.causal_inbox.specs.OwnIds.{IsKeptOwn, IsLeastOwn, Precedes};
+
+use merge_laws::Caused;
+use tags_clocks::{OpId, ReplicaId};
+
+/// The least id of those operations that bear this name.
+pub fn least_own<O: Caused>(name: ReplicaId, ops: &[O]) -> Option<OpId>
+    ensures { IsLeastOwn O.id name ops.now result }
+{
+    let mut least = None;
+    for op in ops {
+        keep_own(&mut least, name, op.id());
+    }
+    least
+}
+
+/// Keeps the id where it bears this name and is less than the one that is kept, if there is one.
+fn keep_own(least: &mut Option<OpId>, name: ReplicaId, id: OpId)
+    ensures { IsKeptOwn name id least.old least.new }
+{
+    if precedes(name, &id, least) {
+        *least = Some(id);
+    }
+}
+
+/// Whether the id bears this name, and is less than the other, if there is one.
+fn precedes(name: ReplicaId, id: &OpId, other: &Option<OpId>) -> bool
+    ensures { IsTrue result ↔ Precedes name id.now other.now }
+{
+    match other {
+        None => id.replica == name,
+        Some(least) => is_own_below(name, id, least),
+    }
+}
+
+/// Whether the id bears this name, and is less than the other.
+fn is_own_below(name: ReplicaId, id: &OpId, other: &OpId) -> bool
+    ensures { IsTrue result ↔ ((id.now.replica ≡ name) × IsLess id.now other.now) }
+{
+    id.replica == name && *id < *other
+}

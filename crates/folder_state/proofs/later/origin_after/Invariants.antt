@@ -1,7 +1,0 @@
-use Rattle.std.proofs.Common.{◌≡◌, take}
-use Rattle.folder_state.specs.Contents.{Contents, origin_in}
-use Rattle.folder_state.specs.Later.{after}
-use Rattle.folder_state.proofs.later.origin_after.Given as goal
-
-abbrev pub invariant-loop-op : goal.invariant-loop-op
-invariant-loop-op l = (c : Contents) → origin_in c l.folder l.id ≡ l.fn.now → l.origin ≡ origin_in (after c (take l.op-index l.ops)) l.folder l.id

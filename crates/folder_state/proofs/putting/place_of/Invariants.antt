@@ -1,7 +1,0 @@
-use Rattle.std.proofs.Common.{◌≡◌, ◌++◌, take, drop}
-use Rattle.crdt_ops.specs.Order.{placed}
-use Rattle.folder_state.specs.Kept.{by_id}
-use Rattle.folder_state.proofs.putting.place_of.Given as goal
-
-abbrev pub invariant-loop-at : goal.invariant-loop-at
-invariant-loop-at l = placed by_id l.version l.versions ≡ take l.at l.versions ++ placed by_id l.version (drop l.at l.versions)

@@ -1,8 +1,0 @@
-use Rattle.std.proofs.Common.{◌++◌, List, drop}
-use Rattle.std.specs.Global.{Vec}
-use Rattle.imap_types.specs.declared.version.Version.{Version}
-use Rattle.folder_state.specs.Rooms.{HaveLists}
-use Rattle.folder_state.proofs.rooms.empty_lists.Given as goal
-
-abbrev pub invariant-loop-op : goal.invariant-loop-op
-invariant-loop-op l = (more : List (Vec Version)) → HaveLists (drop l.op-index l.ops) more → HaveLists l.ops (l.lists.items ++ more)

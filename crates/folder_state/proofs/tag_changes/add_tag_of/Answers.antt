@@ -1,0 +1,109 @@
+use Rattle.std.proofs.Common.{◌≡◌, ◌∙◌, ◌≤◌, ◌+◌, List, ℕ, None, Some, Option, ◌||◌, Bool, true, false, cond, refl, ap, sym, subst}
+use Rattle.std.specs.Global.{Vec}
+use Rattle.std.specs.Map.{lookup}
+use Rattle.std.proofs.Common.{arith}
+use Rattle.std.specs.Option.{option_map, option_or}
+use Rattle.std.specs.Vec.{vec_capacity}
+use Rattle.crdt_ops.specs.declared.kind.Kind.{Kind}
+use Rattle.crdt_ops.specs.declared.op.Op.{Op}
+use Rattle.crdt_ops.specs.SortedSets.{is_some_id, same_id}
+use Rattle.crdt_ops.specs.Sets.{DatedText, tag_data_by, dated_text_by}
+use Rattle.crdt_ops.specs.Tags.{FolderTag, MessageTag, tag_added_by, is_some_tag}
+use Rattle.folder_state.specs.FolderTables.{FolderTables, body_in_folder, find_folder, has_tag_in}
+use Rattle.folder_state.specs.OpRoom.{HasRoomAt, is_named, origin_by, tags_added, target, versions_added, counts_of}
+use Rattle.folder_state.specs.LentMessages.{kept_dated_text}
+use Rattle.folder_state.proofs.Fuller.{list_one, place_one, room_less, version_one}
+use Rattle.folder_state.proofs.tag_changes.add_tag_of.Goals as goal
+
+or_cond : (b : Bool) (x : DatedText) (y : Option DatedText) → cond b (Some x) y ≡ option_or (cond b (Some x) None) y
+or_cond true x y = refl
+or_cond false x y = refl
+
+abbrev Before : Op → Kind → List Op → Op → List (Vec ℕ × FolderTables) → Type 0
+Before op kind rest o old = HasRoomAt (λ n. cond (is_named n (target kind)) 1 0 + tags_added rest n) (λ i. cond (is_some_id i (origin_by op.id kind)) 1 0 + versions_added rest i) (origin_by o.id o.kind) (target o.kind) (λ n. find_folder n old)
+
+abbrev Own : Op → Kind → List (Vec ℕ × FolderTables) → Type 0
+Own op kind old = HasRoomAt (λ n. cond (is_named n (target kind)) 1 0 + 0) (λ i. cond (is_some_id i (origin_by op.id kind)) 1 0 + 0) (origin_by op.id kind) (target kind) (λ n. find_folder n old)
+
+pub put_tag-requires : goal.put_tag-requires
+put_tag-requires c =
+    let h = subst (λ (kind : Kind). Own c.args.op kind c.args.by_name.now.entries) c.in-Create.is c.requires.room in
+    (h.0, h.1, place_one c.in-Create.folder h.0 None h.2)
+
+pub put_first-requires-clause-room : goal.put_first-requires-clause-room
+put_first-requires-clause-room c =
+    let h = subst (λ (kind : Kind). Own c.args.op kind c.args.by_name.now.entries) c.in-Append.is c.requires.room in
+    (h.0, h.1, place_one c.in-Append.folder h.0 (Some c.args.op.id) h.2, version_one c.args.op.id h.0.messages h.3)
+
+pub put_first-requires-clause-list : goal.put_first-requires-clause-list
+put_first-requires-clause-list c =
+    let h = subst (λ (kind : Kind). counts_of (λ i. cond (is_some_id i (origin_by c.args.op.id kind)) 1 0 + 0) (origin_by c.args.op.id kind) ≤ vec_capacity c.args.list) c.in-Append.is c.requires.list.1 in
+    (c.requires.list.0, list_one c.args.op.id (vec_capacity c.args.list) h)
+
+pub put_message-requires-clause-room : goal.put_message-requires-clause-room
+put_message-requires-clause-room c =
+    let h = subst (λ (kind : Kind). Own c.args.op kind c.args.by_name.now.entries) c.in-Store.is c.requires.room in
+    (h.0, h.1, place_one c.in-Store.folder h.0 (Some c.in-Store.origin) h.2, version_one c.in-Store.origin h.0.messages h.3)
+
+pub put_message-requires-clause-list : goal.put_message-requires-clause-list
+put_message-requires-clause-list c =
+    let h = subst (λ (kind : Kind). counts_of (λ i. cond (is_some_id i (origin_by c.args.op.id kind)) 1 0 + 0) (origin_by c.args.op.id kind) ≤ vec_capacity c.args.list) c.in-Store.is c.requires.list.1 in
+    (c.requires.list.0, list_one c.in-Store.origin (vec_capacity c.args.list) h)
+
+pub returns-in-Append-clause-bodies : goal.returns-in-Append-clause-bodies
+returns-in-Append-clause-bodies c = λ f i.
+    c.put_first.ensures.bodies f i
+    ∙ sym (ap (λ (kind : Kind). cond (is_some_tag (MessageTag f i) (tag_added_by c.args.op.id kind)) (tag_data_by c.args.op.id kind) (body_in_folder (find_folder f c.args.by_name.now.entries) i)) c.in-Append.is)
+
+pub returns-in-Store-clause-bodies : goal.returns-in-Store-clause-bodies
+returns-in-Store-clause-bodies c = λ f i.
+    c.put_message.ensures.bodies f i
+    ∙ sym (ap (λ (kind : Kind). cond (is_some_tag (MessageTag f i) (tag_added_by c.args.op.id kind)) (tag_data_by c.args.op.id kind) (body_in_folder (find_folder f c.args.by_name.now.entries) i)) c.in-Store.is)
+
+pub returns-in-Append-clause-letters : goal.returns-in-Append-clause-letters
+returns-in-Append-clause-letters c = λ i.
+    let old = option_map kept_dated_text (lookup (same_id i) c.args.letters.now.entries) in
+    c.put_dated_text.ensures.found i
+    ∙ or_cond (same_id i c.args.op.id) (record { date = c.in-Append.date; text = c.in-Append.text }) old
+    ∙ sym (ap (λ (kind : Kind). option_or (cond (same_id i c.args.op.id) (dated_text_by kind) None) old) c.in-Append.is)
+
+pub returns-in-Create-clause-room : goal.returns-in-Create-clause-room
+returns-in-Create-clause-room c = λ rest o h w.
+    c.put_tag.ensures.room (tags_added rest) (versions_added rest) (origin_by o.id o.kind) (target o.kind)
+    (subst (λ (kind : Kind). Before c.args.op kind rest o c.args.by_name.now.entries) c.in-Create.is h) (omega arith)
+
+pub returns-in-Expunge-clause-room : goal.returns-in-Expunge-clause-room
+returns-in-Expunge-clause-room c = λ rest o h w.
+    c.put_tag-in-Expunge.ensures.room (tags_added rest) (versions_added rest) (origin_by o.id o.kind) (target o.kind)
+    (subst (λ (kind : Kind). Before c.args.op kind rest o c.args.by_name.now.entries) c.in-Expunge.is h) (omega arith)
+
+pub returns-in-Append-clause-room : goal.returns-in-Append-clause-room
+returns-in-Append-clause-room c = λ rest o h w.
+    c.put_first.ensures.room (tags_added rest) (versions_added rest) (origin_by o.id o.kind) (target o.kind)
+    (subst (λ (kind : Kind). Before c.args.op kind rest o c.args.by_name.now.entries) c.in-Append.is h)
+    (subst (λ (kind : Kind). counts_of (λ i. cond (is_some_id i (origin_by c.args.op.id kind)) 1 0 + versions_added rest i) (origin_by c.args.op.id kind) ≤ vec_capacity c.args.list) c.in-Append.is w)
+
+pub returns-in-Store-clause-room : goal.returns-in-Store-clause-room
+returns-in-Store-clause-room c = λ rest o h w.
+    c.put_message.ensures.room (tags_added rest) (versions_added rest) (origin_by o.id o.kind) (target o.kind)
+    (subst (λ (kind : Kind). Before c.args.op kind rest o c.args.by_name.now.entries) c.in-Store.is h)
+    (subst (λ (kind : Kind). counts_of (λ i. cond (is_some_id i (origin_by c.args.op.id kind)) 1 0 + versions_added rest i) (origin_by c.args.op.id kind) ≤ vec_capacity c.args.list) c.in-Store.is w)
+
+less : (op : Op) (rest : List Op) (o : Op) (old : List (Vec ℕ × FolderTables)) → Before op op.kind rest o old → HasRoomAt (tags_added rest) (versions_added rest) (origin_by o.id o.kind) (target o.kind) (λ n. find_folder n old)
+less op rest o old h = room_less (λ n. cond (is_named n (target op.kind)) 1 0) (tags_added rest) (λ i. cond (is_some_id i (origin_by op.id op.kind)) 1 0) (versions_added rest) (origin_by o.id o.kind) (target o.kind) (λ n. find_folder n old) h
+
+pub returns-in-Delete-clause-room : goal.returns-in-Delete-clause-room
+returns-in-Delete-clause-room c = λ rest o h w. less c.args.op rest o c.args.by_name.now.entries h
+
+pub returns-in-Subscribe-clause-room : goal.returns-in-Subscribe-clause-room
+returns-in-Subscribe-clause-room c = λ rest o h w. less c.args.op rest o c.args.by_name.now.entries h
+
+pub returns-in-Append-clause-tags : goal.returns-in-Append-clause-tags
+returns-in-Append-clause-tags c = λ f i.
+    c.put_first.ensures.tags f i
+    ∙ sym (ap (λ (kind : Kind). is_some_tag (FolderTag f i) (tag_added_by c.args.op.id kind) || has_tag_in (find_folder f c.args.by_name.now.entries) i) c.in-Append.is)
+
+pub returns-in-Store-clause-tags : goal.returns-in-Store-clause-tags
+returns-in-Store-clause-tags c = λ f i.
+    c.put_message.ensures.tags f i
+    ∙ sym (ap (λ (kind : Kind). is_some_tag (FolderTag f i) (tag_added_by c.args.op.id kind) || has_tag_in (find_folder f c.args.by_name.now.entries) i) c.in-Store.is)

@@ -1,0 +1,56 @@
+use Rattle.std.proofs.Common.{◌≡◌, ◌∙◌, ℕ, refl, rules, Bool, Option, None, Some, ◌&&◌, ◌||◌, ap, sym, subst}
+use Rattle.std.proofs.Common.{List}
+use Rattle.std.specs.Global.{Vec}
+use Rattle.std.specs.Map.{lookup}
+use Rattle.crdt_ops.specs.SortedSets.{same_id}
+use Rattle.crdt_ops.specs.Sets.{MessageTagData}
+use Rattle.folder_state.specs.FolderTables.{FolderTables, body_at, body_in_folder, find_folder, has_tag_in}
+use Rattle.folder_state.specs.OpRoom.{HasPlaces}
+use Rattle.folder_state.proofs.Fuller.{room_left, same_lists}
+use Rattle.folder_state.proofs.Lenses.{folder_changed, some_is, told_now}
+use Rattle.folder_state.proofs.tag_changes.put_tag.Goals as goal
+
+same : (name octets : List ℕ) (old : List (Vec ℕ × FolderTables)) (a b : FolderTables) → octets ≡ name → find_folder name old ≡ Some a → find_folder octets old ≡ Some b → a ≡ b
+same name octets old a b e h k = some_is a b (sym h ∙ sym (ap (λ n. find_folder n old) e) ∙ k)
+
+pub put_tag-requires : goal.put_tag-requires
+put_tag-requires c =
+    let r = c.requires in
+    let e = same c.args.name.now c.as_bytes.result.now c.args.by_name.now.entries r.0 c.in-Some.folder.now c.as_bytes.ensures r.1 (sym (c.in-Some.ensures {u = tt}).value) in
+    subst (λ (k : FolderTables). HasPlaces k None 1) e r.2
+
+pub returns-clause-tags : goal.returns-clause-tags
+returns-clause-tags c =
+    let now = c.put_tag.new.self in
+    let says = (c.get_mut.follows.holds now).3 (search rules) in
+    let was = sym (c.in-Some.ensures {u = tt}).value in
+    let name = c.args.name.now in
+    let old = c.args.by_name.now.entries in
+    let new = (c.get_mut.follows.lender now).entries in
+    told_now name old new c.in-Some.folder.now now (subst (λ n. find_folder n old ≡ Some c.in-Some.folder.now) c.as_bytes.ensures was)
+    (folder_changed name c.as_bytes.result.now c.as_bytes.ensures old new says.3 (Some now) says.1)
+    has_tag_in (λ (b : Bool) i (x : Bool). (b && same_id i c.args.id.now) || x) (λ i x. refl) (λ i. c.put_tag.ensures.tags i)
+
+pub returns-clause-bodies : goal.returns-clause-bodies
+returns-clause-bodies c =
+    let now = c.put_tag.new.self in
+    let says = (c.get_mut.follows.holds now).3 (search rules) in
+    let was = sym (c.in-Some.ensures {u = tt}).value in
+    let name = c.args.name.now in
+    let old = c.args.by_name.now.entries in
+    let new = (c.get_mut.follows.lender now).entries in
+    told_now name old new c.in-Some.folder.now now (subst (λ n. find_folder n old ≡ Some c.in-Some.folder.now) c.as_bytes.ensures was)
+    (folder_changed name c.as_bytes.result.now c.as_bytes.ensures old new says.3 (Some now) says.1)
+    body_in_folder (λ (b : Bool) i (x : Option MessageTagData). x) (λ i x. refl) (λ i. (λ k. body_at (c.put_tag.ensures.messages.0 k) i (lookup (same_id i) (c.put_tag.ensures.messages.1 k))))
+
+pub returns-clause-room : goal.returns-clause-room
+returns-clause-room c =
+    let now = c.put_tag.new.self in
+    let says = (c.get_mut.follows.holds now).3 (search rules) in
+    let was = sym (c.in-Some.ensures {u = tt}).value in
+    let name = c.args.name.now in
+    let old = c.args.by_name.now.entries in
+    let new = (c.get_mut.follows.lender now).entries in
+    room_left name old new c.in-Some.folder.now now (subst (λ n. find_folder n old ≡ Some c.in-Some.folder.now) c.as_bytes.ensures was)
+    (folder_changed name c.as_bytes.result.now c.as_bytes.ensures old new says.3 (Some now) says.1)
+    None 0 c.put_tag.ensures.room (λ o n h t. same_lists c.in-Some.folder.now now o n c.put_tag.ensures.messages.0 h)

@@ -1,0 +1,350 @@
+//! What tables tell of tags, and what operations would leave of them.
+
+ghost use Rattle.std.specs.Prelude.{◌≡◌, ◌↔◌, ◌&&◌, ◌||◌, false, None, Some, MatchOption, length, not, if◌then◌else◌};
+ghost use Rattle.std.specs.Bool.{MatchBool};
+ghost use Rattle.std.specs.List.{list_any, slice_get};
+ghost use Rattle.std.specs.Option.{option_copied, option_map};
+ghost use Rattle.tags_clocks.specs.declared.id.OpId.{OpId};
+ghost use Rattle.merge_laws.specs.Orders.{IsIn};
+ghost use Rattle.imap_types.specs.Unions.{version_ids};
+ghost use Rattle.crdt_ops.specs.SortedSets.{is_some_id, same_id};
+ghost use Rattle.crdt_ops.specs.Tags.{FolderTag, MessageTag, adds, removes};
+ghost use Rattle.folder_state.specs.Contents.{Contents, origin_in};
+ghost use Rattle.folder_state.specs.Keys.{is_among, is_at};
+ghost use Rattle.folder_state.specs.FolderTables.{HasTagIn, body_in_folder, has_tag_in, folder_tag_data, ids_in, versions_in};
+ghost use Rattle.folder_state.specs.AfterOps.{after, alone, has_tag_after, is_added_and_left, is_version};
+ghost use Rattle.folder_state.specs.OpRoom.{origin_by};
+
+use crate::folder::Folder;
+use crdt_ops::{Kind, Op, SoundOp};
+use imap_types::{Name, Version};
+use tags_clocks::OpId;
+
+/// Whether the folder has a tag of either kind.
+pub fn has_tags(folder: Option<&Folder>) -> bool
+    ensures { MatchBool result ((i : OpId) × HasTagIn (folder_tag_data (option_copied folder.entry)) i) ((i : OpId) → HasTagIn (folder_tag_data (option_copied folder.entry)) i → ⊥) }
+{
+    match folder {
+        Some(folder) => !folder.is_empty(),
+        None => false,
+    }
+}
+
+/// Whether the origin has a version in the folder.
+pub fn has_versions(folder: Option<&Folder>, origin: &OpId) -> bool
+    ensures { MatchBool result
+        ((i : OpId) × (option_map (λ body. body.origin) (body_in_folder (option_copied folder.entry) i) ≡ Some origin.now))
+        ((i : OpId) → option_map (λ body. body.origin) (body_in_folder (option_copied folder.entry) i) ≡ Some origin.now → ⊥) }
+{
+    match folder {
+        Some(folder) => folder.has_versions(origin),
+        None => false,
+    }
+}
+
+/// Whether the operation adds the folder tag.
+fn adds_tag(op: &Op, folder: &Name, id: OpId) -> bool
+    ensures { result ≡ adds (FolderTag folder.now id) op.now }
+{
+    match &op.kind {
+        Kind::Create { folder: own } => is_at(folder, id, own, op.id),
+        Kind::Expunge { folder: own, .. } => is_at(folder, id, own, op.id),
+        _ => false,
+    }
+}
+
+/// Whether the operation removes the folder tag.
+fn removes_tag(op: &Op, folder: &Name, id: OpId) -> bool
+    ensures { result ≡ removes (FolderTag folder.now id) op.now }
+{
+    match &op.kind {
+        Kind::Delete { folder: own, seen } => is_among(folder, id, own, seen.as_slice()),
+        Kind::Create { .. } => false,
+        Kind::Append { .. } => false,
+        Kind::Expunge { .. } => false,
+        Kind::Store { .. } => false,
+        Kind::Subscribe { .. } => false,
+        Kind::Unsubscribe { .. } => false,
+    }
+}
+
+/// Whether the operation adds the message tag.
+fn adds_message(op: &Op, folder: &Name, id: OpId) -> bool
+    ensures { result ≡ adds (MessageTag folder.now id) op.now }
+{
+    match &op.kind {
+        Kind::Append { folder: own, .. } => is_at(folder, id, own, op.id),
+        Kind::Store { folder: own, .. } => is_at(folder, id, own, op.id),
+        _ => false,
+    }
+}
+
+/// Whether the operation removes the message tag.
+fn removes_message(op: &Op, folder: &Name, id: OpId) -> bool
+    ensures { result ≡ removes (MessageTag folder.now id) op.now }
+{
+    match &op.kind {
+        Kind::Delete { folder: own, seen } => is_among(folder, id, own, seen.as_slice()),
+        Kind::Expunge { folder: own, olds } => is_among(folder, id, own, olds.as_slice()),
+        Kind::Store {
+            folder: own,
+            olds,
+            ..
+        } => is_among(folder, id, own, olds.as_slice()),
+        Kind::Create { .. } => false,
+        Kind::Append { .. } => false,
+        Kind::Subscribe { .. } => false,
+        Kind::Unsubscribe { .. } => false,
+    }
+}
+
+/// Whether the folder tag is present after the operation, where this tells whether it was before.
+fn tag_after_op(op: &Op, folder: &Name, id: &OpId, before: bool) -> bool
+    ensures { result ≡ (adds (FolderTag folder.now id.now) op.now || (not (removes (FolderTag folder.now id.now) op.now) && before)) }
+{
+    adds_tag(op, folder, *id) || (!removes_tag(op, folder, *id) && before)
+}
+
+/// Whether the folder tag is present after these operations, where this tells whether it is now.
+fn tag_after(ops: &[SoundOp], folder: &Name, id: &OpId, now: bool) -> bool
+    ensures { (c : Contents) → c.tags folder.now id.now ≡ now → result ≡ (after c ops.now).tags folder.now id.now }
+{
+    let mut there = now;
+    for op in ops {
+        there = tag_after_op(op.op(), folder, id, there);
+    }
+    there
+}
+
+/// The origin of the message tag after the operation, where this is what it was before.
+fn origin_after_op(op: &Op, folder: &Name, id: &OpId, before: Option<OpId>) -> Option<OpId>
+    ensures { result ≡ (if adds (MessageTag folder.now id.now) op.now then origin_by op.now.id op.now.kind else (if removes (MessageTag folder.now id.now) op.now then None else before)) }
+{
+    if adds_message(op, folder, *id) {
+        return origin_by(op);
+    }
+    if removes_message(op, folder, *id) {
+        return None;
+    }
+    before
+}
+
+/// The origin of the version that the operation adds, where it adds one.
+pub fn origin_by(op: &Op) -> Option<OpId>
+    ensures { result ≡ origin_by op.now.id op.now.kind }
+{
+    match &op.kind {
+        Kind::Append { .. } => Some(op.id),
+        Kind::Store { origin, .. } => Some(*origin),
+        _ => None,
+    }
+}
+
+/// The origin of the message tag after these operations, where this is what it is now.
+fn origin_after(ops: &[SoundOp], folder: &Name, id: &OpId, now: Option<OpId>) -> Option<OpId>
+    ensures { (c : Contents) → origin_in c folder.now id.now ≡ now → result ≡ origin_in (after c ops.now) folder.now id.now }
+{
+    let mut origin = now;
+    for op in ops {
+        origin = origin_after_op(op.op(), folder, id, origin);
+    }
+    origin
+}
+
+/// Whether the folder tag with this id is present.
+fn has_tag_at(held: Option<&Folder>, id: &OpId) -> bool
+    ensures { result ≡ has_tag_in (option_copied held.entry) id.now }
+{
+    match held {
+        Some(folder) => folder.has_tag(id),
+        None => false,
+    }
+}
+
+/// The origin of the message tag with this id, where it is present.
+fn origin_at(held: Option<&Folder>, id: &OpId) -> Option<OpId>
+    ensures { result ≡ option_map (λ body. body.origin) (body_in_folder (option_copied held.entry) id.now) }
+{
+    match held {
+        Some(folder) => folder.origin_of(id),
+        None => None,
+    }
+}
+
+/// The number of its tags of both kinds.
+fn count_in(held: Option<&Folder>) -> usize
+    ensures count { result ≡ length (ids_in (option_copied held.entry)) }
+    ensures ids { (i : OpId) → IsIn i (ids_in (option_copied held.entry)) ↔ HasTagIn (folder_tag_data (option_copied held.entry)) i }
+{
+    match held {
+        Some(folder) => folder.count(),
+        None => 0,
+    }
+}
+
+/// The id of its tag at this place.
+fn id_in(held: Option<&Folder>, place: usize) -> Option<OpId>
+    ensures { result ≡ slice_get (ids_in (option_copied held.entry)) place }
+{
+    match held {
+        Some(folder) => folder.id_at(place),
+        None => None,
+    }
+}
+
+/// Whether the folder has a tag with this id after these operations.
+fn has_tag_after(held: Option<&Folder>, folder: &Name, id: &OpId, ops: &[SoundOp]) -> bool
+    ensures { result ≡ has_tag_after (alone (option_copied held.entry)) ops.now folder.now id.now }
+{
+    tag_after(ops, folder, id, has_tag_at(held, id))
+        || origin_after(ops, folder, id, origin_at(held, id)).is_some()
+}
+
+/// Whether the folder has a tag after these operations, of those that it has and those that they add.
+pub fn has_tag_after_all(held: Option<&Folder>, folder: &Name, ops: &[SoundOp]) -> bool
+    ensures ids { (i : OpId) → IsIn i (ids_in (option_copied held.entry)) ↔ HasTagIn (folder_tag_data (option_copied held.entry)) i }
+    ensures left { result ≡ (list_any (λ i. has_tag_after (alone (option_copied held.entry)) ops.now folder.now i) (ids_in (option_copied held.entry)) || list_any (λ o. has_tag_after (alone (option_copied held.entry)) ops.now folder.now o.id) ops.now) }
+{
+    any_kept_left(held, folder, ops) || any_added_left(held, folder, ops)
+}
+
+/// Whether one of its tags is left, or another with its id.
+fn any_kept_left(held: Option<&Folder>, folder: &Name, ops: &[SoundOp]) -> bool
+    ensures ids { (i : OpId) → IsIn i (ids_in (option_copied held.entry)) ↔ HasTagIn (folder_tag_data (option_copied held.entry)) i }
+    ensures left { result ≡ list_any (λ i. has_tag_after (alone (option_copied held.entry)) ops.now folder.now i) (ids_in (option_copied held.entry)) }
+{
+    let count = count_in(held);
+    for place in 0..count {
+        if is_left_at(held, folder, ops, place) {
+            return true;
+        }
+    }
+    false
+}
+
+/// Whether its tag at this place is left, or another with its id.
+fn is_left_at(held: Option<&Folder>, folder: &Name, ops: &[SoundOp], place: usize) -> bool
+    ensures { MatchOption (slice_get (ids_in (option_copied held.entry)) place) (result ≡ false) (λ i. result ≡ has_tag_after (alone (option_copied held.entry)) ops.now folder.now i) }
+{
+    match id_in(held, place) {
+        Some(id) => has_tag_after(held, folder, &id, ops),
+        None => false,
+    }
+}
+
+/// Whether a tag of the folder with one of these operations' ids is left.
+fn any_added_left(held: Option<&Folder>, folder: &Name, ops: &[SoundOp]) -> bool
+    ensures { result ≡ list_any (λ o. has_tag_after (alone (option_copied held.entry)) ops.now folder.now o.id) ops.now }
+{
+    for op in ops {
+        if has_tag_after(held, folder, &op.op().id, ops) {
+            return true;
+        }
+    }
+    false
+}
+
+/// Whether the id is that of a version of the origin after the operations.
+fn is_version_after(
+    held: Option<&Folder>,
+    folder: &Name,
+    origin: &OpId,
+    id: &OpId,
+    ops: &[SoundOp],
+) -> bool
+    ensures { result ≡ is_version (after (alone (option_copied held.entry)) ops.now) folder.now origin.now id.now }
+{
+    is_id(origin, origin_after(ops, folder, id, origin_at(held, id)))
+}
+
+/// Whether the id is the one that is given, where one is.
+fn is_id(id: &OpId, given: Option<OpId>) -> bool
+    ensures { result ≡ is_some_id id.now given }
+{
+    match given {
+        Some(other) => *id == other,
+        None => false,
+    }
+}
+
+/// Whether the origin has a version in the folder after these operations, of those that it has and those that they add.
+pub fn has_version_after_all(
+    held: Option<&Folder>,
+    folder: &Name,
+    origin: &OpId,
+    ops: &[SoundOp],
+) -> bool
+    ensures versions { (i : OpId) → IsIn i (version_ids (versions_in (option_copied held.entry) origin.now)) ↔ (option_map (λ body. body.origin) (body_in_folder (option_copied held.entry) i) ≡ Some origin.now) }
+    ensures left { result ≡ (list_any (λ version. is_version (after (alone (option_copied held.entry)) ops.now) folder.now origin.now version.id) (versions_in (option_copied held.entry) origin.now) || list_any (is_added_and_left (option_copied held.entry) ops.now folder.now origin.now) ops.now) }
+{
+    keeps_version(held, folder, origin, ops) || adds_lasting_version(held, folder, origin, ops)
+}
+
+/// Whether one of its versions is left.
+fn keeps_version(held: Option<&Folder>, folder: &Name, origin: &OpId, ops: &[SoundOp]) -> bool
+    ensures versions { (i : OpId) → IsIn i (version_ids (versions_in (option_copied held.entry) origin.now)) ↔ (option_map (λ body. body.origin) (body_in_folder (option_copied held.entry) i) ≡ Some origin.now) }
+    ensures left { result ≡ list_any (λ version. is_version (after (alone (option_copied held.entry)) ops.now) folder.now origin.now version.id) (versions_in (option_copied held.entry) origin.now) }
+{
+    match held {
+        Some(kept) => any_left(held, kept.versions_at(origin), folder, origin, ops),
+        None => false,
+    }
+}
+
+/// Whether one of these versions is left.
+fn any_left(
+    held: Option<&Folder>,
+    versions: &[Version],
+    folder: &Name,
+    origin: &OpId,
+    ops: &[SoundOp],
+) -> bool
+    ensures { result ≡ list_any (λ version. is_version (after (alone (option_copied held.entry)) ops.now) folder.now origin.now version.id) versions.now }
+{
+    for version in versions {
+        if is_version_after(held, folder, origin, &version.id, ops) {
+            return true;
+        }
+    }
+    false
+}
+
+/// Whether one of the operations adds a version that is left after all of them.
+fn adds_lasting_version(held: Option<&Folder>, folder: &Name, origin: &OpId, ops: &[SoundOp]) -> bool
+    ensures { result ≡ list_any (is_added_and_left (option_copied held.entry) ops.now folder.now origin.now) ops.now }
+{
+    for op in ops {
+        if is_added_and_left(held, folder, origin, op.op(), ops) {
+            return true;
+        }
+    }
+    false
+}
+
+/// Whether an operation adds a version of the origin that is left after all of them.
+fn is_added_and_left(held: Option<&Folder>, folder: &Name, origin: &OpId, op: &Op, ops: &[SoundOp]) -> bool
+    ensures { result ≡ is_added_and_left (option_copied held.entry) ops.now folder.now origin.now op.now }
+{
+    is_id(origin, origin_by(op)) && is_version_after(held, folder, origin, &op.id, ops)
+}
+
+/// Whether a tag's folder and id are these.
+fn is_at(folder: &Name, id: OpId, other: &Name, other_id: OpId) -> bool
+    ensures { result ≡ is_at folder.now id other.now other_id }
+{
+    folder.as_bytes() == other.as_bytes() && id == other_id
+}
+
+/// Whether a tag's folder is this one, and its id one of these.
+fn is_among(folder: &Name, id: OpId, other: &Name, ids: &[OpId]) -> bool
+    ensures { result ≡ is_among folder.now id other.now ids.now }
+{
+    folder.as_bytes() == other.as_bytes() && lists(ids, id)
+}
+
+/// Whether the id is one of these.
+fn lists(ids: &[OpId], id: OpId) -> bool
+    ensures { result ≡ list_any (same_id id) ids.now }
+{
+    ids.iter().any(|other| id == *other)
+}

@@ -1,0 +1,100 @@
+//! A folder's messages, copied.
+
+ghost use Rattle.std.specs.Prelude.{◌≡◌, ℕ, IfOk, List, map};
+ghost use Rattle.std.specs.Map.{lookup};
+ghost use Rattle.std.specs.Option.{option_copied, option_map, unwrap_or};
+ghost use Rattle.tags_clocks.specs.declared.id.OpId.{OpId};
+ghost use Rattle.crdt_ops.specs.SortedSets.{same_id};
+ghost use Rattle.crdt_ops.specs.Sets.{no_dated_text};
+ghost use Rattle.folder_state.specs.Contents.{AreMessages, Contents};
+ghost use Rattle.folder_state.specs.FolderTables.{body_in_folder, folder_contents};
+ghost use Rattle.folder_state.specs.LentMessages.{kept_dated_text, kept_message};
+
+use crate::folder::Folder;
+use crate::id_lists::{ids_in_order, ids_of};
+use crdt_ops::Message;
+use imap_types::{DateTime, Text, Versions};
+use indexmap::IndexMap;
+use mailbox_rows::DatedText;
+use std::alloc::{AllocError, Global};
+use tags_clocks::OpId;
+
+/// The folder's messages, ascending by their origins; `Err` where there is no memory for them.
+pub fn folder_messages(
+    alloc: Global,
+    folder: Option<&Folder>,
+    letters: &IndexMap<OpId, DatedText>,
+) -> Result<Vec<Message>, AllocError>
+    ensures { (c : Contents) (name : List ℕ) → ((i : OpId) → c.bodies name i ≡ body_in_folder (option_copied folder.entry) i) → ((i : OpId) → c.letters i ≡ option_map kept_dated_text (lookup (same_id i) letters.now.entries)) → IfOk result (λ messages. AreMessages c name messages.items) }
+{
+    match folder {
+        Some(folder) => messages_in(alloc, folder, letters),
+        None => Ok(Vec::new(alloc)),
+    }
+}
+
+fn messages_in(
+    alloc: Global,
+    folder: &Folder,
+    letters: &IndexMap<OpId, DatedText>,
+) -> Result<Vec<Message>, AllocError>
+    ensures { (c : Contents) (name : List ℕ) → ((i : OpId) → c.bodies name i ≡ (folder_contents folder.now).bodies i) → ((i : OpId) → c.letters i ≡ option_map kept_dated_text (lookup (same_id i) letters.now.entries)) → IfOk result (λ messages. AreMessages c name messages.items) }
+{
+    let list = folder.origins(alloc)?;
+    let origins = ids_in_order(alloc, &list)?;
+    let messages = messages_of(alloc, folder, letters, origins.as_slice())?;
+    Ok(messages)
+}
+
+/// The folder's messages of these origins, in their order; `Err` where there is no memory for them.
+fn messages_of(
+    alloc: Global,
+    folder: &Folder,
+    letters: &IndexMap<OpId, DatedText>,
+    origins: &[OpId],
+) -> Result<Vec<Message>, AllocError>
+    ensures { IfOk result (λ messages. messages.items ≡ map (kept_message folder.now.messages letters.now.entries) origins.now) }
+{
+    let mut messages = Vec::with_capacity(alloc, origins.len())?;
+    for origin in origins {
+        messages.push(message(alloc, folder, letters, origin)?)?;
+    }
+    Ok(messages)
+}
+
+/// The message of an origin, with its Append's date and text, or with none where the origin is no Append.
+fn message(
+    alloc: Global,
+    folder: &Folder,
+    letters: &IndexMap<OpId, DatedText>,
+    origin: &OpId,
+) -> Result<Message, AllocError>
+    ensures { IfOk result (λ message. message ≡ kept_message folder.now.messages letters.now.entries origin.now) }
+{
+    let list = folder.versions_at(origin);
+    let versions = ids_of(alloc, list)?;
+    let flags = Versions::new(list).flags(alloc)?;
+    let (date, text) = copy_dated_text(alloc, letters, origin)?;
+    Ok(Message {
+        origin: *origin,
+        versions,
+        flags,
+        date,
+        text,
+    })
+}
+
+/// Copies of the date and text of the Append with this id, or those of a message without one.
+fn copy_dated_text(
+    alloc: Global,
+    letters: &IndexMap<OpId, DatedText>,
+    id: &OpId,
+) -> Result<(DateTime, Text), AllocError>
+    ensures date { IfOk result (λ copied. copied.0 ≡ (unwrap_or (option_map kept_dated_text (lookup (same_id id.now) letters.now.entries)) no_dated_text).date) }
+    ensures text { IfOk result (λ copied. copied.1 ≡ (unwrap_or (option_map kept_dated_text (lookup (same_id id.now) letters.now.entries)) no_dated_text).text) }
+{
+    match letters.get(id) {
+        Some(letter) => Ok((letter.date.copy(), letter.text.copy()?)),
+        None => Ok((DateTime::epoch(), Text::new(Vec::new(alloc))?)),
+    }
+}

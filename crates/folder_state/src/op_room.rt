@@ -1,0 +1,213 @@
+//! Room made for operations.
+
+ghost use Rattle.std.specs.Prelude.{◌≡◌, ◌≤◌, ◌∷◌, ℕ, List, [], None, Some, IfOk, OnOk};
+ghost use Rattle.std.specs.Vec.{vec_capacity};
+ghost use Rattle.indexmap.specs.IndexMap.{spare};
+ghost use Rattle.tags_clocks.specs.declared.id.OpId.{OpId};
+ghost use Rattle.merge_laws.specs.Orders.{IsIn};
+ghost use Rattle.crdt_ops.specs.declared.op.Op.{Op};
+ghost use Rattle.folder_state.specs.FolderTables.{FolderTables, find_folder};
+ghost use Rattle.folder_state.specs.OpRoom.{AreRoomier, AreRoomierLists, HasPlaces, HasRoomAt, HasRoomFor, HasVersionPlaces, HasVersionRoom, HaveLists, IsRoomier, count_at, count_under, origin_by, tags_added, target, versions_added, counts_of};
+
+use crate::folder::Folder;
+use crate::after_ops::origin_by;
+use crate::tag_counts::{TagCounts, target};
+use crdt_ops::{Op, SoundOp};
+use imap_types::Version;
+use indexmap::IndexMap;
+use std::alloc::{AllocError, Global};
+use std::collections::VecDeque;
+use tags_clocks::OpId;
+
+/// For each operation an empty list, with places for the versions of its origin that it and those behind it add; `Err` where there is
+/// no memory for one.
+pub fn empty_lists(
+    alloc: Global,
+    ops: &[SoundOp],
+    tag_counts: &TagCounts,
+) -> Result<VecDeque<Vec<Version>>, AllocError>
+    requires { (origin : OpId) → count_at origin tag_counts.now.versions ≡ versions_added ops.now origin }
+    ensures { IfOk result (λ lists. HaveLists ops.now lists.items) }
+{
+    let mut lists = VecDeque::new(alloc);
+    for op in ops {
+        lists.push_back(empty_list(alloc, op.op(), tag_counts)?)?;
+    }
+    Ok(lists)
+}
+
+/// An empty list with places for the versions that are wanted of the operation's origin.
+fn empty_list(alloc: Global, op: &Op, tag_counts: &TagCounts) -> Result<Vec<Version>, AllocError>
+    ensures items { IfOk result (λ list. list.items ≡ []) }
+    ensures capacity { IfOk result (λ list. counts_of (λ o. count_at o tag_counts.now.versions) (origin_by op.now.id op.now.kind) ≤ vec_capacity list) }
+{
+    let list = Vec::with_capacity(alloc, tag_counts.versions_of(&origin_by(op)))?;
+    Ok(list)
+}
+
+/// Makes room in each folder for the tags that the operations add to it, and in each of their messages for the versions; a folder
+/// that isn't there is put in. An error leaves all tags as they were. Cost: some look-ups for each operation.
+pub fn reserve_folders(
+    alloc: Global,
+    by_name: &mut IndexMap<Vec<u8>, Folder>,
+    ops: &[SoundOp],
+    tag_counts: &TagCounts,
+) -> Result<(), AllocError>
+    requires tags { (name : List ℕ) → count_under name tag_counts.now.tags ≡ tags_added ops.now name }
+    requires versions { (origin : OpId) → count_at origin tag_counts.now.versions ≡ versions_added ops.now origin }
+    ensures roomier { AreRoomier by_name.old.entries by_name.new.entries }
+    ensures rooms { OnOk result ((o : Op) → IsIn o ops.now → HasRoomFor ops.now o (λ name. find_folder name by_name.new.entries)) }
+{
+    for op in ops {
+        reserve_for(alloc, by_name, op.op(), tag_counts)?;
+    }
+    Ok(())
+}
+
+/// The same for one operation alone. Cost: a look-up or two.
+pub fn reserve_one(
+    alloc: Global,
+    by_name: &mut IndexMap<Vec<u8>, Folder>,
+    op: &Op,
+) -> Result<(), AllocError>
+    ensures roomier { AreRoomier by_name.old.entries by_name.new.entries }
+    ensures room { OnOk result (HasRoomFor (op.now ∷ []) op.now (λ name. find_folder name by_name.new.entries)) }
+{
+    match target(op) {
+        Some(name) => reserve_in(alloc, by_name, name.as_bytes(), 1, &origin_by(op), 1),
+        None => Ok(()),
+    }
+}
+
+/// Makes so much room as is wanted in the folder of the operation's tag, and in its message.
+fn reserve_for(
+    alloc: Global,
+    by_name: &mut IndexMap<Vec<u8>, Folder>,
+    op: &Op,
+    tag_counts: &TagCounts,
+) -> Result<(), AllocError>
+    ensures roomier { AreRoomier by_name.old.entries by_name.new.entries }
+    ensures ok { OnOk result (HasRoomAt (λ n. count_under n tag_counts.now.tags) (λ o. count_at o tag_counts.now.versions) (origin_by op.now.id op.now.kind) (target op.now.kind) (λ name. find_folder name by_name.new.entries)) }
+{
+    let origin = origin_by(op);
+    match target(op) {
+        Some(name) => reserve_in(
+            alloc,
+            by_name,
+            name.as_bytes(),
+            tag_counts.tags_of(name),
+            &origin,
+            tag_counts.versions_of(&origin),
+        ),
+        None => Ok(()),
+    }
+}
+
+/// Makes room for so many tags in the folder, which is put in where it isn't there, and for so many versions in the message of the
+/// origin, where both are there.
+fn reserve_in(
+    alloc: Global,
+    by_name: &mut IndexMap<Vec<u8>, Folder>,
+    name: &[u8],
+    tags: usize,
+    origin: &Option<OpId>,
+    versions: usize,
+) -> Result<(), AllocError>
+    ensures roomier { AreRoomier by_name.old.entries by_name.new.entries }
+    ensures ok { OnOk result ((folder : FolderTables) × (find_folder name.now by_name.new.entries ≡ Some folder) × HasPlaces folder origin.now tags × HasVersionPlaces folder origin.now versions) }
+{
+    match by_name.get_mut(name) {
+        Some(folder) => folder.reserve(tags, origin, versions),
+        None => put_folder(alloc, by_name, name, tags, origin),
+    }
+}
+
+/// Puts a folder in that isn't there, with room for so many tags, and, where there is an origin, for as many messages.
+fn put_folder(
+    alloc: Global,
+    by_name: &mut IndexMap<Vec<u8>, Folder>,
+    name: &[u8],
+    tags: usize,
+    origin: &Option<OpId>,
+) -> Result<(), AllocError>
+    requires { find_folder name.now by_name.old.entries ≡ None }
+    ensures roomier { AreRoomier by_name.old.entries by_name.new.entries }
+    ensures ok { OnOk result ((folder : FolderTables) × (find_folder name.now by_name.new.entries ≡ Some folder) × HasPlaces folder origin.now tags × (folder.messages ≡ [])) }
+{
+    let folder = Folder::with_room(alloc, tags, origin)?;
+    let key = name.to_vec(alloc)?;
+    if by_name.insert(key, folder).is_err() {
+        return Err(AllocError);
+    }
+    Ok(())
+}
+
+impl Folder {
+    /// No tags, and room for so many, and, where there is an origin, for as many messages; `Err` where there is no memory for it.
+    fn with_room(alloc: Global, tags: usize, origin: &Option<OpId>) -> Result<Folder, AllocError>
+        ensures empty { IfOk result (λ folder. (folder.tags ≡ []) × (folder.messages ≡ []) × (folder.origins ≡ [])) }
+        ensures room { IfOk result (λ folder. HasPlaces folder origin.now tags) }
+    {
+        let mut folder = Folder::new(alloc);
+        folder.reserve_places(tags, origin)?;
+        Ok(folder)
+    }
+
+    /// Makes room for so many tags, and, where there is an origin, for as many messages and for so many versions in its own, if that is there. An error leaves all
+    /// tags as they were.
+    fn reserve(
+        &mut self,
+        tags: usize,
+        origin: &Option<OpId>,
+        versions: usize,
+    ) -> Result<(), AllocError>
+        ensures roomier { IsRoomier self.old self.new }
+        ensures ok { OnOk result (HasPlaces self.new origin.now tags × HasVersionPlaces self.new origin.now versions) }
+    {
+        self.reserve_places(tags, origin)?;
+        match origin {
+            Some(origin) => reserve_versions(&mut self.messages, origin, versions),
+            None => Ok(()),
+        }
+    }
+
+    /// Makes room for so many tags, and, where there is an origin, for as many messages.
+    fn reserve_places(&mut self, tags: usize, origin: &Option<OpId>) -> Result<(), AllocError>
+        ensures same { (self.new.tags ≡ self.old.tags) × (self.new.messages ≡ self.old.messages) × (self.new.origins ≡ self.old.origins) }
+        ensures grown { (self.old.tag_room ≤ self.new.tag_room) × (self.old.message_room ≤ self.new.message_room) × (self.old.origin_room ≤ self.new.origin_room) }
+        ensures ok { OnOk result (HasPlaces self.new origin.now tags) }
+    {
+        self.tags.reserve(tags)?;
+        match origin {
+            Some(_) => self.reserve_messages(tags),
+            None => Ok(()),
+        }
+    }
+
+    /// Makes room for so many messages.
+    fn reserve_messages(&mut self, count: usize) -> Result<(), AllocError>
+        ensures same { (self.new.tags ≡ self.old.tags) × (self.new.messages ≡ self.old.messages) × (self.new.origins ≡ self.old.origins) }
+        ensures grown { (self.old.message_room ≤ self.new.message_room) × (self.old.origin_room ≤ self.new.origin_room) }
+        ensures tag_room { self.new.tag_room ≡ self.old.tag_room }
+        ensures ok { OnOk result ((count ≤ self.new.message_room) × (count ≤ self.new.origin_room)) }
+    {
+        self.messages.reserve(count)?;
+        self.origins.reserve(count)
+    }
+}
+
+/// Makes room for so many versions in the message of the origin, where it is there.
+fn reserve_versions(
+    messages: &mut IndexMap<OpId, Vec<Version>>,
+    origin: &OpId,
+    versions: usize,
+) -> Result<(), AllocError>
+    ensures roomier { AreRoomierLists messages.old.entries messages.new.entries }
+    ensures spare { spare messages.old ≤ spare messages.new }
+    ensures ok { OnOk result (HasVersionRoom messages.new.entries origin.now versions) }
+{
+    match messages.get_mut(origin) {
+        Some(list) => list.reserve(versions),
+        None => Ok(()),
+    }
+}

@@ -1,0 +1,41 @@
+use Rattle.std.specs.Prelude.{◌≡◌, ◌⊎◌, Bool, true, List, []}
+use Rattle.mailbox_rows.specs.ListedMessage.{ListedMessage}
+use Rattle.idle_feed.specs.declared.view_change.ViewChange.{ViewChange}
+use Rattle.idle_feed.specs.declared.view_change.ViewChange.TheVariants.{InPlace, Anew}
+use Rattle.idle_feed.specs.Feeds.{Pending}
+use Rattle.idle_feed.specs.declared.feed.TakenNotes.{TakenNotes}
+use Rattle.idle_feed.specs.declared.feed.TakenNotes.TheVariants.{Changes, Resync}
+use Rattle.session_view.specs.NoteChanges.{HasRoomForArrivals, NoteAllChanges, patched_entries}
+use Rattle.session_view.specs.Replay.{after_silent}
+use Rattle.session_view.specs.Views.{AreRising}
+use Rattle.session_view.specs.declared.notes.Note.{Note}
+use Rattle.session_view.specs.declared.view_entry.ViewEntry.{ViewEntry}
+
+-- What is to be told names every row that differs between the messages seen and the listing, or says that some was missed.
+abbrev pub NotesAllOf : Pending → List ListedMessage → List ViewEntry → Type 0
+NotesAllOf p rows entries = (p.missed ≡ true) ⊎ NoteAllChanges p.notes rows entries
+
+-- What is left names them, or says so.
+abbrev pub IsLeftNoted : TakenNotes → List ListedMessage → List ViewEntry → Type 0
+IsLeftNoted (Changes notes) rows entries = NoteAllChanges notes rows entries
+IsLeftNoted Resync rows entries = Unit {0}
+
+-- These notes name them, if they are said to be all.
+abbrev pub IsLeftBy : List Note → Bool → List ListedMessage → List ViewEntry → Type 0
+IsLeftBy left whole rows entries = whole ≡ true → NoteAllChanges left rows entries
+
+-- The messages seen behind a change.
+abbrev pub entries_after_change : List ViewEntry → ViewChange → List ViewEntry
+entries_after_change view (InPlace first patch left whole) = patched_entries (after_silent view first.items) patch.gone.items patch.came.items patch.flags.items
+entries_after_change view (Anew entries left whole) = entries.items
+
+-- What the change leaves, if it is all, names every row that differs between what is seen then and the listing.
+abbrev pub IsChangeTo : List ListedMessage → List ViewEntry → ViewChange → Type 0
+IsChangeTo rows view (InPlace first patch left whole) = IsLeftBy left.items whole rows (patched_entries (after_silent view first.items) patch.gone.items patch.came.items patch.flags.items)
+IsChangeTo rows view (Anew entries left whole) = IsLeftBy left.items whole rows entries.items
+
+-- The change can be made with no more memory, and the UIDs ascend behind it.
+abbrev pub CanCommit : List ViewEntry → ViewChange → Type 0
+CanCommit view (InPlace first patch left whole) =
+    HasRoomForArrivals (after_silent view first.items) patch × AreRising 1 (patched_entries (after_silent view first.items) patch.gone.items patch.came.items patch.flags.items)
+CanCommit view (Anew entries left whole) = AreRising 1 entries.items

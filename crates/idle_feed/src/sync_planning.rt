@@ -1,0 +1,221 @@
+//! The plan of a sync.
+
+ghost use Rattle.std.specs.List.{list_any};
+ghost use Rattle.std.specs.Prelude.{◌≡◌, ◌++◌, ◌+◌, ◌/◌, ◌∷◌, [], nat_lt, true, List, IfOk, OnOk};
+ghost use Rattle.mailbox_rows.specs.ListedMessage.{ListedMessage};
+ghost use Rattle.session_view.specs.NoteChanges.{NoteAllChanges, is_end};
+ghost use Rattle.session_view.specs.Replay.{after_silent};
+ghost use Rattle.session_view.specs.Sync.{sync_answers, view_after_sync};
+ghost use Rattle.session_view.specs.Views.{entries_of};
+ghost use Rattle.session_view.specs.declared.notes.Note.TheVariants.{Ended};
+ghost use Rattle.session_view.specs.declared.view_entry.SyncKind.TheVariants.{Full};
+ghost use Rattle.idle_feed.specs.NotedFeeds.{CanCommit, IsChangeTo, NotesAllOf, entries_after_change};
+
+use crate::view_change::ViewChange;
+use crate::feed::Feed;
+use imap_answers::Answer;
+use mailbox_rows::Rows;
+use session_view::{
+    Note, SilentFlags, SyncForm, SyncKind, SyncOutcome, SyncPlan, SyncPlanAfterFlags, View, counts_tell,
+    notes_keep_up, replay_reply, sync_by_comparison,
+};
+use std::alloc::{AllocError, Global};
+
+/// What a session is told, and what that does to its view.
+#[derive(Drop)]
+pub struct PlannedSync {
+    /// What it is told.
+    pub answers: Vec<Answer>,
+    /// What that does to its view.
+    pub change: ViewChange,
+}
+
+/// What names how a view differs from its mailbox's listing.
+#[derive(Drop)]
+pub struct NotedChanges<'a> {
+    /// How the view differs from an earlier listing.
+    pub feed: &'a Feed,
+    /// How that listing differs from the one that is there.
+    pub notes: &'a [Note],
+}
+
+/// What a sync tells behind these flags, which the session sets itself or was told, over a listing from which the view differs in what is noted. View and feed stay as they were, so that a refused input has nothing to put back. `Err` where there is no
+/// memory. Cost: what the notes and the feed name; where the feed missed some, all of a mailbox may differ, or there are many notes, one pass over the view and the listing.
+pub fn plan(
+    alloc: Global,
+    view: &mut View,
+    rows: &Rows<'_>,
+    noted: NotedChanges<'_>,
+    first: Vec<SilentFlags>,
+    form: SyncForm,
+) -> Result<PlannedSync, AllocError>
+    requires { (before : List ListedMessage) × NotesAllOf noted.feed.now.pending before view.old.entries × NoteAllChanges noted.notes.now rows.now (entries_of before) }
+    ensures same { view.new ≡ view.old }
+    ensures answers { IfOk result (λ plan. plan.answers.items ≡ sync_answers form.kind form.modseq rows.now (after_silent view.old.entries first.items)) }
+    ensures changed { IfOk result (λ plan. entries_after_change view.old.entries plan.change ≡ view_after_sync form.kind rows.now (after_silent view.old.entries first.items)) }
+    ensures change { IfOk result (λ plan. IsChangeTo rows.now view.old.entries plan.change) }
+    ensures can { IfOk result (λ plan. CanCommit view.old.entries plan.change) }
+{
+    let NotedChanges { feed, notes } = noted;
+    let Some(kept) = feed.notes() else {
+        return plan_by_comparison(alloc, view, rows, first, form);
+    };
+    let count = kept.len().saturating_add(notes.len());
+    if have_end(kept) || have_end(notes) || are_many(count, view.entries().len()) {
+        return plan_by_comparison(alloc, view, rows, first, form);
+    }
+    let all = join_notes(alloc, kept, notes)?;
+    plan_in_place(alloc, view, rows, all, first, form)
+}
+
+/// Whether so many notes of so many messages are too many to look each up.
+fn are_many(notes: usize, messages: usize) -> bool
+    ensures { result ≡ nat_lt (64 + messages / 16) notes }
+{
+    notes > 64 + messages / 16
+}
+
+/// The plan of a sync that looks at all of the view.
+fn plan_by_comparison(
+    alloc: Global,
+    view: &mut View,
+    rows: &Rows<'_>,
+    first: Vec<SilentFlags>,
+    form: SyncForm,
+) -> Result<PlannedSync, AllocError>
+    ensures same { view.new ≡ view.old }
+    ensures answers { IfOk result (λ plan. plan.answers.items ≡ sync_answers form.kind form.modseq rows.now (after_silent view.old.entries first.items)) }
+    ensures changed { IfOk result (λ plan. entries_after_change view.old.entries plan.change ≡ view_after_sync form.kind rows.now (after_silent view.old.entries first.items)) }
+    ensures change { IfOk result (λ plan. IsChangeTo rows.now view.old.entries plan.change) }
+    ensures can { IfOk result (λ plan. CanCommit view.old.entries plan.change) }
+{
+    match form.kind {
+        SyncKind::Full => plan_rebuilt_view(alloc, view, rows, first, form),
+        SyncKind::Partial => {
+            notes_keep_up();
+            plan_in_place(alloc, view, rows, all_may_differ(alloc)?, first, form)
+        }
+    }
+}
+
+/// The note that all may differ.
+fn all_may_differ(alloc: Global) -> Result<Vec<Note>, AllocError>
+    ensures { IfOk result (λ notes. notes.items ≡ Ended ∷ []) }
+{
+    let mut notes = Vec::with_capacity(alloc, 1)?;
+    notes.push_reserved(Note::Ended);
+    Ok(notes)
+}
+
+/// Whether one of these tells that an incarnation ended, so that all of its messages may differ.
+fn have_end(notes: &[Note]) -> bool
+    ensures { result ≡ list_any is_end notes.now }
+{
+    for note in notes {
+        if is_end(note) {
+            return true;
+        }
+    }
+    false
+}
+
+fn is_end(note: &Note) -> bool
+    ensures { result ≡ is_end note.now }
+{
+    match note {
+        Note::Ended => true,
+        _ => false,
+    }
+}
+
+/// All of these notes.
+fn join_notes(alloc: Global, notes: &[Note], more: &[Note]) -> Result<Vec<Note>, AllocError>
+    ensures { IfOk result (λ all. all.items ≡ notes.now ++ more.now) }
+{
+    let mut all = Vec::new(alloc);
+    push_notes(notes, &mut all)?;
+    push_notes(more, &mut all)?;
+    Ok(all)
+}
+
+fn push_notes(notes: &[Note], all: &mut Vec<Note>) -> Result<(), AllocError>
+    ensures { OnOk result (all.new.items ≡ all.old.items ++ notes.now) }
+{
+    for note in notes {
+        all.push(*note)?;
+    }
+    Ok(())
+}
+
+/// The plan of a sync that looks at noted messages alone.
+fn plan_in_place(
+    alloc: Global,
+    view: &mut View,
+    rows: &Rows<'_>,
+    notes: Vec<Note>,
+    first: Vec<SilentFlags>,
+    form: SyncForm,
+) -> Result<PlannedSync, AllocError>
+    requires { NoteAllChanges notes.items rows.now view.old.entries }
+    ensures same { view.new ≡ view.old }
+    ensures answers { IfOk result (λ plan. plan.answers.items ≡ sync_answers form.kind form.modseq rows.now (after_silent view.old.entries first.items)) }
+    ensures changed { IfOk result (λ plan. entries_after_change view.old.entries plan.change ≡ view_after_sync form.kind rows.now (after_silent view.old.entries first.items)) }
+    ensures change { IfOk result (λ plan. IsChangeTo rows.now view.old.entries plan.change) }
+    ensures can { IfOk result (λ plan. CanCommit view.old.entries plan.change) }
+{
+    let SyncPlanAfterFlags { first, told } = view.plan_sync_after_flags(alloc, rows, notes, first, form)?;
+    let SyncPlan {
+        answers,
+        patch,
+        left,
+        whole,
+    } = told;
+    Ok(PlannedSync {
+        answers,
+        change: ViewChange::InPlace {
+            first,
+            patch,
+            left,
+            whole,
+        },
+    })
+}
+
+/// The plan of a sync that compares all of the view.
+fn plan_rebuilt_view(
+    alloc: Global,
+    view: &View,
+    rows: &Rows<'_>,
+    first: Vec<SilentFlags>,
+    form: SyncForm,
+) -> Result<PlannedSync, AllocError>
+    ensures answers { IfOk result (λ plan. plan.answers.items ≡ sync_answers form.kind form.modseq rows.now (after_silent view.now.entries first.items)) }
+    ensures changed { IfOk result (λ plan. entries_after_change view.now.entries plan.change ≡ view_after_sync form.kind rows.now (after_silent view.now.entries first.items)) }
+    ensures change { IfOk result (λ plan. IsChangeTo rows.now view.now.entries plan.change) }
+    ensures can { IfOk result (λ plan. CanCommit view.now.entries plan.change) }
+{
+    counts_tell();
+    let listed = rows.count();
+    let seen = replay_reply(alloc, rows, view.entries(), &first, &[])?;
+    let SyncOutcome { entries, answers } = sync_by_comparison(alloc, form.kind, form.modseq, rows, &seen)?;
+    let whole = is_all(form.kind, entries.len(), listed);
+    Ok(PlannedSync {
+        answers,
+        change: ViewChange::Anew {
+            entries,
+            left: Vec::new(alloc),
+            whole,
+        },
+    })
+}
+
+/// Whether a full sync leaves as many messages as are listed.
+fn is_all(kind: SyncKind, count: usize, listed: u32) -> bool
+    ensures full { result ≡ true → kind ≡ Full }
+    ensures count { result ≡ true → count ≡ listed }
+{
+    match kind {
+        SyncKind::Full => count == listed as usize,
+        SyncKind::Partial => false,
+    }
+}

@@ -1,0 +1,81 @@
+//! What a sync does to a view.
+
+ghost use Rattle.std.specs.Prelude.{◌≡◌, List};
+ghost use Rattle.idle_feed.specs.Feeds.{Pending};
+ghost use Rattle.mailbox_rows.specs.ListedMessage.{ListedMessage};
+ghost use Rattle.session_view.specs.declared.view_entry.ViewEntry.{ViewEntry};
+ghost use Rattle.idle_feed.specs.NotedFeeds.{CanCommit, IsChangeTo, IsLeftNoted, IsLeftBy, NotesAllOf, entries_after_change};
+
+use crate::feed::{Feed, TakenNotes};
+use session_view::{Changes, ViewEntries, Note, Patch, SilentFlags, View};
+
+/// What a sync does to a view, with all memory that it takes.
+#[derive(Drop)]
+pub enum ViewChange {
+    /// The view is changed in place: these flags first, then the patch. These notes stay to be told, if they name all that does.
+    InPlace {
+        first: Vec<SilentFlags>,
+        patch: Patch,
+        left: Vec<Note>,
+        whole: bool,
+    },
+    /// The view shows these messages. These notes stay to be told, if they name all that does.
+    Anew {
+        entries: ViewEntries,
+        left: Vec<Note>,
+        whole: bool,
+    },
+}
+
+/// Does what was planned for a view and its feed; takes no memory.
+pub fn commit(view: &mut View, feed: &mut Feed, change: ViewChange)
+    requires { CanCommit view.old.entries change }
+    ensures view { view.new ≡ record view.old { entries = entries_after_change view.old.entries change } }
+    ensures noted { (rows : List ListedMessage) → IsChangeTo rows view.old.entries change → NotesAllOf feed.new.pending rows view.new.entries }
+{
+    let left = change_view(view, change);
+    feed.clear();
+    feed.restore(left);
+}
+
+/// Does to the view what was planned, and gives what stays to be told; takes no memory.
+fn change_view(view: &mut View, change: ViewChange) -> TakenNotes
+    requires { CanCommit view.old.entries change }
+    ensures view { view.new ≡ record view.old { entries = entries_after_change view.old.entries change } }
+    ensures left { (rows : List ListedMessage) → IsChangeTo rows view.old.entries change → IsLeftNoted result rows (entries_after_change view.old.entries change) }
+{
+    match change {
+        ViewChange::InPlace {
+            first,
+            patch,
+            left,
+            whole,
+        } => {
+            let mut first = first;
+            view.set_flags(&mut first);
+            view.patch(patch);
+            notes_if_all(left, whole)
+        }
+        ViewChange::Anew {
+            entries,
+            left,
+            whole,
+        } => {
+            view.show(entries);
+            notes_if_all(left, whole)
+        }
+    }
+}
+
+/// These notes, if they name all that stays to be told.
+fn notes_if_all(left: Vec<Note>, whole: bool) -> TakenNotes
+    ensures { (rows : List ListedMessage) (goal : List ViewEntry) → IsLeftBy left.items whole rows goal → IsLeftNoted result rows goal }
+{
+    if whole {
+        TakenNotes::Changes {
+            changes: Changes::new(left),
+        }
+    } else {
+        TakenNotes::Resync
+    }
+}

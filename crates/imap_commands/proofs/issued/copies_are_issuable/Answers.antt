@@ -1,5 +1,0 @@
-use Rattle.imap_commands.proofs.IssuedLemmas.{copy_wants_issuable}
-use Rattle.imap_commands.proofs.issued.copies_are_issuable.Goals as goal
-
-pub returns : goal.returns
-returns c = copy_wants_issuable

@@ -1,5 +1,0 @@
-use Rattle.imap_commands.proofs.IssuedLemmas.{move_wants_issuable}
-use Rattle.imap_commands.proofs.issued.moves_are_issuable.Goals as goal
-
-pub returns : goal.returns
-returns c = move_wants_issuable

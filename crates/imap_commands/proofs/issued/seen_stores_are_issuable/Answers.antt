@@ -1,5 +1,0 @@
-use Rattle.imap_commands.proofs.IssuedLemmas.{fetch_wants_issuable}
-use Rattle.imap_commands.proofs.issued.seen_stores_are_issuable.Goals as goal
-
-pub returns : goal.returns
-returns c = fetch_wants_issuable

@@ -1,5 +1,0 @@
-use Rattle.imap_commands.proofs.IssuedLemmas.{store_wants_issuable}
-use Rattle.imap_commands.proofs.issued.stores_are_issuable.Goals as goal
-
-pub returns : goal.returns
-returns c = store_wants_issuable

@@ -1,0 +1,43 @@
+use Rattle.std.specs.Prelude.{◌≡◌, ℕ, Bool, List, [], ◌∷◌, Result, Ok, Err, if◌then◌else◌}
+use Rattle.crdt_ops.specs.declared.kind.Kind.{Kind}
+use Rattle.imap_answers.specs.declared.answer.Answer.TheVariants.{Bye, Capability, Continue, Namespace, Status}
+use Rattle.imap_answers.specs.declared.fixed_words.ByeReason.TheVariants.{LoggingOut}
+use Rattle.imap_answers.specs.declared.fixed_words.Continuation.TheVariants.{Idling}
+use Rattle.imap_answers.specs.declared.fixed_words.Refusal.{Refusal}
+use Rattle.imap_answers.specs.declared.fixed_words.Refusal.TheVariants.{NoSuchMailbox}
+use Rattle.imap_syntax.specs.declared.status.StatusItem.{StatusItem}
+use Rattle.imap_query.specs.declared.mailbox_status.MailboxCounters.{MailboxCounters}
+use Rattle.imap_query.specs.declared.list_answers.ListMode.{ListMode}
+use Rattle.imap_query.specs.ListNames.{ListsNames}
+use Rattle.imap_query.specs.Status.{status_of}
+use Rattle.mailbox_rows.specs.ListedMessage.{ListedMessage}
+use Rattle.imap_commands.specs.Report.{CommandReport, report_of_answers}
+
+-- LIST tells the names that are shown of the folders and the subscriptions, and nothing else (RFC 9051, section 6.3.9).
+pub record IsListReport (mode : ListMode) (reference pattern : List ℕ) (folders subscriptions : List (List ℕ)) (told : CommandReport) : Type 0 where
+  pub names : ListsNames mode reference pattern folders subscriptions told.own
+  pub only : told ≡ report_of_answers told.own
+
+-- What STATUS issues, which is nothing, where the mailbox is there (RFC 9051, section 6.3.11).
+abbrev pub status_intent : Bool → Result (List Kind) Refusal
+status_intent is_there = if is_there then Ok [] else Err NoSuchMailbox
+
+-- What it tells of the mailbox's listing and marks.
+abbrev pub status_report : List ℕ → List StatusItem → MailboxCounters → List ListedMessage → CommandReport
+status_report name items marks rows = report_of_answers (Status name (status_of items marks rows) ∷ [])
+
+-- CAPABILITY (RFC 9051, section 6.1.1).
+abbrev pub capability_report : CommandReport
+capability_report = report_of_answers (Capability ∷ [])
+
+-- NAMESPACE (RFC 9051, section 6.3.10).
+abbrev pub namespace_report : CommandReport
+namespace_report = report_of_answers (Namespace ∷ [])
+
+-- LOGOUT (RFC 9051, section 6.1.3).
+abbrev pub logout_report : CommandReport
+logout_report = report_of_answers (Bye LoggingOut ∷ [])
+
+-- The beginning of IDLE (RFC 2177, section 3).
+abbrev pub idle_report : CommandReport
+idle_report = report_of_answers (Continue Idling ∷ [])

@@ -1,0 +1,73 @@
+//! How STORE changes flags (RFC 9051, section 6.4.6).
+
+ghost use Rattle.std.specs.Prelude.{◌≡◌, IfOk};
+ghost use Rattle.imap_commands.specs.FlagChange.{changed_flags, remaining, removed_flags};
+ghost use Rattle.imap_types.specs.Unions.{with_flags};
+
+use imap_syntax::StoreMode;
+use imap_types::{Flags, Keywords, Octets, add_flags};
+use std::alloc::{AllocError, Global};
+
+/// What STORE makes of a message's flags, from those and the ones that are given. `Err` where there is no memory for them. Keywords are
+/// put in one by one, each in time of how many there are.
+#[tactic(auto, unfolding(crate::specs::FlagChange::changed_flags))]
+pub fn changed_flags(
+    alloc: Global,
+    mode: StoreMode,
+    old: &Flags,
+    given: &Flags,
+) -> Result<Flags, AllocError>
+    ensures { IfOk result (λ flags. flags ≡ changed_flags mode old.now given.now) }
+{
+    match mode {
+        StoreMode::Replace => given.copy(alloc),
+        StoreMode::Add => with_flags_added(alloc, old, given),
+        StoreMode::Remove => with_flags_removed(alloc, old, given),
+    }
+}
+
+/// Flags with those that are given.
+fn with_flags_added(alloc: Global, old: &Flags, given: &Flags) -> Result<Flags, AllocError>
+    ensures { IfOk result (λ flags. flags ≡ with_flags old.now given.now) }
+{
+    let mut flags = old.copy(alloc)?;
+    add_flags(alloc, &mut flags, given)?;
+    Ok(flags)
+}
+
+/// Flags without those that are given.
+fn with_flags_removed(alloc: Global, old: &Flags, given: &Flags) -> Result<Flags, AllocError>
+    ensures { IfOk result (λ flags. flags ≡ removed_flags old.now given.now) }
+{
+    Ok(Flags {
+        answered: old.answered && !given.answered,
+        flagged: old.flagged && !given.flagged,
+        deleted: old.deleted && !given.deleted,
+        seen: old.seen && !given.seen,
+        draft: old.draft && !given.draft,
+        keywords: remaining(alloc, &given.keywords, &old.keywords)?,
+    })
+}
+
+/// The keywords without those that are given.
+fn remaining(alloc: Global, given: &Keywords, keywords: &Keywords) -> Result<Keywords, AllocError>
+    ensures { IfOk result (λ left. left ≡ remaining given.now keywords.now) }
+{
+    match Keywords::new(left_of(alloc, given, keywords.as_slice())?) {
+        Some(left) => Ok(left),
+        None => unreachable!(),
+    }
+}
+
+/// Those of these keywords that aren't given.
+fn left_of(alloc: Global, given: &Keywords, keywords: &[Octets]) -> Result<Vec<Octets>, AllocError>
+    ensures { IfOk result (λ left. left.items ≡ remaining given.now keywords.now) }
+{
+    let mut left = Vec::new(alloc);
+    for keyword in keywords {
+        if !given.contains(keyword.as_bytes()) {
+            left.push(keyword.copy(alloc)?)?;
+        }
+    }
+    Ok(left)
+}

@@ -1,0 +1,38 @@
+//! What operations commands issue, as laws: of listed messages alone, naming all their versions, with flags that an operation may carry.
+
+ghost use Rattle.std.specs.Prelude.{◌≡◌, ℕ, Bool, List, Ok};
+ghost use Rattle.crdt_ops.specs.declared.kind.Kind.{Kind};
+ghost use Rattle.imap_types.specs.declared.sequence_set.SequenceRange.{SequenceRange};
+ghost use Rattle.imap_commands.specs.Arguments.{CopyArgs, FetchArgs, OpenMailbox, StoreArgs};
+ghost use Rattle.imap_commands.specs.Copying.{copy_intent, move_intent};
+ghost use Rattle.imap_commands.specs.Expunging.{close_intent, expunge_intent, uid_expunge_intent};
+ghost use Rattle.imap_commands.specs.Fetching.{fetch_intent};
+ghost use Rattle.imap_commands.specs.Issuable.{AreIssuable, HaveLawfulKeywords};
+ghost use Rattle.imap_commands.specs.Storing.{store_intent};
+
+/// STORE issues Stores of listed messages, with lawful flags.
+pub fn stores_are_issuable()
+    ensures { (mailbox : OpenMailbox) (destination : List ℕ) (asked : StoreArgs) (kinds : List Kind) → HaveLawfulKeywords mailbox.rows → store_intent mailbox asked ≡ Ok kinds → AreIssuable mailbox.name destination mailbox.rows kinds }
+{}
+
+/// EXPUNGE and UID EXPUNGE issue Expunges of listed messages; CLOSE issues what EXPUNGE does, or nothing.
+pub fn expunges_are_issuable()
+    ensures all { (mailbox : OpenMailbox) (destination : List ℕ) (kinds : List Kind) → expunge_intent mailbox ≡ Ok kinds → AreIssuable mailbox.name destination mailbox.rows kinds }
+    ensures close { (mailbox : OpenMailbox) (destination : List ℕ) (kinds : List Kind) → close_intent mailbox ≡ Ok kinds → AreIssuable mailbox.name destination mailbox.rows kinds }
+    ensures some { (mailbox : OpenMailbox) (destination : List ℕ) (uids : List SequenceRange) (kinds : List Kind) → uid_expunge_intent mailbox uids ≡ Ok kinds → AreIssuable mailbox.name destination mailbox.rows kinds }
+{}
+
+/// FETCH issues Stores of listed messages, with lawful flags.
+pub fn seen_stores_are_issuable()
+    ensures { (mailbox : OpenMailbox) (destination : List ℕ) (asked : FetchArgs) (kinds : List Kind) → HaveLawfulKeywords mailbox.rows → fetch_intent mailbox asked ≡ Ok kinds → AreIssuable mailbox.name destination mailbox.rows kinds }
+{}
+
+/// COPY issues Appends in the destination, with lawful flags.
+pub fn copies_are_issuable()
+    ensures { (mailbox : OpenMailbox) (asked : CopyArgs) (is_there : Bool) (kinds : List Kind) → HaveLawfulKeywords mailbox.rows → copy_intent mailbox asked is_there ≡ Ok kinds → AreIssuable mailbox.name asked.destination mailbox.rows kinds }
+{}
+
+/// MOVE issues Appends in the destination, with lawful flags, and Expunges of listed messages.
+pub fn moves_are_issuable()
+    ensures { (mailbox : OpenMailbox) (asked : CopyArgs) (is_there : Bool) (kinds : List Kind) → HaveLawfulKeywords mailbox.rows → move_intent mailbox asked is_there ≡ Ok kinds → AreIssuable mailbox.name asked.destination mailbox.rows kinds }
+{}

@@ -1,0 +1,34 @@
+//! LOGIN.
+
+ghost use Rattle.std.specs.Prelude.{◌≡◌};
+ghost use Rattle.imap_commands.specs.Login.{are_credentials, login_intent};
+ghost use Rattle.imap_commands.specs.Gives.{GivesOrLacksMemory};
+
+use crate::session::Credentials;
+use crdt_ops::Kind;
+use imap_answers::Refusal;
+use imap_types::Octets;
+use std::alloc::Global;
+
+/// What LOGIN issues, which is nothing, or why it is refused: `LoginFailed` where the name or the password isn't the one wanted
+/// (RFC 9051, section 6.2.3).
+pub fn login_intent(
+    alloc: Global,
+    credentials: &Credentials,
+    user: &Octets,
+    password: &Octets,
+) -> Result<Vec<Kind>, Refusal>
+    ensures { GivesOrLacksMemory (λ kinds. kinds.items) result (login_intent credentials.now user.now password.now) }
+{
+    if !are_credentials(credentials, user, password) {
+        return Err(Refusal::LoginFailed);
+    }
+    Ok(Vec::new(alloc))
+}
+
+fn are_credentials(credentials: &Credentials, user: &Octets, password: &Octets) -> bool
+    ensures { result ≡ are_credentials credentials.now user.now password.now }
+{
+    credentials.user.as_bytes() == user.as_bytes()
+        && credentials.password.as_bytes() == password.as_bytes()
+}

@@ -1,0 +1,93 @@
+use Rattle.std.proofs.Common.{◌≡◌, inl, inr, ℕ, zero, suc, List, [], ◌∷◌, ◌++◌, length, Option, Some, None, IsSome, Result, Ok, Err, OnErr, refl, sym, ap, ◌∙◌, subst}
+use Rattle.std.specs.Prelude.{MatchResult, option_to_list}
+use Rattle.causal_inbox.specs.declared.delivery.DeliverFault.{DeliverFault}
+use Rattle.causal_inbox.specs.declared.delivery.Delivered.{Delivered}
+use Rattle.crdt_ops.specs.declared.op.Op.{Op}
+use Rattle.imap_commands.specs.declared.session.Session.{Session}
+use Rattle.imap_node.specs.Deliveries.{Delivers, IsRefusedAt}
+use Rattle.imap_node.specs.Nodes.{HasLoggedOut, IsGoing, NodeState, with_session_closed}
+use Rattle.imap_node.specs.Responses.{Responds}
+use Rattle.imap_node.specs.Sessions.{IsOpen, session_at}
+use Rattle.imap_node.specs.declared.input.Input.{Input}
+use Rattle.imap_node.specs.declared.reply.Reply.{Reply}
+use Rattle.imap_node.specs.declared.reply.Reply.TheVariants.{Done, Refused}
+use Rattle.imap_node.proofs.SessionLemmas.{open_is, others_stay, session_put}
+use Rattle.imap_connection.specs.Replies.{idling_at, tag_of_idling}
+use Rattle.imap_connection.specs.Streams.{SomeOtherSteps, OtherStep, OtherSteps, OtherSessionStep}
+use Rattle.imap_connection.specs.NodePorts.{IsHanded, LastIsHanded}
+
+-- what another session is told leaves this one
+responds_keeps : (n other : ℕ) (old new : NodeState) (input : Input) (reply : Reply) → (other ≡ n → ⊥) → Responds old other input reply new → session_at new.sessions n ≡ session_at old.sessions n
+responds_keeps n other old new input (Done answers silent issued) d r =
+    ap (λ places. session_at places n) r.2.becomes.sessions ∙ others_stay old.sessions other _ r.0 r.1 n (λ e. d (sym e))
+responds_keeps n other old new input (Refused why shut) d r =
+    ap (λ places. session_at places n) r.2.2.sessions ∙ others_stay old.sessions other _ r.0 r.1 n (λ e. d (sym e))
+
+other_keeps : (n : ℕ) (old new : NodeState) → OtherSessionStep n old new → session_at new.sessions n ≡ session_at old.sessions n
+other_keeps n old new h = elim h.2 [
+  | inl opens ↦ opens.1.others n (λ e. h.1 (sym e))
+  | inr there ↦ elim there.1 [
+    | inl told ↦ responds_keeps n h.0 old new told.0 told.1 h.1 told.2
+    | inr shut ↦
+        let s = open_is (session_at old.sessions h.0) there.0 in
+        ap (λ (node : NodeState). session_at node.sessions n) shut ∙ others_stay old.sessions h.0 None s.0 s.1 n (λ e. h.1 (sym e))
+  ]
+]
+
+move_keeps : (n : ℕ) (old new : NodeState) → OtherStep n old new → session_at new.sessions n ≡ session_at old.sessions n
+move_keeps n old new h = elim h [
+  | inl delivered ↦ ap (λ places. session_at places n) delivered.2.sessions
+  | inr more ↦ elim more [ inl drained ↦ ap (λ places. session_at places n) drained.1.sessions | inr other ↦ other_keeps n old new other ]
+]
+
+times_keep : (n k : ℕ) (old new : NodeState) → OtherSteps n k old new → session_at new.sessions n ≡ session_at old.sessions n
+times_keep n zero old new h = ap (λ (node : NodeState). session_at node.sessions n) h
+times_keep n (suc k) old new h = times_keep n k h.0 new h.2 ∙ move_keeps n old h.0 h.1
+
+-- a session is what it was, whatever came beside it
+pub meanwhile_keeps : (n : ℕ) (old new : NodeState) → SomeOtherSteps n old new → session_at new.sessions n ≡ session_at old.sessions n
+meanwhile_keeps n old new h = times_keep n h.0 old new h.1
+
+pub open_meanwhile : (n : ℕ) (old new : NodeState) → SomeOtherSteps n old new → IsOpen old.sessions n → IsOpen new.sessions n
+open_meanwhile n old new h o = subst (λ (s : Option Session). IsSome s) (sym (meanwhile_keeps n old new h)) o
+
+pub going_meanwhile : (n : ℕ) (old new : NodeState) → SomeOtherSteps n old new → IsGoing old n → IsGoing new n
+going_meanwhile n old new h g = (g.0, meanwhile_keeps n old new h ∙ g.1, g.2)
+
+pub idles_meanwhile : (n : ℕ) (old new : NodeState) → SomeOtherSteps n old new → idling_at new n ≡ idling_at old n
+idles_meanwhile n old new h = ap tag_of_idling (meanwhile_keeps n old new h)
+
+-- nothing came
+pub nothing_came : (n : ℕ) (node : NodeState) → SomeOtherSteps n node node
+nothing_came n node = (zero, refl)
+
+-- one thing came
+pub once : (n : ℕ) (old new : NodeState) → OtherStep n old new → SomeOtherSteps n old new
+once n old new h = (suc zero, (new, h, refl))
+
+-- a session that logged out doesn't go on where it is closed
+pub closed_stops : (node : NodeState) (n : ℕ) → HasLoggedOut node n → IsGoing (with_session_closed node n) n → ⊥
+closed_stops node n out g =
+    let e : ◌≡◌ {A = Option Session} None (Some g.0) = sym (session_put node.sessions n None out.0 out.1) ∙ g.1 in
+    cc
+
+-- an operation was handed on
+pub handed : (old new : NodeState) (op : Op) (r : Result Delivered DeliverFault) → MatchResult r (λ d. Delivers old op d.arrival new) (λ e. IsRefusedAt old op e) → OnErr r (new ≡ old) → IsHanded old op new
+handed old new op (Ok d) m e = inl (d.arrival, m)
+handed old new op (Err why) m e = inr (why, m, e)
+
+pub handed_beside : (n : ℕ) (old new : NodeState) (op : Op) → IsHanded old op new → SomeOtherSteps n old new
+handed_beside n old new op h = elim h [
+  | inl taken ↦ once n old new (inl (op, taken.0, taken.1))
+  | inr refused ↦ subst (λ (node : NodeState). SomeOtherSteps n old node) (sym refused.2) (nothing_came n old)
+]
+
+-- the last of those that are left was handed on; or there is none
+pub last_handed : (ops left : List Op) (popped : Option Op) (node mid : NodeState) (op : Op) → ops ≡ left ++ option_to_list popped → popped ≡ Some op → IsHanded node op mid
+    → LastIsHanded ops node mid left
+last_handed ops left popped node mid op e s h = inr (op, subst (λ (o : Option Op). ops ≡ left ++ option_to_list o) s e, h)
+
+pub none_handed : (ops left : List Op) (popped : Option Op) (node : NodeState) → ops ≡ left ++ option_to_list popped → popped ≡ None → length ops ≡ 0 → LastIsHanded ops node node left
+none_handed [] [] popped node e n l = inl (refl, refl, refl)
+none_handed [] (op ∷ left) popped node e n l = let k : ◌≡◌ {A = List Op} [] (op ∷ (left ++ option_to_list popped)) = e in cc
+none_handed (op ∷ ops) left popped node e n l = let k : suc (length ops) ≡ 0 = l in cc

@@ -1,0 +1,61 @@
+use Rattle.std.specs.Prelude.{◌≡◌, ◌⊎◌, ℕ, Bool, true, false, List, [], ◌∷◌, ◌++◌, map, None, Result, Ok, Err}
+use Rattle.std.specs.List.{list_all}
+use Rattle.imap_answers.specs.declared.answer.Answer.{Answer}
+use Rattle.imap_lex.specs.declared.item.Item.{Item}
+use Rattle.imap_node.specs.declared.reply.Reply.{Reply}
+use Rattle.imap_syntax.specs.declared.command.Command.{Command}
+use Rattle.imap_syntax.specs.declared.command.Command.TheVariants as commands
+use Rattle.imap_syntax.specs.declared.command.Tagged.{Tagged}
+use Rattle.imap_connection.specs.PortCalls.{PortCall}
+use Rattle.imap_connection.specs.PortCalls as asked
+use Rattle.imap_connection.specs.Conversation.{IsPrefixOf}
+use Rattle.imap_connection.specs.Endings.{ended_by}
+use Rattle.imap_connection.specs.RequestSteps.{IsRequest}
+use Rattle.imap_connection.specs.Replies.{answers_of}
+use Rattle.imap_connection.specs.declared.end_of_conversation.Ended.{Ended}
+use Rattle.imap_connection.specs.declared.end_of_conversation.Ended.TheVariants.{NoMemory}
+use Rattle.imap_connection.specs.declared.fault.PortFault.{PortFault}
+use Rattle.imap_connection.specs.declared.request.Request.TheVariants as requests
+
+-- A command that issues nothing, and whose own answer looks at no mailbox.
+abbrev pub is_brief : Command → Bool
+is_brief commands.Noop = true
+is_brief commands.Capability = true
+is_brief commands.Namespace = true
+is_brief (commands.Enable names) = true
+is_brief _ = false
+
+abbrev pub are_brief : List Tagged → Bool
+are_brief all = list_all (λ (tagged : Tagged). is_brief tagged.command) all
+
+abbrev pub tags_of : List Tagged → List (List ℕ)
+tags_of all = map (λ (tagged : Tagged). tagged.tag) all
+
+-- The answers to commands with these tags, as far as there are replies to them.
+abbrev pub answers_by : List (List ℕ) → List Reply → List Answer
+answers_by (tag ∷ tags) (reply ∷ replies) = answers_of tag reply ++ answers_by tags replies
+answers_by tags replies = []
+
+-- These items are these commands, in a session that doesn't idle.
+abbrev pub AreAsked : List Item → List Tagged → Type 0
+AreAsked [] [] = Unit {0}
+AreAsked (item ∷ items) (tagged ∷ all) = IsRequest None item (requests.Command tagged) × AreAsked items all
+AreAsked items all = ⊥
+
+-- What a command or a line of IDLE makes of the port.
+module _ {S : Type 0} (steps : S → PortCall → Result Reply PortFault → S → Type 0) where
+  -- The port was given these commands, one behind another, and replied so; a fault came of the first without a reply, and none behind it was given.
+  abbrev pub Carries : S → List Tagged → List Reply → Result (Unit {0}) PortFault → S → Type 0
+  Carries old [] [] (Ok all) new = new ≡ old
+  Carries old (tagged ∷ rest) [] (Err fault) new = steps old (asked.Command tagged) (Err fault) new
+  Carries old (tagged ∷ rest) (reply ∷ replies) given new = (mid : S) × steps old (asked.Command tagged) (Ok reply) mid × Carries mid rest replies given new
+  Carries old all replies given new = ⊥
+
+  -- Commands that were given at once end the conversation so, behind these answers: memory was wanting before any was given; the port gave no reply to one of them; or
+  -- memory was wanting for an answer behind some of the first, and then all were given.
+  abbrev pub Falters : S → List Tagged → Ended → List Answer → S → Type 0
+  Falters old all ended told new =
+      ((ended ≡ NoMemory) × (told ≡ []) × (new ≡ old))
+      ⊎ ((replies : List Reply) × (given : Result (Unit {0}) PortFault) × Carries old all replies given new
+      × (((fault : PortFault) × (given ≡ Err fault) × (ended ≡ ended_by fault) × (told ≡ answers_by (tags_of all) replies))
+      ⊎ ((ended ≡ NoMemory) × IsPrefixOf told (answers_by (tags_of all) replies))))

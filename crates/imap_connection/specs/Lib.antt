@@ -1,0 +1,15 @@
+pub mod PortCalls
+pub mod Batches
+pub mod Conversation
+pub mod Conversing
+pub mod Devices
+pub mod Dumps
+pub mod Endings
+pub mod FaultAnswers
+pub mod RequestSteps
+pub mod NodePorts
+pub mod NodeTalks
+pub mod Replies
+pub mod Requests
+pub mod Streams
+pub mod Talks

@@ -1,0 +1,107 @@
+use Rattle.std.specs.Prelude.{◌≡◌, ◌⊎◌, ℕ, List, [], ◌∷◌, ◌++◌, Option, Some, None, Result, Ok, Err}
+use Rattle.causal_inbox.specs.declared.delivery.Arrival.{Arrival}
+use Rattle.causal_inbox.specs.declared.delivery.DeliverFault.{DeliverFault}
+use Rattle.crdt_ops.specs.declared.op.Op.{Op}
+use Rattle.imap_answers.specs.declared.fixed_words.Login.{Login}
+use Rattle.imap_answers.specs.declared.fixed_words.Login.TheVariants.{Given, Wanted}
+use Rattle.imap_node.specs.Deliveries.{Delivers, IsRefusedAt}
+use Rattle.imap_node.specs.Nodes.{NodeState, with_session_closed}
+use Rattle.imap_node.specs.Responses.{Responds}
+use Rattle.imap_node.specs.Sessions.{IsOpen, Opens}
+use Rattle.imap_node.specs.Steps.{IsFull}
+use Rattle.imap_node.specs.declared.input.Input.{Input}
+use Rattle.imap_node.specs.declared.input.Input.TheVariants as inputs
+use Rattle.imap_node.specs.declared.reply.Reply.{Reply}
+use Rattle.imap_node.specs.declared.sessions.Auth.{Auth}
+use Rattle.imap_node.specs.declared.sessions.Auth.TheVariants.{Preauth, Password}
+use Rattle.imap_connection.specs.Streams.{SomeOtherSteps}
+use Rattle.imap_connection.specs.PortCalls.{PortCall}
+use Rattle.imap_connection.specs.PortCalls as asked
+use Rattle.imap_connection.specs.declared.fault.PortFault.{PortFault}
+use Rattle.imap_connection.specs.declared.fault.PortFault.TheVariants.{NoMemory, PassedOver, TooManySessions}
+
+-- A node, how the user of its session is to become known until it was asked to open it, the session that was opened there, and the others who come to the
+-- node.
+pub record NodeSession (O : Type 0) : Type 0 where
+  pub node : NodeState
+  pub auth : Option Auth
+  pub session : Option ℕ
+  pub others : O
+
+-- No session is open.
+abbrev pub IsAway : {O : Type 0} → NodeSession O → Type 0
+IsAway {O} s = (n : ℕ) → s.session ≡ Some n → IsOpen s.node.sessions n → ⊥
+
+-- What a greeting says of a user who becomes known so (RFC 9051, section 7.1.4).
+abbrev pub login_by : Auth → Login
+login_by Preauth = Given
+login_by (Password credentials) = Wanted
+
+-- Why no session was opened: all numbers are open; memory was wanting; or it was asked for before.
+abbrev pub IsUnopened : {O : Type 0} → NodeSession O → PortFault → Type 0
+IsUnopened {O} old TooManySessions = IsFull old.node
+IsUnopened {O} old NoMemory = Unit {0}
+IsUnopened {O} old PassedOver = old.auth ≡ None
+IsUnopened {O} old fault = ⊥
+
+-- What a node makes of the beginning of a session: it is opened for a user who becomes known just so, or nothing changes at the node. It is asked for once.
+abbrev pub NodeOpens : {O : Type 0} → NodeSession O → Result Login PortFault → NodeSession O → Type 0
+NodeOpens {O} old (Err fault) new = (new.node ≡ old.node) × (new.session ≡ old.session) × (new.others ≡ old.others) × (new.auth ≡ None) × IsUnopened old fault
+NodeOpens {O} old (Ok login) new =
+    (auth : Auth) × (n : ℕ) × (login ≡ login_by auth) × (new.session ≡ Some n) × Opens old.node.sessions auth n new.node.sessions
+    × (new.node ≡ record old.node { sessions = new.node.sessions }) × (new.others ≡ old.others) × (old.auth ≡ Some auth) × (new.auth ≡ None)
+
+-- What others do in a turn: they stand so before it, and come to a node beside the session with a number; the session's next command comes at a moment; the
+-- node is so behind it, and they stand so.
+module _ {O : Type 0} (comes : O → ℕ → NodeState → ℕ → NodeState → O → Type 0) where
+  -- Others took a turn at the node of a port, beside its session: what came to the node is just what they do, and it is deliveries and what other sessions do.
+  pub record TakesTurn (old : NodeSession O) (n : ℕ) (moment : ℕ) (mid : NodeState) (others : O) : Type 0 where
+    pub beside : SomeOtherSteps n old.node mid
+    pub just : comes old.others n old.node moment mid others
+
+  -- Others took a turn, and then the node responded to what the port was asked, as defined.
+  pub record RespondsTo (old : NodeSession O) (input : ℕ → Input) (reply : Reply) (new : NodeSession O) : Type 0 where
+    pub number : ℕ
+    pub moment : ℕ
+    pub mid : NodeState
+    pub opened : old.session ≡ Some number
+    pub turn : TakesTurn old number moment mid new.others
+    pub responds : Responds mid number (input moment) reply new.node
+    pub session : new.session ≡ Some number
+    pub auth : new.auth ≡ old.auth
+
+  -- What a node makes of a call, and what it replies. Nothing changes where no session is open.
+  abbrev pub NodeSteps : NodeSession O → PortCall → Result Reply PortFault → NodeSession O → Type 0
+  NodeSteps old call (Err fault) new = (fault ≡ PassedOver) × (new ≡ old) × IsAway old
+  NodeSteps old (asked.Command tagged) (Ok reply) new = RespondsTo old (λ moment. inputs.Command moment tagged) reply new
+  NodeSteps old (asked.Line line) (Ok reply) new = RespondsTo old (λ moment. inputs.Line line) reply new
+
+  -- Others took a turn, and then the session was closed.
+  pub record Shuts (old : NodeSession O) (new : NodeSession O) : Type 0 where
+    pub number : ℕ
+    pub moment : ℕ
+    pub mid : NodeState
+    pub opened : old.session ≡ Some number
+    pub there : IsOpen old.node.sessions number
+    pub turn : TakesTurn old number moment mid new.others
+    pub closes : new.node ≡ with_session_closed mid number
+    pub session : new.session ≡ None
+    pub auth : new.auth ≡ old.auth
+
+  -- What a node makes of the end: the session is closed, if one is open.
+  abbrev pub NodeCloses : NodeSession O → NodeSession O → Type 0
+  NodeCloses old new = (IsAway old × (new ≡ old)) ⊎ Shuts old new
+
+-- ---- others
+
+-- Nobody else comes, and commands come at this moment.
+abbrev pub NobodyComes : ℕ → ℕ → NodeState → ℕ → NodeState → ℕ → Type 0
+NobodyComes old n node moment mid new = (moment ≡ old) × (mid ≡ node) × (new ≡ old)
+
+-- A node was handed an operation, which it took, or refused, and then it is as it was.
+abbrev pub IsHanded : NodeState → Op → NodeState → Type 0
+IsHanded node op mid = ((arrival : Arrival) × Delivers node op arrival mid) ⊎ ((why : DeliverFault) × IsRefusedAt node op why × (mid ≡ node))
+
+-- Of these operations the last was handed to the node, and those before it are left; or there are none.
+abbrev pub LastIsHanded : List Op → NodeState → NodeState → List Op → Type 0
+LastIsHanded ops node mid left = ((ops ≡ []) × (left ≡ []) × (mid ≡ node)) ⊎ ((op : Op) × (ops ≡ left ++ op ∷ []) × IsHanded node op mid)

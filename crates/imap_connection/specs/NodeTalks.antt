@@ -1,0 +1,81 @@
+use Rattle.std.specs.Prelude.{◌≡◌, ℕ, Option, Some, List, [], ◌∷◌, ◌++◌, map, Ok}
+use Rattle.std.specs.List.{flat_map}
+use Rattle.imap_answers.specs.Printed.{text_of_answer}
+use Rattle.imap_answers.specs.declared.answer.Answer.TheVariants.{Greeting}
+use Rattle.imap_lex.specs.Framing.{cut_onward, start}
+use Rattle.imap_lex.specs.declared.fault.FrameFaultKind.TheVariants.{LineTooLong, LiteralTooLong, NulByte}
+use Rattle.imap_lex.specs.declared.item.Item.{Item}
+use Rattle.imap_lex.specs.declared.limits.Limits.{Limits}
+use Rattle.imap_node.specs.Nodes.{HasLoggedOut, IsGoing, NodeState, with_session_closed}
+use Rattle.imap_node.specs.Sessions.{Opens}
+use Rattle.imap_node.specs.declared.sessions.Auth.{Auth}
+use Rattle.imap_connection.specs.Conversation.{item_at}
+use Rattle.imap_connection.specs.Replies.{idling_at}
+use Rattle.imap_connection.specs.Streams.{ConversesBetweenOthers, SomeOtherSteps, ItemsAt}
+use Rattle.imap_connection.specs.declared.turn.Turn.{Turn}
+use Rattle.imap_connection.specs.declared.turn.Turn.TheVariants.{Got, Sent}
+use Rattle.imap_connection.specs.Endings.{bye_text_of}
+use Rattle.imap_connection.specs.NodePorts.{NodeSession, login_by}
+use Rattle.imap_connection.specs.declared.end_of_conversation.Ended.{Ended}
+use Rattle.imap_connection.specs.declared.end_of_conversation.Ended.TheVariants.{Logout, PeerClosed, Framing, ReadFailed}
+
+-- What a conversation's turns send, one behind the other.
+abbrev pub text_of_turn : Turn → List ℕ
+text_of_turn (Got octets) = []
+text_of_turn (Sent octets) = octets
+
+abbrev pub text_sent : List Turn → List ℕ
+text_sent turns = flat_map text_of_turn turns
+
+-- The session with this number was opened, goes on, and idles with this tag or doesn't.
+pub record IsOpenSession {O : Type 0} (port : NodeSession O) (n : ℕ) (idling : Option (List ℕ)) : Type 0 where
+  pub session : port.session ≡ Some n
+  pub going : IsGoing port.node n
+  pub idles : idling_at port.node n ≡ idling
+
+-- An end behind all that the client sent, or behind a LOGOUT: memory was not wanting, nor did a write fail.
+abbrev pub IsWhole : Ended → Type 0
+IsWhole Logout = Unit {0}
+IsWhole PeerClosed = Unit {0}
+IsWhole ReadFailed = Unit {0}
+IsWhole (Framing LineTooLong) = Unit {0}
+IsWhole (Framing LiteralTooLong) = Unit {0}
+IsWhole (Framing NulByte) = Unit {0}
+IsWhole ended = ⊥
+
+-- An item, with the node and the moment at which it came.
+pub record ItemAt : Type 0 where
+  pub node : NodeState
+  pub moment : ℕ
+  pub item : Item
+
+-- A stretch of its own for each item: others may come to the node between any two.
+abbrev pub items_at_one : ItemAt → ItemsAt
+items_at_one came = record { node = came.node; items = item_at came.moment came.item ∷ [] }
+
+abbrev pub items_at_each_one : List ItemAt → List ItemsAt
+items_at_each_one all = map items_at_one all
+
+-- The items without their nodes and moments.
+abbrev pub items_of : List ItemAt → List Item
+items_of all = map (λ (came : ItemAt). came.item) all
+
+-- The node has had the conversation over these items, with these turns, while others came between any two, and closed the session, before which others may have
+-- come too: behind a LOGOUT, or at the end of the items.
+abbrev pub Closes : Ended → NodeState → ℕ → List ItemsAt → List Turn → NodeState → Type 0
+Closes Logout first n given turns new =
+    (out : NodeState) × (last : NodeState) × HasLoggedOut out n × ConversesBetweenOthers first n given turns (with_session_closed out n) × SomeOtherSteps n out last × (new ≡ with_session_closed last n)
+Closes ended first n given turns new = (last : NodeState) × ConversesBetweenOthers first n given turns last × IsGoing last n × (new ≡ with_session_closed last n)
+
+-- A session is opened at a node for a user who becomes known so, and has the node's conversation over the items that these octets give, each at the moment and at
+-- the node to which it came; it is closed; and what is said is the greeting, what the turns send, and the BYE of the end.
+pub record TalksAtNode (old : NodeState) (auth : Auth) (limits : Limits) (octets : List ℕ) (ended : Ended) (said : List ℕ) (new : NodeState) : Type 0 where
+  pub session : ℕ
+  pub first : NodeState
+  pub opens : Opens old.sessions auth session first.sessions
+  pub first_is : first ≡ record old { sessions = first.sessions }
+  pub came : List ItemAt
+  pub items : items_of came ≡ (cut_onward limits (Ok start) octets).0
+  pub turns : List Turn
+  pub closes : Closes ended first session (items_at_each_one came) turns new
+  pub said_is : said ≡ text_of_answer (Greeting (login_by auth)) ++ text_sent turns ++ bye_text_of ended

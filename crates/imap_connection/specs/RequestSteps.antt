@@ -1,0 +1,73 @@
+use Rattle.std.specs.Prelude.{◌≡◌, ◌⊎◌, ℕ, false, Option, Some, None, List, [], ◌∷◌}
+use Rattle.imap_syntax.specs.Commands.{IsSpelled}
+use Rattle.imap_syntax.specs.Faults.{HasTag, IsTagged}
+use Rattle.imap_grammar.specs.declared.fault.ParseFault.{ParseFault}
+use Rattle.imap_grammar.specs.declared.fault.ParseFault.TheVariants as faults
+use Rattle.imap_answers.specs.declared.answer.Answer.{Answer}
+use Rattle.imap_answers.specs.declared.answer.Answer.TheVariants as answers
+use Rattle.imap_answers.specs.declared.fixed_words.ByeReason.TheVariants as reasons
+use Rattle.imap_answers.specs.declared.fixed_words.Continuation.TheVariants as continuations
+use Rattle.imap_answers.specs.declared.fixed_words.Refusal.{Refusal}
+use Rattle.imap_answers.specs.declared.fixed_words.Refusal.TheVariants as refusals
+use Rattle.imap_lex.specs.declared.item.Item.{Item}
+use Rattle.imap_lex.specs.declared.item.Item.TheVariants.{Ready, Frame, Refused}
+use Rattle.imap_node.specs.Nodes.{NodeState}
+use Rattle.imap_node.specs.Responses.{Responds}
+use Rattle.imap_node.specs.declared.input.Input.TheVariants as inputs
+use Rattle.imap_node.specs.declared.reply.Reply.{Reply}
+use Rattle.imap_connection.specs.Conversation.{IsPrefixOf, IsLine, turns_of_answers}
+use Rattle.imap_connection.specs.FaultAnswers.{IsFaultAnswer, IsLiteralAnswer}
+use Rattle.imap_connection.specs.Replies.{answers_of, is_without_memory}
+use Rattle.imap_connection.specs.declared.request.Request.{Request}
+use Rattle.imap_connection.specs.declared.request.Request.TheVariants.{Told, Command, Line}
+use Rattle.imap_connection.specs.declared.turn.TalkFaultKind.{TalkFaultKind}
+use Rattle.imap_connection.specs.declared.turn.TalkFaultKind.TheVariants as kinds
+use Rattle.imap_connection.specs.declared.turn.Turn.{Turn}
+
+-- The steps in which the code takes an item. `Conversation` says what the node makes of one.
+
+-- What an item is to a session that idles with this tag, or doesn't: the leave to go on with a literal, the answer to a fault, or
+-- to a front that is refused for its literal; the command that it spells; or a line (RFC 2177, section 3).
+abbrev pub IsRequest : Option (List ℕ) → Item → Request → Type 0
+IsRequest idling Ready (Told answer) = answer ≡ answers.Continue continuations.Ready
+IsRequest None (Frame octets) (Told answer) = IsFaultAnswer octets answer
+IsRequest None (Frame octets) (Command tagged) = IsSpelled tagged octets
+IsRequest None (Refused octets) (Told answer) = IsLiteralAnswer octets answer
+IsRequest (Some tag) (Frame octets) (Line own line) = (own ≡ tag) × IsLine (Frame octets) line
+IsRequest (Some tag) (Refused octets) (Line own line) = (own ≡ tag) × IsLine (Refused octets) line
+IsRequest idling item request = ⊥
+
+-- The node carries out what it is asked, and gives these answers.
+abbrev pub Handles : NodeState → ℕ → ℕ → Request → List Answer → NodeState → Type 0
+Handles old session moment (Told answer) given new = (given ≡ answer ∷ []) × (new ≡ old)
+Handles old session moment (Command tagged) given new =
+    (reply : Reply) × Responds old session (inputs.Command moment tagged) reply new × (given ≡ answers_of tagged.tag reply)
+Handles old session moment (Line tag line) given new =
+    (reply : Reply) × Responds old session (inputs.Line line) reply new × (is_without_memory reply ≡ false) × (given ≡ answers_of tag reply)
+
+-- Whether a request is a line of IDLE.
+abbrev pub IsOfLine : Request → Type 0
+IsOfLine (Line tag line) = Unit {0}
+IsOfLine _ = ⊥
+
+-- Memory breaks the answers off: the request was not carried out, or it was, and some of its turns are there; or it is a line that was
+-- refused.
+abbrev pub Fails : TalkFaultKind → NodeState → ℕ → ℕ → Request → List Turn → NodeState → Type 0
+Fails kinds.NoMemory old session moment request front new =
+    ((front ≡ []) × (new ≡ old)) ⊎ ((given : List Answer) × Handles old session moment request given new × IsPrefixOf front (turns_of_answers given))
+Fails kinds.LineRefused old session moment request front new = IsOfLine request × (front ≡ turns_of_answers (answers.Bye reasons.NoMemory ∷ [])) × (new ≡ old)
+Fails (kinds.Framing why) old session moment request front new = ⊥
+
+-- The reason that a fault of the parser gives for a frame with a tag.
+abbrev pub reason_for : ParseFault → Refusal
+reason_for faults.NoTag = refusals.BadSyntax
+reason_for faults.UnknownCommand = refusals.UnknownCommand
+reason_for faults.BadSyntax = refusals.BadSyntax
+reason_for faults.NotInProfile = refusals.NotInProfile
+reason_for faults.NoMemory = refusals.NoMemory
+
+-- The answer to a frame with this fault, by whether the frame has a tag.
+abbrev pub AnswersFault : ParseFault → List ℕ → Answer → Type 0
+AnswersFault why frame answer =
+    ((HasTag frame → ⊥) × (answer ≡ answers.NoTag))
+    ⊎ ((tag : List ℕ) × (rest : List ℕ) × IsTagged frame tag rest × (answer ≡ answers.Refused tag (reason_for why)))

@@ -1,0 +1,101 @@
+use Rattle.std.specs.Prelude.{◌≡◌, ◌⊎◌, ℕ, Bool, true, false, ◌&&◌, Option, Some, None, List, [], ◌∷◌, Result, Ok, Err, if◌then◌else◌}
+use Rattle.std.specs.List.{flat_map}
+use Rattle.imap_answers.specs.Printed.{text_of_answer}
+use Rattle.imap_answers.specs.declared.answer.Answer.{Answer}
+use Rattle.imap_syntax.specs.declared.command.Command.{Command}
+use Rattle.imap_syntax.specs.declared.command.Command.TheVariants as commands
+use Rattle.imap_syntax.specs.declared.command.Tagged.{Tagged}
+use Rattle.imap_syntax.specs.declared.idle.IdleLine.{IdleLine}
+use Rattle.imap_lex.specs.declared.item.Item.{Item}
+use Rattle.imap_node.specs.Commands.{is_idle}
+pub use Rattle.imap_node.specs.Replies.{is_done}
+use Rattle.imap_node.specs.declared.reply.Reply.{Reply}
+use Rattle.imap_connection.specs.Conversation.{IsPrefixOf}
+use Rattle.imap_connection.specs.RequestSteps.{IsRequest}
+use Rattle.imap_connection.specs.Replies.{answers_of, is_without_memory}
+use Rattle.imap_connection.specs.declared.request.Request.{Request}
+use Rattle.imap_connection.specs.declared.request.Request.TheVariants as requests
+use Rattle.imap_connection.specs.declared.request_steps.Asking.{Asking}
+use Rattle.imap_connection.specs.declared.request_steps.Asking.TheVariants.{Later, Now}
+use Rattle.imap_connection.specs.Batches.{is_brief}
+use Rattle.imap_connection.specs.PortCalls.{PortCall}
+use Rattle.imap_connection.specs.PortCalls as asked
+use Rattle.imap_connection.specs.Endings.{ended_by}
+use Rattle.imap_connection.specs.declared.end_of_conversation.Ended.{Ended}
+use Rattle.imap_connection.specs.declared.end_of_conversation.Ended.TheVariants.{Logout, NoMemory}
+use Rattle.imap_connection.specs.declared.fault.PortFault.{PortFault}
+
+-- The text of answers, one behind the other.
+abbrev pub texts : List Answer → List ℕ
+texts answers = flat_map text_of_answer answers
+
+abbrev pub is_logout : Command → Bool
+is_logout commands.Logout = true
+is_logout _ = false
+
+-- The tag of the IDLE that a command and its reply begin.
+abbrev pub idling_after_reply : Tagged → Reply → Option (List ℕ)
+idling_after_reply tagged reply = if is_idle tagged.command && is_done reply then Some tagged.tag else None
+
+-- A LOGOUT was answered OK.
+abbrev pub logs_out : Tagged → Reply → Bool
+logs_out tagged reply = is_logout tagged.command && is_done reply
+
+-- The call that a request makes of the port.
+abbrev pub call_of : Request → Option PortCall
+call_of (requests.Told answer) = None
+call_of (requests.Command tagged) = Some (asked.Command tagged)
+call_of (requests.Line tag line) = Some (asked.Line line)
+
+-- A brief command waits for others behind it, and all else is asked at once.
+abbrev pub IsAskingOf : Request → Asking → Type 0
+IsAskingOf request (Later tagged) = (request ≡ requests.Command tagged) × (is_brief tagged.command ≡ true)
+IsAskingOf request (Now asked) = asked ≡ request
+
+-- Memory was wanting before anything was asked or answered.
+abbrev pub IsUnasked : {S : Type 0} → S → Ended → List Answer → S → Type 0
+IsUnasked {S} old ended given new = (ended ≡ NoMemory) × (given ≡ []) × (new ≡ old)
+
+-- What a command or a line of IDLE makes of the port.
+module _ {S : Type 0} (steps : S → PortCall → Result Reply PortFault → S → Type 0) where
+  -- A session, which idles with this tag or doesn't, makes a request of the port; these are the answers, it idles so behind them, and it has
+  -- logged out or not.
+  abbrev pub Handles : S → Option (List ℕ) → Request → List Answer → S → Option (List ℕ) → Bool → Type 0
+  Handles old idling (requests.Told answer) given new after out = (given ≡ answer ∷ []) × (new ≡ old) × (after ≡ idling) × (out ≡ false)
+  Handles old idling (requests.Command tagged) given new after out =
+      (reply : Reply) × steps old (asked.Command tagged) (Ok reply) new × (given ≡ answers_of tagged.tag reply) × (after ≡ idling_after_reply tagged reply) × (out ≡ logs_out tagged reply)
+  Handles old idling (requests.Line tag line) given new after out =
+      (reply : Reply) × steps old (asked.Line line) (Ok reply) new × (is_without_memory reply ≡ false) × (given ≡ answers_of tag reply) × (after ≡ None) × (out ≡ false)
+
+  -- The port refuses the call, and nothing is answered.
+  abbrev pub IsRefused : S → Request → Ended → List Answer → S → Type 0
+  IsRefused old request ended given new =
+      (call : PortCall) × (fault : PortFault) × (call_of request ≡ Some call) × steps old call (Err fault) new × (ended ≡ ended_by fault) × (given ≡ [])
+
+  -- A line of IDLE is refused for want of memory, and nothing is answered.
+  abbrev pub IsLineRefused : S → Request → Ended → List Answer → S → Type 0
+  IsLineRefused old request ended given new =
+      (line : IdleLine) × (reply : Reply) × (call_of request ≡ Some (asked.Line line)) × steps old (asked.Line line) (Ok reply) new × (is_without_memory reply ≡ true)
+      × (ended ≡ NoMemory) × (given ≡ [])
+
+  -- A request ends the conversation so, behind these answers: a LOGOUT was answered OK; memory was wanting for an answer behind some of the
+  -- first; a line of IDLE was refused for want of memory; or the port gave no reply.
+  abbrev pub Stops : S → Option (List ℕ) → Request → Ended → List Answer → S → Type 0
+  Stops old idling request ended given new =
+      ((ended ≡ Logout) × ((after : Option (List ℕ)) × Handles old idling request given new after true))
+      ⊎ (((ended ≡ NoMemory) × ((all : List Answer) × (after : Option (List ℕ)) × (out : Bool) × Handles old idling request all new after out × IsPrefixOf given all))
+      ⊎ (IsLineRefused old request ended given new
+      ⊎ IsRefused old request ended given new))
+
+  -- Memory was wanting before anything was asked or answered, or a request ends the conversation.
+  abbrev pub Fails : S → Option (List ℕ) → Request → Ended → List Answer → S → Type 0
+  Fails old idling request ended given new = IsUnasked old ended given new ⊎ Stops old idling request ended given new
+
+  -- An item is answered.
+  abbrev pub Takes : S → Option (List ℕ) → Item → List Answer → S → Option (List ℕ) → Bool → Type 0
+  Takes old idling item given new after out = (request : Request) × IsRequest idling item request × Handles old idling request given new after out
+
+  -- The conversation ends at an item: for want of memory before anything was asked; or as its request ends it.
+  abbrev pub StopsAt : S → Option (List ℕ) → Item → Ended → List Answer → S → Type 0
+  StopsAt old idling item ended given new =
+      IsUnasked old ended given new ⊎ ((request : Request) × IsRequest idling item request × Stops old idling request ended given new)

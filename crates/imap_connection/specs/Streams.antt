@@ -1,0 +1,175 @@
+use Rattle.std.specs.Prelude.{◌≡◌, ◌≢◌, ◌⊎◌, ℕ, zero, suc, List, [], ◌∷◌, ◌++◌, map, Result}
+use Rattle.std.specs.List.{flat_map}
+use Rattle.causal_inbox.specs.declared.delivery.Arrival.{Arrival}
+use Rattle.crdt_ops.specs.declared.op.Op.{Op}
+use Rattle.imap_lex.specs.Framing.{FrameProgress, cut_onward}
+use Rattle.imap_lex.specs.declared.fault.FrameFaultKind.{FrameFaultKind}
+use Rattle.imap_lex.specs.declared.item.Item.{Item}
+use Rattle.imap_lex.specs.declared.limits.Limits.{Limits}
+use Rattle.imap_node.specs.Deliveries.{Delivers, Drains}
+use Rattle.imap_node.specs.Nodes.{IsGoing, NodeState, with_session_closed}
+use Rattle.imap_node.specs.Responses.{Responds}
+use Rattle.imap_node.specs.Sessions.{IsOpen, Opens}
+use Rattle.imap_node.specs.declared.input.Input.{Input}
+use Rattle.imap_node.specs.declared.reply.Reply.{Reply}
+use Rattle.imap_node.specs.declared.sessions.Auth.{Auth}
+use Rattle.imap_connection.specs.Conversation.{Converses, TimedItem}
+use Rattle.imap_connection.specs.Talks.{EndsTalk, Talks, TimedCut, cut_at}
+use Rattle.imap_connection.specs.declared.turn.TalkFaultKind.{TalkFaultKind}
+use Rattle.imap_connection.specs.declared.turn.Turn.{Turn}
+
+-- ---- what a stream of octets holds
+
+-- A piece of input, and the moment at which it came.
+pub record Piece : Type 0 where
+  pub moment : ℕ
+  pub octets : List ℕ
+
+-- The octets of all pieces.
+abbrev pub octets_in : List Piece → List ℕ
+octets_in pieces = flat_map (λ (piece : Piece). piece.octets) pieces
+
+-- What the octets of a piece give.
+abbrev pub cut_by : Limits → Result FrameProgress FrameFaultKind → Piece → TimedCut
+cut_by limits state piece = cut_at piece.moment (cut_onward limits state piece.octets)
+
+-- The items that these pieces complete, each at the moment of the piece that completes it.
+abbrev pub items_of : Limits → Result FrameProgress FrameFaultKind → List Piece → List TimedItem
+items_of limits state [] = []
+items_of limits state (piece ∷ pieces) = (cut_by limits state piece).0 ++ items_of limits (cut_by limits state piece).1 pieces
+
+-- What the octets of all pieces give.
+abbrev pub cut_of : Limits → Result FrameProgress FrameFaultKind → List Piece → TimedCut
+cut_of limits state pieces = (items_of limits state pieces, (cut_onward limits state (octets_in pieces)).1)
+
+-- The items without their moments.
+abbrev pub items_without_moments : List TimedItem → List Item
+items_without_moments items = map (λ (came : TimedItem). came.item) items
+
+-- ---- one session alone
+
+-- What calls of talk made of a session, one for each of these pieces of input, where the session went on behind each.
+abbrev pub TalksOn : NodeState → ℕ → Limits → Result FrameProgress FrameFaultKind → List Piece → List Turn → NodeState → Result FrameProgress FrameFaultKind → Type 0
+TalksOn old session limits state [] turns new end = (turns ≡ []) × (new ≡ old) × (end ≡ state)
+TalksOn old session limits state (piece ∷ pieces) turns new end =
+    (first : List Turn) × (mid : NodeState) × (between : Result FrameProgress FrameFaultKind)
+    × Talks old session (cut_by limits state piece) first mid between × IsGoing mid session
+    × ((rest : List Turn) × (turns ≡ first ++ rest) × TalksOn mid session limits between pieces rest new end)
+
+-- Calls of `talk` over a session, one for each of these pieces of input: the node and the framer before the first, the turns that
+-- they gave together, and the node and the framer behind the last.
+pub record Run (P : Type 0) : Type 0 where
+  pub session : ℕ
+  pub limits : Limits
+  pub old : NodeState
+  pub before : Result FrameProgress FrameFaultKind
+  pub pieces : List P
+  pub turns : List Turn
+  pub new : NodeState
+  pub after : Result FrameProgress FrameFaultKind
+
+-- The session went on behind each of the calls.
+abbrev pub IsRun : Run Piece → Type 0
+IsRun run = TalksOn run.old run.session run.limits run.before run.pieces run.turns run.new run.after
+
+-- One more call of `talk`: its piece of input, its turns, and the node and the framer afterwards.
+pub record Call : Type 0 where
+  pub piece : Piece
+  pub turns : List Turn
+  pub new : NodeState
+  pub after : Result FrameProgress FrameFaultKind
+
+-- The call behind a run, which may end the session by a LOGOUT.
+abbrev pub IsCallAfter : {P : Type 0} → Run P → Call → Type 0
+IsCallAfter run call = IsGoing run.new run.session × Talks run.new run.session (cut_by run.limits run.after call.piece) call.turns call.new call.after
+
+-- The call behind a run, which ends the connection so.
+abbrev pub EndsAfter : {P : Type 0} → TalkFaultKind → Run P → Call → Type 0
+EndsAfter why run call = IsGoing run.new run.session × EndsTalk why run.new run.session run.after (cut_by run.limits run.after call.piece) call.turns call.new
+
+-- What all pieces of a run give, and those with the piece of a call behind it.
+abbrev pub cut_in : Run Piece → TimedCut
+cut_in run = cut_of run.limits run.before run.pieces
+
+abbrev pub cut_with : Run Piece → Call → TimedCut
+cut_with run call = cut_of run.limits run.before (run.pieces ++ call.piece ∷ [])
+
+-- The octets of all pieces of a run, and those with the piece of a call behind it.
+abbrev pub octets_with : Run Piece → Call → List ℕ
+octets_with run call = octets_in (run.pieces ++ call.piece ∷ [])
+
+-- ---- with deliveries and other sessions between
+
+-- Another session at the node is opened; or one that is open sends a command or a line of IDLE, or is polled, or is closed.
+abbrev pub OtherSessionStep : ℕ → NodeState → NodeState → Type 0
+OtherSessionStep session old new =
+    (other : ℕ) × (other ≢ session)
+    × (((auth : Auth) × Opens old.sessions auth other new.sessions × (new ≡ record old { sessions = new.sessions }))
+    ⊎ (IsOpen old.sessions other
+    × (((input : Input) × (reply : Reply) × Responds old other input reply new)
+    ⊎ (new ≡ with_session_closed old other))))
+
+-- What comes to a node beside this session: it is handed an operation of another replica, or goes on with those that it
+-- holds, or another session moves.
+abbrev pub OtherStep : ℕ → NodeState → NodeState → Type 0
+OtherStep session old new = ((op : Op) × (arrival : Arrival) × Delivers old op arrival new) ⊎ (((count : ℕ) × Drains old count new) ⊎ OtherSessionStep session old new)
+
+-- So many times, one after another.
+abbrev pub OtherSteps : ℕ → ℕ → NodeState → NodeState → Type 0
+OtherSteps session zero old new = new ≡ old
+OtherSteps session (suc n) old new = (mid : NodeState) × OtherStep session old mid × OtherSteps session n mid new
+
+-- Operations of other replicas and other sessions came meanwhile, if any did.
+abbrev pub SomeOtherSteps : ℕ → NodeState → NodeState → Type 0
+SomeOtherSteps session old new = (n : ℕ) × OtherSteps session n old new
+
+-- A piece of input, and the node to which it comes.
+pub record PieceAt : Type 0 where
+  pub node : NodeState
+  pub piece : Piece
+
+-- The octets of all pieces.
+abbrev pub octets_of_pieces : List PieceAt → List ℕ
+octets_of_pieces visits = flat_map (λ (visit : PieceAt). visit.piece.octets) visits
+
+-- What calls of `talk` made of a session, one for each of these pieces of input, where operations of other replicas and other
+-- sessions came to the node before each, and the session went on behind each.
+abbrev pub TalksBetweenOthers : NodeState → ℕ → Limits → Result FrameProgress FrameFaultKind → List PieceAt → List Turn → NodeState → Result FrameProgress FrameFaultKind → Type 0
+TalksBetweenOthers old session limits state [] turns new end = (turns ≡ []) × SomeOtherSteps session old new × (end ≡ state)
+TalksBetweenOthers old session limits state (visit ∷ visits) turns new end =
+    (first : List Turn) × (mid : NodeState) × (between : Result FrameProgress FrameFaultKind)
+    × SomeOtherSteps session old visit.node × Talks visit.node session (cut_by limits state visit.piece) first mid between × IsGoing mid session
+    × ((rest : List Turn) × (turns ≡ first ++ rest) × TalksBetweenOthers mid session limits between visits rest new end)
+
+-- The same, of a run.
+abbrev pub IsRunBetweenOthers : Run PieceAt → Type 0
+IsRunBetweenOthers run = TalksBetweenOthers run.old run.session run.limits run.before run.pieces run.turns run.new run.after
+
+-- The pieces of a run and of a call behind it.
+abbrev pub pieces_with : Run PieceAt → Call → List PieceAt
+pieces_with run call = run.pieces ++ record { node = run.new; piece = call.piece } ∷ []
+
+-- Items, and the node to which the piece came that completes them.
+pub record ItemsAt : Type 0 where
+  pub node : NodeState
+  pub items : List TimedItem
+
+-- The items that each of these pieces completes.
+abbrev pub items_at_each : Limits → Result FrameProgress FrameFaultKind → List PieceAt → List ItemsAt
+items_at_each limits state [] = []
+items_at_each limits state (visit ∷ visits) =
+    record { node = visit.node; items = (cut_by limits state visit.piece).0 } ∷ items_at_each limits (cut_by limits state visit.piece).1 visits
+
+-- All the items.
+abbrev pub items_in : List ItemsAt → List Item
+items_in given = flat_map (λ (stretch : ItemsAt). items_without_moments stretch.items) given
+
+-- The turns of a conversation over these items, where operations of other replicas and other sessions came to the node between
+-- the pieces that complete them, and nothing within a piece: the items of a piece are answered from the node to which it came, one
+-- after another, up to a LOGOUT answered OK, behind which the rest is dropped.
+abbrev pub ConversesBetweenOthers : NodeState → ℕ → List ItemsAt → List Turn → NodeState → Type 0
+ConversesBetweenOthers old session [] turns new = (turns ≡ []) × SomeOtherSteps session old new
+ConversesBetweenOthers old session (stretch ∷ given) turns new =
+    (first : List Turn) × (mid : NodeState) × SomeOtherSteps session old stretch.node × Converses stretch.node session stretch.items first mid
+    × ((IsGoing mid session × ((rest : List Turn) × (turns ≡ first ++ rest) × ConversesBetweenOthers mid session given rest new))
+    ⊎ ((¬ IsGoing mid session) × (turns ≡ first) × (new ≡ mid)))

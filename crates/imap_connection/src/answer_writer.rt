@@ -1,0 +1,103 @@
+//! What is said to a client, and held back until it is written.
+
+ghost use Rattle.std.specs.Prelude.{◌≡◌, ◌++◌, ◌<◌, ◌+◌, [], false, List, OnOk, OnErr, MatchBool};
+ghost use Rattle.imap_answers.specs.declared.answer.Answer.{Answer};
+ghost use Rattle.imap_connection.specs.Conversation.{IsPrefixOf};
+ghost use Rattle.imap_connection.specs.Replies.{answers_of, refused_answers};
+ghost use Rattle.imap_connection.specs.Devices.{Said, TookSome};
+ghost use Rattle.imap_connection.specs.Requests.{texts};
+
+use crate::io_traits::Sink;
+use imap_answers::{Answer, Notice, Refusal};
+use imap_node::Reply;
+use imap_print::print;
+use imap_types::Octets;
+use std::alloc::{AllocError, Global};
+
+/// How many octets are held back at most behind a whole answer to an item, before they are written.
+const MUCH: usize = 65_536;
+
+/// Adds answers; `Err` behind some of the first, where there is no memory for the next.
+pub fn tell_all(text: &mut Vec<u8>, answers: &[Answer]) -> Result<(), AllocError>
+    ensures ok { OnOk result (text.new.items ≡ text.old.items ++ texts answers.now) }
+    ensures err { OnErr result ((front : List Answer) × (text.new.items ≡ text.old.items ++ texts front) × IsPrefixOf front answers.now) }
+{
+    for answer in answers {
+        print(answer, text)?;
+    }
+    Ok(())
+}
+
+/// Adds the answers of a reply to the command or the IDLE with this tag; `Err` behind some of the first, where there is no memory for the next.
+pub fn tell_reply(
+    alloc: Global,
+    text: &mut Vec<u8>,
+    tag: &Octets,
+    reply: &Reply,
+) -> Result<(), AllocError>
+    ensures ok { OnOk result (text.new.items ≡ text.old.items ++ texts (answers_of tag.now reply.now)) }
+    ensures err { OnErr result ((front : List Answer) × (text.new.items ≡ text.old.items ++ texts front) × IsPrefixOf front (answers_of tag.now reply.now)) }
+{
+    match reply {
+        Reply::Done { answers, .. } => tell_all(text, answers.as_slice()),
+        Reply::Refused { why, closed } => tell_refusal(alloc, text, tag, *why, *closed),
+    }
+}
+
+/// Adds the answers to a refused input; `Err` behind some of the first, where there is no memory for the next.
+fn tell_refusal(
+    alloc: Global,
+    text: &mut Vec<u8>,
+    tag: &Octets,
+    reason: Refusal,
+    closed: bool,
+) -> Result<(), AllocError>
+    ensures ok { OnOk result (text.new.items ≡ text.old.items ++ texts (refused_answers tag.now reason closed)) }
+    ensures err { OnErr result ((front : List Answer) × (text.new.items ≡ text.old.items ++ texts front) × IsPrefixOf front (refused_answers tag.now reason closed)) }
+{
+    let Ok(tag) = tag.copy(alloc) else {
+        return Err(AllocError);
+    };
+    let refused = Answer::Refused { tag, reason };
+    if !closed {
+        return tell_all(text, &[refused]);
+    }
+    tell_all(
+        text,
+        &[
+            Answer::Tell {
+                notice: Notice::Closed,
+            },
+            refused,
+        ],
+    )
+}
+
+/// Writes what is held back; false where the device failed.
+pub fn write_held<K: Sink>(sink: &mut K, text: &mut Vec<u8>) -> bool
+    requires { K.failures sink.old < 18446744073709551615 }
+    ensures said { MatchBool result (Said (K.taken sink.old) text.old.items [] (K.taken sink.new) text.new.items) (TookSome false (K.taken sink.old) text.old.items (K.taken sink.new)) }
+    ensures none { MatchBool result (text.new.items ≡ []) (text.new.items ≡ text.old.items) }
+    ensures failed { MatchBool result (K.failures sink.new ≡ K.failures sink.old) (K.failures sink.new ≡ K.failures sink.old + 1) }
+{
+    if text.is_empty() {
+        return true;
+    }
+    if !sink.write(text) {
+        return false;
+    }
+    text.clear();
+    true
+}
+
+/// Writes what is held back where it is much; false where the device failed.
+pub fn write_much<K: Sink>(sink: &mut K, text: &mut Vec<u8>) -> bool
+    requires { K.failures sink.old < 18446744073709551615 }
+    ensures said { MatchBool result (Said (K.taken sink.old) text.old.items [] (K.taken sink.new) text.new.items) (TookSome false (K.taken sink.old) text.old.items (K.taken sink.new)) }
+    ensures failed { MatchBool result (K.failures sink.new ≡ K.failures sink.old) (K.failures sink.new ≡ K.failures sink.old + 1) }
+{
+    if text.len() < MUCH {
+        return true;
+    }
+    write_held(sink, text)
+}

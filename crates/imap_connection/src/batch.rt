@@ -1,0 +1,122 @@
+//! Brief commands that came one behind another, which are given to the port at once, so that a replica is asked for all of them in one turn.
+
+ghost use Rattle.std.specs.Prelude.{◌≡◌, ◌≤◌, ◌++◌, ◌∷◌, [], true, length, List, Ok, OnOk, OnErr, IfErr};
+ghost use Rattle.imap_answers.specs.declared.answer.Answer.{Answer};
+ghost use Rattle.imap_node.specs.declared.reply.Reply.{Reply};
+ghost use Rattle.imap_connection.specs.Batches.{Carries, Falters, answers_by, is_brief, tags_of};
+ghost use Rattle.imap_connection.specs.Conversation.{IsPrefixOf};
+ghost use Rattle.imap_connection.specs.Endings.{failed_reads, failed_writes};
+ghost use Rattle.imap_connection.specs.Requests.{texts};
+
+use crate::end_of_conversation::{Ended, ended_by};
+use crate::io_traits::Port;
+use crate::answer_writer::tell_reply;
+use imap_node::Reply;
+use imap_syntax::{Command, Tagged};
+use imap_types::Octets;
+use std::alloc::{AllocError, Global};
+use std::marker::Model;
+use std::mem;
+
+/// Brief commands of a session that doesn't idle, which it wasn't given yet, with their tags.
+#[derive(Drop)]
+pub struct Batch {
+    tags: Vec<Octets>,
+    commands: Vec<Tagged>,
+}
+
+impl Model for Batch {
+    ghost use Rattle.std.specs.Prelude.{◌≡◌, List, true};
+    ghost use Rattle.imap_syntax.specs.declared.command.Tagged.{Tagged};
+    ghost use Rattle.imap_connection.specs.Batches.{are_brief, tags_of};
+
+    ghost Value = { List Tagged };
+
+    ghost view = { λ b. b.commands.items };
+
+    ghost invariant = { λ b. record { tags : b.tags.items ≡ tags_of b.commands.items; brief : are_brief b.commands.items ≡ true } };
+}
+
+impl Batch {
+    /// No commands.
+    pub fn new(alloc: Global) -> Batch
+        ensures { result ≡ [] }
+    {
+        Batch {
+            tags: Vec::new(alloc),
+            commands: Vec::new(alloc),
+        }
+    }
+
+    /// Puts a brief command behind the others. `Err`, and no change, where there is no memory for it.
+    pub fn push(&mut self, alloc: Global, tagged: Tagged) -> Result<(), AllocError>
+        requires { is_brief tagged.command ≡ true }
+        ensures ok { OnOk result (self.new ≡ self.old ++ tagged ∷ []) }
+        ensures err { OnErr result (self.new ≡ self.old) }
+    {
+        self.tags.reserve(1)?;
+        self.commands.reserve(1)?;
+        let tag = tagged.tag.copy(alloc)?;
+        self.tags.push_reserved(tag);
+        self.commands.push_reserved(tagged);
+        Ok(())
+    }
+
+    /// Gives the commands to the port, and adds the answers. `Err` where the conversation ends at one of them.
+    pub fn tell<P: Port>(
+        &mut self,
+        alloc: Global,
+        port: &mut P,
+        text: &mut Vec<u8>,
+    ) -> Result<(), Ended>
+        ensures ok { OnOk result ((replies : List Reply) × Carries P.steps port.old self.old replies (Ok tt) port.new × (text.new.items ≡ text.old.items ++ texts (answers_by (tags_of self.old) replies)) × (self.new ≡ [])) }
+        ensures err { IfErr result (λ ended. (told : List Answer) × Falters P.steps port.old self.old ended told port.new × (text.new.items ≡ text.old.items ++ texts told)) }
+        ensures devices { IfErr result (λ ended. (failed_reads ended ≡ 0) × (failed_writes ended ≡ 0)) }
+    {
+        if self.commands.is_empty() {
+            return Ok(());
+        }
+        let Ok(mut replies) = Vec::with_capacity(alloc, self.commands.len()) else {
+            return Err(Ended::NoMemory);
+        };
+        let Batch { tags, commands } = mem::replace(self, Batch::new(alloc));
+        let given = port.commands(alloc, commands, &mut replies);
+        let Ok(()) = tell_replies(alloc, &tags, &replies, text) else {
+            return Err(Ended::NoMemory);
+        };
+        match given {
+            Ok(()) => Ok(()),
+            Err(fault) => Err(ended_by(fault)),
+        }
+    }
+}
+
+/// Adds the answers of replies to commands with these tags; `Err` behind some of the first, where there is no memory for the next.
+fn tell_replies(
+    alloc: Global,
+    tags: &[Octets],
+    replies: &[Reply],
+    text: &mut Vec<u8>,
+) -> Result<(), AllocError>
+    requires { length replies.now ≤ length tags.now }
+    ensures ok { OnOk result (text.new.items ≡ text.old.items ++ texts (answers_by tags.now replies.now)) }
+    ensures err { OnErr result ((front : List Answer) × (text.new.items ≡ text.old.items ++ texts front) × IsPrefixOf front (answers_by tags.now replies.now)) }
+{
+    for i in 0..replies.len() {
+        match tell_reply(alloc, text, &tags[i], &replies[i]) {
+            Ok(()) => {}
+            Err(_) => return Err(AllocError),
+        }
+    }
+    Ok(())
+}
+
+/// Whether a command issues nothing, and looks at no mailbox for its own answer.
+pub fn is_brief(command: &Command) -> bool
+    ensures { result ≡ is_brief command.now }
+{
+    matches!(
+        command,
+        Command::Noop | Command::Capability | Command::Namespace | Command::Enable { .. }
+    )
+}

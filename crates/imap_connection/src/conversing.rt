@@ -1,0 +1,242 @@
+//! A conversation.
+
+ghost use Rattle.std.specs.Prelude.{◌≡◌, ◌<◌, ◌+◌, ◌++◌, ◌⊎◌, ℕ, [], List, Ok, None, OnOk, IfErr, IsOk, MatchBool};
+ghost use Rattle.imap_answers.specs.Printed.{text_of_answer};
+ghost use Rattle.imap_answers.specs.declared.answer.Answer.TheVariants.{Greeting as Greets};
+ghost use Rattle.imap_lex.specs.Framing.{cut_onward, start};
+ghost use Rattle.imap_connection.specs.Devices.{Gave, Said, TookSome};
+ghost use Rattle.imap_connection.specs.Endings.{IsSaid, bye_text_of, failed, failed_reads, failed_writes};
+ghost use Rattle.imap_connection.specs.Conversing.{Converses, Ends, Halts, Holds, IsWritten, Leaves, Talked};
+ghost use Rattle.imap_connection.specs.declared.end_of_conversation.Ended.TheVariants.{ReadFailed, WriteFailed};
+
+use crate::batch::Batch;
+use crate::end_of_conversation::{Ended, bye_text, ended_by};
+use crate::io_traits::{Port, Sink, Source};
+use crate::request_steps::take_item;
+use crate::answer_writer::{write_held, write_much};
+use imap_answers::Login;
+use imap_lex::{FrameFault, Framer, Item, Limits};
+use imap_types::Octets;
+use std::alloc::Global;
+use std::sync::Wait;
+
+/// How many octets are read at once.
+const PIECE: usize = 65_536;
+
+/// What a conversation keeps from one piece of what is read to the next.
+#[derive(Drop)]
+struct Talk {
+    /// Cuts what is read into items.
+    framer: Framer,
+    /// The tag of the session's IDLE, while it idles.
+    idling: Option<Octets>,
+    /// What is said, and held back until it is written.
+    text: Vec<u8>,
+}
+
+/// Holds a conversation with a mail client: opens a session, greets, answers what the client sends, in order, until the conversation
+/// ends, and closes the session. The answers to one piece of what was read are written together, behind the last of them.
+///
+/// `ReadFailed` and `WriteFailed` only where the device failed in this call, `PeerClosed` only where the source told its end,
+/// `Logout` only behind a LOGOUT that was answered OK, `Framing`, `TooManySessions` and `Torn` only where the framer or the port said so. An
+/// answer for which there is no memory ends the conversation behind the whole answers before it.
+pub fn converse<R: Wait, S: Source, K: Sink, P: Port>(
+    rt: &R,
+    alloc: Global,
+    source: &mut S,
+    sink: &mut K,
+    port: &mut P,
+) -> Ended
+    requires source { S.failures source.old < 18446744073709551615 }
+    requires sink { K.failures sink.old < 18446744073709551615 }
+    ensures talked { Talked P.opens P.steps P.closes port.old port.new Limits.STANDARD (S.left source.old) (S.left source.new) (S.is_ended source.new) (K.taken sink.old) (K.taken sink.new) result }
+    ensures reads { ((result ≡ WriteFailed) → ⊥) → S.failures source.new ≡ S.failures source.old + failed_reads result }
+    ensures writes { K.failures sink.new ≡ K.failures sink.old + failed_writes result }
+{
+    let login = match port.open(alloc) {
+        Ok(login) => login,
+        Err(fault) => return write_last(sink, &mut Vec::new(alloc), ended_by(fault)),
+    };
+    let (ended, mut text) = hold_conversation(rt, alloc, login, source, sink, port);
+    port.close(alloc);
+    write_last(sink, &mut text, ended)
+}
+
+/// Writes what is held back and the BYE that names the end, and tells how the conversation ended: `WriteFailed` where the device failed.
+fn write_last<K: Sink>(sink: &mut K, text: &mut Vec<u8>, ended: Ended) -> Ended
+    requires { failed_writes ended ≡ 0 → K.failures sink.old < 18446744073709551615 }
+    ensures written { failed_writes ended ≡ 0 → IsWritten ended (text.old.items ++ bye_text_of ended) result (K.taken sink.old) (K.taken sink.new) }
+    ensures failed { (ended ≡ WriteFailed) → (result ≡ WriteFailed) × (K.taken sink.new ≡ K.taken sink.old) }
+    ensures failures { K.failures sink.new + failed_writes ended ≡ K.failures sink.old + failed_writes result }
+{
+    if matches!(ended, Ended::WriteFailed) {
+        return ended;
+    }
+    if !write_held(sink, text) {
+        return Ended::WriteFailed;
+    }
+    if !write_bye(sink, bye_text(ended)) {
+        return Ended::WriteFailed;
+    }
+    ended
+}
+
+fn write_bye<K: Sink>(sink: &mut K, bye: &[u8]) -> bool
+    requires { K.failures sink.old < 18446744073709551615 }
+    ensures octets { TookSome result (K.taken sink.old) bye.now (K.taken sink.new) }
+    ensures failed { MatchBool result (K.failures sink.new ≡ K.failures sink.old) (K.failures sink.new ≡ K.failures sink.old + 1) }
+{
+    if bye.is_empty() {
+        return true;
+    }
+    sink.write(bye)
+}
+
+/// Greets, and answers what the client sends, until the conversation ends; tells how it ended, and what is held back then.
+fn hold_conversation<R: Wait, S: Source, K: Sink, P: Port>(
+    rt: &R,
+    alloc: Global,
+    login: Login,
+    source: &mut S,
+    sink: &mut K,
+    port: &mut P,
+) -> (Ended, Vec<u8>)
+    requires source { S.failures source.old < 18446744073709551615 }
+    requires sink { K.failures sink.old < 18446744073709551615 }
+    ensures talked { (octets : List ℕ) × (said : List ℕ) × Gave (S.left source.old) octets (S.left source.new)
+        × Holds P.steps port.old login Limits.STANDARD octets result.0 (S.is_ended source.new) said port.new
+        × IsSaid result.0 (K.taken sink.old) [] said (K.taken sink.new) result.1.items }
+    ensures reads { S.failures source.new ≡ S.failures source.old + failed_reads result.0 }
+    ensures writes { K.failures sink.new ≡ K.failures sink.old + failed_writes result.0 }
+{
+    let mut text = Vec::new(alloc);
+    let Ok(()) = text.extend_from_slice(greeting(login)) else {
+        return (Ended::NoMemory, text);
+    };
+    let mut talk = Talk {
+        framer: Framer::new(alloc, Limits::STANDARD),
+        idling: None,
+        text,
+    };
+    let ended = answer_all(rt, alloc, source, sink, port, &mut talk);
+    (ended, talk.text)
+}
+
+#[tactic(auto, unfolding(imap_answers::specs::Printed::line_of_answer))]
+fn greeting(login: Login) -> &'static [u8]
+    ensures { result.now ≡ text_of_answer (Greets login) }
+{
+    match login {
+        Login::Wanted => b"* OK [CAPABILITY IMAP4rev2 IDLE CONDSTORE] ready\r\n",
+        Login::Given => b"* PREAUTH [CAPABILITY IMAP4rev2 IDLE CONDSTORE] ready\r\n",
+    }
+}
+
+/// Answers what the client sends, until the conversation ends.
+fn answer_all<R: Wait, S: Source, K: Sink, P: Port>(
+    rt: &R,
+    alloc: Global,
+    source: &mut S,
+    sink: &mut K,
+    port: &mut P,
+    talk: &mut Talk,
+) -> Ended
+    requires source { S.failures source.old < 18446744073709551615 }
+    requires sink { K.failures sink.old < 18446744073709551615 }
+    requires framer { talk.old.framer ≡ record { limits = Limits.STANDARD; state = Ok start } }
+    requires idling { talk.old.idling ≡ None }
+    ensures talked { (octets : List ℕ) × (said : List ℕ) × Gave (S.left source.old) octets (S.left source.new)
+        × Ends P.steps port.old (cut_onward Limits.STANDARD (Ok start) octets) result (S.is_ended source.new) said port.new
+        × IsSaid result (K.taken sink.old) talk.old.text.items said (K.taken sink.new) talk.new.text.items }
+    ensures reads { S.failures source.new ≡ S.failures source.old + failed_reads result }
+    ensures writes { K.failures sink.new ≡ K.failures sink.old + failed_writes result }
+{
+    let mut piece = [0u8; PIECE];
+    for _ in rt.forever() {
+        if !write_held(sink, &mut talk.text) {
+            return Ended::WriteFailed;
+        }
+        let Some(count) = source.read(&mut piece) else {
+            return Ended::ReadFailed;
+        };
+        if count == 0 {
+            return Ended::PeerClosed;
+        }
+        match answer_piece(alloc, talk, &piece[..count], port, sink) {
+            Ok(()) => {}
+            Err(ended) => return ended,
+        }
+    }
+    unreachable!()
+}
+
+/// Answers what a piece of what was read completes.
+fn answer_piece<K: Sink, P: Port>(
+    alloc: Global,
+    talk: &mut Talk,
+    piece: &[u8],
+    port: &mut P,
+    sink: &mut K,
+) -> Result<(), Ended>
+    requires going { IsOk talk.old.framer.state }
+    requires sink { K.failures sink.old < 18446744073709551615 }
+    ensures limits { talk.new.framer.limits ≡ talk.old.framer.limits }
+    ensures ok { OnOk result ((said : List ℕ) × Converses P.steps port.old talk.old.idling (cut_onward talk.old.framer.limits talk.old.framer.state piece.now).0 said port.new talk.new.idling
+        × Said (K.taken sink.old) talk.old.text.items said (K.taken sink.new) talk.new.text.items) }
+    ensures state { OnOk result ((talk.new.framer.state ≡ (cut_onward talk.old.framer.limits talk.old.framer.state piece.now).1) × IsOk talk.new.framer.state) }
+    ensures err { IfErr result (λ ended. (said : List ℕ) × Halts P.steps port.old talk.old.idling (cut_onward talk.old.framer.limits talk.old.framer.state piece.now) ended said port.new
+        × IsSaid ended (K.taken sink.old) talk.old.text.items said (K.taken sink.new) talk.new.text.items) }
+    ensures devices { IfErr result (λ ended. failed_reads ended ≡ 0) }
+    ensures failures { K.failures sink.new ≡ K.failures sink.old + failed result }
+{
+    match talk.framer.feed(alloc, piece) {
+        Ok(items) => take_all(alloc, port, &mut talk.idling, &items, sink, &mut talk.text),
+        Err(fault) => {
+            let FrameFault { items, why } = fault;
+            if let Err(ended) = take_all(
+                alloc,
+                port,
+                &mut talk.idling,
+                &items,
+                sink,
+                &mut talk.text,
+            ) {
+                return Err(ended);
+            }
+            Err(Ended::Framing(why))
+        }
+    }
+}
+
+/// Answers items in their order, up to one at which the conversation ends.
+fn take_all<K: Sink, P: Port>(
+    alloc: Global,
+    port: &mut P,
+    idling: &mut Option<Octets>,
+    items: &[Item],
+    sink: &mut K,
+    text: &mut Vec<u8>,
+) -> Result<(), Ended>
+    requires { K.failures sink.old < 18446744073709551615 }
+    ensures ok { OnOk result ((said : List ℕ) × Converses P.steps port.old idling.old items.now said port.new idling.new
+        × Said (K.taken sink.old) text.old.items said (K.taken sink.new) text.new.items) }
+    ensures err { IfErr result (λ ended. (said : List ℕ) × Leaves P.steps port.old idling.old items.now ended said port.new
+        × IsSaid ended (K.taken sink.old) text.old.items said (K.taken sink.new) text.new.items) }
+    ensures devices { IfErr result (λ ended. failed_reads ended ≡ 0) }
+    ensures failures { K.failures sink.new ≡ K.failures sink.old + failed result }
+{
+    let mut batch = Batch::new(alloc);
+    for item in items {
+        match take_item(alloc, port, idling, &mut batch, item, text) {
+            Ok(()) => {}
+            Err(ended) => return Err(ended),
+        }
+        if !write_much(sink, text) {
+            return Err(Ended::WriteFailed);
+        }
+    }
+    match batch.tell(alloc, port, text) {
+        Ok(()) => Ok(()),
+        Err(ended) => Err(ended),
+    }
+}

@@ -1,0 +1,99 @@
+//! What comes to a node beside one of its sessions.
+
+ghost use Rattle.std.specs.Prelude.{◌≡◌, ℕ};
+ghost use Rattle.imap_node.specs.Sessions.{IsOpen};
+ghost use Rattle.imap_connection.specs.NodePorts.{IsHanded};
+ghost use Rattle.imap_connection.specs.Streams.{SomeOtherSteps};
+
+use crdt_ops::SoundOp;
+use imap_node::{Node, SessionNo};
+use imap_types::Moment;
+use std::alloc::Global;
+use std::marker::Model;
+
+/// What comes to a node beside one of its sessions: operations of other replicas, and what other sessions do.
+pub trait Others {
+    ghost use Rattle.imap_node.specs.Nodes.{NodeState};
+
+    /// What they do in a turn: who they are before it, the session's number, the node before it, the moment at which the session's next command
+    /// comes, the node behind it, and who they are then.
+    ghost comes: { Self → ℕ → NodeState → ℕ → NodeState → Self → Type 0 };
+
+    /// Has them take a turn at the node, beside a session that is open, and tells the moment at which the session's next command comes.
+    fn come(&mut self, alloc: Global, session: SessionNo, node: &mut Node) -> Moment
+        requires { IsOpen node.old.state.sessions session }
+        ensures beside { SomeOtherSteps session node.old.state node.new.state }
+        ensures just { comes self.old session node.old.state result node.new.state self.new };
+}
+
+/// Nobody else, where all commands come at one moment.
+#[derive(Drop)]
+pub struct NoOthers {
+    moment: Moment,
+}
+
+impl Model for NoOthers {
+    ghost use Rattle.std.specs.Prelude.{ℕ};
+
+    ghost Value = { ℕ };
+
+    ghost view = { λ n. n.moment };
+}
+
+impl NoOthers {
+    /// Nobody else, where all commands come at this moment.
+    pub fn new(moment: Moment) -> NoOthers
+        ensures { result ≡ moment }
+    {
+        NoOthers { moment }
+    }
+}
+
+impl Others for NoOthers {
+    ghost use Rattle.imap_connection.specs.NodePorts.{NobodyComes};
+
+    ghost comes = { NobodyComes };
+
+    fn come(&mut self, _alloc: Global, _session: SessionNo, _node: &mut Node) -> Moment {
+        self.moment
+    }
+}
+
+/// Operations of other replicas, one of which is delivered in each turn, the last first, as long as there are some. All commands come at one
+/// moment.
+#[derive(Drop)]
+pub struct Deliveries {
+    moment: Moment,
+    ops: Vec<SoundOp>,
+}
+
+impl Deliveries {
+    /// These operations, where all commands come at this moment.
+    pub fn new(moment: Moment, ops: Vec<SoundOp>) -> Deliveries
+        ensures moment { result.moment ≡ moment }
+        ensures ops { result.ops.items ≡ ops.items }
+    {
+        Deliveries { moment, ops }
+    }
+}
+
+impl Others for Deliveries {
+    ghost use Rattle.std.specs.Prelude.{◌≡◌};
+    ghost use Rattle.imap_connection.specs.NodePorts.{LastIsHanded};
+
+    ghost comes = { λ d n node moment mid e. (moment ≡ d.moment) × (e.moment ≡ d.moment) × LastIsHanded d.ops.items node mid e.ops.items };
+
+    fn come(&mut self, alloc: Global, _session: SessionNo, node: &mut Node) -> Moment {
+        if let Some(op) = self.ops.pop() {
+            hand(alloc, node, op);
+        }
+        self.moment
+    }
+}
+
+/// Hands an operation to a node, which takes it, or refuses it and stays as it was.
+fn hand(alloc: Global, node: &mut Node, op: SoundOp)
+    ensures { IsHanded node.old.state op node.new.state }
+{
+    let _ = node.deliver(alloc, op);
+}

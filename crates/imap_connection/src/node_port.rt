@@ -1,0 +1,131 @@
+//! A node as a port.
+
+ghost use Rattle.std.specs.Prelude.{◌≡◌, IfNone, IfSome, None, Some};
+ghost use Rattle.imap_node.specs.Sessions.{IsOpen};
+ghost use Rattle.imap_connection.specs.PortCalls.{Command};
+ghost use Rattle.imap_connection.specs.NodePorts.{IsAway, NodeSteps, login_by};
+
+use crate::io_traits::Port;
+use crate::fault::PortFault;
+use crate::interleaving::Others;
+use imap_answers::Login;
+use imap_node::{Auth, Node, OpenFault, Reply, SessionNo};
+use imap_syntax::{IdleLine, Tagged};
+use std::alloc::Global;
+use std::marker::Model;
+
+/// One session of a node, to which others come before each of the session's calls.
+#[derive(Drop)]
+pub struct NodePort<O: Others> {
+    node: Node,
+    auth: Option<Auth>,
+    session: Option<SessionNo>,
+    others: O,
+}
+
+impl<O: Others> Model for NodePort<O> {
+    ghost use Rattle.imap_connection.specs.NodePorts.{NodeSession};
+
+    ghost Value = { NodeSession O };
+
+    ghost view = { λ p. record { node = p.node.state; auth = p.auth; session = p.session; others = p.others } };
+}
+
+impl<O: Others> NodePort<O> {
+    /// A session that is to be opened at this node, once, for a user who becomes known so, and the others who come to the node.
+    pub fn new(node: Node, auth: Auth, others: O) -> NodePort<O>
+        ensures { result ≡ record { node = node.state; auth = Some auth; session = None; others = others } }
+    {
+        NodePort {
+            node,
+            auth: Some(auth),
+            session: None,
+            others,
+        }
+    }
+
+    /// The node.
+    pub fn node(&self) -> &Node
+        ensures { result.now.state ≡ self.now.node }
+    {
+        &self.node
+    }
+
+    /// The session, where it is open.
+    fn open_session(&self) -> Option<SessionNo>
+        ensures some { IfSome result (λ n. (self.now.session ≡ Some n) × IsOpen self.now.node.sessions n) }
+        ensures none { IfNone result (IsAway self.now) }
+    {
+        let session = self.session?;
+        if !self.node.is_open(session) {
+            return None;
+        }
+        Some(session)
+    }
+
+    /// Gives the session, where it is open, a command behind what others do at the node.
+    fn give_command(&mut self, alloc: Global, tagged: Tagged) -> Result<Reply, PortFault>
+        ensures { NodeSteps O.comes self.old (Command tagged) result self.new }
+    {
+        let Some(session) = self.open_session() else {
+            return Err(PortFault::PassedOver);
+        };
+        let moment = self.others.come(alloc, session, &mut self.node);
+        Ok(self.node.command(alloc, session, moment, tagged))
+    }
+}
+
+fn login_by(auth: &Auth) -> Login
+    ensures { result ≡ login_by auth.now }
+{
+    match auth {
+        Auth::Preauth => Login::Given,
+        Auth::Password { .. } => Login::Wanted,
+    }
+}
+
+impl<O: Others> Port for NodePort<O> {
+    ghost use Rattle.imap_connection.specs.NodePorts.{NodeCloses, NodeOpens, NodeSteps};
+
+    ghost opens = { λ s r t. NodeOpens s r t };
+
+    ghost steps = { λ s call r t. NodeSteps O.comes s call r t };
+
+    ghost closes = { λ s t. NodeCloses O.comes s t };
+
+    fn open(&mut self, _alloc: Global) -> Result<Login, PortFault> {
+        let Some(auth) = self.auth.take() else {
+            return Err(PortFault::PassedOver);
+        };
+        let login = login_by(&auth);
+        match self.node.open(auth) {
+            Ok(session) => {
+                self.session = Some(session);
+                Ok(login)
+            }
+            Err(OpenFault::TooManySessions) => Err(PortFault::TooManySessions),
+            Err(OpenFault::NoMemory) => Err(PortFault::NoMemory),
+        }
+    }
+
+    fn command(&mut self, alloc: Global, tagged: Tagged) -> Result<Reply, PortFault> {
+        self.give_command(alloc, tagged)
+    }
+
+    fn done(&mut self, alloc: Global, line: IdleLine) -> Result<Reply, PortFault> {
+        let Some(session) = self.open_session() else {
+            return Err(PortFault::PassedOver);
+        };
+        let _moment = self.others.come(alloc, session, &mut self.node);
+        Ok(self.node.done(alloc, session, line))
+    }
+
+    fn close(&mut self, alloc: Global) {
+        let Some(session) = self.open_session() else {
+            return;
+        };
+        let _ = self.others.come(alloc, session, &mut self.node);
+        self.node.close(session);
+        self.session = None;
+    }
+}

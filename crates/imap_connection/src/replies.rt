@@ -1,0 +1,20 @@
+//! What a node's reply says.
+
+ghost use Rattle.std.specs.Prelude.{◌≡◌};
+ghost use Rattle.imap_connection.specs.Replies.{is_without_memory};
+
+use imap_answers::Refusal;
+use imap_node::Reply;
+
+/// Whether the input was refused for want of memory.
+pub fn is_without_memory(reply: &Reply) -> bool
+    ensures { result ≡ is_without_memory reply.now }
+{
+    matches!(
+        reply,
+        Reply::Refused {
+            why: Refusal::NoMemory,
+            ..
+        }
+    )
+}

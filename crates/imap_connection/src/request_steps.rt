@@ -1,0 +1,211 @@
+//! One item of the framer: what the port is asked, and what is answered.
+
+ghost use Rattle.std.specs.Prelude.{◌≡◌, ◌++◌, ◌∷◌, [], true, false, Some, None, List, ℕ, Option, OnOk, IfErr, if◌then◌else◌};
+ghost use Rattle.imap_answers.specs.declared.answer.Answer.{Answer};
+ghost use Rattle.imap_node.specs.Commands.{is_idle};
+ghost use Rattle.imap_connection.specs.Endings.{failed_reads, failed_writes};
+ghost use Rattle.imap_lex.specs.declared.item.Item.{Item};
+ghost use Rattle.imap_connection.specs.Conversing.{Going, Leaves};
+ghost use Rattle.imap_connection.specs.Requests.{Fails, Handles, IsAskingOf, is_done, is_logout, texts};
+ghost use Rattle.imap_connection.specs.declared.end_of_conversation.Ended.TheVariants.{Logout, NoMemory};
+ghost use Rattle.imap_connection.specs.declared.request.Request.TheVariants as requests;
+
+use crate::batch::{Batch, is_brief};
+use crate::end_of_conversation::{Ended, ended_by};
+use crate::io_traits::Port;
+use crate::replies::is_without_memory;
+use crate::request::{Request, request_of};
+use crate::answer_writer::tell_reply;
+use imap_answers::Answer;
+use imap_lex::Item;
+use imap_node::Reply;
+use imap_print::print;
+use imap_syntax::{Command, IdleLine, Tagged};
+use imap_types::Octets;
+use std::alloc::Global;
+
+/// Takes an item of a session that idles with this tag, or doesn't: a brief command waits behind those in front of it; anything else is asked of the port behind these, and
+/// their answers are added. `Err` where the conversation ends.
+pub fn take_item<P: Port>(
+    alloc: Global,
+    port: &mut P,
+    idling: &mut Option<Octets>,
+    batch: &mut Batch,
+    item: &Item,
+    text: &mut Vec<u8>,
+) -> Result<(), Ended>
+    ensures ok { (first : P) (from : Option (List ℕ)) (items : List Item) (said : List ℕ) → Going P.steps first from items said port.old idling.old batch.old
+        → OnOk result ((more : List ℕ) × Going P.steps first from (items ++ item.now ∷ []) (said ++ more) port.new idling.new batch.new × (text.new.items ≡ text.old.items ++ more)) }
+    ensures err { (first : P) (from : Option (List ℕ)) (items : List Item) (said : List ℕ) → Going P.steps first from items said port.old idling.old batch.old
+        → IfErr result (λ ended. (more : List ℕ) × Leaves P.steps first from (items ++ item.now ∷ []) ended (said ++ more) port.new × (text.new.items ≡ text.old.items ++ more)) }
+    ensures devices { IfErr result (λ ended. (failed_reads ended ≡ 0) × (failed_writes ended ≡ 0)) }
+{
+    let Ok(request) = request_of(alloc, idling.as_ref(), item) else {
+        return Err(Ended::NoMemory);
+    };
+    match asking_of(request) {
+        Asking::Later(tagged) => match batch.push(alloc, tagged) {
+            Ok(()) => Ok(()),
+            Err(_) => Err(Ended::NoMemory),
+        },
+        Asking::Now(request) => {
+            match batch.tell(alloc, port, text) {
+                Ok(()) => {}
+                Err(ended) => return Err(ended),
+            }
+            match take_request(alloc, port, idling, request, text) {
+                Ok(()) => Ok(()),
+                Err(ended) => Err(ended),
+            }
+        }
+    }
+}
+
+/// When a request is asked of the port.
+enum Asking {
+    /// With others behind it: a brief command.
+    Later(Tagged),
+    /// At once.
+    Now(Request),
+}
+
+fn asking_of(request: Request) -> Asking
+    ensures { IsAskingOf request result }
+{
+    match request {
+        Request::Command(tagged) => {
+            if is_brief(&tagged.command) {
+                Asking::Later(tagged)
+            } else {
+                Asking::Now(Request::Command(tagged))
+            }
+        }
+        other => Asking::Now(other),
+    }
+}
+
+fn take_request<P: Port>(
+    alloc: Global,
+    port: &mut P,
+    idling: &mut Option<Octets>,
+    request: Request,
+    text: &mut Vec<u8>,
+) -> Result<(), Ended>
+    ensures ok { OnOk result ((given : List Answer) × Handles P.steps port.old idling.old request given port.new idling.new false × (text.new.items ≡ text.old.items ++ texts given)) }
+    ensures err { IfErr result (λ ended. (given : List Answer) × Fails P.steps port.old idling.old request ended given port.new × (text.new.items ≡ text.old.items ++ texts given)) }
+    ensures devices { IfErr result (λ ended. (failed_reads ended ≡ 0) × (failed_writes ended ≡ 0)) }
+{
+    match request {
+        Request::Told(answer) => tell_answer(answer, text),
+        Request::Command(tagged) => take_command(alloc, port, idling, tagged, text),
+        Request::Line { tag, line } => take_line(alloc, port, idling, tag, line, text),
+    }
+}
+
+/// Adds an answer; `NoMemory`, and no change, where there is no memory for it.
+fn tell_answer(answer: Answer, text: &mut Vec<u8>) -> Result<(), Ended>
+    ensures ok { OnOk result (text.new.items ≡ text.old.items ++ texts (answer ∷ [])) }
+    ensures err { IfErr result (λ ended. (ended ≡ NoMemory) × (text.new.items ≡ text.old.items)) }
+{
+    let told = print(&answer, text);
+    drop(answer);
+    match told {
+        Ok(()) => Ok(()),
+        Err(_) => Err(Ended::NoMemory),
+    }
+}
+
+/// Gives the session a command, and adds the answers.
+fn take_command<P: Port>(
+    alloc: Global,
+    port: &mut P,
+    idling: &mut Option<Octets>,
+    tagged: Tagged,
+    text: &mut Vec<u8>,
+) -> Result<(), Ended>
+    ensures ok { OnOk result ((given : List Answer) × Handles P.steps port.old idling.old (requests.Command tagged) given port.new idling.new false × (text.new.items ≡ text.old.items ++ texts given)) }
+    ensures err { IfErr result (λ ended. (given : List Answer) × Fails P.steps port.old idling.old (requests.Command tagged) ended given port.new × (text.new.items ≡ text.old.items ++ texts given)) }
+    ensures devices { IfErr result (λ ended. (failed_reads ended ≡ 0) × (failed_writes ended ≡ 0)) }
+{
+    // The command is given away, and its tag is wanted behind it.
+    let Ok(tag) = tagged.tag.copy(alloc) else {
+        drop(tagged);
+        return Err(Ended::NoMemory);
+    };
+    let idles = is_idle(&tagged.command);
+    let leaves = is_logout(&tagged.command);
+    let reply = match port.command(alloc, tagged) {
+        Ok(reply) => reply,
+        Err(fault) => {
+            drop(tag);
+            return Err(ended_by(fault));
+        }
+    };
+    let Ok(()) = tell_reply(alloc, text, &tag, &reply) else {
+        drop(reply);
+        drop(tag);
+        return Err(Ended::NoMemory);
+    };
+    let done = is_done(&reply);
+    drop(reply);
+    go_on(idles && done, leaves && done, tag, idling)
+}
+
+fn is_idle(command: &Command) -> bool
+    ensures { result ≡ is_idle command.now }
+{
+    matches!(command, Command::Idle)
+}
+
+fn is_logout(command: &Command) -> bool
+    ensures { result ≡ is_logout command.now }
+{
+    matches!(command, Command::Logout)
+}
+
+fn is_done(reply: &Reply) -> bool
+    ensures { result ≡ is_done reply.now }
+{
+    matches!(reply, Reply::Done { .. })
+}
+
+/// How a conversation goes on behind a command that was answered: in an IDLE with this tag, to its end, or neither.
+fn go_on(idles: bool, leaves: bool, tag: Octets, idling: &mut Option<Octets>) -> Result<(), Ended>
+    ensures idling { idling.new ≡ (if idles then Some tag else None) }
+    ensures ok { OnOk result (leaves ≡ false) }
+    ensures err { IfErr result (λ ended. (ended ≡ Logout) × (leaves ≡ true)) }
+{
+    *idling = if idles { Some(tag) } else { None };
+    if leaves {
+        return Err(Ended::Logout);
+    }
+    Ok(())
+}
+
+/// Gives the session, whose IDLE has this tag, a line, and adds the answers.
+fn take_line<P: Port>(
+    alloc: Global,
+    port: &mut P,
+    idling: &mut Option<Octets>,
+    tag: Octets,
+    line: IdleLine,
+    text: &mut Vec<u8>,
+) -> Result<(), Ended>
+    ensures ok { OnOk result ((given : List Answer) × Handles P.steps port.old idling.old (requests.Line tag line) given port.new idling.new false × (text.new.items ≡ text.old.items ++ texts given)) }
+    ensures err { IfErr result (λ ended. (given : List Answer) × Fails P.steps port.old idling.old (requests.Line tag line) ended given port.new × (text.new.items ≡ text.old.items ++ texts given)) }
+    ensures devices { IfErr result (λ ended. (failed_reads ended ≡ 0) × (failed_writes ended ≡ 0)) }
+{
+    *idling = None;
+    let reply = match port.done(alloc, line) {
+        Ok(reply) => reply,
+        Err(fault) => return Err(ended_by(fault)),
+    };
+    if is_without_memory(&reply) {
+        return Err(Ended::NoMemory);
+    }
+    let Ok(()) = tell_reply(alloc, text, &tag, &reply) else {
+        return Err(Ended::NoMemory);
+    };
+    drop(reply);
+    Ok(())
+}

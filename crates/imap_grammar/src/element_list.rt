@@ -1,0 +1,61 @@
+ghost use Rattle.std.specs.Prelude.{◌≡◌, ◌∷◌, [], length, option_map};
+ghost use Rattle.imap_grammar.specs.Reading.{Gives, listed_at, next_at};
+
+use crate::fault::ParseFault;
+use std::alloc::Global;
+
+/// What reads one value of a list.
+pub trait ListElement {
+    type Value: Drop;
+
+    ghost use Rattle.std.specs.Prelude.{ℕ, List, Option};
+    ghost use Rattle.imap_grammar.specs.Reading.{Gives};
+
+    ghost read_at: { List ℕ → Option (Self.Value × List ℕ) };
+
+    /// The value that stands in front, and the rest.
+    fn read(alloc: Global, octets: &[u8]) -> Result<(Self::Value, &[u8]), ParseFault>
+        ensures { Gives (λ x. (x.0, x.1.now)) result (read_at octets.now) };
+}
+
+/// One or more values with a separator between each two, and the rest.
+pub fn element_list<E: ListElement>(
+    alloc: Global,
+    separator: u8,
+    octets: &[u8],
+) -> Result<(Vec<E::Value>, &[u8]), ParseFault>
+    ensures { Gives (λ x. (x.0.items, x.1.now)) result (listed_at separator E.read_at octets.now) }
+{
+    let mut values = Vec::new(alloc);
+    let (first, mut rest) = E::read(alloc, octets)?;
+    values.push(first)?;
+    // Each turn takes a separator, so there are no more turns than octets.
+    for _ in 0..octets.len() {
+        let Some((value, after)) = next::<E>(alloc, separator, rest)? else {
+            return Ok((values, rest));
+        };
+        values.push(value)?;
+        rest = after;
+    }
+    Ok((values, rest))
+}
+
+/// The value behind a separator, where one stands in front.
+fn next<E: ListElement>(
+    alloc: Global,
+    separator: u8,
+    octets: &[u8],
+) -> Result<Option<(E::Value, &[u8])>, ParseFault>
+    ensures { Gives (λ x. option_map (λ y. (y.0, y.1.now)) x) result (next_at separator E.read_at octets.now) }
+{
+    match octets {
+        [] => Ok(None),
+        [first, rest @ ..] => {
+            if *first != separator {
+                return Ok(None);
+            }
+            let (value, rest) = E::read(alloc, rest)?;
+            Ok(Some((value, rest)))
+        }
+    }
+}

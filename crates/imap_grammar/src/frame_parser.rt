@@ -1,0 +1,101 @@
+ghost use Rattle.std.specs.Prelude.{◌≡◌, ◌↔◌, ◌⊎◌, ℕ, List, IfOk, MatchOption, Ok, Err, option_map};
+ghost use Rattle.imap_syntax.specs.Commands.{IsSpelled};
+ghost use Rattle.imap_syntax.specs.Faults.{HasTag, IsTagged, NamesCommand};
+ghost use Rattle.imap_grammar.specs.Reading.{Gives};
+ghost use Rattle.imap_grammar.specs.CommandReading.{AnswersTag, ended_at, tag_at};
+ghost use Rattle.imap_syntax.specs.declared.command.Tagged.{Tagged};
+ghost use Rattle.imap_grammar.specs.declared.fault.ParseFault.TheVariants.{BadSyntax, NoMemory, NoTag, NotInProfile, UnknownCommand};
+
+use crate::arguments::arguments;
+use crate::fault::ParseFault;
+use crate::scan::{skip, span};
+use crate::grammar_word::find_command;
+use imap_syntax::{OctetClass, Command, CommandWord, Tagged};
+use imap_types::Octets;
+use std::alloc::Global;
+
+/// The command that a whole frame spells, CRLF included.
+///
+/// The faults: `NoTag` and `UnknownCommand` exactly where `specs/Faults.antt` of `imap_syntax` says; `BadSyntax` and `NotInProfile` only
+/// where no command is spelled; `NoMemory` in place of any answer but the first two.
+pub fn parse(alloc: Global, frame: &[u8]) -> Result<Tagged, ParseFault>
+    // What is read is spelled so.
+    ensures found { IfOk result (λ tagged. IsSpelled tagged frame.now) }
+    // What is spelled so is read, unless memory runs out.
+    ensures only { (tagged : Tagged) → IsSpelled tagged frame.now → (result ≡ Ok tagged) ⊎ (result ≡ Err NoMemory) }
+    ensures no_tag { (result ≡ Err NoTag) ↔ (HasTag frame.now → ⊥) }
+    ensures unknown { (result ≡ Err UnknownCommand) ↔ (HasTag frame.now × (NamesCommand frame.now → ⊥)) }
+{
+    parse_frame(alloc, frame)
+}
+
+/// The tag with which a frame begins; `None` where no tag and space stand first.
+pub fn tag_of(frame: &[u8]) -> Option<&[u8]>
+    ensures { MatchOption result (HasTag frame.now → ⊥) (λ tag. (rest : List ℕ) × IsTagged frame.now tag.now rest) }
+{
+    match split_tag(frame) {
+        Some((tag, _)) => Some(tag),
+        None => None,
+    }
+}
+
+/// No frame spells two commands.
+pub fn one_reading()
+    ensures { (this that : Tagged) (frame : List ℕ) → IsSpelled this frame → IsSpelled that frame → this ≡ that }
+{}
+
+fn parse_frame(alloc: Global, frame: &[u8]) -> Result<Tagged, ParseFault>
+    ensures { AnswersTag result (tag_at frame.now) }
+{
+    let Some((tag, rest)) = split_tag(frame) else {
+        return Err(ParseFault::NoTag);
+    };
+    let (letters, rest) = span(OctetClass::Atom, rest);
+    let Some(word) = find_command(letters) else {
+        return Err(ParseFault::UnknownCommand);
+    };
+    let tag = Octets::from_slice(alloc, tag)?;
+    let command = command_to_end(alloc, word, rest)?;
+    Ok(Tagged { tag, command })
+}
+
+fn split_tag(frame: &[u8]) -> Option<(&[u8], &[u8])>
+    ensures { option_map (λ x. (x.0.now, x.1.now)) result ≡ tag_at frame.now }
+{
+    let (tag, rest) = span(OctetClass::Tag, frame);
+    if tag.is_empty() {
+        return None;
+    }
+    match rest {
+        [] => None,
+        [first, rest @ ..] => {
+            if *first != b' ' {
+                return None;
+            }
+            Some((tag, rest))
+        }
+    }
+}
+
+/// The command of this word, with its arguments and CRLF.
+fn command_to_end(alloc: Global, word: CommandWord, octets: &[u8]) -> Result<Command, ParseFault>
+    ensures { Gives (λ x. x) result (ended_at word octets.now) }
+{
+    let (command, rest) = arguments(alloc, word, octets)?;
+    if rest != b"\r\n".as_slice() {
+        drop(command);
+        return Err(trailing_fault(word, rest));
+    }
+    Ok(command)
+}
+
+/// The fault of what stands where the line should end: behind the literal of APPEND, a space begins a form that this
+/// server leaves out (RFC 3502).
+fn trailing_fault(word: CommandWord, octets: &[u8]) -> ParseFault
+    ensures { (result ≡ BadSyntax) ⊎ (result ≡ NotInProfile) }
+{
+    if word == CommandWord::Append && octets.starts_with(b" ") {
+        return ParseFault::NotInProfile;
+    }
+    ParseFault::BadSyntax
+}

@@ -1,0 +1,120 @@
+//! The mark of a literal at the end of a line (RFC 9051, section 4.3).
+
+ghost use Rattle.std.specs.Prelude.{◌≡◌, ◌+◌, ◌-◌, ◌*◌, ◌<◌, ◌^◌, SomeIff};
+ghost use Rattle.std.specs.Char.{is_ascii_digit};
+ghost use Rattle.std.specs.List.{prefix_len};
+ghost use Rattle.imap_lex.specs.Marks.{value_of};
+ghost use Rattle.imap_lex.specs.MarkReading.{closing_at, fit_to_limit, mark_behind, mark_at, line_effect_of};
+
+/// What the end of a line brings.
+#[derive(Clone, Copy)]
+pub(crate) enum LineEffect {
+    /// No mark: the command is whole.
+    Whole,
+    /// A literal of so many octets; with `plus` the client sends it at once.
+    Literal { octets: usize, plus: bool },
+    /// The mark of a literal that passes the limit.
+    TooLong { plus: bool },
+}
+
+/// A mark `{n}` or, with `plus`, `{n+}`.
+#[derive(Clone, Copy)]
+struct Mark {
+    /// n, where a `usize` holds it.
+    octets: Option<usize>,
+    plus: bool,
+}
+
+/// What the end of this line brings, where literals may have `room` octets more.
+pub(crate) fn read_line_effect(line: &[u8], room: usize) -> LineEffect
+    ensures { result ≡ line_effect_of line.now room }
+{
+    let Some(mark) = read_mark(line) else {
+        return LineEffect::Whole;
+    };
+    let plus = mark.plus;
+    match mark.octets {
+        Some(octets) => {
+            if octets <= room {
+                LineEffect::Literal { octets, plus }
+            } else {
+                LineEffect::TooLong { plus }
+            }
+        }
+        None => LineEffect::TooLong { plus },
+    }
+}
+
+/// The mark at the line's end: the first brace that opens one, since none stands within a mark.
+fn read_mark(line: &[u8]) -> Option<Mark>
+    ensures { result ≡ fit_to_limit (mark_at line.now) }
+{
+    let mut rest = line;
+    while let [octet, tail @ ..] = rest {
+        rest = tail;
+        if *octet == b'{' {
+            if let Some(mark) = read_mark_behind(rest) {
+                return Some(mark);
+            }
+        }
+    }
+    None
+}
+
+/// The mark whose brace stands before this text.
+fn read_mark_behind(text: &[u8]) -> Option<Mark>
+    ensures { result ≡ fit_to_limit (mark_behind text.now) }
+{
+    let count = count_digits(text);
+    if count == 0 {
+        return None;
+    }
+    let (digits, closing) = text.split_at(count);
+    let plus = closing_plus(closing)?;
+    Some(Mark {
+        octets: number(digits),
+        plus,
+    })
+}
+
+/// Whether a mark that is closed so has its `+`.
+fn closing_plus(closing: &[u8]) -> Option<bool>
+    ensures { result ≡ closing_at closing.now }
+{
+    if closing == b"}\r\n".as_slice() {
+        Some(false)
+    } else if closing == b"+}\r\n".as_slice() {
+        Some(true)
+    } else {
+        None
+    }
+}
+
+/// How many digits stand at the front of a text.
+fn count_digits(text: &[u8]) -> usize
+    ensures { result ≡ prefix_len is_ascii_digit text.now }
+{
+    text.iter()
+        .take_while(|octet| octet.is_ascii_digit())
+        .count()
+}
+
+/// The number that digits spell, where a `usize` holds it. It may have leading zeros.
+fn number(digits: &[u8]) -> Option<usize>
+    ensures { SomeIff result (value_of 0 digits.now < 2 ^ 64) (value_of 0 digits.now) }
+{
+    let mut number = 0;
+    for digit in digits {
+        number = with_digit(number, *digit)?;
+    }
+    Some(number)
+}
+
+/// The number with one digit more behind it.
+fn with_digit(number: usize, digit: u8) -> Option<usize>
+    ensures { SomeIff result (number * 10 + (digit - 48) < 2 ^ 64) (number * 10 + (digit - 48)) }
+{
+    number
+        .checked_mul(10)?
+        .checked_add(usize::from(digit.saturating_sub(b'0')))
+}

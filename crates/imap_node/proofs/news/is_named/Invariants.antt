@@ -1,6 +1,0 @@
-use Rattle.std.proofs.Common.{◌≡◌, drop}
-use Rattle.imap_node.specs.Feeds.{is_named}
-use Rattle.imap_node.proofs.news.is_named.Given as goal
-
-abbrev pub invariant-loop-folder : goal.invariant-loop-folder
-invariant-loop-folder l = is_named (drop l.folder-index l.folders) l.name ≡ is_named l.folders l.name

@@ -1,0 +1,16 @@
+use Rattle.imap_node.specs.InputEffects.{effect_from}
+use Rattle.imap_node.proofs.plan.answers_to.Goals as goal
+
+pub returns-clause-answered : goal.returns-clause-answered
+returns-clause-answered c =
+    let told = c.in_ok-answers.ensures {u = tt} in
+    record {
+      course = effect_from c.args.session.now.state c.in_ok-course.course;
+      taken = c.in_ok-course.ensures {u = tt};
+      answers = told.answers;
+      silent = told.silent;
+      becomes = λ i. record { state = told.onward i; condstore = c.condstore_after-condstore.ensures i; idling = c.in_ok-idling.ensures {u = tt} i };
+    }
+
+pub returns-clause-can : goal.returns-clause-can
+returns-clause-can c = (c.in_ok-answers.ensures {u = tt}).can

@@ -1,0 +1,29 @@
+use Rattle.std.proofs.Common.{List, ◌++◌, ap, ◌∙◌}
+use Rattle.imap_answers.specs.declared.answer.Answer.{Answer}
+use Rattle.imap_node.specs.InputEffects.{EffectDraft, answers_of_effect, effect_from, sync_result_after, sync_result_of, state_or}
+use Rattle.imap_node.proofs.plan.reply_of_effect.Goals as goal
+
+pub returns-in-Ok-clause-answers : goal.returns-in-Ok-clause-answers
+returns-in-Ok-clause-answers c =
+    let start = c.args.replica.now.start in
+    let after = c.args.replica.now.applied ++ c.args.ops.now in
+    let state = c.args.state.now in
+    let course = c.course.inside in
+    (c.in-Ok.ensures {u = tt}).answers
+    ∙ ap (λ (answers : List Answer). course.own.items ++ (answers ++ course.tail.items))
+    ((c.in_ok-answers.ensures {u = tt}).answers
+    ∙ (λ i. (sync_result_after start after (state_or state course.moved) (record { silent = c.deref.ensures.value i; own = c.deref-2.ensures.value i; sync = course.sync; modseq = course.modseq })).answers))
+    ∙ ap (λ (draft : EffectDraft). answers_of_effect start after (effect_from state draft)) c.course.view_is
+
+pub returns-in-Ok-clause-onward : goal.returns-in-Ok-clause-onward
+returns-in-Ok-clause-onward c =
+    let start = c.args.replica.now.start in
+    let after = c.args.replica.now.applied ++ c.args.ops.now in
+    let state = c.args.state.now in
+    let course = c.course.inside in
+    (c.in_ok-answers.ensures {u = tt}).state
+    ∙ (λ i. (sync_result_after start after (state_or state course.moved) (record { silent = c.deref.ensures.value i; own = c.deref-2.ensures.value i; sync = course.sync; modseq = course.modseq })).state)
+    ∙ ap (λ (draft : EffectDraft). (sync_result_of start after (effect_from state draft)).state) c.course.view_is
+
+pub returns-in-Ok-clause-can : goal.returns-in-Ok-clause-can
+returns-in-Ok-clause-can c = (c.in_ok-answers.ensures {u = tt}).can

@@ -1,8 +1,0 @@
-use Rattle.std.proofs.Common.{subst}
-use Rattle.crdt_ops.specs.Sound.{IsSound}
-use Rattle.imap_node.specs.Nodes.{ReplicaKept}
-use Rattle.merge_laws.specs.Orders.{AreSound}
-use Rattle.imap_node.proofs.replica.Replica.applied.Goals as goal
-
-pub returns-clause-sound : goal.returns-clause-sound
-returns-clause-sound c = subst (λ (r : ReplicaKept). AreSound IsSound r.applied) c.self.view_is c.op_list.ensures.sound

@@ -1,0 +1,366 @@
+//! What each input wants: one line a command.
+
+ghost use Rattle.std.specs.Prelude.{◌≡◌, ◌++◌, ℕ, Bool, List, Result, [], true, Ok, Err, IfOk};
+ghost use Rattle.imap_answers.specs.declared.fixed_words.Refusal.{Refusal};
+ghost use Rattle.imap_answers.specs.declared.fixed_words.Refusal.TheVariants.{NotNow};
+ghost use Rattle.imap_commands.specs.Appending.{append_intent};
+ghost use Rattle.imap_commands.specs.SimpleCommands.{status_intent};
+ghost use Rattle.imap_commands.specs.Login.{login_intent};
+ghost use Rattle.imap_commands.specs.NamedMessages.{no_messages_named};
+ghost use Rattle.imap_commands.specs.Gives.{GivesOrLacksMemory};
+ghost use Rattle.imap_commands.specs.Mailboxes.{create_intent, created_name, delete_intent, subscribe_intent, unsubscribe_intent};
+ghost use Rattle.imap_commands.specs.Searching.{search_intent};
+ghost use Rattle.imap_commands.specs.Selecting.{select_intent};
+ghost use Rattle.imap_commands.specs.declared.session.State.TheVariants.{Selected};
+ghost use Rattle.crdt_ops.specs.declared.kind.Kind.{Kind};
+ghost use Rattle.crdt_ops.specs.Sets.{delete_set_of, subscription_tags_of};
+ghost use Rattle.imap_node.specs.Commands.{asks_mailbox, messages_named_by_command, is_known, command_intent, when_known, when_new, when_selected};
+ghost use Rattle.imap_node.specs.Mailboxes.{are_some, is_subscribed, mailbox_in};
+ghost use Rattle.imap_node.specs.Responses.{messages_named_by_input, input_intent};
+ghost use Rattle.session_view.specs.ViewState.{ViewState};
+ghost use Rattle.uid_projection.specs.Incarnations.{folder_exists};
+
+use crate::input::Input;
+use crate::replica::ReplicaState;
+use crate::reports::mailbox_before;
+use crdt_ops::Kind;
+use imap_answers::Refusal;
+use imap_commands::{
+    AppendArgs, CopyArgs, FetchArgs, NamedMessages, OpenMailbox, State, StoreArgs, Intent,
+    append_intent, close_intent, copy_intent, create_intent, created_name, delete_intent, expunge_intent,
+    fetch_intent, login_intent, move_intent, search_intent, select_intent, status_intent, store_intent,
+    subscribe_intent, uid_expunge_intent, unsubscribe_intent,
+};
+use imap_syntax::{Command, IdleLine, SearchStep};
+use imap_types::{DateTime, Flags, Name, Octets, SequenceSet, Text};
+use std::alloc::{AllocError, Global};
+use tags_clocks::OpId;
+
+/// What an input issues, and what it found for that, or the first reason that stands against it. `stamp` is the date-time of its moment.
+pub fn input_intent(
+    alloc: Global,
+    replica: &ReplicaState,
+    stamp: &DateTime,
+    state: &State,
+    input: &Input,
+) -> Result<Intent, Refusal>
+    ensures gives { GivesOrLacksMemory (λ wanted. wanted.kinds.items) result (input_intent replica.now.start replica.now.applied stamp.now state.now input.now) }
+    ensures found { IfOk result (λ wanted. wanted.found ≡ messages_named_by_input replica.now.start replica.now.applied state.now input.now) }
+{
+    match input {
+        Input::Command { tagged, .. } => command_intent(alloc, replica, stamp, state, &tagged.command),
+        Input::Line {
+            line: IdleLine::Done,
+        } => intent_without_messages(alloc, Ok(Vec::new(alloc))),
+        Input::Line {
+            line: IdleLine::Other,
+        } => Err(Refusal::DoneExpected),
+        Input::Poll => intent_without_messages(alloc, Ok(Vec::new(alloc))),
+    }
+}
+
+/// Operations only, of an input that names no messages.
+fn intent_without_messages(alloc: Global, kinds: Result<Vec<Kind>, Refusal>) -> Result<Intent, Refusal>
+    ensures gives { (want : Result (List Kind) Refusal) → GivesOrLacksMemory (λ kinds. kinds.items) kinds want → GivesOrLacksMemory (λ wanted. wanted.kinds.items) result want }
+    ensures found { IfOk result (λ wanted. wanted.found ≡ no_messages_named) }
+{
+    match kinds {
+        Ok(kinds) => Ok(Intent {
+            kinds,
+            found: NamedMessages::none(alloc),
+        }),
+        Err(why) => Err(why),
+    }
+}
+
+/// What a command issues, and what it found for that, or the first reason that stands against it.
+fn command_intent(
+    alloc: Global,
+    replica: &ReplicaState,
+    stamp: &DateTime,
+    state: &State,
+    command: &Command,
+) -> Result<Intent, Refusal>
+    ensures gives { GivesOrLacksMemory (λ wanted. wanted.kinds.items) result (command_intent replica.now.start replica.now.applied stamp.now state.now command.now) }
+    ensures found { IfOk result (λ wanted. wanted.found ≡ messages_named_by_command replica.now.start replica.now.applied state.now command.now) }
+{
+    match command {
+        Command::Capability => intent_without_messages(alloc, Ok(Vec::new(alloc))),
+        Command::Noop => intent_without_messages(alloc, Ok(Vec::new(alloc))),
+        Command::Logout => intent_without_messages(alloc, Ok(Vec::new(alloc))),
+        Command::Login { user, password } => intent_without_messages(alloc, intent_to_login(alloc, state, user, password)),
+        Command::Enable { .. } => intent_without_messages(alloc, no_kinds_if_known(alloc, state)),
+        Command::Select { name, .. } => intent_without_messages(alloc, intent_to_select(alloc, replica, state, name)),
+        Command::Examine { name, .. } => intent_without_messages(alloc, intent_to_select(alloc, replica, state, name)),
+        Command::Create { name } => intent_without_messages(alloc, intent_to_create(alloc, replica, state, name)),
+        Command::Delete { name } => intent_without_messages(alloc, intent_to_delete(alloc, replica, state, name)),
+        Command::Subscribe { name } => intent_without_messages(alloc, intent_to_subscribe(alloc, replica, state, name)),
+        Command::Unsubscribe { name } => intent_without_messages(
+            alloc,
+            intent_to_unsubscribe(alloc, replica, state, name),
+        ),
+        Command::ListNames(_) => intent_without_messages(alloc, no_kinds_if_known(alloc, state)),
+        Command::Namespace => intent_without_messages(alloc, no_kinds_if_known(alloc, state)),
+        Command::Status { name, .. } => intent_without_messages(alloc, intent_to_status(alloc, replica, state, name)),
+        Command::Append(append) => {
+            let asked = AppendArgs {
+                name: &append.name,
+                flags: &append.flags,
+                date: &append.date,
+                text: &append.text,
+            };
+            intent_without_messages(alloc, intent_to_append(alloc, replica, stamp, state, &asked))
+        }
+        Command::Idle => intent_without_messages(alloc, no_kinds_if_known(alloc, state)),
+        Command::Close => selected_intent(alloc, replica, state, command),
+        Command::Unselect => intent_without_messages(alloc, no_kinds_if_selected(alloc, state)),
+        Command::Expunge => selected_intent(alloc, replica, state, command),
+        Command::UidExpunge { .. } => selected_intent(alloc, replica, state, command),
+        Command::Search(search) => intent_without_messages(alloc, intent_to_search(alloc, state, search.steps.as_slice())),
+        Command::Fetch(_) => selected_intent(alloc, replica, state, command),
+        Command::Store(_) => selected_intent(alloc, replica, state, command),
+        Command::Copy(_) => selected_intent(alloc, replica, state, command),
+        Command::Move(_) => selected_intent(alloc, replica, state, command),
+    }
+}
+
+/// Whether the session's user is known, and has not logged out.
+fn is_known(state: &State) -> bool
+    ensures { result ≡ is_known state.now }
+{
+    matches!(state, State::Authenticated | State::Selected { .. })
+}
+
+/// Nothing, where the session's user is known.
+fn no_kinds_if_known(alloc: Global, state: &State) -> Result<Vec<Kind>, Refusal>
+    ensures { GivesOrLacksMemory (λ kinds. kinds.items) result (when_known state.now (Ok [])) }
+{
+    if !is_known(state) {
+        return Err(Refusal::NotNow);
+    }
+    Ok(Vec::new(alloc))
+}
+
+/// Nothing, where a mailbox is selected.
+fn no_kinds_if_selected(alloc: Global, state: &State) -> Result<Vec<Kind>, Refusal>
+    ensures { GivesOrLacksMemory (λ kinds. kinds.items) result (when_selected state.now (λ view read_only. Ok [])) }
+{
+    match state {
+        State::Selected { .. } => Ok(Vec::new(alloc)),
+        _ => Err(Refusal::NotNow),
+    }
+}
+
+fn intent_to_login(
+    alloc: Global,
+    state: &State,
+    user: &Octets,
+    password: &Octets,
+) -> Result<Vec<Kind>, Refusal>
+    ensures { GivesOrLacksMemory (λ kinds. kinds.items) result (when_new state.now (λ credentials. login_intent credentials user.now password.now)) }
+{
+    match state {
+        State::NotAuthenticated { credentials } => login_intent(alloc, credentials, user, password),
+        _ => Err(Refusal::NotNow),
+    }
+}
+
+fn intent_to_select(
+    alloc: Global,
+    replica: &ReplicaState,
+    state: &State,
+    name: &Name,
+) -> Result<Vec<Kind>, Refusal>
+    ensures { GivesOrLacksMemory (λ kinds. kinds.items) result (when_known state.now (select_intent (folder_exists name.now replica.now.applied))) }
+{
+    if !is_known(state) {
+        return Err(Refusal::NotNow);
+    }
+    select_intent(alloc, replica.exists(name))
+}
+
+fn intent_to_status(
+    alloc: Global,
+    replica: &ReplicaState,
+    state: &State,
+    name: &Name,
+) -> Result<Vec<Kind>, Refusal>
+    ensures { GivesOrLacksMemory (λ kinds. kinds.items) result (when_known state.now (status_intent (folder_exists name.now replica.now.applied))) }
+{
+    if !is_known(state) {
+        return Err(Refusal::NotNow);
+    }
+    status_intent(alloc, replica.exists(name))
+}
+
+fn intent_to_create(
+    alloc: Global,
+    replica: &ReplicaState,
+    state: &State,
+    name: &Name,
+) -> Result<Vec<Kind>, Refusal>
+    ensures { GivesOrLacksMemory (λ kinds. kinds.items) result (when_known state.now (create_intent (folder_exists (created_name name.now) replica.now.applied) name.now)) }
+{
+    if !is_known(state) {
+        return Err(Refusal::NotNow);
+    }
+    let folder = created_name(alloc, name)?;
+    create_intent(alloc, replica.exists(&folder), name)
+}
+
+fn intent_to_delete(
+    alloc: Global,
+    replica: &ReplicaState,
+    state: &State,
+    name: &Name,
+) -> Result<Vec<Kind>, Refusal>
+    ensures { GivesOrLacksMemory (λ kinds. kinds.items) result (when_known state.now (delete_intent (folder_exists name.now replica.now.applied) (delete_set_of replica.now.applied name.now) name.now)) }
+{
+    if !is_known(state) {
+        return Err(Refusal::NotNow);
+    }
+    let seen = replica.delete_set(alloc, name)?;
+    delete_intent(alloc, replica.exists(name), seen, name)
+}
+
+fn intent_to_subscribe(
+    alloc: Global,
+    replica: &ReplicaState,
+    state: &State,
+    name: &Name,
+) -> Result<Vec<Kind>, Refusal>
+    ensures { GivesOrLacksMemory (λ kinds. kinds.items) result (when_known state.now (subscribe_intent (is_subscribed name.now replica.now.applied) name.now)) }
+{
+    if !is_known(state) {
+        return Err(Refusal::NotNow);
+    }
+    subscribe_intent(alloc, is_subscribed(alloc, replica, name)?, name)
+}
+
+fn is_subscribed(alloc: Global, replica: &ReplicaState, name: &Name) -> Result<bool, AllocError>
+    ensures { IfOk result (λ yes. yes ≡ is_subscribed name.now replica.now.applied) }
+{
+    let tags = replica.subscription_tags(alloc, name)?;
+    Ok(are_some(tags.as_slice()))
+}
+
+fn are_some(ids: &[OpId]) -> bool
+    ensures { result ≡ are_some ids.now }
+{
+    match ids {
+        [] => false,
+        [_, ..] => true,
+    }
+}
+
+fn intent_to_unsubscribe(
+    alloc: Global,
+    replica: &ReplicaState,
+    state: &State,
+    name: &Name,
+) -> Result<Vec<Kind>, Refusal>
+    ensures { GivesOrLacksMemory (λ kinds. kinds.items) result (when_known state.now (unsubscribe_intent (subscription_tags_of replica.now.applied name.now) name.now)) }
+{
+    if !is_known(state) {
+        return Err(Refusal::NotNow);
+    }
+    unsubscribe_intent(alloc, replica.subscription_tags(alloc, name)?, name)
+}
+
+fn intent_to_append(
+    alloc: Global,
+    replica: &ReplicaState,
+    stamp: &DateTime,
+    state: &State,
+    asked: &AppendArgs<'_>,
+) -> Result<Vec<Kind>, Refusal>
+    ensures { GivesOrLacksMemory (λ kinds. kinds.items) result (when_known state.now (append_intent (folder_exists asked.now.name replica.now.applied) stamp.now asked.now)) }
+{
+    if !is_known(state) {
+        return Err(Refusal::NotNow);
+    }
+    append_intent(alloc, replica.exists(asked.name), stamp, asked)
+}
+
+fn intent_to_search(alloc: Global, state: &State, steps: &[SearchStep]) -> Result<Vec<Kind>, Refusal>
+    ensures { GivesOrLacksMemory (λ kinds. kinds.items) result (when_selected state.now (λ view read_only. search_intent view.entries steps.now)) }
+{
+    let State::Selected { view, .. } = state else {
+        return Err(Refusal::NotNow);
+    };
+    search_intent(alloc, view, steps)
+}
+
+/// What a command issues that asks what the selected mailbox has, and what it found for that.
+fn selected_intent(
+    alloc: Global,
+    replica: &ReplicaState,
+    state: &State,
+    command: &Command,
+) -> Result<Intent, Refusal>
+    requires { asks_mailbox command.now ≡ true }
+    ensures gives { (stamp : List ℕ) → GivesOrLacksMemory (λ wanted. wanted.kinds.items) result (command_intent replica.now.start replica.now.applied stamp state.now command.now) }
+    ensures found { IfOk result (λ wanted. wanted.found ≡ messages_named_by_command replica.now.start replica.now.applied state.now command.now) }
+{
+    let State::Selected { view, read_only } = state else {
+        return Err(Refusal::NotNow);
+    };
+    let mailbox = mailbox_before(alloc, replica, view, *read_only)?;
+    let wanted = mailbox_intent(alloc, replica, &mailbox, command);
+    drop(mailbox);
+    wanted
+}
+
+/// The same of this mailbox.
+fn mailbox_intent(
+    alloc: Global,
+    replica: &ReplicaState,
+    mailbox: &OpenMailbox<'_>,
+    command: &Command,
+) -> Result<Intent, Refusal>
+    requires { asks_mailbox command.now ≡ true }
+    ensures gives { (stamp : List ℕ) (view : ViewState) (read_only : Bool) → mailbox.now ≡ mailbox_in replica.now.start replica.now.applied view read_only → GivesOrLacksMemory (λ wanted. wanted.kinds.items) result (command_intent replica.now.start replica.now.applied stamp (Selected view read_only) command.now) }
+    ensures found { (view : ViewState) (read_only : Bool) → mailbox.now ≡ mailbox_in replica.now.start replica.now.applied view read_only → IfOk result (λ wanted. wanted.found ≡ messages_named_by_command replica.now.start replica.now.applied (Selected view read_only) command.now) }
+{
+    match command {
+        Command::Close => intent_without_messages(alloc, close_intent(alloc, mailbox)),
+        Command::Expunge => intent_without_messages(alloc, expunge_intent(alloc, mailbox)),
+        Command::UidExpunge { uids } => uid_expunge_intent(alloc, mailbox, uids),
+        Command::Fetch(fetch) => {
+            let asked = FetchArgs {
+                by_uid: fetch.by_uid,
+                messages: &fetch.messages,
+                items: fetch.items.as_slice(),
+                changed_since: fetch.changed_since,
+            };
+            fetch_intent(alloc, mailbox, &asked)
+        }
+        Command::Store(store) => {
+            let asked = StoreArgs {
+                by_uid: store.by_uid,
+                messages: &store.messages,
+                unchanged_since: store.unchanged_since,
+                action: store.action,
+                flags: &store.flags,
+            };
+            store_intent(alloc, mailbox, &asked)
+        }
+        Command::Copy(transfer) => {
+            let asked = CopyArgs {
+                by_uid: transfer.by_uid,
+                messages: &transfer.messages,
+                destination: &transfer.name,
+            };
+            copy_intent(alloc, mailbox, &asked, replica.exists(&transfer.name))
+        }
+        Command::Move(transfer) => {
+            let asked = CopyArgs {
+                by_uid: transfer.by_uid,
+                messages: &transfer.messages,
+                destination: &transfer.name,
+            };
+            move_intent(alloc, mailbox, &asked, replica.exists(&transfer.name))
+        }
+        _ => unreachable!(),
+    }
+}

@@ -1,0 +1,523 @@
+//! The plan of an input: all that takes memory.
+
+ghost use Rattle.std.specs.Prelude.{◌≡◌, ◌++◌, ℕ, List, [], IfOk, IfErr, IsSome, Some};
+ghost use Rattle.causal_inbox.specs.Inbox.{AreIssued};
+ghost use Rattle.imap_commands.specs.Gives.{GivesOrLacksMemory};
+ghost use Rattle.imap_commands.specs.declared.session.Session.{Session};
+ghost use Rattle.std.specs.Option.{option_map};
+ghost use Rattle.imap_node.specs.InputEffects.{IsListingFor, answers_of_effect, effect_from, sync_result_after, sync_result_of, state_or};
+ghost use Rattle.imap_node.specs.SessionFeeds.{AreAllNoted, AreChangeNotes, IsNotedFor};
+ghost use Rattle.imap_node.specs.SessionChanges.{CanChangeSession, changed_state};
+ghost use Rattle.imap_node.specs.Nodes.{IsReady};
+ghost use Rattle.imap_node.specs.Operations.{CanIssueAll, clock_of, id_of};
+ghost use Rattle.imap_node.specs.Plans.{IsPreparedReply, IsPreparedInput};
+ghost use Rattle.imap_node.specs.Resting.{IsAtRest, IsNoop, noop_at_rest};
+ghost use Rattle.imap_node.specs.Replays.{view_in, view_of};
+ghost use Rattle.imap_node.specs.Responses.{IsRefused, IsStamp, IsStampFor, messages_named_by_input, input_intent};
+ghost use Rattle.imap_node.specs.Rooms.{HasRoomFor};
+ghost use Rattle.imap_node.specs.Sessions.{IsOpen, session_at};
+ghost use Rattle.session_view.specs.ViewState.{ViewState};
+
+use crate::input_effect::{EffectDraft, completed_line, condstore_after, draft_effect, idling_after, append_answers};
+use crate::sync_and_state::{RebuiltState, ReplicaAfter, SyncInput, UnsentChanges, sync_rebuilt_state, sync_in_place, is_settled};
+use crate::feeds::Feeds;
+use crate::session_change::{SessionChange, StateChange};
+use crate::input::Input;
+use crate::ready_ops::{ReadyOps, ready_next_ops};
+use crate::change_notes::{ChangeNotes, change_notes_of_issue};
+use crate::replica::ReplicaState;
+use crate::reply::{Answers, Issued, Reply, Silents, copied_ops};
+use crate::sessions::{SessionNo, Sessions};
+use crate::reports::rows_after;
+use crate::intents::input_intent;
+use crdt_ops::SoundOp;
+use idle_feed::Feed;
+use imap_answers::{Answer, CompletedWord, Refusal};
+use imap_commands::{NamedMessages, Session, State, Intent};
+use imap_syntax::Command;
+use imap_types::{DateTime, Moment, Octets};
+use mailbox_rows::Rows;
+use mail_text::civil;
+use session_view::{SilentFlags, SyncKind};
+use std::alloc::{AllocError, Global};
+
+/// What becomes of a session.
+#[derive(Drop)]
+pub enum SessionStep {
+    /// It stays as it is.
+    Stays,
+    /// Its mailbox is no longer selected.
+    Leaves,
+    /// It no longer idles.
+    Wakes,
+    /// Its input is carried out, and it goes on so.
+    Goes { going: SessionChange },
+}
+
+/// What a node will do with an input, with all memory that it takes.
+#[derive(Drop)]
+pub struct Plan {
+    pub(crate) number: SessionNo,
+    pub(crate) reply: Reply,
+    pub(crate) ops: ReadyOps,
+    pub(crate) change_notes: ChangeNotes,
+    pub(crate) next: SessionStep,
+}
+
+impl Plan {
+    /// What the node will reply.
+    pub fn reply(&self) -> &Reply
+        ensures { result.now ≡ self.now.reply }
+    {
+        &self.reply
+    }
+}
+
+/// What an input is answered, and what becomes of the session.
+#[derive(Drop)]
+pub struct PreparedReply {
+    pub answers: Answers,
+    pub silent: Silents,
+    pub going: SessionChange,
+}
+
+/// An input that can be carried out.
+#[derive(Drop)]
+pub struct PreparedInput {
+    pub answered: PreparedReply,
+    pub ops: ReadyOps,
+    pub copies: Issued,
+    pub change_notes: ChangeNotes,
+}
+
+/// Makes the room for an input of an open session that can be carried out, and works out what it is answered. An error leaves the operations received as
+/// they were; the sessions stay in any case.
+pub fn prepare_for(
+    alloc: Global,
+    replica: &mut ReplicaState,
+    sessions: &mut Sessions,
+    feeds: &Feeds,
+    number: SessionNo,
+    input: &Input,
+) -> Result<PreparedInput, Refusal>
+    requires opened { IsOpen sessions.old number }
+    requires noted { AreAllNoted replica.old.start replica.old.applied sessions.old feeds.now }
+    ensures sessions { sessions.new ≡ sessions.old }
+    ensures start { replica.new.start ≡ replica.old.start }
+    ensures applied { replica.new.applied ≡ replica.old.applied }
+    ensures held { replica.new.held ≡ replica.old.held }
+    ensures room { IfOk result (λ p. (p.ops ≡ [] → ⊥) → HasRoomFor replica.new.applied replica.new.room p.ops) }
+    ensures issued { IfOk result (λ p. AreIssued id_of clock_of replica.old.applied p.ops) }
+    ensures news { IfOk result (λ p. AreChangeNotes replica.old.start replica.old.applied (replica.old.applied ++ p.ops) p.change_notes) }
+    ensures can { (s : Session) → session_at sessions.old number ≡ Some s → IfOk result (λ p. CanChangeSession replica.old.start (replica.old.applied ++ p.ops) s.state p.answered.going.onward) }
+    ensures ok { (s : Session) → session_at sessions.old number ≡ Some s → IfOk result (λ p. IsPreparedInput replica.old.start replica.old.applied s input.now p) }
+    ensures err { (s : Session) → session_at sessions.old number ≡ Some s → IfErr result (λ why. IsRefused replica.old.start replica.old.applied s.state input.now why) }
+{
+    let place = number.get() - 1;
+    let places = &mut sessions.places;
+    if place >= places.len() {
+        unreachable!()
+    }
+    prepare_at(alloc, replica, &mut places[place], feeds.feed_of(number), input)
+}
+
+/// The same of the session at this place.
+fn prepare_at(
+    alloc: Global,
+    replica: &mut ReplicaState,
+    place: &mut Option<Session>,
+    feed: &Feed,
+    input: &Input,
+) -> Result<PreparedInput, Refusal>
+    requires opened { IsSome place.old }
+    requires noted { (view : ViewState) → view_in place.old ≡ Some view → IsNotedFor replica.old.start replica.old.applied feed.now.pending view }
+    ensures place { place.new ≡ place.old }
+    ensures start { replica.new.start ≡ replica.old.start }
+    ensures applied { replica.new.applied ≡ replica.old.applied }
+    ensures held { replica.new.held ≡ replica.old.held }
+    ensures room { IfOk result (λ p. (p.ops ≡ [] → ⊥) → HasRoomFor replica.new.applied replica.new.room p.ops) }
+    ensures issued { IfOk result (λ p. AreIssued id_of clock_of replica.old.applied p.ops) }
+    ensures news { IfOk result (λ p. AreChangeNotes replica.old.start replica.old.applied (replica.old.applied ++ p.ops) p.change_notes) }
+    ensures can { (s : Session) → place.old ≡ Some s → IfOk result (λ p. CanChangeSession replica.old.start (replica.old.applied ++ p.ops) s.state p.answered.going.onward) }
+    ensures ok { (s : Session) → place.old ≡ Some s → IfOk result (λ p. IsPreparedInput replica.old.start replica.old.applied s input.now p) }
+    ensures err { (s : Session) → place.old ≡ Some s → IfErr result (λ why. IsRefused replica.old.start replica.old.applied s.state input.now why) }
+{
+    match place {
+        Some(session) => prepare(alloc, replica, session, feed, input),
+        None => unreachable!(),
+    }
+}
+
+/// The same of this session.
+fn prepare(
+    alloc: Global,
+    replica: &mut ReplicaState,
+    session: &mut Session,
+    feed: &Feed,
+    input: &Input,
+) -> Result<PreparedInput, Refusal>
+    requires noted { (view : ViewState) → view_of session.old.state ≡ Some view → IsNotedFor replica.old.start replica.old.applied feed.now.pending view }
+    ensures session { session.new ≡ session.old }
+    ensures start { replica.new.start ≡ replica.old.start }
+    ensures applied { replica.new.applied ≡ replica.old.applied }
+    ensures held { replica.new.held ≡ replica.old.held }
+    ensures room { IfOk result (λ p. (p.ops ≡ [] → ⊥) → HasRoomFor replica.new.applied replica.new.room p.ops) }
+    ensures issued { IfOk result (λ p. AreIssued id_of clock_of replica.old.applied p.ops) }
+    ensures news { IfOk result (λ p. AreChangeNotes replica.old.start replica.old.applied (replica.old.applied ++ p.ops) p.change_notes) }
+    ensures can { IfOk result (λ p. CanChangeSession replica.old.start (replica.old.applied ++ p.ops) session.old.state p.answered.going.onward) }
+    ensures ok { IfOk result (λ p. IsPreparedInput replica.old.start replica.old.applied session.old input.now p) }
+    ensures err { IfErr result (λ why. IsRefused replica.old.start replica.old.applied session.old.state input.now why) }
+{
+    match tag_at_rest(alloc, session, feed, input) {
+        Some(tag) => Ok(noop_at_rest(alloc, session, tag)?),
+        None => prepare_any(alloc, replica, session, feed, input),
+    }
+}
+
+/// The tag of a NOOP whose session has nothing to be told; `None` of any other input, and where it may have something.
+fn tag_at_rest<'a>(
+    alloc: Global,
+    session: &Session,
+    feed: &Feed,
+    input: &'a Input,
+) -> Option<&'a Octets>
+    ensures { (tag : List ℕ) → option_map (λ t. t.now) result ≡ Some tag → IsAtRest session.now.state feed.now.pending input.now tag }
+{
+    let tag = noop_tag(input)?;
+    let change_notes = ChangeNotes::none(alloc);
+    let unsent = UnsentChanges { feed, change_notes: &change_notes };
+    let rests = is_settled(&session.state, &unsent, Some(SyncKind::Full));
+    drop(change_notes);
+    if rests { Some(tag) } else { None }
+}
+
+/// The tag of a NOOP.
+fn noop_tag(input: &Input) -> Option<&Octets>
+    ensures { (tag : List ℕ) → option_map (λ t. t.now) result ≡ Some tag → IsNoop input.now tag }
+{
+    match input {
+        Input::Command { tagged, .. } => match &tagged.command {
+            Command::Noop => Some(&tagged.tag),
+            _ => None,
+        },
+        _ => None,
+    }
+}
+
+/// What a NOOP with this tag comes to whose session has nothing to be told: its end alone, without a look at the replica.
+fn noop_at_rest(alloc: Global, session: &Session, tag: &Octets) -> Result<PreparedInput, AllocError>
+    ensures { IfOk result (λ prepared. prepared ≡ noop_at_rest session.now tag.now) }
+{
+    let answers = Answers::new(completed_line(alloc, tag, None, CompletedWord::Noop)?)?;
+    let silent = Silents::new(Vec::new(alloc))?;
+    let copies = Issued::new(Vec::new(alloc))?;
+    Ok(PreparedInput {
+        answered: PreparedReply {
+            answers,
+            silent,
+            going: SessionChange {
+                onward: StateChange::Stays { change: None },
+                condstore: session.condstore,
+                idling: None,
+            },
+        },
+        ops: ReadyOps::new(Vec::new(alloc)),
+        copies,
+        change_notes: ChangeNotes::none(alloc),
+    })
+}
+
+/// The same of any input.
+fn prepare_any(
+    alloc: Global,
+    replica: &mut ReplicaState,
+    session: &mut Session,
+    feed: &Feed,
+    input: &Input,
+) -> Result<PreparedInput, Refusal>
+    requires noted { (view : ViewState) → view_of session.old.state ≡ Some view → IsNotedFor replica.old.start replica.old.applied feed.now.pending view }
+    ensures session { session.new ≡ session.old }
+    ensures start { replica.new.start ≡ replica.old.start }
+    ensures applied { replica.new.applied ≡ replica.old.applied }
+    ensures held { replica.new.held ≡ replica.old.held }
+    ensures room { IfOk result (λ p. (p.ops ≡ [] → ⊥) → HasRoomFor replica.new.applied replica.new.room p.ops) }
+    ensures issued { IfOk result (λ p. AreIssued id_of clock_of replica.old.applied p.ops) }
+    ensures news { IfOk result (λ p. AreChangeNotes replica.old.start replica.old.applied (replica.old.applied ++ p.ops) p.change_notes) }
+    ensures can { IfOk result (λ p. CanChangeSession replica.old.start (replica.old.applied ++ p.ops) session.old.state p.answered.going.onward) }
+    ensures ok { IfOk result (λ p. IsPreparedInput replica.old.start replica.old.applied session.old input.now p) }
+    ensures err { IfErr result (λ why. IsRefused replica.old.start replica.old.applied session.old.state input.now why) }
+{
+    let stamp = stamp_of(input);
+    let Intent { kinds, found } = intent_within_numbers(alloc, replica, &stamp, session, input)?;
+    let ops = ready_next_ops(alloc, replica, kinds)?;
+    Ok(prepared_reply(alloc, replica, session, feed, input, &found, ops)?)
+}
+
+/// The date-time that an input writes down.
+fn stamp_of(input: &Input) -> DateTime
+    ensures { IsStamp input.now result }
+{
+    match input {
+        Input::Command { moment, tagged } => stamp_for(&tagged.command, *moment),
+        _ => DateTime::epoch(),
+    }
+}
+
+/// The date-time that a command writes down which came at this moment: none but APPEND does.
+fn stamp_for(command: &Command, moment: Moment) -> DateTime
+    ensures { IsStampFor command.now moment result }
+{
+    match command {
+        Command::Append(_) => civil(moment),
+        _ => DateTime::epoch(),
+    }
+}
+
+/// What an input issues, all of which the replica may issue, and what it found for that.
+fn intent_within_numbers(
+    alloc: Global,
+    replica: &ReplicaState,
+    stamp: &DateTime,
+    session: &Session,
+    input: &Input,
+) -> Result<Intent, Refusal>
+    ensures gives { GivesOrLacksMemory (λ wanted. wanted.kinds.items) result (input_intent replica.now.start replica.now.applied stamp.now session.now.state input.now) }
+    ensures found { IfOk result (λ wanted. wanted.found ≡ messages_named_by_input replica.now.start replica.now.applied session.now.state input.now) }
+    ensures can { IfOk result (λ wanted. CanIssueAll replica.now.applied wanted.kinds.items) }
+{
+    let _list = replica.op_list();
+    input_intent(alloc, replica, stamp, &session.state, input)
+}
+
+/// What an input is answered behind its operations, by what it found before them, with a copy of these for the other replicas, and what they change.
+fn prepared_reply(
+    alloc: Global,
+    replica: &ReplicaState,
+    session: &mut Session,
+    feed: &Feed,
+    input: &Input,
+    found: &NamedMessages,
+    ops: Vec<SoundOp>,
+) -> Result<PreparedInput, AllocError>
+    requires ready { IsReady replica.now ops.items }
+    requires found { found.now ≡ messages_named_by_input replica.now.start replica.now.applied session.old.state input.now }
+    requires noted { (view : ViewState) → view_of session.old.state ≡ Some view → IsNotedFor replica.now.start replica.now.applied feed.now.pending view }
+    ensures session { session.new ≡ session.old }
+    ensures answered { IfOk result (λ p. IsPreparedReply replica.now.start replica.now.applied (replica.now.applied ++ ops.items) session.old input.now p.answered) }
+    ensures can { IfOk result (λ p. CanChangeSession replica.now.start (replica.now.applied ++ ops.items) session.old.state p.answered.going.onward) }
+    ensures ops { IfOk result (λ p. p.ops ≡ ops.items) }
+    ensures copies { IfOk result (λ p. p.copies ≡ ops.items) }
+    ensures news { IfOk result (λ p. AreChangeNotes replica.now.start replica.now.applied (replica.now.applied ++ ops.items) p.change_notes) }
+{
+    let ops = ReadyOps::new(ops);
+    let copies = shared_copies(alloc, ops.as_slice())?;
+    let change_notes = change_notes_of_issue(alloc, replica, ops.as_slice())?;
+    let unsent = UnsentChanges { feed, change_notes: &change_notes };
+    let answered = answers_to(
+        alloc,
+        replica,
+        session,
+        &unsent,
+        input,
+        found,
+        ops.as_slice(),
+    )?;
+    Ok(PreparedInput {
+        answered,
+        ops,
+        copies,
+        change_notes: change_notes,
+    })
+}
+
+/// Equal operations, in memory that copies share.
+fn shared_copies(alloc: Global, ops: &[SoundOp]) -> Result<Issued, AllocError>
+    ensures { IfOk result (λ copies. copies ≡ ops.now) }
+{
+    let copies = copied_ops(alloc, ops)?;
+    Issued::new(copies)
+}
+
+/// What an input is answered behind its operations, by what it found before them, and what becomes of the session.
+fn answers_to(
+    alloc: Global,
+    replica: &ReplicaState,
+    session: &mut Session,
+    unsent: &UnsentChanges<'_>,
+    input: &Input,
+    found: &NamedMessages,
+    ops: &[SoundOp],
+) -> Result<PreparedReply, AllocError>
+    requires ready { IsReady replica.now ops.now }
+    requires found { found.now ≡ messages_named_by_input replica.now.start replica.now.applied session.old.state input.now }
+    requires noted { (view : ViewState) → view_of session.old.state ≡ Some view → IsNotedFor replica.now.start replica.now.applied unsent.now.pending view }
+    requires news { AreChangeNotes replica.now.start replica.now.applied (replica.now.applied ++ ops.now) unsent.now.change_notes }
+    ensures session { session.new ≡ session.old }
+    ensures answered { IfOk result (λ a. IsPreparedReply replica.now.start replica.now.applied (replica.now.applied ++ ops.now) session.old input.now a) }
+    ensures can { IfOk result (λ a. CanChangeSession replica.now.start (replica.now.applied ++ ops.now) session.old.state a.going.onward) }
+{
+    let condstore = condstore_after(session, input);
+    let idling = idling_after(alloc, session, input)?;
+    let made = listing_behind(alloc, replica, ops, &session.state, unsent.change_notes)?;
+    let course = draft_effect(alloc, replica, ops, made.as_ref(), session, input, found)?;
+    let ReplyParts {
+        answers,
+        silent,
+        onward,
+    } = reply_of_effect(
+        alloc,
+        replica,
+        ops,
+        made.as_ref(),
+        &mut session.state,
+        unsent,
+        course,
+    )?;
+    Ok(PreparedReply {
+        answers,
+        silent,
+        going: SessionChange {
+            onward,
+            condstore,
+            idling,
+        },
+    })
+}
+
+/// What the mailbox that is selected has behind the operations, made once for all that looks at it; none where none is, or the operations change nothing in it.
+fn listing_behind<'a>(
+    alloc: Global,
+    replica: &'a ReplicaState,
+    ops: &'a [SoundOp],
+    state: &State,
+    change_notes: &ChangeNotes,
+) -> Result<Option<Rows<'a>>, AllocError>
+    requires { IsReady replica.now ops.now }
+    ensures { IfOk result (λ made. IsListingFor replica.now.start (replica.now.applied ++ ops.now) state.now made) }
+{
+    match state {
+        State::Selected { view, .. } => {
+            if change_notes.notes_of(view.name()).is_empty() {
+                return Ok(None);
+            }
+            Ok(Some(rows_after(alloc, replica, ops, view)?))
+        }
+        _ => Ok(None),
+    }
+}
+
+/// What an input is answered, the flags that it sets in silence, and what becomes of the state.
+struct ReplyParts {
+    answers: Answers,
+    silent: Silents,
+    onward: StateChange,
+}
+
+/// What an input is answered that comes to this, and what becomes of the state.
+fn reply_of_effect(
+    alloc: Global,
+    replica: &ReplicaState,
+    ops: &[SoundOp],
+    made: Option<&Rows<'_>>,
+    state: &mut State,
+    unsent: &UnsentChanges<'_>,
+    course: EffectDraft,
+) -> Result<ReplyParts, AllocError>
+    requires ready { IsReady replica.now ops.now }
+    requires made { IsListingFor replica.now.start (replica.now.applied ++ ops.now) state.old (option_map (λ rows. rows.now) made) }
+    requires noted { (view : ViewState) → view_of state.old ≡ Some view → IsNotedFor replica.now.start replica.now.applied unsent.now.pending view }
+    requires news { AreChangeNotes replica.now.start replica.now.applied (replica.now.applied ++ ops.now) unsent.now.change_notes }
+    ensures same { state.new ≡ state.old }
+    ensures answers { IfOk result (λ t. t.answers ≡ answers_of_effect replica.now.start (replica.now.applied ++ ops.now) (effect_from state.old course)) }
+    ensures silent { IfOk result (λ t. t.silent ≡ course.silent) }
+    ensures onward { IfOk result (λ t. changed_state state.old t.onward ≡ (sync_result_of replica.now.start (replica.now.applied ++ ops.now) (effect_from state.old course)).state) }
+    ensures can { IfOk result (λ t. CanChangeSession replica.now.start (replica.now.applied ++ ops.now) state.old t.onward) }
+{
+    let EffectDraft {
+        silent,
+        own,
+        sync,
+        modseq,
+        moved,
+        tail,
+    } = course;
+    let front = SyncInput {
+        silent: &silent,
+        own: &own,
+        sync,
+        modseq,
+    };
+    let applied = ReplicaAfter { replica, ops };
+    let (answers, onward) = sync_and_change(alloc, &applied, made, state, unsent, moved, &front)?;
+    match share_reply(own, answers, tail, silent) {
+        Ok((answers, silent)) => Ok(ReplyParts {
+            answers,
+            silent,
+            onward,
+        }),
+        Err(error) => {
+            drop(onward);
+            Err(error)
+        }
+    }
+}
+
+/// All that is sent, in order, and the flags set in silence, each in memory that copies share.
+fn share_reply(
+    own: Vec<Answer>,
+    synced: Vec<Answer>,
+    tail: Vec<Answer>,
+    silent: Vec<SilentFlags>,
+) -> Result<(Answers, Silents), AllocError>
+    ensures answers { IfOk result (λ s. s.0 ≡ own.items ++ (synced.items ++ tail.items)) }
+    ensures silent { IfOk result (λ s. s.1 ≡ silent.items) }
+{
+    let answers = match all_sent(own, synced, tail) {
+        Ok(answers) => answers,
+        Err(error) => {
+            drop(silent);
+            return Err(error);
+        }
+    };
+    let silent = Silents::new(silent)?;
+    Ok((answers, silent))
+}
+
+/// All that is sent, in order.
+fn all_sent(own: Vec<Answer>, synced: Vec<Answer>, tail: Vec<Answer>) -> Result<Answers, AllocError>
+    ensures { IfOk result (λ sent. sent ≡ own.items ++ (synced.items ++ tail.items)) }
+{
+    Answers::new(append_answers(own, append_answers(synced, tail)?)?)
+}
+
+/// The sync, and what becomes of the state, behind what moved it, if something did.
+fn sync_and_change(
+    alloc: Global,
+    applied: &ReplicaAfter<'_>,
+    made: Option<&Rows<'_>>,
+    state: &mut State,
+    unsent: &UnsentChanges<'_>,
+    moved: Option<State>,
+    front: &SyncInput<'_>,
+) -> Result<(Vec<Answer>, StateChange), AllocError>
+    requires ready { IsReady applied.now.replica.now applied.now.ops.now }
+    requires made { IsListingFor applied.now.replica.now.start (applied.now.replica.now.applied ++ applied.now.ops.now) state.old (option_map (λ rows. rows.now) made) }
+    requires noted { (view : ViewState) → view_of state.old ≡ Some view → IsNotedFor applied.now.replica.now.start applied.now.replica.now.applied unsent.now.pending view }
+    requires news { AreChangeNotes applied.now.replica.now.start applied.now.replica.now.applied (applied.now.replica.now.applied ++ applied.now.ops.now) unsent.now.change_notes }
+    ensures same { state.new ≡ state.old }
+    ensures answers { IfOk result (λ e. e.0.items ≡ (sync_result_after applied.now.replica.now.start (applied.now.replica.now.applied ++ applied.now.ops.now) (state_or state.old moved) front.now).answers) }
+    ensures state { IfOk result (λ e. changed_state state.old e.1 ≡ (sync_result_after applied.now.replica.now.start (applied.now.replica.now.applied ++ applied.now.ops.now) (state_or state.old moved) front.now).state) }
+    ensures can { IfOk result (λ e. CanChangeSession applied.now.replica.now.start (applied.now.replica.now.applied ++ applied.now.ops.now) state.old e.1) }
+{
+    match moved {
+        Some(next) => {
+            let RebuiltState {
+                answers,
+                state,
+                shows_all,
+            } = sync_rebuilt_state(alloc, applied.replica, applied.ops, next, front)?;
+            Ok((answers, StateChange::Moves { state, shows_all }))
+        }
+        None => sync_in_place(alloc, applied, made, state, unsent, front),
+    }
+}

@@ -1,0 +1,401 @@
+//! What each command tells: one line a command.
+
+ghost use Rattle.std.specs.Prelude.{◌≡◌, ◌++◌, List, true, IfOk, if◌then◌else◌};
+ghost use Rattle.std.specs.Option.{option_map, unwrap_or};
+ghost use Rattle.crdt_ops.specs.Sets.{folders_of, subscribed_names_of};
+ghost use Rattle.imap_commands.specs.SimpleCommands.{IsListReport, status_report};
+ghost use Rattle.imap_commands.specs.Appending.{append_report};
+ghost use Rattle.imap_commands.specs.Copying.{copy_report, move_report};
+ghost use Rattle.imap_commands.specs.Expunging.{uid_expunge_report};
+ghost use Rattle.imap_commands.specs.Fetching.{fetch_report};
+ghost use Rattle.imap_commands.specs.NamedMessages.{messages_named_by, messages_stored_by};
+ghost use Rattle.imap_commands.specs.Selecting.{IsSelectReport};
+ghost use Rattle.imap_commands.specs.Storing.{store_report};
+ghost use Rattle.imap_node.specs.Commands.{IsSearchReportIfSelected, IsCommandReport, messages_named_by_command, messages_named_if_selected, is_selected, report_if_selected};
+ghost use Rattle.imap_node.specs.InputEffects.{IsListingFor};
+ghost use Rattle.imap_node.specs.Mailboxes.{copy_target_in, mailbox_in, counters_of, rows_for, validity_of};
+ghost use Rattle.imap_node.specs.Nodes.{IsReady};
+ghost use Rattle.imap_types.specs.declared.sequence_set.SequenceRange.{SequenceRange};
+ghost use Rattle.uid_projection.specs.UidsAndModSeqs.{uidnext_of};
+ghost use Rattle.uid_projection.specs.Listing.{listing};
+
+use crate::replica::ReplicaState;
+use crate::command_tables::is_selected;
+use crdt_ops::SoundOp;
+use imap_commands::{
+    CopyArgs, FetchArgs, NamedMessages, CopyTarget, OpenMailbox, SearchArgs, State, StoreArgs, CommandReport,
+    append_report, capability_report, copy_report, enable_report, fetch_report, idle_report, list_report,
+    logout_report, move_report, namespace_report, search_report, select_report, status_report,
+    store_report, uid_expunge_report,
+};
+use imap_query::{ListMode, MailboxCounters};
+use imap_syntax::{Command, StatusItem, Tagged};
+use imap_types::{Name, Octets};
+use mailbox_rows::Rows;
+use session_view::View;
+use std::alloc::{AllocError, Global};
+
+/// What a command itself tells, behind the operations applied and its own, by what it found before these and the listing behind them, where that was made.
+pub fn command_report(
+    alloc: Global,
+    replica: &ReplicaState,
+    ops: &[SoundOp],
+    made: Option<&Rows<'_>>,
+    state: &State,
+    modseq: bool,
+    tagged: &Tagged,
+    found: &NamedMessages,
+) -> Result<CommandReport, AllocError>
+    requires ready { IsReady replica.now ops.now }
+    requires made { IsListingFor replica.now.start (replica.now.applied ++ ops.now) state.now (option_map (λ rows. rows.now) made) }
+    requires found { found.now ≡ messages_named_by_command replica.now.start replica.now.applied state.now tagged.now.command }
+    ensures { IfOk result (λ told. IsCommandReport replica.now.start replica.now.applied (replica.now.applied ++ ops.now) state.now modseq tagged.now.tag tagged.now.command told) }
+{
+    let Tagged { tag, command } = tagged;
+    match command {
+        Command::Capability => capability_report(alloc),
+        Command::Noop => Ok(CommandReport::empty(alloc)),
+        Command::Logout => logout_report(alloc),
+        Command::Login { .. } => Ok(CommandReport::empty(alloc)),
+        Command::Enable { names } => enable_report(alloc, names.as_slice()),
+        Command::Select { name, .. } => report_of_select(alloc, replica, ops, state, false, name),
+        Command::Examine { name, .. } => report_of_select(alloc, replica, ops, state, true, name),
+        Command::Create { .. } => Ok(CommandReport::empty(alloc)),
+        Command::Delete { .. } => Ok(CommandReport::empty(alloc)),
+        Command::Subscribe { .. } => Ok(CommandReport::empty(alloc)),
+        Command::Unsubscribe { .. } => Ok(CommandReport::empty(alloc)),
+        Command::ListNames(list) => report_of_list(
+            alloc,
+            replica,
+            ListMode {
+                subscribed_only: list.subscribed_only,
+                return_subscribed: list.return_subscribed,
+            },
+            &list.reference,
+            &list.pattern,
+        ),
+        Command::Namespace => namespace_report(alloc),
+        Command::Status { name, items } => {
+            report_of_status(alloc, replica, ops, name, items.as_slice())
+        }
+        Command::Append(append) => Ok(report_of_append(alloc, replica, ops, &append.name)),
+        Command::Idle => idle_report(alloc),
+        Command::Close => Ok(CommandReport::empty(alloc)),
+        Command::Unselect => Ok(CommandReport::empty(alloc)),
+        Command::Expunge => Ok(CommandReport::empty(alloc)),
+        Command::UidExpunge { .. } => report_of_uid_expunge(alloc, replica, state, found),
+        Command::Search(search) => {
+            let asked = SearchArgs {
+                by_uid: search.by_uid,
+                options: search.options.as_slice(),
+                steps: &search.steps,
+            };
+            report_of_search(alloc, replica, ops, state, tag, &asked)
+        }
+        Command::Fetch(fetch) => {
+            let asked = FetchArgs {
+                by_uid: fetch.by_uid,
+                messages: &fetch.messages,
+                items: fetch.items.as_slice(),
+                changed_since: fetch.changed_since,
+            };
+            report_of_fetch(alloc, replica, ops, made, state, modseq, &asked, found)
+        }
+        Command::Store(store) => {
+            let asked = StoreArgs {
+                by_uid: store.by_uid,
+                messages: &store.messages,
+                unchanged_since: store.unchanged_since,
+                action: store.action,
+                flags: &store.flags,
+            };
+            report_of_store(alloc, replica, ops, made, state, modseq, &asked, found)
+        }
+        Command::Copy(transfer) => {
+            let asked = CopyArgs {
+                by_uid: transfer.by_uid,
+                messages: &transfer.messages,
+                destination: &transfer.name,
+            };
+            report_of_transfer(alloc, replica, ops, state, false, &asked, found)
+        }
+        Command::Move(transfer) => {
+            let asked = CopyArgs {
+                by_uid: transfer.by_uid,
+                messages: &transfer.messages,
+                destination: &transfer.name,
+            };
+            report_of_transfer(alloc, replica, ops, state, true, &asked, found)
+        }
+    }
+}
+
+/// What a view's mailbox has behind these operations, of the view's own incarnation.
+pub fn rows_after<'a>(
+    alloc: Global,
+    replica: &'a ReplicaState,
+    ops: &'a [SoundOp],
+    view: &View,
+) -> Result<Rows<'a>, AllocError>
+    requires { IsReady replica.now ops.now }
+    ensures { IfOk result (λ rows. rows ≡ rows_for replica.now.start (replica.now.applied ++ ops.now) view.now) }
+{
+    let rows = replica.rows_after(alloc, view.name(), ops)?;
+    Ok(view.rows_under(alloc, replica.uidvalidity_after(view.name(), ops), rows))
+}
+
+/// What a session that has this view finds its mailbox to be before these operations.
+pub fn mailbox_before<'a>(
+    alloc: Global,
+    replica: &'a ReplicaState,
+    view: &'a View,
+    read_only: bool,
+) -> Result<OpenMailbox<'a>, AllocError>
+    ensures { IfOk result (λ mailbox. mailbox ≡ mailbox_in replica.now.start replica.now.applied view.now read_only) }
+{
+    let rows = rows_before(alloc, replica, view)?;
+    Ok(OpenMailbox {
+        name: view.name(),
+        rows,
+        view,
+        read_only,
+    })
+}
+
+/// The same behind these operations.
+fn mailbox_after<'a>(
+    alloc: Global,
+    replica: &'a ReplicaState,
+    ops: &'a [SoundOp],
+    view: &'a View,
+    read_only: bool,
+) -> Result<OpenMailbox<'a>, AllocError>
+    requires { IsReady replica.now ops.now }
+    ensures { IfOk result (λ mailbox. mailbox ≡ mailbox_in replica.now.start (replica.now.applied ++ ops.now) view.now read_only) }
+{
+    let rows = rows_after(alloc, replica, ops, view)?;
+    Ok(OpenMailbox {
+        name: view.name(),
+        rows,
+        view,
+        read_only,
+    })
+}
+
+/// Where copies come to in a mailbox, with these operations.
+fn copy_target_of<'a>(
+    alloc: Global,
+    replica: &'a ReplicaState,
+    ops: &'a [SoundOp],
+    name: &Name,
+) -> Result<CopyTarget<'a>, AllocError>
+    requires { IsReady replica.now ops.now }
+    ensures { IfOk result (λ landing. landing ≡ copy_target_in replica.now.start replica.now.applied (replica.now.applied ++ ops.now) name.now) }
+{
+    let rows = replica.rows_after(alloc, name, ops)?;
+    Ok(CopyTarget {
+        uidvalidity: validity_after(replica, ops, name),
+        uidnext: replica.uidnext(name),
+        rows,
+    })
+}
+
+/// What a view's mailbox has before these operations.
+fn rows_before<'a>(alloc: Global, replica: &'a ReplicaState, view: &View) -> Result<Rows<'a>, AllocError>
+    ensures { IfOk result (λ rows. rows ≡ rows_for replica.now.start replica.now.applied view.now) }
+{
+    let (uidvalidity, rows) = replica.numbered_rows(alloc, view.name())?;
+    Ok(view.rows_under(alloc, uidvalidity, rows))
+}
+
+/// The UIDVALIDITY of a mailbox that is there behind these operations.
+pub fn validity_after(replica: &ReplicaState, ops: &[SoundOp], name: &Name) -> u32
+    requires { IsReady replica.now ops.now }
+    ensures { result ≡ validity_of replica.now.start name.now (replica.now.applied ++ ops.now) }
+{
+    replica.uidvalidity_after(name, ops).unwrap_or(0)
+}
+
+/// The numbers of a mailbox that is there behind these operations.
+fn counters_after(replica: &ReplicaState, ops: &[SoundOp], name: &Name) -> MailboxCounters
+    requires { IsReady replica.now ops.now }
+    ensures { result ≡ counters_of replica.now.start name.now (replica.now.applied ++ ops.now) }
+{
+    MailboxCounters {
+        uidvalidity: validity_after(replica, ops, name),
+        uidnext: replica.uidnext_after(name, ops),
+        highest_modseq: replica.highest_after(name, ops),
+    }
+}
+
+fn report_of_select(
+    alloc: Global,
+    replica: &ReplicaState,
+    ops: &[SoundOp],
+    state: &State,
+    read_only: bool,
+    name: &Name,
+) -> Result<CommandReport, AllocError>
+    requires { IsReady replica.now ops.now }
+    ensures { IfOk result (λ told. IsSelectReport (is_selected state.now) read_only name.now (counters_of replica.now.start name.now (replica.now.applied ++ ops.now)) (listing replica.now.start name.now (replica.now.applied ++ ops.now)) told) }
+{
+    let rows = replica.rows_after(alloc, name, ops)?;
+    let marks = counters_after(replica, ops, name);
+    select_report(alloc, is_selected(state), read_only, name, marks, &rows)
+}
+
+fn report_of_status(
+    alloc: Global,
+    replica: &ReplicaState,
+    ops: &[SoundOp],
+    name: &Name,
+    items: &[StatusItem],
+) -> Result<CommandReport, AllocError>
+    requires { IsReady replica.now ops.now }
+    ensures { IfOk result (λ told. told ≡ status_report name.now items.now (counters_of replica.now.start name.now (replica.now.applied ++ ops.now)) (listing replica.now.start name.now (replica.now.applied ++ ops.now))) }
+{
+    let rows = replica.rows_after(alloc, name, ops)?;
+    let marks = counters_after(replica, ops, name);
+    status_report(alloc, name, items, marks, &rows)
+}
+
+fn report_of_append(alloc: Global, replica: &ReplicaState, ops: &[SoundOp], name: &Name) -> CommandReport
+    requires { IsReady replica.now ops.now }
+    ensures { result ≡ append_report (validity_of replica.now.start name.now (replica.now.applied ++ ops.now)) (uidnext_of replica.now.start name.now replica.now.applied) }
+{
+    append_report(
+        alloc,
+        validity_after(replica, ops, name),
+        replica.uidnext(name),
+    )
+}
+
+fn report_of_list(
+    alloc: Global,
+    replica: &ReplicaState,
+    mode: ListMode,
+    reference: &Octets,
+    pattern: &Octets,
+) -> Result<CommandReport, AllocError>
+    ensures { IfOk result (λ told. IsListReport mode reference.now pattern.now (folders_of replica.now.applied) (subscribed_names_of replica.now.applied) told) }
+{
+    let folders = replica.folders(alloc)?;
+    let subscriptions = replica.subscribed_names(alloc)?;
+    list_report(alloc, mode, reference, pattern, &folders, &subscriptions)
+}
+
+fn report_of_uid_expunge(
+    alloc: Global,
+    replica: &ReplicaState,
+    state: &State,
+    found: &NamedMessages,
+) -> Result<CommandReport, AllocError>
+    ensures { (uids : List SequenceRange) → found.now ≡ messages_named_if_selected state.now (λ view read_only. messages_named_by true uids view.entries) → IfOk result (λ told. told ≡ report_if_selected state.now (λ view read_only. uid_expunge_report (mailbox_in replica.now.start replica.now.applied view read_only) uids)) }
+{
+    let State::Selected { view, read_only } = state else {
+        return Ok(CommandReport::empty(alloc));
+    };
+    let mailbox = mailbox_before(alloc, replica, view, *read_only)?;
+    Ok(uid_expunge_report(alloc, &mailbox, found))
+}
+
+fn report_of_search(
+    alloc: Global,
+    replica: &ReplicaState,
+    ops: &[SoundOp],
+    state: &State,
+    tag: &Octets,
+    asked: &SearchArgs<'_>,
+) -> Result<CommandReport, AllocError>
+    requires { IsReady replica.now ops.now }
+    ensures { IfOk result (λ told. IsSearchReportIfSelected replica.now.start (replica.now.applied ++ ops.now) state.now tag.now asked.now told) }
+{
+    let State::Selected { view, read_only } = state else {
+        return Ok(CommandReport::empty(alloc));
+    };
+    let mailbox = mailbox_after(alloc, replica, ops, view, *read_only)?;
+    search_report(alloc, &mailbox, tag, asked)
+}
+
+fn report_of_fetch(
+    alloc: Global,
+    replica: &ReplicaState,
+    ops: &[SoundOp],
+    made: Option<&Rows<'_>>,
+    state: &State,
+    modseq: bool,
+    asked: &FetchArgs<'_>,
+    found: &NamedMessages,
+) -> Result<CommandReport, AllocError>
+    requires ready { IsReady replica.now ops.now }
+    requires made { IsListingFor replica.now.start (replica.now.applied ++ ops.now) state.now (option_map (λ rows. rows.now) made) }
+    requires found { found.now ≡ messages_named_if_selected state.now (λ view read_only. messages_named_by asked.now.by_uid asked.now.messages view.entries) }
+    ensures { IfOk result (λ told. told ≡ report_if_selected state.now (λ view read_only. fetch_report (mailbox_in replica.now.start replica.now.applied view read_only) (rows_for replica.now.start (replica.now.applied ++ ops.now) view) modseq asked.now)) }
+{
+    let State::Selected { view, read_only } = state else {
+        return Ok(CommandReport::empty(alloc));
+    };
+    let mailbox = mailbox_before(alloc, replica, view, *read_only)?;
+    if ops.is_empty() {
+        return fetch_report(alloc, &mailbox, None, modseq, asked, found);
+    }
+    if let Some(after) = made {
+        return fetch_report(alloc, &mailbox, Some(after), modseq, asked, found);
+    }
+    let after = rows_after(alloc, replica, ops, view)?;
+    fetch_report(alloc, &mailbox, Some(&after), modseq, asked, found)
+}
+
+fn report_of_store(
+    alloc: Global,
+    replica: &ReplicaState,
+    ops: &[SoundOp],
+    made: Option<&Rows<'_>>,
+    state: &State,
+    modseq: bool,
+    asked: &StoreArgs<'_>,
+    found: &NamedMessages,
+) -> Result<CommandReport, AllocError>
+    requires ready { IsReady replica.now ops.now }
+    requires made { IsListingFor replica.now.start (replica.now.applied ++ ops.now) state.now (option_map (λ rows. rows.now) made) }
+    requires found { found.now ≡ messages_named_if_selected state.now (λ view read_only. messages_stored_by (mailbox_in replica.now.start replica.now.applied view read_only) asked.now) }
+    ensures { IfOk result (λ told. told ≡ report_if_selected state.now (λ view read_only. store_report (mailbox_in replica.now.start replica.now.applied view read_only) (rows_for replica.now.start (replica.now.applied ++ ops.now) view) modseq asked.now)) }
+{
+    let State::Selected { view, read_only } = state else {
+        return Ok(CommandReport::empty(alloc));
+    };
+    let mailbox = mailbox_before(alloc, replica, view, *read_only)?;
+    if let Some(after) = made {
+        return store_report(alloc, &mailbox, after, modseq, asked, found);
+    }
+    let after = rows_after(alloc, replica, ops, view)?;
+    store_report(alloc, &mailbox, &after, modseq, asked, found)
+}
+
+fn report_of_transfer(
+    alloc: Global,
+    replica: &ReplicaState,
+    ops: &[SoundOp],
+    state: &State,
+    moves: bool,
+    asked: &CopyArgs<'_>,
+    found: &NamedMessages,
+) -> Result<CommandReport, AllocError>
+    requires ready { IsReady replica.now ops.now }
+    requires found { found.now ≡ messages_named_if_selected state.now (λ view read_only. messages_named_by asked.now.by_uid asked.now.messages view.entries) }
+    ensures { IfOk result (λ told. told ≡ report_if_selected state.now (λ view read_only. (if moves then move_report else copy_report) (mailbox_in replica.now.start replica.now.applied view read_only) asked.now (copy_target_in replica.now.start replica.now.applied (replica.now.applied ++ ops.now) asked.now.destination))) }
+{
+    let State::Selected { view, read_only } = state else {
+        return Ok(CommandReport::empty(alloc));
+    };
+    let mailbox = mailbox_before(alloc, replica, view, *read_only)?;
+    let landing = copy_target_of(alloc, replica, ops, asked.destination)?;
+    let told = if moves {
+        move_report(alloc, &mailbox, &landing, found)
+    } else {
+        copy_report(alloc, &mailbox, &landing, found)
+    };
+    drop(landing);
+    drop(mailbox);
+    told
+}

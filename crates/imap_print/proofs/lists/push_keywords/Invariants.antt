@@ -1,6 +1,0 @@
-use Rattle.std.proofs.Common.{take}
-use Rattle.imap_print.specs.Appending.{Lists}
-use Rattle.imap_print.proofs.lists.push_keywords.Given as goal
-
-abbrev pub invariant-loop-keyword : goal.invariant-loop-keyword
-invariant-loop-keyword l = Lists l.fn.is_first (take l.keyword-index l.keywords) l.initial.out.items l.out.items l.still

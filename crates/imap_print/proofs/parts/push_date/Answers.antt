@@ -1,7 +1,0 @@
-use Rattle.imap_print.proofs.ListsLemmas.{behind}
-use Rattle.imap_print.proofs.parts.push_date.Goals as goal
-
-pub returns : goal.returns
-returns c =
-    let date = rw c.as_bytes.ensures.value at c.in_ok-push_text-2.ensures in
-    behind _ _ _ _ _ c.in_ok-push_text.ensures date

@@ -1,6 +1,0 @@
-use Rattle.std.proofs.Common.{◌≡◌, ◌-◌}
-use Rattle.imap_print.specs.Reading.{words_at, with_front}
-use Rattle.imap_print.proofs.scan.words.Given as goal
-
-abbrev pub invariant-loop-index : goal.invariant-loop-index
-invariant-loop-index l = with_front l.found.items (words_at (l.count - l._index) l.still l.rest) ≡ words_at l.count l.fn.is_first l.bytes

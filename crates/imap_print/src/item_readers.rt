@@ -1,0 +1,345 @@
+//! Reading of lists in answers. A reader here is told whether the next text is the first of its list, and tells what it
+//! read, whether the next text is still the first, and what stands behind.
+
+ghost use Rattle.std.specs.Prelude.{◌≡◌, true, codes, option_map};
+ghost use Rattle.imap_print.specs.Reading.{Gives, after, flag_at, item_at, lead};
+ghost use Rattle.imap_print.specs.ReadingAnswers.{bodies_at, body_at, data_at, date_at, date_or, fetch_items_at, fields_at, flags_at, flags_from, flags_or, modseq_or, next_field_at, origin_or, permanent_at, permanent_from, section_at, small_option, status_items_at};
+
+use crate::fault::ReadFault;
+use crate::scanner::{counted_octets, expect, field, value_before_text, lead, literal, number, skip, small, words};
+use imap_answers::{FetchItems, SectionData, Sections, StatusItems};
+use imap_types::{DateTime, FieldNames, Flags, Keywords, Octets, Section, Text};
+use std::alloc::Global;
+
+/// What stands behind a text of a list, where it is there.
+fn skip_text<'a>(is_first: bool, text: &[u8], bytes: &'a [u8]) -> Option<&'a [u8]>
+    ensures { option_map (λ rest. rest.now) result ≡ after (lead is_first text.now) bytes.now }
+{
+    if is_first {
+        return skip(bytes, text);
+    }
+    match skip(bytes, b" ") {
+        None => None,
+        Some(rest) => skip(rest, text),
+    }
+}
+
+/// Whether a flag is there.
+fn flag<'a>(is_first: bool, text: &[u8], bytes: &'a [u8]) -> (bool, bool, &'a [u8])
+    ensures there { result.0 ≡ (flag_at is_first text.now bytes.now).0 }
+    ensures still { result.1 ≡ (flag_at is_first text.now bytes.now).1 }
+    ensures rest { result.2.now ≡ (flag_at is_first text.now bytes.now).2 }
+{
+    match skip_text(is_first, text, bytes) {
+        None => (false, is_first, bytes),
+        Some(rest) => (true, false, rest),
+    }
+}
+
+/// A number behind its label, where it is there.
+pub fn item<'a>(is_first: bool, label: &[u8], bytes: &'a [u8]) -> (Option<u64>, bool, &'a [u8])
+    ensures number { result.0 ≡ (item_at is_first label.now bytes.now).0 }
+    ensures still { result.1 ≡ (item_at is_first label.now bytes.now).1 }
+    ensures rest { result.2.now ≡ (item_at is_first label.now bytes.now).2 }
+{
+    match skip_text(is_first, label, bytes) {
+        None => (None, is_first, bytes),
+        Some(digits) => {
+            let (found, rest) = number(digits);
+            (Some(found), false, rest)
+        }
+    }
+}
+
+/// The same number in 32 bits, where there is one.
+pub fn narrow(number: Option<u64>) -> Option<u32>
+    ensures { result ≡ small_option number }
+{
+    match number {
+        None => None,
+        Some(number) => Some(small(number)),
+    }
+}
+
+#[tactic(auto, unfolding(crate::specs::ReadingAnswers::flags_from))]
+fn flags_from(alloc: Global, bytes: &[u8]) -> Result<(Flags, bool, &[u8]), ReadFault>
+    ensures { Gives (λ x. (x.0, x.1, x.2.now)) result (flags_from bytes.now) }
+{
+    let (answered, still, rest) = flag(true, b"\\Answered", bytes);
+    let (flagged, still, rest) = flag(still, b"\\Flagged", rest);
+    let (deleted, still, rest) = flag(still, b"\\Deleted", rest);
+    let (seen, still, rest) = flag(still, b"\\Seen", rest);
+    let (draft, still, rest) = flag(still, b"\\Draft", rest);
+    let (found, rest) = words(alloc, bytes.len() + 1, still, rest)?;
+    let has_none = found.is_empty();
+    match Keywords::new(found) {
+        None => Err(ReadFault::NotPrinted),
+        Some(keywords) => {
+            let flags = Flags {
+                answered,
+                flagged,
+                deleted,
+                seen,
+                draft,
+                keywords,
+            };
+            Ok((flags, still && has_none, rest))
+        }
+    }
+}
+
+/// Flags in parentheses.
+#[tactic(auto, unfolding(crate::specs::ReadingAnswers::flags_at))]
+pub fn flags(alloc: Global, bytes: &[u8]) -> Result<(Flags, &[u8]), ReadFault>
+    ensures { Gives (λ x. (x.0, x.1.now)) result (flags_at bytes.now) }
+{
+    let rest = expect(bytes, b"(")?;
+    let (flags, _, rest) = flags_from(alloc, rest)?;
+    value_before_text(flags, rest, b")")
+}
+
+/// The flags that can be changed for good.
+pub fn permanent_flags(alloc: Global, bytes: &[u8]) -> Result<(Option<Flags>, &[u8]), ReadFault>
+    ensures { Gives (λ x. (x.0, x.1.now)) result (permanent_at bytes.now) }
+{
+    match skip(bytes, b"()") {
+        Some(rest) => Ok((None, rest)),
+        None => {
+            let rest = expect(bytes, b"(")?;
+            permanent_from(alloc, rest)
+        }
+    }
+}
+
+#[tactic(auto, unfolding(crate::specs::ReadingAnswers::permanent_from))]
+fn permanent_from(alloc: Global, bytes: &[u8]) -> Result<(Option<Flags>, &[u8]), ReadFault>
+    ensures { Gives (λ x. (x.0, x.1.now)) result (permanent_from bytes.now) }
+{
+    let (flags, still, rest) = flags_from(alloc, bytes)?;
+    match skip_text(still, b"\\*", rest) {
+        None => {
+            drop(flags);
+            Err(ReadFault::NotPrinted)
+        }
+        Some(rest) => value_before_text(Some(flags), rest, b")"),
+    }
+}
+
+/// What STATUS tells.
+#[tactic(auto, unfolding(crate::specs::ReadingAnswers::status_items_at))]
+pub fn status_items(bytes: &[u8]) -> (StatusItems, &[u8])
+    ensures items { result.0 ≡ (status_items_at bytes.now).0 }
+    ensures rest { result.1.now ≡ (status_items_at bytes.now).1 }
+{
+    let (messages, still, rest) = item(true, b"MESSAGES ", bytes);
+    let (uidnext, still, rest) = item(still, b"UIDNEXT ", rest);
+    let (uidvalidity, still, rest) = item(still, b"UIDVALIDITY ", rest);
+    let (unseen, still, rest) = item(still, b"UNSEEN ", rest);
+    let (deleted, still, rest) = item(still, b"DELETED ", rest);
+    let (size, still, rest) = item(still, b"SIZE ", rest);
+    let (highest_modseq, _, rest) = item(still, b"HIGHESTMODSEQ ", rest);
+    let items = StatusItems {
+        messages: narrow(messages),
+        uidnext: narrow(uidnext),
+        uidvalidity: narrow(uidvalidity),
+        unseen: narrow(unseen),
+        deleted: narrow(deleted),
+        size,
+        highest_modseq,
+    };
+    (items, rest)
+}
+
+fn fields(alloc: Global, count: usize, bytes: &[u8]) -> Result<(FieldNames, &[u8]), ReadFault>
+    ensures { Gives (λ x. (x.0, x.1.now)) result (fields_at count true bytes.now) }
+{
+    let mut names = Vec::new(alloc);
+    let mut still = true;
+    let mut rest = bytes;
+    for _index in 0..count {
+        match skip(rest, b")") {
+            Some(behind) => return Ok((FieldNames::new(names), behind)),
+            None => {}
+        }
+        let (name, tail) = next_field(alloc, still, rest)?;
+        names.push(name)?;
+        still = false;
+        rest = tail;
+    }
+    Err(ReadFault::NotPrinted)
+}
+
+fn next_field(alloc: Global, is_first: bool, bytes: &[u8]) -> Result<(Octets, &[u8]), ReadFault>
+    ensures { Gives (λ x. (x.0, x.1.now)) result (next_field_at is_first bytes.now) }
+{
+    let rest = expect(bytes, lead(is_first))?;
+    field(alloc, rest)
+}
+
+/// A part of a message (RFC 9051, section 9, section-spec).
+#[tactic(auto, unfolding(crate::specs::ReadingAnswers::section_at))]
+fn section(alloc: Global, bytes: &[u8]) -> Result<(Section, &[u8]), ReadFault>
+    ensures { Gives (λ x. (x.0, x.1.now)) result (section_at bytes.now) }
+{
+    if let Some(rest) = skip(bytes, b"HEADER.FIELDS (") {
+        let (names, rest) = fields(alloc, rest.len() + 1, rest)?;
+        return Ok((Section::Fields { names }, rest));
+    }
+    if let Some(rest) = skip(bytes, b"HEADER.FIELDS.NOT (") {
+        let (names, rest) = fields(alloc, rest.len() + 1, rest)?;
+        return Ok((Section::FieldsNot { names }, rest));
+    }
+    if let Some(rest) = skip(bytes, b"HEADER") {
+        return Ok((Section::Header, rest));
+    }
+    match skip(bytes, b"TEXT") {
+        Some(rest) => Ok((Section::Text, rest)),
+        None => Ok((Section::Whole, bytes)),
+    }
+}
+
+fn origin(bytes: &[u8]) -> Result<(Option<u32>, &[u8]), ReadFault>
+    ensures { Gives (λ x. (x.0, x.1.now)) result (origin_or (after (codes "<") bytes.now) bytes.now) }
+{
+    match skip(bytes, b"<") {
+        None => Ok((None, bytes)),
+        Some(digits) => {
+            let (found, rest) = number(digits);
+            let rest = expect(rest, b">")?;
+            Ok((Some(small(found)), rest))
+        }
+    }
+}
+
+#[tactic(auto, unfolding(crate::specs::ReadingAnswers::body_at))]
+fn body(alloc: Global, bytes: &[u8]) -> Result<(SectionData, &[u8]), ReadFault>
+    ensures { Gives (λ x. (x.0, x.1.now)) result (body_at bytes.now) }
+{
+    let (section, rest) = section(alloc, bytes)?;
+    match octets_behind(alloc, rest) {
+        Err(fault) => {
+            drop(section);
+            Err(fault)
+        }
+        Ok(((origin, octets), rest)) => {
+            let part = SectionData {
+                section,
+                origin,
+                octets,
+            };
+            Ok((part, rest))
+        }
+    }
+}
+
+/// What stands behind the section of a part: where it begins, and its octets.
+#[tactic(auto, unfolding(crate::specs::ReadingAnswers::data_at))]
+fn octets_behind(alloc: Global, bytes: &[u8]) -> Result<((Option<u32>, Text), &[u8]), ReadFault>
+    ensures { Gives (λ x. (x.0, x.1.now)) result (data_at bytes.now) }
+{
+    let rest = expect(bytes, b"]")?;
+    let (origin, rest) = origin(rest)?;
+    let rest = expect(rest, b" ")?;
+    let (octets, rest) = literal(alloc, rest)?;
+    Ok(((origin, Text::new(octets.into_vec())?), rest))
+}
+
+fn bodies(
+    alloc: Global,
+    count: usize,
+    is_first: bool,
+    bytes: &[u8],
+) -> Result<(Sections, &[u8]), ReadFault>
+    ensures { Gives (λ x. (x.0, x.1.now)) result (bodies_at count is_first bytes.now) }
+{
+    let mut parts = Vec::new(alloc);
+    let mut still = is_first;
+    let mut rest = bytes;
+    for _index in 0..count {
+        let behind = match skip_text(still, b"BODY[", rest) {
+            None => return Ok((Sections::new(parts), rest)),
+            Some(behind) => behind,
+        };
+        let (part, tail) = body(alloc, behind)?;
+        parts.push(part)?;
+        still = false;
+        rest = tail;
+    }
+    Err(ReadFault::NotPrinted)
+}
+
+fn flags_item(
+    alloc: Global,
+    is_first: bool,
+    bytes: &[u8],
+) -> Result<(Option<Flags>, bool, &[u8]), ReadFault>
+    ensures { Gives (λ x. (x.0, x.1, x.2.now)) result (flags_or is_first (after (lead is_first (codes "FLAGS ")) bytes.now) bytes.now) }
+{
+    match skip_text(is_first, b"FLAGS ", bytes) {
+        None => Ok((None, is_first, bytes)),
+        Some(rest) => {
+            let (flags, rest) = flags(alloc, rest)?;
+            Ok((Some(flags), false, rest))
+        }
+    }
+}
+
+#[tactic(auto, unfolding(crate::specs::ReadingAnswers::date_at))]
+fn date(bytes: &[u8]) -> Result<(DateTime, &[u8]), ReadFault>
+    ensures { Gives (λ x. (x.0, x.1.now)) result (date_at bytes.now) }
+{
+    let (front, rest) = counted_octets(28, bytes)?;
+    let mut octets = [0u8; 28];
+    octets.copy_from_slice(front);
+    match DateTime::new(octets) {
+        None => Err(ReadFault::NotPrinted),
+        Some(date) => Ok((date, rest)),
+    }
+}
+
+fn date_item(is_first: bool, bytes: &[u8]) -> Result<(Option<DateTime>, bool, &[u8]), ReadFault>
+    ensures { Gives (λ x. (x.0, x.1, x.2.now)) result (date_or is_first (after (lead is_first (codes "INTERNALDATE ")) bytes.now) bytes.now) }
+{
+    match skip_text(is_first, b"INTERNALDATE ", bytes) {
+        None => Ok((None, is_first, bytes)),
+        Some(rest) => {
+            let (date, rest) = date(rest)?;
+            Ok((Some(date), false, rest))
+        }
+    }
+}
+
+fn modseq_item(is_first: bool, bytes: &[u8]) -> Result<(Option<u64>, bool, &[u8]), ReadFault>
+    ensures { Gives (λ x. (x.0, x.1, x.2.now)) result (modseq_or is_first (after (lead is_first (codes "MODSEQ (")) bytes.now) bytes.now) }
+{
+    match skip_text(is_first, b"MODSEQ (", bytes) {
+        None => Ok((None, is_first, bytes)),
+        Some(digits) => {
+            let (found, rest) = number(digits);
+            let rest = expect(rest, b")")?;
+            Ok((Some(found), false, rest))
+        }
+    }
+}
+
+/// What FETCH tells.
+#[tactic(auto, unfolding(crate::specs::ReadingAnswers::fetch_items_at))]
+pub fn fetch_items(alloc: Global, bytes: &[u8]) -> Result<(FetchItems, &[u8]), ReadFault>
+    ensures { Gives (λ x. (x.0, x.1.now)) result (fetch_items_at bytes.now) }
+{
+    let (uid, still, rest) = item(true, b"UID ", bytes);
+    let (flags, still, rest) = flags_item(alloc, still, rest)?;
+    let (date, still, rest) = date_item(still, rest)?;
+    let (size, still, rest) = item(still, b"RFC822.SIZE ", rest);
+    let (modseq, still, rest) = modseq_item(still, rest)?;
+    let (sections, rest) = bodies(alloc, rest.len() + 1, still, rest)?;
+    let items = FetchItems {
+        uid: narrow(uid),
+        flags,
+        date,
+        size,
+        modseq,
+        sections,
+    };
+    Ok((items, rest))
+}

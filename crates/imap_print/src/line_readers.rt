@@ -1,0 +1,485 @@
+//! Reading of answers, part by part. Each reader tells what it read and what stands behind that.
+
+ghost use Rattle.std.specs.Prelude.{codes};
+ghost use Rattle.imap_print.specs.Reading.{Gives, after, within};
+ghost use Rattle.imap_print.specs.ReadingAnswers.{all_or, answer_at, appended_at, code_at, code_before_at, coded_at, completed_at, copied_at, done_at, fetch_at, fixed_at, flags_at, last_set_at, line_at, list_at, modified_at, notice_at, permanent_notice_at, results_at, search_at, search_from, sets_at, star_at, status_at, status_list_at, tagged_at, tagged_done_at, tell_at, untagged_at, worded_at};
+ghost use Rattle.imap_answers.specs.declared.answer.Answer.TheVariants.{Flags};
+ghost use Rattle.imap_answers.specs.declared.codes.Code.TheVariants as code;
+ghost use Rattle.imap_answers.specs.declared.codes.Notice.TheVariants as notice;
+
+use crate::fault::ReadFault;
+use crate::item_readers::{fetch_items, flags, item, narrow, permanent_flags, status_items};
+use crate::scanner::{ScanClass, expect, value_before_text, number, set, skip, small, span, string};
+use crate::fixed_texts::{
+    attributes_word, bye_word, command_word, continuation_word, enabled_word, login_word,
+    refusal_word,
+};
+use imap_answers::{Answer, Code, CompletedWord, Notice, SearchResults, StatusItems};
+use imap_types::{Name, NumberSet, Octets};
+use std::alloc::Global;
+
+/// An answer with its line end.
+#[tactic(auto, unfolding(crate::specs::ReadingAnswers::line_at))]
+pub fn line(alloc: Global, bytes: &[u8]) -> Result<(Answer, &[u8]), ReadFault>
+    ensures { Gives (λ x. (x.0, x.1.now)) result (line_at bytes.now) }
+{
+    let (found, rest) = answer(alloc, bytes)?;
+    value_before_text(found, rest, b"\r\n")
+}
+
+#[tactic(auto, unfolding(crate::specs::ReadingAnswers::answer_at))]
+fn answer(alloc: Global, bytes: &[u8]) -> Result<(Answer, &[u8]), ReadFault>
+    ensures { Gives (λ x. (x.0, x.1.now)) result (answer_at bytes.now) }
+{
+    let (tag, rest) = span(ScanClass::Tag, bytes);
+    if tag.is_empty() {
+        star(alloc, bytes)
+    } else {
+        tagged_line(alloc, tag, rest)
+    }
+}
+
+#[tactic(auto, unfolding(crate::specs::ReadingAnswers::star_at))]
+fn star(alloc: Global, bytes: &[u8]) -> Result<(Answer, &[u8]), ReadFault>
+    ensures { Gives (λ x. (x.0, x.1.now)) result (star_at bytes.now) }
+{
+    if let Some((login, rest)) = login_word(bytes) {
+        return Ok((Answer::Greeting { login }, rest));
+    }
+    if let Some((with, rest)) = continuation_word(bytes) {
+        return Ok((Answer::Continue { with }, rest));
+    }
+    if let Some((extensions, rest)) = enabled_word(bytes) {
+        return Ok((Answer::Enabled { extensions }, rest));
+    }
+    if let Some((reason, rest)) = bye_word(bytes) {
+        return Ok((Answer::Bye { reason }, rest));
+    }
+    let rest = expect(bytes, b"* ")?;
+    untagged(alloc, rest)
+}
+
+#[tactic(auto, unfolding(crate::specs::ReadingAnswers::untagged_at))]
+fn untagged(alloc: Global, bytes: &[u8]) -> Result<(Answer, &[u8]), ReadFault>
+    ensures { Gives (λ x. (x.0, x.1.now)) result (untagged_at bytes.now) }
+{
+    let (found, rest) = number(bytes);
+    if let Some(rest) = skip(rest, b" EXISTS") {
+        return Ok((
+            Answer::Exists {
+                count: small(found),
+            },
+            rest,
+        ));
+    }
+    if let Some(rest) = skip(rest, b" EXPUNGE") {
+        return Ok((
+            Answer::Expunge {
+                number: small(found),
+            },
+            rest,
+        ));
+    }
+    match skip(rest, b" FETCH (") {
+        Some(rest) => fetch(alloc, small(found), rest),
+        None => answer_of_word(alloc, bytes),
+    }
+}
+
+#[tactic(auto, unfolding(crate::specs::ReadingAnswers::worded_at))]
+fn answer_of_word(alloc: Global, bytes: &[u8]) -> Result<(Answer, &[u8]), ReadFault>
+    ensures { Gives (λ x. (x.0, x.1.now)) result (worded_at bytes.now) }
+{
+    if let Some(rest) = skip(bytes, b"OK ") {
+        return tell(alloc, rest);
+    }
+    if let Some(rest) = skip(bytes, b"FLAGS ") {
+        return mailbox_flags(alloc, rest);
+    }
+    if let Some(rest) = skip(bytes, b"LIST ") {
+        return list(alloc, rest);
+    }
+    if let Some(rest) = skip(bytes, b"STATUS ") {
+        return status(alloc, rest);
+    }
+    match skip(bytes, b"ESEARCH (TAG \"") {
+        Some(rest) => search(alloc, rest),
+        None => fixed_answer(bytes),
+    }
+}
+
+/// An untagged answer that is one fixed text.
+#[tactic(auto, unfolding(crate::specs::ReadingAnswers::fixed_at))]
+fn fixed_answer(bytes: &[u8]) -> Result<(Answer, &[u8]), ReadFault>
+    ensures { Gives (λ x. (x.0, x.1.now)) result (fixed_at bytes.now) }
+{
+    if let Some(rest) = skip(bytes, b"CAPABILITY IMAP4rev2 IDLE CONDSTORE") {
+        return Ok((Answer::Capability, rest));
+    }
+    if let Some(rest) = skip(bytes, b"NAMESPACE ((\"\" \"/\")) NIL NIL") {
+        return Ok((Answer::Namespace, rest));
+    }
+    match skip(bytes, b"BAD no tag") {
+        Some(rest) => Ok((Answer::NoTag, rest)),
+        None => value_before_text(
+            Answer::LiteralTooLong,
+            bytes,
+            b"NO [LIMIT] literal too long",
+        ),
+    }
+}
+
+/// The flags of a mailbox.
+fn mailbox_flags(alloc: Global, bytes: &[u8]) -> Result<(Answer, &[u8]), ReadFault>
+    ensures { Gives (λ x. (x.0, x.1.now)) result (within (λ flags. Flags flags) (flags_at bytes.now)) }
+{
+    let (flags, rest) = flags(alloc, bytes)?;
+    Ok((Answer::Flags { flags }, rest))
+}
+
+#[tactic(auto, unfolding(crate::specs::ReadingAnswers::tell_at))]
+fn tell(alloc: Global, bytes: &[u8]) -> Result<(Answer, &[u8]), ReadFault>
+    ensures { Gives (λ x. (x.0, x.1.now)) result (tell_at bytes.now) }
+{
+    let (notice, rest) = notice(alloc, bytes)?;
+    value_before_text(Answer::Tell { notice }, rest, b" ok")
+}
+
+#[tactic(auto, unfolding(crate::specs::ReadingAnswers::list_at))]
+fn list(alloc: Global, bytes: &[u8]) -> Result<(Answer, &[u8]), ReadFault>
+    ensures { Gives (λ x. (x.0, x.1.now)) result (list_at bytes.now) }
+{
+    match attributes_word(bytes) {
+        None => Err(ReadFault::NotPrinted),
+        Some((attributes, rest)) => {
+            let rest = expect(rest, b" \"/\" ")?;
+            let (name, rest) = string(alloc, rest)?;
+            let list = Answer::List {
+                name: Name::new(name.into_vec()),
+                state: attributes.state,
+                subscribed: attributes.subscribed,
+            };
+            Ok((list, rest))
+        }
+    }
+}
+
+#[tactic(auto, unfolding(crate::specs::ReadingAnswers::status_at))]
+fn status(alloc: Global, bytes: &[u8]) -> Result<(Answer, &[u8]), ReadFault>
+    ensures { Gives (λ x. (x.0, x.1.now)) result (status_at bytes.now) }
+{
+    let (name, rest) = string(alloc, bytes)?;
+    match status_list(rest) {
+        Err(fault) => {
+            drop(name);
+            Err(fault)
+        }
+        Ok((items, rest)) => {
+            let name = Name::new(name.into_vec());
+            Ok((Answer::Status { name, items }, rest))
+        }
+    }
+}
+
+/// What STATUS tells, in parentheses.
+#[tactic(auto, unfolding(crate::specs::ReadingAnswers::status_list_at))]
+fn status_list(bytes: &[u8]) -> Result<(StatusItems, &[u8]), ReadFault>
+    ensures { Gives (λ x. (x.0, x.1.now)) result (status_list_at bytes.now) }
+{
+    let rest = expect(bytes, b" (")?;
+    let (items, rest) = status_items(rest);
+    value_before_text(items, rest, b")")
+}
+
+#[tactic(auto, unfolding(crate::specs::ReadingAnswers::search_at))]
+fn search(alloc: Global, bytes: &[u8]) -> Result<(Answer, &[u8]), ReadFault>
+    ensures { Gives (λ x. (x.0, x.1.now)) result (search_at bytes.now) }
+{
+    let (tag, rest) = span(ScanClass::Tag, bytes);
+    if tag.is_empty() {
+        return Err(ReadFault::NotPrinted);
+    }
+    match skip(rest, b"\") UID") {
+        Some(rest) => search_from(alloc, tag, true, rest),
+        None => {
+            let rest = expect(rest, b"\")")?;
+            search_from(alloc, tag, false, rest)
+        }
+    }
+}
+
+fn search_from<'a>(
+    alloc: Global,
+    tag: &[u8],
+    by_uid: bool,
+    bytes: &'a [u8],
+) -> Result<(Answer, &'a [u8]), ReadFault>
+    ensures { Gives (λ x. (x.0, x.1.now)) result (search_from tag.now by_uid bytes.now) }
+{
+    let (results, rest) = results(alloc, bytes)?;
+    let search = Answer::Search {
+        tag: Octets::from_slice(alloc, tag)?,
+        by_uid,
+        results,
+    };
+    Ok((search, rest))
+}
+
+#[tactic(auto, unfolding(crate::specs::ReadingAnswers::results_at))]
+fn results(alloc: Global, bytes: &[u8]) -> Result<(SearchResults, &[u8]), ReadFault>
+    ensures { Gives (λ x. (x.0, x.1.now)) result (results_at bytes.now) }
+{
+    let (min, _, rest) = item(false, b"MIN ", bytes);
+    let (max, _, rest) = item(false, b"MAX ", rest);
+    let (all, rest) = all_hits(alloc, rest)?;
+    let (count, _, rest) = item(false, b"COUNT ", rest);
+    let (modseq, _, rest) = item(false, b"MODSEQ ", rest);
+    let results = SearchResults {
+        min: narrow(min),
+        max: narrow(max),
+        all,
+        count: narrow(count),
+        modseq,
+    };
+    Ok((results, rest))
+}
+
+fn all_hits(alloc: Global, bytes: &[u8]) -> Result<(NumberSet, &[u8]), ReadFault>
+    ensures { Gives (λ x. (x.0, x.1.now)) result (all_or (after (codes " ALL ") bytes.now) bytes.now) }
+{
+    match skip(bytes, b" ALL ") {
+        None => Ok((NumberSet::new(alloc), bytes)),
+        Some(rest) => set(alloc, rest),
+    }
+}
+
+#[tactic(auto, unfolding(crate::specs::ReadingAnswers::fetch_at))]
+fn fetch(alloc: Global, number: u32, bytes: &[u8]) -> Result<(Answer, &[u8]), ReadFault>
+    ensures { Gives (λ x. (x.0, x.1.now)) result (fetch_at number bytes.now) }
+{
+    let (items, rest) = fetch_items(alloc, bytes)?;
+    value_before_text(Answer::Fetch { number, items }, rest, b")")
+}
+
+#[tactic(auto, unfolding(crate::specs::ReadingAnswers::tagged_at))]
+fn tagged_line<'a>(alloc: Global, tag: &[u8], bytes: &'a [u8]) -> Result<(Answer, &'a [u8]), ReadFault>
+    ensures { Gives (λ x. (x.0, x.1.now)) result (tagged_at tag.now bytes.now) }
+{
+    let rest = expect(bytes, b" ")?;
+    if let Some(rest) = skip(rest, b"OK ") {
+        return completed_line(alloc, tag, rest);
+    }
+    match refusal_word(rest) {
+        None => Err(ReadFault::NotPrinted),
+        Some((reason, rest)) => {
+            let tag = Octets::from_slice(alloc, tag)?;
+            Ok((Answer::Refused { tag, reason }, rest))
+        }
+    }
+}
+
+#[tactic(auto, unfolding(crate::specs::ReadingAnswers::completed_at))]
+fn completed_line<'a>(
+    alloc: Global,
+    tag: &[u8],
+    bytes: &'a [u8],
+) -> Result<(Answer, &'a [u8]), ReadFault>
+    ensures { Gives (λ x. (x.0, x.1.now)) result (completed_at tag.now bytes.now) }
+{
+    let (code, rest) = code_before(alloc, bytes)?;
+    match tagged_done(alloc, tag, rest) {
+        Err(fault) => {
+            drop(code);
+            Err(fault)
+        }
+        Ok(((tag, command), rest)) => Ok((Answer::Completed { tag, code, command }, rest)),
+    }
+}
+
+/// The tag, and the command that is done.
+fn tagged_done<'a>(
+    alloc: Global,
+    tag: &[u8],
+    bytes: &'a [u8],
+) -> Result<((Octets, CompletedWord), &'a [u8]), ReadFault>
+    ensures { Gives (λ x. (x.0, x.1.now)) result (tagged_done_at tag.now bytes.now) }
+{
+    let (command, rest) = completed_word(bytes)?;
+    Ok(((Octets::from_slice(alloc, tag)?, command), rest))
+}
+
+/// The command that is done.
+#[tactic(auto, unfolding(crate::specs::ReadingAnswers::done_at))]
+fn completed_word(bytes: &[u8]) -> Result<(CompletedWord, &[u8]), ReadFault>
+    ensures { Gives (λ x. (x.0, x.1.now)) result (done_at bytes.now) }
+{
+    match command_word(bytes) {
+        None => Err(ReadFault::NotPrinted),
+        Some((command, rest)) => value_before_text(command, rest, b" completed"),
+    }
+}
+
+/// A number and the bracket that ends its code.
+#[tactic(auto, unfolding(crate::specs::ReadingAnswers::coded_at))]
+fn number_in_code(bytes: &[u8]) -> Result<(u64, &[u8]), ReadFault>
+    ensures { Gives (λ x. (x.0, x.1.now)) result (coded_at bytes.now) }
+{
+    let (found, rest) = number(bytes);
+    let rest = expect(rest, b"]")?;
+    Ok((found, rest))
+}
+
+#[tactic(auto, unfolding(crate::specs::ReadingAnswers::copied_at))]
+fn copyuid_code(alloc: Global, bytes: &[u8]) -> Result<((u32, NumberSet, NumberSet), &[u8]), ReadFault>
+    ensures { Gives (λ x. (x.0, x.1.now)) result (copied_at bytes.now) }
+{
+    let (uidvalidity, rest) = number(bytes);
+    let rest = expect(rest, b" ")?;
+    let ((source, copies), rest) = sets(alloc, rest)?;
+    Ok(((small(uidvalidity), source, copies), rest))
+}
+
+/// Two sets and the bracket that ends their code.
+#[tactic(auto, unfolding(crate::specs::ReadingAnswers::sets_at))]
+fn sets(alloc: Global, bytes: &[u8]) -> Result<((NumberSet, NumberSet), &[u8]), ReadFault>
+    ensures { Gives (λ x. (x.0, x.1.now)) result (sets_at bytes.now) }
+{
+    let (source, rest) = set(alloc, bytes)?;
+    match last_set(alloc, rest) {
+        Err(fault) => {
+            drop(source);
+            Err(fault)
+        }
+        Ok((copies, rest)) => Ok(((source, copies), rest)),
+    }
+}
+
+#[tactic(auto, unfolding(crate::specs::ReadingAnswers::last_set_at))]
+fn last_set(alloc: Global, bytes: &[u8]) -> Result<(NumberSet, &[u8]), ReadFault>
+    ensures { Gives (λ x. (x.0, x.1.now)) result (last_set_at bytes.now) }
+{
+    let rest = expect(bytes, b" ")?;
+    let (copies, rest) = set(alloc, rest)?;
+    value_before_text(copies, rest, b"]")
+}
+
+#[tactic(auto, unfolding(crate::specs::ReadingAnswers::notice_at))]
+fn notice(alloc: Global, bytes: &[u8]) -> Result<(Notice, &[u8]), ReadFault>
+    ensures { Gives (λ x. (x.0, x.1.now)) result (notice_at bytes.now) }
+{
+    if let Some(rest) = skip(bytes, b"[CLOSED]") {
+        return Ok((Notice::Closed, rest));
+    }
+    if let Some(rest) = skip(bytes, b"[UIDVALIDITY ") {
+        let (found, rest) = number_in_code(rest)?;
+        return Ok((
+            Notice::UidValidity {
+                value: small(found),
+            },
+            rest,
+        ));
+    }
+    if let Some(rest) = skip(bytes, b"[UIDNEXT ") {
+        let (found, rest) = number_in_code(rest)?;
+        return Ok((Notice::UidNext { uid: small(found) }, rest));
+    }
+    if let Some(rest) = skip(bytes, b"[HIGHESTMODSEQ ") {
+        let (modseq, rest) = number_in_code(rest)?;
+        return Ok((Notice::HighestModSeq { modseq }, rest));
+    }
+    if let Some(rest) = skip(bytes, b"[PERMANENTFLAGS ") {
+        return permanent_notice(alloc, rest);
+    }
+    match skip(bytes, b"[COPYUID ") {
+        None => Err(ReadFault::NotPrinted),
+        Some(rest) => copied_notice(alloc, rest),
+    }
+}
+
+#[tactic(auto, unfolding(crate::specs::ReadingAnswers::permanent_notice_at))]
+fn permanent_notice(alloc: Global, bytes: &[u8]) -> Result<(Notice, &[u8]), ReadFault>
+    ensures { Gives (λ x. (x.0, x.1.now)) result (permanent_notice_at bytes.now) }
+{
+    let (flags, rest) = permanent_flags(alloc, bytes)?;
+    value_before_text(Notice::PermanentFlags { flags }, rest, b"]")
+}
+
+fn copied_notice(alloc: Global, bytes: &[u8]) -> Result<(Notice, &[u8]), ReadFault>
+    ensures { Gives (λ x. (x.0, x.1.now)) result (within (λ c. notice.CopyUid c.0 c.1 c.2) (copied_at bytes.now)) }
+{
+    let ((uidvalidity, source, copies), rest) = copyuid_code(alloc, bytes)?;
+    let notice = Notice::CopyUid {
+        uidvalidity,
+        source,
+        copies,
+    };
+    Ok((notice, rest))
+}
+
+#[tactic(auto, unfolding(crate::specs::ReadingAnswers::appended_at))]
+fn appenduid_code(bytes: &[u8]) -> Result<((u32, u32), &[u8]), ReadFault>
+    ensures { Gives (λ x. (x.0, x.1.now)) result (appended_at bytes.now) }
+{
+    let (uidvalidity, rest) = number(bytes);
+    let rest = expect(rest, b" ")?;
+    let (uid, rest) = number_in_code(rest)?;
+    Ok(((small(uidvalidity), small(uid)), rest))
+}
+
+#[tactic(auto, unfolding(crate::specs::ReadingAnswers::code_at))]
+fn code(alloc: Global, bytes: &[u8]) -> Result<(Code, &[u8]), ReadFault>
+    ensures { Gives (λ x. (x.0, x.1.now)) result (code_at bytes.now) }
+{
+    if let Some(rest) = skip(bytes, b"[READ-WRITE]") {
+        return Ok((Code::ReadWrite, rest));
+    }
+    if let Some(rest) = skip(bytes, b"[READ-ONLY]") {
+        return Ok((Code::ReadOnly, rest));
+    }
+    if let Some(rest) = skip(bytes, b"[EXPUNGEISSUED]") {
+        return Ok((Code::ExpungeIssued, rest));
+    }
+    if let Some(rest) = skip(bytes, b"[APPENDUID ") {
+        let ((uidvalidity, uid), rest) = appenduid_code(rest)?;
+        return Ok((Code::AppendUid { uidvalidity, uid }, rest));
+    }
+    if let Some(rest) = skip(bytes, b"[COPYUID ") {
+        return copied_code(alloc, rest);
+    }
+    match skip(bytes, b"[MODIFIED ") {
+        None => Err(ReadFault::NotPrinted),
+        Some(rest) => modified_set(alloc, rest),
+    }
+}
+
+fn copied_code(alloc: Global, bytes: &[u8]) -> Result<(Code, &[u8]), ReadFault>
+    ensures { Gives (λ x. (x.0, x.1.now)) result (within (λ c. code.CopyUid c.0 c.1 c.2) (copied_at bytes.now)) }
+{
+    let ((uidvalidity, source, copies), rest) = copyuid_code(alloc, bytes)?;
+    let code = Code::CopyUid {
+        uidvalidity,
+        source,
+        copies,
+    };
+    Ok((code, rest))
+}
+
+#[tactic(auto, unfolding(crate::specs::ReadingAnswers::modified_at))]
+fn modified_set(alloc: Global, bytes: &[u8]) -> Result<(Code, &[u8]), ReadFault>
+    ensures { Gives (λ x. (x.0, x.1.now)) result (modified_at bytes.now) }
+{
+    let (refused, rest) = set(alloc, bytes)?;
+    value_before_text(Code::Modified { refused }, rest, b"]")
+}
+
+fn code_before(alloc: Global, bytes: &[u8]) -> Result<(Option<Code>, &[u8]), ReadFault>
+    ensures { Gives (λ x. (x.0, x.1.now)) result (code_before_at bytes.now) }
+{
+    match skip(bytes, b"[") {
+        None => Ok((None, bytes)),
+        Some(_) => {
+            let (code, rest) = code(alloc, bytes)?;
+            value_before_text(Some(code), rest, b" ")
+        }
+    }
+}

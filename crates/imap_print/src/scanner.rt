@@ -1,0 +1,280 @@
+//! Reading of strings, numbers and sets. Each reader tells what it read and what stands behind that.
+
+ghost use Rattle.std.specs.Prelude.{◌≡◌, false, [], option_map};
+ghost use Rattle.imap_types.specs.DateTimes.{is_digit};
+ghost use Rattle.imap_print.specs.Reading.{Gives, after, counted, field_at, followed, is_in, lead, literal_at, number_from, quoted_from, run_at, runs_at, set_at, small, span, string_at, words_at};
+
+use crate::fault::ReadFault;
+use imap_types::{NumberSet, Octets, Run, is_astring_octet, is_atom_octet};
+use std::alloc::Global;
+
+/// What stands behind a prefix.
+pub fn skip<'a>(bytes: &'a [u8], prefix: &[u8]) -> Option<&'a [u8]>
+    ensures { option_map (λ rest. rest.now) result ≡ after prefix.now bytes.now }
+{
+    let mut rest = bytes;
+    for octet in prefix {
+        match rest {
+            [] => return None,
+            [first, tail @ ..] => {
+                if first != octet {
+                    return None;
+                }
+                rest = tail;
+            }
+        }
+    }
+    Some(rest)
+}
+
+/// What stands behind a prefix, which has to be there.
+pub fn expect<'a>(bytes: &'a [u8], prefix: &[u8]) -> Result<&'a [u8], ReadFault>
+    ensures { Gives (λ x. x.now) result (after prefix.now bytes.now) }
+{
+    match skip(bytes, prefix) {
+        None => Err(ReadFault::NotPrinted),
+        Some(rest) => Ok(rest),
+    }
+}
+
+/// A value, where this text stands behind it, and what stands behind that.
+pub fn value_before_text<'a, T: Drop>(
+    found: T,
+    bytes: &'a [u8],
+    text: &[u8],
+) -> Result<(T, &'a [u8]), ReadFault>
+    ensures { Gives (λ x. (x.0, x.1.now)) result (followed found (after text.now bytes.now)) }
+{
+    match skip(bytes, text) {
+        None => Err(ReadFault::NotPrinted),
+        Some(rest) => Ok((found, rest)),
+    }
+}
+
+/// The number of the digits that come first, at most what 64 bits hold; 0 where there are none.
+pub fn number(bytes: &[u8]) -> (u64, &[u8])
+    ensures value { result.0 ≡ (number_from 0 bytes.now).0 }
+    ensures rest { result.1.now ≡ (number_from 0 bytes.now).1 }
+{
+    let mut value = 0u64;
+    let mut rest = bytes;
+    while let [octet, tail @ ..] = rest {
+        if !is_digit(*octet) {
+            return (value, rest);
+        }
+        value = value
+            .saturating_mul(10)
+            .saturating_add(u64::from(*octet - b'0'));
+        rest = tail;
+    }
+    (value, rest)
+}
+
+fn is_digit(octet: u8) -> bool
+    ensures { result ≡ is_digit octet }
+{
+    octet >= b'0' && octet <= b'9'
+}
+
+/// At most what 32 bits hold.
+pub fn small(number: u64) -> u32
+    ensures { result ≡ small number }
+{
+    number.min(4_294_967_295) as u32
+}
+
+/// A class of octets (RFC 9051, section 9).
+#[derive(Clone, Copy)]
+pub enum ScanClass {
+    /// Of a tag.
+    Tag,
+    /// Of an unquoted string.
+    Astring,
+    /// Of an atom.
+    Atom,
+}
+
+impl ScanClass {
+    ghost use Rattle.std.specs.Prelude.{◌≡◌};
+    ghost use Rattle.imap_print.specs.Reading.{is_in};
+
+    /// Whether an octet is of this class.
+    pub fn has(self, octet: u8) -> bool
+        ensures { result ≡ is_in self octet }
+    {
+        match self {
+            ScanClass::Tag => is_astring_octet(octet) && octet != b'+',
+            ScanClass::Astring => is_astring_octet(octet),
+            ScanClass::Atom => is_atom_octet(octet),
+        }
+    }
+}
+
+/// The longest front of octets of a class, and the rest.
+pub fn span(class: ScanClass, bytes: &[u8]) -> (&[u8], &[u8])
+    ensures front { result.0.now ≡ (span (is_in class) bytes.now).0 }
+    ensures rest { result.1.now ≡ (span (is_in class) bytes.now).1 }
+{
+    for (count, octet) in bytes.iter().enumerate() {
+        if !class.has(*octet) {
+            return bytes.split_at(count);
+        }
+    }
+    (bytes, &[])
+}
+
+/// The string of these octets up to the `"` that ends it, and what stands behind that.
+fn quoted_string(alloc: Global, bytes: &[u8]) -> Result<(Octets, &[u8]), ReadFault>
+    ensures { Gives (λ x. (x.0, x.1.now)) result (quoted_from false bytes.now) }
+{
+    let mut string = Vec::new(alloc);
+    let mut escaped = false;
+    let mut rest = bytes;
+    while let [octet, tail @ ..] = rest {
+        rest = tail;
+        if !escaped && *octet == b'"' {
+            return Ok((Octets::new(string), rest));
+        }
+        if !escaped && *octet == b'\\' {
+            escaped = true;
+        } else {
+            escaped = false;
+            string.push(*octet)?;
+        }
+    }
+    Err(ReadFault::NotPrinted)
+}
+
+/// A string in quotes, or the octets that need none, and the rest.
+pub fn string(alloc: Global, bytes: &[u8]) -> Result<(Octets, &[u8]), ReadFault>
+    ensures { Gives (λ x. (x.0, x.1.now)) result (string_at bytes.now) }
+{
+    match skip(bytes, b"\"") {
+        Some(rest) => quoted_string(alloc, rest),
+        None => {
+            let (front, rest) = span(ScanClass::Astring, bytes);
+            Ok((Octets::from_slice(alloc, front)?, rest))
+        }
+    }
+}
+
+/// A counted literal, and the rest.
+#[tactic(auto, unfolding(crate::specs::Reading::literal_at))]
+pub fn literal(alloc: Global, bytes: &[u8]) -> Result<(Octets, &[u8]), ReadFault>
+    ensures { Gives (λ x. (x.0, x.1.now)) result (literal_at bytes.now) }
+{
+    let digits = expect(bytes, b"{")?;
+    let (count, rest) = number(digits);
+    let rest = expect(rest, b"}\r\n")?;
+    let (front, rest) = counted_octets(count, rest)?;
+    Ok((Octets::from_slice(alloc, front)?, rest))
+}
+
+/// So many octets, and the rest.
+pub fn counted_octets(count: u64, bytes: &[u8]) -> Result<(&[u8], &[u8]), ReadFault>
+    ensures { Gives (λ x. (x.0.now, x.1.now)) result (counted count bytes.now) }
+{
+    if count > bytes.len() as u64 {
+        return Err(ReadFault::NotPrinted);
+    }
+    Ok(bytes.split_at(count as usize))
+}
+
+/// The name of a header field, and the rest.
+#[tactic(auto, unfolding(crate::specs::Reading::field_at))]
+pub fn field(alloc: Global, bytes: &[u8]) -> Result<(Octets, &[u8]), ReadFault>
+    ensures { Gives (λ x. (x.0, x.1.now)) result (field_at bytes.now) }
+{
+    match literal(alloc, bytes) {
+        Ok(found) => Ok(found),
+        Err(ReadFault::NoMemory) => Err(ReadFault::NoMemory),
+        Err(ReadFault::NotPrinted) => string(alloc, bytes),
+    }
+}
+
+fn run(bytes: &[u8]) -> (Run, &[u8])
+    ensures run { result.0 ≡ (run_at bytes.now).0 }
+    ensures rest { result.1.now ≡ (run_at bytes.now).1 }
+{
+    let (first, rest) = number(bytes);
+    match skip(rest, b":") {
+        None => {
+            let run = Run {
+                first: small(first),
+                last: small(first),
+            };
+            (run, rest)
+        }
+        Some(more) => {
+            let (last, rest) = number(more);
+            let run = Run {
+                first: small(first),
+                last: small(last),
+            };
+            (run, rest)
+        }
+    }
+}
+
+fn runs(alloc: Global, count: usize, bytes: &[u8]) -> Result<(Vec<Run>, &[u8]), ReadFault>
+    ensures { Gives (λ x. (x.0.items, x.1.now)) result (runs_at count bytes.now) }
+{
+    let mut found = Vec::new(alloc);
+    let mut rest = bytes;
+    for _index in 0..count {
+        let (next, tail) = run(rest);
+        found.push(next)?;
+        match skip(tail, b",") {
+            None => return Ok((found, tail)),
+            Some(more) => rest = more,
+        }
+    }
+    Err(ReadFault::NotPrinted)
+}
+
+/// A set of numbers, and the rest.
+#[tactic(auto, unfolding(crate::specs::Reading::set_at))]
+pub fn set(alloc: Global, bytes: &[u8]) -> Result<(NumberSet, &[u8]), ReadFault>
+    ensures { Gives (λ x. (x.0, x.1.now)) result (set_at bytes.now) }
+{
+    let (found, rest) = runs(alloc, bytes.len(), bytes)?;
+    match NumberSet::from_runs(found) {
+        None => Err(ReadFault::NotPrinted),
+        Some(set) => Ok((set, rest)),
+    }
+}
+
+/// Words with spaces between them, the first of the list where `is_first`, up to what isn't one.
+pub fn words(
+    alloc: Global,
+    count: usize,
+    is_first: bool,
+    bytes: &[u8],
+) -> Result<(Vec<Octets>, &[u8]), ReadFault>
+    ensures { Gives (λ x. (x.0.items, x.1.now)) result (words_at count is_first bytes.now) }
+{
+    let mut found = Vec::new(alloc);
+    let mut still = is_first;
+    let mut rest = bytes;
+    for _index in 0..count {
+        let behind = match skip(rest, lead(still)) {
+            None => return Ok((found, rest)),
+            Some(behind) => behind,
+        };
+        let (word, tail) = span(ScanClass::Atom, behind);
+        if word.is_empty() {
+            return Ok((found, rest));
+        }
+        found.push(Octets::from_slice(alloc, word)?)?;
+        still = false;
+        rest = tail;
+    }
+    Err(ReadFault::NotPrinted)
+}
+
+/// What stands between the texts of a list.
+pub fn lead(is_first: bool) -> &'static [u8]
+    ensures { result.now ≡ lead is_first [] }
+{
+    if is_first { b"" } else { b" " }
+}

@@ -1,6 +1,0 @@
-use Rattle.std.proofs.Common.{◌≡◌, drop}
-use Rattle.imap_query.specs.Placing.{placed_all, shown_levels}
-use Rattle.imap_query.proofs.listing.place_levels.Given as goal
-
-abbrev pub invariant-loop-folder : goal.invariant-loop-folder
-invariant-loop-folder l = placed_all (shown_levels l.pattern l.folders (drop l.folder-index l.folders)) l.entries.items ≡ placed_all (shown_levels l.pattern l.folders l.folders) l.initial.entries.items

@@ -1,7 +1,0 @@
-use Rattle.std.proofs.Common.{◌≡◌, ◌++◌, drop, map}
-use Rattle.imap_query.specs.Naming.{name_answer}
-use Rattle.imap_query.proofs.naming.name_answers.Given as goal
-
-abbrev pub invariant-loop-entry : goal.invariant-loop-entry
-invariant-loop-entry l =
-    l.answers.items ++ map (name_answer l.returned l.subscriptions) (drop l.entry-index l.entries) ≡ map (name_answer l.returned l.subscriptions) l.entries

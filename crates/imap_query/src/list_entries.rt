@@ -1,0 +1,197 @@
+ghost use Rattle.std.specs.Prelude.{◌≡◌, ℕ, ◌≤◌, false, List, [], ◌∷◌, ◌++◌, IfOk, OnOk, MatchOption, length};
+ghost use Rattle.std.specs.List.{insert};
+ghost use Rattle.imap_query.specs.ListEntries.{Lists};
+ghost use Rattle.imap_query.specs.Patterns.{is_among};
+ghost use Rattle.imap_query.specs.Placing.{ends_in_percent, entries_found, found_levels, levels_from, insert_entry, placed_all, shown_among, shown_level, shown_mailboxes};
+ghost use Rattle.imap_query.specs.declared.list_entries.ListEntry.{ListEntry};
+
+use crate::pattern::{Pattern, is_shown};
+use imap_types::Name;
+use std::alloc::{AllocError, Global};
+use std::cmp::Ordering;
+
+/// A name that LIST shows: a mailbox, or a superior level that is none, which is shown with `\Noselect`.
+#[derive(Drop)]
+pub struct ListEntry {
+    /// The name, INBOX in capitals where the folders have it so.
+    pub name: Name,
+    /// Whether it is a mailbox.
+    pub is_mailbox: bool,
+}
+
+/// The names that LIST shows of the folders, ascending by octets, none twice (RFC 9051, section 6.3.9). An empty
+/// pattern shows the empty name alone, else reference and pattern are joined. `Err` where there is no memory for it.
+///
+/// The pattern is read once; each folder, and each of its levels where the pattern ends in `%`, is then matched in the
+/// square of its length at most, and compared with the folders and with the entries so far.
+pub fn list(
+    alloc: Global,
+    reference: &[u8],
+    pattern: &[u8],
+    folders: &[Name],
+) -> Result<Vec<ListEntry>, AllocError>
+    ensures { IfOk result (λ entries. Lists reference.now pattern.now folders.now entries.items) }
+{
+    if pattern.is_empty() {
+        return root(alloc);
+    }
+    let mut joined = reference.to_vec(alloc)?;
+    joined.extend_from_slice(pattern)?;
+    listed_entries(alloc, &joined, folders)
+}
+
+/// What LIST shows is one list: two that it may show are equal.
+pub fn one_list()
+    ensures { (reference pattern : List ℕ) (folders : List (List ℕ)) (entries others : List ListEntry) → Lists reference pattern folders entries → Lists reference pattern folders others → entries ≡ others }
+{}
+
+fn root(alloc: Global) -> Result<Vec<ListEntry>, AllocError>
+    ensures { IfOk result (λ entries. entries.items ≡ (record { name = []; is_mailbox = false }) ∷ []) }
+{
+    let mut entries = Vec::new(alloc);
+    entries.push(ListEntry {
+        name: Name::new(Vec::new(alloc)),
+        is_mailbox: false,
+    })?;
+    Ok(entries)
+}
+
+#[tactic(auto, using(crate::proofs::PlacingLemmas::placed_all_joined))]
+fn listed_entries(alloc: Global, pattern: &[u8], folders: &[Name]) -> Result<Vec<ListEntry>, AllocError>
+    ensures { IfOk result (λ entries. entries.items ≡ placed_all (entries_found pattern.now folders.now) []) }
+{
+    let pattern = &Pattern::new(alloc, pattern)?;
+    let mut entries = Vec::new(alloc);
+    place_mailboxes(alloc, pattern, folders, &mut entries)?;
+    place_levels(alloc, pattern, folders, &mut entries)?;
+    Ok(entries)
+}
+
+fn ends_in_percent(pattern: &[u8]) -> bool
+    ensures { result ≡ ends_in_percent pattern.now }
+{
+    match pattern {
+        [] => false,
+        [.., last] => *last == b'%',
+    }
+}
+
+pub(crate) fn place_mailboxes(
+    alloc: Global,
+    pattern: &Pattern,
+    folders: &[Name],
+    entries: &mut Vec<ListEntry>,
+) -> Result<(), AllocError>
+    ensures { OnOk result (entries.new.items ≡ placed_all (shown_mailboxes pattern.now folders.now) entries.old.items) }
+{
+    for folder in folders {
+        if is_shown(alloc, pattern, folder)? {
+            let name = folder.copy(alloc)?;
+            place(
+                entries,
+                ListEntry {
+                    name,
+                    is_mailbox: true,
+                },
+            )?;
+        }
+    }
+    Ok(())
+}
+
+fn place_levels(
+    alloc: Global,
+    pattern: &Pattern,
+    folders: &[Name],
+    entries: &mut Vec<ListEntry>,
+) -> Result<(), AllocError>
+    ensures { OnOk result (entries.new.items ≡ placed_all (found_levels pattern.now folders.now) entries.old.items) }
+{
+    if !ends_in_percent(pattern.written()) {
+        return Ok(());
+    }
+    for folder in folders {
+        place_levels_of(alloc, pattern, folders, folder.as_bytes(), entries)?;
+    }
+    Ok(())
+}
+
+fn place_levels_of(
+    alloc: Global,
+    pattern: &Pattern,
+    folders: &[Name],
+    folder: &[u8],
+    entries: &mut Vec<ListEntry>,
+) -> Result<(), AllocError>
+    ensures { OnOk result (entries.new.items ≡ placed_all (shown_among pattern.now folders.now (levels_from [] folder.now)) entries.old.items) }
+{
+    for at in 0..folder.len() {
+        if folder[at] == b'/' {
+            place_level(alloc, pattern, folders, &folder[..at], entries)?;
+        }
+    }
+    Ok(())
+}
+
+fn place_level(
+    alloc: Global,
+    pattern: &Pattern,
+    folders: &[Name],
+    upper: &[u8],
+    entries: &mut Vec<ListEntry>,
+) -> Result<(), AllocError>
+    ensures { OnOk result (entries.new.items ≡ placed_all (shown_level pattern.now folders.now upper.now) entries.old.items) }
+{
+    let name = Name::from_slice(alloc, upper)?.fold_inbox();
+    if is_among(folders, name.as_bytes()) {
+        return Ok(());
+    }
+    if is_shown(alloc, pattern, &name)? {
+        place(
+            entries,
+            ListEntry {
+                name,
+                is_mailbox: false,
+            },
+        )?;
+    }
+    Ok(())
+}
+
+pub(crate) fn is_among(folders: &[Name], name: &[u8]) -> bool
+    ensures { result ≡ is_among folders.now name.now }
+{
+    for folder in folders {
+        if folder.as_bytes() == name {
+            return true;
+        }
+    }
+    false
+}
+
+/// Puts the entry at its place, unless there is one of its name.
+fn place(entries: &mut Vec<ListEntry>, entry: ListEntry) -> Result<(), AllocError>
+    ensures { OnOk result (entries.new.items ≡ insert_entry entry entries.old.items) }
+{
+    match place_of(entries, &entry) {
+        Some(at) => {
+            entries.insert(at, entry)?;
+            Ok(())
+        }
+        None => Ok(()),
+    }
+}
+
+/// The place at which an entry belongs; `None` where there is one of its name.
+fn place_of(entries: &[ListEntry], entry: &ListEntry) -> Option<usize>
+    ensures { MatchOption result (insert_entry entry.now entries.now ≡ entries.now) (λ at. (at ≤ length entries.now) × (insert_entry entry.now entries.now ≡ insert entries.now at entry.now)) }
+{
+    for at in 0..entries.len() {
+        match entry.name.compare(&entries[at].name) {
+            Ordering::Less => return Some(at),
+            Ordering::Equal => return None,
+            Ordering::Greater => {}
+        }
+    }
+    Some(entries.len())
+}

@@ -1,5 +1,0 @@
-use Rattle.imap_talk.proofs.DumpLemmas.{one_dump}
-use Rattle.imap_talk.proofs.laws.one_dump.Goals as goal
-
-pub returns : goal.returns
-returns c replica applied text other = one_dump replica applied text other

@@ -1,5 +1,0 @@
-use Rattle.mail_audit.proofs.FormLemmas.{where_delete}
-use Rattle.mail_audit.proofs.forms.are_delete_fields.Goals as goal
-
-pub returns : goal.returns
-returns c = where_delete c.is_spelled.result c.args.fields.now c.is_spelled.ensures

@@ -1,5 +1,0 @@
-use Rattle.mail_audit.proofs.FormLemmas.{where_unsubscribe}
-use Rattle.mail_audit.proofs.forms.are_unsubscribe_fields.Goals as goal
-
-pub returns : goal.returns
-returns c = where_unsubscribe c.is_spelled.result c.args.fields.now c.is_spelled.ensures

@@ -1,0 +1,55 @@
+-- How far an audit came, line by line. What its answers mean is told by `Audits`.
+use Rattle.std.specs.Prelude.{◌≡◌, ℕ, ◌+◌, ◌≤◌, List, ◌∷◌, ◌++◌, Option, Some, None, length}
+use Rattle.std.specs.List.{flat_map}
+use Rattle.crdt_ops.specs.Form.{IsReplica}
+use Rattle.mail_script.specs.Lines.{lines_of}
+use Rattle.mail_audit.specs.Audits.{Audits, Each, IsNoEnd, IsRightPart, Part, part_text, said_in, text_of}
+use Rattle.mail_audit.specs.DumpLines.{PhaseStands}
+use Rattle.mail_audit.specs.Dumps.{dump_line}
+use Rattle.mail_audit.specs.HeardSessions.{TakesAllSaid, nothing_known}
+use Rattle.mail_audit.specs.Sessions.{hearing_of}
+use Rattle.mail_audit.specs.declared.line_audit.Audit.{Audit}
+use Rattle.mail_audit.specs.declared.open_dump.OpenDump.{OpenDump}
+use Rattle.mail_audit.specs.Sessions.{Session}
+use Rattle.mail_audit.specs.declared.verdict.AuditEnd.{AuditEnd}
+
+-- The lines are those of these parts, and this is known of the sessions behind them.
+pub record AreHeard (lines : List (List ℕ)) (parts : List Part) (sessions : List Session) : Type 0 where
+  pub whole : text_of lines ≡ flat_map part_text parts
+  pub right : Each IsRightPart parts
+  pub heard : (session : List ℕ) → TakesAllSaid nothing_known (said_in session parts) (hearing_of session sessions)
+
+-- Behind lines of whole parts a dump began and hasn't ended.
+pub record IsOpen (lines : List (List ℕ)) (sessions : List Session) (dump : OpenDump) : Type 0 where
+  pub front : List (List ℕ)
+  pub inside : List (List ℕ)
+  pub parts : List Part
+  pub whole : lines ≡ front ++ dump_line dump.replica ∷ inside
+  pub count : dump.first ≡ length front + 1
+  pub named : IsReplica dump.replica
+  pub heard : AreHeard front parts sessions
+  pub going_on : Each IsNoEnd inside
+  pub phase : PhaseStands inside dump.phase
+
+abbrev pub HasTakenDump : List (List ℕ) → List Session → Option OpenDump → Type 0
+HasTakenDump lines sessions None = (parts : List Part) × AreHeard lines parts sessions
+HasTakenDump lines sessions (Some dump) = IsOpen lines sessions dump
+
+-- The audit has taken these lines.
+abbrev pub HasTaken : List (List ℕ) → Audit → Type 0
+HasTaken lines audit = (audit.taken ≡ length lines) × HasTakenDump lines audit.sessions audit.dump
+
+-- The audit ends with a line behind these, whatever comes behind it.
+abbrev pub EndsAt : List (List ℕ) → List ℕ → AuditEnd → Type 0
+EndsAt lines line end = (more : List (List ℕ)) → Audits (lines ++ line ∷ more) end
+
+-- The audit ends within a text behind these lines, whatever comes behind it.
+abbrev pub EndsWithin : List (List ℕ) → List ℕ → AuditEnd → Type 0
+EndsWithin front text end = (more : List ℕ) → Audits (front ++ lines_of (text ++ more)) end
+
+-- Behind these lines those that a text completes were taken, and another text is left.
+pub record Advances (front : List (List ℕ)) (old : Audit) (text : List ℕ) (new : Audit) (left : List ℕ) : Type 0 where
+  pub done : List (List ℕ)
+  pub lines : (more : List ℕ) → lines_of (text ++ more) ≡ done ++ lines_of (left ++ more)
+  pub stands : HasTaken (front ++ done) new
+  pub fits : new.taken + length left ≤ old.taken + length text

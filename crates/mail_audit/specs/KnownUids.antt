@@ -1,0 +1,36 @@
+-- How the auditor keeps what it knows of a session's messages: how many came, the places of those that are gone, and the
+-- places and UIDs of those whose UIDs were told.
+use Rattle.std.specs.Prelude.{ℕ, ◌+◌, ◌-◌, ◌<◌, ◌≤◌, List, [], ◌∷◌, ◌++◌, Option, Some, None, replicate}
+use Rattle.mail_audit.specs.Passing.{numbers_upward}
+use Rattle.mail_audit.specs.declared.slots.KnownUid.{KnownUid}
+
+-- The places from one on, of so many that came, without those that are gone.
+abbrev pub places_from : ℕ → List ℕ → ℕ → List ℕ
+places_from from [] came = numbers_upward from (came - from)
+places_from from (gone ∷ rest) came = numbers_upward from (gone - from) ++ places_from (gone + 1) rest came
+
+-- The places ascend from here on, and all of them came.
+abbrev pub AreGone : ℕ → List ℕ → ℕ → Type 0
+AreGone from [] came = from ≤ came
+AreGone from (gone ∷ rest) came = (from ≤ gone) × AreGone (gone + 1) rest came
+
+-- The slots from a place on, of so many that came: a UID where one was told.
+abbrev pub slots_from : ℕ → List KnownUid → ℕ → List (Option ℕ)
+slots_from from [] came = replicate (came - from) None
+slots_from from (told ∷ rest) came = replicate (told.place - from) None ++ Some told.uid ∷ slots_from (told.place + 1) rest came
+
+-- The places ascend from here on, and all of them came.
+abbrev pub ArePlaces : ℕ → List KnownUid → ℕ → Type 0
+ArePlaces from [] came = from ≤ came
+ArePlaces from (told ∷ rest) came = (from ≤ told.place) × ArePlaces (told.place + 1) rest came
+
+-- Between the UIDs that are known there is one for each slot between.
+abbrev pub HaveGaps : ℕ → ℕ → List KnownUid → ℕ → Type 0
+HaveGaps low from [] came = low + (came - from) ≤ 4294967295
+HaveGaps low from (told ∷ rest) came = (low + (told.place - from) < told.uid) × (told.uid ≤ 4294967295) × HaveGaps told.uid (told.place + 1) rest came
+
+-- What is kept of a session's messages.
+pub record AreKnownUids (gone : List ℕ) (tolds : List KnownUid) (came : ℕ) : Type 0 where
+  pub gone_ascend : AreGone 0 gone came
+  pub places_ascend : ArePlaces 0 tolds came
+  pub gaps : HaveGaps 0 0 tolds came

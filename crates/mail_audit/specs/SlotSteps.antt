@@ -1,0 +1,48 @@
+-- The auditor's steps, one event at a time.
+use Rattle.std.specs.Prelude.{ℕ, ◌-◌, ◌≤◌, List, [], ◌∷◌, ◌++◌, Option, Some, None, length, get_or, set, replicate}
+use Rattle.mail_audit.specs.declared.event.SlotEvent.{SlotEvent}
+use Rattle.mail_audit.specs.declared.event.SlotEvent.TheVariants.{Selects, Exists, Expunge, Names, Tells, Passes}
+use Rattle.mail_audit.specs.Explained.{IsNumberOf, without}
+use Rattle.mail_audit.specs.Passing.{HasRoomAbove, MayBeUid, numbers_upward}
+
+-- What is known: the places of the messages that are there, and for each place the UID, where one was told.
+pub record SlotKnowledge : Type 0 where
+  pub there : List ℕ
+  pub slots : List (Option ℕ)
+
+-- So many more came.
+abbrev pub with_more : SlotKnowledge → ℕ → SlotKnowledge
+with_more known m = record { there = known.there ++ numbers_upward (length known.slots) m; slots = known.slots ++ replicate m None }
+
+-- The place of a message number.
+abbrev pub place_at : SlotKnowledge → ℕ → ℕ
+place_at known k = get_or known.there (k - 1) 0
+
+abbrev pub with_uid_told : SlotKnowledge → ℕ → ℕ → SlotKnowledge
+with_uid_told known k uid = record known { slots = set known.slots (place_at known k) (Some uid) }
+
+-- What is known after an event.
+abbrev pub after_event : SlotKnowledge → SlotEvent → SlotKnowledge
+after_event known Selects = record { there = []; slots = [] }
+after_event known (Exists n) = with_more known (n - length known.there)
+after_event known (Expunge k) = record known { there = without k known.there }
+after_event known (Names k) = known
+after_event known (Tells k uid) = with_uid_told known k uid
+after_event known Passes = known
+
+-- The event fits what is known.
+abbrev pub EventFits : SlotKnowledge → SlotEvent → Type 0
+EventFits known Selects = Unit {0}
+EventFits known (Exists n) = (length known.there ≤ n) × HasRoomAbove 0 (with_more known (n - length known.there)).slots
+EventFits known (Expunge k) = IsNumberOf k known.there
+EventFits known (Names k) = IsNumberOf k known.there
+EventFits known (Tells k uid) = IsNumberOf k known.there × MayBeUid (get_or known.slots (place_at known k) None) uid × HasRoomAbove 0 (with_uid_told known k uid).slots
+EventFits known Passes = Unit {0}
+
+-- What is known after events.
+abbrev pub after_events : SlotKnowledge → List SlotEvent → SlotKnowledge
+after_events known [] = known
+after_events known (event ∷ events) = after_events (after_event known event) events
+
+abbrev pub no_slots : SlotKnowledge
+no_slots = record { there = []; slots = [] }

@@ -1,0 +1,153 @@
+//! The commands of a session that are in progress.
+
+ghost use Rattle.std.specs.Prelude.{◌≡◌, ◌+◌, ◌<◌, ◌^◌, false, ℕ, List, [], ◌∷◌, ◌++◌, OnErr, OnOk, IfNone, if◌then◌else◌};
+ghost use Rattle.std.specs.List.{list_any};
+ghost use Rattle.std.specs.Option.{option_to_list};
+ghost use Rattle.std.specs.Str.{bytes_eq};
+ghost use Rattle.mail_audit.specs.NumberedCommands.{kept_for};
+ghost use Rattle.mail_audit.specs.Transcripts.{without_ended};
+
+use imap_types::Octets;
+use indexmap::IndexMap;
+use std::alloc::{AllocError, Global};
+use std::collections::{BTreeMap, VecDeque};
+use std::marker::Model;
+
+/// A command in progress: its tag, whether EXPUNGE may be told meanwhile (RFC 9051, section 7.5.1), and whether it is IDLE
+/// (RFC 2177).
+#[derive(Drop)]
+pub struct RunningCommand {
+    pub tag: Octets,
+    pub may_expunge: bool,
+    pub idles: bool,
+}
+
+/// The commands in progress, in the order in which they began.
+#[derive(Drop)]
+pub struct InProgress {
+    alloc: Global,
+    /// Each by its number: they are numbered on as they begin.
+    commands: BTreeMap<u64, RunningCommand>,
+    /// The number of the next one.
+    next: u64,
+    /// The numbers of those with each tag, in order.
+    numbers: IndexMap<Vec<u8>, VecDeque<u64>>,
+    /// How many of them let EXPUNGE be told.
+    expunging: usize,
+    /// How many of them are IDLE.
+    idling: usize,
+}
+
+impl Model for InProgress {
+    ghost use Rattle.std.specs.Prelude.{◌≡◌, ℕ, List};
+    ghost use Rattle.std.specs.Map.{values_of};
+    ghost use Rattle.mail_audit.specs.Counts.{how_many};
+    ghost use Rattle.mail_audit.specs.NumberedCommands.{AreRising, kept_for, numbers_of};
+    ghost use Rattle.mail_audit.specs.declared.in_progress.RunningCommand.{RunningCommand};
+
+    ghost Value = { List RunningCommand };
+
+    ghost view = { λ p. values_of p.commands.entries };
+
+    ghost invariant = { λ p. (p.expunging ≡ how_many (λ c. c.may_expunge) (values_of p.commands.entries)) × (p.idling ≡ how_many (λ c. c.idles) (values_of p.commands.entries)) × AreRising 0 p.next p.commands.entries × ((tag : List ℕ) → numbers_of tag p.commands.entries ≡ kept_for tag p.numbers.entries) };
+}
+
+impl InProgress {
+    /// No commands.
+    pub fn new(alloc: Global) -> InProgress
+        ensures { result ≡ [] }
+    {
+        InProgress {
+            alloc,
+            commands: BTreeMap::new(alloc),
+            next: 0,
+            numbers: IndexMap::new(alloc),
+            expunging: 0,
+            idling: 0,
+        }
+    }
+
+    /// Whether EXPUNGE may be told now.
+    pub fn may_expunge(&self) -> bool
+        ensures { result ≡ list_any (λ c. c.may_expunge) self.now }
+    {
+        0 < self.expunging
+    }
+
+    /// Whether the session idles.
+    pub fn idles(&self) -> bool
+        ensures { result ≡ list_any (λ c. c.idles) self.now }
+    {
+        0 < self.idling
+    }
+
+    /// A command begins; `Err` where there is no memory for it, or `u64::MAX` commands began before, and then the audit ends.
+    pub fn begin(&mut self, command: RunningCommand) -> Result<(), AllocError>
+        ensures { OnOk result (self.new ≡ self.old ++ command ∷ []) }
+    {
+        let number = self.next;
+        if number == u64::MAX {
+            return Err(AllocError);
+        }
+        let tag = command.tag.as_bytes().to_vec(self.alloc)?;
+        let may_expunge = command.may_expunge;
+        let idles = command.idles;
+        self.commands.insert(number, command)?;
+        // A command that no tag leads to would never end.
+        if let Err(refused) = add(&mut self.numbers, self.alloc, tag, number) {
+            self.commands.remove(&number);
+            return Err(refused);
+        }
+        self.next = number + 1;
+        self.expunging += usize::from(may_expunge);
+        self.idling += usize::from(idles);
+        Ok(())
+    }
+
+    /// The first command with this tag ends, where there is one.
+    pub fn end(&mut self, tag: &[u8])
+        ensures { self.new ≡ without_ended tag.now self.old }
+    {
+        let Some(number) = take_first(&mut self.numbers, tag) else {
+            return;
+        };
+        if let Some(command) = self.commands.remove(&number) {
+            self.expunging -= usize::from(command.may_expunge);
+            self.idling -= usize::from(command.idles);
+        }
+    }
+}
+
+/// Keeps a number for a tag behind those that are kept for it; `Err` where there is no memory for it, and then nothing changes.
+fn add(
+    numbers: &mut IndexMap<Vec<u8>, VecDeque<u64>>,
+    alloc: Global,
+    tag: Vec<u8>,
+    number: u64,
+) -> Result<(), AllocError>
+    ensures ok { OnOk result ((other : List ℕ) → kept_for other numbers.new.entries ≡ kept_for other numbers.old.entries ++ (if bytes_eq other tag.items then number ∷ [] else [])) }
+    ensures err { OnErr result ((other : List ℕ) → kept_for other numbers.new.entries ≡ kept_for other numbers.old.entries) }
+{
+    if let Some(kept) = numbers.get_mut(&tag) {
+        kept.push_back(number)?;
+        return Ok(());
+    }
+    let mut kept = VecDeque::new(alloc);
+    kept.push_back(number)?;
+    numbers.insert(tag, kept)?;
+    Ok(())
+}
+
+/// Takes out the first number that is kept for a tag.
+fn take_first(numbers: &mut IndexMap<Vec<u8>, VecDeque<u64>>, tag: &[u8]) -> Option<u64>
+    ensures taken { kept_for tag.now numbers.old.entries ≡ option_to_list result ++ kept_for tag.now numbers.new.entries }
+    ensures none { IfNone result (kept_for tag.now numbers.old.entries ≡ []) }
+    ensures others { (other : List ℕ) → bytes_eq other tag.now ≡ false → kept_for other numbers.new.entries ≡ kept_for other numbers.old.entries }
+{
+    let kept = numbers.get_mut(tag)?;
+    let number = kept.pop_front()?;
+    if kept.is_empty() {
+        numbers.swap_remove(tag);
+    }
+    Some(number)
+}

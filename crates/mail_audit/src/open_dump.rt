@@ -1,0 +1,186 @@
+//! A dump that is read line by line.
+
+ghost use Rattle.std.specs.Prelude.{◌≡◌, ◌+◌, ◌≤◌, ◌<◌, ◌^◌, ℕ, List, [], ◌∷◌, ◌++◌, IfOk, IsTrue, drop, length};
+ghost use Rattle.mail_audit.specs.Audits.{Audits};
+ghost use Rattle.mail_audit.specs.DumpLines.{IsClosed, IsCompared, IsEarly, IsStep, IsStepBehind, OpsStand, PhaseStands};
+ghost use Rattle.mail_audit.specs.Dumps.{AreOrdered};
+ghost use Rattle.mail_audit.specs.AuditProgress.{IsOpen};
+ghost use Rattle.mail_audit.specs.Sessions.{Session};
+
+use crate::expected_lines::{Expected, expected_after};
+use crate::line_forms::{DumpLine, dump_line, is_other};
+use crate::op_lines::OpLines;
+use crate::verdict::AuditEnd;
+use std::alloc::{AllocError, Global};
+use tags_clocks::ReplicaId;
+use text_fields::split;
+
+/// A dump that began and hasn't ended.
+#[derive(Drop)]
+pub struct OpenDump {
+    /// The number of its first line.
+    pub first: u64,
+    /// Whose it is.
+    pub replica: ReplicaId,
+    /// How far it came.
+    pub phase: DumpPhase,
+}
+
+/// How far a dump came.
+#[derive(Drop)]
+pub enum DumpPhase {
+    /// To its op lines.
+    Ops(OpLines),
+    /// To the lines behind them, which are to be these.
+    State(Comparison),
+}
+
+/// The lines that are to follow the op lines.
+#[derive(Drop)]
+pub struct Comparison {
+    /// Each with its end.
+    pub lines: Vec<u8>,
+    /// So many of their octets came.
+    pub came: usize,
+}
+
+/// What comes of a line of a dump.
+pub enum DumpStep {
+    /// The dump goes on.
+    GoesOn,
+    /// It has ended, and is right.
+    Ends,
+    /// It is wrong at the line of this number.
+    Wrong(u64),
+    /// The line can't be read.
+    Unreadable,
+}
+
+impl OpenDump {
+    /// A dump that begins with the line of this number.
+    pub fn new(alloc: Global, first: u64, replica: ReplicaId) -> OpenDump
+        ensures { (result.first ≡ first) × (result.replica ≡ replica) × PhaseStands [] result.phase }
+    {
+        OpenDump {
+            first,
+            replica,
+            phase: DumpPhase::Ops(OpLines::new(alloc)),
+        }
+    }
+
+    /// Takes the next line, which has this number.
+    pub fn take(&mut self, alloc: Global, line: &[u8], number: u64) -> Result<DumpStep, AllocError>
+        requires { (inside : List (List ℕ)) × PhaseStands inside self.old.phase × (number ≡ self.old.first + 1 + length inside) }
+        ensures place { (self.new.first ≡ self.old.first) × (self.new.replica ≡ self.old.replica) }
+        ensures step { (inside : List (List ℕ)) → PhaseStands inside self.old.phase → number ≡ self.old.first + 1 + length inside → IfOk result (IsStep self.old.first inside line.now self.new.phase) }
+    {
+        match &mut self.phase {
+            DumpPhase::State(comparison) => comparison.take(alloc, line, number),
+            DumpPhase::Ops(lines) => match dump_line(alloc, line)? {
+                DumpLine::Op(op) => {
+                    lines.push(op)?;
+                    Ok(DumpStep::GoesOn)
+                }
+                DumpLine::Unreadable => wrong_before(alloc, self.first, lines),
+                DumpLine::Other => match close(alloc, lines)? {
+                    Expected::Stuck(place) => Ok(DumpStep::Wrong(self.first + 1 + place as u64)),
+                    Expected::Lines(lines) => {
+                        let mut comparison = Comparison { lines, came: 0 };
+                        let step = comparison.take(alloc, line, number)?;
+                        self.phase = DumpPhase::State(comparison);
+                        Ok(step)
+                    }
+                },
+            },
+        }
+    }
+
+    /// How an audit ends whose input ends here, with the line of this number.
+    pub fn end(self, alloc: Global, last: u64) -> Result<AuditEnd, AllocError>
+        requires { (lines : List (List ℕ)) × (sessions : List Session) × IsOpen lines sessions self × (last ≡ length lines) }
+        ensures { (lines : List (List ℕ)) (sessions : List Session) → IsOpen lines sessions self → last ≡ length lines → IfOk result (Audits lines) }
+    {
+        match &self.phase {
+            DumpPhase::State(_) => Ok(AuditEnd::Unreadable(last)),
+            DumpPhase::Ops(lines) => match lines.first_wrong(alloc, true)? {
+                Some(place) => Ok(AuditEnd::No(self.first + 1 + place as u64)),
+                None => Ok(AuditEnd::Unreadable(last)),
+            },
+        }
+    }
+}
+
+/// What is to follow op lines behind which others stand, or where they are wrong.
+fn close(alloc: Global, lines: &OpLines) -> Result<Expected, AllocError>
+    requires { AreOrdered lines.now.ops.items }
+    ensures { (inside : List (List ℕ)) → OpsStand inside lines.now → IfOk result (IsClosed inside) }
+{
+    match lines.first_wrong(alloc, false)? {
+        Some(place) => Ok(Expected::Stuck(place)),
+        None => expected_after(alloc, &lines.ops),
+    }
+}
+
+/// What comes of a line that can't be read where op lines may still come.
+fn wrong_before(alloc: Global, first: u64, lines: &OpLines) -> Result<DumpStep, AllocError>
+    requires { first + 1 + length lines.now.ops.items < 2 ^ 64 }
+    ensures { IfOk result (IsEarly first lines.now) }
+{
+    match lines.first_wrong(alloc, true)? {
+        Some(place) => Ok(DumpStep::Wrong(first + 1 + place as u64)),
+        None => Ok(DumpStep::Unreadable),
+    }
+}
+
+impl Comparison {
+    /// Takes the next line, which has this number.
+    fn take(&mut self, alloc: Global, line: &[u8], number: u64) -> Result<DumpStep, AllocError>
+        requires { self.old.came ≤ length self.old.lines.items }
+        ensures { IfOk result (IsCompared self.old line.now number self.new) }
+    {
+        if self.has_next(line) {
+            self.came += line.len() + 1;
+            return Ok(self.step_behind(line, number));
+        }
+        if is_other(alloc, line)? || is_op(alloc, line)? {
+            Ok(DumpStep::Wrong(number))
+        } else {
+            Ok(DumpStep::Unreadable)
+        }
+    }
+
+    /// Whether this is the line that is to come.
+    fn has_next(&self, line: &[u8]) -> bool
+        requires { self.now.came ≤ length self.now.lines.items }
+        ensures { IsTrue result → (rest : List ℕ) × (drop self.now.came self.now.lines.items ≡ line.now ++ 10 ∷ rest) }
+    {
+        match split(b'\n', &self.lines[self.came..]) {
+            Some((next, _)) => next == line,
+            None => false,
+        }
+    }
+
+    /// What comes of a line of this number that is the one that was to come.
+    fn step_behind(&self, line: &[u8], number: u64) -> DumpStep
+        ensures { IsStepBehind self.now line.now number result }
+    {
+        if line != b"end".as_slice() {
+            DumpStep::GoesOn
+        } else if self.came == self.lines.len() {
+            DumpStep::Ends
+        } else {
+            DumpStep::Wrong(number)
+        }
+    }
+}
+
+/// Whether the line is an op line.
+fn is_op(alloc: Global, line: &[u8]) -> Result<bool, AllocError> {
+    match dump_line(alloc, line)? {
+        DumpLine::Op(op) => {
+            drop(op);
+            Ok(true)
+        }
+        _ => Ok(false),
+    }
+}

@@ -1,0 +1,226 @@
+//! What a connection does again and again, and how long each time takes.
+
+ghost use Rattle.std.specs.Prelude.{◌+◌, ◌%◌, ◌≡◌, ◌≤◌, ◌<◌};
+
+use crate::client::{Client, Dial};
+use crate::commands::{Ask, Command, MessageAsk, message};
+use crate::fault::BenchFault;
+use crate::preparing::{LARGE, SMALL, connect_and_login};
+use crate::report::Tally;
+use crate::settings::Settings;
+use crate::workload::Workload;
+use std::alloc::Global;
+use std::rt::Clock;
+use std::time::{Duration, Instant};
+
+/// So many NOOPs are sent in one write.
+const PIPELINED: u64 = 64;
+
+/// What the connections of a run have in common.
+#[derive(Drop)]
+pub struct WorkPlan<'a> {
+    /// What they do.
+    pub workload: Workload,
+    /// In which mailbox.
+    pub mailbox: &'a str,
+    /// The messages that it has, one at least.
+    pub messages: u32,
+    /// The message that is appended.
+    pub message: Vec<u8>,
+    ghost some: { 0 < messages },
+}
+
+impl<'a> WorkPlan<'a> {
+    /// What the connections do by this workload, in a mailbox with so many messages.
+    pub fn new(
+        alloc: Global,
+        workload: Workload,
+        mailbox: &'a str,
+        messages: u32,
+    ) -> Result<WorkPlan<'a>, BenchFault>
+        requires { 0 < messages }
+    {
+        let octets = match workload {
+            Workload::AppendLarge => LARGE,
+            _ => SMALL,
+        };
+        let message = message(alloc, octets)?;
+        Ok(WorkPlan {
+            workload,
+            mailbox,
+            messages,
+            message,
+        })
+    }
+}
+
+/// What is done again and again.
+pub trait Work {
+    /// Does it once more, for the time with this number.
+    fn turn(&mut self, number: u64) -> Result<(), BenchFault>;
+
+    /// Ends it.
+    fn end(&mut self) -> Result<(), BenchFault>;
+}
+
+/// The moment now.
+pub fn now<R: Clock>(rt: &R) -> Result<Instant, BenchFault> {
+    match Instant::now(rt) {
+        Ok(now) => Ok(now),
+        Err(_) => Err(BenchFault::Clock),
+    }
+}
+
+/// How long it is since this moment.
+pub fn since<R: Clock>(rt: &R, begun: Instant) -> Result<Duration, BenchFault> {
+    match Instant::now(rt) {
+        Ok(now) => Ok(now.duration_since(begun)),
+        Err(_) => Err(BenchFault::Clock),
+    }
+}
+
+/// Works for so many seconds, and once at least, each time by so many commands, ends the work, and gives what was done.
+pub fn work_for<R: Clock, W: Work + Drop>(
+    rt: &R,
+    alloc: Global,
+    seconds: u32,
+    commands: u64,
+    mut work: W,
+) -> Result<Tally, BenchFault> {
+    let mut tally = Tally::new(alloc);
+    drive(rt, seconds, commands, &mut work, &mut tally)?;
+    Ok(tally)
+}
+
+/// The same, with what is done in a tally.
+fn drive<R: Clock, W: Work>(
+    rt: &R,
+    seconds: u32,
+    commands: u64,
+    work: &mut W,
+    tally: &mut Tally,
+) -> Result<(), BenchFault> {
+    let begun = now(rt)?;
+    let mut before = begun;
+    for number in 0..u64::MAX {
+        work.turn(number)?;
+        let after = now(rt)?;
+        tally.note(commands, after.duration_since(before))?;
+        if after.duration_since(begun).as_secs() >= u64::from(seconds) {
+            break;
+        }
+        before = after;
+    }
+    work.end()
+}
+
+/// The work of a connection that is kept, with the mailbox selected.
+#[derive(Drop)]
+pub struct Mailing<'a> {
+    /// The connection.
+    pub client: Client,
+    /// What is done.
+    pub plan: &'a WorkPlan<'a>,
+    /// The place among all messages at which it begins.
+    pub first: u32,
+}
+
+impl Work for Mailing<'_> {
+    fn turn(&mut self, number: u64) -> Result<(), BenchFault> {
+        match self.plan.workload {
+            Workload::NoopPipelined => self.client.run_noops(PIPELINED),
+            Workload::Mixed => self.mixed(number),
+            workload => self.one(workload, number),
+        }
+    }
+
+    fn end(&mut self) -> Result<(), BenchFault> {
+        self.client.logout()
+    }
+}
+
+/// So many commands are one turn of this workload.
+pub fn commands_of(workload: Workload) -> u64 {
+    match workload {
+        Workload::NoopPipelined => PIPELINED,
+        _ => 1,
+    }
+}
+
+impl Mailing<'_> {
+    /// One command of a workload.
+    fn one(&mut self, workload: Workload, number: u64) -> Result<(), BenchFault> {
+        let ask = match workload {
+            Workload::AppendSmall | Workload::AppendLarge | Workload::IdleFanOut => {
+                return self.client.append(self.plan.mailbox, &self.plan.message);
+            }
+            Workload::FetchBody => return self.ask(MessageAsk::FetchBody, number),
+            Workload::Store => return self.ask(store_ask(number), number / 2),
+            Workload::FetchFlags => Ask::FetchAllFlags,
+            Workload::SearchUnseen => Ask::SearchUnseen,
+            Workload::SearchSubject => Ask::SearchSubject,
+            _ => Ask::Noop,
+        };
+        self.client.run(Command::Plain(ask))
+    }
+
+    /// The next command of the fixed cycle.
+    fn mixed(&mut self, number: u64) -> Result<(), BenchFault> {
+        let round = number / 6;
+        match number % 6 {
+            0 => self.ask(MessageAsk::FetchFlags, round),
+            1 => self.ask(MessageAsk::FetchBody, round),
+            2 => self.ask(store_ask(round), round / 2),
+            3 => self.one(Workload::Noop, number),
+            4 => self.one(Workload::SearchUnseen, number),
+            _ => self.one(Workload::AppendSmall, number),
+        }
+    }
+
+    /// Asks something of a message, for the time with this number.
+    fn ask(&mut self, ask: MessageAsk, number: u64) -> Result<(), BenchFault> {
+        let number = message_at(self.first, number, self.plan.messages);
+        self.client.run(Command::Message { ask, number })
+    }
+}
+
+/// The flag is set and cleared in turn.
+fn store_ask(number: u64) -> MessageAsk {
+    if number % 2 == 0 {
+        MessageAsk::Flag
+    } else {
+        MessageAsk::Unflag
+    }
+}
+
+/// The number of the message for this time, of so many: all come round, from a place on.
+fn message_at(first: u32, number: u64, messages: u32) -> u32
+    requires { 0 < messages }
+    ensures { (0 < result) × (result ≤ messages) }
+{
+    let messages = u64::from(messages);
+    let place = (number % messages + u64::from(first)) % messages;
+    (place + 1) as u32
+}
+
+/// The work of whoever comes and goes.
+#[derive(Drop)]
+pub struct Visiting<'a, R: Dial> {
+    /// The network.
+    pub rt: &'a R,
+    /// The memory.
+    pub alloc: Global,
+    /// Who comes, and where.
+    pub settings: &'a Settings<'a>,
+}
+
+impl<R: Dial> Work for Visiting<'_, R> {
+    fn turn(&mut self, _number: u64) -> Result<(), BenchFault> {
+        let mut client = connect_and_login(self.rt, self.alloc, self.settings, self.settings.address)?;
+        client.logout()
+    }
+
+    fn end(&mut self) -> Result<(), BenchFault> {
+        Ok(())
+    }
+}

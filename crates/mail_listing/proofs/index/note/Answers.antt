@@ -1,6 +1,0 @@
-use Rattle.std.proofs.Common.{◌∙◌, sym}
-use Rattle.mail_listing.proofs.Indexing.{on_ok}
-use Rattle.mail_listing.proofs.index.note.Goals as goal
-
-pub returns-clause-told : goal.returns-clause-told
-returns-clause-told c = λ i. (on_ok c.insert.result (sym c.is_err.ensures.value ∙ c.if-is_err.false) c.insert.ensures.updates).0 i

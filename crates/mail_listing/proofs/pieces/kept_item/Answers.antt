@@ -1,6 +1,0 @@
-use Rattle.std.proofs.Common.{sym, ◌∙◌}
-use Rattle.mail_listing.proofs.Editing.{got_behind}
-use Rattle.mail_listing.proofs.pieces.kept_item.Goals as goal
-
-pub returns : goal.returns
-returns g c = c.copied.ensures ∙ c.get.ensures.value ∙ sym (got_behind c.args.from c.args.base.now.items c.args.more)

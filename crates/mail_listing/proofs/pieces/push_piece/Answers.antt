@@ -1,7 +1,0 @@
-use Rattle.std.proofs.Common.{◌≡◌, ◌∙◌, sym, subst}
-use Rattle.mail_listing.specs.Pieces.{ArePieces}
-use Rattle.mail_listing.proofs.Editing.{pushed_pieces}
-use Rattle.mail_listing.proofs.pieces.push_piece.Goals as goal
-
-pub returns-clause-pieces : goal.returns-clause-pieces
-returns-clause-pieces g c = subst (ArePieces c.args.base.now.items 0) (sym c.push_reserved.ensures.items) (pushed_pieces c.args.base.now.items c.args.pieces.now.items c.args.item c.args.len c.requires.len c.requires.pieces)

@@ -1,0 +1,134 @@
+use Rattle.std.proofs.Common.{◌≡◌, inl, ℕ, suc, ◌+◌, List, [], ◌∷◌, ◌++◌, Option, Some, None, length, length-append, append_assoc, append-nil, arith, ap, sym, refl, subst, ◌∙◌}
+use Rattle.std.specs.Io.KnownBytes.{Appends, Keeps}
+use Rattle.mail_script.specs.Lines.{lines_of}
+use Rattle.mail_script.specs.Reading.{cut_at}
+use Rattle.mail_script.specs.Script.{Says}
+use Rattle.mail_script.specs.declared.script.ScriptLine.{ScriptLine}
+use Rattle.text_fields.proofs.FieldLemmas.{cut_takes}
+use Rattle.mail_script.proofs.LineLemmas.{lines_next}
+use Rattle.mail_replay.specs.Lines.{IsBad, Serves, ServesInPart}
+use Rattle.mail_replay.specs.Replays.{Advances, Breaks, FirstInPart, ServesAll, Stops}
+use Rattle.mail_replay.specs.ScriptState.{ScriptContents}
+
+-- a line that is cut off, its end and the rest are the whole
+pub cut_parts : (text line rest : List ℕ) → cut_at 10 text ≡ Some (line, rest) → length text ≡ length line + 1 + length rest
+cut_parts text line rest e =
+    let n : length text ≡ length line + length (10 ∷ rest) = ap length (cut_takes 10 text (line, rest) e) ∙ length-append line (10 ∷ rest) in
+    let m : length (10 ∷ rest) ≡ suc (length rest) = refl in
+    omega (arith, n, m)
+
+-- two additions are one
+pub appends_both : (a b c : Option (List ℕ)) (xs ys : List ℕ) → Appends a b xs → Appends b c ys → Appends a c (xs ++ ys)
+appends_both None b c xs ys h k = tt
+appends_both (Some as') None c xs ys h k = absurd h
+appends_both (Some as') (Some bs) None xs ys h k = absurd k
+appends_both (Some as') (Some bs) (Some cs) xs ys h k = k ∙ ap (λ zs. zs ++ ys) h ∙ append_assoc as' xs ys
+
+-- what is kept is added to by nothing
+pub keeps_appends : (a b : Option (List ℕ)) → Keeps a b → Appends a b []
+keeps_appends None b h = tt
+keeps_appends (Some xs) None h = absurd h
+keeps_appends (Some xs) (Some ys) h = h ∙ sym (append-nil xs)
+
+pub appends_none : (a : Option (List ℕ)) → Appends a a []
+appends_none None = tt
+appends_none (Some xs) = sym (append-nil xs)
+
+pub appends_kept : (a b c : Option (List ℕ)) (xs : List ℕ) → Appends a b xs → Keeps b c → Appends a c xs
+appends_kept a b c xs h k = subst (λ (zs : List ℕ). Appends a c zs) (append-nil xs) (appends_both a b c xs [] h (keeps_appends b c k))
+
+-- of a line for which there is no memory nothing may be printed
+pub nothing_in_part : (scene : ScriptContents) (lines : List (List ℕ)) → FirstInPart scene lines []
+nothing_in_part scene [] = refl
+nothing_in_part scene (line ∷ lines) = inl refl
+
+-- one more line behind those that were served
+pub serves_one_more : (old mid new : ScriptContents) (lines : List (List ℕ)) (line told more : List ℕ) (said : ScriptLine)
+    → ServesAll old lines told mid → Says line said → Serves mid said more new → ServesAll old (lines ++ line ∷ []) (told ++ more) new
+serves_one_more old mid new [] line told more said s says serves =
+    let start : mid ≡ old = s.1 in
+    let none : told ≡ [] = s.0 in
+    (said, more, new, [], says, subst (λ (z : ScriptContents). Serves z said more new) start serves, ap (λ zs. zs ++ more) none ∙ sym (append-nil more), (refl, refl))
+serves_one_more old mid new (first ∷ lines) line told more said s says serves =
+    (s.0, s.1, s.2, s.3 ++ more, s.4, s.5, ap (λ zs. zs ++ more) s.6 ∙ append_assoc s.1 s.3 more, serves_one_more s.2 mid new lines line s.3 more said s.7 says serves)
+
+-- the lines served behind others
+pub serves_both : (old mid new : ScriptContents) (xs ys : List (List ℕ)) (told more : List ℕ) → ServesAll old xs told mid → ServesAll mid ys more new → ServesAll old (xs ++ ys) (told ++ more) new
+serves_both old mid new [] ys told more s t =
+    let start : mid ≡ old = s.1 in
+    let none : more ≡ told ++ more = sym (ap (λ zs. zs ++ more) s.0) in
+    subst (λ (zs : List ℕ). ServesAll old ys zs new) none (subst (λ (z : ScriptContents). ServesAll z ys more new) start t)
+serves_both old mid new (first ∷ xs) ys told more s t =
+    (s.0, s.1, s.2, s.3 ++ more, s.4, s.5, ap (λ zs. zs ++ more) s.6 ∙ append_assoc s.1 s.3 more, serves_both s.2 mid new xs ys s.3 more s.7 t)
+
+module _ (held : Option (List ℕ)) (scene : ScriptContents) (served : ℕ) (text : List ℕ) where
+  pub advance_at_first : Advances held scene served text held scene served text
+  advance_at_first = record {
+    front = [];
+    told = [];
+    lines = λ more. refl;
+    count = omega arith;
+    serves = (refl, refl);
+    writes = appends_none held;
+    fits = omega arith;
+  }
+
+  -- no memory behind some of the lines
+  pub stops_behind : (held1 : Option (List ℕ)) (scene1 : ScriptContents) (served1 : ℕ) (text1 : List ℕ) → Advances held scene served text held1 scene1 served1 text1 → Stops held scene text held1
+  stops_behind held1 scene1 served1 text1 a = record {
+    front = a.front;
+    back = λ more. lines_of (text1 ++ more);
+    told = a.told;
+    part = [];
+    scene' = scene1;
+    lines = a.lines;
+    serves = a.serves;
+    first = λ more. nothing_in_part scene1 (lines_of (text1 ++ more));
+    writes = subst (λ (zs : List ℕ). Appends held held1 zs) (sym (append-nil a.told)) a.writes;
+  }
+
+  module _ (held1 : Option (List ℕ)) (scene1 : ScriptContents) (served1 : ℕ) (text1 : List ℕ) (a : Advances held scene served text held1 scene1 served1 text1) (line rest : List ℕ) (cut : cut_at 10 text1 ≡ Some (line, rest)) where
+    parts : (more : List ℕ) → lines_of (text ++ more) ≡ a.front ++ line ∷ lines_of (rest ++ more)
+    parts more = a.lines more ∙ ap (λ ls. a.front ++ ls) (lines_next text1 line rest more cut)
+
+    pub advance_on : (held2 : Option (List ℕ)) (scene2 : ScriptContents) (served2 : ℕ) (said : ScriptLine) (more : List ℕ) → served2 ≡ served1 + 1 → Says line said → Serves scene1 said more scene2 → Appends held1 held2 more
+        → Advances held scene served text held2 scene2 served2 rest
+    advance_on held2 scene2 served2 said more next says serves writes =
+        let n = cut_parts text1 line rest cut in
+        let l : length (a.front ++ line ∷ []) ≡ length a.front + 1 = length-append a.front (line ∷ []) in
+        record {
+          front = a.front ++ line ∷ [];
+          told = a.told ++ more;
+          lines = λ behind. parts behind ∙ sym (append_assoc a.front (line ∷ []) (lines_of (rest ++ behind)));
+          count = omega (arith, next, l, a.count);
+          serves = serves_one_more scene scene1 scene2 a.front line a.told more said a.serves says serves;
+          writes = appends_both held held1 held2 a.told more a.writes writes;
+          fits = omega (arith, next, n, a.fits);
+        }
+
+    pub stops_there : (held2 : Option (List ℕ)) (part : List ℕ) → ServesInPart scene1 line part → Appends held1 held2 part → Stops held scene text held2
+    stops_there held2 part h writes = record {
+      front = a.front;
+      back = λ more. line ∷ lines_of (rest ++ more);
+      told = a.told;
+      part = part;
+      scene' = scene1;
+      lines = parts;
+      serves = a.serves;
+      first = λ more. h;
+      writes = appends_both held held1 held2 a.told part a.writes writes;
+    }
+
+    pub breaks_there : (held2 : Option (List ℕ)) (number : ℕ) → number ≡ served1 + 1 → IsBad scene1 line → Appends held1 held2 [] → Breaks held scene served text held2 number
+    breaks_there held2 number next bad writes = record {
+      front = a.front;
+      line = line;
+      behind = rest;
+      told = a.told;
+      scene' = scene1;
+      lines = parts;
+      count = omega (arith, next, a.count);
+      serves = a.serves;
+      bad = bad;
+      writes = subst (λ (zs : List ℕ). Appends held held2 zs) (append-nil a.told) (appends_both held held1 held2 a.told [] a.writes writes);
+    }

@@ -1,0 +1,108 @@
+use Rattle.std.specs.Prelude.{◌≡◌, ◌⊎◌, ◌↔◌, ℕ, Bool, IsTrue, List, Some, Result, Ok, Err, slice_get, slice_set}
+use Rattle.causal_inbox.specs.declared.delivery.Arrival.{Arrival}
+use Rattle.causal_inbox.specs.declared.delivery.Arrival.TheVariants as arrivals
+use Rattle.causal_inbox.specs.declared.delivery.DeliverFault.{DeliverFault}
+use Rattle.causal_inbox.specs.declared.delivery.DeliverFault.TheVariants as refusals
+use Rattle.causal_inbox.specs.declared.delivery.Delivered.{Delivered as Answer}
+use Rattle.crdt_ops.specs.Form.{IsSpelled}
+use Rattle.crdt_ops.specs.Sound.{IsFirstFault, IsSound}
+use Rattle.crdt_ops.specs.declared.op.Op.{Op}
+use Rattle.crdt_ops.specs.declared.sound_op.Unsound.{Unsound as Fault}
+use Rattle.crdt_ops.specs.declared.sound_op.Unsound.TheVariants.{OwnClockEntry, UncoveredId, UnlawfulName, UnlawfulFlags, DeleteOfInbox, Count}
+use Rattle.imap_node.specs.Deliveries.{Delivers, Drains, HoldsRipe, IsRefusedAt}
+use Rattle.imap_node.specs.Nodes.{NodeWithRoom, NodeState}
+use Rattle.mail_script.specs.Outcomes.{outcome_line}
+use Rattle.mail_script.specs.declared.outcome_line.BrokenRule.{BrokenRule}
+use Rattle.mail_script.specs.declared.outcome_line.BrokenRule.TheVariants as rules
+use Rattle.mail_script.specs.declared.outcome_line.DeliveryResult.{DeliveryResult}
+use Rattle.mail_script.specs.declared.outcome_line.DeliveryResult.TheVariants as results
+use Rattle.mail_script.specs.declared.outcome_line.OutcomeLine.{OutcomeLine}
+use Rattle.mail_script.specs.declared.outcome_line.OutcomeLine.TheVariants.{Delivered, Drained, Forged, Unsound}
+use Rattle.mail_replay.specs.ScriptState.{ScriptContents, replica_place}
+use Rattle.mail_replay.specs.declared.deliveries.Source.{Source}
+use Rattle.mail_replay.specs.declared.deliveries.Source.TheVariants as sources
+use Rattle.mail_replay.specs.declared.script_state.ScriptReplica.{ScriptReplica}
+use Rattle.merge_laws.specs.Orders.{IsIn}
+use Rattle.tags_clocks.specs.declared.id.OpId.{OpId}
+
+-- ---- what a line tells of a delivery
+
+abbrev pub arrival_result_of : Arrival → Bool → DeliveryResult
+arrival_result_of (arrivals.Applied count) stalled = results.Applied count stalled
+arrival_result_of arrivals.Held stalled = results.Held stalled
+arrival_result_of arrivals.Repeat stalled = results.Repeat stalled
+
+abbrev pub refusal_result_of : DeliverFault → DeliveryResult
+refusal_result_of (refusals.Conflict id) = results.Conflict id
+refusal_result_of refusals.HeldFull = results.HeldFull
+refusal_result_of refusals.Exhausted = results.Exhausted
+refusal_result_of refusals.NoMemory = results.NoMemory
+
+-- What is told of a node's answer.
+abbrev pub delivery_result_of : Result Answer DeliverFault → DeliveryResult
+delivery_result_of (Ok answer) = arrival_result_of answer.arrival answer.stalled
+delivery_result_of (Err why) = refusal_result_of why
+
+-- What is told of an operation that isn't sound.
+abbrev pub broken_rule_of : Fault → BrokenRule
+broken_rule_of OwnClockEntry = rules.OwnEntry
+broken_rule_of UncoveredId = rules.UncoveredId
+broken_rule_of UnlawfulName = rules.UnlawfulName
+broken_rule_of UnlawfulFlags = rules.UnlawfulFlags
+broken_rule_of DeleteOfInbox = rules.InboxDeleted
+broken_rule_of Count = rules.OldIdCount
+
+-- ---- deliveries
+
+-- What a node answers to an operation that is handed to it, and what it is then.
+abbrev pub Answers : NodeState → Op → Result Answer DeliverFault → NodeState → Type 0
+Answers old op (Ok answer) new = Delivers old op answer.arrival new × (IsTrue answer.stalled ↔ HoldsRipe new)
+Answers old op (Err why) new = IsRefusedAt old op why × (new ≡ old)
+
+-- The replica with this name is declared: it stands at this place.
+abbrev pub StandsAt : ScriptContents → ℕ → ℕ → ScriptReplica → Type 0
+StandsAt scene name at replica = (replica_place scene.replicas name ≡ Some at) × (slice_get scene.replicas at ≡ Some replica)
+
+-- The scene with this node in place of a replica's.
+abbrev pub with_node : ScriptContents → ℕ → ScriptReplica → NodeWithRoom → ScriptContents
+with_node scene at replica node = record scene { replicas = slice_set scene.replicas at (record replica { node = node }) }
+
+-- An operation is handed to a replica, and this is told of it.
+abbrev pub DeliversOp : ScriptContents → ℕ → Op → DeliveryResult → ScriptContents → Type 0
+DeliversOp old name op told new =
+    (at : ℕ) × (replica : ScriptReplica) × (node : NodeWithRoom) × (answer : Result Answer DeliverFault)
+    × StandsAt old name at replica × Answers replica.node.state op answer node.state × (told ≡ delivery_result_of answer) × (new ≡ with_node old at replica node)
+
+-- The replica that an id names issued this operation with it.
+abbrev pub Issued : ScriptContents → OpId → Op → Type 0
+Issued scene id op = (at : ℕ) × (source : ScriptReplica) × StandsAt scene id.replica at source × IsIn op source.issued × (op.id ≡ id)
+
+-- The line that tells what came of an operation that was handed to a replica.
+abbrev pub outcome_line_of : Source → OpId → ℕ → DeliveryResult → OutcomeLine
+outcome_line_of sources.Issued id name told = Delivered id name told
+outcome_line_of sources.Forged id name told = Forged id name told
+
+-- An operation is handed to a replica, and what came of it is printed.
+abbrev pub DeliversAndPrints : ScriptContents → Source → ℕ → Op → List ℕ → ScriptContents → Type 0
+DeliversAndPrints old source name op more new = (told : DeliveryResult) × DeliversOp old name op told new × (more ≡ outcome_line (outcome_line_of source op.id name told))
+
+-- The operation that its replica issued with this id is delivered.
+abbrev pub DeliversTo : ScriptContents → OpId → ℕ → List ℕ → ScriptContents → Type 0
+DeliversTo old id name more new = (op : Op) × Issued old id op × DeliversAndPrints old sources.Issued name op more new
+
+-- A forged operation is handed to a replica if it is sound; else the rule that it breaks is told.
+abbrev pub Forges : ScriptContents → ℕ → Op → List ℕ → ScriptContents → Type 0
+Forges old name op more new =
+    (IsSound op × DeliversAndPrints old sources.Forged name op more new)
+    ⊎ ((why : Fault) × IsFirstFault op why × (more ≡ outcome_line (Unsound (broken_rule_of why))) × (new ≡ old))
+
+-- An operation that a line spells, and that no replica need have issued, is delivered.
+abbrev pub ForgesAt : ScriptContents → ℕ → List ℕ → List ℕ → ScriptContents → Type 0
+ForgesAt old name text more new = (op : Op) × IsSpelled op text × Forges old name op more new
+
+-- A replica goes on with the operations that it holds.
+abbrev pub DrainsAt : ScriptContents → ℕ → List ℕ → ScriptContents → Type 0
+DrainsAt old name more new =
+    (at : ℕ) × (replica : ScriptReplica) × (node : NodeWithRoom) × (count : ℕ) × (stalled : Bool)
+    × StandsAt old name at replica × Drains replica.node.state count node.state × (IsTrue stalled ↔ HoldsRipe node.state)
+    × (more ≡ outcome_line (Drained name count stalled)) × (new ≡ with_node old at replica node)

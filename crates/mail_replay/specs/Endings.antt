@@ -1,0 +1,32 @@
+use Rattle.std.specs.Prelude.{ℕ, Option, Some, None}
+use Rattle.mail_script.specs.declared.outcome_line.OutcomeLine.{OutcomeLine}
+use Rattle.mail_script.specs.declared.outcome_line.OutcomeLine.TheVariants as lines
+use Rattle.mail_audit.specs.declared.verdict.AuditEnd.{AuditEnd}
+use Rattle.mail_audit.specs.declared.verdict.AuditEnd.TheVariants as audits
+use Rattle.mail_replay.specs.declared.replay_end.ReplayEnd.{ReplayEnd}
+use Rattle.mail_replay.specs.declared.replay_end.ReplayEnd.TheVariants.{Done, BadScript, ReadFailed, WriteFailed, NoMemory}
+
+-- The program's status: 0 where every line was served, else 3.
+abbrev pub status_of : ReplayEnd → ℕ
+status_of Done = 0
+status_of (BadScript line) = 3
+status_of ReadFailed = 3
+status_of WriteFailed = 3
+status_of NoMemory = 3
+
+-- What the last line of the output says of the end. A failed write leaves nothing to say it with.
+abbrev pub last_line_of : ReplayEnd → Option OutcomeLine
+last_line_of Done = None
+last_line_of (BadScript line) = Some (lines.BadScript line)
+last_line_of ReadFailed = Some lines.CannotRead
+last_line_of WriteFailed = None
+last_line_of NoMemory = Some lines.NoMemory
+
+-- The program's status where it audits: 0 for a yes, 1 for a no, else 3.
+abbrev pub audit_status_of : AuditEnd → ℕ
+audit_status_of audits.Yes = 0
+audit_status_of (audits.No line) = 1
+audit_status_of (audits.Unreadable line) = 3
+audit_status_of audits.ReadFailed = 3
+audit_status_of audits.WriteFailed = 3
+audit_status_of audits.NoMemory = 3

@@ -1,0 +1,56 @@
+use Rattle.std.specs.Prelude.{◌≡◌, ◌↔◌, ℕ, Bool, IsTrue, List, [], ◌∷◌, map, MatchResult, Result, Ok, Err}
+use Rattle.imap_node.specs.Nodes.{NodeWithRoom}
+use Rattle.mail_script.specs.Outcomes.{outcome_line}
+use Rattle.mail_script.specs.declared.outcome_line.OutcomeLine.TheVariants.{Agreed, Settled}
+use Rattle.mail_script.specs.declared.outcome_line.SettleResult.{SettleResult}
+use Rattle.mail_script.specs.declared.outcome_line.SettleResult.TheVariants as results
+use Rattle.mail_replay.specs.Deliveries.{StandsAt}
+use Rattle.mail_replay.specs.ScriptState.{ScriptContents}
+use Rattle.mail_replay.specs.declared.script_state.ScriptReplica.{ScriptReplica}
+use Rattle.merge_laws.specs.Orders.{HaveSameElements}
+use Rattle.world_core.specs.Replicas.{all_without_room}
+use Rattle.world_core.specs.Settling.{AllTakeSomeOf, AreAgreed, AreSettled, AreUnsettled, IsReceivedBy}
+use Rattle.world_core.specs.declared.settling.SettleFault.{SettleFault}
+use Rattle.world_core.specs.declared.settling.SettleFault.TheVariants as faults
+
+-- Two replicas are compared: it is printed whether they applied the same operations.
+abbrev pub Compares : ScriptContents → ℕ → ℕ → List ℕ → Type 0
+Compares scene first second more =
+    (at : ℕ) × (one : ScriptReplica) × (by : ℕ) × (other : ScriptReplica) × (same : Bool)
+    × StandsAt scene first at one × StandsAt scene second by other
+    × (IsTrue same ↔ HaveSameElements one.node.state.applied other.node.state.applied)
+    × (more ≡ outcome_line (Agreed first second same))
+
+-- The nodes of replicas, in their order.
+abbrev pub nodes_in : List ScriptReplica → List NodeWithRoom
+nodes_in replicas = map (λ (replica : ScriptReplica). replica.node) replicas
+
+-- The replicas with these nodes in place of theirs.
+abbrev pub with_nodes : List ScriptReplica → List NodeWithRoom → List ScriptReplica
+with_nodes [] nodes = []
+with_nodes (replica ∷ replicas) [] = replica ∷ replicas
+with_nodes (replica ∷ replicas) (node ∷ nodes) = record replica { node = node } ∷ with_nodes replicas nodes
+
+-- What is told of an exchange between all replicas.
+abbrev pub settle_line : Result (Unit {0}) SettleFault → SettleResult
+settle_line (Ok done) = results.Done
+settle_line (Err (faults.Conflict id)) = results.Conflict id
+settle_line (Err faults.Exhausted) = results.Exhausted
+settle_line (Err faults.NoMemory) = results.NoMemory
+
+-- Replicas exchange what they received, applied or held, until all applied one set; or it is told what stands against it. Whatever comes of
+-- it, each takes what some of them had received, and loses nothing.
+abbrev pub Exchanges : List ScriptReplica → SettleResult → List ScriptReplica → Type 0
+Exchanges old told new =
+    (nodes : List NodeWithRoom) × (answer : Result (Unit {0}) SettleFault)
+    × MatchResult answer
+    (λ done. AreAgreed (all_without_room (nodes_in old)) × AreSettled (all_without_room (nodes_in old)) (all_without_room nodes))
+    (λ why. AreUnsettled (all_without_room (nodes_in old)) why (all_without_room nodes))
+    × AllTakeSomeOf (IsReceivedBy (all_without_room (nodes_in old))) (all_without_room (nodes_in old)) (all_without_room nodes)
+    × (told ≡ settle_line answer) × (new ≡ with_nodes old nodes)
+
+-- All replicas exchange what they received, and what came of it is printed.
+abbrev pub Settles : ScriptContents → List ℕ → ScriptContents → Type 0
+Settles old more new =
+    (told : SettleResult) × (replicas : List ScriptReplica)
+    × Exchanges old.replicas told replicas × (more ≡ outcome_line (Settled told)) × (new ≡ record old { replicas = replicas })

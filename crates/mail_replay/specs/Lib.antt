@@ -1,0 +1,9 @@
+pub mod Deliveries
+pub mod Endings
+pub mod Exchanges
+pub mod Faults
+pub mod Joins
+pub mod Lines
+pub mod Replays
+pub mod ScriptState
+pub mod Transcript

@@ -1,0 +1,229 @@
+use Rattle.std.specs.Prelude.{◌≡◌, ◌≢◌, ◌⊎◌, ℕ, ◌<◌, ◌≤◌, ◌++◌, List, [], ◌∷◌, Option, Some, None, IsSome, IsNone, Ok, drop, length, slice_get, slice_set, take}
+use Rattle.crdt_ops.specs.Form.{IsSpelled}
+use Rattle.crdt_ops.specs.declared.op.Op.{Op}
+use Rattle.imap_lex.specs.Framing.{cut_onward, start}
+use Rattle.imap_lex.specs.declared.fault.FrameFaultKind.TheVariants as faults
+use Rattle.imap_answers.specs.Printed.{text_of_answer}
+use Rattle.imap_answers.specs.declared.answer.Answer.{Answer}
+use Rattle.imap_answers.specs.declared.answer.Answer.TheVariants.{Greeting, Bye}
+use Rattle.imap_answers.specs.declared.fixed_words.ByeReason.TheVariants.{TooManySessions}
+use Rattle.imap_answers.specs.declared.fixed_words.Login.TheVariants.{Given}
+use Rattle.mail_script.specs.Script.{Says}
+use Rattle.mail_script.specs.Transcript.{transcript_line}
+use Rattle.mail_script.specs.declared.script.ScriptLine.{ScriptLine}
+use Rattle.mail_script.specs.declared.script.ScriptLine.TheVariants.{Blank, Node, Now, Open, Line, Send, Poll, Close, Show, Deliver, Forge, Drain, Settle, Agree, Join}
+use Rattle.mail_script.specs.declared.transcript.Speaker.TheVariants.{Server}
+use Rattle.imap_node.specs.Nodes.{IsGoing, NodeWithRoom, NodeState, with_session_closed}
+use Rattle.imap_node.specs.Sessions.{IsOpen, Opens}
+use Rattle.imap_node.specs.declared.sessions.Auth.TheVariants.{Preauth}
+use Rattle.mail_replay.specs.Deliveries.{DeliversTo, DrainsAt, ForgesAt, Issued, with_node}
+use Rattle.mail_replay.specs.Exchanges.{Compares, Settles}
+use Rattle.mail_replay.specs.Joins.{Joins}
+use Rattle.mail_replay.specs.ScriptState.{IsNew, ScriptContents, replica_place, session_place}
+use Rattle.mail_replay.specs.Transcript.{transcript}
+use Rattle.mail_replay.specs.declared.script_state.Connection.{Connection}
+use Rattle.mail_replay.specs.declared.script_state.ScriptReplica.{ScriptReplica}
+use Rattle.mail_replay.specs.declared.script_state.ScriptSession.{ScriptSession}
+use Rattle.imap_connection.specs.Dumps.{IsDump}
+use Rattle.imap_connection.specs.Replies.{idling_at}
+use Rattle.imap_connection.specs.Talks.{BreaksPoll, EndsTalk, Polls, Talks, TimedCut, cut_at}
+use Rattle.imap_connection.specs.declared.turn.TalkFaultKind.{TalkFaultKind}
+use Rattle.imap_connection.specs.declared.turn.TalkFaultKind.TheVariants.{Framing, NoMemory}
+use Rattle.imap_connection.specs.declared.turn.Turn.{Turn}
+use Rattle.uid_projection.specs.declared.first_numbers.Counters.{Counters}
+
+-- The end of a line (RFC 9051, section 2.2).
+abbrev pub crlf : List ℕ
+crlf = 13 ∷ 10 ∷ []
+
+-- What a replica's counters begin with: its name, INBOX's first UID, and the k of the first incarnation of another folder.
+abbrev pub start_at : ℕ → ℕ → ℕ → Counters
+start_at name uid k = record { replica = name; uid = uid; k = k }
+
+-- A replica is declared whose counters begin so.
+abbrev pub Declares : ScriptContents → Counters → ScriptContents → Type 0
+Declares old first new =
+    (replica_place old.replicas first.replica ≡ None)
+    × ((replica : ScriptReplica) × IsNew first replica × (new ≡ record old { replicas = old.replicas ++ replica ∷ [] }))
+
+-- A replica opens a session and greets; or, where 1,024 are open, it says that it has no room for one more, and the session
+-- has ended.
+abbrev pub Begins : NodeState → Answer → NodeState → Option Connection → Type 0
+Begins old answer new (Some connection) =
+    Opens old.sessions Preauth connection.number new.sessions × (new ≡ record old { sessions = new.sessions })
+    × (connection.framer ≡ record { limits = record { line = 8192; literals = 1048576 }; state = Ok start }) × (answer ≡ Greeting Given)
+Begins old answer new None = ((n : ℕ) → 0 < n → n ≤ 1024 → IsOpen old.sessions n) × (new ≡ old) × (answer ≡ Bye TooManySessions)
+
+-- A conversation ends for a fault of framing, or at a line of IDLE that was refused, and not for want of memory behind a part of what it
+-- shows.
+abbrev pub IsToldEnd : TalkFaultKind → Type 0
+IsToldEnd why = (why ≢ Framing faults.NoMemory) × (why ≢ NoMemory)
+
+-- What octets that come to a connection at a moment complete.
+abbrev pub cut_at_connection : Connection → ℕ → List ℕ → TimedCut
+cut_at_connection connection moment octets = cut_at moment (cut_onward connection.framer.limits connection.framer.state octets)
+
+-- What octets that come at a moment make of a connection: the turns of its conversation, and the connection as it goes on, whose framer
+-- keeps its limits; none where a LOGOUT was answered OK, the octets can't be framed, or a line of IDLE was refused.
+abbrev pub TalksOn : NodeState → Connection → ℕ → List ℕ → List Turn → NodeState → Option Connection → Type 0
+TalksOn old connection moment octets turns new (Some left) =
+    (left.number ≡ connection.number) × (left.framer.limits ≡ connection.framer.limits) × IsGoing new left.number
+    × Talks old connection.number (cut_at_connection connection moment octets) turns new left.framer.state
+TalksOn old connection moment octets turns new None =
+    ((IsGoing new connection.number → ⊥) × ((state : _) × Talks old connection.number (cut_at_connection connection moment octets) turns new state))
+    ⊎ ((why : TalkFaultKind) × IsToldEnd why × EndsTalk why old connection.number connection.framer.state (cut_at_connection connection moment octets) turns new)
+
+-- A session that can be fed: it was opened, and has a connection with a declared replica, which hasn't logged out.
+pub record Feedable (scene : ScriptContents) (name : List ℕ) : Type 0 where
+  pub place : ℕ
+  pub session : ScriptSession
+  pub at : ℕ
+  pub replica : ScriptReplica
+  pub connection : Connection
+  pub session_stands : session_place scene.sessions name ≡ Some place
+  pub session_is : slice_get scene.sessions place ≡ Some session
+  pub replica_stands : replica_place scene.replicas session.replica ≡ Some at
+  pub replica_is : slice_get scene.replicas at ≡ Some replica
+  pub connection_is : session.connection ≡ Some connection
+
+-- The operations that a node applied behind these.
+abbrev pub ops_applied_since : NodeState → NodeState → List Op
+ops_applied_since old new = drop (length old.applied) new.applied
+
+-- The replica after a conversation: what its node applied meanwhile it issued.
+abbrev pub replica_after_talk : ScriptReplica → NodeWithRoom → ScriptReplica
+replica_after_talk old node = record old { node = node; issued = old.issued ++ ops_applied_since old.node.state node.state }
+
+-- The scene with this node and this connection in place of those of a session.
+abbrev pub with_talk : (scene : ScriptContents) (name : List ℕ) → Feedable scene name → NodeWithRoom → Option Connection → ScriptContents
+with_talk scene name t node left =
+    record scene { replicas = slice_set scene.replicas t.at (replica_after_talk t.replica node); sessions = slice_set scene.sessions t.place (record t.session { connection = left }) }
+
+-- The session can be fed, and goes on.
+abbrev pub IsTalking : ScriptContents → List ℕ → Type 0
+IsTalking scene name = (t : Feedable scene name) × IsGoing t.replica.node.state t.connection.number
+
+-- The session idles: a line of IDLE is awaited (RFC 2177, section 3).
+abbrev pub IsIdling : ScriptContents → List ℕ → Type 0
+IsIdling scene name = (t : Feedable scene name) × IsSome (idling_at t.replica.node.state t.connection.number)
+
+-- A session is fed these octets, at the moment that the clock shows: the turns of its conversation are printed.
+abbrev pub Feeds : ScriptContents → List ℕ → List ℕ → List ℕ → ScriptContents → Type 0
+Feeds old name octets more new =
+    (t : Feedable old name) × (turns : List Turn) × (node : NodeWithRoom) × (left : Option Connection)
+    × TalksOn t.replica.node.state t.connection old.moment octets turns node.state left × (more ≡ transcript name turns) × (new ≡ with_talk old name t node left)
+
+-- A session that idles is polled: the answers that tell it what changed are printed.
+abbrev pub PollsAt : ScriptContents → List ℕ → List ℕ → ScriptContents → Type 0
+PollsAt old name more new =
+    (t : Feedable old name) × (turns : List Turn) × (node : NodeWithRoom) × IsSome (idling_at t.replica.node.state t.connection.number)
+    × Polls t.replica.node.state t.connection.number turns node.state × (more ≡ transcript name turns) × (new ≡ with_node old t.at t.replica node)
+
+-- A session is closed.
+abbrev pub Closes : ScriptContents → List ℕ → ScriptContents → Type 0
+Closes old name new =
+    (t : Feedable old name) × (node : NodeWithRoom) × (node.state ≡ with_session_closed t.replica.node.state t.connection.number) × (new ≡ record old {
+      replicas = slice_set old.replicas t.at (record t.replica { node = node });
+      sessions = slice_set old.sessions t.place (record t.session { connection = None });
+    })
+
+-- A replica opens a session, and its first answer is printed.
+abbrev pub OpensAt : ScriptContents → ℕ → List ℕ → List ℕ → ScriptContents → Type 0
+OpensAt old replica name more new =
+    (session_place old.sessions name ≡ None)
+    × ((at : ℕ) × (host : ScriptReplica) × (node : NodeWithRoom) × (answer : Answer) × (connection : Option Connection)
+    × (replica_place old.replicas replica ≡ Some at) × (slice_get old.replicas at ≡ Some host) × Begins host.node.state answer node.state connection
+    × (more ≡ transcript_line name Server (text_of_answer answer))
+    × (new ≡ record old {
+      replicas = slice_set old.replicas at (record host { node = node });
+      sessions = old.sessions ++ record { name = name; replica = replica; connection = connection } ∷ [];
+    }))
+
+-- The dump of a replica is printed.
+abbrev pub Shows : ScriptContents → ℕ → List ℕ → Type 0
+Shows scene name more =
+    (at : ℕ) × (replica : ScriptReplica) × (replica_place scene.replicas name ≡ Some at) × (slice_get scene.replicas at ≡ Some replica) × IsDump replica.node.state.start.replica replica.node.state.applied more
+
+-- What a line does in a scene, and what it prints.
+abbrev pub Serves : ScriptContents → ScriptLine → List ℕ → ScriptContents → Type 0
+Serves old Blank more new = (more ≡ []) × (new ≡ old)
+Serves old (Node replica uid k) more new = (more ≡ []) × Declares old (start_at replica uid k) new
+Serves old (Now moment) more new = (more ≡ []) × (new ≡ record old { moment = moment })
+Serves old (Open replica name) more new = OpensAt old replica name more new
+Serves old (Line name text) more new = Feeds old name (text ++ crlf) more new
+Serves old (Send name text) more new = Feeds old name text more new
+Serves old (Poll name) more new = PollsAt old name more new
+Serves old (Close name) more new = (more ≡ []) × Closes old name new
+Serves old (Show replica) more new = Shows old replica more × (new ≡ old)
+Serves old (Deliver id replica) more new = DeliversTo old id replica more new
+Serves old (Forge replica operation) more new = ForgesAt old replica operation more new
+Serves old (Drain replica) more new = DrainsAt old replica more new
+Serves old Settle more new = Settles old more new
+Serves old (Agree first second) more new = Compares old first second more × (new ≡ old)
+Serves old (Join replica peer) more new = Joins old replica peer more new
+
+-- A line that can't be served where it stands: it names what isn't declared, or declares what is, or names a session that
+-- has ended or an operation that was never issued, or polls a session that doesn't idle, or its text is none of an operation's.
+abbrev pub IsMisplaced : ScriptContents → ScriptLine → Type 0
+IsMisplaced scene Blank = ⊥
+IsMisplaced scene (Node replica uid k) = IsSome (replica_place scene.replicas replica)
+IsMisplaced scene (Now moment) = ⊥
+IsMisplaced scene (Open replica name) = IsNone (replica_place scene.replicas replica) ⊎ IsSome (session_place scene.sessions name)
+IsMisplaced scene (Line name text) = IsTalking scene name → ⊥
+IsMisplaced scene (Send name text) = IsTalking scene name → ⊥
+IsMisplaced scene (Poll name) = IsIdling scene name → ⊥
+IsMisplaced scene (Close name) = IsTalking scene name → ⊥
+IsMisplaced scene (Show replica) = IsNone (replica_place scene.replicas replica)
+IsMisplaced scene (Deliver id replica) = IsNone (replica_place scene.replicas replica) ⊎ ((op : Op) → Issued scene id op → ⊥)
+IsMisplaced scene (Forge replica operation) = IsNone (replica_place scene.replicas replica) ⊎ ((op : Op) → IsSpelled op operation → ⊥)
+IsMisplaced scene (Drain replica) = IsNone (replica_place scene.replicas replica)
+IsMisplaced scene Settle = ⊥
+IsMisplaced scene (Agree first second) = IsNone (replica_place scene.replicas first) ⊎ IsNone (replica_place scene.replicas second)
+IsMisplaced scene (Join replica peer) = IsSome (replica_place scene.replicas replica) ⊎ IsNone (replica_place scene.replicas peer)
+
+-- A line that isn't served: it says nothing that could be, where it stands.
+abbrev pub IsBad : ScriptContents → List ℕ → Type 0
+IsBad scene line = (said : ScriptLine) → Says line said → IsMisplaced scene said
+
+-- ---- what is printed where memory runs out
+
+-- The turns that octets make of a connection: to their end, or until a fault or want of memory ends the conversation.
+abbrev pub HasTurns : NodeState → Connection → ℕ → List ℕ → List Turn → Type 0
+HasTurns old connection moment octets turns =
+    ((new : NodeState) × (state : _) × Talks old connection.number (cut_at_connection connection moment octets) turns new state)
+    ⊎ ((why : TalkFaultKind) × (new : NodeState) × EndsTalk why old connection.number connection.framer.state (cut_at_connection connection moment octets) turns new)
+
+-- A session is fed these octets, and some of the first turns of its conversation are printed.
+abbrev pub FeedsInPart : ScriptContents → List ℕ → List ℕ → List ℕ → Type 0
+FeedsInPart scene name octets more =
+    (t : Feedable scene name) × (turns : List Turn) × (count : ℕ)
+    × HasTurns t.replica.node.state t.connection scene.moment octets turns × (more ≡ transcript name (take count turns))
+
+-- The turns that a poll makes: all of them, or those in front of the one for which there is no memory.
+abbrev pub HasPolledTurns : NodeState → ℕ → List Turn → Type 0
+HasPolledTurns old session turns = ((new : NodeState) × Polls old session turns new) ⊎ ((new : NodeState) × BreaksPoll old session turns new)
+
+-- A session is polled, and some of the first answers are printed.
+abbrev pub PollsInPart : ScriptContents → List ℕ → List ℕ → Type 0
+PollsInPart scene name more =
+    (t : Feedable scene name) × (turns : List Turn) × (count : ℕ)
+    × HasPolledTurns t.replica.node.state t.connection.number turns × (more ≡ transcript name (take count turns))
+
+-- What a line prints that finds no memory for all of it: a session is opened and forgotten, or some of its turns are told.
+abbrev pub PrintsInPart : ScriptContents → ScriptLine → List ℕ → Type 0
+PrintsInPart scene (Open replica name) more = (new : ScriptContents) × OpensAt scene replica name more new
+PrintsInPart scene (Line name text) more = FeedsInPart scene name (text ++ crlf) more
+PrintsInPart scene (Send name text) more = FeedsInPart scene name text more
+PrintsInPart scene (Poll name) more = PollsInPart scene name more
+PrintsInPart scene said more = ⊥
+
+-- What is printed of a line for which there is no memory: nothing, or a part of it.
+abbrev pub ServesInPart : ScriptContents → List ℕ → List ℕ → Type 0
+ServesInPart scene line more = (more ≡ []) ⊎ ((said : ScriptLine) × Says line said × PrintsInPart scene said more)
+
+-- ---- what a line that says something may be taken for
+
+-- Where the line declares a replica, its first UID isn't 0.
+abbrev pub HasFirstUid : ScriptLine → Type 0
+HasFirstUid (Node replica uid k) = 1 ≤ uid
+HasFirstUid said = Unit {0}

@@ -1,0 +1,44 @@
+//! What the program does where it is asked for an audit.
+
+ghost use Rattle.std.specs.Prelude.{◌≡◌};
+ghost use Rattle.mail_replay.specs.Endings.{audit_status_of};
+
+use mail_audit::{AuditEnd, audit};
+use std::io::{BufWriter, Read, Write};
+use std::rt::Files;
+use std::{fs, io};
+
+/// The status with which the program ends: 0 where all is right, 1 where something isn't, else 3.
+pub fn status(end: AuditEnd) -> u8
+    ensures { result ≡ audit_status_of end }
+{
+    match end {
+        AuditEnd::Yes => 0,
+        AuditEnd::No(_) => 1,
+        _ => 3,
+    }
+}
+
+/// Audits what this file holds, and gives the program's status.
+pub fn audit_file<R: Files + Print + AllocGlobal>(rt: &R, path: &str) -> u8 {
+    match fs::open(rt, path) {
+        Ok(file) => audit_from(rt, file),
+        Err(_) => say(rt, b"cannot read\n"),
+    }
+}
+
+/// Audits what this reader gives, and gives the program's status.
+pub fn audit_from<R: Print + AllocGlobal, S: Read + Drop>(rt: &R, mut input: S) -> u8 {
+    match BufWriter::new(rt.alloc(), io::writer(rt)) {
+        Ok(mut writer) => status(audit(rt.alloc(), &mut input, &mut writer)),
+        Err(_) => say(rt, b"no memory\n"),
+    }
+}
+
+/// Says why nothing was audited.
+fn say<R: Print>(rt: &R, why: &[u8]) -> u8 {
+    let mut writer = io::writer(rt);
+    let _ = writer.write_all(why);
+    let _ = writer.flush();
+    3
+}

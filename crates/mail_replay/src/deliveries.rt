@@ -1,0 +1,231 @@
+//! The lines that hand operations to replicas.
+
+ghost use Rattle.std.specs.Prelude.{◌≡◌, ◌⊎◌, ◌++◌, ℕ, List, Err, IfOk, IsNone, OnErr, OnOk};
+ghost use Rattle.crdt_ops.specs.Form.{IsSpelled};
+ghost use Rattle.crdt_ops.specs.declared.op.Op.{Op};
+ghost use Rattle.mail_replay.specs.Deliveries.{DeliversTo, DrainsAt, Forges, ForgesAt, DeliversOp, DeliversAndPrints, Issued, delivery_result_of, arrival_result_of, broken_rule_of, outcome_line_of};
+ghost use Rattle.mail_replay.specs.ScriptState.{replica_place, script_contents_of};
+ghost use Rattle.mail_replay.specs.declared.script_service.ServeFault.TheVariants.{BadScript};
+
+use crate::script_service::ServeFault;
+use crate::script_state::{ScriptState, replica_place};
+use causal_inbox::{Arrival, DeliverFault, Delivered};
+use crdt_ops::{Op, OpFault, SoundOp, Unsound, check, read_op};
+use mail_script::{BrokenRule, DeliveryResult, OutcomeLine, write_outcome};
+use merge_laws::Caused;
+use std::alloc::Global;
+use tags_clocks::{OpId, ReplicaId};
+
+/// Where an operation that is handed to a replica comes from.
+#[derive(Clone, Copy, Debug, PartialEq, Eq)]
+enum Source {
+    /// The replica that it names issued it.
+    Issued,
+    /// A line of the script spells it.
+    Forged,
+}
+
+/// Delivers an operation that a replica issued, and prints what came of it. It is a bad script where no such operation was
+/// issued, or the replica isn't declared.
+pub fn deliver(
+    alloc: Global,
+    stage: &mut ScriptState,
+    id: OpId,
+    replica: ReplicaId,
+    printed: &mut Vec<u8>,
+) -> Result<(), ServeFault>
+    ensures ok { OnOk result ((more : List ℕ) × DeliversTo (script_contents_of stage.old) id replica more (script_contents_of stage.new) × (printed.new.items ≡ printed.old.items ++ more)) }
+    ensures bad { result ≡ Err BadScript → IsNone (replica_place stage.old.replicas.items replica) ⊎ ((op : Op) → Issued (script_contents_of stage.old) id op → ⊥) }
+    ensures err { OnErr result (printed.new.items ≡ printed.old.items) }
+{
+    match issued_op(alloc, stage, id) {
+        Ok(op) => deliver_and_print(alloc, stage, Source::Issued, replica, op, printed),
+        Err(fault) => Err(fault),
+    }
+}
+
+/// Delivers an operation that the line spells, and prints what came of it, or why it isn't sound.
+pub fn forge(
+    alloc: Global,
+    stage: &mut ScriptState,
+    replica: ReplicaId,
+    text: &[u8],
+    printed: &mut Vec<u8>,
+) -> Result<(), ServeFault>
+    ensures ok { OnOk result ((more : List ℕ) × ForgesAt (script_contents_of stage.old) replica text.now more (script_contents_of stage.new) × (printed.new.items ≡ printed.old.items ++ more)) }
+    ensures bad { result ≡ Err BadScript → IsNone (replica_place stage.old.replicas.items replica) ⊎ ((op : Op) → IsSpelled op text.now → ⊥) }
+    ensures err { OnErr result (printed.new.items ≡ printed.old.items) }
+{
+    if replica_place(&stage.replicas, replica).is_none() {
+        return Err(ServeFault::BadScript);
+    }
+    let op = spelled_op(alloc, text)?;
+    forge_if_sound(alloc, stage, replica, op, printed)
+}
+
+/// Goes on with the operations that a replica holds, and prints how many were applied.
+pub fn drain(
+    alloc: Global,
+    stage: &mut ScriptState,
+    replica: ReplicaId,
+    printed: &mut Vec<u8>,
+) -> Result<(), ServeFault>
+    ensures ok { OnOk result ((more : List ℕ) × DrainsAt (script_contents_of stage.old) replica more (script_contents_of stage.new) × (printed.new.items ≡ printed.old.items ++ more)) }
+    ensures bad { result ≡ Err BadScript → IsNone (replica_place stage.old.replicas.items replica) }
+    ensures err { OnErr result (printed.new.items ≡ printed.old.items) }
+{
+    let Some(place) = replica_place(&stage.replicas, replica) else {
+        return Err(ServeFault::BadScript);
+    };
+    let drained = stage.replicas[place].node.drain(alloc);
+    let outcome = OutcomeLine::Drained {
+        replica,
+        count: drained.applied as u64,
+        stalled: drained.stalled,
+    };
+    write_outcome(outcome, printed)?;
+    Ok(())
+}
+
+/// A copy of the operation that its replica issued with this id.
+fn issued_op(alloc: Global, stage: &ScriptState, id: OpId) -> Result<SoundOp, ServeFault>
+    ensures ok { IfOk result (λ op. Issued (script_contents_of stage.now) id op) }
+    ensures bad { result ≡ Err BadScript → (op : Op) → Issued (script_contents_of stage.now) id op → ⊥ }
+{
+    let Some(place) = replica_place(&stage.replicas, id.replica) else {
+        return Err(ServeFault::BadScript);
+    };
+    let Some(op) = stage.replicas[place].issued.find(id) else {
+        return Err(ServeFault::BadScript);
+    };
+    let copy = op.copy(alloc)?;
+    Ok(copy)
+}
+
+/// The operation that a text spells, sound or not.
+fn spelled_op(alloc: Global, text: &[u8]) -> Result<Op, ServeFault>
+    ensures ok { IfOk result (λ op. IsSpelled op text.now) }
+    ensures bad { result ≡ Err BadScript → (op : Op) → IsSpelled op text.now → ⊥ }
+{
+    match read_op(alloc, text) {
+        Ok(op) => Ok(op),
+        Err(OpFault::NotTheForm) => Err(ServeFault::BadScript),
+        Err(OpFault::NoMemory) => Err(ServeFault::NoMemory),
+    }
+}
+
+/// Hands a forged operation to a replica if it is sound, and prints what came of it, or why it isn't.
+fn forge_if_sound(
+    alloc: Global,
+    stage: &mut ScriptState,
+    replica: ReplicaId,
+    op: Op,
+    printed: &mut Vec<u8>,
+) -> Result<(), ServeFault>
+    ensures ok { OnOk result ((more : List ℕ) × Forges (script_contents_of stage.old) replica op more (script_contents_of stage.new) × (printed.new.items ≡ printed.old.items ++ more)) }
+    ensures bad { result ≡ Err BadScript → IsNone (replica_place stage.old.replicas.items replica) }
+    ensures err { OnErr result (printed.new.items ≡ printed.old.items) }
+{
+    match check(op) {
+        Ok(op) => deliver_and_print(alloc, stage, Source::Forged, replica, op, printed),
+        Err((op, why)) => {
+            drop(op);
+            let rule = broken_rule_of(why);
+            write_outcome(OutcomeLine::Unsound { rule }, printed)?;
+            Ok(())
+        }
+    }
+}
+
+/// Hands an operation to a replica, and prints what came of it.
+fn deliver_and_print(
+    alloc: Global,
+    stage: &mut ScriptState,
+    source: Source,
+    replica: ReplicaId,
+    op: SoundOp,
+    printed: &mut Vec<u8>,
+) -> Result<(), ServeFault>
+    ensures ok { OnOk result ((more : List ℕ) × DeliversAndPrints (script_contents_of stage.old) source replica op more (script_contents_of stage.new) × (printed.new.items ≡ printed.old.items ++ more)) }
+    ensures bad { result ≡ Err BadScript → IsNone (replica_place stage.old.replicas.items replica) }
+    ensures err { OnErr result (printed.new.items ≡ printed.old.items) }
+{
+    let id = op.id();
+    let told = deliver_to(alloc, stage, replica, op)?;
+    let outcome = outcome_line_of(source, id, replica, told);
+    write_outcome(outcome, printed)?;
+    Ok(())
+}
+
+/// The line that tells what came of an operation that was handed over.
+fn outcome_line_of(source: Source, id: OpId, replica: ReplicaId, told: DeliveryResult) -> OutcomeLine
+    ensures { result ≡ outcome_line_of source id replica told }
+{
+    match source {
+        Source::Issued => OutcomeLine::Delivered {
+            id,
+            replica,
+            result: told,
+        },
+        Source::Forged => OutcomeLine::Forged {
+            id,
+            replica,
+            result: told,
+        },
+    }
+}
+
+/// Hands an operation to a replica, and tells what came of it.
+fn deliver_to(
+    alloc: Global,
+    stage: &mut ScriptState,
+    replica: ReplicaId,
+    op: SoundOp,
+) -> Result<DeliveryResult, ServeFault>
+    ensures ok { IfOk result (λ told. DeliversOp (script_contents_of stage.old) replica op told (script_contents_of stage.new)) }
+    ensures bad { result ≡ Err BadScript → IsNone (replica_place stage.old.replicas.items replica) }
+{
+    let Some(place) = replica_place(&stage.replicas, replica) else {
+        return Err(ServeFault::BadScript);
+    };
+    let answer = stage.replicas[place].node.deliver(alloc, op);
+    Ok(delivery_result_of(answer))
+}
+
+fn delivery_result_of(answer: Result<Delivered, DeliverFault>) -> DeliveryResult
+    ensures { result ≡ delivery_result_of answer }
+{
+    match answer {
+        Ok(Delivered { arrival, stalled }) => arrival_result_of(arrival, stalled),
+        Err(DeliverFault::Conflict { id }) => DeliveryResult::Conflict { id },
+        Err(DeliverFault::HeldFull) => DeliveryResult::HeldFull,
+        Err(DeliverFault::Exhausted) => DeliveryResult::Exhausted,
+        Err(DeliverFault::NoMemory) => DeliveryResult::NoMemory,
+    }
+}
+
+fn arrival_result_of(arrival: Arrival, stalled: bool) -> DeliveryResult
+    ensures { result ≡ arrival_result_of arrival stalled }
+{
+    match arrival {
+        Arrival::Applied(count) => DeliveryResult::Applied {
+            count: count as u64,
+            stalled,
+        },
+        Arrival::Held => DeliveryResult::Held { stalled },
+        Arrival::Repeat => DeliveryResult::Repeat { stalled },
+    }
+}
+
+fn broken_rule_of(why: Unsound) -> BrokenRule
+    ensures { result ≡ broken_rule_of why }
+{
+    match why {
+        Unsound::OwnClockEntry => BrokenRule::OwnEntry,
+        Unsound::UncoveredId => BrokenRule::UncoveredId,
+        Unsound::UnlawfulName => BrokenRule::UnlawfulName,
+        Unsound::UnlawfulFlags => BrokenRule::UnlawfulFlags,
+        Unsound::DeleteOfInbox => BrokenRule::InboxDeleted,
+        Unsound::Count => BrokenRule::OldIdCount,
+    }
+}

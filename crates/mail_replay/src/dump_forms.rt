@@ -1,0 +1,211 @@
+//! An operation that was found sound has a text: its types keep its octets, numbers and lists in range. These functions do nothing; each
+//! says what every value of a type keeps.
+
+ghost use Rattle.std.specs.Prelude.{◌≡◌, ℕ, ◌^◌, ◌<◌, ◌≤◌, length};
+ghost use Rattle.imap_types.specs.DateTimes.{IsDateTime};
+ghost use Rattle.imap_types.specs.Escape.{AreOctets};
+ghost use Rattle.imap_types.specs.Flags.{IsLawfulFlags};
+ghost use Rattle.merge_laws.specs.Orders.{AreSound};
+ghost use Rattle.tags_clocks.specs.Clock.{IsClock};
+ghost use Rattle.crdt_ops.specs.Form.{AreIds, Each, HasFields, HasWords, IsDated, IsEntry, IsId, IsInForm, IsReplica};
+ghost use Rattle.crdt_ops.specs.Sound.{HasLawfulFlags};
+ghost use Rattle.crdt_ops.specs.declared.op.Op.{Op};
+ghost use Rattle.uid_projection.specs.Bounds.{AreWritable, IsCountable};
+
+use crdt_ops::{Ids, Kind, SoundOp};
+use imap_types::{DateTime, Flags, Name, Text};
+use tags_clocks::{Clock, OpId, ReplicaId};
+
+/// Operations that were found sound have texts.
+pub fn all_in_form(ops: &[SoundOp])
+    ensures { AreSound IsInForm ops.now }
+{
+    each_in_form(ops);
+}
+
+fn each_in_form(ops: &[SoundOp])
+    ensures { Each IsInForm ops.now }
+{
+    for op in ops {
+        in_form(op);
+    }
+}
+
+/// Operations that were found sound can be told of: they have texts, and the octets of the messages that they append can be counted.
+pub fn all_writable(ops: &[SoundOp])
+    ensures { AreWritable ops.now }
+{
+    each_writable(ops);
+}
+
+fn each_writable(ops: &[SoundOp])
+    ensures { Each (λ (op : Op). IsInForm op × IsCountable op.kind) ops.now }
+{
+    for op in ops {
+        in_form(op);
+        text_counts(&op.op().kind);
+    }
+}
+
+/// A message that is appended stands in memory, so that its octets are fewer than 2^64.
+fn text_counts(kind: &Kind)
+    ensures { IsCountable kind.now }
+{
+    match kind {
+        Kind::Append { text, .. } => count_fits(text.as_bytes().len()),
+        Kind::Create { .. } => {}
+        Kind::Delete { .. } => {}
+        Kind::Expunge { .. } => {}
+        Kind::Store { .. } => {}
+        Kind::Subscribe { .. } => {}
+        Kind::Unsubscribe { .. } => {}
+    }
+}
+
+fn count_fits(count: usize)
+    ensures { count < 2 ^ 64 }
+{}
+
+/// An operation that was found sound has a text.
+pub fn in_form(op: &SoundOp)
+    ensures { IsInForm op.now }
+{
+    let found = op.op();
+    id_fits(found.id);
+    clock_fits(&found.clock);
+    kind_fits(&found.kind);
+}
+
+/// A replica's number is one from 1 to 65,535.
+pub fn replica_fits(replica: ReplicaId)
+    ensures { IsReplica replica }
+{
+    let _number = replica.get();
+}
+
+fn id_fits(id: OpId)
+    ensures { IsId id }
+{
+    replica_fits(id.replica);
+    let _number = id.number.get();
+}
+
+fn ids_fit(ids: &Ids)
+    ensures { AreIds ids.now }
+{
+    each_id_fits(ids.as_slice());
+}
+
+fn each_id_fits(ids: &[OpId])
+    ensures { Each IsId ids.now }
+{
+    for id in ids {
+        id_fits(*id);
+    }
+}
+
+fn clock_fits(clock: &Clock)
+    ensures clock { IsClock clock.now }
+    ensures entries { Each IsEntry clock.now }
+{
+    entries_fit(clock.entries());
+}
+
+/// Numbers of entries have 32 bits; that they are from 1 on, the clock itself says.
+fn entries_fit(entries: &[(ReplicaId, u32)])
+    ensures { Each (λ (entry : ℕ × ℕ). IsReplica entry.0 × (entry.1 ≤ 4294967295)) entries.now }
+{
+    for (replica, number) in entries {
+        replica_fits(*replica);
+        number_fits(*number);
+    }
+}
+
+fn number_fits(number: u32)
+    ensures { number ≤ 4294967295 }
+{}
+
+/// The fields of an operation whose flags are lawful, its date among them.
+fn kind_fits(kind: &Kind)
+    requires { HasLawfulFlags kind.now }
+    ensures fields { HasFields kind.now }
+    ensures date { IsDated kind.now }
+{
+    match kind {
+        Kind::Create { folder } => name_fits(folder),
+        Kind::Delete { folder, seen } => {
+            name_fits(folder);
+            ids_fit(seen);
+        }
+        Kind::Append {
+            folder,
+            flags,
+            date,
+            text,
+        } => {
+            name_fits(folder);
+            flags_fit(flags);
+            date_fits(date);
+            text_fits(text);
+        }
+        Kind::Expunge { folder, olds } => {
+            name_fits(folder);
+            ids_fit(olds);
+        }
+        Kind::Store {
+            folder,
+            flags,
+            olds,
+            origin,
+        } => {
+            name_fits(folder);
+            flags_fit(flags);
+            ids_fit(olds);
+            id_fits(*origin);
+        }
+        Kind::Subscribe { name } => name_fits(name),
+        Kind::Unsubscribe { name, seen } => {
+            name_fits(name);
+            ids_fit(seen);
+        }
+    }
+}
+
+fn name_fits(name: &Name)
+    ensures { AreOctets name.now }
+{
+    octets_fit(name.as_bytes());
+}
+
+fn text_fits(text: &Text)
+    ensures { AreOctets text.now }
+{
+    octets_fit(text.as_bytes());
+}
+
+fn octets_fit(octets: &[u8])
+    ensures { AreOctets octets.now }
+{
+    for octet in octets {
+        octet_fits(*octet);
+    }
+}
+
+fn octet_fits(octet: u8)
+    ensures { octet < 256 }
+{}
+
+/// Lawful keywords are words.
+fn flags_fit(flags: &Flags)
+    requires { IsLawfulFlags flags.now }
+    ensures { HasWords flags.now }
+{
+    let _words = flags.keywords.as_slice();
+}
+
+fn date_fits(date: &DateTime)
+    ensures form { IsDateTime date.now }
+    ensures octets { length date.now ≡ 28 }
+{
+    let _octets = date.as_bytes();
+}

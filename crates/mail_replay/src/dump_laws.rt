@@ -1,0 +1,20 @@
+//! The dump of a node as the audit takes it.
+
+ghost use Rattle.std.specs.Prelude.{ℕ, List, ◌++◌};
+ghost use Rattle.mail_audit.specs.Audits.{IsRight};
+ghost use Rattle.mail_audit.specs.Dumps.{IsRightDump};
+ghost use Rattle.mail_script.specs.Lines.{lines_of};
+ghost use Rattle.imap_connection.specs.Dumps.{IsDump};
+
+use crate::dump_forms::{all_in_form, replica_fits};
+use imap_connection::Node;
+
+/// What `write_dump` writes of a node is a right dump, and its lines are right behind lines that are: where the audit's `Yes` is true of an
+/// input, it is true of that input with the dump behind it.
+pub fn dumps_are_right(node: &Node)
+    ensures dumps { (text : List ℕ) → IsDump node.now.state.start.replica node.now.state.applied text → IsRightDump text }
+    ensures lines { (text : List ℕ) → IsDump node.now.state.start.replica node.now.state.applied text → (front : List (List ℕ)) → IsRight front → IsRight (front ++ lines_of text) }
+{
+    all_in_form(node.op_list());
+    replica_fits(node.replica().id());
+}

@@ -1,0 +1,136 @@
+//! The lines that compare replicas, and that have them exchange what they received.
+
+ghost use Rattle.std.specs.Prelude.{◌≡◌, ◌⊎◌, ◌++◌, ◌↔◌, ℕ, List, Err, IfErr, IfOk, IsNone, IsTrue, OnErr, OnOk, length};
+ghost use Rattle.mail_replay.specs.Exchanges.{Compares, Exchanges, Settles, nodes_in, settle_line, with_nodes};
+ghost use Rattle.mail_replay.specs.ScriptState.{replica_place, script_contents_of};
+ghost use Rattle.mail_replay.specs.declared.script_service.ServeFault.TheVariants.{BadScript, NoMemory};
+ghost use Rattle.merge_laws.specs.Orders.{HaveSameElements};
+
+use crate::script_service::ServeFault;
+use crate::script_state::{ScriptReplica, ScriptState, replica_place};
+use imap_connection::Node;
+use mail_script::{OutcomeLine, SettleResult, write_outcome};
+use std::alloc::{AllocError, Global};
+use std::mem;
+use tags_clocks::ReplicaId;
+use uid_projection::Counters;
+use world_core::{Agreement, SettleFault, agree, settle};
+
+/// Prints whether two replicas applied the same operations. It is a bad script where one of them isn't declared.
+pub fn compare(
+    stage: &ScriptState,
+    first: ReplicaId,
+    second: ReplicaId,
+    printed: &mut Vec<u8>,
+) -> Result<(), ServeFault>
+    ensures ok { OnOk result ((more : List ℕ) × Compares (script_contents_of stage.now) first second more × (printed.new.items ≡ printed.old.items ++ more)) }
+    ensures bad { result ≡ Err BadScript → IsNone (replica_place stage.now.replicas.items first) ⊎ IsNone (replica_place stage.now.replicas.items second) }
+    ensures err { OnErr result (printed.new.items ≡ printed.old.items) }
+{
+    let Some(one) = replica_place(&stage.replicas, first) else {
+        return Err(ServeFault::BadScript);
+    };
+    let Some(other) = replica_place(&stage.replicas, second) else {
+        return Err(ServeFault::BadScript);
+    };
+    let same = are_same(&stage.replicas[one].node, &stage.replicas[other].node);
+    let outcome = OutcomeLine::Agreed {
+        first,
+        second,
+        same,
+    };
+    write_outcome(outcome, printed)?;
+    Ok(())
+}
+
+/// Whether two replicas applied the same operations.
+fn are_same(one: &Node, other: &Node) -> bool
+    ensures { IsTrue result ↔ HaveSameElements one.now.state.applied other.now.state.applied }
+{
+    match agree(one, other) {
+        Agreement::Same => true,
+        Agreement::Different => false,
+    }
+}
+
+/// Has all replicas exchange what they received, and prints what came of it.
+pub fn exchange(alloc: Global, stage: &mut ScriptState, printed: &mut Vec<u8>) -> Result<(), ServeFault>
+    ensures ok { OnOk result ((more : List ℕ) × Settles (script_contents_of stage.old) more (script_contents_of stage.new) × (printed.new.items ≡ printed.old.items ++ more)) }
+    ensures err { IfErr result (λ fault. fault ≡ NoMemory) }
+    ensures kept { OnErr result (printed.new.items ≡ printed.old.items) }
+{
+    let result = exchange_all(alloc, &mut stage.replicas)?;
+    write_outcome(OutcomeLine::Settled { result }, printed)?;
+    Ok(())
+}
+
+/// Has replicas exchange what they received, and tells what came of it. An error says that there was no memory to begin with.
+fn exchange_all(alloc: Global, replicas: &mut [ScriptReplica]) -> Result<SettleResult, AllocError>
+    ensures { IfOk result (λ told. Exchanges replicas.old told replicas.new) }
+{
+    let mut nodes = blank_nodes(alloc, replicas)?;
+    Ok(exchange_with(alloc, replicas, &mut nodes))
+}
+
+/// Has replicas exchange what they received, while these nodes stand in the places of theirs; tells what came of it.
+fn exchange_with(alloc: Global, replicas: &mut [ScriptReplica], nodes: &mut [Node]) -> SettleResult
+    requires { length nodes.old ≡ length replicas.old }
+    ensures { Exchanges replicas.old result replicas.new }
+{
+    swap_nodes(replicas, nodes);
+    let answer = settle(alloc, nodes);
+    swap_nodes(replicas, nodes);
+    settle_line(answer)
+}
+
+/// As many nodes as there are replicas, which stand in their places while theirs are lent.
+fn blank_nodes(alloc: Global, replicas: &[ScriptReplica]) -> Result<Vec<Node>, AllocError>
+    ensures { IfOk result (λ nodes. length nodes.items ≡ length replicas.now) }
+{
+    let mut nodes = Vec::with_capacity(alloc, replicas.len())?;
+    for replica in replicas {
+        nodes.push(blank_node(alloc, replica.name)?)?;
+    }
+    Ok(nodes)
+}
+
+/// A node that has received nothing.
+fn blank_node(alloc: Global, replica: ReplicaId) -> Result<Node, AllocError> {
+    Node::new(
+        alloc,
+        Counters {
+            replica,
+            uid: 1,
+            k: 1,
+        },
+    )
+}
+
+/// Puts each of these nodes in the place of a replica's, and the replica's in its place.
+fn swap_nodes(replicas: &mut [ScriptReplica], nodes: &mut [Node])
+    requires { length nodes.old ≡ length replicas.old }
+    ensures replicas { replicas.new ≡ with_nodes replicas.old nodes.old }
+    ensures nodes { nodes.new ≡ nodes_in replicas.old }
+{
+    for place in 0..replicas.len() {
+        swap_node(&mut replicas[place], &mut nodes[place]);
+    }
+}
+
+fn swap_node(replica: &mut ScriptReplica, node: &mut Node)
+    ensures replica { replica.new ≡ record replica.old { node = node.old } }
+    ensures node { node.new ≡ replica.old.node }
+{
+    mem::swap(&mut replica.node, node);
+}
+
+fn settle_line(answer: Result<(), SettleFault>) -> SettleResult
+    ensures { result ≡ settle_line answer }
+{
+    match answer {
+        Ok(()) => SettleResult::Done,
+        Err(SettleFault::Conflict { id }) => SettleResult::Conflict { id },
+        Err(SettleFault::Exhausted) => SettleResult::Exhausted,
+        Err(SettleFault::NoMemory) => SettleResult::NoMemory,
+    }
+}

@@ -1,0 +1,45 @@
+//! The program's command line.
+
+use clap::{Arg, Command, Error};
+use std::alloc::{AllocError, Global};
+
+/// What the command line asks for.
+#[derive(Clone, Copy, Debug, PartialEq, Eq)]
+pub enum ProgramRequest<'a> {
+    /// Replay the script in this file, or on the standard input.
+    Replay { file: Option<&'a str> },
+    /// Audit what is in this file, or on the standard input.
+    Audit { file: Option<&'a str> },
+}
+
+/// Reads the words of a command line, the program's name first.
+pub fn read_words<'a>(alloc: Global, words: &'a [String]) -> Result<ProgramRequest<'a>, Error> {
+    let matches = command_words(alloc)?.try_get_matches_from(words)?;
+    Ok(match matches.subcommand() {
+        Some(("audit", audit)) => ProgramRequest::Audit {
+            file: audit.get_str("FILE"),
+        },
+        Some((_, replay)) => ProgramRequest::Replay {
+            file: replay.get_str("FILE"),
+        },
+        None => ProgramRequest::Replay { file: None },
+    })
+}
+
+/// The words that the program knows.
+fn command_words<'a>(alloc: Global) -> Result<Command<'a>, AllocError> {
+    let file = Arg::new(alloc, "FILE").help("The script; the standard input without it");
+    let replay = Command::new(alloc, "replay")
+        .about("Run a replay script")
+        .arg(file)?;
+    let input = Arg::new(alloc, "FILE").help(
+        "What a script printed; the standard input without it",
+    );
+    let audit = Command::new(alloc, "audit")
+        .about("Audit what a replay printed")
+        .arg(input)?;
+    Command::new(alloc, "mail_tool")
+        .subcommand_required(true)
+        .subcommand(replay)?
+        .subcommand(audit)
+}

@@ -1,0 +1,74 @@
+//! The line that has a replica begin with what another one applied.
+
+ghost use Rattle.std.specs.Prelude.{◌≡◌, ◌<◌, ◌⊎◌, ◌++◌, [], ℕ, List, Err, IsNone, IsSome, OnErr, OnOk, Some, length, slice_get};
+ghost use Rattle.mail_replay.specs.Joins.{IsJoined, Joins, JoinsBehind};
+ghost use Rattle.mail_replay.specs.ScriptState.{replica_place, script_contents_of};
+ghost use Rattle.mail_replay.specs.declared.script_service.ServeFault.TheVariants.{BadScript};
+ghost use Rattle.mail_replay.specs.declared.script_state.ScriptReplica.{ScriptReplica};
+
+use crate::script_service::ServeFault;
+use crate::script_state::{IssuedOps, ScriptReplica, ScriptState, replica_place};
+use causal_inbox::least_own;
+use mail_script::{JoinResult, OutcomeLine, write_outcome};
+use std::alloc::Global;
+use tags_clocks::ReplicaId;
+use world_core::{JoinRefusal, with_operations_of};
+
+/// Declares a replica that begins with what another one applied, and prints what came of it; where it is refused the replica
+/// stays undeclared. It is a bad script where the replica is declared, or the other one isn't.
+pub fn join(
+    alloc: Global,
+    stage: &mut ScriptState,
+    name: ReplicaId,
+    peer: ReplicaId,
+    printed: &mut Vec<u8>,
+) -> Result<(), ServeFault>
+    ensures ok { OnOk result ((more : List ℕ) × Joins (script_contents_of stage.old) name peer more (script_contents_of stage.new) × (printed.new.items ≡ printed.old.items ++ more)) }
+    ensures bad { result ≡ Err BadScript → IsSome (replica_place stage.old.replicas.items name) ⊎ IsNone (replica_place stage.old.replicas.items peer) }
+    ensures err { OnErr result (printed.new.items ≡ printed.old.items) }
+{
+    if replica_place(&stage.replicas, name).is_some() {
+        return Err(ServeFault::BadScript);
+    }
+    let Some(place) = replica_place(&stage.replicas, peer) else {
+        return Err(ServeFault::BadScript);
+    };
+    let result = join_after(alloc, &mut stage.replicas, name, place);
+    let outcome = OutcomeLine::Joined {
+        replica: name,
+        peer,
+        result,
+    };
+    write_outcome(outcome, printed)?;
+    Ok(())
+}
+
+/// Puts a replica behind the others that begins with what the one at a place applied, and tells what came of it.
+fn join_after(
+    alloc: Global,
+    replicas: &mut Vec<ScriptReplica>,
+    name: ReplicaId,
+    place: usize,
+) -> JoinResult
+    requires { place < length replicas.old.items }
+    ensures { (from : ScriptReplica) × (slice_get replicas.old.items place ≡ Some from) × JoinsBehind replicas.old.items name from.node.state.applied result replicas.new.items }
+{
+    if let Some(id) = least_own(name, replicas[place].node.op_list()) {
+        return JoinResult::Own { id };
+    }
+    let Ok(()) = replicas.reserve(1) else {
+        return JoinResult::NoMemory;
+    };
+    match with_operations_of(alloc, name, &replicas[place].node) {
+        Ok(node) => {
+            replicas.push_reserved(ScriptReplica {
+                name,
+                node,
+                issued: IssuedOps::new(alloc),
+            });
+            JoinResult::Done
+        }
+        Err(JoinRefusal::Exhausted) => JoinResult::Exhausted,
+        Err(JoinRefusal::NoMemory) => JoinResult::NoMemory,
+    }
+}

@@ -1,0 +1,439 @@
+//! What each line of a script does.
+
+ghost use Rattle.std.specs.Prelude.{◌≡◌, ◌≤◌, ◌⊎◌, ◌++◌, ◌∷◌, [], ℕ, List, None, Some, Err, IfOk, IfErr, IsTrue, IsSome, IsNone, ◌↔◌, OnOk, OnErr, codes, take};
+ghost use Rattle.imap_answers.specs.Printed.{text_of_answer as text_of};
+ghost use Rattle.imap_answers.specs.declared.answer.Answer.{Answer};
+ghost use Rattle.imap_answers.specs.declared.answer.Answer.TheVariants.{Bye, Greeting};
+ghost use Rattle.imap_answers.specs.declared.fixed_words.ByeReason.TheVariants.{TooManySessions as FullReplica};
+ghost use Rattle.imap_answers.specs.declared.fixed_words.Login.TheVariants.{Given};
+ghost use Rattle.mail_script.specs.Script.{Says};
+ghost use Rattle.mail_script.specs.Transcript.{transcript_line};
+ghost use Rattle.mail_script.specs.declared.script.ScriptLine.{ScriptLine};
+ghost use Rattle.mail_script.specs.declared.transcript.Speaker.TheVariants.{Server};
+ghost use Rattle.imap_node.specs.Nodes.{IsGoing, with_session_closed};
+ghost use Rattle.imap_node.specs.Sessions.{IsOpen};
+ghost use Rattle.mail_replay.specs.Lines.{Begins, Closes, Declares, Feeds, FeedsInPart, HasFirstUid, HasPolledTurns, HasTurns, IsBad, IsIdling, IsMisplaced, IsTalking, OpensAt, PollsAt, PollsInPart, PrintsInPart, Serves, ServesInPart, Shows, TalksOn, crlf};
+ghost use Rattle.mail_replay.specs.ScriptState.{ScriptContents, replica_place, script_contents_of, session_place};
+ghost use Rattle.mail_replay.specs.Transcript.{transcript};
+ghost use Rattle.mail_replay.specs.declared.script_service.ServeFault.TheVariants.{BadScript, NoMemory};
+ghost use Rattle.imap_connection.specs.Replies.{idling_at};
+ghost use Rattle.imap_connection.specs.Talks.{Polls};
+ghost use Rattle.imap_connection.specs.declared.turn.Turn.{Turn};
+
+use crate::deliveries::{deliver, drain, forge};
+use crate::exchanges::{compare, exchange};
+use crate::script_join::join;
+use crate::script_state::{Connection, ScriptReplica, ScriptSession, ScriptState, replica_place, session_place};
+use crate::transcript_lines::{write_answer, write_turns};
+use imap_lex::{FrameFaultKind, Framer, Limits};
+use imap_print::{Answer, ByeReason, Login};
+use imap_connection::{
+    Auth, Node, OpenFault, SessionNo, State, TalkFault, TalkFaultKind, Turn, poll_turns, talk,
+    write_dump,
+};
+use imap_types::{Moment, Octets};
+use mail_script::{LineFault, ScriptLine, SessionName, read_line};
+use std::alloc::{AllocError, AllocFailed, Global};
+use tags_clocks::ReplicaId;
+use thiserror::Error;
+use uid_projection::Counters;
+
+/// Why a line isn't served.
+#[derive(Clone, Copy, Debug, PartialEq, Eq, Error)]
+pub enum ServeFault {
+    /// The line says nothing that can be served where it stands.
+    #[error("bad script")]
+    BadScript,
+    /// There was no memory.
+    #[error("no memory")]
+    NoMemory,
+}
+
+impl From<AllocError> for ServeFault {
+    ghost use Rattle.std.specs.Prelude.{◌≡◌};
+    ghost use Rattle.mail_replay.specs.declared.script_service.ServeFault.TheVariants.{NoMemory};
+
+    ghost from_gives = { λ _ fault. fault ≡ NoMemory };
+
+    fn from(_fault: AllocError) -> ServeFault {
+        ServeFault::NoMemory
+    }
+}
+
+impl<T: Drop> From<AllocFailed<T>> for ServeFault {
+    ghost use Rattle.std.specs.Prelude.{◌≡◌};
+    ghost use Rattle.mail_replay.specs.declared.script_service.ServeFault.TheVariants.{NoMemory};
+
+    ghost from_gives = { λ _ fault. fault ≡ NoMemory };
+
+    fn from(_fault: AllocFailed<T>) -> ServeFault {
+        ServeFault::NoMemory
+    }
+}
+
+impl From<LineFault> for ServeFault {
+    ghost use Rattle.std.specs.Prelude.{◌≡◌};
+    ghost use Rattle.mail_replay.specs.Faults.{fault_of};
+
+    ghost from_gives = { λ why fault. fault ≡ fault_of why };
+
+    fn from(fault: LineFault) -> ServeFault {
+        match fault {
+            LineFault::NotALine => ServeFault::BadScript,
+            LineFault::NoMemory => ServeFault::NoMemory,
+        }
+    }
+}
+
+/// Serves a line of the script, given without its LF, and appends what it prints. `BadScript` says that the line can't be
+/// served where it stands, and then nothing is printed; `NoMemory` may come behind a part of what the line prints: the first
+/// answer of a session that is opened, or some of the first turns of one that is fed or polled.
+pub fn serve_line(
+    alloc: Global,
+    stage: &mut ScriptState,
+    line: &[u8],
+    printed: &mut Vec<u8>,
+) -> Result<(), ServeFault>
+    ensures ok { OnOk result ((said : ScriptLine) × (more : List ℕ) × Says line.now said × Serves (script_contents_of stage.old) said more (script_contents_of stage.new) × (printed.new.items ≡ printed.old.items ++ more)) }
+    ensures bad { result ≡ Err BadScript → IsBad (script_contents_of stage.old) line.now × (printed.new.items ≡ printed.old.items) }
+    ensures memory { result ≡ Err NoMemory → (more : List ℕ) × ServesInPart (script_contents_of stage.old) line.now more × (printed.new.items ≡ printed.old.items ++ more) }
+{
+    let said = read_line(alloc, line)?;
+    serve(alloc, stage, said, printed)
+}
+
+fn serve(
+    alloc: Global,
+    stage: &mut ScriptState,
+    said: ScriptLine,
+    printed: &mut Vec<u8>,
+) -> Result<(), ServeFault>
+    requires { HasFirstUid said }
+    ensures ok { OnOk result ((more : List ℕ) × Serves (script_contents_of stage.old) said more (script_contents_of stage.new) × (printed.new.items ≡ printed.old.items ++ more)) }
+    ensures bad { result ≡ Err BadScript → IsMisplaced (script_contents_of stage.old) said × (printed.new.items ≡ printed.old.items) }
+    ensures memory { result ≡ Err NoMemory → (more : List ℕ) × ((more ≡ []) ⊎ PrintsInPart (script_contents_of stage.old) said more) × (printed.new.items ≡ printed.old.items ++ more) }
+{
+    match said {
+        ScriptLine::Blank => Ok(()),
+        ScriptLine::Node { replica, uid, k } => declare(alloc, stage, Counters { replica, uid, k }),
+        ScriptLine::Now { moment } => {
+            stage.moment = moment;
+            Ok(())
+        }
+        ScriptLine::Open { replica, session } => open(alloc, stage, replica, session, printed),
+        ScriptLine::Line { session, text } => {
+            let octets = with_line_end(text)?;
+            feed(alloc, stage, &session, &octets, printed)
+        }
+        ScriptLine::Send { session, text } => {
+            feed(alloc, stage, &session, text.as_bytes(), printed)
+        }
+        ScriptLine::Poll { session } => poll(alloc, stage, &session, printed),
+        ScriptLine::Close { session } => close(stage, &session),
+        ScriptLine::Show { replica } => show(alloc, stage, replica, printed),
+        ScriptLine::Deliver { id, replica } => deliver(alloc, stage, id, replica, printed),
+        ScriptLine::Forge { replica, operation } => {
+            forge(alloc, stage, replica, operation.as_bytes(), printed)
+        }
+        ScriptLine::Drain { replica } => drain(alloc, stage, replica, printed),
+        ScriptLine::Settle => exchange(alloc, stage, printed),
+        ScriptLine::Agree { first, second } => compare(stage, first, second, printed),
+        ScriptLine::Join { replica, peer } => join(alloc, stage, replica, peer, printed),
+    }
+}
+
+/// The text with CRLF behind it.
+fn with_line_end(text: Octets) -> Result<Vec<u8>, AllocError>
+    ensures { IfOk result (λ octets. octets.items ≡ text ++ crlf) }
+{
+    let mut octets = text.into_vec();
+    octets.extend_from_slice(b"\r\n")?;
+    Ok(octets)
+}
+
+/// Declares a replica, which has received nothing, and whose counters begin so.
+fn declare(alloc: Global, stage: &mut ScriptState, start: Counters) -> Result<(), ServeFault>
+    requires { 1 ≤ start.uid }
+    ensures ok { OnOk result (Declares (script_contents_of stage.old) start (script_contents_of stage.new)) }
+    ensures bad { result ≡ Err BadScript ↔ IsSome (replica_place stage.old.replicas.items start.replica) }
+    ensures err { OnErr result (script_contents_of stage.new ≡ script_contents_of stage.old) }
+{
+    if replica_place(&stage.replicas, start.replica).is_some() {
+        return Err(ServeFault::BadScript);
+    }
+    let replica = ScriptReplica::new(alloc, start)?;
+    stage.replicas.push(replica)?;
+    Ok(())
+}
+
+/// Opens a session at a replica, and prints the greeting. A replica with no room for one more says BYE instead, and the
+/// session has ended.
+fn open(
+    alloc: Global,
+    stage: &mut ScriptState,
+    replica: ReplicaId,
+    name: SessionName,
+    printed: &mut Vec<u8>,
+) -> Result<(), ServeFault>
+    ensures ok { OnOk result ((more : List ℕ) × OpensAt (script_contents_of stage.old) replica name more (script_contents_of stage.new) × (printed.new.items ≡ printed.old.items ++ more)) }
+    ensures bad { result ≡ Err BadScript → (IsNone (replica_place stage.old.replicas.items replica) ⊎ IsSome (session_place stage.old.sessions.items name)) × (printed.new.items ≡ printed.old.items) }
+    ensures memory { result ≡ Err NoMemory → (more : List ℕ) × ((more ≡ []) ⊎ ((new : ScriptContents) × OpensAt (script_contents_of stage.old) replica name more new)) × (printed.new.items ≡ printed.old.items ++ more) }
+{
+    let Some(place) = replica_place(&stage.replicas, replica) else {
+        return Err(ServeFault::BadScript);
+    };
+    if session_place(&stage.sessions, &name).is_some() {
+        return Err(ServeFault::BadScript);
+    }
+    let node = &mut stage.replicas[place].node;
+    let connection = begin(alloc, node, &name, printed)?;
+    stage.sessions.push(ScriptSession {
+        name,
+        replica,
+        connection,
+    })?;
+    Ok(())
+}
+
+/// Opens a session at a replica, and prints what stands at its beginning; gives its connection where it goes on.
+fn begin(
+    alloc: Global,
+    node: &mut Node,
+    name: &SessionName,
+    printed: &mut Vec<u8>,
+) -> Result<Option<Connection>, ServeFault>
+    ensures ok { IfOk result (λ connection. (answer : Answer) × Begins node.old.state answer node.new.state connection × (printed.new.items ≡ printed.old.items ++ transcript_line name.now Server (text_of answer))) }
+    ensures err { IfErr result (λ fault. fault ≡ NoMemory) }
+    ensures kept { OnErr result (printed.new.items ≡ printed.old.items) }
+{
+    match node.open(Auth::Preauth) {
+        Ok(number) => {
+            greet(alloc, name, printed)?;
+            let framer = Framer::new(alloc, Limits::STANDARD);
+            Ok(Some(Connection { number, framer }))
+        }
+        Err(OpenFault::TooManySessions) => {
+            turn_away(alloc, name, printed)?;
+            Ok(None)
+        }
+        Err(OpenFault::NoMemory) => Err(ServeFault::NoMemory),
+    }
+}
+
+fn greet(alloc: Global, name: &SessionName, printed: &mut Vec<u8>) -> Result<(), AllocError>
+    ensures ok { OnOk result (printed.new.items ≡ printed.old.items ++ transcript_line name.now Server (text_of (Greeting Given))) }
+    ensures err { OnErr result (printed.new.items ≡ printed.old.items) }
+{
+    let answer = Answer::Greeting {
+        login: Login::Given,
+    };
+    write_answer(alloc, name, &answer, printed)
+}
+
+/// Says that the replica has no room for one more session.
+fn turn_away(alloc: Global, name: &SessionName, printed: &mut Vec<u8>) -> Result<(), AllocError>
+    ensures ok { OnOk result (printed.new.items ≡ printed.old.items ++ transcript_line name.now Server (text_of (Bye FullReplica))) }
+    ensures err { OnErr result (printed.new.items ≡ printed.old.items) }
+{
+    let answer = Answer::Bye {
+        reason: ByeReason::TooManySessions,
+    };
+    write_answer(alloc, name, &answer, printed)
+}
+
+/// Feeds a session these octets, and prints the turns that they make.
+fn feed(
+    alloc: Global,
+    stage: &mut ScriptState,
+    name: &SessionName,
+    octets: &[u8],
+    printed: &mut Vec<u8>,
+) -> Result<(), ServeFault>
+    ensures ok { OnOk result ((more : List ℕ) × Feeds (script_contents_of stage.old) name.now octets.now more (script_contents_of stage.new) × (printed.new.items ≡ printed.old.items ++ more)) }
+    ensures bad { result ≡ Err BadScript → (IsTalking (script_contents_of stage.old) name.now → ⊥) × (printed.new.items ≡ printed.old.items) }
+    ensures memory { result ≡ Err NoMemory → (more : List ℕ) × FeedsInPart (script_contents_of stage.old) name.now octets.now more × (printed.new.items ≡ printed.old.items ++ more) }
+{
+    let Some(place) = session_place(&stage.sessions, name) else {
+        return Err(ServeFault::BadScript);
+    };
+    let session = &mut stage.sessions[place];
+    let Some(at) = replica_place(&stage.replicas, session.replica) else {
+        return Err(ServeFault::BadScript);
+    };
+    let Some(connection) = session.connection.take() else {
+        return Err(ServeFault::BadScript);
+    };
+    let replica = &mut stage.replicas[at];
+    let applied = replica.node.op_list().len();
+    let piece = Piece {
+        moment: stage.moment,
+        octets,
+    };
+    session.connection = converse(alloc, &mut replica.node, connection, &piece, name, printed)?;
+    replica
+        .issued
+        .add_after(alloc, replica.node.op_list(), applied)?;
+    Ok(())
+}
+
+/// Octets that come of a client.
+#[derive(Drop)]
+struct Piece<'a> {
+    /// When they come.
+    moment: Moment,
+    /// The octets.
+    octets: &'a [u8],
+}
+
+/// Feeds a connection these octets, and prints the turns that they make; gives the connection back where it goes on.
+fn converse(
+    alloc: Global,
+    node: &mut Node,
+    connection: Connection,
+    piece: &Piece<'_>,
+    name: &SessionName,
+    printed: &mut Vec<u8>,
+) -> Result<Option<Connection>, ServeFault>
+    ensures ok { IfOk result (λ left. (turns : List Turn) × TalksOn node.old.state connection piece.now.moment piece.now.octets.now turns node.new.state left × (printed.new.items ≡ printed.old.items ++ transcript name.now turns)) }
+    ensures bad { result ≡ Err BadScript → (IsGoing node.old.state connection.number → ⊥) × (printed.new.items ≡ printed.old.items) }
+    ensures memory { result ≡ Err NoMemory → (turns : List Turn) × (count : ℕ) × HasTurns node.old.state connection piece.now.moment piece.now.octets.now turns × (printed.new.items ≡ printed.old.items ++ transcript name.now (take count turns)) }
+{
+    let Connection { number, mut framer } = connection;
+    if !is_going(node, number) {
+        return Err(ServeFault::BadScript);
+    }
+    match talk(alloc, node, &mut framer, number, piece.moment, piece.octets) {
+        Ok(turns) => {
+            write_turns(name, &turns, printed)?;
+            if is_going(node, number) {
+                Ok(Some(Connection { number, framer }))
+            } else {
+                Ok(None)
+            }
+        }
+        Err(fault) => {
+            write_turns(name, &fault.turns, printed)?;
+            match fault.why {
+                TalkFaultKind::Framing(FrameFaultKind::NoMemory) | TalkFaultKind::NoMemory => {
+                    Err(ServeFault::NoMemory)
+                }
+                TalkFaultKind::Framing(_) | TalkFaultKind::LineRefused => Ok(None),
+            }
+        }
+    }
+}
+
+/// Whether the session is open and hasn't logged out.
+fn is_going(node: &Node, session: SessionNo) -> bool
+    ensures { IsTrue result ↔ IsGoing node.now.state session }
+{
+    match node.session(session) {
+        Some(session) => !matches!(session.state, State::LoggedOut),
+        None => false,
+    }
+}
+
+/// Polls a session that idles, and prints the answers that tell it what changed.
+fn poll(
+    alloc: Global,
+    stage: &mut ScriptState,
+    name: &SessionName,
+    printed: &mut Vec<u8>,
+) -> Result<(), ServeFault>
+    ensures ok { OnOk result ((more : List ℕ) × PollsAt (script_contents_of stage.old) name.now more (script_contents_of stage.new) × (printed.new.items ≡ printed.old.items ++ more)) }
+    ensures bad { result ≡ Err BadScript → (IsIdling (script_contents_of stage.old) name.now → ⊥) × (printed.new.items ≡ printed.old.items) }
+    ensures memory { result ≡ Err NoMemory → (more : List ℕ) × PollsInPart (script_contents_of stage.old) name.now more × (printed.new.items ≡ printed.old.items ++ more) }
+{
+    let Some(place) = session_place(&stage.sessions, name) else {
+        return Err(ServeFault::BadScript);
+    };
+    let session = &stage.sessions[place];
+    let Some(at) = replica_place(&stage.replicas, session.replica) else {
+        return Err(ServeFault::BadScript);
+    };
+    let Some(connection) = &session.connection else {
+        return Err(ServeFault::BadScript);
+    };
+    let node = &mut stage.replicas[at].node;
+    poll_node(alloc, node, connection.number, name, printed)
+}
+
+/// Polls a session of a node, and prints the answers; a bad script where it doesn't idle.
+fn poll_node(
+    alloc: Global,
+    node: &mut Node,
+    session: SessionNo,
+    name: &SessionName,
+    printed: &mut Vec<u8>,
+) -> Result<(), ServeFault>
+    ensures ok { OnOk result ((turns : List Turn) × IsSome (idling_at node.old.state session) × Polls node.old.state session turns node.new.state × (printed.new.items ≡ printed.old.items ++ transcript name.now turns)) }
+    ensures bad { result ≡ Err BadScript → IsNone (idling_at node.old.state session) × (printed.new.items ≡ printed.old.items) }
+    ensures memory { result ≡ Err NoMemory → (turns : List Turn) × (count : ℕ) × HasPolledTurns node.old.state session turns × (printed.new.items ≡ printed.old.items ++ transcript name.now (take count turns)) }
+{
+    if !is_idling(node, session) {
+        return Err(ServeFault::BadScript);
+    }
+    match poll_turns(alloc, node, session) {
+        Ok(answers) => {
+            write_turns(name, &answers, printed)?;
+            Ok(())
+        }
+        Err(broken) => {
+            write_turns(name, &broken.turns, printed)?;
+            Err(ServeFault::NoMemory)
+        }
+    }
+}
+
+/// Whether the session is open and idles.
+fn is_idling(node: &Node, session: SessionNo) -> bool
+    ensures idling { IsTrue result ↔ IsSome (idling_at node.now.state session) }
+    ensures open { IsTrue result → IsOpen node.now.state.sessions session }
+{
+    match node.session(session) {
+        Some(session) => session.idling.is_some(),
+        None => false,
+    }
+}
+
+/// Closes a session.
+fn close(stage: &mut ScriptState, name: &SessionName) -> Result<(), ServeFault>
+    ensures ok { OnOk result (Closes (script_contents_of stage.old) name.now (script_contents_of stage.new)) }
+    ensures bad { OnErr result (IsTalking (script_contents_of stage.old) name.now → ⊥) }
+    ensures err { IfErr result (λ fault. fault ≡ BadScript) }
+{
+    let Some(place) = session_place(&stage.sessions, name) else {
+        return Err(ServeFault::BadScript);
+    };
+    let session = &mut stage.sessions[place];
+    let Some(at) = replica_place(&stage.replicas, session.replica) else {
+        return Err(ServeFault::BadScript);
+    };
+    let Some(connection) = session.connection.take() else {
+        return Err(ServeFault::BadScript);
+    };
+    let node = &mut stage.replicas[at].node;
+    if !node.is_open(connection.number) {
+        return Err(ServeFault::BadScript);
+    }
+    node.close(connection.number);
+    Ok(())
+}
+
+/// Prints the dump of a replica.
+fn show(
+    alloc: Global,
+    stage: &ScriptState,
+    name: ReplicaId,
+    printed: &mut Vec<u8>,
+) -> Result<(), ServeFault>
+    ensures ok { OnOk result ((more : List ℕ) × Shows (script_contents_of stage.now) name more × (printed.new.items ≡ printed.old.items ++ more)) }
+    ensures bad { result ≡ Err BadScript → IsNone (replica_place stage.now.replicas.items name) }
+    ensures err { OnErr result (printed.new.items ≡ printed.old.items) }
+{
+    let Some(place) = replica_place(&stage.replicas, name) else {
+        return Err(ServeFault::BadScript);
+    };
+    write_dump(alloc, &stage.replicas[place].node, printed)?;
+    Ok(())
+}

@@ -1,7 +1,0 @@
-use denote.Param.Send.{sendable}
-use Rattle.std.proofs.alloc.Global.TheSendSync as heap
-use Rattle.mail_serving.proofs.ThreadLemmas.{desk_sync}
-use Rattle.mail_serving.proofs.serving.serve_over.Goals as goal
-
-pub map_vec-requires-sync-F : goal.map_vec-requires-sync-F
-map_vec-requires-sync-F g c κs within = search (desk_sync, heap.the_sync, sendable) depth 60 fits 20000

@@ -1,0 +1,28 @@
+use Rattle.std.specs.Prelude.{ℕ, Bool, ◌&&◌, ◌||◌, ◌==◌, List, [], ◌∷◌, length, take, if◌then◌else◌}
+use Rattle.std.specs.List.{concat, list_any}
+use Rattle.std.specs.Str.{bytes_eq}
+use Rattle.imap_types.specs.Keywords.{to_lower_case}
+use Rattle.mail_text.specs.HeaderFields.{field_lines, fields_in, first_asked, has_asked_name}
+use Rattle.mail_text.specs.TextLines.{lines_of}
+
+-- Whether a text begins with a word, in any case of ASCII letters.
+abbrev pub begins_with : List ℕ → List ℕ → Bool
+begins_with word text = bytes_eq (to_lower_case (take (length word) text)) (to_lower_case word)
+
+-- Whether some place of a text begins with a word, in any case of ASCII letters. The text's end is a place too.
+abbrev pub holds : List ℕ → List ℕ → Bool
+holds word [] = begins_with word []
+holds word (octet ∷ octets) = begins_with word (octet ∷ octets) || holds word octets
+
+-- The octets behind the first colon.
+abbrev pub after_colon : List ℕ → List ℕ
+after_colon [] = []
+after_colon (octet ∷ octets) = if octet == 58 then octets else after_colon octets
+
+-- Whether a field of this name, as its lines, holds a word behind its first colon.
+abbrev pub field_holds : List ℕ → List ℕ → List (List ℕ) → Bool
+field_holds name word field = first_asked (has_asked_name (name ∷ [])) field && holds word (after_colon (concat field))
+
+-- Whether a field of this name in a text's header holds a word (RFC 9051, section 6.4.4, HEADER).
+abbrev pub any_field_holds : List ℕ → List ℕ → List ℕ → Bool
+any_field_holds name word text = list_any (field_holds name word) (fields_in (field_lines (lines_of text)))

@@ -1,5 +1,0 @@
-use Rattle.mail_tooling.proofs.FitLemmas.{words_lawful}
-use Rattle.mail_tooling.proofs.dump_forms.flags_fit.Goals as goal
-
-pub returns : goal.returns
-returns c = (c.as_slice-words.ensures.ascending, words_lawful c.args.flags.now.keywords c.requires.1)

@@ -1,5 +1,0 @@
-use Rattle.mail_tooling.proofs.TalkingLemmas.{says_first_uid}
-use Rattle.mail_tooling.proofs.serve.serve_line.Goals as goal
-
-pub serve-requires : goal.serve-requires
-serve-requires c = says_first_uid _ _ ((c.in_ok-said.ensures {u = tt}).found)

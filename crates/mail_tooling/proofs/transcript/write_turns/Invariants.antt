@@ -1,6 +1,0 @@
-use Rattle.std.proofs.Common.{◌≡◌, ◌++◌, take}
-use Rattle.mail_tooling.specs.Transcript.{transcript}
-use Rattle.mail_tooling.proofs.transcript.write_turns.Given as goal
-
-abbrev pub invariant-loop-turn : goal.invariant-loop-turn
-invariant-loop-turn l = l.printed.items ≡ l.fn.printed.items ++ transcript l.session (take l.turn-index l.turns)

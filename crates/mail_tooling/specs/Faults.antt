@@ -1,9 +1,0 @@
-use Rattle.mail_script.specs.declared.script.LineFault.{LineFault}
-use Rattle.mail_script.specs.declared.script.LineFault.TheVariants as lines
-use Rattle.mail_tooling.specs.declared.serve.ServeFault.{ServeFault}
-use Rattle.mail_tooling.specs.declared.serve.ServeFault.TheVariants.{BadScript, NoMemory}
-
--- Why a line that isn't read isn't served.
-abbrev pub fault_of : LineFault → ServeFault
-fault_of lines.NotALine = BadScript
-fault_of lines.NoMemory = NoMemory

@@ -1,9 +1,0 @@
-pub mod Deliveries
-pub mod Endings
-pub mod Exchanges
-pub mod Faults
-pub mod Joins
-pub mod Lines
-pub mod Replays
-pub mod Stage
-pub mod Transcript

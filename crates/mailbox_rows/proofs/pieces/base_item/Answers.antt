@@ -1,0 +1,6 @@
+use Rattle.std.proofs.Common.{sym, ◌∙◌}
+use Rattle.mailbox_rows.proofs.Editing.{got_behind}
+use Rattle.mailbox_rows.proofs.pieces.base_item.Goals as goal
+
+pub returns : goal.returns
+returns g c = c.copied.ensures ∙ c.get.ensures.value ∙ sym (got_behind c.args.from c.args.base.now.items c.args.more)

@@ -1,0 +1,8 @@
+pub mod Pieces
+pub mod ListingEntries
+pub mod EntryTables
+pub mod ModSeqLog
+pub mod ListedMessage
+pub mod RowViews
+pub mod MessageData
+pub mod Windows

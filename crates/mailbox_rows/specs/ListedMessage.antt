@@ -1,0 +1,21 @@
+use Rattle.std.specs.Prelude.{ℕ, List}
+use Rattle.imap_types.specs.declared.flags.Flags.{Flags}
+use Rattle.tags_clocks.specs.declared.id.OpId.{OpId}
+
+-- A message of a mailbox's listing: its UID, its mod-sequence, its origin (the id of its Append), the ids of its versions' tags
+-- (ascending, one at least), the union of their flags, its date and text.
+pub record ListedMessage : Type 0 where
+  pub uid : ℕ
+  pub modseq : ℕ
+  pub origin : OpId
+  pub versions : List OpId
+  pub flags : Flags
+  pub date : List ℕ
+  pub text : List ℕ
+
+-- What a listing tells of a message but for its origin, its date and its text.
+pub record ListedHead : Type 0 where
+  pub uid : ℕ
+  pub modseq : ℕ
+  pub versions : List OpId
+  pub flags : Flags

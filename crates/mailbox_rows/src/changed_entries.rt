@@ -1,0 +1,97 @@
+//! The entries that changed since a mod-sequence, out of a list of them.
+
+ghost use Rattle.std.specs.Prelude.{◌≡◌, ◌++◌, ◌∷◌, [], IfOk, OnOk};
+ghost use Rattle.std.specs.List.{slice_get};
+ghost use Rattle.std.specs.Option.{option_to_list};
+ghost use Rattle.mailbox_rows.specs.ModSeqLog.{AreAmong, AreAscending, changed_since, changed_with};
+ghost use Rattle.mailbox_rows.specs.ListingEntries.{AreRising};
+
+use crate::entry::ListingEntry;
+use crate::patched_list::PatchedList;
+use crate::entry_search::first_from;
+use std::alloc::{AllocError, Global};
+
+/// The entries whose mod-sequences are above this one, by a pass over all.
+pub fn changed_entries_by_scan(
+    alloc: Global,
+    list: &PatchedList<'_, ListingEntry>,
+    modseq: u64,
+) -> Result<Vec<ListingEntry>, AllocError>
+    ensures { IfOk result (λ found. found.items ≡ changed_since modseq list.now.items) }
+{
+    let mut found = Vec::new(alloc);
+    for place in 0..list.len() {
+        push_at(&mut found, list, place, modseq)?;
+    }
+    Ok(found)
+}
+
+/// Puts the entry at this place behind the others, where its mod-sequence is above this one.
+fn push_at(
+    found: &mut Vec<ListingEntry>,
+    list: &PatchedList<'_, ListingEntry>,
+    place: usize,
+    modseq: u64,
+) -> Result<(), AllocError>
+    ensures { OnOk result (found.new.items ≡ found.old.items ++ changed_since modseq (option_to_list (slice_get list.now.items place))) }
+{
+    match list.get(place) {
+        Some(entry) => push_changed(found, entry, modseq),
+        None => Ok(()),
+    }
+}
+
+/// Puts an entry behind the others, where its mod-sequence is above this one.
+fn push_changed(found: &mut Vec<ListingEntry>, entry: ListingEntry, modseq: u64) -> Result<(), AllocError>
+    ensures { OnOk result (found.new.items ≡ found.old.items ++ changed_since modseq (entry ∷ [])) }
+{
+    if modseq < entry.modseq {
+        found.push(entry)?;
+    }
+    Ok(())
+}
+
+/// The same, where they have UIDs among these, by a search for each UID.
+pub fn changed_entries_among(
+    alloc: Global,
+    list: &PatchedList<'_, ListingEntry>,
+    uids: &[u32],
+    modseq: u64,
+) -> Result<Vec<ListingEntry>, AllocError>
+    requires rising { AreRising 1 list.now.items }
+    requires ascending { AreAscending 0 uids.now }
+    requires among { AreAmong modseq uids.now list.now.items }
+    ensures { IfOk result (λ found. found.items ≡ changed_since modseq list.now.items) }
+{
+    let mut found = Vec::new(alloc);
+    let mut low = 0;
+    for uid in uids {
+        if low <= u64::from(*uid) {
+            push_with(&mut found, list, *uid, modseq)?;
+            low = u64::from(*uid) + 1;
+        }
+    }
+    Ok(found)
+}
+
+/// Puts the entry with this UID behind the others, where it is there and its mod-sequence is above this one.
+fn push_with(
+    found: &mut Vec<ListingEntry>,
+    list: &PatchedList<'_, ListingEntry>,
+    uid: u32,
+    modseq: u64,
+) -> Result<(), AllocError>
+    requires { AreRising 1 list.now.items }
+    ensures { OnOk result (found.new.items ≡ found.old.items ++ changed_with modseq uid list.now.items) }
+{
+    match list.get(first_from(list, uid)) {
+        Some(entry) => {
+            if entry.uid == uid {
+                push_changed(found, entry, modseq)
+            } else {
+                Ok(())
+            }
+        }
+        None => Ok(()),
+    }
+}

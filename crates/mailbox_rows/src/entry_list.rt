@@ -1,0 +1,61 @@
+//! Lists of entries that are found by their origins.
+
+ghost use Rattle.std.specs.Prelude.{◌≡◌, ◌+◌, ◌^◌, ◌<◌, ◌≤◌, ℕ, List, [], ◌∷◌, ◌++◌, MatchOption, get_or, length, remove, set};
+ghost use Rattle.std.specs.List.{slice_get};
+ghost use Rattle.mailbox_rows.specs.declared.entry.ListingEntry.{ListingEntry};
+ghost use Rattle.mailbox_rows.specs.ListingEntries.{AreBelow, IsAt, Lacks};
+
+use crate::entry::ListingEntry;
+use tags_clocks::OpId;
+
+/// Entries by ascending UID, which can be edited while there is room.
+pub trait EntryList {
+    /// The entries.
+    ghost entries: { Self → List ListingEntry };
+
+    /// So many entries can be renewed or taken out, or put in where there is room for them.
+    ghost has_edits: { Self → ℕ → Type 0 };
+
+    /// There is room for so many entries more.
+    ghost has_room: { Self → ℕ → Type 0 };
+
+    /// How many there are.
+    fn len(&self) -> usize
+        ensures { result ≡ length (entries self.now) };
+
+    /// The entry at this place.
+    fn get(&self, place: usize) -> Option<ListingEntry>
+        ensures { result ≡ slice_get (entries self.now) place };
+
+    /// The place of the entry with this origin.
+    fn place_of(&self, origin: &OpId) -> Option<usize>
+        ensures { MatchOption result (Lacks origin.now (entries self.now)) (IsAt origin.now (entries self.now)) };
+
+    /// Gives the entry at this place another mod-sequence; its origin and its UID stay.
+    fn renew(&mut self, place: usize, modseq: u64)
+        requires within { place < length (entries self.old) }
+        requires edits { has_edits self.old 1 }
+        ensures entries { (e : ListingEntry) → entries self.new ≡ set (entries self.old) place (record { origin = (get_or (entries self.old) place e).origin; uid = (get_or (entries self.old) place e).uid; modseq = modseq }) }
+        ensures edits { (n : ℕ) → has_edits self.old (n + 1) → has_edits self.new n }
+        ensures room { (n : ℕ) → has_room self.old n → has_room self.new n };
+
+    /// Takes the entry at this place out.
+    fn take_out(&mut self, place: usize)
+        requires within { place < length (entries self.old) }
+        requires edits { has_edits self.old 1 }
+        ensures entries { entries self.new ≡ remove (entries self.old) place }
+        ensures edits { (n : ℕ) → has_edits self.old (n + 1) → has_edits self.new n }
+        ensures room { (n : ℕ) → has_room self.old n → has_room self.new n };
+
+    /// Puts an entry behind all others.
+    fn put(&mut self, entry: ListingEntry)
+        requires first { 1 ≤ entry.uid }
+        requires beyond { AreBelow entry.uid (entries self.old) }
+        requires fresh { Lacks entry.origin (entries self.old) }
+        requires fits { length (entries self.old) < 2 ^ 32 }
+        requires edits { has_edits self.old 1 }
+        requires room { has_room self.old 1 }
+        ensures entries { entries self.new ≡ entries self.old ++ entry ∷ [] }
+        ensures edits { (n : ℕ) → has_edits self.old (n + 1) → has_edits self.new n }
+        ensures room { (n : ℕ) → has_room self.old (n + 1) → has_room self.new n };
+}

@@ -1,0 +1,196 @@
+//! A folder's messages, lent by what keeps them.
+
+ghost use Rattle.std.specs.Prelude.{◌≡◌, Some, IfSome, option_map};
+ghost use Rattle.mailbox_rows.specs.RowViews.{head_of, listed_head, listed_message};
+ghost use Rattle.mailbox_rows.specs.MessageData.{entry_under, no_message_data, with_numbers, message_data_of, owned_message_data, kept_message_data, versions_in};
+
+use crate::entry::ListingEntry;
+use crate::row::{Row, RowHead};
+use imap_types::{DateTime, Text, Version, Versions};
+use indexmap::IndexMap;
+use tags_clocks::OpId;
+
+/// The date and text of an Append.
+pub struct DatedText {
+    /// When it was received (RFC 9051, section 2.3.3).
+    pub date: DateTime,
+    /// Its octets.
+    pub text: Text,
+}
+
+// By hand, so that crates above let it go as a whole.
+impl Drop for DatedText {
+    fn drop(self) {
+        let Self { date: _, text: _ } = self;
+    }
+}
+
+/// A folder's messages as they are kept, lent. Versions stand apart from dates and texts, since an origin's Append may come after a
+/// Store that names it, and may be of another folder.
+#[derive(Clone, Copy)]
+pub struct FolderMessages<'a> {
+    /// The versions of each message by its origin, ascending by id; None where the folder has no messages.
+    pub messages: Option<&'a IndexMap<OpId, Vec<Version>>>,
+    /// The dates and texts of all Appends, by their ids.
+    pub letters: &'a IndexMap<OpId, DatedText>,
+}
+
+/// A message as operations to come leave it, with versions of its own.
+#[derive(Drop)]
+pub struct OwnedMessage<'a> {
+    /// Its versions, ascending by id.
+    pub versions: Vec<Version>,
+    /// When it was received; None where nothing tells it.
+    pub date: Option<&'a DateTime>,
+    /// Its octets; None where nothing tells them.
+    pub text: Option<&'a Text>,
+}
+
+impl<'a> FolderMessages<'a> {
+    /// The row of an entry, where its message is kept. Cost: two look-ups, by place where the messages stand in the tables as
+    /// their UIDs count them, else by hash.
+    pub fn row(&self, entry: &ListingEntry) -> Option<Row<'a>>
+        ensures { option_map listed_message result ≡ option_map (with_numbers entry.now) (kept_message_data self.now entry.now.origin) }
+    {
+        match lent_versions(self.messages, entry) {
+            Some(versions) => Some(with_letter(entry, versions, look_up(self.letters, entry))),
+            None => None,
+        }
+    }
+
+    /// The head of an entry's row, where its message is kept. Cost: one such look-up.
+    #[inline(always)]
+    pub fn head(&self, entry: &ListingEntry) -> Option<RowHead<'a>>
+        ensures { option_map listed_head result ≡ option_map (λ message_data_of. head_of (with_numbers entry.now message_data_of)) (kept_message_data self.now entry.now.origin) }
+    {
+        match lent_versions(self.messages, entry) {
+            Some(versions) => Some(head_with(entry, versions)),
+            None => None,
+        }
+    }
+}
+
+impl OwnedMessage<'_> {
+    /// The head of an entry's row with this message, lent.
+    pub fn head(&self, entry: &ListingEntry) -> RowHead<'_>
+        ensures { listed_head result ≡ head_of (with_numbers entry.now (owned_message_data self.now)) }
+    {
+        head_with(entry, Versions::new(&self.versions))
+    }
+
+    /// The row of an entry with this message, lent.
+    pub fn row(&self, entry: &ListingEntry) -> Row<'_>
+        ensures { listed_message result ≡ with_numbers entry.now (owned_message_data self.now) }
+    {
+        Row {
+            uid: entry.uid,
+            modseq: entry.modseq,
+            origin: entry.origin,
+            versions: Versions::new(&self.versions),
+            date: self.date,
+            text: self.text,
+        }
+    }
+}
+
+/// The head of an entry's row with these versions.
+#[inline(always)]
+pub(crate) fn head_with<'a>(entry: &ListingEntry, versions: Versions<'a>) -> RowHead<'a>
+    ensures { result ≡ record { uid = entry.now.uid; modseq = entry.now.modseq; versions = versions.entry } }
+{
+    RowHead {
+        uid: entry.uid,
+        modseq: entry.modseq,
+        versions,
+    }
+}
+
+/// The row of an entry of which nothing is told.
+pub(crate) fn bare_row(entry: &ListingEntry) -> Row<'static>
+    ensures { listed_message result ≡ with_numbers entry.now no_message_data }
+{
+    Row {
+        uid: entry.uid,
+        modseq: entry.modseq,
+        origin: entry.origin,
+        versions: Versions::new(&[]),
+        date: None,
+        text: None,
+    }
+}
+
+/// The versions of the message of an entry, where it has any.
+#[inline(always)]
+fn lent_versions<'a>(
+    messages: Option<&'a IndexMap<OpId, Vec<Version>>>,
+    entry: &ListingEntry,
+) -> Option<Versions<'a>>
+    ensures { option_map (λ versions. versions.list.now) result ≡ versions_in (option_map (λ messages. messages.now.entries) messages.entry) entry.now.origin }
+{
+    match messages {
+        Some(messages) => versions_at(messages, entry),
+        None => None,
+    }
+}
+
+#[inline(always)]
+fn versions_at<'a>(
+    messages: &'a IndexMap<OpId, Vec<Version>>,
+    entry: &ListingEntry,
+) -> Option<Versions<'a>>
+    ensures { option_map (λ versions. versions.list.now) result ≡ option_map (λ versions. versions.items) (entry_under entry.now.origin messages.now.entries) }
+{
+    match look_up(messages, entry) {
+        Some(versions) => Some(Versions::new(versions)),
+        None => None,
+    }
+}
+
+/// What a table has under the origin of an entry: one look where it stands in the table as its UID counts it, as most do while
+/// all that the table has came into this mailbox and little was taken out; else a look-up by hash.
+#[inline(always)]
+fn look_up<'a, V>(table: &'a IndexMap<OpId, V>, entry: &ListingEntry) -> Option<&'a V>
+    ensures { option_map (λ value. value.now) result ≡ entry_under entry.now.origin table.now.entries }
+{
+    match look_up_near(table, entry) {
+        Some(value) => Some(value),
+        None => table.get(&entry.origin),
+    }
+}
+
+/// The same, where it stands behind as many others as there are UIDs below its own.
+#[inline(always)]
+fn look_up_near<'a, V>(table: &'a IndexMap<OpId, V>, entry: &ListingEntry) -> Option<&'a V>
+    ensures { IfSome result (λ value. entry_under entry.now.origin table.now.entries ≡ Some value.now) }
+{
+    let (origin, value) = table.get_index((entry.uid as usize).saturating_sub(1))?;
+    if *origin == entry.origin {
+        Some(value)
+    } else {
+        None
+    }
+}
+
+/// The row of an entry with these versions, and the date and text of this Append.
+fn with_letter<'a>(entry: &ListingEntry, versions: Versions<'a>, letter: Option<&'a DatedText>) -> Row<'a>
+    ensures { listed_message result ≡ with_numbers entry.now (message_data_of versions.entry.list.now (option_map (λ letter. letter.now) letter.entry)) }
+{
+    match letter {
+        Some(letter) => Row {
+            uid: entry.uid,
+            modseq: entry.modseq,
+            origin: entry.origin,
+            versions,
+            date: Some(&letter.date),
+            text: Some(&letter.text),
+        },
+        None => Row {
+            uid: entry.uid,
+            modseq: entry.modseq,
+            origin: entry.origin,
+            versions,
+            date: None,
+            text: None,
+        },
+    }
+}

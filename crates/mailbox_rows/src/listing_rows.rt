@@ -1,0 +1,412 @@
+//! The messages of a listing.
+
+ghost use Rattle.std.specs.Prelude.{◌≡◌, ◌≤◌, ◌<◌, ◌++◌, ◌∷◌, [], true, ltb, length, map, drop, get_or, is_some, option_map, IfOk, OnOk};
+ghost use Rattle.std.specs.List.{slice_get};
+ghost use Rattle.mailbox_rows.specs.ListedMessage.{ListedMessage};
+ghost use Rattle.mailbox_rows.specs.RowViews.{AreRisingRows, rows_after_uid, changed_since, head_of, listed_head, owned_message, last_uid, listed_message, row_of};
+ghost use Rattle.mailbox_rows.specs.Windows.{IsEdge, source_rows};
+
+use crate::owned_row::OwnedRow;
+use crate::row::{Row, RowHead};
+use crate::window::Window;
+use std::alloc::{AllocError, Global};
+use std::marker::Model;
+
+/// Where the messages of a listing are.
+#[derive(Drop)]
+enum Source<'a> {
+    /// Made one by one.
+    Made(Vec<OwnedRow<'a>>),
+    /// Seen through a window.
+    Seen(Window<'a>),
+}
+
+/// A mailbox's messages, by ascending UIDs.
+pub struct Rows<'a> {
+    source: Source<'a>,
+}
+
+// By hand, so that crates above let them go as a whole.
+impl<'a> Drop for Rows<'a> {
+    fn drop(self) {
+        let Self { source: _ } = self;
+    }
+}
+
+impl<'a> Model for Rows<'a> {
+    ghost use Rattle.std.specs.Prelude.{List};
+    ghost use Rattle.mailbox_rows.specs.ListedMessage.{ListedMessage};
+
+    ghost Value = { List ListedMessage };
+
+    ghost use Rattle.mailbox_rows.specs.RowViews.{AreRisingRows};
+    ghost use Rattle.mailbox_rows.specs.Windows.{source_rows};
+
+    ghost view = { λ r. source_rows r.source };
+
+    ghost invariant = { λ r. AreRisingRows 1 (source_rows r.source) };
+}
+
+impl<'a> Rows<'a> {
+    /// No messages.
+    pub fn none(alloc: Global) -> Rows<'a>
+        ensures { result ≡ [] }
+    {
+        Rows {
+            source: Source::Made(Vec::new(alloc)),
+        }
+    }
+
+    /// These messages, whose UIDs ascend strictly from 1 on.
+    pub fn from_ascending(rows: Vec<OwnedRow<'a>>) -> Rows<'a>
+        requires { AreRisingRows 1 (map owned_message rows.items) }
+        ensures { result ≡ map owned_message rows.entry.items }
+    {
+        Rows {
+            source: Source::Made(rows),
+        }
+    }
+
+    /// What a window shows. It takes no memory.
+    pub fn of_window(window: Window<'a>) -> Rows<'a>
+        ensures { result ≡ window.entry }
+    {
+        window.prove_ascending();
+        Rows {
+            source: Source::Seen(window),
+        }
+    }
+
+    /// How many there are. Their UIDs ascend strictly.
+    pub fn count(&self) -> u32
+        ensures count { result ≡ length self.now }
+        ensures rising { AreRisingRows 1 self.now }
+    {
+        let len = self.len();
+        let _last = self.last_uid(len);
+        match u32::try_from(len) {
+            Ok(count) => count,
+            Err(_) => unreachable!(),
+        }
+    }
+
+    /// The message at this place, from 0, by ascending UIDs.
+    pub fn row_at(&self, place: usize) -> Option<Row<'_>>
+        ensures { option_map listed_message result ≡ slice_get self.now place }
+    {
+        row_in(&self.source, place)
+    }
+
+    /// The message with this UID, if it is there: a binary search.
+    pub fn row_of(&self, uid: u32) -> Option<Row<'_>>
+        ensures { option_map listed_message result ≡ row_of uid self.now }
+    {
+        match self.row_at(self.first_from(u64::from(uid))) {
+            Some(row) => { if row.uid == uid { Some(row) } else { None } }
+            None => None,
+        }
+    }
+
+    /// The message with this UID, if it is there: one look where it stands at this place, from 0, as it does where the listing is that of the view
+    /// that counts it so, and else a binary search.
+    pub fn row_near(&self, place: usize, uid: u32) -> Option<Row<'_>>
+        ensures { option_map listed_message result ≡ row_of uid self.now }
+    {
+        let _len = self.len();
+        match self.row_at(place) {
+            Some(row) => {
+                if row.uid == uid {
+                    Some(row)
+                } else {
+                    self.row_of(uid)
+                }
+            }
+            None => self.row_of(uid),
+        }
+    }
+
+    /// The head of the row of the message with this UID, if it is there, by the same looks, without one at its date and text.
+    #[inline(always)]
+    pub fn head_near(&self, place: usize, uid: u32) -> Option<RowHead<'_>>
+        ensures { option_map listed_head result ≡ option_map head_of (row_of uid self.now) }
+    {
+        let _len = self.len();
+        match self.head_at(place) {
+            Some(head) => {
+                if head.uid == uid {
+                    Some(head)
+                } else {
+                    self.search_head(uid)
+                }
+            }
+            None => self.search_head(uid),
+        }
+    }
+
+    /// Whether the message with this UID is there, by the same looks, of which none is at the message itself.
+    pub fn has_near(&self, place: usize, uid: u32) -> bool
+        ensures { result ≡ is_some (row_of uid self.now) }
+    {
+        self.stands_at(place, uid) || self.row_of(uid).is_some()
+    }
+
+    /// How many messages have no UID above this one: the place of the first that has. A binary search.
+    pub fn place_after_uid(&self, uid: u32) -> usize
+        ensures bound { result ≤ length self.now }
+        ensures beyond { drop result self.now ≡ rows_after_uid uid self.now }
+    {
+        self.first_from(u64::from(uid) + 1)
+    }
+
+    /// Those whose mod-sequences are above this one (RFC 7162, section 3.1.4); `Err` where there is no memory for them.
+    /// Cost: through a window, that of `Window::changed_since`; else one pass over them.
+    pub fn changed_since(&self, alloc: Global, modseq: u64) -> Result<Rows<'a>, AllocError>
+        ensures { IfOk result (λ rows. rows ≡ changed_since modseq self.now) }
+    {
+        let _len = self.len();
+        let kept = changed_rows_in(alloc, &self.source, modseq)?;
+        Ok(Rows::from_ascending(kept))
+    }
+
+    /// The head of the row at a place.
+    #[inline(always)]
+    fn head_at(&self, place: usize) -> Option<RowHead<'_>>
+        ensures { option_map listed_head result ≡ option_map head_of (slice_get self.now place) }
+    {
+        head_in(&self.source, place)
+    }
+
+    /// The head of the row of the message with this UID, if it is there: a binary search.
+    #[inline(never)]
+    fn search_head(&self, uid: u32) -> Option<RowHead<'_>>
+        ensures { option_map listed_head result ≡ option_map head_of (row_of uid self.now) }
+    {
+        match self.row_of(uid) {
+            Some(row) => Some(row.head()),
+            None => None,
+        }
+    }
+
+    /// How many there are. Their UIDs ascend strictly.
+    fn len(&self) -> usize
+        ensures len { result ≡ length self.now }
+        ensures rising { AreRisingRows 1 self.now }
+    {
+        len_of(&self.source)
+    }
+
+    /// Whether the message at this place has this UID.
+    fn stands_at(&self, place: usize, uid: u32) -> bool
+        ensures { result ≡ true → is_some (row_of uid self.now) ≡ true }
+    {
+        let _len = self.len();
+        match self.uid_at(place) {
+            Some(other) => other == uid,
+            None => false,
+        }
+    }
+
+    /// The UID at a place.
+    fn uid_at(&self, place: usize) -> Option<u32>
+        ensures { result ≡ option_map (λ row. row.uid) (slice_get self.now place) }
+    {
+        uid_in(&self.source, place)
+    }
+
+    /// The message at a place, to be held; `Err` where there is no memory for versions of its own.
+    fn owned_row_at(&self, alloc: Global, place: usize) -> Result<Option<OwnedRow<'a>>, AllocError>
+        ensures { IfOk result (λ row. option_map owned_message row ≡ slice_get self.now place) }
+    {
+        owned_row_in(alloc, &self.source, place)
+    }
+
+    /// The last UID of so many, 0 where there is none.
+    fn last_uid(&self, len: usize) -> u32
+        requires { len ≡ length self.now }
+        ensures { result ≡ last_uid 0 self.now }
+    {
+        if len == 0 {
+            return 0;
+        }
+        match self.uid_at(len - 1) {
+            Some(uid) => uid,
+            None => 0,
+        }
+    }
+
+    /// The place of the first row whose UID is no less than this number.
+    fn first_from(&self, uid: u64) -> usize
+        ensures within { result ≤ length self.now }
+        ensures edge { (d : ListedMessage) → IsEdge (λ i. ltb (get_or self.now i d).uid uid) (length self.now) result }
+        ensures rising { AreRisingRows 1 self.now }
+    {
+        let mut low = 0;
+        let mut high = self.len();
+        while low < high {
+            let middle = low + (high - low) / 2;
+            if self.is_below(middle, uid) {
+                low = middle + 1;
+            } else {
+                high = middle;
+            }
+        }
+        low
+    }
+
+    /// Whether the UID at a place is below this number.
+    fn is_below(&self, place: usize, uid: u64) -> bool
+        requires { place < length self.now }
+        ensures { (d : ListedMessage) → result ≡ ltb (get_or self.now place d).uid uid }
+    {
+        match self.uid_at(place) {
+            Some(other) => u64::from(other) < uid,
+            None => false,
+        }
+    }
+}
+
+/// How many there are.
+fn len_of(source: &Source<'_>) -> usize
+    ensures { result ≡ length (source_rows source.now) }
+{
+    match source {
+        Source::Made(rows) => rows.len(),
+        Source::Seen(window) => window.len(),
+    }
+}
+
+/// The row at a place.
+fn row_in<'r>(source: &'r Source<'_>, place: usize) -> Option<Row<'r>>
+    ensures { option_map listed_message result ≡ slice_get (source_rows source.now) place }
+{
+    match source {
+        Source::Made(rows) => slice_row(rows, place),
+        Source::Seen(window) => window.row_at(place),
+    }
+}
+
+/// The row of a slice at a place.
+fn slice_row<'r>(rows: &'r [OwnedRow<'_>], place: usize) -> Option<Row<'r>>
+    ensures { option_map listed_message result ≡ slice_get (map owned_message rows.now) place }
+{
+    match rows.get(place) {
+        Some(row) => Some(row.row()),
+        None => None,
+    }
+}
+
+/// The head of the row at a place.
+#[inline(always)]
+fn head_in<'r>(source: &'r Source<'_>, place: usize) -> Option<RowHead<'r>>
+    ensures { option_map listed_head result ≡ option_map head_of (slice_get (source_rows source.now) place) }
+{
+    match source {
+        Source::Made(rows) => slice_head(rows, place),
+        Source::Seen(window) => window.head_at(place),
+    }
+}
+
+/// The head of the row of a slice at a place.
+fn slice_head<'r>(rows: &'r [OwnedRow<'_>], place: usize) -> Option<RowHead<'r>>
+    ensures { option_map listed_head result ≡ option_map head_of (slice_get (map owned_message rows.now) place) }
+{
+    match rows.get(place) {
+        Some(row) => Some(row.row().head()),
+        None => None,
+    }
+}
+
+/// The UID at a place.
+fn uid_in(source: &Source<'_>, place: usize) -> Option<u32>
+    ensures { result ≡ option_map (λ row. row.uid) (slice_get (source_rows source.now) place) }
+{
+    match source {
+        Source::Made(rows) => slice_uid(rows, place),
+        Source::Seen(window) => window.uid_at(place),
+    }
+}
+
+/// The UID of a row of a slice.
+fn slice_uid(rows: &[OwnedRow<'_>], place: usize) -> Option<u32>
+    ensures { result ≡ option_map (λ row. row.uid) (slice_get (map owned_message rows.now) place) }
+{
+    match rows.get(place) {
+        Some(row) => Some(row.uid),
+        None => None,
+    }
+}
+
+/// The row at a place, to be held.
+fn owned_row_in<'a>(
+    alloc: Global,
+    source: &Source<'a>,
+    place: usize,
+) -> Result<Option<OwnedRow<'a>>, AllocError>
+    ensures { IfOk result (λ row. option_map owned_message row ≡ slice_get (source_rows source.now) place) }
+{
+    match source {
+        Source::Made(rows) => slice_owned_row(alloc, rows, place),
+        Source::Seen(window) => window.owned_row_at(alloc, place),
+    }
+}
+
+/// The row of a slice at a place, once more.
+fn slice_owned_row<'a>(
+    alloc: Global,
+    rows: &[OwnedRow<'a>],
+    place: usize,
+) -> Result<Option<OwnedRow<'a>>, AllocError>
+    ensures { IfOk result (λ row. option_map owned_message row ≡ slice_get (map owned_message rows.now) place) }
+{
+    match rows.get(place) {
+        Some(row) => {
+            let copied = row.copy(alloc)?;
+            Ok(Some(copied))
+        }
+        None => Ok(None),
+    }
+}
+
+/// The rows whose mod-sequences are above this one, to be held.
+fn changed_rows_in<'a>(
+    alloc: Global,
+    source: &Source<'a>,
+    modseq: u64,
+) -> Result<Vec<OwnedRow<'a>>, AllocError>
+    ensures { IfOk result (λ kept. map owned_message kept.items ≡ changed_since modseq (source_rows source.now)) }
+{
+    match source {
+        Source::Made(rows) => slice_changed_rows(alloc, rows, modseq),
+        Source::Seen(window) => window.changed_since(alloc, modseq),
+    }
+}
+
+/// Those of a slice, once more.
+fn slice_changed_rows<'a>(
+    alloc: Global,
+    rows: &[OwnedRow<'a>],
+    modseq: u64,
+) -> Result<Vec<OwnedRow<'a>>, AllocError>
+    ensures { IfOk result (λ kept. map owned_message kept.items ≡ changed_since modseq (map owned_message rows.now)) }
+{
+    let mut kept = Vec::new(alloc);
+    for row in rows {
+        push_changed(alloc, &mut kept, row, modseq)?;
+    }
+    Ok(kept)
+}
+
+/// Puts a row behind the others, once more, where its mod-sequence is above this one.
+fn push_changed<'a>(
+    alloc: Global,
+    kept: &mut Vec<OwnedRow<'a>>,
+    row: &OwnedRow<'a>,
+    modseq: u64,
+) -> Result<(), AllocError>
+    ensures { OnOk result (map owned_message kept.new.items ≡ map owned_message kept.old.items ++ changed_since modseq (owned_message row.now ∷ [])) }
+{
+    if row.modseq > modseq {
+        kept.push(row.copy(alloc)?)?;
+    }
+    Ok(())
+}

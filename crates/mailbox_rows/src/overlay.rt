@@ -1,0 +1,176 @@
+//! Entries as operations to come would leave them.
+
+ghost use Rattle.std.specs.Prelude.{◌≡◌, ◌≤◌, IfOk, OnOk};
+ghost use Rattle.mailbox_rows.specs.ModSeqLog.{AreLoggedIn, changed_since};
+ghost use Rattle.mailbox_rows.specs.ListingEntries.{AreIndexed, AreRising, indexed_value, indexed_over};
+ghost use Rattle.mailbox_rows.specs.EntryTables.{HasEdits};
+
+use crate::changed_entries::{changed_entries_among, changed_entries_by_scan};
+use crate::modseq_log::ModSeqLog;
+use crate::entry::ListingEntry;
+use crate::entry_list::EntryList;
+use crate::patched_list::PatchedList;
+use crate::{uid_index, entry_search};
+use chunk_list::ChunkList;
+use indexmap::IndexMap;
+use std::alloc::{AllocError, Global};
+use std::marker::Model;
+use tags_clocks::OpId;
+
+/// A mailbox's entries with edits over them; what keeps them stays as it is.
+pub struct EntryOverlay<'a> {
+    list: PatchedList<'a, ListingEntry>,
+    kept: &'a IndexMap<OpId, u32>,
+    own: IndexMap<OpId, u32>,
+    kept_changes: &'a ModSeqLog,
+    own_changes: ModSeqLog,
+}
+
+// By hand, so that crates above let it go as a whole.
+impl<'a> Drop for EntryOverlay<'a> {
+    fn drop(self) {
+        let Self {
+            list: _,
+            kept: _,
+            own: _,
+            kept_changes: _,
+            own_changes: _,
+        } = self;
+    }
+}
+
+impl<'a> Model for EntryOverlay<'a> {
+    ghost use Rattle.indexmap.specs.IndexMap.{spare};
+    ghost use Rattle.mailbox_rows.specs.ListingEntries.{AreIndexed, AreRising, indexed_over};
+    ghost use Rattle.mailbox_rows.specs.ModSeqLog.{AreLoggedIn, log_over};
+    ghost use Rattle.mailbox_rows.specs.EntryTables.{OverlayState};
+
+    ghost Value = { OverlayState };
+
+    ghost view = { λ o. record { entries = o.list.items; places = o.list.places; ids = spare o.own } };
+
+    ghost invariant = { λ o. AreRising 1 o.list.items × AreIndexed (indexed_over o.own.entries o.kept.now.entries) o.list.items × AreLoggedIn (log_over o.kept_changes.now o.own_changes) o.list.items };
+}
+
+impl<'a> EntryOverlay<'a> {
+    /// These entries, with no edits yet.
+    pub(crate) fn new(
+        alloc: Global,
+        list: &'a ChunkList<ListingEntry>,
+        kept: &'a IndexMap<OpId, u32>,
+        kept_changes: &'a ModSeqLog,
+    ) -> Result<EntryOverlay<'a>, AllocError>
+        requires rising { AreRising 1 list.now.items }
+        requires indexed { AreIndexed (indexed_value kept.now.entries) list.now.items }
+        requires noted { AreLoggedIn kept_changes.now list.now.items }
+        ensures { IfOk result (λ over. over.entries ≡ list.now.items) }
+    {
+        let list = PatchedList::new(alloc, list)?;
+        let own = IndexMap::new(alloc);
+        let own_changes = ModSeqLog::new(alloc);
+        Ok(EntryOverlay {
+            list,
+            kept,
+            own,
+            kept_changes,
+            own_changes,
+        })
+    }
+
+    /// Their UIDs ascend strictly.
+    pub fn prove_ascending(&self)
+        ensures { AreRising 1 self.now.entries }
+    {
+        let _list = &self.list;
+    }
+
+    /// Room for so many edits more; `Err` where there is no memory. The entries stay, and no room is lost.
+    pub fn reserve(&mut self, edits: usize) -> Result<(), AllocError>
+        ensures entries { self.new.entries ≡ self.old.entries }
+        ensures ok { OnOk result (HasEdits self.new edits) }
+        ensures places { self.old.places ≤ self.new.places }
+        ensures ids { self.old.ids ≤ self.new.ids }
+    {
+        self.own.reserve(edits)?;
+        self.own_changes.reserve(edits)?;
+        self.list.reserve(edits)
+    }
+
+    /// The entries whose mod-sequences are above this one; `Err` where there is no memory for them. Cost: the changes to greater
+    /// mod-sequences and a search for each, and where one was left out for want of room, one pass over the entries.
+    pub fn changed_since(&self, alloc: Global, modseq: u64) -> Result<Vec<ListingEntry>, AllocError>
+        ensures { IfOk result (λ found. found.items ≡ changed_since modseq self.now.entries) }
+    {
+        if !self.kept_changes.is_whole() || !self.own_changes.is_whole() {
+            return changed_entries_by_scan(alloc, &self.list, modseq);
+        }
+        let mut uids = Vec::new(alloc);
+        self.kept_changes.push_uids(modseq, &mut uids)?;
+        self.own_changes.push_uids(modseq, &mut uids)?;
+        uids.sort_by_key(|uid| *uid)?;
+        changed_entries_among(alloc, &self.list, &uids, modseq)
+    }
+}
+
+impl<'a> EntryList for EntryOverlay<'a> {
+    ghost use Rattle.std.specs.Prelude.{◌*◌, ◌≤◌};
+
+    ghost entries = { λ o. o.entries };
+
+    ghost has_edits = { λ o n. 2 * n ≤ o.places };
+
+    ghost has_room = { λ o n. n ≤ o.ids };
+
+    fn len(&self) -> usize {
+        self.list.len()
+    }
+
+    #[inline(always)]
+    fn get(&self, place: usize) -> Option<ListingEntry> {
+        self.list.get(place)
+    }
+
+    fn place_of(&self, origin: &OpId) -> Option<usize> {
+        match uid_over(&self.own, self.kept, origin) {
+            Some(uid) => entry_search::place_with(&self.list, uid, origin),
+            None => None,
+        }
+    }
+
+    fn renew(&mut self, place: usize, modseq: u64) {
+        match self.list.get(place) {
+            Some(old) => {
+                self.list.replace(
+                    place,
+                    ListingEntry {
+                        origin: old.origin,
+                        uid: old.uid,
+                        modseq,
+                    },
+                );
+                self.own_changes.note(modseq, old.uid);
+            }
+            None => unreachable!(),
+        }
+    }
+
+    fn take_out(&mut self, place: usize) {
+        self.list.remove(place);
+    }
+
+    fn put(&mut self, entry: ListingEntry) {
+        uid_index::note(&mut self.own, &entry.origin, entry.uid);
+        self.own_changes.note(entry.modseq, entry.uid);
+        self.list.push(entry);
+    }
+}
+
+/// What the first index tells of an origin, and else the second.
+fn uid_over(own: &IndexMap<OpId, u32>, kept: &IndexMap<OpId, u32>, origin: &OpId) -> Option<u32>
+    ensures { result ≡ indexed_over own.now.entries kept.now.entries origin.now }
+{
+    match uid_index::uid_of(own, origin) {
+        Some(uid) => Some(uid),
+        None => uid_index::uid_of(kept, origin),
+    }
+}

@@ -1,0 +1,91 @@
+//! A row of a listing as it is kept.
+
+ghost use Rattle.std.specs.Prelude.{◌≡◌, IfOk};
+ghost use Rattle.mailbox_rows.specs.RowViews.{owned_message, listed_message, owned_versions};
+
+use crate::row::Row;
+use imap_types::{DateTime, Text, Version, Versions, copy_versions};
+use std::alloc::{AllocError, Global};
+use tags_clocks::OpId;
+
+/// A message of a mailbox's listing as the listing keeps it: its versions lent, or its own where operations to come change
+/// them.
+#[derive(Drop)]
+pub struct OwnedRow<'a> {
+    /// Its UID, from 1 to 4,294,967,294 (RFC 9051, section 2.3.1.1).
+    pub uid: u32,
+    /// Its mod-sequence, from 1 (RFC 7162, section 3.1).
+    pub modseq: u64,
+    /// The id of the Append that has its date and text.
+    pub origin: OpId,
+    /// Its versions, ascending by id, one at least.
+    pub versions: VersionsCow<'a>,
+    /// When it was received (RFC 9051, section 2.3.3); None where nothing tells it.
+    pub date: Option<&'a DateTime>,
+    /// Its octets; None where nothing tells them.
+    pub text: Option<&'a Text>,
+}
+
+/// The versions of a message of a listing.
+#[derive(Drop)]
+pub enum VersionsCow<'a> {
+    /// Lent by what keeps the message.
+    Lent(Versions<'a>),
+    /// The listing's own, ascending by id: what they are after operations to come.
+    Own(Vec<Version>),
+}
+
+impl<'a> OwnedRow<'a> {
+    /// The row, lent.
+    pub fn row(&self) -> Row<'_>
+        ensures { listed_message result ≡ owned_message self.now }
+    {
+        Row {
+            uid: self.uid,
+            modseq: self.modseq,
+            origin: self.origin,
+            versions: self.versions.as_versions(),
+            date: self.date,
+            text: self.text,
+        }
+    }
+
+    /// The same row once more, its own versions copied; `Err` where there is no memory for them.
+    pub(crate) fn copy(&self, alloc: Global) -> Result<OwnedRow<'a>, AllocError>
+        ensures { IfOk result (λ copied. owned_message copied ≡ owned_message self.now) }
+    {
+        let versions = self.versions.copy(alloc)?;
+        Ok(OwnedRow {
+            uid: self.uid,
+            modseq: self.modseq,
+            origin: self.origin,
+            versions,
+            date: self.date,
+            text: self.text,
+        })
+    }
+}
+
+impl<'a> VersionsCow<'a> {
+    /// The versions, lent.
+    pub fn as_versions(&self) -> Versions<'_>
+        ensures { result.list.now ≡ owned_versions self.now }
+    {
+        match self {
+            VersionsCow::Lent(versions) => Versions::new(versions.as_slice()),
+            VersionsCow::Own(versions) => Versions::new(versions),
+        }
+    }
+    /// The same once more: lent where they are lent, copies where they are its own; `Err` where there is no memory for these.
+    pub(crate) fn copy(&self, alloc: Global) -> Result<VersionsCow<'a>, AllocError>
+        ensures { IfOk result (λ copied. owned_versions copied ≡ owned_versions self.now) }
+    {
+        match self {
+            VersionsCow::Lent(versions) => Ok(VersionsCow::Lent(*versions)),
+            VersionsCow::Own(versions) => {
+                let copies = copy_versions(alloc, versions)?;
+                Ok(VersionsCow::Own(copies))
+            }
+        }
+    }
+}

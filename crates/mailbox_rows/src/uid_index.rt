@@ -1,0 +1,35 @@
+//! UIDs by origins.
+
+ghost use Rattle.std.specs.Prelude.{◌≡◌, ◌+◌, ◌<◌, ◌≤◌, None, Some, false, if◌then◌else◌};
+ghost use Rattle.indexmap.specs.IndexMap.{spare};
+ghost use Rattle.tags_clocks.specs.declared.id.OpId.{OpId};
+ghost use Rattle.mailbox_rows.specs.ListingEntries.{is_id, indexed_value};
+
+use indexmap::IndexMap;
+use tags_clocks::OpId;
+
+/// What the index tells of an origin.
+pub fn uid_of(uids: &IndexMap<OpId, u32>, origin: &OpId) -> Option<u32>
+    ensures { result ≡ indexed_value uids.now.entries origin.now }
+{
+    uids.get(origin).copied()
+}
+
+/// Lets the index tell this UID of an origin. There is room for it.
+pub fn note(uids: &mut IndexMap<OpId, u32>, origin: &OpId, uid: u32)
+    requires { 0 < spare uids.old }
+    ensures told { (i : OpId) → indexed_value uids.new.entries i ≡ (if is_id origin.now i then Some uid else indexed_value uids.old.entries i) }
+    ensures room { spare uids.old ≤ spare uids.new + 1 }
+{
+    if uids.insert(*origin, uid).is_err() {
+        unreachable!();
+    }
+}
+
+/// Lets the index tell nothing of an origin.
+pub fn forget(uids: &mut IndexMap<OpId, u32>, origin: &OpId)
+    ensures told { (i : OpId) → indexed_value uids.new.entries i ≡ (if is_id origin.now i then None else indexed_value uids.old.entries i) }
+    ensures room { spare uids.old ≤ spare uids.new }
+{
+    uids.swap_remove(origin);
+}

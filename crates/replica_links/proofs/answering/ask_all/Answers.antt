@@ -1,6 +1,0 @@
-use Rattle.replica_links.proofs.AskedLemmas.{asked_next}
-use Rattle.replica_links.proofs.answering.ask_all.Goals as goal
-
-pub loop-peer-preserved : goal.loop-peer-preserved
-loop-peer-preserved g c =
-    asked_next g.T.Taker.lacks g.T.Taker.has g.P.Post.asks c.args.taker.now c.args.peers.now c.loop-peer.peer-index c.args.post.now c.loop-peer.post c.ask.new.post c.loop-peer-test.true c.loop-peer.invariant c.ask.ensures

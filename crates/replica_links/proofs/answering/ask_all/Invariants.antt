@@ -1,6 +1,0 @@
-use Rattle.std.proofs.Common.{take}
-use Rattle.replica_links.specs.Links.{AreAsked}
-use Rattle.replica_links.proofs.answering.ask_all.Given as goal
-
-abbrev pub invariant-loop-peer : goal.invariant-loop-peer
-invariant-loop-peer g l = AreAsked g.T.Taker.lacks g.T.Taker.has g.P.Post.asks l.taker l.initial.post (take l.peer-index l.peers) l.post

@@ -1,7 +1,0 @@
-use Rattle.replica_links.specs.Links.{IsWorked}
-use Rattle.replica_links.proofs.working.link_worker.Given as goal
-
-abbrev pub invariant-loop : goal.invariant-loop
-invariant-loop g l =
-    (goal.iterator-loop g).can_next l.iterator' × (goal.iterator-loop g).is_finite l.iterator'
-    × IsWorked g.T.Taker.takes g.T.Taker.drains g.T.Taker.lacks g.T.Taker.has g.T.Taker.gives g.P.Post.asks g.P.Post.hands l.inbox.peers.now l.inbox.asks_first l.fn.taker l.fn.post l.taker l.post

@@ -1,0 +1,56 @@
+//! Operations that are handed on.
+
+ghost use Rattle.std.specs.Prelude.{◌≡◌, ℕ, List, MatchOption};
+ghost use Rattle.crdt_ops.specs.declared.op.Op.{Op};
+ghost use Rattle.replica_links.specs.Links.{Takes};
+ghost use Rattle.replica_links.specs.declared.took.Took.{Took};
+
+use crate::took::Took;
+use crdt_ops::SoundOp;
+use tags_clocks::Clock;
+
+/// What takes operations, one after another.
+pub trait Taker {
+    /// What a delivery of an operation with this answer makes of it.
+    ghost takes: { Self → Op → Took → Self → Type 0 };
+
+    /// What going on with held operations makes of it.
+    ghost drains: { Self → Self → Type 0 };
+
+    /// This clock counts what it applied.
+    ghost has: { Self → List (ℕ × ℕ) → Type 0 };
+
+    /// These are the operations that it applied and the clock doesn't cover, in their order.
+    ghost gives: { Self → List (ℕ × ℕ) → List Op → Type 0 };
+
+    /// It has no memory for a copy.
+    ghost lacks: { Self → Type 0 };
+
+    /// Delivers an operation.
+    fn deliver(&mut self, op: SoundOp) -> Took
+        ensures { takes self.old op result self.new };
+
+    /// Goes on with held operations whose causes were applied.
+    fn drain(&mut self)
+        ensures { drains self.old self.new };
+
+    /// A copy of its clock; `None` where there is no memory for it.
+    fn clock(&self) -> Option<Clock>
+        ensures { MatchOption result (lacks self.now) (λ clock. has self.now clock) };
+
+    /// Copies of the operations applied that the clock doesn't cover; `None` where there is no memory for them.
+    fn ops_since(&self, clock: &Clock) -> Option<Vec<SoundOp>>
+        ensures { MatchOption result (lacks self.now) (λ ops. gives self.now clock.now ops.items) };
+}
+
+/// Delivers the operations, each once and in their order, whatever is answered, and tells for each field whether one answer had it.
+pub fn hand_on<T: Taker>(taker: &mut T, ops: Vec<SoundOp>) -> Took
+    ensures { Takes T.takes taker.old ops.items result taker.new }
+{
+    let mut took = Took::nothing();
+    for op in ops {
+        let one = taker.deliver(op);
+        took = took.joined_with(one);
+    }
+    took
+}

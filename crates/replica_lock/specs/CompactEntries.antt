@@ -1,0 +1,39 @@
+use Rattle.std.specs.Prelude.{ℕ, List, [], ◌∷◌, None}
+use Rattle.imap_answers.specs.declared.answer.Answer.TheVariants.{Completed}
+use Rattle.imap_answers.specs.declared.fixed_words.CompletedWord.TheVariants as words
+use Rattle.imap_node.specs.declared.reply.Reply.{Reply}
+use Rattle.imap_node.specs.declared.reply.Reply.TheVariants.{Done}
+use Rattle.imap_syntax.specs.declared.command.Command.TheVariants as commands
+use Rattle.replica_lock.specs.FetchAnswers.{fetch_exchange_entry}
+use Rattle.replica_lock.specs.declared.book.JournalEntry.{JournalEntry}
+use Rattle.replica_lock.specs.declared.event.BookEvent.TheVariants.{Close, Command}
+use Rattle.replica_lock.specs.declared.compact_entry.CompactForm.{CompactForm}
+use Rattle.replica_lock.specs.declared.compact_entry.CompactForm.TheVariants as forms
+use Rattle.replica_lock.specs.declared.compact_entry.EntryRef.{EntryRef}
+use Rattle.replica_lock.specs.declared.compact_entry.EntryRef.TheVariants as lent
+use Rattle.replica_lock.specs.declared.outcome.Outcome.TheVariants.{Closed, Replied}
+
+-- The reply to a NOOP with this tag that is told its end alone: nothing that changed (RFC 9051, section 6.1.2).
+abbrev pub noop_done : List ℕ → Reply
+noop_done tag = Done (Completed tag None words.Noop ∷ []) [] []
+
+-- Its entry.
+abbrev pub noop_entry : ℕ → ℕ → List ℕ → JournalEntry
+noop_entry session moment tag = record { event = Command session moment (record { tag = tag; command = commands.Noop }); outcome = Replied (noop_done tag) }
+
+-- The entry of a session that was closed.
+abbrev pub closed_entry : ℕ → JournalEntry
+closed_entry session = record { event = Close session; outcome = Closed }
+
+-- The entry that is kept so, and that is read so.
+abbrev pub entry_of : CompactForm → JournalEntry
+entry_of (forms.Noop session moment tag) = noop_entry session moment tag
+entry_of (forms.Closed session) = closed_entry session
+entry_of (forms.Told told) = fetch_exchange_entry told.value
+entry_of (forms.Whole entry) = entry.value
+
+abbrev pub entry_of_ref : EntryRef → JournalEntry
+entry_of_ref (lent.Noop session moment tag) = noop_entry session moment tag.now
+entry_of_ref (lent.Closed session) = closed_entry session
+entry_of_ref (lent.Told told) = fetch_exchange_entry told.now
+entry_of_ref (lent.Whole entry) = entry.now

@@ -1,0 +1,54 @@
+use Rattle.std.specs.Prelude.{ℕ, ◌==◌, Option, None, Some, List, [], ◌∷◌, ◌++◌, map, if◌then◌else◌}
+use Rattle.std.specs.Option.{option_map}
+use Rattle.imap_answers.specs.declared.answer.Answer.{Answer}
+use Rattle.imap_answers.specs.declared.answer.Answer.TheVariants.{Completed, Fetch}
+use Rattle.imap_answers.specs.declared.fetch_items.FetchItems.{FetchItems}
+use Rattle.imap_answers.specs.declared.fetch_items.SectionData.{SectionData}
+use Rattle.imap_answers.specs.declared.fixed_words.CompletedWord.{CompletedWord}
+use Rattle.imap_node.specs.declared.reply.Reply.{Reply}
+use Rattle.imap_node.specs.declared.reply.Reply.TheVariants.{Done}
+use Rattle.imap_types.specs.declared.flags.Flags.{Flags}
+use Rattle.replica_lock.specs.declared.book.JournalEntry.{JournalEntry}
+use Rattle.replica_lock.specs.declared.event.BookEvent.TheVariants.{Command}
+use Rattle.replica_lock.specs.declared.fetch_line.FetchLine.{FetchLine}
+use Rattle.replica_lock.specs.declared.fetch_line.SystemFlags.{SystemFlags}
+use Rattle.replica_lock.specs.declared.outcome.Outcome.TheVariants.{Replied}
+use Rattle.replica_lock.specs.declared.fetch_answers.FetchAnswers.{FetchAnswers}
+use Rattle.replica_lock.specs.declared.fetch_answers.FetchAnswers.TheVariants.{Lines, Parts}
+use Rattle.replica_lock.specs.declared.fetch_exchange.FetchExchange.{FetchExchange}
+
+-- These flags, and no keywords (RFC 9051, section 2.3.2).
+abbrev pub flags_of : SystemFlags → Flags
+flags_of flags = record { answered = flags.answered; flagged = flags.flagged; deleted = flags.deleted; seen = flags.seen; draft = flags.draft; keywords = [] }
+
+-- A number that is told; 0 stands for none.
+abbrev pub told_if_nonzero : ℕ → Option ℕ
+told_if_nonzero number = if number == 0 then None else Some number
+
+-- What a line tells, with these parts of the message's text, and the FETCH answer that it stands for then (RFC 9051, section 7.5.2).
+abbrev pub items_of : FetchLine → List SectionData → FetchItems
+items_of line sections = record { uid = told_if_nonzero line.uid; flags = option_map flags_of line.flags; date = None; size = None; modseq = told_if_nonzero line.modseq; sections = sections }
+
+abbrev pub answer_with : List SectionData → FetchLine → Answer
+answer_with sections line = Fetch line.number (items_of line sections)
+
+-- The answer that it stands for by itself.
+abbrev pub answer_of : FetchLine → Answer
+answer_of line = answer_with [] line
+
+-- The answers that are kept so.
+abbrev pub answers_of : FetchAnswers → List Answer
+answers_of (Lines lines) = map answer_of lines.items
+answers_of (Parts line sections) = answer_with sections line ∷ []
+
+-- The answers to a command with this tag that is told no more than them, and its end (RFC 9051, section 7.1.1).
+abbrev pub fetch_exchange_answers : List ℕ → CompletedWord → FetchAnswers → List Answer
+fetch_exchange_answers tag word shown = answers_of shown ++ Completed tag None word ∷ []
+
+-- The reply that has no more than them.
+abbrev pub fetch_exchange_reply : List ℕ → CompletedWord → FetchAnswers → Reply
+fetch_exchange_reply tag word shown = Done (fetch_exchange_answers tag word shown) [] []
+
+-- The command's entry.
+abbrev pub fetch_exchange_entry : FetchExchange → JournalEntry
+fetch_exchange_entry told = record { event = Command told.session told.moment told.tagged; outcome = Replied (fetch_exchange_reply told.tagged.tag told.word told.shown) }

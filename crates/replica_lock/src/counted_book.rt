@@ -1,0 +1,211 @@
+//! What a replica's lock keeps.
+
+ghost use Rattle.std.specs.Prelude.{◌≡◌, ◌⊎◌, ◌↔◌, ℕ, ◌<◌, ◌≤◌, ◌^◌, length, IsTrue, IsOk, slice_get, OnOk, OnErr, IfOk, IfErr, IfSome, IfNone, Some, false, true};
+ghost use Rattle.imap_node.specs.SessionFeeds.{IsCurrent};
+ghost use Rattle.imap_node.specs.Replays.{view_at};
+ghost use Rattle.session_view.specs.ViewState.{ViewState};
+ghost use Rattle.replica_lock.specs.Passes.{OutcomesStand, PassState, OutcomeStands, calls_of, parts_of};
+ghost use Rattle.replica_lock.specs.Histories.{may_affect_sessions};
+ghost use Rattle.replica_lock.specs.Steps.{ends_session};
+
+use crate::book::Book;
+use crate::event::BookEvent;
+use crate::faults::{CallFault, FinishFault};
+use crate::outcome::Outcome;
+use crate::pass::Pass;
+use imap_node::{Reply, SessionNo};
+use std::alloc::Global;
+use std::marker::Model;
+use std::sync::ledger::{Book as Calls, Ledger};
+
+/// A replica with its journal, whose entries are the calls that all passes count.
+pub struct CountedBook<L: Ledger> {
+    book: Book,
+    calls: Calls<L>,
+    /// How many entries there are up to the last one of which another session may have to be told.
+    last_visible: u64,
+}
+
+// By hand, so that crates above let it go as a whole.
+impl<L: Ledger> Drop for CountedBook<L> {
+    fn drop(self) {
+        let Self {
+            book: _,
+            calls: _,
+            last_visible: _,
+        } = self;
+    }
+}
+
+impl<L: Ledger> Model for CountedBook<L> {
+    ghost use Rattle.std.specs.Prelude.{◌≡◌, ◌≤◌, length};
+    ghost use Rattle.replica_lock.specs.Histories.{AreQuietAfter, BookState};
+
+    ghost Value = { BookState };
+
+    ghost view = { λ s. s.book };
+
+    ghost invariant = { λ s. record { counted : length s.book.journal ≡ s.calls.total; within : s.last_visible ≤ length s.book.journal; quiet : AreQuietAfter s.book.journal s.last_visible } };
+}
+
+impl<L: Ledger> CountedBook<L> {
+    ghost use Rattle.replica_lock.specs.Histories.{AreQuietAfter};
+    ghost use Rattle.replica_lock.specs.Passes.{IsFinishFault, PassesFit, IsCall, IsCallFault, is_missing};
+
+    /// The book, of whose entries each is counted.
+    pub fn new(book: Book, calls: Calls<L>) -> CountedBook<L>
+        requires { length book.journal ≡ calls.total }
+        ensures { result ≡ book }
+    {
+        let news = book.len();
+        CountedBook { book, calls, last_visible: news }
+    }
+
+    /// How many entries the journal has.
+    pub fn len(&self) -> u64
+        ensures { result ≡ length self.now.journal }
+    {
+        self.book.len()
+    }
+
+    /// How many entries there are up to the last one of which another session may have to be told. None behind these is such a one.
+    pub fn last_visible(&self) -> u64
+        ensures within { result ≤ length self.now.journal }
+        ensures quiet { AreQuietAfter self.now.journal result }
+    {
+        self.last_visible
+    }
+
+    /// Whether an entry behind the first `seen` may have to be told to this session: `false` only where none of them is news to other sessions than its own,
+    /// or where what the session sees is its mailbox.
+    pub fn has_session_change(&self, session: SessionNo, seen: u64) -> bool
+        ensures some { result ≡ true → seen < length self.now.journal }
+        ensures none { result ≡ false → AreQuietAfter self.now.journal seen ⊎ ((view : ViewState) → view_at self.now.node.sessions session ≡ Some view → IsCurrent self.now.node.start self.now.node.applied view) }
+    {
+        self.last_visible > seen && self.book.node().may_be_behind(session)
+    }
+
+    /// The book.
+    pub fn book(&self) -> &Book
+        ensures { result.now ≡ self.now }
+    {
+        &self.book
+    }
+
+    /// Lets an event happen for a caller, and gives what came of the caller's call before, to be let go where the lock isn't held. Where it is refused, nothing
+    /// changes. An open session can always be closed, where the journal wasn't cut.
+    pub fn call(
+        &mut self,
+        alloc: Global,
+        pass: &mut Pass<L>,
+        event: BookEvent,
+    ) -> Result<Option<Outcome>, CallFault>
+        ensures called { OnOk result (IsCall self.old event self.new pass.old pass.new) }
+        ensures unchanged { OnErr result ((self.new ≡ self.old) × (pass.new ≡ pass.old)) }
+        ensures refused { IfErr result (IsCallFault pass.old.seen (length self.old.journal)) }
+        ensures close { pass.old.seen ≤ length self.old.journal → ends_session self.old.node event ≡ true → IsOk result }
+    {
+        let found = self.book.len();
+        let seen = pass.seen();
+        if found < seen {
+            drop(event);
+            return Err(CallFault::Torn { seen, found });
+        }
+        let outcome = match self.book.step(alloc, event) {
+            Ok(outcome) => outcome,
+            Err(_) => return Err(CallFault::NoRoom),
+        };
+        let place = self.book.len();
+        if may_affect_sessions(&outcome) {
+            self.last_visible = place;
+        }
+        Ok(pass.note(&mut self.calls, outcome, place))
+    }
+
+    /// Takes all passes back, and hands the book out.
+    pub fn settle(self, passes: Vec<Pass<L>>) -> Result<Book, FinishFault>
+        requires { L.parts ≡ 4294967295 }
+        ensures same { IfOk result (λ book. book ≡ self) }
+        ensures fits { IfOk result (λ book. PassesFit book.journal passes.items) }
+        ensures denied { IfErr result (IsFinishFault self.journal passes.items) }
+        ensures whole { parts_of passes.items ≡ 4294967295 → IfErr result (λ fault. is_missing fault ≡ false) }
+    {
+        let CountedBook {
+            book,
+            mut calls,
+            last_visible: _,
+        } = self;
+        let strange = first_mismatch(&book, &passes);
+        let entries = book.len();
+        let made = gather(&mut calls, passes);
+        if made != entries {
+            drop(book);
+            return Err(FinishFault::Missing {
+                calls: made,
+                entries,
+            });
+        }
+        match strange {
+            Some(place) => {
+                drop(book);
+                Err(FinishFault::Strange { place })
+            }
+            None => Ok(book),
+        }
+    }
+}
+
+/// Whether another session may have to be told something behind an event with this outcome.
+fn may_affect_sessions(outcome: &Outcome) -> bool
+    ensures { result ≡ may_affect_sessions outcome.now }
+{
+    match outcome {
+        Outcome::Replied {
+            reply: Reply::Done { issued, .. },
+        } => issued.as_slice().first().is_some(),
+        Outcome::Delivered { .. } | Outcome::Drained { .. } => true,
+        _ => false,
+    }
+}
+
+/// The calls that the passes count, which are all where no part is lacking.
+fn gather<L: Ledger>(calls: &mut Calls<L>, mut passes: Vec<Pass<L>>) -> u64
+    requires parts { L.parts ≡ 4294967295 }
+    requires fits { calls.old.total < 2 ^ 64 }
+    ensures sum { result ≡ calls_of passes.items }
+    ensures whole { parts_of passes.items ≡ 4294967295 → result ≡ calls.old.total }
+{
+    let Some(mut all) = passes.pop() else {
+        return 0;
+    };
+    while let Some(pass) = passes.pop() {
+        all.absorb(calls, pass);
+    }
+    all.total(calls)
+}
+
+/// Whether the outcome that the pass keeps stands at the place that it saw.
+fn stands<L: Ledger>(book: &Book, pass: &Pass<L>) -> bool
+    ensures { IsTrue result ↔ OutcomeStands book.now.journal pass.now.last pass.now.seen }
+{
+    let Some(last) = pass.last() else {
+        return true;
+    };
+    match book.entry(pass.seen()) {
+        Some(kept) => kept.has_outcome(last),
+        None => false,
+    }
+}
+
+/// The place that the first pass saw whose outcome doesn't stand there.
+fn first_mismatch<L: Ledger>(book: &Book, passes: &[Pass<L>]) -> Option<u64>
+    ensures all { IfNone result (OutcomesStand book.now.journal passes.now) }
+    ensures one { IfSome result (λ place. (k : ℕ) × (p : PassState) × (slice_get passes.now k ≡ Some p) × (p.seen ≡ place) × (OutcomeStands book.now.journal p.last p.seen → ⊥)) }
+{
+    for pass in passes {
+        if !stands(book, pass) {
+            return Some(pass.seen());
+        }
+    }
+    None
+}

@@ -1,0 +1,186 @@
+//! FETCH answers in few words.
+
+ghost use Rattle.std.specs.Prelude.{◌≡◌, ◌↔◌, IfSome, IsTrue};
+ghost use Rattle.std.specs.Option.{option_map};
+ghost use Rattle.replica_lock.specs.FetchAnswers.{answer_of, answer_with, flags_of, items_of, told_if_nonzero};
+
+use imap_answers::{Answer, FetchItems, Sections};
+use imap_types::Flags;
+
+/// The system flags of a message (RFC 9051, section 2.3.2).
+#[derive(Clone, Copy)]
+pub struct SystemFlags {
+    /// `\Answered`.
+    pub answered: bool,
+    /// `\Flagged`.
+    pub flagged: bool,
+    /// `\Deleted`.
+    pub deleted: bool,
+    /// `\Seen`.
+    pub seen: bool,
+    /// `\Draft`.
+    pub draft: bool,
+}
+
+/// What a FETCH answer tells of a message beside its text, where that is no more than its UID, its flags, of which none is a keyword, and its mod-sequence.
+#[derive(Clone, Copy)]
+pub struct FetchLine {
+    /// The message's number, from 1 on.
+    pub number: u32,
+    /// Its UID; 0 where none is told.
+    pub uid: u32,
+    /// Its mod-sequence; 0 where none is told.
+    pub modseq: u64,
+    /// Its flags, where they are told.
+    pub flags: Option<SystemFlags>,
+}
+
+impl SystemFlags {
+    /// These; `None` where there are keywords among them.
+    fn of(flags: &Flags) -> Option<SystemFlags>
+        ensures { IfSome result (λ system. flags_of system ≡ flags.now) }
+    {
+        if !flags.keywords.is_empty() {
+            return None;
+        }
+        Some(SystemFlags {
+            answered: flags.answered,
+            flagged: flags.flagged,
+            deleted: flags.deleted,
+            seen: flags.seen,
+            draft: flags.draft,
+        })
+    }
+
+    /// Whether these are all flags.
+    fn are(&self, flags: &Flags) -> bool
+        ensures { IsTrue result ↔ (flags_of self.now ≡ flags.now) }
+    {
+        self.answered == flags.answered
+            && self.flagged == flags.flagged
+            && self.deleted == flags.deleted
+            && self.seen == flags.seen
+            && self.draft == flags.draft
+            && flags.keywords.is_empty()
+    }
+}
+
+impl FetchLine {
+    /// The line that stands for an answer; `None` where none does.
+    pub(crate) fn of(answer: &Answer) -> Option<FetchLine>
+        ensures { IfSome result (λ line. answer_of line ≡ answer.now) }
+    {
+        let Answer::Fetch { number, items } = answer else {
+            return None;
+        };
+        if !items.sections.parts().is_empty() {
+            return None;
+        }
+        FetchLine::without_parts(*number, items)
+    }
+
+    /// The line that tells all of these items but the parts of the text; `None` where none does.
+    pub(crate) fn without_parts(number: u32, items: &FetchItems) -> Option<FetchLine>
+        ensures { IfSome result (λ line. (line.number ≡ number) × (items_of line items.now.sections ≡ items.now)) }
+    {
+        if items.date.is_some() || items.size.is_some() {
+            return None;
+        }
+        Some(FetchLine {
+            number,
+            uid: kept_uid(items.uid)?,
+            modseq: kept_modseq(items.modseq)?,
+            flags: kept_flags(&items.flags)?,
+        })
+    }
+
+    /// Whether it stands for this answer by itself.
+    pub(crate) fn stands_for(&self, answer: &Answer) -> bool
+        ensures { IsTrue result ↔ (answer_of self.now ≡ answer.now) }
+    {
+        match answer {
+            Answer::Fetch { number, items } => {
+                self.number == *number && self.agrees(items) && items.sections.parts().is_empty()
+            }
+            _ => false,
+        }
+    }
+
+    /// Whether it stands for this answer with these parts of the message's text.
+    pub(crate) fn stands_with(&self, sections: &Sections, answer: &Answer) -> bool
+        ensures { IsTrue result ↔ (answer_with sections.now self.now ≡ answer.now) }
+    {
+        match answer {
+            Answer::Fetch { number, items } => {
+                self.number == *number && self.agrees(items) && sections.same(&items.sections)
+            }
+            _ => false,
+        }
+    }
+
+    /// Whether it tells all of these items but the parts of the text.
+    pub(crate) fn agrees(&self, items: &FetchItems) -> bool
+        ensures { IsTrue result ↔ (items_of self.now items.now.sections ≡ items.now) }
+    {
+        uid_if_told(self.uid) == items.uid
+            && modseq_if_told(self.modseq) == items.modseq
+            && are_flags_told(&self.flags, &items.flags)
+            && items.date.is_none()
+            && items.size.is_none()
+    }
+}
+
+fn uid_if_told(uid: u32) -> Option<u32>
+    ensures { result ≡ told_if_nonzero uid }
+{
+    if uid == 0 { None } else { Some(uid) }
+}
+
+fn modseq_if_told(modseq: u64) -> Option<u64>
+    ensures { result ≡ told_if_nonzero modseq }
+{
+    if modseq == 0 { None } else { Some(modseq) }
+}
+
+/// What is kept of a UID; `None` where it is 0, which none is.
+fn kept_uid(uid: Option<u32>) -> Option<u32>
+    ensures { IfSome result (λ kept. told_if_nonzero kept ≡ uid) }
+{
+    match uid {
+        None => Some(0),
+        Some(0) => None,
+        Some(uid) => Some(uid),
+    }
+}
+
+/// What is kept of a mod-sequence; `None` where it is 0, which none is.
+fn kept_modseq(modseq: Option<u64>) -> Option<u64>
+    ensures { IfSome result (λ kept. told_if_nonzero kept ≡ modseq) }
+{
+    match modseq {
+        None => Some(0),
+        Some(0) => None,
+        Some(modseq) => Some(modseq),
+    }
+}
+
+/// What is kept of flags; `None` where there are keywords among them.
+fn kept_flags(flags: &Option<Flags>) -> Option<Option<SystemFlags>>
+    ensures { IfSome result (λ kept. option_map flags_of kept ≡ flags.now) }
+{
+    match flags {
+        None => Some(None),
+        Some(flags) => Some(Some(SystemFlags::of(flags)?)),
+    }
+}
+
+/// Whether these flags are told, all of them.
+fn are_flags_told(told: &Option<SystemFlags>, flags: &Option<Flags>) -> bool
+    ensures { IsTrue result ↔ (option_map flags_of told.now ≡ flags.now) }
+{
+    match (told, flags) {
+        (Some(told), Some(flags)) => told.are(flags),
+        (None, None) => true,
+        _ => false,
+    }
+}

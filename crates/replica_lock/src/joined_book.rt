@@ -1,0 +1,115 @@
+//! The book of a replica that joins, with another one's operations.
+
+ghost use Rattle.std.specs.Prelude.{◌≡◌, ◌∷◌, ◌++◌, [], IfErr, MatchResult, None, OnOk};
+ghost use Rattle.merge_laws.specs.Orders.{IsCausal, IsRipe};
+ghost use Rattle.imap_node.specs.Nodes.{first_numbers};
+ghost use Rattle.imap_node.specs.Operations.{clock_of, id_of};
+ghost use Rattle.replica_lock.specs.JoinedBook.{IsJoinFault, IsApplyFault, joined_book, applied_entry, join_fault_of, join_fault_of_arrival};
+ghost use Rattle.causal_inbox.specs.OwnIds.{IsLeastOwn};
+ghost use Rattle.uid_projection.specs.Exhaustion.{Exhausts};
+
+use crate::book::Book;
+use crate::event::BookEvent;
+use crate::faults::JoinFault;
+use crate::outcome::Outcome;
+use causal_inbox::{Arrival, DeliverFault, least_own};
+use crdt_ops::SoundOp;
+use imap_node::Node;
+use merge_laws::Caused;
+use std::alloc::Global;
+use tags_clocks::{OpId, ReplicaId};
+use uid_projection::Counters;
+
+impl Book {
+    /// The book of a new replica of this name to which these operations were delivered, in their order: an entry each. None of them bears its name, and its
+    /// UIDs count from 1. There is no book where one does, or where it can't apply them all: `Own` where one bears its name, the least such id, which is tested
+    /// first and takes no memory; `NotCausal` at the first that isn't ripe behind those in front of it; `Exhausted` where one of its counters has no number left
+    /// for one; `NoMemory`.
+    ///
+    /// It costs what the deliveries do, and keeps two copies of each operation: the replica's and the journal's.
+    pub fn join(alloc: Global, id: ReplicaId, ops: &[SoundOp]) -> Result<Book, JoinFault>
+        ensures { MatchResult result
+            (λ book. (book ≡ joined_book id ops.now) × IsLeastOwn id_of id ops.now None × IsCausal id_of clock_of ops.now × (¬ Exhausts (first_numbers id) [] ops.now))
+            (IsJoinFault id ops.now) }
+    {
+        if let Some(own) = least_own(id, ops) {
+            return Err(JoinFault::Own { id: own });
+        }
+        let start = Counters {
+            replica: id,
+            uid: 1,
+            k: 1,
+        };
+        let Ok(node) = Node::new(alloc, start) else {
+            return Err(JoinFault::NoMemory);
+        };
+        let mut book = Book::new(alloc, node);
+        if let Err(fault) = take_all(alloc, &mut book, ops) {
+            drop(book);
+            return Err(fault);
+        }
+        Ok(book)
+    }
+}
+
+/// Delivers the operations, one after another, to a replica that has received nothing. It ends with the first that isn't applied.
+fn take_all(alloc: Global, book: &mut Book, ops: &[SoundOp]) -> Result<(), JoinFault>
+    requires { book.old ≡ joined_book book.old.node.start.replica [] }
+    ensures ok { OnOk result ((book.new ≡ joined_book book.old.node.start.replica ops.now) × IsCausal id_of clock_of ops.now × (¬ Exhausts book.old.node.start [] ops.now)) }
+    ensures fault { IsLeastOwn id_of book.old.node.start.replica ops.now None → IfErr result (IsJoinFault book.old.node.start.replica ops.now) }
+{
+    for op in ops {
+        take(alloc, book, op)?;
+    }
+    Ok(())
+}
+
+/// Delivers a copy of an operation to a replica that holds nothing.
+fn take(alloc: Global, book: &mut Book, op: &SoundOp) -> Result<(), JoinFault>
+    requires { book.old.node.held ≡ [] }
+    ensures ok { OnOk result ((book.new ≡ record { node = record book.old.node { applied = book.old.node.applied ++ op.now ∷ [] }; journal = book.old.journal ++ applied_entry op.now ∷ [] })
+        × IsRipe id_of clock_of book.old.node.applied op.now × (¬ Exhausts book.old.node.start book.old.node.applied (op.now ∷ []))) }
+    ensures fault { IfErr result (IsApplyFault book.old.node op.now) }
+{
+    let id = op.id();
+    let Ok(op) = op.copy(alloc) else {
+        return Err(JoinFault::NoMemory);
+    };
+    let Ok(outcome) = book.step(alloc, BookEvent::Deliver { op }) else {
+        return Err(JoinFault::NoMemory);
+    };
+    let told = join_fault_of(id, &outcome);
+    drop(outcome);
+    told
+}
+
+/// What the outcome of a delivery says of the operation with this id.
+fn join_fault_of(id: OpId, outcome: &Outcome) -> Result<(), JoinFault>
+    ensures { result ≡ join_fault_of id outcome.now }
+{
+    match outcome {
+        Outcome::Delivered {
+            answer: Ok(receipt),
+        } => join_fault_of_arrival(id, &receipt.arrival),
+        Outcome::Delivered {
+            answer: Err(DeliverFault::Conflict { .. }),
+        } => Err(JoinFault::NotCausal { id }),
+        Outcome::Delivered {
+            answer: Err(DeliverFault::HeldFull),
+        } => Err(JoinFault::NotCausal { id }),
+        Outcome::Delivered {
+            answer: Err(DeliverFault::Exhausted),
+        } => Err(JoinFault::Exhausted),
+        _ => Err(JoinFault::NoMemory),
+    }
+}
+
+/// What its arrival says.
+fn join_fault_of_arrival(id: OpId, arrival: &Arrival) -> Result<(), JoinFault>
+    ensures { result ≡ join_fault_of_arrival id arrival.now }
+{
+    match arrival {
+        Arrival::Applied(_) => Ok(()),
+        _ => Err(JoinFault::NotCausal { id }),
+    }
+}

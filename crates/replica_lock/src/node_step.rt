@@ -1,0 +1,270 @@
+//! One event at a node, with what the journal keeps of it.
+
+ghost use Rattle.std.specs.Prelude.{◌≡◌, ◌↔◌, true, IfOk, IsOk, IsTrue, OnErr};
+ghost use Rattle.imap_node.specs.Sessions.{IsOpen};
+ghost use Rattle.imap_syntax.specs.declared.command.Command.TheVariants as commands;
+ghost use Rattle.replica_lock.specs.Steps.{Awaits, IsStep, TakesInput, ends_session, event_of};
+ghost use Rattle.replica_lock.specs.declared.event.BookEvent.TheVariants as events;
+ghost use Rattle.replica_lock.specs.declared.outcome.Outcome.TheVariants as outcomes;
+
+use crate::event::{BookEvent, event_of};
+use crate::faults::NoRoom;
+use crate::compact_entry::{PendingEntry, CompactEntry, is_done};
+use crate::outcome::Outcome;
+use crate::fetch_exchange::FetchExchange;
+use causal_inbox::{DeliverFault, Delivered};
+use crdt_ops::SoundOp;
+use imap_node::{Auth, Input, Node, OpenFault, Reply, SessionNo};
+use imap_syntax::{Command, Tagged};
+use imap_types::Moment;
+use merge_laws::Caused;
+use std::alloc::{AllocError, Global};
+
+/// An event that happened.
+#[derive(Drop)]
+pub struct StepResult {
+    /// What the journal keeps of it.
+    pub kept: CompactEntry,
+    /// What came of it.
+    pub outcome: Outcome,
+}
+
+/// Lets an event happen at a node. `Err` where there is no memory for what the journal keeps of it: the node is as it was then.
+/// The end of a session takes no memory.
+pub fn step_node(alloc: Global, node: &mut Node, event: BookEvent) -> Result<StepResult, NoRoom>
+    ensures kept { IfOk result (λ stepped. stepped.kept ≡ record { event = event; outcome = stepped.outcome }) }
+    ensures step { IfOk result (λ stepped. IsStep node.old.state event stepped.outcome node.new.state) }
+    ensures err { OnErr result (node.new.state ≡ node.old.state) }
+    ensures close { ends_session node.old.state event ≡ true → IsOk result }
+{
+    match event {
+        BookEvent::Open { auth } => open_step(alloc, node, auth),
+        BookEvent::Command {
+            session,
+            moment,
+            tagged,
+        } => input_step(alloc, node, session, Input::Command { moment, tagged }),
+        BookEvent::Line { session, line } => input_step(alloc, node, session, Input::Line { line }),
+        BookEvent::Poll { session } => input_step(alloc, node, session, Input::Poll),
+        BookEvent::Deliver { op } => deliver_step(alloc, node, op),
+        BookEvent::Drain => drain_step(alloc, node),
+        BookEvent::Close { session } => close_step(alloc, node, session),
+    }
+}
+
+/// Opens a session.
+fn open_step(alloc: Global, node: &mut Node, auth: Auth) -> Result<StepResult, NoRoom>
+    ensures kept { IfOk result (λ stepped. stepped.kept ≡ record { event = events.Open auth; outcome = stepped.outcome }) }
+    ensures step { IfOk result (λ stepped. IsStep node.old.state (events.Open auth) stepped.outcome node.new.state) }
+    ensures err { OnErr result (node.new.state ≡ node.old.state) }
+{
+    let Ok(kept) = copy_auth(alloc, &auth) else {
+        drop(auth);
+        return Err(NoRoom);
+    };
+    let Ok(begun) = PendingEntry::new(alloc, BookEvent::Open { auth: kept }) else {
+        drop(auth);
+        return Err(NoRoom);
+    };
+    let answer = node.open(auth);
+    Ok(StepResult {
+        kept: begun.finish(outcome_of_open(&answer)),
+        outcome: outcome_of_open(&answer),
+    })
+}
+
+fn outcome_of_open(answer: &Result<SessionNo, OpenFault>) -> Outcome
+    ensures { result ≡ outcomes.Opened answer.now }
+{
+    Outcome::Opened { answer: *answer }
+}
+
+/// Equal; `Err` where there is no memory for it.
+fn copy_auth(alloc: Global, auth: &Auth) -> Result<Auth, AllocError>
+    ensures { IfOk result (λ copied. copied ≡ auth.now) }
+{
+    Ok(match auth {
+        Auth::Preauth => Auth::Preauth,
+        Auth::Password { credentials } => Auth::Password {
+            credentials: credentials.copy(alloc)?,
+        },
+    })
+}
+
+/// Whether the session takes this input now.
+fn awaits(node: &Node, session: SessionNo, input: &Input) -> bool
+    ensures taken { IsTrue result ↔ Awaits node.now.state session input.now }
+    ensures there { IsTrue result → IsOpen node.now.state.sessions session }
+{
+    if !node.is_open(session) {
+        return false;
+    }
+    match input {
+        Input::Command { .. } => !node.is_idling(session),
+        _ => node.is_idling(session),
+    }
+}
+
+/// Gives a session an input, where it takes it.
+fn input_step(
+    alloc: Global,
+    node: &mut Node,
+    session: SessionNo,
+    input: Input,
+) -> Result<StepResult, NoRoom>
+    ensures kept { IfOk result (λ stepped. stepped.kept ≡ record { event = event_of session input; outcome = stepped.outcome }) }
+    ensures step { IfOk result (λ stepped. TakesInput node.old.state session input stepped.outcome node.new.state) }
+    ensures err { OnErr result (node.new.state ≡ node.old.state) }
+{
+    if !awaits(node, session, &input) {
+        return pass_over(alloc, event_of(session, input));
+    }
+    let plan = node.plan_for(alloc, session, &input);
+    let Ok(kept) = kept_of(alloc, session, input, plan.reply()) else {
+        drop(plan);
+        return Err(NoRoom);
+    };
+    let reply = node.commit(plan);
+    Ok(StepResult {
+        kept,
+        outcome: Outcome::Replied { reply },
+    })
+}
+
+/// What the journal keeps of an input of a session that is replied to so; `Err` where there is no memory for it.
+fn kept_of(
+    alloc: Global,
+    session: SessionNo,
+    input: Input,
+    reply: &Reply,
+) -> Result<CompactEntry, AllocError>
+    ensures { IfOk result (λ kept. kept ≡ record { event = event_of session input; outcome = outcomes.Replied reply.now }) }
+{
+    match input {
+        Input::Command { moment, tagged } => {
+            kept_of_command(alloc, session, moment, tagged, reply)
+        }
+        Input::Line { line } => whole_entry(alloc, BookEvent::Line { session, line }, reply),
+        Input::Poll => whole_entry(alloc, BookEvent::Poll { session }, reply),
+    }
+}
+
+/// The same of a command.
+fn kept_of_command(
+    alloc: Global,
+    session: SessionNo,
+    moment: Moment,
+    tagged: Tagged,
+    reply: &Reply,
+) -> Result<CompactEntry, AllocError>
+    ensures { IfOk result (λ kept. kept ≡ record { event = events.Command session moment tagged; outcome = outcomes.Replied reply.now }) }
+{
+    if is_noop(&tagged.command) && is_done(reply, &tagged.tag) {
+        let Tagged { tag, command } = tagged;
+        drop(command);
+        return Ok(CompactEntry::of_noop(session, moment, tag));
+    }
+    let tagged = match FetchExchange::from_reply(alloc, session, moment, tagged, reply) {
+        Ok(told) => return Ok(CompactEntry::of_exchange(told)),
+        Err(tagged) => tagged,
+    };
+    let event = BookEvent::Command {
+        session,
+        moment,
+        tagged,
+    };
+    whole_entry(alloc, event, reply)
+}
+
+/// Whether it is NOOP.
+fn is_noop(command: &Command) -> bool
+    ensures { IsTrue result ↔ (command.now ≡ commands.Noop) }
+{
+    match command {
+        Command::Noop => true,
+        _ => false,
+    }
+}
+
+/// The same of any event.
+fn whole_entry(alloc: Global, event: BookEvent, reply: &Reply) -> Result<CompactEntry, AllocError>
+    ensures { IfOk result (λ kept. kept ≡ record { event = event; outcome = outcomes.Replied reply.now }) }
+{
+    let begun = PendingEntry::new(alloc, event)?;
+    let reply = reply.copy()?;
+    Ok(begun.finish(Outcome::Replied { reply }))
+}
+
+/// An event that can't be. `Err` where there is no memory for what the journal keeps of it.
+fn pass_over(alloc: Global, event: BookEvent) -> Result<StepResult, NoRoom>
+    ensures kept { IfOk result (λ stepped. stepped.kept ≡ record { event = event; outcome = stepped.outcome }) }
+    ensures outcome { IfOk result (λ stepped. stepped.outcome ≡ outcomes.PassedOver) }
+{
+    let Ok(begun) = PendingEntry::new(alloc, event) else {
+        return Err(NoRoom);
+    };
+    Ok(StepResult {
+        kept: begun.finish(Outcome::PassedOver),
+        outcome: Outcome::PassedOver,
+    })
+}
+
+/// Delivers an operation.
+fn deliver_step(alloc: Global, node: &mut Node, op: SoundOp) -> Result<StepResult, NoRoom>
+    ensures kept { IfOk result (λ stepped. stepped.kept ≡ record { event = events.Deliver op; outcome = stepped.outcome }) }
+    ensures step { IfOk result (λ stepped. IsStep node.old.state (events.Deliver op) stepped.outcome node.new.state) }
+    ensures err { OnErr result (node.new.state ≡ node.old.state) }
+{
+    let Ok(kept) = op.copy(alloc) else {
+        drop(op);
+        return Err(NoRoom);
+    };
+    let Ok(begun) = PendingEntry::new(alloc, BookEvent::Deliver { op: kept }) else {
+        drop(op);
+        return Err(NoRoom);
+    };
+    let answer = node.deliver(alloc, op);
+    Ok(StepResult {
+        kept: begun.finish(outcome_of_delivery(&answer)),
+        outcome: outcome_of_delivery(&answer),
+    })
+}
+
+fn outcome_of_delivery(answer: &Result<Delivered, DeliverFault>) -> Outcome
+    ensures { result ≡ outcomes.Delivered answer.now }
+{
+    Outcome::Delivered { answer: *answer }
+}
+
+/// Goes on with held operations.
+fn drain_step(alloc: Global, node: &mut Node) -> Result<StepResult, NoRoom>
+    ensures kept { IfOk result (λ stepped. stepped.kept ≡ record { event = events.Drain; outcome = stepped.outcome }) }
+    ensures step { IfOk result (λ stepped. IsStep node.old.state events.Drain stepped.outcome node.new.state) }
+    ensures err { OnErr result (node.new.state ≡ node.old.state) }
+{
+    let Ok(begun) = PendingEntry::new(alloc, BookEvent::Drain) else {
+        return Err(NoRoom);
+    };
+    let drained = node.drain(alloc);
+    Ok(StepResult {
+        kept: begun.finish(Outcome::Drained { drained }),
+        outcome: Outcome::Drained { drained },
+    })
+}
+
+/// Closes a session, if it is open.
+fn close_step(alloc: Global, node: &mut Node, session: SessionNo) -> Result<StepResult, NoRoom>
+    ensures kept { IfOk result (λ stepped. stepped.kept ≡ record { event = events.Close session; outcome = stepped.outcome }) }
+    ensures step { IfOk result (λ stepped. IsStep node.old.state (events.Close session) stepped.outcome node.new.state) }
+    ensures err { OnErr result (node.new.state ≡ node.old.state) }
+    ensures close { ends_session node.old.state (events.Close session) ≡ true → IsOk result }
+{
+    if !node.is_open(session) {
+        return pass_over(alloc, BookEvent::Close { session });
+    }
+    node.close(session);
+    Ok(StepResult {
+        kept: CompactEntry::of_close(session),
+        outcome: Outcome::Closed,
+    })
+}

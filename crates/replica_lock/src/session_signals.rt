@@ -1,0 +1,53 @@
+//! What wakes those that wait for news of a session.
+
+use imap_node::{MAX_SESSIONS, Node, SessionNo};
+use std::alloc::Global;
+use std::sync::Condvar;
+
+/// A bell for each session, as far as there was memory for them, and one for all others.
+pub struct SessionSignals {
+    own: Vec<Condvar>,
+    common: Condvar,
+}
+
+// By hand, so that crates above let it go as a whole.
+impl Drop for SessionSignals {
+    fn drop(self) {
+        let Self { own: _, common: _ } = self;
+    }
+}
+
+impl SessionSignals {
+    /// Bells for all sessions that a replica can have, as far as there is memory.
+    pub fn new(alloc: Global) -> SessionSignals {
+        let mut own = Vec::new(alloc);
+        for _ in 0..MAX_SESSIONS {
+            if own.push(Condvar::new()).is_err() {
+                break;
+            }
+        }
+        SessionSignals {
+            own,
+            common: Condvar::new(),
+        }
+    }
+
+    /// The session's bell.
+    pub fn signal_of(&self, session: SessionNo) -> &Condvar {
+        match self.own.get(session.get() - 1) {
+            Some(bell) => bell,
+            None => &self.common,
+        }
+    }
+
+    /// Rings for each session that idles and may have something to be told, and for no other. It looks at each session's feed.
+    pub fn notify(&self, node: &Node) {
+        for number in 1..node.last_session() + 1 {
+            if let Some(session) = SessionNo::new(number) {
+                if node.is_idling(session) && node.may_be_behind(session) {
+                    self.signal_of(session).notify_all();
+                }
+            }
+        }
+    }
+}

@@ -1,0 +1,34 @@
+use Rattle.std.specs.Prelude.{Bool, true, false, List, length, Ok}
+use Rattle.std.specs.List.{filter}
+use Rattle.replica_lock.specs.Histories.{BookState}
+use Rattle.replica_lock.specs.declared.book.JournalEntry.{JournalEntry}
+use Rattle.replica_lock.specs.declared.event.BookEvent.{BookEvent}
+use Rattle.replica_lock.specs.declared.event.BookEvent.TheVariants.{Command}
+use Rattle.replica_lock.specs.declared.outcome.Outcome.{Outcome}
+use Rattle.replica_lock.specs.declared.outcome.Outcome.TheVariants.{Opened}
+use Rattle.server_runtime.specs.declared.totals.Totals.{Totals}
+
+-- A session was opened.
+abbrev pub opened_sessions : Outcome → Bool
+opened_sessions (Opened (Ok n)) = true
+opened_sessions _ = false
+
+abbrev pub has_opened : JournalEntry → Bool
+has_opened entry = opened_sessions entry.outcome
+
+-- A command came.
+abbrev pub commands : BookEvent → Bool
+commands (Command n moment tagged) = true
+commands _ = false
+
+abbrev pub is_command : JournalEntry → Bool
+is_command entry = commands entry.event
+
+-- What a replica served: how many sessions were opened, how many commands came, and how many operations and entries it has.
+abbrev pub totals_of : BookState → Totals
+totals_of book = record {
+  sessions = length (filter has_opened book.journal);
+  commands = length (filter is_command book.journal);
+  operations = length book.node.applied;
+  entries = length book.journal;
+}

@@ -1,0 +1,190 @@
+//! One connection.
+
+ghost use Rattle.std.specs.Prelude.{◌≡◌, ◌<◌};
+ghost use Rattle.imap_connection.specs.Conversing.{Talked};
+ghost use Rattle.server_runtime.specs.Calls.{OpensByCall, StepsByCall};
+
+use crate::feeder::feed;
+use crate::server_state::ServerState;
+use crate::shared_phase::SharedPhase;
+use crate::session_reader::SessionReader;
+use crate::session_port::SessionPort;
+use crate::socket::{SocketReader, SocketWriter};
+use imap_lex::Limits;
+use imap_connection::{Ended, Sink, Source, Wire, converse};
+use log::{Log, info};
+use replica_links::Gate;
+use replica_lock::{Pass, Shared};
+use std::alloc::Global;
+use std::io::{Read, Write};
+use std::net::{Shutdown, TcpStream};
+use std::rt::Clock;
+use std::sync::ledger::Ledger;
+use std::sync::{Mutex, Wait};
+use std::thread;
+use std::thread::Threads;
+use std::time::Duration;
+
+/// What all connections of a replica have in common.
+#[derive(Drop)]
+pub struct ReplicaContext<'a, L: Ledger> {
+    /// What the threads of the server share.
+    pub server: &'a ServerState<'a>,
+    /// The place of the replica's own link among all.
+    pub own: usize,
+    /// The replica.
+    pub shared: &'a Shared<L>,
+}
+
+/// A connection as its two threads see it.
+#[derive(Drop)]
+pub struct ConnectionContext<'a, L: Ledger> {
+    /// What all connections of the replica have in common.
+    pub context: &'a ReplicaContext<'a, L>,
+    /// The connection.
+    pub stream: &'a TcpStream,
+    /// The pass of its session.
+    pub pass: &'a Mutex<Pass<L>>,
+    /// What it is about.
+    pub shared_phase: &'a SharedPhase,
+}
+
+/// Holds the conversation with the client of a connection, takes leave of it, and gives its pass back. The gate is passed before each command, the
+/// first time with 1.
+pub fn connection_worker<
+    L: Ledger + Send + Sync,
+    R: Threads + Wait + Clock + Log + Sync,
+    G: Gate + Send,
+>(
+    rt: &R,
+    alloc: Global,
+    gate: &mut G,
+    context: &ReplicaContext<'_, L>,
+    stream: &TcpStream,
+    pass: Pass<L>,
+) -> Pass<L> {
+    let _ = stream.set_nodelay(true);
+    let pass = Mutex::new(pass);
+    let shared_phase = SharedPhase::new();
+    let ended = talk_and_feed(
+        rt,
+        alloc,
+        gate,
+        &ConnectionContext {
+            context: context,
+            stream,
+            pass: &pass,
+            shared_phase: &shared_phase,
+        },
+    );
+    tell_end(rt, ended);
+    if !is_gone(ended) {
+        drain_and_close(stream);
+    }
+    pass.into_inner()
+}
+
+/// Holds the conversation, and in a second thread tells the session while it idles, until both have ended.
+fn talk_and_feed<L: Ledger + Send + Sync, R: Threads + Wait + Clock + Log + Sync, G: Gate + Send>(
+    rt: &R,
+    alloc: Global,
+    gate: &mut G,
+    line: &ConnectionContext<'_, L>,
+) -> Ended {
+    let (ended, ()) = thread::join(
+        rt,
+        || talk(rt, alloc, gate, line),
+        || {
+            feed(
+                rt,
+                alloc,
+                line.context.shared,
+                line.pass,
+                line.shared_phase,
+                line.stream,
+            )
+        },
+    );
+    ended
+}
+
+fn talk<L: Ledger, R: Wait + Clock, G: Gate>(
+    rt: &R,
+    alloc: Global,
+    gate: &mut G,
+    line: &ConnectionContext<'_, L>,
+) -> Ended {
+    let mut port = SessionPort::new(rt, line.context, line.pass, line.shared_phase, gate);
+    let device = SocketReader::new(rt, line.stream);
+    let mut source = SessionReader::new(rt, line.shared_phase, line.pass, device);
+    let mut sink = Wire::new(SocketWriter::new(line.stream));
+    let ended = talk_over(rt, alloc, &mut source, &mut sink, &mut port);
+    drop(port);
+    line.shared_phase.end(rt);
+    ended
+}
+
+/// Holds a conversation as a session of a replica behind its lock, over any source of octets and any sink for them. The session is opened by one call of the replica for
+/// whom the server lets in; each command and each line of IDLE that the octets read spell is one call in the session that was opened, in their order, and so do their entries stand in the journal; and what is written is
+/// the greeting, the printed outcomes of these calls in that order, and the BYE that the end names, or, where a write failed, a beginning of it.
+pub fn talk_over<L: Ledger, R: Wait + Clock, G: Gate, S: Source, K: Sink>(
+    rt: &R,
+    alloc: Global,
+    source: &mut S,
+    sink: &mut K,
+    port: &mut SessionPort<'_, L, R, G>,
+) -> Ended
+    requires source { S.failures source.old < 18446744073709551615 }
+    requires sink { K.failures sink.old < 18446744073709551615 }
+    ensures { Talked (λ s r t. OpensByCall s.server.now.access s.at r t.at) (λ s call r t. StepsByCall s.at call r t.at) (λ s t. Unit {0}) port.old port.new Limits.STANDARD (S.left source.old) (S.left source.new) (S.is_ended source.new) (K.taken sink.old) (K.taken sink.new) result }
+{
+    converse(rt, alloc, source, sink, port)
+}
+
+fn tell_end<R: Log>(rt: &R, ended: Ended) {
+    info!(rt; "connection ended: {}", name_of(ended));
+}
+
+/// The name of an end, for the log.
+fn name_of(ended: Ended) -> &'static str {
+    match ended {
+        Ended::Logout => "logout",
+        Ended::PeerClosed => "closed by the client",
+        Ended::TooManySessions => "too many sessions",
+        Ended::Framing(_) => "bad framing",
+        Ended::ReadFailed => "read failed",
+        Ended::WriteFailed => "write failed",
+        Ended::NoMemory => "no memory",
+        Ended::Torn => "replica changed",
+    }
+}
+
+/// Whether the client is gone, so that it can't be told any more.
+fn is_gone(ended: Ended) -> bool {
+    matches!(
+        ended,
+        Ended::PeerClosed | Ended::ReadFailed | Ended::WriteFailed
+    )
+}
+
+/// Tells the client that no more comes, and drops what it still sends, up to 16 MiB and until it pauses for a second: a connection that is closed
+/// while something is unread is reset, which may take the last answers from the client (RFC 9293, section 3.6.1).
+fn drain_and_close(stream: &TcpStream) {
+    let _ = stream.set_nonblocking(false);
+    let _ = stream.shutdown(Shutdown::Write);
+    let _ = stream.set_read_timeout(Some(Duration::from_secs(1)));
+    let mut piece = [0u8; 4_096];
+    let mut reader = stream;
+    for _ in 0..4_096u32 {
+        match reader.read(&mut piece) {
+            Ok(0) | Err(_) => return,
+            Ok(_) => {}
+        }
+    }
+}
+
+/// Turns a client away for whom no pass is to be had.
+pub fn refuse_connection(stream: &TcpStream) {
+    let mut writer = stream;
+    let _ = writer.write_all(b"* BYE too many sessions\r\n");
+}

@@ -1,0 +1,133 @@
+//! The thread that tells an idling session what changed (RFC 2177, section 3).
+
+ghost use Rattle.std.specs.Prelude.{◌≡◌, IfOk};
+ghost use Rattle.std.specs.List.{flat_map};
+ghost use Rattle.std.specs.Option.{option_map};
+ghost use Rattle.imap_answers.specs.Printed.{text_of_answer as printed_answer};
+ghost use Rattle.server_runtime.specs.Calls.{text_of_poll};
+
+use crate::shared_phase::SharedPhase;
+use crate::socket::SocketWriter;
+use imap_answers::Answer;
+use imap_node::Reply;
+use imap_print::print;
+use replica_lock::{CallFault, Outcome, Pass, Shared};
+use std::alloc::{AllocError, Global};
+use std::io::Write;
+use std::net::{Shutdown, TcpStream};
+use std::sync::ledger::Ledger;
+use std::sync::{Mutex, Wait};
+
+/// Tells the session of a connection, while it idles, what others did, until the connection ends. It wakes where the session's own feed has something to tell,
+/// and at the end of its connection, and else costs nobody anything. Each poll is written whole; where that fails, the connection is shut down.
+pub fn feed<L: Ledger, R: Wait>(
+    rt: &R,
+    alloc: Global,
+    shared: &Shared<L>,
+    pass: &Mutex<Pass<L>>,
+    shared_phase: &SharedPhase,
+    stream: &TcpStream,
+) {
+    let mut looked = 0;
+    for _ in rt.forever() {
+        if !shared_phase.await_idling(rt) {
+            return;
+        }
+        let Some(session) = pass.lock(rt).session() else {
+            return;
+        };
+        let Some(now) = shared.wait_session_change(rt, session, looked) else {
+            return;
+        };
+        if !shared_phase.await_idling(rt) {
+            return;
+        }
+        match poll_and_write(rt, alloc, shared, pass, shared_phase, stream) {
+            PollOutcome::Done => looked = now,
+            PollOutcome::Busy => {}
+            PollOutcome::Failed => {
+                let _ = stream.shutdown(Shutdown::Both);
+                return;
+            }
+        }
+    }
+}
+
+/// What became of telling an idling session what changed.
+#[derive(Clone, Copy, Debug, PartialEq, Eq)]
+enum PollOutcome {
+    /// It was told, or there was nothing to tell.
+    Done,
+    /// The connection's thread was at work, and nothing was told.
+    Busy,
+    /// It can't be told.
+    Failed,
+}
+
+/// Polls the session, if it still idles and its connection's thread still waits for the client, and writes the answers.
+fn poll_and_write<L: Ledger, R: Wait>(
+    rt: &R,
+    alloc: Global,
+    shared: &Shared<L>,
+    pass: &Mutex<Pass<L>>,
+    shared_phase: &SharedPhase,
+    stream: &TcpStream,
+) -> PollOutcome {
+    let phase = shared_phase.phase.lock(rt);
+    if !phase.reads || !phase.idles {
+        return PollOutcome::Busy;
+    }
+    let told = match poll_text(rt, alloc, shared, pass) {
+        Some(text) => write_all(stream, &text),
+        None => false,
+    };
+    drop(phase);
+    if told { PollOutcome::Done } else { PollOutcome::Failed }
+}
+
+fn write_all(stream: &TcpStream, text: &[u8]) -> bool {
+    text.is_empty() || SocketWriter::new(stream).write_all(text).is_ok()
+}
+
+/// The text of a poll's answers, none where it is refused; `None` where the answers can't be told.
+fn poll_text<L: Ledger, R: Wait>(
+    rt: &R,
+    alloc: Global,
+    shared: &Shared<L>,
+    pass: &Mutex<Pass<L>>,
+) -> Option<Vec<u8>> {
+    let mut pass = pass.lock(rt);
+    if pass.session().is_none() {
+        return Some(Vec::new(alloc));
+    }
+    match shared.poll(rt, alloc, &mut pass) {
+        Ok(()) => text_of_outcome(alloc, pass.last()).ok(),
+        Err(CallFault::NoRoom) => Some(Vec::new(alloc)),
+        Err(CallFault::Torn { .. }) => None,
+    }
+}
+
+/// The text of the answers to a poll with this outcome.
+fn text_of_outcome(alloc: Global, last: Option<&Outcome>) -> Result<Vec<u8>, AllocError>
+    ensures { IfOk result (λ text. text.items ≡ text_of_poll (option_map (λ o. o.now) last.entry)) }
+{
+    match last {
+        Some(
+            Outcome::Replied {
+                reply: Reply::Done { answers, .. },
+            },
+        ) => text_of_answers(alloc, answers.as_slice()),
+        _ => Ok(Vec::new(alloc)),
+    }
+}
+
+/// The text of answers, one behind the other.
+fn text_of_answers(alloc: Global, answers: &[Answer]) -> Result<Vec<u8>, AllocError>
+    ensures { IfOk result (λ text. text.items ≡ flat_map printed_answer answers.now) }
+{
+    let mut text = Vec::new(alloc);
+    for answer in answers {
+        print(answer, &mut text)?;
+    }
+    Ok(text)
+}

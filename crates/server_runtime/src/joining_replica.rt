@@ -1,0 +1,170 @@
+//! Replicas that join while the server runs.
+
+use crate::server_state::ServerState;
+use crate::replica_handle::{CopyRequest, others};
+use crdt_ops::SoundOp;
+use crossbeam_channel::{Receiver, Sender, unbounded};
+use replica_lock::{Book, Pass, Shared};
+use server_settings::{Join, Place};
+use std::alloc::Global;
+use std::fmt;
+use std::net::{Net, TcpListener, TcpStream};
+use std::rt::Clock;
+use std::sync::Wait;
+use std::sync::ledger::Ledger;
+use std::time::Duration;
+use tags_clocks::ReplicaId;
+
+/// A replica that is to join.
+#[derive(Drop)]
+pub struct JoiningReplica<'a> {
+    /// Its name, where it is to listen, and whose operations it takes.
+    pub join: Join<'a>,
+    /// The place of that replica among all.
+    pub peer: usize,
+    /// Comes when it is to join.
+    pub begin: Receiver<()>,
+    /// Takes word that it joined, or couldn't.
+    pub done: Sender<()>,
+}
+
+/// A replica that is there: its book, where it listens, and the places of the others.
+#[derive(Drop)]
+pub struct JoinedReplica {
+    /// Its book.
+    pub book: Book,
+    /// Where it listens.
+    pub listener: TcpListener,
+    /// The places of the others.
+    pub peers: Vec<usize>,
+}
+
+/// What became of a replica that was to join; as a text, what the program prints of it.
+#[derive(Clone, Copy, Debug, PartialEq, Eq)]
+pub enum JoinEnd<'a> {
+    /// It joined, and listens.
+    Joined(Join<'a>),
+    /// It couldn't.
+    Failed(Join<'a>),
+}
+
+impl fmt::Display for JoinEnd<'_> {
+    fn fmt<W: fmt::Write>(&self, f: &mut fmt::Formatter<W>) -> fmt::Result {
+        match self {
+            JoinEnd::Joined(Join { place, peer }) => {
+                let Place { replica, address } = place;
+                write!(f, "joined {replica} {peer}\nlistening {replica} {address}")
+            }
+            JoinEnd::Failed(Join { place, peer }) => {
+                let Place { replica, .. } = place;
+                write!(f, "cannot join {replica} {peer}")
+            }
+        }
+    }
+}
+
+impl JoiningReplica<'_> {
+    /// Waits until it is told to join, and does: it listens, takes what its peer applied, and is there for the others from then on. It tells that it did, or that it
+    /// couldn't; `None` then.
+    pub fn join<R: Print + Wait + Clock + Net<Listener = TcpListener, Stream = TcpStream>>(
+        &self,
+        rt: &R,
+        alloc: Global,
+        server: &ServerState<'_>,
+        replica: ReplicaId,
+        own: usize,
+    ) -> Option<JoinedReplica> {
+        self.begin.recv(rt).ok()?;
+        let joined = self.try_join(rt, alloc, server, replica, own);
+        let end = match joined {
+            Some(_) => JoinEnd::Joined(self.join),
+            None => JoinEnd::Failed(self.join),
+        };
+        let _ = println!(rt; "{end}");
+        let _ = self.done.send(rt, ());
+        joined
+    }
+
+    fn try_join<R: Wait + Clock + Net<Listener = TcpListener, Stream = TcpStream>>(
+        &self,
+        rt: &R,
+        alloc: Global,
+        server: &ServerState<'_>,
+        replica: ReplicaId,
+        own: usize,
+    ) -> Option<JoinedReplica> {
+        let handle = server.replicas.get(own)?;
+        let peers = others(alloc, server.replicas.len(), own).ok()?;
+        let Ok(listener) = TcpListener::bind(rt, self.join.place.address) else {
+            drop(peers);
+            return None;
+        };
+        let Ok(address) = listener.local_addr() else {
+            drop(peers);
+            drop(listener);
+            return None;
+        };
+        let Some(book) = book_with(rt, alloc, server, replica, self.peer) else {
+            drop(peers);
+            drop(listener);
+            return None;
+        };
+        handle.open(rt, address);
+        Some(JoinedReplica {
+            book,
+            listener,
+            peers,
+        })
+    }
+}
+
+/// The book of a replica that joins with what the one at a place applied; `None` where it gets no copies, or they don't let it join.
+fn book_with<R: Wait + Clock>(
+    rt: &R,
+    alloc: Global,
+    server: &ServerState<'_>,
+    replica: ReplicaId,
+    peer: usize,
+) -> Option<Book> {
+    let ops = copies_at(rt, alloc, server, peer)?;
+    let book = Book::join(alloc, replica, &ops);
+    drop(ops);
+    book.ok()
+}
+
+/// Copies of what the replica at a place applied; `None` where it isn't there, has no memory for them, or doesn't answer for a minute.
+fn copies_at<R: Wait + Clock>(
+    rt: &R,
+    alloc: Global,
+    server: &ServerState<'_>,
+    place: usize,
+) -> Option<Vec<SoundOp>> {
+    let handle = server.replicas.get(place)?;
+    if !handle.is_open(rt) {
+        return None;
+    }
+    let (reply, copies) = unbounded(alloc).ok()?;
+    handle.orders.send(rt, CopyRequest::Copy(reply)).ok()?;
+    copies.recv_timeout(rt, Duration::from_secs(60)).ok()?
+}
+
+/// Lends copies of what a replica applied to whoever orders them, until it is told to end, and gives the pass back.
+pub fn lend_copies<L: Ledger, R: Wait>(
+    rt: &R,
+    alloc: Global,
+    shared: &Shared<L>,
+    pass: Pass<L>,
+    orders: &Receiver<CopyRequest>,
+) -> Pass<L> {
+    for _ in rt.forever() {
+        match orders.recv(rt) {
+            Ok(CopyRequest::Copy(reply)) => {
+                let copies = shared.ops_copy(rt, alloc, &pass).ok();
+                let _ = reply.send(rt, copies);
+            }
+            Ok(CopyRequest::Stop) => return pass,
+            Err(_) => return pass,
+        }
+    }
+    pass
+}

@@ -1,0 +1,283 @@
+//! The program's way from its command line to its status.
+
+use crate::server_state::{ServerState, StopCounter};
+use crate::joining_replica::JoiningReplica;
+use crate::replica_threads::{StartMode, ReplicaSetup, serve};
+use crate::replica_handle::{JoinSignal, CopyRequest, JoiningReplicas, ReplicaHandle};
+use crossbeam_channel::{Receiver, Sender, unbounded};
+use log::{Log, error};
+use replica_links::PeerMsg;
+use server_settings::{CommandLine, Join, Place, listen_at, settings_or_status, tell_fault};
+use std::alloc::{AllocError, AllocFailed, Global};
+use std::net::{Net, SocketAddr, TcpListener, TcpStream};
+use std::rt::{Clock, Env};
+use std::sync::{Mutex, Wait};
+use std::thread::Threads;
+use std::{env, io};
+use tags_clocks::ReplicaId;
+
+/// How many octets there are in the block by which the C library's thresholds are raised: a little less than 32 MiB.
+const LARGEST_BLOCK: usize = 33_000_000;
+
+/// Why the server doesn't run; as a text, what the log says of it.
+#[derive(Debug, Drop, thiserror::Error)]
+pub enum RunFault {
+    /// An address can't be listened at, and this was told.
+    #[error("an address can't be listened at")]
+    Told,
+    /// There was no memory for it.
+    #[error("there is no memory for it")]
+    NoMemory,
+    /// An address or the standard output failed.
+    #[error("{0}")]
+    Device(io::Error),
+    /// A replica or its peer isn't among those that were read.
+    #[error("a replica has no number or no peer")]
+    Unnamed,
+    /// A replica that ran didn't hand its journal out.
+    #[error("a replica's journal was not handed out")]
+    Unfinished,
+}
+
+impl From<AllocError> for RunFault {
+    fn from(_none: AllocError) -> RunFault {
+        RunFault::NoMemory
+    }
+}
+
+impl<T: Drop> From<AllocFailed<T>> for RunFault {
+    fn from(_none: AllocFailed<T>) -> RunFault {
+        RunFault::NoMemory
+    }
+}
+
+impl From<io::Error> for RunFault {
+    fn from(why: io::Error) -> RunFault {
+        RunFault::Device(why)
+    }
+}
+
+/// Reads the command line and runs the server, and gives the program's status: 0 where the server stopped or help was asked for, 1 where it
+/// can't run, 2 where the words ask for nothing.
+pub fn run<
+    R: Env
+        + Print
+        + AllocGlobal
+        + Threads
+        + Wait
+        + Clock
+        + Log
+        + Sync
+        + Net<Listener = TcpListener, Stream = TcpStream>,
+>(rt: &R) -> u8 {
+    match words(rt) {
+        Ok(words) => obey(rt, &words),
+        Err(_) => tell_fault(rt),
+    }
+}
+
+fn words<R: Env + AllocGlobal>(rt: &R) -> io::Result<Vec<String>> {
+    let words = env::args(rt)?.collect(rt.alloc())?;
+    Ok(words)
+}
+
+fn obey<
+    R: Print
+        + AllocGlobal
+        + Threads
+        + Wait
+        + Clock
+        + Log
+        + Sync
+        + Net<Listener = TcpListener, Stream = TcpStream>,
+>(rt: &R, words: &[String]) -> u8 {
+    let settings = match settings_or_status(rt, words) {
+        Ok(settings) => settings,
+        Err(status) => return status,
+    };
+    match run_as(rt, rt.alloc(), &settings) {
+        Ok(()) => 0,
+        Err(RunFault::Told) => 1,
+        Err(why) => {
+            error!(rt; "the server can't run: {why}");
+            tell_fault(rt)
+        }
+    }
+}
+
+/// Listens at the addresses, in their order, and serves until the server stops.
+fn run_as<
+    R: Print
+        + AllocGlobal
+        + Threads
+        + Wait
+        + Clock
+        + Log
+        + Sync
+        + Net<Listener = TcpListener, Stream = TcpStream>,
+>(rt: &R, alloc: Global, settings: &CommandLine<'_>) -> Result<(), RunFault> {
+    let (server, parts) = open_all(rt, alloc, settings)?;
+    raise_memory_thresholds(alloc);
+    if settings.stop_after != Some(0) && !serve(rt, alloc, &server, parts) {
+        return Err(RunFault::Unfinished);
+    }
+    println!(rt; "stopped")?;
+    Ok(())
+}
+
+/// Takes a large block of memory and gives it back. The C library then takes blocks of up to its size from memory that it keeps, and gives memory
+/// back to the system only where there is twice as much of it (mallopt(3): both thresholds follow the largest block that was given back, up
+/// to 32 MiB). Else each FETCH of many messages pays once more for the pages of its answers. Where there is no such block, all goes on without.
+fn raise_memory_thresholds(alloc: Global) {
+    if let Ok(block) = Vec::<u8>::with_capacity(alloc, LARGEST_BLOCK) {
+        drop(block);
+    }
+}
+
+/// What is made of the replicas while their addresses are gone through.
+#[derive(Drop)]
+struct Opened<'a> {
+    /// How the others reach each.
+    replicas: Vec<ReplicaHandle>,
+    /// Their parts.
+    parts: Vec<ReplicaSetup<'a>>,
+    /// How those are called that are to join.
+    calls: Vec<JoinSignal>,
+}
+
+/// Listens at the addresses, in their order: what the threads of the server will share, and the parts of the replicas.
+pub fn open_all<'a, R: Print + Log + Net<Listener = TcpListener, Stream = TcpStream>>(
+    rt: &R,
+    alloc: Global,
+    settings: &CommandLine<'a>,
+) -> Result<(ServerState<'a>, Vec<ReplicaSetup<'a>>), RunFault> {
+    let mut opened = Opened {
+        replicas: Vec::new(alloc),
+        parts: Vec::new(alloc),
+        calls: Vec::new(alloc),
+    };
+    if let Err(fault) = open_each(rt, alloc, settings, &mut opened) {
+        drop(opened);
+        return Err(fault);
+    }
+    let Opened {
+        replicas: stations,
+        parts,
+        calls,
+    } = opened;
+    let server = ServerState {
+        access: settings.access,
+        replicas: stations,
+        joining: JoiningReplicas::new(calls),
+        stop: StopCounter::after(settings.stop_after),
+    };
+    Ok((server, parts))
+}
+
+fn open_each<'a, R: Print + Log + Net<Listener = TcpListener, Stream = TcpStream>>(
+    rt: &R,
+    alloc: Global,
+    settings: &CommandLine<'a>,
+    opened: &mut Opened<'a>,
+) -> Result<(), RunFault> {
+    for place in settings.places.iter() {
+        open_place(rt, alloc, place, opened)?;
+    }
+    for join in settings.joins.iter() {
+        await_join(alloc, settings, join, opened)?;
+    }
+    Ok(())
+}
+
+/// Listens at a replica's address, and tells so.
+fn open_place<R: Print + Log + Net<Listener = TcpListener, Stream = TcpStream>>(
+    rt: &R,
+    alloc: Global,
+    place: &Place<'_>,
+    opened: &mut Opened<'_>,
+) -> Result<(), RunFault> {
+    let Some((listener, address)) = listen_at(rt, place)? else {
+        return Err(RunFault::Told);
+    };
+    let beginning = StartMode::Listening(listener);
+    add_setup(alloc, place.replica, beginning, Some(address), opened)
+}
+
+/// A replica that is to join, and how it is called.
+fn await_join<'a>(
+    alloc: Global,
+    settings: &CommandLine<'a>,
+    join: &Join<'a>,
+    opened: &mut Opened<'a>,
+) -> Result<(), RunFault> {
+    let Some(peer) = settings.place_of_name(join.peer) else {
+        return Err(RunFault::Unnamed);
+    };
+    let (begin, done) = add_join_signal(alloc, &mut opened.calls)?;
+    let joiner = JoiningReplica {
+        join: *join,
+        peer,
+        begin,
+        done,
+    };
+    let beginning = StartMode::Joining(joiner);
+    add_setup(alloc, join.place.replica, beginning, None, opened)
+}
+
+/// Adds a way to call a replica that is to join, and gives the replica's ends of it.
+fn add_join_signal(alloc: Global, calls: &mut Vec<JoinSignal>) -> Result<(Receiver<()>, Sender<()>), RunFault> {
+    let (begin, begins) = unbounded(alloc)?;
+    let (ends, done) = unbounded(alloc)?;
+    calls.push(JoinSignal { begin, done })?;
+    Ok((begins, ends))
+}
+
+/// Adds one replica's parts, with its place among all.
+fn add_setup<'a>(
+    alloc: Global,
+    name: u16,
+    beginning: StartMode<'a>,
+    address: Option<SocketAddr>,
+    opened: &mut Opened<'a>,
+) -> Result<(), RunFault> {
+    let Some(replica) = ReplicaId::new(u32::from(name)) else {
+        drop(beginning);
+        return Err(RunFault::Unnamed);
+    };
+    let own = opened.replicas.len();
+    let (letters, orders) = match add_replica(alloc, address, &mut opened.replicas) {
+        Ok(ends) => ends,
+        Err(fault) => {
+            drop(beginning);
+            return Err(fault);
+        }
+    };
+    let part = ReplicaSetup {
+        replica,
+        own,
+        letters,
+        orders,
+        beginning,
+    };
+    match opened.parts.push(part) {
+        Ok(()) => Ok(()),
+        Err(_) => Err(RunFault::NoMemory),
+    }
+}
+
+/// Adds a replica as the others reach it, and gives the ends at which it hears them.
+fn add_replica(
+    alloc: Global,
+    address: Option<SocketAddr>,
+    stations: &mut Vec<ReplicaHandle>,
+) -> Result<(Receiver<PeerMsg>, Receiver<CopyRequest>), RunFault> {
+    let (link, letters) = unbounded(alloc)?;
+    let (orders, copies) = unbounded(alloc)?;
+    stations.push(ReplicaHandle {
+        link,
+        orders,
+        address: Mutex::new(address),
+        order: Mutex::new(()),
+    })?;
+    Ok((letters, copies))
+}

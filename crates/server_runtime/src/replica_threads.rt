@@ -1,0 +1,448 @@
+//! Replicas that listen.
+
+ghost use Rattle.std.specs.Prelude.{◌≡◌};
+
+use crate::connection_threads::{ReplicaContext, connection_worker, refuse_connection};
+use crate::server_state::ServerState;
+use crate::joining_replica::{JoinedReplica, JoiningReplica, lend_copies};
+use crate::peer_sender::PeerSender;
+use crate::replica_handle::{CopyRequest, others};
+use crate::totals::{Totals, totals_of};
+use crossbeam_channel::Receiver;
+use imap_node::Node;
+use log::{Log, info};
+use replica_links::{Gate, LinkInput, PeerMsg, ReplicaTaker, link_worker};
+use replica_lock::{Book, Pass, Shared};
+use std::alloc::{AllocError, Global};
+use std::marker::Brand;
+use std::net::{Net, TcpListener, TcpStream};
+use std::rt::Clock;
+use std::sync::ledger::{Blank, Ledger};
+use std::sync::{Mutex, Wait};
+use std::thread;
+use std::thread::Threads;
+use std::time::Duration;
+use tags_clocks::ReplicaId;
+use uid_projection::Counters;
+
+/// How a replica begins.
+#[derive(Drop)]
+pub enum StartMode<'a> {
+    /// It listens, and has received nothing.
+    Listening(TcpListener),
+    /// It joins once it is told to.
+    Joining(JoiningReplica<'a>),
+}
+
+/// One replica's parts.
+#[derive(Drop)]
+pub struct ReplicaSetup<'a> {
+    /// Its name.
+    pub replica: ReplicaId,
+    /// Its place among all.
+    pub own: usize,
+    /// What comes from the other replicas.
+    pub letters: Receiver<PeerMsg>,
+    /// What is ordered of copies of what it applied.
+    pub orders: Receiver<CopyRequest>,
+    /// How it begins.
+    pub beginning: StartMode<'a>,
+}
+
+/// One replica's parts, until its thread takes them.
+#[derive(Drop)]
+struct SetupSlot<'a> {
+    part: Mutex<Option<ReplicaSetup<'a>>>,
+}
+
+impl<'a> SetupSlot<'a> {
+    /// The parts; `None` where they were taken.
+    fn take<R: Wait>(&self, rt: &R) -> Option<ReplicaSetup<'a>> {
+        self.part.lock(rt).take()
+    }
+}
+
+/// What a replica that runs hears, and whom it asks.
+#[derive(Drop)]
+pub struct ReplicaInputs {
+    /// Its place among all.
+    pub own: usize,
+    /// Where it listens.
+    pub listener: TcpListener,
+    /// What comes from the other replicas.
+    pub letters: Receiver<PeerMsg>,
+    /// What is ordered of copies of what it applied.
+    pub orders: Receiver<CopyRequest>,
+    /// The places of the others.
+    pub peers: Vec<usize>,
+    /// Whether it asks them at once for what it lacks.
+    pub asks: bool,
+}
+
+/// A replica as the threads that serve it see it.
+#[derive(Drop)]
+pub struct ServedReplica<'a, L: Ledger> {
+    /// What all its connections have in common.
+    pub context: &'a ReplicaContext<'a, L>,
+    /// What it hears, and whom it asks.
+    pub ends: &'a ReplicaInputs,
+    /// Takes the passes of connections that ended.
+    pub back: &'a Mutex<Vec<Pass<L>>>,
+}
+
+/// A connection that is to be served.
+#[derive(Drop)]
+pub struct AcceptedConnection<L: Ledger, G> {
+    /// The connection.
+    pub stream: TcpStream,
+    /// What is passed before each command of it.
+    pub gate: G,
+    /// The pass of its session.
+    pub pass: Pass<L>,
+}
+
+/// A gate that is open.
+#[derive(Drop)]
+pub struct OpenGate;
+
+impl Gate for OpenGate {
+    fn pass(&mut self, _n: u64) {}
+}
+
+/// Runs all replicas, each in a thread of its own, until the server stops. True where each that ran handed its whole journal out.
+pub fn serve<
+    R: Threads
+        + Wait
+        + Clock
+        + Log
+        + Print
+        + Sync
+        + Net<Listener = TcpListener, Stream = TcpStream>,
+>(rt: &R, alloc: Global, server: &ServerState<'_>, parts: Vec<ReplicaSetup<'_>>) -> bool {
+    let Ok((rooms, places)) = rooms_of(alloc, parts) else {
+        return false;
+    };
+    let rooms = rooms.as_slice();
+    match thread::map_vec(rt, places, &|place| run_at(rt, alloc, server, rooms, place)) {
+        Ok(ends) => ends.iter().all(|end| *end),
+        Err(_) => false,
+    }
+}
+
+/// The parts, each in a room from which its thread takes it, and the places of the rooms.
+fn rooms_of<'a>(
+    alloc: Global,
+    parts: Vec<ReplicaSetup<'a>>,
+) -> Result<(Vec<SetupSlot<'a>>, Vec<usize>), AllocError> {
+    let mut rooms = Vec::new(alloc);
+    let mut places = Vec::new(alloc);
+    for part in parts {
+        places.push(rooms.len())?;
+        rooms.push(SetupSlot {
+            part: Mutex::new(Some(part)),
+        })?;
+    }
+    Ok((rooms, places))
+}
+
+/// Runs the replica whose parts are in this room.
+fn run_at<
+    R: Threads
+        + Wait
+        + Clock
+        + Log
+        + Print
+        + Sync
+        + Net<Listener = TcpListener, Stream = TcpStream>,
+>(rt: &R, alloc: Global, server: &ServerState<'_>, rooms: &[SetupSlot<'_>], place: usize) -> bool {
+    let Some(room) = rooms.get(place) else {
+        return false;
+    };
+    match room.take(rt) {
+        Some(part) => run_part(rt, alloc, server, part),
+        None => false,
+    }
+}
+
+/// Runs a replica in a call of its own, so that its ledger has a name of its own. True also where one that was to join couldn't.
+fn run_part<
+    R: Threads
+        + Wait
+        + Clock
+        + Log
+        + Print
+        + Sync
+        + Net<Listener = TcpListener, Stream = TcpStream>,
+>(rt: &R, alloc: Global, server: &ServerState<'_>, part: ReplicaSetup<'_>) -> bool {
+    let ReplicaSetup {
+        replica,
+        own,
+        letters,
+        orders,
+        beginning,
+    } = part;
+    let (begun, asks) = match beginning {
+        StartMode::Listening(listener) => (start_listening(alloc, server, replica, own, listener), false),
+        StartMode::Joining(joiner) => match joiner.join(rt, alloc, server, replica, own) {
+            Some(joined) => (Some(joined), true),
+            None => return true,
+        },
+    };
+    let Some(
+        JoinedReplica {
+            book,
+            listener,
+            peers,
+        },
+    ) = begun
+    else {
+        return false;
+    };
+    let ends = ReplicaInputs {
+        own,
+        listener,
+        letters,
+        orders,
+        peers,
+        asks,
+    };
+    run_replica::<Brand, R>(rt, alloc, Blank::new(4_294_967_295), server, book, ends)
+}
+
+/// A new replica that listens; `None` where there is no memory for it.
+fn start_listening(
+    alloc: Global,
+    server: &ServerState<'_>,
+    replica: ReplicaId,
+    own: usize,
+    listener: TcpListener,
+) -> Option<JoinedReplica> {
+    let Ok(peers) = others(alloc, server.replicas.len(), own) else {
+        drop(listener);
+        return None;
+    };
+    let Some(book) = new_book(alloc, replica) else {
+        drop(peers);
+        drop(listener);
+        return None;
+    };
+    Some(JoinedReplica {
+        book,
+        listener,
+        peers,
+    })
+}
+
+/// A replica that has received nothing, whose UIDs count from 1.
+fn new_book(alloc: Global, replica: ReplicaId) -> Option<Book> {
+    let start = Counters {
+        replica,
+        uid: 1,
+        k: 1,
+    };
+    match Node::new(alloc, start) {
+        Ok(node) => Some(Book::new(alloc, node)),
+        Err(_) => None,
+    }
+}
+
+fn run_replica<
+    L: Ledger + Send + Sync,
+    R: Threads + Wait + Clock + Log + Sync + Net<Listener = TcpListener, Stream = TcpStream>,
+>(rt: &R, alloc: Global, blank: Blank, server: &ServerState<'_>, book: Book, ends: ReplicaInputs) -> bool
+    requires { (blank.name ≡ L.name) × (blank.parts ≡ L.parts) × (L.parts ≡ 4294967295) }
+{
+    let (shared, first) = Shared::<L>::new(blank, book);
+    let context = ReplicaContext {
+        server: server,
+        own: ends.own,
+        shared: &shared,
+    };
+    let back = Mutex::new(Vec::new(alloc));
+    let first = serve_listener(
+        rt,
+        alloc,
+        first,
+        &ServedReplica {
+            context: &context,
+            ends: &ends,
+            back: &back,
+        },
+    );
+    let mut passes = back.into_inner();
+    if passes.push(first).is_err() {
+        return false;
+    }
+    match shared.finish(passes) {
+        Ok(book) => {
+            tell_totals(rt, &book);
+            true
+        }
+        Err(_) => false,
+    }
+}
+
+/// Tells by the log what a replica served.
+fn tell_totals<R: Log>(rt: &R, book: &Book) {
+    let Totals {
+        sessions,
+        commands,
+        operations,
+        entries,
+    } = totals_of(book);
+    let replica = book.node().replica().id().get();
+    info!(rt; "replica {replica} served {sessions} sessions and {commands} commands; it applied {operations} operations, and its journal has {entries} entries");
+}
+
+/// Takes and answers what comes from the other replicas, and gives the pass back. A replica that has joined begins by asking them all for what it lacks.
+fn run_link<L: Ledger, R: Wait + Clock>(
+    rt: &R,
+    alloc: Global,
+    context: &ReplicaContext<'_, L>,
+    pass: Pass<L>,
+    ends: &ReplicaInputs,
+) -> Pass<L> {
+    if pass.session().is_some() {
+        return pass;
+    }
+    let mut taker = ReplicaTaker::new(rt, alloc, context.shared, pass);
+    let mut mail = PeerSender::new(rt, context.server, context.own);
+    let inbox = LinkInput {
+        letters: &ends.letters,
+        peers: &ends.peers,
+        asks_first: ends.asks,
+        rest: Duration::from_secs(60),
+    };
+    link_worker(rt, &mut OpenGate, &inbox, &mut taker, &mut mail);
+    taker.into_pass()
+}
+
+/// Gives a pass back.
+fn give_back<L: Ledger, R: Wait>(rt: &R, back: &Mutex<Vec<Pass<L>>>, pass: Pass<L>) {
+    let _ = back.lock(rt).push(pass);
+}
+
+/// A pass without a session: one that was given back, or a new one.
+fn next_pass<L: Ledger, R: Wait>(
+    rt: &R,
+    back: &Mutex<Vec<Pass<L>>>,
+    first: &mut Pass<L>,
+) -> Option<Pass<L>> {
+    match back.lock(rt).pop() {
+        Some(pass) => Some(pass),
+        None => first.cut(),
+    }
+}
+
+/// Serves a connection to its end, closes it, and gives its pass back.
+fn serve_connection<L: Ledger + Send + Sync, R: Threads + Wait + Clock + Log + Sync, G: Gate + Send + Drop>(
+    rt: &R,
+    alloc: Global,
+    context: &ReplicaContext<'_, L>,
+    accepted: AcceptedConnection<L, G>,
+) -> Pass<L> {
+    let AcceptedConnection {
+        stream,
+        mut gate,
+        pass,
+    } = accepted;
+    connection_worker(rt, alloc, &mut gate, context, &stream, pass)
+}
+
+/// Serves these connections at once, each in a thread of its own and with the gate at its place, and gives their passes back once all have ended. One without
+/// a gate is closed, and one for which no pass can be cut is turned away. `Err` where there was no memory, and passes may be lost then.
+pub fn serve_over<
+    L: Ledger + Send + Sync,
+    R: Threads + Wait + Clock + Log + Sync,
+    G: Gate + Send + Drop,
+>(
+    rt: &R,
+    alloc: Global,
+    context: &ReplicaContext<'_, L>,
+    first: &mut Pass<L>,
+    connections: Vec<TcpStream>,
+    gates: Vec<G>,
+) -> Result<Vec<Pass<L>>, AllocError> {
+    let visits = accepted_connections(alloc, first, connections, gates)?;
+    thread::map_vec(
+        rt,
+        visits,
+        &|accepted: AcceptedConnection<L, G>| { serve_connection(rt, alloc, context, accepted) },
+    )
+}
+
+/// The connections with a gate and a pass each.
+fn accepted_connections<L: Ledger, G: Gate + Drop>(
+    alloc: Global,
+    first: &mut Pass<L>,
+    connections: Vec<TcpStream>,
+    gates: Vec<G>,
+) -> Result<Vec<AcceptedConnection<L, G>>, AllocError> {
+    let mut visits = Vec::new(alloc);
+    for (stream, gate) in connections.into_iter().zip(gates) {
+        let Some(pass) = first.cut() else {
+            refuse_connection(&stream);
+            continue;
+        };
+        visits.push(AcceptedConnection { stream, gate, pass })?;
+    }
+    Ok(visits)
+}
+
+/// Serves the connections of a listener, each in a thread of its own, and the link and the orders of copies in two others, until the server stops.
+fn serve_listener<
+    L: Ledger + Send + Sync,
+    R: Threads + Wait + Clock + Log + Sync + Net<Listener = TcpListener, Stream = TcpStream>,
+>(rt: &R, alloc: Global, first: Pass<L>, post: &ServedReplica<'_, L>) -> Pass<L> {
+    let mut first = first;
+    let link_pass = first.cut();
+    let copy_pass = first.cut();
+    thread::scope(thread::scope_env(), rt, |scope| {
+        if let Some(pass) = link_pass {
+            let _ = scope.spawn(move || {
+                let pass = run_link(rt, alloc, post.context, pass, post.ends);
+                give_back(rt, post.back, pass)
+            });
+        }
+        if let Some(pass) = copy_pass {
+            let _ = scope.spawn(move || {
+                let pass = lend_copies(rt, alloc, post.context.shared, pass, &post.ends.orders);
+                give_back(rt, post.back, pass)
+            });
+        }
+        for stream in post.ends.listener.incoming() {
+            if post.context.server.stop.is_over(rt) {
+                break;
+            }
+            let Ok(stream) = stream else {
+                continue;
+            };
+            let Some(pass) = next_pass(rt, post.back, &mut first) else {
+                refuse_connection(&stream);
+                continue;
+            };
+            let accepted = AcceptedConnection {
+                stream,
+                gate: OpenGate,
+                pass,
+            };
+            let _ = scope.spawn(move || {
+                let pass = serve_connection(rt, alloc, post.context, accepted);
+                give_back(rt, post.back, pass);
+                end_one(rt, post.context.server)
+            });
+        }
+        first
+    })
+}
+
+/// A connection ended. Behind the first one those join that are to, and behind the last one the threads of all replicas are woken, so that they end too.
+fn end_one<R: Wait + Net<Listener = TcpListener, Stream = TcpStream>>(rt: &R, server: &ServerState<'_>) {
+    server.joining.begin_all(rt);
+    if !server.stop.end_one(rt) {
+        return;
+    }
+    for (place, handle) in server.replicas.iter().enumerate() {
+        handle.wake(rt, place);
+    }
+}

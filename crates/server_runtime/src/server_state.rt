@@ -1,0 +1,82 @@
+//! What the threads of a server share.
+
+ghost use Rattle.std.specs.Prelude.{◌≡◌, IfOk};
+ghost use Rattle.server_runtime.specs.Logins.{auth_of, login_of};
+
+use crate::replica_handle::{JoiningReplicas, ReplicaHandle};
+use imap_answers::Login;
+use imap_node::{Auth, Credentials};
+use imap_types::Octets;
+use server_settings::Access;
+use std::alloc::{AllocError, Global};
+use std::sync::{Mutex, Wait};
+
+/// How many connections are still to end before the server stops; `None` where it goes on for good.
+#[derive(Drop)]
+pub struct StopCounter {
+    left: Mutex<Option<u32>>,
+}
+
+impl StopCounter {
+    /// Behind so many connections.
+    pub fn after(connections: Option<u32>) -> StopCounter {
+        StopCounter {
+            left: Mutex::new(connections),
+        }
+    }
+
+    /// One connection ended. True where it was the last.
+    pub fn end_one<R: Wait>(&self, rt: &R) -> bool {
+        let mut left = self.left.lock(rt);
+        match *left {
+            None | Some(0) => false,
+            Some(count) => {
+                *left = Some(count - 1);
+                count == 1
+            }
+        }
+    }
+
+    /// Whether the server stops.
+    pub fn is_over<R: Wait>(&self, rt: &R) -> bool {
+        *self.left.lock(rt) == Some(0)
+    }
+}
+
+/// What the threads of a server share.
+#[derive(Drop)]
+pub struct ServerState<'a> {
+    /// Who may use the server.
+    pub access: Access<'a>,
+    /// The replicas, those that are to join behind the others.
+    pub replicas: Vec<ReplicaHandle>,
+    /// Those that are to join.
+    pub joining: JoiningReplicas,
+    /// When to stop.
+    pub stop: StopCounter,
+}
+
+/// What a greeting says of the user.
+pub fn login_of(access: Access<'_>) -> Login
+    ensures { result ≡ login_of access.entry }
+{
+    match access {
+        Access::Preauth => Login::Given,
+        Access::Password { .. } => Login::Wanted,
+    }
+}
+
+/// How the users of sessions become known; `Err` where there is no memory for it.
+pub fn auth_of(alloc: Global, access: Access<'_>) -> Result<Auth, AllocError>
+    ensures { IfOk result (λ auth. auth ≡ auth_of access.entry) }
+{
+    match access {
+        Access::Preauth => Ok(Auth::Preauth),
+        Access::Password { user, pass } => Ok(Auth::Password {
+            credentials: Credentials {
+                user: Octets::from_slice(alloc, user.as_bytes())?,
+                password: Octets::from_slice(alloc, pass.as_bytes())?,
+            },
+        }),
+    }
+}

@@ -1,0 +1,404 @@
+//! One session of a replica behind its lock, as a port.
+
+ghost use Rattle.std.specs.Prelude.{◌≡◌, ◌⊎◌, ◌≤◌, ◌<◌, ℕ, [], Err, IfOk, IsOk, IsSome, IsTrue, Ok, OnErr, OnOk, Some, length, vec_capacity};
+ghost use Rattle.std.specs.Option.{option_map};
+ghost use Rattle.imap_node.specs.declared.sessions.OpenFault.TheVariants as refusals;
+ghost use Rattle.imap_connection.specs.PortCalls as asked;
+ghost use Rattle.imap_connection.specs.Batches.{Carries};
+ghost use Rattle.imap_connection.specs.declared.fault.PortFault.TheVariants.{NoRoom, TooManySessions, Torn};
+ghost use Rattle.server_runtime.specs.Calls.{CallsOnce, CallsOnceIn, CommandsOnce, IsClosedIn, OpensByCall, OpensIn, StepsByCall, StepsIn, StepsOnce};
+ghost use Rattle.server_runtime.specs.Logins.{auth_of};
+ghost use Rattle.replica_lock.specs.declared.event.BookEvent.TheVariants as events;
+ghost use Rattle.replica_lock.specs.declared.outcome.Outcome.TheVariants.{Opened, Replied};
+
+use crate::connection_threads::ReplicaContext;
+use crate::server_state::{ServerState, auth_of, login_of};
+use crate::peer_sender::PeerSender;
+use crate::shared_phase::SharedPhase;
+use crdt_ops::SoundOp;
+use imap_answers::Login;
+use imap_node::{OpenFault, Reply, SessionNo};
+use imap_syntax::{Command, IdleLine, Tagged};
+use imap_connection::{Port, PortFault};
+use imap_types::Moment;
+use replica_links::Gate;
+use replica_lock::{CallFault, Outcome, Pass, Shared, LockTurn};
+use std::alloc::Global;
+use std::rt::Clock;
+use std::sync::ledger::Ledger;
+use std::sync::{Mutex, MutexGuard, Wait};
+use std::time::{SystemTime, UNIX_EPOCH};
+
+/// A session whose pass stands under a lock of its own, which is taken for one call at a time.
+#[derive(Drop)]
+pub struct SessionPort<'a, L: Ledger, R: Wait + Clock, G: Gate> {
+    rt: &'a R,
+    shared: &'a Shared<L>,
+    pass: &'a Mutex<Pass<L>>,
+    server: &'a ServerState<'a>,
+    /// The place of the replica's own link among all.
+    own: usize,
+    shared_phase: &'a SharedPhase,
+    gate: &'a mut G,
+    commands: u64,
+    /// Where the last call of this port left it.
+    at: SessionPosition,
+}
+
+/// Where a connection stands at its replica: the session that it opened, and how far its pass had seen the journal.
+#[derive(Clone, Copy, Debug, PartialEq, Eq)]
+pub struct SessionPosition {
+    session: Option<SessionNo>,
+    seen: u64,
+}
+
+impl<'a, L: Ledger, R: Wait + Clock, G: Gate> SessionPort<'a, L, R, G> {
+    /// A session at the replica of this desk.
+    pub fn new(
+        rt: &'a R,
+        context: &ReplicaContext<'a, L>,
+        pass: &'a Mutex<Pass<L>>,
+        shared_phase: &'a SharedPhase,
+        gate: &'a mut G,
+    ) -> SessionPort<'a, L, R, G> {
+        SessionPort {
+            rt,
+            shared: context.shared,
+            pass,
+            server: context.server,
+            own: context.own,
+            shared_phase: shared_phase,
+            gate,
+            commands: 0,
+            at: SessionPosition {
+                session: None,
+                seen: 0,
+            },
+        }
+    }
+}
+
+impl<'a, L: Ledger, R: Wait + Clock, G: Gate> SessionPort<'a, L, R, G> {
+    /// Opens the session in its pass, by one call at most.
+    fn open_in(&self, alloc: Global, pass: &mut Pass<L>) -> Result<Login, PortFault>
+        ensures told { OpensIn self.now.server.now.access pass.old result pass.new }
+        ensures once { CallsOnce pass.old (events.Open (auth_of self.now.server.now.access)) pass.new }
+    {
+        if pass.session().is_some() {
+            return Err(PortFault::PassedOver);
+        }
+        let Ok(auth) = auth_of(alloc, self.server.access) else {
+            return Err(PortFault::NoMemory);
+        };
+        match self.shared.open(self.rt, alloc, pass, auth) {
+            Ok(()) => login_of_outcome(pass.last(), login_of(self.server.access)),
+            Err(fault) => Err(fault_of(fault)),
+        }
+    }
+
+    /// Gives the session a command in its pass, by one call at most.
+    fn command_in(
+        &self,
+        alloc: Global,
+        pass: &mut Pass<L>,
+        tagged: Tagged,
+    ) -> Result<Reply, PortFault>
+        ensures told { StepsIn pass.old (asked.Command tagged) result pass.new }
+        ensures once { CommandsOnce pass.old tagged pass.new }
+    {
+        if pass.session().is_none() {
+            drop(tagged);
+            return Err(PortFault::PassedOver);
+        }
+        let idles = matches!(&tagged.command, Command::Idle);
+        let moment = moment_now(self.rt);
+        let _order = self.order_for(&tagged.command);
+        match self.shared.command(self.rt, alloc, pass, moment, tagged) {
+            Ok(()) => {
+                self.follow(alloc, idles, pass.last());
+                reply_of_outcome(pass.last())
+            }
+            Err(fault) => Err(fault_of(fault)),
+        }
+    }
+
+    /// Gives the session brief commands in its pass, in one turn at the replica.
+    fn commands_in(
+        &self,
+        alloc: Global,
+        pass: &mut Pass<L>,
+        commands: Vec<Tagged>,
+        replies: &mut Vec<Reply>,
+    ) -> Result<(), PortFault>
+        requires some { 0 < length commands.items }
+        requires none { replies.old.items ≡ [] }
+        requires room { length commands.items ≤ vec_capacity replies.old }
+        ensures { Carries StepsOnce pass.old commands.items replies.new.items result pass.new }
+    {
+        if pass.session().is_none() {
+            drop(commands);
+            return Err(PortFault::PassedOver);
+        }
+        let moment = moment_now(self.rt);
+        let mut turn = self.shared.turn(self.rt);
+        let told = give_all(alloc, &mut turn, pass, moment, commands, replies);
+        self.shared.end(turn);
+        told
+    }
+
+    /// Gives the session a line of IDLE in its pass, by one call at most.
+    fn line_in(&self, alloc: Global, pass: &mut Pass<L>, line: IdleLine) -> Result<Reply, PortFault>
+        ensures told { StepsIn pass.old (asked.Line line) result pass.new }
+        ensures once { CallsOnceIn pass.old (λ n. events.Line n line) pass.new }
+    {
+        if pass.session().is_none() {
+            return Err(PortFault::PassedOver);
+        }
+        self.shared_phase.set_idles(self.rt, false);
+        match self.shared.done(self.rt, alloc, pass, line) {
+            Ok(()) => reply_of_outcome(pass.last()),
+            Err(fault) => Err(fault_of(fault)),
+        }
+    }
+
+    /// Closes the session of its pass, by one call, if it has one. An error leaves the pass as it was.
+    fn close_in(&self, alloc: Global, pass: &mut Pass<L>) -> Result<(), CallFault>
+        ensures ok { OnOk result (IsClosedIn pass.old pass.new) }
+        ensures err { OnErr result (pass.new ≡ pass.old) }
+    {
+        self.shared_phase.set_idles(self.rt, false);
+        if pass.session().is_none() {
+            return Ok(());
+        }
+        self.shared.close(self.rt, alloc, pass)
+    }
+
+    /// Whether a pass has the session of this port, and has seen the journal no less far.
+    fn knows(&self, pass: &Pass<L>) -> bool
+        ensures session { IsTrue result → self.now.at.session ≡ pass.now.session }
+        ensures seen { IsTrue result → self.now.at.seen ≤ pass.now.seen }
+    {
+        self.at.session == pass.session() && self.at.seen <= pass.seen()
+    }
+
+    /// The place in the order in which the replica's operations are handed on, for a command that may issue some. Two that overtake each other cost the
+    /// replica that gets them a question, and this one a look through all that it applied.
+    fn order_for(&self, command: &Command) -> Option<MutexGuard<'_, ()>> {
+        if !may_issue(command) {
+            return None;
+        }
+        let handle = self.server.replicas.get(self.own)?;
+        Some(handle.order.lock(self.rt))
+    }
+
+    /// Hands on what a command issued, and says whether the session idles behind it.
+    fn follow(&self, alloc: Global, idles: bool, last: Option<&Outcome>) {
+        let mail = PeerSender::new(self.rt, self.server, self.own);
+        mail.send_to_all(alloc, issued_ops(last));
+        self.shared_phase.set_idles(self.rt, idles && is_done(last));
+    }
+}
+
+impl<'a, L: Ledger, R: Wait + Clock, G: Gate> Port for SessionPort<'a, L, R, G> {
+    ghost opens = { λ s r t. OpensByCall s.server.now.access s.at r t.at };
+
+    ghost steps = { λ s call r t. StepsByCall s.at call r t.at };
+
+    ghost closes = { λ s t. Unit {0} };
+
+    fn open(&mut self, alloc: Global) -> Result<Login, PortFault> {
+        let mut pass = self.pass.lock(self.rt);
+        if pass.seen() < self.at.seen {
+            return Err(PortFault::Torn);
+        }
+        let told = self.open_in(alloc, &mut pass);
+        self.at = SessionPosition {
+            session: pass.session(),
+            seen: pass.seen(),
+        };
+        told
+    }
+
+    fn command(&mut self, alloc: Global, tagged: Tagged) -> Result<Reply, PortFault> {
+        self.commands = self.commands.saturating_add(1);
+        self.gate.pass(self.commands);
+        let mut pass = self.pass.lock(self.rt);
+        if !self.knows(&pass) {
+            drop(tagged);
+            return Err(PortFault::Torn);
+        }
+        let told = self.command_in(alloc, &mut pass, tagged);
+        self.at.seen = pass.seen();
+        told
+    }
+
+    fn commands(
+        &mut self,
+        alloc: Global,
+        commands: Vec<Tagged>,
+        replies: &mut Vec<Reply>,
+    ) -> Result<(), PortFault> {
+        self.commands = self.commands.saturating_add(1);
+        self.gate.pass(self.commands);
+        let mut pass = self.pass.lock(self.rt);
+        if !self.knows(&pass) {
+            drop(commands);
+            return Err(PortFault::Torn);
+        }
+        let told = self.commands_in(alloc, &mut pass, commands, replies);
+        self.at.seen = pass.seen();
+        told
+    }
+
+    fn done(&mut self, alloc: Global, line: IdleLine) -> Result<Reply, PortFault> {
+        let mut pass = self.pass.lock(self.rt);
+        if !self.knows(&pass) {
+            return Err(PortFault::Torn);
+        }
+        let told = self.line_in(alloc, &mut pass, line);
+        self.at.seen = pass.seen();
+        told
+    }
+
+    fn close(&mut self, alloc: Global) {
+        let mut pass = self.pass.lock(self.rt);
+        let _ = self.close_in(alloc, &mut pass);
+    }
+}
+
+/// Gives the session of a pass commands, which came at this moment, one behind another, and notes the replies.
+fn give_all<L: Ledger>(
+    alloc: Global,
+    turn: &mut LockTurn<'_, L>,
+    pass: &mut Pass<L>,
+    moment: Moment,
+    commands: Vec<Tagged>,
+    replies: &mut Vec<Reply>,
+) -> Result<(), PortFault>
+    requires session { IsSome pass.old.session }
+    requires none { replies.old.items ≡ [] }
+    requires room { length commands.items ≤ vec_capacity replies.old }
+    ensures { Carries StepsOnce pass.old commands.items replies.new.items result pass.new }
+{
+    for tagged in commands {
+        match give_command(alloc, turn, pass, moment, tagged) {
+            Ok(reply) => replies.push_reserved(reply),
+            Err(fault) => return Err(fault),
+        }
+    }
+    Ok(())
+}
+
+/// Gives the session of a pass a command, which came at this moment, by one call at most.
+fn give_command<L: Ledger>(
+    alloc: Global,
+    turn: &mut LockTurn<'_, L>,
+    pass: &mut Pass<L>,
+    moment: Moment,
+    tagged: Tagged,
+) -> Result<Reply, PortFault>
+    requires session { IsSome pass.old.session }
+    ensures told { StepsOnce pass.old (asked.Command tagged) result pass.new }
+    ensures session { IsOk result → IsSome pass.new.session }
+{
+    match turn.command(alloc, pass, moment, tagged) {
+        Ok(()) => reply_of_outcome(pass.last()),
+        Err(fault) => Err(fault_of(fault)),
+    }
+}
+
+fn fault_of(fault: CallFault) -> PortFault
+    ensures { (result ≡ NoRoom) ⊎ (result ≡ Torn) }
+{
+    match fault {
+        CallFault::NoRoom => PortFault::NoRoom,
+        CallFault::Torn { .. } => PortFault::Torn,
+    }
+}
+
+/// What a connection is told of the opening of its session, whose user becomes known so.
+fn login_of_outcome(last: Option<&Outcome>, login: Login) -> Result<Login, PortFault>
+    ensures ok { IfOk result (λ told. (told ≡ login) × ((n : ℕ) × (option_map (λ o. o.now) last.entry ≡ Some (Opened (Ok n))))) }
+    ensures full { result ≡ Err TooManySessions → option_map (λ o. o.now) last.entry ≡ Some (Opened (Err refusals.TooManySessions)) }
+{
+    match last {
+        Some(Outcome::Opened { answer: Ok(_) }) => Ok(login),
+        Some(
+            Outcome::Opened {
+                answer: Err(OpenFault::TooManySessions),
+            },
+        ) => Err(PortFault::TooManySessions),
+        Some(
+            Outcome::Opened {
+                answer: Err(OpenFault::NoMemory),
+            },
+        ) => Err(PortFault::NoMemory),
+        _ => Err(PortFault::PassedOver),
+    }
+}
+
+/// The reply, in the same memory; `NoMemory` where so many copies share it that they can't be counted.
+fn reply_of_outcome(last: Option<&Outcome>) -> Result<Reply, PortFault>
+    ensures { IfOk result (λ reply. option_map (λ o. o.now) last.entry ≡ Some (Replied reply)) }
+{
+    match last {
+        Some(Outcome::Replied { reply }) => match reply.copy() {
+            Ok(reply) => Ok(reply),
+            Err(_) => Err(PortFault::NoMemory),
+        },
+        _ => Err(PortFault::PassedOver),
+    }
+}
+
+fn is_done(last: Option<&Outcome>) -> bool {
+    matches!(
+        last,
+        Some(Outcome::Replied {
+            reply: Reply::Done { .. },
+        })
+    )
+}
+
+/// The operations that a call issued.
+fn issued_ops(last: Option<&Outcome>) -> &[SoundOp] {
+    match last {
+        Some(
+            Outcome::Replied {
+                reply: Reply::Done { issued, .. },
+            },
+        ) => issued.as_slice(),
+        _ => &[],
+    }
+}
+
+/// Whether a command may issue operations.
+fn may_issue(command: &Command) -> bool {
+    matches!(
+        command,
+        Command::Create { .. }
+            | Command::Delete { .. }
+            | Command::Subscribe { .. }
+            | Command::Unsubscribe { .. }
+            | Command::Append(_)
+            | Command::Close
+            | Command::Expunge
+            | Command::UidExpunge { .. }
+            | Command::Fetch(_)
+            | Command::Store(_)
+            | Command::Copy(_)
+            | Command::Move(_)
+    )
+}
+
+/// The moment now; the epoch where the clock can't be read.
+fn moment_now<R: Clock>(rt: &R) -> Moment {
+    seconds_now(rt)
+        .and_then(Moment::new)
+        .unwrap_or(Moment::epoch())
+}
+
+fn seconds_now<R: Clock>(rt: &R) -> Option<u64> {
+    let now = SystemTime::now(rt).ok()?;
+    let since = now.duration_since(UNIX_EPOCH).ok()?;
+    Some(since.as_secs())
+}

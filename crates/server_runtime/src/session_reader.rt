@@ -1,0 +1,54 @@
+//! The octets of a client, with word of when its connection waits for them.
+
+ghost use Rattle.std.specs.Prelude.{◌≡◌, None};
+
+use crate::shared_phase::SharedPhase;
+use imap_connection::{Source, Wire};
+use replica_lock::Pass;
+use std::io::Read;
+use std::sync::ledger::Ledger;
+use std::sync::{Mutex, Wait};
+
+/// A reader that tells when it waits. What its session's pass keeps of earlier calls is let go then, while the client is at work.
+#[derive(Drop)]
+pub struct SessionReader<'a, T, L: Ledger, R: Wait> {
+    rt: &'a R,
+    shared_phase: &'a SharedPhase,
+    pass: &'a Mutex<Pass<L>>,
+    wire: Wire<T>,
+}
+
+impl<'a, T, L: Ledger, R: Wait> SessionReader<'a, T, L, R> {
+    /// Octets from this device, for the session of this pass.
+    pub fn new(
+        rt: &'a R,
+        shared_phase: &'a SharedPhase,
+        pass: &'a Mutex<Pass<L>>,
+        device: T,
+    ) -> SessionReader<'a, T, L, R>
+        ensures { result.wire.failed ≡ 0 }
+    {
+        SessionReader {
+            rt,
+            shared_phase: shared_phase,
+            pass,
+            wire: Wire::new(device),
+        }
+    }
+}
+
+impl<'a, T: Read, L: Ledger, R: Wait> Source for SessionReader<'a, T, L, R> {
+    ghost left = { λ r. None };
+
+    ghost failures = { λ r. r.wire.failed };
+
+    ghost is_ended = { λ r. r.wire.ended };
+
+    fn read(&mut self, piece: &mut [u8]) -> Option<usize> {
+        self.pass.lock(self.rt).drop_spent();
+        self.shared_phase.set_reads(self.rt, true);
+        let count = self.wire.read(piece);
+        self.shared_phase.set_reads(self.rt, false);
+        count
+    }
+}

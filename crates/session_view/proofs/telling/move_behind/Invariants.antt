@@ -1,8 +1,0 @@
-use Rattle.std.proofs.Common.{◌≡◌, ◌≤◌, ◌++◌, length}
-use Rattle.session_view.proofs.telling.move_behind.Given as goal
-
-abbrev pub invariant-loop-entry : goal.invariant-loop-entry
-invariant-loop-entry l = record {
-  items : l.entries.items ++ l.entry-iterator.rest.items ≡ l.fn.entries.items ++ l.fn.came.items;
-  room : length l.entry-iterator.rest.items ≤ l.entries.room;
-}

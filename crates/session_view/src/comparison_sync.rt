@@ -1,0 +1,288 @@
+//! What a sync sends, and the view behind it.
+
+ghost use Rattle.std.specs.Prelude.{◌≡◌, ◌≤◌, ◌+◌, ◌<◌, ◌^◌, ◌++◌, ◌∷◌, [], ℕ, length, get_or, take, drop, IfOk, OnOk, None, Some};
+ghost use Rattle.mailbox_rows.specs.RowViews.{AreRisingRows, rows_after_uid, listed_message};
+ghost use Rattle.session_view.specs.Views.{AreRising, entries_of, same_flags};
+ghost use Rattle.session_view.specs.declared.view_entry.ViewEntry.{ViewEntry};
+ghost use Rattle.session_view.specs.Sync.{exists_if_more, exists_of_sync, fetch_if_changed, fetch_of_row, fetches_of_sync, expunges, staying_entries, staying_entry, expunge_if_gone, expunges_of_sync, entries_staying, sync_answers, view_after_sync};
+
+use crate::view_entry::{ViewEntries, ViewEntry, SyncKind, count_of, last_uid, uid_at};
+use crate::message_list::MessageList;
+use chunk_list::ChunkList;
+use imap_answers::{Answer, FetchItems, Sections};
+use imap_types::Flags;
+use mailbox_rows::{Row, Rows};
+use std::alloc::{AllocError, Global};
+
+/// What a sync comes to.
+#[derive(Drop)]
+pub struct SyncOutcome {
+    /// The messages behind it.
+    pub entries: ViewEntries,
+    /// What it sends.
+    pub answers: Vec<Answer>,
+}
+
+/// The view behind a sync with this listing, and what the sync sends: EXPUNGE for each message that is gone, from the greatest number
+/// down (in a full sync alone), EXISTS if messages came, then FETCH for each message whose flags differ, with its mod-sequence where that
+/// is asked (RFC 7162, section 3.2). It looks each message of the view up in the listing, three times at most. `Err` where there is no memory.
+pub fn sync_by_comparison(
+    alloc: Global,
+    kind: SyncKind,
+    modseq: bool,
+    rows: &Rows<'_>,
+    view: &ViewEntries,
+) -> Result<SyncOutcome, AllocError>
+    requires { AreRising 1 view.now.items }
+    ensures entries { IfOk result (λ s. s.entries.items ≡ view_after_sync kind rows.now view.now.items) }
+    ensures rising { IfOk result (λ s. AreRising 1 s.entries.items) }
+    ensures answers { IfOk result (λ s. s.answers.items ≡ sync_answers kind modseq rows.now view.now.items) }
+{
+    let _count = count_of(view);
+    let mut answers = Vec::new(alloc);
+    push_losses(kind, rows, view, &mut answers)?;
+    let entries = refresh_view(alloc, kind, rows, view, &mut answers)?;
+    push_changes(alloc, kind, modseq, rows, view, &mut answers)?;
+    Ok(SyncOutcome { entries, answers })
+}
+
+/// The view behind a sync, and EXISTS if messages came.
+fn refresh_view(
+    alloc: Global,
+    kind: SyncKind,
+    rows: &Rows<'_>,
+    view: &ViewEntries,
+    answers: &mut Vec<Answer>,
+) -> Result<ViewEntries, AllocError>
+    requires { AreRising 1 view.now.items }
+    ensures entries { IfOk result (λ entries. entries.items ≡ view_after_sync kind rows.now view.now.items) }
+    ensures rising { IfOk result (λ entries. AreRising 1 entries.items) }
+    ensures answers { OnOk result (answers.new.items ≡ answers.old.items ++ exists_of_sync rows.now (entries_staying kind rows.now view.now.items)) }
+{
+    let _count = rows.count();
+    let mut entries = staying_entries(alloc, kind, rows, view)?;
+    let before = count_of(&entries);
+    let last = last_uid(&entries);
+    push_new(alloc, last, rows, &mut entries)?;
+    push_exists(before, count_of(&entries), answers)?;
+    Ok(entries)
+}
+
+/// What a sync sends of messages that are gone.
+fn push_losses(
+    kind: SyncKind,
+    rows: &Rows<'_>,
+    view: &ViewEntries,
+    answers: &mut Vec<Answer>,
+) -> Result<(), AllocError>
+    requires { length view.now.items < 2 ^ 32 }
+    ensures { OnOk result (answers.new.items ≡ answers.old.items ++ expunges_of_sync kind rows.now view.now.items) }
+{
+    match kind {
+        SyncKind::Full => push_expunges(rows, view, answers),
+        SyncKind::Partial => Ok(()),
+    }
+}
+
+/// EXPUNGE for each message that is gone, from the greatest number down.
+fn push_expunges(
+    rows: &Rows<'_>,
+    view: &ViewEntries,
+    answers: &mut Vec<Answer>,
+) -> Result<(), AllocError>
+    requires { length view.now.items < 2 ^ 32 }
+    ensures { OnOk result (answers.new.items ≡ answers.old.items ++ expunges rows.now 1 view.now.items) }
+{
+    for i in (0..view.len()).rev() {
+        push_loss(rows, i, view, answers)?;
+    }
+    Ok(())
+}
+
+/// EXPUNGE of the message at this place, from 0, if it is gone.
+fn push_loss(
+    rows: &Rows<'_>,
+    place: usize,
+    view: &ViewEntries,
+    answers: &mut Vec<Answer>,
+) -> Result<(), AllocError>
+    requires within { place < length view.now.items }
+    requires count { length view.now.items < 2 ^ 32 }
+    ensures { OnOk result ((d : ViewEntry) → answers.new.items ≡ answers.old.items ++ expunge_if_gone rows.now (place + 1) (get_or view.now.items place d)) }
+{
+    let number = place as u32 + 1;
+    if let None = rows.row_near(place, uid_at(view, place)) {
+        answers.push(Answer::Expunge { number })?;
+    }
+    Ok(())
+}
+
+/// EXISTS, if there are more messages now than before.
+pub fn push_exists(before: u32, now: u32, answers: &mut Vec<Answer>) -> Result<(), AllocError>
+    ensures { OnOk result (answers.new.items ≡ answers.old.items ++ exists_if_more before now) }
+{
+    if before < now {
+        answers.push(Answer::Exists { count: now })?;
+    }
+    Ok(())
+}
+
+/// FETCH for each message that stays and whose flags differ.
+fn push_changes(
+    alloc: Global,
+    kind: SyncKind,
+    modseq: bool,
+    rows: &Rows<'_>,
+    view: &ViewEntries,
+    answers: &mut Vec<Answer>,
+) -> Result<(), AllocError>
+    requires { length view.now.items < 2 ^ 32 }
+    ensures { OnOk result (answers.new.items ≡ answers.old.items ++ fetches_of_sync modseq rows.now 1 (entries_staying kind rows.now view.now.items)) }
+{
+    let mut number = 0;
+    for entry in view.iter_from(0) {
+        match rows.row_near(number as usize, entry.uid) {
+            Some(row) => {
+                number += 1;
+                push_change(alloc, modseq, number, entry, &row, answers)?;
+            }
+            None => {
+                if kind == SyncKind::Partial {
+                    number += 1;
+                }
+            }
+        }
+    }
+    Ok(())
+}
+
+/// FETCH of the message's flags, where they differ.
+fn push_change(
+    alloc: Global,
+    modseq: bool,
+    number: u32,
+    entry: &ViewEntry,
+    row: &Row<'_>,
+    answers: &mut Vec<Answer>,
+) -> Result<(), AllocError>
+    ensures { OnOk result (answers.new.items ≡ answers.old.items ++ fetch_if_changed modseq number entry.now (Some (listed_message row.now))) }
+{
+    if !are_same(&entry.flags, row) {
+        answers.push(change_of(alloc, modseq, number, row)?)?;
+    }
+    Ok(())
+}
+
+/// FETCH of a message's UID and flags, and of its mod-sequence where that is asked.
+pub fn change_of(
+    alloc: Global,
+    modseq: bool,
+    number: u32,
+    row: &Row<'_>,
+) -> Result<Answer, AllocError>
+    ensures { IfOk result (λ answer. answer ≡ fetch_of_row modseq number (listed_message row.now)) }
+{
+    Ok(Answer::Fetch {
+        number,
+        items: FetchItems {
+            uid: Some(row.uid),
+            flags: Some(row.versions.flags(alloc)?),
+            date: None,
+            size: None,
+            modseq: if modseq { Some(row.modseq) } else { None },
+            sections: Sections::new(Vec::new(alloc)),
+        },
+    })
+}
+
+/// Whether the flags are those of the message now.
+pub fn are_same(flags: &Flags, row: &Row<'_>) -> bool
+    ensures { result ≡ same_flags flags.now (listed_message row.now).flags }
+{
+    row.versions.has_flags(flags)
+}
+
+/// The messages that stay, with the listing's flags.
+fn staying_entries(
+    alloc: Global,
+    kind: SyncKind,
+    rows: &Rows<'_>,
+    view: &ViewEntries,
+) -> Result<ViewEntries, AllocError>
+    ensures { IfOk result (λ kept. kept.items ≡ staying_entries kind rows.now view.now.items) }
+{
+    let mut kept = ChunkList::new(alloc);
+    for entry in view.iter_from(0) {
+        push_kept(alloc, kind, rows, entry, &mut kept)?;
+    }
+    Ok(kept)
+}
+
+/// Puts a message behind those that are there, if it stays.
+fn push_kept(
+    alloc: Global,
+    kind: SyncKind,
+    rows: &Rows<'_>,
+    entry: &ViewEntry,
+    kept: &mut ViewEntries,
+) -> Result<(), AllocError>
+    ensures { OnOk result (kept.new.items ≡ kept.old.items ++ staying_entry kind rows.now entry.now) }
+{
+    match rows.row_near(kept.len(), entry.uid) {
+        Some(row) => {
+            let flags = row.versions.flags(alloc)?;
+            let uid = entry.uid;
+            kept.push(alloc, ViewEntry { uid, flags })?;
+        }
+        None => {
+            if kind == SyncKind::Partial {
+                kept.push(alloc, entry.copy(alloc)?)?;
+            }
+        }
+    }
+    Ok(())
+}
+
+/// Puts the listing's messages with UIDs above this one behind those that are there.
+pub fn push_new<L: MessageList>(
+    alloc: Global,
+    uid: u32,
+    rows: &Rows<'_>,
+    entries: &mut L,
+) -> Result<(), AllocError>
+    ensures { OnOk result (L.entries entries.new ≡ L.entries entries.old ++ entries_of (rows_after_uid uid rows.now)) }
+{
+    let count = rows.count();
+    push_rows(alloc, rows, rows.place_after_uid(uid), count, entries)?;
+    Ok(())
+}
+
+/// Puts so many of the listing's messages from this place on, or as many as there are, behind those that are there.
+pub fn push_rows<L: MessageList>(
+    alloc: Global,
+    rows: &Rows<'_>,
+    start: usize,
+    count: u32,
+    entries: &mut L,
+) -> Result<(), AllocError>
+    requires { start < 2 ^ 32 }
+    ensures { OnOk result (L.entries entries.new ≡ L.entries entries.old ++ entries_of (take count (drop start rows.now))) }
+{
+    for step in 0..count as usize {
+        match rows.row_at(start + step) {
+            Some(row) => push_row(alloc, &row, entries)?,
+            None => return Ok(()),
+        }
+    }
+    Ok(())
+}
+
+/// Puts a message behind those that are there.
+fn push_row<L: MessageList>(alloc: Global, row: &Row<'_>, entries: &mut L) -> Result<(), AllocError>
+    ensures { OnOk result (L.entries entries.new ≡ L.entries entries.old ++ entries_of (listed_message row.now ∷ [])) }
+{
+    let flags = row.versions.flags(alloc)?;
+    let uid = row.uid;
+    entries.put(alloc, ViewEntry { uid, flags })?;
+    Ok(())
+}

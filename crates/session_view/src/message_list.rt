@@ -1,0 +1,33 @@
+//! Lists at whose end messages are put.
+
+ghost use Rattle.std.specs.Prelude.{◌≡◌, ◌++◌, ◌∷◌, [], List, OnOk};
+ghost use Rattle.session_view.specs.declared.view_entry.ViewEntry.{ViewEntry};
+
+use crate::view_entry::{ViewEntries, ViewEntry};
+use std::alloc::{AllocError, Global};
+
+/// A list at whose end messages are put.
+pub trait MessageList {
+    ghost entries: { Self → List ViewEntry };
+
+    /// Puts a message behind all others; `Err` where there is no memory for it.
+    fn put(&mut self, alloc: Global, entry: ViewEntry) -> Result<(), AllocError>
+        ensures { OnOk result (entries self.new ≡ entries self.old ++ entry ∷ []) };
+}
+
+impl MessageList for Vec<ViewEntry> {
+    ghost entries = { λ list. list.items };
+
+    fn put(&mut self, _alloc: Global, entry: ViewEntry) -> Result<(), AllocError> {
+        self.push(entry)?;
+        Ok(())
+    }
+}
+
+impl MessageList for ViewEntries {
+    ghost entries = { λ list. list.items };
+
+    fn put(&mut self, alloc: Global, entry: ViewEntry) -> Result<(), AllocError> {
+        self.push(alloc, entry)
+    }
+}

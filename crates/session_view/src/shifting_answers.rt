@@ -1,0 +1,29 @@
+//! A command's own answers, as far as they change what the session sees.
+
+ghost use Rattle.std.specs.Prelude.{◌≡◌};
+ghost use Rattle.std.specs.List.{list_any};
+ghost use Rattle.session_view.specs.NoteChanges.{is_shifting};
+
+use imap_answers::Answer;
+
+/// Whether some of these answers shift messages' numbers or show new ones.
+pub fn are_shifting(answers: &[Answer]) -> bool
+    ensures { result ≡ list_any is_shifting answers.now }
+{
+    for answer in answers {
+        if is_shifting(answer) {
+            return true;
+        }
+    }
+    false
+}
+
+fn is_shifting(answer: &Answer) -> bool
+    ensures { result ≡ is_shifting answer.now }
+{
+    match answer {
+        Answer::Expunge { .. } => true,
+        Answer::Exists { .. } => true,
+        _ => false,
+    }
+}

@@ -1,0 +1,405 @@
+//! Syncs that look at named messages alone.
+
+ghost use Rattle.std.specs.Prelude.{◌≡◌, ◌⊎◌, true, ◌≤◌, ◌+◌, ◌-◌, ◌<◌, ◌^◌, ◌++◌, List, [], ℕ, ◌∷◌, drop, length, IfOk, OnOk, Some};
+ghost use Rattle.std.specs.List.{slice_get};
+ghost use Rattle.std.specs.Option.{option_copied};
+ghost use Rattle.mailbox_rows.specs.RowViews.{listed_message};
+ghost use Rattle.session_view.specs.NoteChanges.{AreAscending, HasRoomForArrivals, NoteAllChanges, all_fetched_flags, expunges_of_numbers, notes_left_by_sync, patched_entries, without_from};
+ghost use Rattle.session_view.specs.Notes.{Covers};
+ghost use Rattle.session_view.specs.Sync.{exists_if_more, fetch_if_changed, entries_staying, sync_answers, view_after_sync};
+ghost use Rattle.session_view.specs.Views.{AreRising, last_from, last_uid};
+ghost use Rattle.session_view.specs.Walks.{IsWalk, gone_numbers, notes_left};
+ghost use Rattle.session_view.specs.declared.view_entry.SyncKind.TheVariants.{Full};
+
+use crate::notes::Note;
+use crate::view_entry::{ViewEntries, ViewEntry, SyncForm, SyncKind, count_of, last_uid, uid_at};
+use crate::set_places::count_below;
+use crate::reply_replay::{SilentFlags, set_flags, take_number};
+use crate::comparison_sync::{are_same, change_of, push_exists, push_new};
+use chunk_list::ReservedRoom;
+use imap_answers::Answer;
+use mailbox_rows::{Row, Rows};
+use std::alloc::{AllocError, Global};
+
+/// What a sync does to a view: the numbers of the messages that are gone, ascending, what came behind, and the flags that changed, by
+/// the numbers behind these.
+#[derive(Drop)]
+pub struct Patch {
+    pub(crate) gone: Vec<u32>,
+    pub(crate) came: Vec<ViewEntry>,
+    pub(crate) flags: Vec<SilentFlags>,
+    /// Room for what came, where something came: what holds a view doesn't tell whether it has room itself.
+    pub(crate) place: ReservedRoom<ViewEntry>,
+}
+
+/// What a sync comes to, with all memory that it takes.
+#[derive(Drop)]
+pub struct SyncPlan {
+    /// What it sends.
+    pub answers: Vec<Answer>,
+    /// What it does to the view.
+    pub patch: Patch,
+    /// What stays to be told: of a partial sync the messages that are gone.
+    pub left: Vec<Note>,
+    /// Whether that is all that differs behind it, as it is where what the view lacked came after its messages.
+    pub whole: bool,
+}
+
+/// What a sync comes to behind flags that are set first.
+#[derive(Drop)]
+pub struct SyncPlanAfterFlags {
+    /// These flags.
+    pub first: Vec<SilentFlags>,
+    /// The sync.
+    pub told: SyncPlan,
+}
+
+/// How far a view has been looked through.
+#[derive(Drop)]
+pub struct SyncWalk {
+    /// How many messages are done.
+    done: usize,
+    /// The numbers of those that are gone and are told so.
+    gone: Vec<u32>,
+    /// The flags that changed.
+    flags: Vec<SilentFlags>,
+    /// What is told of them.
+    fetches: Vec<Answer>,
+    /// What stays to be told.
+    left: Vec<Note>,
+}
+
+/// What a sync of this view with this listing comes to, where these ascending UIDs are those of all messages of the view that differ, or
+/// more. It looks these up in the view and in the listing, and reads what the listing has behind the view. `Err` where there is no memory.
+pub fn plan_sync(
+    alloc: Global,
+    form: SyncForm,
+    rows: &Rows<'_>,
+    view: &ViewEntries,
+    uids: &[u32],
+) -> Result<SyncPlan, AllocError>
+    requires rising { AreRising 1 view.now.items }
+    requires ascending { AreAscending 0 uids.now }
+    requires covers { Covers uids.now rows.now view.now.items }
+    ensures answers { IfOk result (λ told. told.answers.items ≡ sync_answers form.kind form.modseq rows.now view.now.items) }
+    ensures patch { IfOk result (λ told. patched_entries view.now.items told.patch.gone.items told.patch.came.items told.patch.flags.items ≡ view_after_sync form.kind rows.now view.now.items) }
+    ensures left { IfOk result (λ told. told.left.items ≡ notes_left_by_sync form.kind rows.now view.now.items) }
+    ensures whole { IfOk result (λ told. told.whole ≡ true → NoteAllChanges told.left.items rows.now (view_after_sync form.kind rows.now view.now.items)) }
+    ensures place { IfOk result (λ told. HasRoomForArrivals view.now.items told.patch) }
+{
+    let count = count_of(view);
+    let listed = rows.count();
+    let walk = walk_view(alloc, form, rows, view, uids)?;
+    let mut came = Vec::new(alloc);
+    let last = last_uid_that_stays(form.kind, rows, view);
+    push_new(alloc, last, rows, &mut came)?;
+    let _last = last_from(last, &came);
+    finish_walk(alloc, count, listed, walk, came)
+}
+
+/// What a sync comes to where so many messages were looked through, with a listing of so many, and these come behind.
+fn finish_walk(
+    alloc: Global,
+    count: u32,
+    listed: u32,
+    walk: SyncWalk,
+    came: Vec<ViewEntry>,
+) -> Result<SyncPlan, AllocError>
+    requires few { length walk.gone.items ≤ count }
+    requires fits { count - length walk.gone.items + length came.items < 2 ^ 32 }
+    ensures answers { IfOk result (λ told. told.answers.items ≡ expunges_of_numbers walk.gone.items ++ (exists_if_more (count - length walk.gone.items) (count - length walk.gone.items + length came.items) ++ walk.fetches.items)) }
+    ensures gone { IfOk result (λ told. told.patch.gone.items ≡ walk.gone.items) }
+    ensures came { IfOk result (λ told. told.patch.came.items ≡ came.items) }
+    ensures flags { IfOk result (λ told. told.patch.flags.items ≡ walk.flags.items) }
+    ensures left { IfOk result (λ told. told.left.items ≡ walk.left.items) }
+    ensures whole { IfOk result (λ told. told.whole ≡ true → count - length walk.gone.items + length came.items ≡ listed + length walk.left.items) }
+    ensures place { IfOk result (λ told. (came.items ≡ []) ⊎ ((count ≤ told.patch.place.most) × (length came.items ≤ told.patch.place.room))) }
+{
+    let SyncWalk {
+        gone,
+        flags,
+        fetches,
+        left,
+        ..
+    } = walk;
+    let answers = answers_of_walk(alloc, count, &gone, &came, fetches)?;
+    let whole = is_whole(
+        count as usize - gone.len() + came.len(),
+        listed as usize,
+        left.len(),
+    );
+    let place = place_for(alloc, count as usize, &came)?;
+    Ok(SyncPlan {
+        answers,
+        patch: Patch {
+            gone,
+            came,
+            flags,
+            place,
+        },
+        left,
+        whole,
+    })
+}
+
+/// Whether so many messages are those listed and those that stay to be told.
+fn is_whole(count: usize, listed: usize, left: usize) -> bool
+    ensures { result ≡ true → count ≡ listed + left }
+{
+    count >= listed && count - listed == left
+}
+
+/// Room for these messages, where there are some, behind so many.
+fn place_for(alloc: Global, count: usize, came: &[ViewEntry]) -> Result<ReservedRoom<ViewEntry>, AllocError>
+    ensures { IfOk result (λ place. (came.now ≡ []) ⊎ ((count ≤ place.most) × (length came.now ≤ place.room))) }
+{
+    if came.is_empty() {
+        return Ok(ReservedRoom::none(alloc));
+    }
+    ReservedRoom::new(alloc, count, came.len())
+}
+
+/// The last UID, this one where there is no message.
+fn last_from(low: u32, entries: &[ViewEntry]) -> u32
+    ensures { result ≡ last_from low entries.now }
+{
+    match entries.last() {
+        Some(entry) => entry.uid,
+        None => low,
+    }
+}
+
+/// What is sent: EXPUNGE of these numbers, the last one first, EXISTS if messages came, and these FETCHes.
+fn answers_of_walk(
+    alloc: Global,
+    count: u32,
+    gone: &[u32],
+    came: &[ViewEntry],
+    fetches: Vec<Answer>,
+) -> Result<Vec<Answer>, AllocError>
+    requires few { length gone.now ≤ count }
+    requires fits { count - length gone.now + length came.now < 2 ^ 32 }
+    ensures { IfOk result (λ answers. answers.items ≡ expunges_of_numbers gone.now ++ (exists_if_more (count - length gone.now) (count - length gone.now + length came.now) ++ fetches.items)) }
+{
+    let mut answers = Vec::new(alloc);
+    push_expunged(gone, &mut answers)?;
+    let staying = count as usize - gone.len();
+    push_exists(staying as u32, (staying + came.len()) as u32, &mut answers)?;
+    let mut fetches = fetches;
+    answers.append(&mut fetches)?;
+    Ok(answers)
+}
+
+/// EXPUNGE of these numbers, the last one first.
+fn push_expunged(gone: &[u32], answers: &mut Vec<Answer>) -> Result<(), AllocError>
+    ensures { OnOk result (answers.new.items ≡ answers.old.items ++ expunges_of_numbers gone.now) }
+{
+    for i in (0..gone.len()).rev() {
+        answers.push(Answer::Expunge { number: gone[i] })?;
+    }
+    Ok(())
+}
+
+/// The UID of the last message that stays, 0 where none does. It looks up those behind it, which are gone.
+fn last_uid_that_stays(kind: SyncKind, rows: &Rows<'_>, view: &ViewEntries) -> u32
+    ensures { result ≡ last_uid (entries_staying kind rows.now view.now.items) }
+{
+    match kind {
+        SyncKind::Full => last_listed(rows, view),
+        SyncKind::Partial => last_uid(view),
+    }
+}
+
+fn last_listed(rows: &Rows<'_>, view: &ViewEntries) -> u32
+    ensures { result ≡ last_uid (entries_staying Full rows.now view.now.items) }
+{
+    for i in (0..view.len()).rev() {
+        let uid = uid_at(view, i);
+        if let Some(_) = rows.row_near(i, uid) {
+            return uid;
+        }
+    }
+    0
+}
+
+/// A view that was looked through by these UIDs.
+fn walk_view(
+    alloc: Global,
+    form: SyncForm,
+    rows: &Rows<'_>,
+    view: &ViewEntries,
+    uids: &[u32],
+) -> Result<SyncWalk, AllocError>
+    requires rising { AreRising 1 view.now.items }
+    requires count { length view.now.items < 2 ^ 32 }
+    requires ascending { AreAscending 0 uids.now }
+    requires covers { Covers uids.now rows.now view.now.items }
+    ensures { IfOk result (λ walk. IsWalk form.kind form.modseq rows.now view.now.items [] walk) }
+{
+    let mut walk = SyncWalk {
+        done: 0,
+        gone: Vec::new(alloc),
+        flags: Vec::new(alloc),
+        fetches: Vec::new(alloc),
+        left: Vec::new(alloc),
+    };
+    for uid in uids {
+        walk_one(alloc, form, rows, view, *uid, &mut walk)?;
+    }
+    Ok(walk)
+}
+
+/// Looks at the message with this UID, if the view has it among those that aren't done.
+fn walk_one(
+    alloc: Global,
+    form: SyncForm,
+    rows: &Rows<'_>,
+    view: &ViewEntries,
+    uid: u32,
+    walk: &mut SyncWalk,
+) -> Result<(), AllocError>
+    requires rising { AreRising 1 view.now.items }
+    requires count { length view.now.items < 2 ^ 32 }
+    requires few { length walk.now.gone.items ≤ walk.now.done }
+    ensures few { OnOk result (length walk.new.gone.items ≤ walk.new.done) }
+    ensures stands { OnOk result ((rest : List ℕ) → IsWalk form.kind form.modseq rows.now view.now.items (uid ∷ rest) walk.old → IsWalk form.kind form.modseq rows.now view.now.items rest walk.new) }
+{
+    let place = count_below(view, u64::from(uid));
+    if place < walk.done {
+        return Ok(());
+    }
+    let Some(entry) = entry_at(view, place) else {
+        return Ok(());
+    };
+    if entry.uid != uid {
+        return Ok(());
+    }
+    walk.done = place;
+    take_noted(alloc, form, rows, entry, walk)
+}
+
+/// The message at this place, from 0.
+fn entry_at(view: &ViewEntries, place: usize) -> Option<&ViewEntry>
+    ensures { option_copied result ≡ slice_get view.now.items place }
+{
+    view.get(place)
+}
+
+/// Takes in the next message.
+fn take_noted(
+    alloc: Global,
+    form: SyncForm,
+    rows: &Rows<'_>,
+    entry: &ViewEntry,
+    walk: &mut SyncWalk,
+) -> Result<(), AllocError>
+    requires few { length walk.now.gone.items ≤ walk.now.done }
+    requires fits { walk.now.done + 1 < 2 ^ 32 }
+    ensures few { OnOk result (length walk.new.gone.items ≤ walk.new.done) }
+    ensures stands { OnOk result ((view : List ViewEntry) → (rest : List ℕ) → (back : List ViewEntry) → drop walk.old.done view ≡ entry.now ∷ back → Covers rest rows.now back → IsWalk form.kind form.modseq rows.now view (entry.now.uid ∷ rest) walk.old → IsWalk form.kind form.modseq rows.now view rest walk.new) }
+{
+    let number = (walk.done - walk.gone.len()) as u32 + 1;
+    walk.done += 1;
+    match rows.row_near((number as usize).saturating_sub(1), entry.uid) {
+        Some(row) => push_flag_change(alloc, form.modseq, number, entry, &row, walk),
+        None => push_gone(
+            form.kind,
+            walk.done as u32,
+            entry.uid,
+            &mut walk.gone,
+            &mut walk.left,
+        ),
+    }
+}
+
+/// Puts FETCH of a message's flags behind those that are there, and the flags behind theirs, where they differ.
+fn push_flag_change(
+    alloc: Global,
+    modseq: bool,
+    number: u32,
+    entry: &ViewEntry,
+    row: &Row<'_>,
+    walk: &mut SyncWalk,
+) -> Result<(), AllocError>
+    ensures fetches { OnOk result (walk.new.fetches.items ≡ walk.old.fetches.items ++ fetch_if_changed modseq number entry.now (Some (listed_message row.now))) }
+    ensures flags { OnOk result (walk.new.flags.items ≡ walk.old.flags.items ++ all_fetched_flags (fetch_if_changed modseq number entry.now (Some (listed_message row.now)))) }
+    ensures done { walk.new.done ≡ walk.old.done }
+    ensures gone { walk.new.gone ≡ walk.old.gone }
+    ensures left { walk.new.left ≡ walk.old.left }
+{
+    if are_same(&entry.flags, row) {
+        return Ok(());
+    }
+    walk.fetches.push(change_of(alloc, modseq, number, row)?)?;
+    let flags = row.versions.flags(alloc)?;
+    walk.flags.push(SilentFlags { number, flags })?;
+    Ok(())
+}
+
+/// Keeps what is to be done of a message that is gone: its number, or a note of it where that isn't told.
+fn push_gone(
+    kind: SyncKind,
+    number: u32,
+    uid: u32,
+    gone: &mut Vec<u32>,
+    left: &mut Vec<Note>,
+) -> Result<(), AllocError>
+    ensures gone { OnOk result (gone.new.items ≡ gone.old.items ++ gone_numbers kind number) }
+    ensures left { OnOk result (left.new.items ≡ left.old.items ++ notes_left kind uid) }
+{
+    match kind {
+        SyncKind::Full => gone.push(number)?,
+        SyncKind::Partial => left.push(Note::Gone { uid })?,
+    }
+    Ok(())
+}
+
+/// Does to a view what a sync comes to, where there is room for what came; takes no memory.
+pub fn patch_in(entries: &mut ViewEntries, patch: Patch)
+    requires { HasRoomForArrivals entries.now.items patch }
+    ensures { entries.new.items ≡ patched_entries entries.old.items patch.gone.items patch.came.items patch.flags.items }
+{
+    let Patch {
+        gone,
+        came,
+        flags,
+        place,
+    } = patch;
+    take_all_out(&gone, entries);
+    append_in_room(came, place, entries);
+    for silent in flags {
+        let SilentFlags { number, flags } = silent;
+        set_flags(number, flags, entries);
+    }
+}
+
+/// Takes the messages with these numbers out, the last one first.
+fn take_all_out(gone: &[u32], entries: &mut ViewEntries)
+    ensures { entries.new.items ≡ without_from gone.now entries.old.items }
+{
+    for i in (0..gone.len()).rev() {
+        take_number(gone[i], entries);
+    }
+}
+
+/// Puts messages behind those that are there, in this room; takes no memory.
+fn append_in_room(came: Vec<ViewEntry>, place: ReservedRoom<ViewEntry>, entries: &mut ViewEntries)
+    requires { (came.items ≡ []) ⊎ ((length entries.now.items ≤ place.most) × (length came.items ≤ place.room)) }
+    ensures { entries.new.items ≡ entries.old.items ++ came.items }
+{
+    if came.is_empty() {
+        return;
+    }
+    entries.adopt_room(place);
+    move_to_end(came, entries);
+}
+
+/// Puts messages behind those that are there, where there is room for them.
+fn move_to_end(came: Vec<ViewEntry>, entries: &mut ViewEntries)
+    requires { length came.items ≤ entries.now.room }
+    ensures { entries.new.items ≡ entries.old.items ++ came.items }
+{
+    for entry in came {
+        entries.push_reserved(entry);
+    }
+}

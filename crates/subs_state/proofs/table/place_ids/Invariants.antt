@@ -1,9 +1,0 @@
-use Rattle.std.proofs.Common.{◌≡◌, drop}
-use Rattle.std.specs.List.{fold}
-use Rattle.crdt_ops.specs.Order.{id_order, placed}
-use Rattle.subs_state.proofs.table.place_ids.Given as goal
-
-abbrev pub invariant-loop-id : goal.invariant-loop-id
-invariant-loop-id l =
-    fold (λ done id. placed id_order id done) l.ids (drop l.id-index l.found)
-    ≡ fold (λ done id. placed id_order id done) l.fn.ids l.found

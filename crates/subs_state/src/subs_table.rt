@@ -1,0 +1,262 @@
+//! The table that subscriptions are kept in, and the work on it.
+
+ghost use Rattle.std.specs.Prelude.{◌≡◌, ◌≤◌, ◌<◌, ◌+◌, ◌==◌, ℕ, List, None, IfOk, OnOk, true, not, ◌&&◌, ◌||◌, length, if◌then◌else◌};
+ghost use Rattle.std.specs.List.{filter, fold, list_any};
+ghost use Rattle.std.specs.Str.{bytes_eq};
+ghost use Rattle.indexmap.specs.IndexSet.{spare};
+ghost use Rattle.imap_types.specs.Ascending.{octet_order};
+ghost use Rattle.tags_clocks.specs.declared.id.OpId.{OpId};
+ghost use Rattle.crdt_ops.specs.SortedSets.{IsListOf, id_order, sorted_set, insert_ordered, same_id};
+ghost use Rattle.crdt_ops.specs.Tags.{SubscriptionTag, adds, removes};
+ghost use Rattle.subs_state.specs.Keys.{is_among, is_at};
+ghost use Rattle.subs_state.specs.Entries.{ids_entry, ids_in, room_of, subscribes, tag_in};
+ghost use Rattle.subs_state.specs.Subscriptions.{IsSubscribed};
+
+use crdt_ops::{Ids, Kind, Op, SoundOp, insert_name};
+use imap_types::Name;
+use indexmap::{IndexMap, IndexSet};
+use std::alloc::{AllocError, Global};
+use tags_clocks::OpId;
+
+/// The present subscription tags of a name: their ids.
+pub struct NameTags {
+    pub ids: IndexSet<OpId>,
+}
+
+// By hand, so that what owns one lets it go as a whole.
+impl Drop for NameTags {
+    fn drop(self) {
+        let Self { ids: _ } = self;
+    }
+}
+
+/// Takes out the subscription tags that the operation removes. Names stay, with their room.
+pub fn remove_tags_of(tags: &mut IndexMap<Vec<u8>, NameTags>, op: &Op)
+    ensures found { (n : List ℕ) (i : OpId) → tag_in tags.new.entries n i ≡ (not (removes (SubscriptionTag n i) op.now) && tag_in tags.old.entries n i) }
+    ensures room { (n : List ℕ) → room_of n tags.old.entries ≤ room_of n tags.new.entries }
+{
+    match &op.kind {
+        Kind::Unsubscribe { name, seen } => remove_ids(tags, name.as_bytes(), seen.as_slice()),
+        Kind::Create { .. } => {}
+        Kind::Delete { .. } => {}
+        Kind::Append { .. } => {}
+        Kind::Expunge { .. } => {}
+        Kind::Store { .. } => {}
+        Kind::Subscribe { .. } => {}
+    }
+}
+
+/// Puts in the subscription tag that the operation adds, for which there is room. Takes no memory.
+pub fn add_tag_of(tags: &mut IndexMap<Vec<u8>, NameTags>, op: &Op)
+    requires { (n : List ℕ) → (if subscribes n op.now then 1 else 0) ≤ room_of n tags.old.entries }
+    ensures found { (n : List ℕ) (i : OpId) → tag_in tags.new.entries n i ≡ (adds (SubscriptionTag n i) op.now || tag_in tags.old.entries n i) }
+    ensures room { (n : List ℕ) → room_of n tags.old.entries ≤ room_of n tags.new.entries + (if subscribes n op.now then 1 else 0) }
+{
+    match &op.kind {
+        Kind::Subscribe { name } => put_tag(tags, name.as_bytes(), &op.id),
+        Kind::Create { .. } => {}
+        Kind::Delete { .. } => {}
+        Kind::Append { .. } => {}
+        Kind::Expunge { .. } => {}
+        Kind::Store { .. } => {}
+        Kind::Unsubscribe { .. } => {}
+    }
+}
+
+/// Takes the name's tags with these ids out.
+fn remove_ids(tags: &mut IndexMap<Vec<u8>, NameTags>, name: &[u8], ids: &[OpId])
+    ensures found { (n : List ℕ) (i : OpId) → tag_in tags.new.entries n i ≡ (not (is_among n i name.now ids.now) && tag_in tags.old.entries n i) }
+    ensures room { (n : List ℕ) → room_of n tags.old.entries ≤ room_of n tags.new.entries }
+{
+    match tags.get_mut(name) {
+        Some(held) => remove_matching_ids(held, ids),
+        None => {}
+    }
+}
+
+fn remove_matching_ids(held: &mut NameTags, ids: &[OpId])
+    ensures found { (i : OpId) → list_any (same_id i) held.new.ids.keys ≡ (not (list_any (same_id i) ids.now) && list_any (same_id i) held.old.ids.keys) }
+    ensures room { spare held.old.ids ≤ spare held.new.ids }
+{
+    for id in ids {
+        held.ids.swap_remove(id);
+    }
+}
+
+/// Puts a tag in, for which there is room.
+fn put_tag(tags: &mut IndexMap<Vec<u8>, NameTags>, name: &[u8], id: &OpId)
+    requires { 0 < room_of name.now tags.old.entries }
+    ensures found { (n : List ℕ) (i : OpId) → tag_in tags.new.entries n i ≡ (is_at n i name.now id.now || tag_in tags.old.entries n i) }
+    ensures room { (n : List ℕ) → room_of n tags.old.entries ≤ room_of n tags.new.entries + (if bytes_eq n name.now then 1 else 0) }
+{
+    match tags.get_mut(name) {
+        Some(held) => put_id(held, id),
+        None => unreachable!(),
+    }
+}
+
+fn put_id(held: &mut NameTags, id: &OpId)
+    requires { 0 < spare held.old.ids }
+    ensures found { (i : OpId) → list_any (same_id i) held.new.ids.keys ≡ (same_id i id.now || list_any (same_id i) held.old.ids.keys) }
+    ensures room { spare held.old.ids ≤ spare held.new.ids + 1 }
+{
+    if held.ids.insert(*id).is_err() {
+        unreachable!();
+    }
+}
+
+/// Makes room for the subscription tags that these operations add, a name in the table for each. `Err` where there is no
+/// memory; the tags stay.
+pub fn make_room(
+    alloc: Global,
+    tags: &mut IndexMap<Vec<u8>, NameTags>,
+    ops: &[SoundOp],
+) -> Result<(), AllocError>
+    ensures found { (n : List ℕ) (i : OpId) → tag_in tags.new.entries n i ≡ tag_in tags.old.entries n i }
+    ensures room { OnOk result ((n : List ℕ) → length (filter (subscribes n) ops.now) ≤ room_of n tags.new.entries) }
+{
+    for op in ops {
+        make_room_of(alloc, tags, op.op(), ops)?;
+    }
+    Ok(())
+}
+
+/// Makes room for the tags that these operations add of the name to which one of them subscribes.
+fn make_room_of(
+    alloc: Global,
+    tags: &mut IndexMap<Vec<u8>, NameTags>,
+    op: &Op,
+    ops: &[SoundOp],
+) -> Result<(), AllocError>
+    ensures found { (n : List ℕ) (i : OpId) → tag_in tags.new.entries n i ≡ tag_in tags.old.entries n i }
+    ensures ok { OnOk result ((n : List ℕ) → subscribes n op.now ≡ true → length (filter (subscribes n) ops.now) ≤ room_of n tags.new.entries) }
+    ensures room { (n : List ℕ) → room_of n tags.old.entries ≤ room_of n tags.new.entries }
+{
+    match &op.kind {
+        Kind::Subscribe { name } => {
+            let more = count_subscribing(ops, name.as_bytes());
+            make_room_for(alloc, tags, name.as_bytes(), more)
+        }
+        Kind::Create { .. } => Ok(()),
+        Kind::Delete { .. } => Ok(()),
+        Kind::Append { .. } => Ok(()),
+        Kind::Expunge { .. } => Ok(()),
+        Kind::Store { .. } => Ok(()),
+        Kind::Unsubscribe { .. } => Ok(()),
+    }
+}
+
+/// How many of the operations subscribe to the name.
+fn count_subscribing(ops: &[SoundOp], name: &[u8]) -> usize
+    ensures { result ≡ length (filter (subscribes name.now) ops.now) }
+{
+    ops.iter()
+        .filter(|op| does_subscribe(op.op(), name))
+        .count()
+}
+
+fn does_subscribe(op: &Op, name: &[u8]) -> bool
+    ensures { result ≡ subscribes name.now op.now }
+{
+    match &op.kind {
+        Kind::Subscribe { name: other } => name == other.as_bytes(),
+        Kind::Create { .. } => false,
+        Kind::Delete { .. } => false,
+        Kind::Append { .. } => false,
+        Kind::Expunge { .. } => false,
+        Kind::Store { .. } => false,
+        Kind::Unsubscribe { .. } => false,
+    }
+}
+
+/// Makes room for so many tags more of a name, which is put in where it isn't there.
+fn make_room_for(
+    alloc: Global,
+    tags: &mut IndexMap<Vec<u8>, NameTags>,
+    name: &[u8],
+    more: usize,
+) -> Result<(), AllocError>
+    ensures found { (n : List ℕ) (i : OpId) → tag_in tags.new.entries n i ≡ tag_in tags.old.entries n i }
+    ensures ok { OnOk result (more ≤ room_of name.now tags.new.entries) }
+    ensures room { (n : List ℕ) → room_of n tags.old.entries ≤ room_of n tags.new.entries }
+{
+    match tags.get_mut(name) {
+        Some(held) => held.ids.reserve(more),
+        None => put_name(alloc, tags, name, more),
+    }
+}
+
+/// Puts a name in that isn't there, with room for so many tags.
+fn put_name(
+    alloc: Global,
+    tags: &mut IndexMap<Vec<u8>, NameTags>,
+    name: &[u8],
+    more: usize,
+) -> Result<(), AllocError>
+    requires { ids_entry name.now tags.old.entries ≡ None }
+    ensures found { (n : List ℕ) (i : OpId) → tag_in tags.new.entries n i ≡ tag_in tags.old.entries n i }
+    ensures ok { OnOk result (more ≤ room_of name.now tags.new.entries) }
+    ensures room { (n : List ℕ) → room_of n tags.old.entries ≤ room_of n tags.new.entries }
+{
+    let mut ids = IndexSet::new(alloc);
+    ids.reserve(more)?;
+    let key = name.to_vec(alloc)?;
+    if tags.insert(key, NameTags { ids }).is_err() {
+        return Err(AllocError);
+    }
+    Ok(())
+}
+
+/// The names that have tags, ascending; `Err` where there is no memory for them.
+pub fn subscribed_names(
+    alloc: Global,
+    tags: &IndexMap<Vec<u8>, NameTags>,
+) -> Result<Vec<Name>, AllocError>
+    ensures { IfOk result (λ names. IsListOf octet_order (IsSubscribed (tag_in tags.now.entries)) names.items) }
+{
+    let mut names = Vec::new(alloc);
+    for (key, held) in tags.iter() {
+        insert_if_tagged(alloc, &mut names, key, held)?;
+    }
+    Ok(names)
+}
+
+/// Puts a copy of the name in its place, where it has tags.
+fn insert_if_tagged(
+    alloc: Global,
+    names: &mut Vec<Name>,
+    key: &[u8],
+    held: &NameTags,
+) -> Result<(), AllocError>
+    ensures { OnOk result (names.new.items ≡ (if length held.now.ids.keys == 0 then names.old.items else insert_ordered octet_order key.now names.old.items)) }
+{
+    if held.ids.len() > 0 {
+        let name = Name::from_slice(alloc, key)?;
+        insert_name(alloc, names, &name)?;
+    }
+    Ok(())
+}
+
+/// The ids of the name's tags, ascending; `Err` where there is no memory for them.
+pub fn tag_ids(
+    alloc: Global,
+    tags: &IndexMap<Vec<u8>, NameTags>,
+    name: &Name,
+) -> Result<Ids, AllocError>
+    ensures { IfOk result (λ ids. ids ≡ sorted_set id_order (ids_in (ids_entry name.now tags.now.entries))) }
+{
+    let mut ids = Ids::none(alloc);
+    if let Some(held) = tags.get(name.as_bytes()) {
+        place_ids(&mut ids, held.ids.as_slice())?;
+    }
+    Ok(ids)
+}
+
+fn place_ids(ids: &mut Ids, found: &[OpId]) -> Result<(), AllocError>
+    ensures { OnOk result (ids.new ≡ fold (λ done id. insert_ordered id_order id done) ids.old found.now) }
+{
+    for id in found {
+        ids.insert(*id)?;
+    }
+    Ok(())
+}

@@ -1,6 +1,0 @@
-use Rattle.std.proofs.Common.{◌≡◌, take, drop}
-use Rattle.text_fields.specs.Reading.{cut_at, in_front}
-use Rattle.text_fields.proofs.reading.split.Given as goal
-
-abbrev pub invariant-loop-at : goal.invariant-loop-at
-invariant-loop-at l = in_front (take l.at l.text) (cut_at l.separator (drop l.at l.text)) ≡ cut_at l.separator l.text

@@ -1,0 +1,29 @@
+use Rattle.std.proofs.Common.{◌≡◌, true, length, subst, arith}
+use Rattle.crdt_ops.specs.declared.op.Op.{Op}
+use Rattle.crdt_ops.specs.Tags.{name_of}
+use Rattle.uid_projection.specs.UidsAndModSeqs.{kind_names_folder}
+use Rattle.uid_projection.specs.EntryMoves.{added_origin}
+use Rattle.uid_projection.specs.ChartTable.{HasRooms}
+use Rattle.uid_projection.proofs.Coming.{all_more, all_of}
+use Rattle.uid_projection.proofs.chart_room.make_rooms.Goals as goal
+
+pub returns-in_err-room_for-clause-table : goal.returns-in_err-room_for-clause-table
+returns-in_err-room_for-clause-table c = λ list k t. c.room_for.ensures.table list k (c.loop-op.invariant.table list k t)
+
+pub loop-op-preserved : goal.loop-op-preserved
+loop-op-preserved c =
+    let h = c.loop-op.invariant in
+    let n = length c.args.ops.now in
+    let new = c.room_for.new.charts.entries in
+    let P = λ (o : Op). kind_names_folder (name_of o.kind) o.kind ≡ true → HasRooms (added_origin o) n (name_of o.kind) new in
+    record {
+      table = λ list k t. c.room_for.ensures.table list k (h.table list k t);
+      done = all_more P c.args.ops.now c.loop-op.op-index c.op-item.result c.loop-op-test.true c.op-item.is
+          (λ o i about. c.room_for.ensures.rooms (added_origin o) n (name_of o.kind) (h.done o i about))
+          (subst P c.op.ensures.op c.in_ok-room_for.ensures.ok);
+    }
+
+pub returns-clause-ok : goal.returns-clause-ok
+returns-clause-ok c =
+    let stop = c.loop-op-test.false in
+    all_of (λ (o : Op). kind_names_folder (name_of o.kind) o.kind ≡ true → HasRooms (added_origin o) (length c.args.ops.now) (name_of o.kind) c.loop-op.charts.entries) c.args.ops.now c.loop-op.op-index (omega (arith, stop)) c.loop-op.invariant.done

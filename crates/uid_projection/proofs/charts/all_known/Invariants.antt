@@ -1,7 +1,0 @@
-use Rattle.std.proofs.Common.{take}
-use Rattle.merge_laws.specs.Orders.{AreSound}
-use Rattle.crdt_ops.specs.Sound.{IsSound}
-use Rattle.uid_projection.proofs.charts.all_known.Given as goal
-
-abbrev pub invariant-loop-op : goal.invariant-loop-op
-invariant-loop-op l = AreSound IsSound (take l.op-index l.ops)

@@ -1,0 +1,15 @@
+use Rattle.std.proofs.Common.{◌≡◌, ◌≤◌, ◌+◌, List, ◌++◌, take}
+use Rattle.crdt_ops.specs.declared.op.Op.{Op}
+use Rattle.folder_state.specs.Contents.{IsMadeBy}
+use Rattle.folder_state.specs.Tables.{contents_of}
+use Rattle.uid_projection.specs.declared.first_numbers.Counters.{Counters}
+use Rattle.uid_projection.specs.Applied.{IsApplied}
+use Rattle.uid_projection.specs.Counting.{count_all}
+use Rattle.uid_projection.specs.Incarnations.{begins_incarnation}
+use Rattle.uid_projection.proofs.exhaustion.k_after.Given as goal
+
+abbrev pub invariant-loop-at : goal.invariant-loop-at
+invariant-loop-at l = record {
+  told : (start : Counters) (list : List Op) → IsApplied (list ++ l.ops) → IsMadeBy (contents_of l.value) list → l.now ≡ start.k + count_all begins_incarnation list → l.k ≡ start.k + count_all begins_incarnation (list ++ take l.at l.ops);
+  bound : l.k ≤ 4294967295 + l.at;
+}

@@ -1,0 +1,78 @@
+use Rattle.std.proofs.Common.{not, ◌&&◌, cond, None, sym, ap, ◌∙◌}
+use Rattle.std.specs.List.{list_any}
+use Rattle.std.specs.Str.{bytes_eq}
+use Rattle.crdt_ops.specs.declared.kind.Kind.{Kind}
+use Rattle.crdt_ops.specs.SortedSets.{same_id}
+use Rattle.crdt_ops.specs.Tags.{FolderTag, MessageTag, tags_removed_by, same_tag}
+use Rattle.crdt_ops.specs.TagLaws.{delete_removes_folder_tags, delete_removes_message_tags, olds_keep_folder_tags, olds_remove_message_tags, unsubscribe_keeps_folder_tags, unsubscribe_keeps_message_tags}
+use Rattle.uid_projection.specs.FolderAhead.{tag_data_ahead, folder_of, tags_ahead}
+use Rattle.uid_projection.proofs.IdLemmas.{ok_always, on_ok_with}
+use Rattle.uid_projection.proofs.folder_ahead.FolderAhead.take_tags_of.Goals as goal
+
+pub returns-in-Delete-clause-tags : goal.returns-in-Delete-clause-tags
+returns-in-Delete-clause-tags c =
+    let f = folder_of c.args.self.now in
+    on_ok_with c.take_all.result
+    (λ h i. h i
+    ∙ ap (λ ids. not (bytes_eq f c.in-Delete.folder && list_any (same_id i) ids) && tags_ahead c.args.self.now i) c.as_slice.ensures.ids
+    ∙ ap (λ b. not b && tags_ahead c.args.self.now i)
+    (sym (ap (λ (kind : Kind). list_any (same_tag (FolderTag f i)) (tags_removed_by kind)) c.in-Delete.is ∙ delete_removes_folder_tags f c.in-Delete.folder i c.in-Delete.seen)))
+    c.take_all.ensures.tags
+
+pub returns-in-Delete-clause-bodies : goal.returns-in-Delete-clause-bodies
+returns-in-Delete-clause-bodies c =
+    let f = folder_of c.args.self.now in
+    on_ok_with c.take_all.result
+    (λ h i. h i
+    ∙ ap (λ ids. cond (bytes_eq f c.in-Delete.folder && list_any (same_id i) ids) None (tag_data_ahead c.args.self.now i)) c.as_slice.ensures.ids
+    ∙ ap (λ b. cond b None (tag_data_ahead c.args.self.now i))
+    (sym (ap (λ (kind : Kind). list_any (same_tag (MessageTag f i)) (tags_removed_by kind)) c.in-Delete.is ∙ delete_removes_message_tags f c.in-Delete.folder i c.in-Delete.seen)))
+    c.take_all.ensures.bodies
+
+pub returns-in-Expunge-clause-tags : goal.returns-in-Expunge-clause-tags
+returns-in-Expunge-clause-tags c =
+    let f = folder_of c.args.self.now in
+    ok_always c.take_messages.result
+    (λ i. c.take_messages.ensures.tags i
+    ∙ ap (λ b. not b && tags_ahead c.args.self.now i)
+    (sym (ap (λ (kind : Kind). list_any (same_tag (FolderTag f i)) (tags_removed_by kind)) c.in-Expunge.is ∙ olds_keep_folder_tags f c.in-Expunge.folder i c.in-Expunge.olds)))
+
+pub returns-in-Expunge-clause-bodies : goal.returns-in-Expunge-clause-bodies
+returns-in-Expunge-clause-bodies c =
+    let f = folder_of c.args.self.now in
+    on_ok_with c.take_messages.result
+    (λ h i. h i
+    ∙ ap (λ ids. cond (bytes_eq f c.in-Expunge.folder && list_any (same_id i) ids) None (tag_data_ahead c.args.self.now i)) c.as_slice-in-Expunge.ensures.ids
+    ∙ ap (λ b. cond b None (tag_data_ahead c.args.self.now i))
+    (sym (ap (λ (kind : Kind). list_any (same_tag (MessageTag f i)) (tags_removed_by kind)) c.in-Expunge.is ∙ olds_remove_message_tags f c.in-Expunge.folder i c.in-Expunge.olds)))
+    c.take_messages.ensures.bodies
+
+pub returns-in-Store-clause-tags : goal.returns-in-Store-clause-tags
+returns-in-Store-clause-tags c =
+    let f = folder_of c.args.self.now in
+    ok_always c.take_messages-in-Store.result
+    (λ i. c.take_messages-in-Store.ensures.tags i
+    ∙ ap (λ b. not b && tags_ahead c.args.self.now i)
+    (sym (ap (λ (kind : Kind). list_any (same_tag (FolderTag f i)) (tags_removed_by kind)) c.in-Store.is ∙ olds_keep_folder_tags f c.in-Store.folder i c.in-Store.olds)))
+
+pub returns-in-Store-clause-bodies : goal.returns-in-Store-clause-bodies
+returns-in-Store-clause-bodies c =
+    let f = folder_of c.args.self.now in
+    on_ok_with c.take_messages-in-Store.result
+    (λ h i. h i
+    ∙ ap (λ ids. cond (bytes_eq f c.in-Store.folder && list_any (same_id i) ids) None (tag_data_ahead c.args.self.now i)) c.as_slice-in-Store.ensures.ids
+    ∙ ap (λ b. cond b None (tag_data_ahead c.args.self.now i))
+    (sym (ap (λ (kind : Kind). list_any (same_tag (MessageTag f i)) (tags_removed_by kind)) c.in-Store.is ∙ olds_remove_message_tags f c.in-Store.folder i c.in-Store.olds)))
+    c.take_messages-in-Store.ensures.bodies
+
+pub returns-in-Unsubscribe-clause-tags : goal.returns-in-Unsubscribe-clause-tags
+returns-in-Unsubscribe-clause-tags c = λ i.
+    let f = folder_of c.args.self.now in
+    ap (λ b. not b && tags_ahead c.args.self.now i)
+    (sym (ap (λ (kind : Kind). list_any (same_tag (FolderTag f i)) (tags_removed_by kind)) c.in-Unsubscribe.is ∙ unsubscribe_keeps_folder_tags f c.in-Unsubscribe.name i c.in-Unsubscribe.seen))
+
+pub returns-in-Unsubscribe-clause-bodies : goal.returns-in-Unsubscribe-clause-bodies
+returns-in-Unsubscribe-clause-bodies c = λ i.
+    let f = folder_of c.args.self.now in
+    ap (λ b. cond b None (tag_data_ahead c.args.self.now i))
+    (sym (ap (λ (kind : Kind). list_any (same_tag (MessageTag f i)) (tags_removed_by kind)) c.in-Unsubscribe.is ∙ unsubscribe_keeps_message_tags f c.in-Unsubscribe.name i c.in-Unsubscribe.seen))

@@ -1,9 +1,0 @@
-use Rattle.std.proofs.Common.{take}
-use Rattle.merge_laws.specs.Orders.{IsIn}
-use Rattle.imap_types.specs.Unions.{version_ids}
-use Rattle.uid_projection.specs.Changes.{IsLeft, IsPlaced, bodies_of}
-use Rattle.uid_projection.proofs.over.place_left.Given as goal
-
-abbrev pub invariant-loop-version : goal.invariant-loop-version
-invariant-loop-version l =
-    IsPlaced (bodies_of l.messages) l.origin (λ i. IsLeft l.messages l.origin i × IsIn i (version_ids (take l.version-index l.kept))) l.initial.versions.items l.versions.items

@@ -1,0 +1,110 @@
+//! What an operation makes of a folder's entries, as they are kept or as an overlay has them.
+
+ghost use Rattle.std.specs.Prelude.{◌≡◌, ◌<◌, ◌+◌, ℕ, [], ◌∷◌, ◌++◌, true, false, Some, MatchOption, length, get_or, set, remove};
+ghost use Rattle.mailbox_rows.specs.declared.entry.ListingEntry.{ListingEntry};
+ghost use Rattle.uid_projection.specs.EntryMoves.{AreApart, IsNext, added_origin, has_entry, moved_entries, with_modseq};
+ghost use Rattle.crdt_ops.specs.SortedSets.{same_id};
+ghost use Rattle.mailbox_rows.specs.ListingEntries.{IsAt, Lacks};
+
+use crdt_ops::{Kind, Op};
+use mailbox_rows::{ListingEntry, EntryList};
+use tags_clocks::OpId;
+
+/// The origin of the message tag that an operation adds, where it adds one.
+pub fn added_origin(op: &Op) -> Option<OpId>
+    ensures { result ≡ added_origin op.now }
+{
+    match &op.kind {
+        Kind::Append { .. } => Some(op.id),
+        Kind::Store { origin, .. } => Some(*origin),
+        Kind::Create { .. } => None,
+        Kind::Delete { .. } => None,
+        Kind::Expunge { .. } => None,
+        Kind::Subscribe { .. } => None,
+        Kind::Unsubscribe { .. } => None,
+    }
+}
+
+/// The place of the entry with this origin, which may be near: where that is its place, no search is made.
+pub fn place_by<L: EntryList>(entries: &L, origin: &OpId, near: usize) -> Option<usize>
+    ensures { MatchOption result (Lacks origin.now (L.entries entries.now)) (IsAt origin.now (L.entries entries.now)) }
+{
+    if is_of(entries.get(near), origin) {
+        return Some(near);
+    }
+    entries.place_of(origin)
+}
+
+/// Whether there is an entry, and it is of this origin.
+fn is_of(entry: Option<ListingEntry>, origin: &OpId) -> bool
+    ensures { result ≡ true → (e : ListingEntry) × (entry ≡ Some e) × (e.origin ≡ origin.now) }
+{
+    match entry {
+        Some(entry) => entry.origin == *origin,
+        None => false,
+    }
+}
+
+/// Gives the message of this origin, if it has an entry, the mod-sequence where it stays, and takes it out where it doesn't. Tells where
+/// the entry stands or stood; 0 where there is none.
+pub fn settle<L: EntryList>(entries: &mut L, origin: &OpId, stays: bool, modseq: u64) -> usize
+    requires { L.has_edits entries.old 1 }
+    ensures entries { AreApart (L.entries entries.old) → L.entries entries.new ≡ moved_entries (λ g. same_id g origin.now) (λ g. stays) modseq (L.entries entries.old) }
+    ensures room { (n : ℕ) → L.has_room entries.old n → L.has_room entries.new n }
+{
+    match entries.place_of(origin) {
+        Some(place) => {
+            settle_at(entries, place, stays, modseq);
+            place
+        }
+        None => 0,
+    }
+}
+
+/// Gives the message of this origin, if it has an entry, the mod-sequence, and tells whether it has one. The entry may be near.
+pub fn renew<L: EntryList>(entries: &mut L, origin: &OpId, near: usize, modseq: u64) -> bool
+    requires { L.has_edits entries.old 1 }
+    ensures held { result ≡ has_entry (L.entries entries.old) origin.now }
+    ensures entries { AreApart (L.entries entries.old) → L.entries entries.new ≡ moved_entries (λ g. same_id g origin.now) (λ g. true) modseq (L.entries entries.old) }
+    ensures same { result ≡ false → entries.new ≡ entries.old }
+    ensures room { (n : ℕ) → L.has_room entries.old n → L.has_room entries.new n }
+{
+    match place_by(entries, origin, near) {
+        Some(place) => {
+            settle_at(entries, place, true, modseq);
+            true
+        }
+        None => false,
+    }
+}
+
+/// The same of the entry at this place.
+fn settle_at<L: EntryList>(entries: &mut L, place: usize, stays: bool, modseq: u64)
+    requires within { place < length (L.entries entries.old) }
+    requires edits { L.has_edits entries.old 1 }
+    ensures stays { stays ≡ true → (e : ListingEntry) → L.entries entries.new ≡ set (L.entries entries.old) place (with_modseq modseq (get_or (L.entries entries.old) place e)) }
+    ensures goes { stays ≡ false → L.entries entries.new ≡ remove (L.entries entries.old) place }
+    ensures room { (n : ℕ) → L.has_room entries.old n → L.has_room entries.new n }
+{
+    if stays {
+        entries.renew(place, modseq);
+    } else {
+        entries.take_out(place);
+    }
+}
+
+/// Puts an entry of an origin that has none behind the others.
+pub fn begin_line<L: EntryList>(entries: &mut L, origin: &OpId, uid: u32, modseq: u64)
+    requires edits { L.has_edits entries.old 1 }
+    requires room { L.has_room entries.old 1 }
+    requires fresh { has_entry (L.entries entries.old) origin.now ≡ false }
+    requires next { IsNext uid (L.entries entries.old) }
+    ensures entries { L.entries entries.new ≡ L.entries entries.old ++ record { origin = origin.now; uid = uid; modseq = modseq } ∷ [] }
+    ensures room { (n : ℕ) → L.has_room entries.old (n + 1) → L.has_room entries.new n }
+{
+    entries.put(ListingEntry {
+        origin: *origin,
+        uid,
+        modseq,
+    });
+}

@@ -1,0 +1,367 @@
+//! One folder as operations to come leave it.
+
+ghost use Rattle.std.specs.Prelude.{◌≡◌, ◌↔◌, ◌&&◌, ◌||◌, not, None, Some, true, if◌then◌else◌, IfOk, OnOk, IsTrue};
+ghost use Rattle.std.specs.List.{list_any, slice_get};
+ghost use Rattle.std.specs.Map.{lookup};
+ghost use Rattle.std.specs.Option.{option_map, option_or};
+ghost use Rattle.std.specs.Str.{bytes_eq};
+ghost use Rattle.imap_types.specs.Names.{inbox};
+ghost use Rattle.tags_clocks.specs.declared.id.OpId.{OpId};
+ghost use Rattle.crdt_ops.specs.SortedSets.{same_id};
+ghost use Rattle.crdt_ops.specs.Sets.{tag_data_by, dated_text_from};
+ghost use Rattle.crdt_ops.specs.Tags.{FolderTag, MessageTag, adds, removes};
+ghost use Rattle.folder_state.specs.Contents.{Contents, HasVersion, IsFolder, IsMessageOf, effect_of, origin_in};
+ghost use Rattle.folder_state.specs.Tables.{contents_of};
+ghost use Rattle.uid_projection.specs.FolderAhead.{IsAhead, IsHeld, IsHeldAt, IsOrderly, tag_data_ahead, folder_of, dated_texts_ahead, message_ahead, tags_ahead};
+ghost use Rattle.uid_projection.specs.TagChanges.{change_value};
+
+use crate::tag_changes::{LentDatedText, note_dated_text, note_tag, note_tags_gone};
+use crate::messages_ahead::MessagesAhead;
+use crate::presence_ahead::{has_tag_left, has_tag_put};
+use crate::touched_origins::touch;
+use crdt_ops::{Kind, Op, SoundOp};
+use folder_state::{Folder, Folders};
+use imap_types::{DateTime, Flags, Name, Text, Version};
+use indexmap::IndexMap;
+use mailbox_rows::{OwnedMessage, FolderMessages};
+use std::alloc::{AllocError, Global};
+use tags_clocks::OpId;
+
+/// One folder as operations to come leave it, applied one by one in order; what is kept stays as it is.
+pub struct FolderAhead<'a> {
+    name: Name,
+    value: &'a Folders,
+    tags: IndexMap<OpId, bool>,
+    messages: MessagesAhead<'a>,
+    letters: IndexMap<OpId, LentDatedText<'a>>,
+}
+
+// By hand, so that crates above let it go as a whole.
+impl<'a> Drop for FolderAhead<'a> {
+    fn drop(self) {
+        let Self {
+            name: _,
+            value: _,
+            tags: _,
+            messages: _,
+            letters: _,
+        } = self;
+    }
+}
+
+/// A folder's messages as operations to come leave them: the mailbox as it is kept, and the messages that stand in place of
+/// those that it has, or beside them. Of one that is gone no version stands there.
+#[derive(Drop)]
+pub struct MailboxAhead<'a> {
+    /// The messages as they are kept.
+    pub mailbox: FolderMessages<'a>,
+    /// The messages that the operations make or change, by their origins.
+    pub fresh: IndexMap<OpId, OwnedMessage<'a>>,
+}
+
+impl<'a> FolderAhead<'a> {
+    /// The folder as it is kept; `Err` where there is no memory for its name. Cost: one look-up.
+    pub fn new(
+        alloc: Global,
+        value: &'a Folders,
+        name: &Name,
+    ) -> Result<FolderAhead<'a>, AllocError>
+        ensures folder { IfOk result (λ ahead. folder_of ahead ≡ name.now) }
+        ensures ahead { IfOk result (λ ahead. IsAhead (contents_of value.now) ahead) }
+    {
+        let copied = name.copy(alloc)?;
+        Ok(FolderAhead {
+            name: copied,
+            value,
+            tags: IndexMap::new(alloc),
+            messages: MessagesAhead::new(alloc, value.folder(name)),
+            letters: IndexMap::new(alloc),
+        })
+    }
+
+    /// Applies an operation. An error, for want of memory, leaves the folder of no use but to be let go. Cost: what the
+    /// operation names, and nothing but an Append's date and text where it is about another folder.
+    pub fn step(&mut self, alloc: Global, op: &'a SoundOp) -> Result<(), AllocError>
+        ensures folder { folder_of self.new ≡ folder_of self.old }
+        ensures ahead { OnOk result ((c : Contents) → IsAhead c self.old → IsAhead (effect_of c op.now) self.new) }
+    {
+        let op = op.op();
+        self.take_tags_of(alloc, op)?;
+        self.put_tag_of(alloc, op)?;
+        self.keep_dated_text(alloc, op)
+    }
+
+    /// Takes out the tags that an operation removes, where it is about this folder.
+    fn take_tags_of(&mut self, alloc: Global, op: &Op) -> Result<(), AllocError>
+        ensures folder { folder_of self.new ≡ folder_of self.old }
+        ensures orderly { OnOk result (IsOrderly self.old → IsOrderly self.new) }
+        ensures tags { OnOk result ((i : OpId) → tags_ahead self.new i ≡ (not (removes (FolderTag (folder_of self.old) i) op.now) && tags_ahead self.old i)) }
+        ensures bodies { OnOk result ((i : OpId) → tag_data_ahead self.new i ≡ (if removes (MessageTag (folder_of self.old) i) op.now then None else tag_data_ahead self.old i)) }
+        ensures letters { OnOk result ((i : OpId) → dated_texts_ahead self.new i ≡ dated_texts_ahead self.old i) }
+    {
+        match &op.kind {
+            Kind::Delete { folder, seen } => self.take_all(alloc, folder, seen.as_slice()),
+            Kind::Expunge { folder, olds } => self.take_messages(alloc, folder, olds.as_slice()),
+            Kind::Store { folder, olds, .. } => self.take_messages(alloc, folder, olds.as_slice()),
+            Kind::Create { .. } => Ok(()),
+            Kind::Append { .. } => Ok(()),
+            Kind::Subscribe { .. } => Ok(()),
+            Kind::Unsubscribe { .. } => Ok(()),
+        }
+    }
+
+    /// Takes out the folder tags and the message tags with these ids, where they are of this folder.
+    fn take_all(&mut self, alloc: Global, folder: &Name, ids: &[OpId]) -> Result<(), AllocError>
+        ensures folder { folder_of self.new ≡ folder_of self.old }
+        ensures orderly { OnOk result (IsOrderly self.old → IsOrderly self.new) }
+        ensures tags { OnOk result ((i : OpId) → tags_ahead self.new i ≡ (not (bytes_eq (folder_of self.old) folder.now && list_any (same_id i) ids.now) && tags_ahead self.old i)) }
+        ensures bodies { OnOk result ((i : OpId) → tag_data_ahead self.new i ≡ (if bytes_eq (folder_of self.old) folder.now && list_any (same_id i) ids.now then None else tag_data_ahead self.old i)) }
+        ensures letters { OnOk result ((i : OpId) → dated_texts_ahead self.new i ≡ dated_texts_ahead self.old i) }
+    {
+        if self.name.as_bytes() != folder.as_bytes() {
+            return Ok(());
+        }
+        note_tags_gone(&mut self.tags, ids)?;
+        self.messages.take(alloc, ids)
+    }
+
+    /// Takes out the message tags with these ids, where they are of this folder.
+    fn take_messages(
+        &mut self,
+        alloc: Global,
+        folder: &Name,
+        ids: &[OpId],
+    ) -> Result<(), AllocError>
+        ensures folder { folder_of self.new ≡ folder_of self.old }
+        ensures orderly { OnOk result (IsOrderly self.old → IsOrderly self.new) }
+        ensures tags { (i : OpId) → tags_ahead self.new i ≡ tags_ahead self.old i }
+        ensures bodies { OnOk result ((i : OpId) → tag_data_ahead self.new i ≡ (if bytes_eq (folder_of self.old) folder.now && list_any (same_id i) ids.now then None else tag_data_ahead self.old i)) }
+        ensures letters { (i : OpId) → dated_texts_ahead self.new i ≡ dated_texts_ahead self.old i }
+    {
+        if self.name.as_bytes() != folder.as_bytes() {
+            return Ok(());
+        }
+        self.messages.take(alloc, ids)
+    }
+
+    /// Puts in the tag that an operation adds, where it is about this folder.
+    fn put_tag_of(&mut self, alloc: Global, op: &'a Op) -> Result<(), AllocError>
+        ensures folder { folder_of self.new ≡ folder_of self.old }
+        ensures orderly { OnOk result (IsOrderly self.old → IsOrderly self.new) }
+        ensures tags { OnOk result ((i : OpId) → tags_ahead self.new i ≡ (adds (FolderTag (folder_of self.old) i) op.now || tags_ahead self.old i)) }
+        ensures bodies { OnOk result ((i : OpId) → tag_data_ahead self.new i ≡ (if adds (MessageTag (folder_of self.old) i) op.now then tag_data_by op.now.id op.now.kind else tag_data_ahead self.old i)) }
+        ensures letters { OnOk result ((i : OpId) → dated_texts_ahead self.new i ≡ dated_texts_ahead self.old i) }
+    {
+        match &op.kind {
+            Kind::Create { folder } => self.put_tag(folder, &op.id),
+            Kind::Expunge { folder, .. } => self.put_tag(folder, &op.id),
+            Kind::Append { folder, flags, .. } => {
+                self.put_message(alloc, folder, &op.id, flags, &op.id)
+            }
+            Kind::Store {
+                folder,
+                flags,
+                origin,
+                ..
+            } => self.put_message(alloc, folder, &op.id, flags, origin),
+            Kind::Delete { .. } => Ok(()),
+            Kind::Subscribe { .. } => Ok(()),
+            Kind::Unsubscribe { .. } => Ok(()),
+        }
+    }
+
+    /// Puts the folder tag with this id in, where it is of this folder.
+    fn put_tag(&mut self, folder: &Name, id: &OpId) -> Result<(), AllocError>
+        ensures folder { folder_of self.new ≡ folder_of self.old }
+        ensures orderly { OnOk result (IsOrderly self.old → IsOrderly self.new) }
+        ensures tags { OnOk result ((i : OpId) → tags_ahead self.new i ≡ (bytes_eq (folder_of self.old) folder.now && same_id i id.now || tags_ahead self.old i)) }
+        ensures bodies { (i : OpId) → tag_data_ahead self.new i ≡ tag_data_ahead self.old i }
+        ensures letters { (i : OpId) → dated_texts_ahead self.new i ≡ dated_texts_ahead self.old i }
+    {
+        if self.name.as_bytes() != folder.as_bytes() {
+            return Ok(());
+        }
+        note_tag(&mut self.tags, id, true)
+    }
+
+    /// Puts the message tag with this id in, where it is of this folder.
+    fn put_message(
+        &mut self,
+        alloc: Global,
+        folder: &Name,
+        id: &OpId,
+        flags: &'a Flags,
+        origin: &OpId,
+    ) -> Result<(), AllocError>
+        ensures folder { folder_of self.new ≡ folder_of self.old }
+        ensures orderly { OnOk result (IsOrderly self.old → IsOrderly self.new) }
+        ensures tags { (i : OpId) → tags_ahead self.new i ≡ tags_ahead self.old i }
+        ensures bodies { OnOk result ((i : OpId) → tag_data_ahead self.new i ≡ (if bytes_eq (folder_of self.old) folder.now && same_id i id.now then Some (record { flags = flags.now; origin = origin.now }) else tag_data_ahead self.old i)) }
+        ensures letters { (i : OpId) → dated_texts_ahead self.new i ≡ dated_texts_ahead self.old i }
+    {
+        if self.name.as_bytes() != folder.as_bytes() {
+            return Ok(());
+        }
+        self.messages.put(alloc, id, flags, origin)
+    }
+
+    /// Keeps the date and text of an Append, of whatever folder: its id may be the origin of a message of this one.
+    fn keep_dated_text(&mut self, alloc: Global, op: &'a Op) -> Result<(), AllocError>
+        ensures folder { folder_of self.new ≡ folder_of self.old }
+        ensures orderly { OnOk result (IsOrderly self.old → IsOrderly self.new) }
+        ensures tags { (i : OpId) → tags_ahead self.new i ≡ tags_ahead self.old i }
+        ensures bodies { (i : OpId) → tag_data_ahead self.new i ≡ tag_data_ahead self.old i }
+        ensures letters { OnOk result ((i : OpId) → dated_texts_ahead self.new i ≡ option_or (dated_text_from i op.now) (dated_texts_ahead self.old i)) }
+    {
+        match &op.kind {
+            Kind::Append { date, text, .. } => self.put_dated_text(alloc, &op.id, date, text),
+            _ => Ok(()),
+        }
+    }
+
+    /// Keeps a date and text under this id.
+    fn put_dated_text(
+        &mut self,
+        alloc: Global,
+        id: &OpId,
+        date: &'a DateTime,
+        text: &'a Text,
+    ) -> Result<(), AllocError>
+        ensures folder { folder_of self.new ≡ folder_of self.old }
+        ensures orderly { OnOk result (IsOrderly self.old → IsOrderly self.new) }
+        ensures tags { (i : OpId) → tags_ahead self.new i ≡ tags_ahead self.old i }
+        ensures bodies { (i : OpId) → tag_data_ahead self.new i ≡ tag_data_ahead self.old i }
+        ensures letters { OnOk result ((i : OpId) → dated_texts_ahead self.new i ≡ (if same_id i id.now then Some (record { date = date.now; text = text.now }) else dated_texts_ahead self.old i)) }
+    {
+        touch(alloc, &mut self.messages.versions, id)?;
+        note_dated_text(&mut self.letters, id, date, text)
+    }
+
+    /// Whether the folder is there: INBOX, or a name with a present tag. Takes no memory. Cost: the tags that the operations
+    /// changed, from the last one on, and those that are kept, up to the first that is there.
+    pub fn exists(&self) -> bool
+        ensures { (c : Contents) → IsAhead c self.now → IsTrue result ↔ IsFolder c (folder_of self.now) }
+    {
+        self.is_inbox()
+            || has_tag_put(&self.tags)
+            || self.messages.has_put()
+            || has_tag_left(&self.tags, &self.messages)
+    }
+
+    /// Whether it is INBOX.
+    fn is_inbox(&self) -> bool
+        ensures { result ≡ bytes_eq (folder_of self.now) inbox }
+    {
+        self.name.as_bytes() == b"INBOX".as_slice()
+    }
+
+    /// Whether the origin has a version in the folder. Takes no memory. Cost: the versions that the origin has or got, up to the
+    /// first that is there.
+    pub fn has_version(&self, origin: &OpId) -> bool
+        ensures { (c : Contents) → IsAhead c self.now → IsTrue result ↔ HasVersion c (folder_of self.now) origin.now }
+    {
+        self.messages.has_version(origin)
+    }
+
+    /// The origin of the message tag with this id, where it is present. Takes no memory. Cost: two look-ups.
+    pub fn origin_of(&self, id: &OpId) -> Option<OpId>
+        ensures { (c : Contents) → IsAhead c self.now → result ≡ origin_in c (folder_of self.now) id.now }
+    {
+        self.messages.origin_of(id)
+    }
+
+    /// Puts the message of the origin at this place among those that may have changed in.
+    fn hold_at(
+        &self,
+        alloc: Global,
+        place: usize,
+        fresh: &mut IndexMap<OpId, OwnedMessage<'a>>,
+    ) -> Result<(), AllocError>
+        ensures { OnOk result (IsHeldAt self.now (option_map (λ e. e.0) (slice_get self.now.messages.versions.entries place)) fresh.old.entries fresh.new.entries) }
+    {
+        match self.messages.versions.get_index(place) {
+            Some((origin, _)) => put_held(fresh, origin, self.held(alloc, origin)?),
+            None => Ok(()),
+        }
+    }
+
+    /// The message of an origin; `Err` where there is no memory for its versions.
+    fn held(&self, alloc: Global, origin: &OpId) -> Result<OwnedMessage<'a>, AllocError>
+        ensures { IsOrderly self.now → IfOk result (λ message. IsHeld self.now origin.now message) }
+    {
+        let versions = self.messages.versions_of(alloc, origin)?;
+        Ok(with_dated_text(self.dated_text(origin), versions))
+    }
+
+    /// The date and text of the Append with this id.
+    fn dated_text(&self, id: &OpId) -> Option<LentDatedText<'a>>
+        ensures { option_map change_value result ≡ dated_texts_ahead self.now id.now }
+    {
+        match self.letters.get(id).copied() {
+            Some(letter) => Some(letter),
+            None => kept_dated_text(self.value, id),
+        }
+    }
+
+    /// The folder's messages; `Err` where there is no memory for them. Cost: the versions of the messages that the operations
+    /// made or changed.
+    pub fn mailbox(&self, alloc: Global) -> Result<MailboxAhead<'a>, AllocError>
+        ensures { IfOk result (λ ahead. (c : Contents) → IsAhead c self.now → (origin : OpId) → HasVersion c (folder_of self.now) origin → IsMessageOf c (folder_of self.now) origin (message_ahead ahead origin)) }
+    {
+        let mut fresh = IndexMap::new(alloc);
+        for at in 0..self.messages.versions.len() {
+            self.hold_at(alloc, at, &mut fresh)?;
+        }
+        Ok(MailboxAhead {
+            mailbox: self.value.mailbox(&self.name),
+            fresh,
+        })
+    }
+}
+
+/// Puts a message in for its origin. An error leaves all as it was.
+fn put_held<'a>(
+    fresh: &mut IndexMap<OpId, OwnedMessage<'a>>,
+    origin: &OpId,
+    message: OwnedMessage<'a>,
+) -> Result<(), AllocError>
+    ensures { OnOk result ((o : OpId) → lookup (same_id o) fresh.new.entries ≡ (if same_id origin.now o then Some message.entry else lookup (same_id o) fresh.old.entries)) }
+{
+    if fresh.insert(*origin, message).is_err() {
+        return Err(AllocError);
+    }
+    Ok(())
+}
+
+/// The date and text of the Append with this id, where they are kept.
+fn kept_dated_text<'a>(value: &'a Folders, id: &OpId) -> Option<LentDatedText<'a>>
+    ensures { option_map change_value result ≡ (contents_of value.now).letters id.now }
+{
+    match value.dated_text(id) {
+        Some(letter) => Some(LentDatedText {
+            date: &letter.date,
+            text: &letter.text,
+        }),
+        None => None,
+    }
+}
+
+/// The message with these versions, and with this date and text or none.
+fn with_dated_text<'a>(letter: Option<LentDatedText<'a>>, versions: Vec<Version>) -> OwnedMessage<'a>
+    ensures versions { result.versions ≡ versions }
+    ensures date { option_map (λ date. date.now) result.date ≡ option_map (λ l. l.date) (option_map change_value letter.entry) }
+    ensures text { option_map (λ text. text.now) result.text ≡ option_map (λ l. l.text) (option_map change_value letter.entry) }
+{
+    match letter {
+        Some(letter) => OwnedMessage {
+            versions,
+            date: Some(letter.date),
+            text: Some(letter.text),
+        },
+        None => OwnedMessage {
+            versions,
+            date: None,
+            text: None,
+        },
+    }
+}

@@ -1,0 +1,86 @@
+//! What operations change, lent by them.
+
+ghost use Rattle.std.specs.Prelude.{◌≡◌, true, false, None, Some, if◌then◌else◌, OnErr, OnOk};
+ghost use Rattle.std.specs.List.{list_any};
+ghost use Rattle.std.specs.Map.{lookup};
+ghost use Rattle.tags_clocks.specs.declared.id.OpId.{OpId};
+ghost use Rattle.crdt_ops.specs.SortedSets.{same_id};
+
+use imap_types::{DateTime, Flags, Text};
+use indexmap::IndexMap;
+use std::alloc::AllocError;
+use tags_clocks::OpId;
+
+/// What operations leave of a message tag.
+#[derive(Clone, Copy)]
+pub struct TagChange<'a> {
+    /// The flags that it carries; None where it is gone.
+    pub flags: Option<&'a Flags>,
+    /// The id of the Append that has the message's date and text.
+    pub origin: OpId,
+}
+
+/// The date and text of an Append.
+#[derive(Clone, Copy)]
+pub struct LentDatedText<'a> {
+    /// When the message was received.
+    pub date: &'a DateTime,
+    /// Its octets.
+    pub text: &'a Text,
+}
+
+/// Notes whether the folder tag with this id is present. An error leaves all as it was.
+pub fn note_tag(tags: &mut IndexMap<OpId, bool>, id: &OpId, present: bool) -> Result<(), AllocError>
+    ensures { OnOk result ((i : OpId) → lookup (same_id i) tags.new.entries ≡ (if same_id id.now i then Some present else lookup (same_id i) tags.old.entries)) }
+{
+    if tags.insert(*id, present).is_err() {
+        return Err(AllocError);
+    }
+    Ok(())
+}
+
+/// Notes that the folder tags with these ids are gone.
+pub fn note_tags_gone(tags: &mut IndexMap<OpId, bool>, ids: &[OpId]) -> Result<(), AllocError>
+    ensures { OnOk result ((i : OpId) → lookup (same_id i) tags.new.entries ≡ (if list_any (same_id i) ids.now then Some false else lookup (same_id i) tags.old.entries)) }
+{
+    for id in ids {
+        note_tag(tags, id, false)?;
+    }
+    Ok(())
+}
+
+/// Notes what is left of the message tag with this id. An error leaves all as it was.
+pub fn note_change<'a>(
+    changes: &mut IndexMap<OpId, TagChange<'a>>,
+    id: &OpId,
+    flags: Option<&'a Flags>,
+    origin: &OpId,
+) -> Result<(), AllocError>
+    ensures ok { OnOk result ((i : OpId) → lookup (same_id i) changes.new.entries ≡ (if same_id id.now i then Some (record { flags = flags.entry; origin = origin.now }) else lookup (same_id i) changes.old.entries)) }
+    ensures err { OnErr result ((i : OpId) → lookup (same_id i) changes.new.entries ≡ lookup (same_id i) changes.old.entries) }
+{
+    let change = TagChange {
+        flags,
+        origin: *origin,
+    };
+    if changes.insert(*id, change).is_err() {
+        return Err(AllocError);
+    }
+    Ok(())
+}
+
+/// Notes the date and text of the Append with this id. An error leaves all as it was.
+pub fn note_dated_text<'a>(
+    letters: &mut IndexMap<OpId, LentDatedText<'a>>,
+    id: &OpId,
+    date: &'a DateTime,
+    text: &'a Text,
+) -> Result<(), AllocError>
+    ensures ok { OnOk result ((i : OpId) → lookup (same_id i) letters.new.entries ≡ (if same_id id.now i then Some (record { date = date.entry; text = text.entry }) else lookup (same_id i) letters.old.entries)) }
+    ensures err { OnErr result ((i : OpId) → lookup (same_id i) letters.new.entries ≡ lookup (same_id i) letters.old.entries) }
+{
+    if letters.insert(*id, LentDatedText { date, text }).is_err() {
+        return Err(AllocError);
+    }
+    Ok(())
+}

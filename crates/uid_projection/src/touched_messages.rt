@@ -1,0 +1,158 @@
+//! Which messages of a folder operations to come touch, by their UIDs.
+
+ghost use Rattle.std.specs.Prelude.{◌≡◌, ◌||◌, ◌++◌, ℕ, List, [], Some, IfOk, OnOk, map};
+ghost use Rattle.std.specs.List.{list_any, slice_get};
+ghost use Rattle.std.specs.Option.{option_to_list};
+ghost use Rattle.crdt_ops.specs.declared.op.Op.{Op};
+ghost use Rattle.crdt_ops.specs.SortedSets.{is_some_id};
+ghost use Rattle.uid_projection.specs.Applied.{IsApplied};
+ghost use Rattle.uid_projection.specs.Following.{Follows};
+ghost use Rattle.uid_projection.specs.Incarnations.{uidvalidity_of};
+ghost use Rattle.uid_projection.specs.UidsAndModSeqs.{uidnext_of};
+ghost use Rattle.uid_projection.specs.Listing.{listing};
+ghost use Rattle.uid_projection.specs.EntryMoves.{loses};
+ghost use Rattle.uid_projection.specs.ChartTable.{origin_at};
+ghost use Rattle.uid_projection.specs.TouchedMessages.{AddsUids, RowsStayExcept, names_message};
+
+use crate::chart::Chart;
+use crate::charts::Charts;
+use crate::chart_ahead::is_about;
+use crate::entry_moves::added_origin;
+use crate::origins::origin_at;
+use crate::chart_table::chart_of;
+use crdt_ops::{Op, SoundOp};
+use imap_types::Name;
+use indexmap::IndexMap;
+use mailbox_rows::{EntryList, EntryTable};
+use std::alloc::{AllocError, Global};
+use tags_clocks::OpId;
+
+impl Charts {
+    /// The UIDs of the folder's messages that these operations change or expunge, applied next in this order; in no order, and some
+    /// perhaps more than once or although nothing changes. Below the folder's UIDNEXT every other row stays as it is, as long as the
+    /// UIDVALIDITY does. `Err` where there is no memory for them. Cost: what the operations name, a look-up each.
+    pub fn touched_uids(
+        &self,
+        alloc: Global,
+        name: &Name,
+        ops: &[SoundOp],
+    ) -> Result<Vec<u32>, AllocError>
+        ensures { (list : List Op) → Follows self.now list → IsApplied (list ++ ops.now) → uidvalidity_of self.now.start name.now (list ++ ops.now) ≡ uidvalidity_of self.now.start name.now list → IfOk result (λ uids. RowsStayExcept uids.items (uidnext_of self.now.start name.now list) (listing self.now.start name.now list) (listing self.now.start name.now (list ++ ops.now))) }
+    {
+        match chart_of(&self.charts, name) {
+            Some(chart) => uids_of_messages_named(alloc, chart, name, ops),
+            None => Ok(Vec::new(alloc)),
+        }
+    }
+}
+
+/// The UIDs of the messages that operations about the folder name.
+fn uids_of_messages_named(
+    alloc: Global,
+    chart: &Chart,
+    folder: &Name,
+    ops: &[SoundOp],
+) -> Result<Vec<u32>, AllocError>
+    ensures { IfOk result (λ uids. AddsUids (λ g. list_any (names_message (origin_at chart.now.versions.entries) folder.now g) ops.now) chart.now.entries.entries [] uids.items) }
+{
+    let mut uids = Vec::new(alloc);
+    for op in ops {
+        push_uids_named(&mut uids, chart, folder, op.op())?;
+    }
+    Ok(uids)
+}
+
+/// Puts the UIDs of the messages that the operation names behind the others, where it is about the folder.
+fn push_uids_named(uids: &mut Vec<u32>, chart: &Chart, folder: &Name, op: &Op) -> Result<(), AllocError>
+    ensures { OnOk result (AddsUids (λ g. names_message (origin_at chart.now.versions.entries) folder.now g op.now) chart.now.entries.entries uids.old.items uids.new.items) }
+{
+    if !is_about(&op.kind, folder) {
+        return Ok(());
+    }
+    push_uids_of_lost(uids, chart, op.kind.removed_ids())?;
+    match added_origin(op) {
+        Some(origin) => push_added(uids, chart, op.kind.removed_ids(), &origin),
+        None => Ok(()),
+    }
+}
+
+/// Puts the UID of the message of this origin, where it has an entry, behind the others, unless it is there for one of these versions.
+fn push_added(
+    uids: &mut Vec<u32>,
+    chart: &Chart,
+    removed: &[OpId],
+    origin: &OpId,
+) -> Result<(), AllocError>
+    ensures { OnOk result ((before : List ℕ) → AddsUids (loses (origin_at chart.now.versions.entries) removed.now) chart.now.entries.entries before uids.old.items → AddsUids (λ g. loses (origin_at chart.now.versions.entries) removed.now g || is_some_id g (Some origin.now)) chart.now.entries.entries before uids.new.items) }
+{
+    if is_lost(chart, removed, origin) {
+        return Ok(());
+    }
+    push_entry(uids, &chart.entries, origin)
+}
+
+/// Whether one of these is a version of this origin.
+fn is_lost(chart: &Chart, removed: &[OpId], origin: &OpId) -> bool
+    ensures { result ≡ loses (origin_at chart.now.versions.entries) removed.now origin.now }
+{
+    for id in removed {
+        if is_at(&chart.versions, id, origin) {
+            return true;
+        }
+    }
+    false
+}
+
+/// Whether the version with this id is one of this origin.
+fn is_at(versions: &IndexMap<OpId, OpId>, id: &OpId, origin: &OpId) -> bool
+    ensures { result ≡ is_some_id origin.now (origin_at versions.now.entries id.now) }
+{
+    match origin_at(versions, id) {
+        Some(found) => *origin == found,
+        None => false,
+    }
+}
+
+/// Puts the UIDs of the messages of which these are versions behind the others.
+fn push_uids_of_lost(uids: &mut Vec<u32>, chart: &Chart, removed: &[OpId]) -> Result<(), AllocError>
+    ensures { OnOk result (AddsUids (loses (origin_at chart.now.versions.entries) removed.now) chart.now.entries.entries uids.old.items uids.new.items) }
+{
+    for id in removed {
+        push_origin(uids, &chart.entries, origin_at(&chart.versions, id))?;
+    }
+    Ok(())
+}
+
+/// Puts the UID of the message of this origin, where there is one and it has an entry, behind the others.
+fn push_origin(
+    uids: &mut Vec<u32>,
+    entries: &EntryTable,
+    origin: Option<OpId>,
+) -> Result<(), AllocError>
+    ensures { OnOk result (AddsUids (λ g. is_some_id g origin) entries.now.entries uids.old.items uids.new.items) }
+{
+    match origin {
+        Some(origin) => push_entry(uids, entries, &origin),
+        None => Ok(()),
+    }
+}
+
+/// The same of an origin that is there.
+fn push_entry(uids: &mut Vec<u32>, entries: &EntryTable, origin: &OpId) -> Result<(), AllocError>
+    ensures { OnOk result (AddsUids (λ g. is_some_id g (Some origin.now)) entries.now.entries uids.old.items uids.new.items) }
+{
+    match entries.place_of(origin) {
+        Some(place) => push_at(uids, entries, place),
+        None => Ok(()),
+    }
+}
+
+/// Puts the UID of the entry at this place behind the others.
+fn push_at(uids: &mut Vec<u32>, entries: &EntryTable, place: usize) -> Result<(), AllocError>
+    ensures { OnOk result (uids.new.items ≡ uids.old.items ++ map (λ e. e.uid) (option_to_list (slice_get entries.now.entries place))) }
+{
+    if let Some(entry) = entries.get(place) {
+        uids.push(entry.uid)?;
+    }
+    Ok(())
+}

@@ -1,0 +1,114 @@
+//! An event at the node at which it happens.
+
+ghost use Rattle.std.specs.Prelude.{◌≡◌, ◌↔◌, IsTrue, false, true};
+ghost use Rattle.imap_node.specs.declared.input.Input.TheVariants as inputs;
+ghost use Rattle.world_core.specs.Steps.{AnswersBy, AwaitsInput, ClosesBy, DrainsBy, OpensBy, DeliversOne};
+
+use crate::event::Outcome;
+use crdt_ops::SoundOp;
+use imap_node::{Auth, Node, OpenFault, SessionNo};
+use imap_syntax::{IdleLine, Tagged};
+use imap_types::Moment;
+use std::alloc::Global;
+
+/// A session begins.
+pub fn open(node: &mut Node, auth: Auth) -> Outcome
+    ensures { OpensBy node.old.state auth result node.new.state }
+{
+    match node.open(auth) {
+        Ok(session) => Outcome::Opened { session },
+        Err(OpenFault::TooManySessions) => Outcome::TurnedAway {
+            fault: OpenFault::TooManySessions,
+        },
+        Err(OpenFault::NoMemory) => Outcome::TurnedAway {
+            fault: OpenFault::NoMemory,
+        },
+    }
+}
+
+/// Whether the session is open, and idles or doesn't, as is asked.
+fn awaits(node: &Node, session: SessionNo, idles: bool) -> bool
+    ensures { IsTrue result ↔ AwaitsInput node.now.state session idles }
+{
+    match node.session(session) {
+        None => false,
+        Some(found) => found.idling.is_some() == idles,
+    }
+}
+
+/// A session sends a command.
+pub fn command(
+    alloc: Global,
+    node: &mut Node,
+    session: SessionNo,
+    moment: Moment,
+    tagged: Tagged,
+) -> Outcome
+    ensures { AnswersBy node.old.state session false (inputs.Command moment tagged) result node.new.state }
+{
+    if awaits(node, session, false) {
+        Outcome::Replied {
+            reply: node.command(alloc, session, moment, tagged),
+        }
+    } else {
+        drop(tagged);
+        Outcome::PassedOver
+    }
+}
+
+/// A session sends a line while it idles.
+pub fn idle_line(alloc: Global, node: &mut Node, session: SessionNo, line: IdleLine) -> Outcome
+    ensures { AnswersBy node.old.state session true (inputs.Line line) result node.new.state }
+{
+    if awaits(node, session, true) {
+        Outcome::Replied {
+            reply: node.done(alloc, session, line),
+        }
+    } else {
+        Outcome::PassedOver
+    }
+}
+
+/// A session that idles is told what changed.
+pub fn poll(alloc: Global, node: &mut Node, session: SessionNo) -> Outcome
+    ensures { AnswersBy node.old.state session true inputs.Poll result node.new.state }
+{
+    if awaits(node, session, true) {
+        Outcome::Replied {
+            reply: node.poll(alloc, session),
+        }
+    } else {
+        Outcome::PassedOver
+    }
+}
+
+/// An operation comes.
+pub fn deliver(alloc: Global, node: &mut Node, op: SoundOp) -> Outcome
+    ensures { DeliversOne node.old.state op result node.new.state }
+{
+    match node.deliver(alloc, op) {
+        Ok(delivered) => Outcome::Came { delivered },
+        Err(fault) => Outcome::NotTaken { fault },
+    }
+}
+
+/// The node goes on with what it holds.
+pub fn drain(alloc: Global, node: &mut Node) -> Outcome
+    ensures { DrainsBy node.old.state result node.new.state }
+{
+    Outcome::Drained {
+        drained: node.drain(alloc),
+    }
+}
+
+/// A session ends.
+pub fn close(node: &mut Node, session: SessionNo) -> Outcome
+    ensures { ClosesBy node.old.state session result node.new.state }
+{
+    if node.is_open(session) {
+        node.close(session);
+        Outcome::Closed
+    } else {
+        Outcome::PassedOver
+    }
+}
