@@ -6,8 +6,8 @@ ghost use Rattle.merge_laws.specs.Orders.{IsIn, HasId, HaveSameElements, IsRipe}
 ghost use Rattle.causal_inbox.specs.Inbox.{AreAscending, AreHeldStill, IsClockOf, IsLess, held_limit};
 ghost use Rattle.causal_inbox.specs.CauseIndex.{AreApart, AreIndexed, IsReindexed};
 
-use crate::op_cell::OpCell;
 use crate::cause_index::{CauseEntry, entry_of, first_waiting_for, place_of};
+use crate::op_cell::OpCell;
 use merge_laws::Caused;
 use std::alloc::{AllocError, Global};
 use std::marker::Model;

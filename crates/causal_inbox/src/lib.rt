@@ -4,14 +4,14 @@
 //! inbox serves any [`merge_laws::Replicated`] value, and tells a [`merge_laws::Follower`] each operation that it applies.
 #![tactic(auto)]
 
-mod delivery;
-mod op_cell;
 mod cause_index;
-mod held_store;
+mod delivery;
 mod held_ops;
+mod held_store;
 mod history;
 mod inbox;
 mod laws;
+mod op_cell;
 mod own_ids;
 mod search;
 

@@ -310,7 +310,12 @@ fn any_left(
 }
 
 /// Whether one of the operations adds a version that is left after all of them.
-fn adds_lasting_version(held: Option<&Folder>, folder: &Name, origin: &OpId, ops: &[SoundOp]) -> bool
+fn adds_lasting_version(
+    held: Option<&Folder>,
+    folder: &Name,
+    origin: &OpId,
+    ops: &[SoundOp],
+) -> bool
     ensures { result ≡ list_any (is_added_and_left (option_copied held.entry) ops.now folder.now origin.now) ops.now }
 {
     for op in ops {
@@ -322,7 +327,13 @@ fn adds_lasting_version(held: Option<&Folder>, folder: &Name, origin: &OpId, ops
 }
 
 /// Whether an operation adds a version of the origin that is left after all of them.
-fn is_added_and_left(held: Option<&Folder>, folder: &Name, origin: &OpId, op: &Op, ops: &[SoundOp]) -> bool
+fn is_added_and_left(
+    held: Option<&Folder>,
+    folder: &Name,
+    origin: &OpId,
+    op: &Op,
+    ops: &[SoundOp],
+) -> bool
     ensures { result ≡ is_added_and_left (option_copied held.entry) ops.now folder.now origin.now op.now }
 {
     is_id(origin, origin_by(op)) && is_version_after(held, folder, origin, &op.id, ops)

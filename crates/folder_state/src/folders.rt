@@ -2,13 +2,13 @@
 
 ghost use Rattle.crdt_ops.specs.Ops.{clock_of, id_of};
 
-use crate::tag_changes::{remove_tags_of, add_tag_of};
-use crate::folder::Folder;
 use crate::after_ops::{has_tag_after_all, has_tags, has_version_after_all, has_versions};
-use crate::lent_message::{LentMessage, lent_message, lent_messages};
+use crate::folder::Folder;
 use crate::id_lists::{all_ids, folder_names, is_inbox, tag_ids, version_ids};
+use crate::lent_message::{LentMessage, lent_message, lent_messages};
 use crate::message_reader::folder_messages;
 use crate::op_room::{empty_lists, reserve_folders, reserve_one};
+use crate::tag_changes::{add_tag_of, remove_tags_of};
 use crate::tag_counts::TagCounts;
 use crdt_ops::{Ids, Message, SoundOp, copy_ops};
 use imap_types::{Name, Version};

@@ -50,7 +50,11 @@ pub fn lent_message<'a>(
     ensures { (c : Contents) (name : List ℕ) → ((i : OpId) → c.bodies name i ≡ (folder_contents folder.now).bodies i) → c.letters origin.now ≡ option_map kept_dated_text (lookup (same_id origin.now) letters.now.entries) → IsMessageOf c name origin.now (option_map lent_message result) }
 {
     match folder.versions_of(origin) {
-        Some(versions) => Some(with_dated_text(letters.get(origin), origin, Versions::new(versions))),
+        Some(versions) => Some(with_dated_text(
+            letters.get(origin),
+            origin,
+            Versions::new(versions),
+        )),
         None => None,
     }
 }

@@ -5,18 +5,18 @@
 //! texts of all Appends. What it tells of any causal list of sound operations is what the set of them means.
 #![tactic(auto)]
 
-mod tag_changes;
+mod after_ops;
 mod folder;
 mod folders;
-mod tag_removal;
-mod after_ops;
+mod id_lists;
 mod laws;
 mod lent_message;
-mod id_lists;
-mod tag_insertion;
 mod message_reader;
 mod op_room;
+mod tag_changes;
 mod tag_counts;
+mod tag_insertion;
+mod tag_removal;
 
 pub use folder::Folder;
 pub use folders::Folders;

@@ -9,8 +9,8 @@ ghost use Rattle.crdt_ops.specs.declared.op.Op.{Op};
 ghost use Rattle.folder_state.specs.FolderTables.{FolderTables, find_folder};
 ghost use Rattle.folder_state.specs.OpRoom.{AreRoomier, AreRoomierLists, HasPlaces, HasRoomAt, HasRoomFor, HasVersionPlaces, HasVersionRoom, HaveLists, IsRoomier, count_at, count_under, origin_by, tags_added, target, versions_added, counts_of};
 
-use crate::folder::Folder;
 use crate::after_ops::origin_by;
+use crate::folder::Folder;
 use crate::tag_counts::{TagCounts, target};
 use crdt_ops::{Op, SoundOp};
 use imap_types::Version;

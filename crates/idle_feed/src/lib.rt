@@ -5,14 +5,14 @@
 //! planned with all memory that it takes, and done in place without any.
 #![tactic(auto)]
 
-mod view_change;
 mod feed;
-mod laws;
 mod feed_notes;
+mod laws;
 mod sync_planning;
+mod view_change;
 
-pub use view_change::{ViewChange, commit};
 pub use feed::{Feed, MAX_NOTES, TakenNotes};
-pub use laws::takes_tell_all;
 pub use feed_notes::note_all;
+pub use laws::takes_tell_all;
 pub use sync_planning::{NotedChanges, PlannedSync, plan};
+pub use view_change::{ViewChange, commit};

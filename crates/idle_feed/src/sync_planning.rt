@@ -11,13 +11,13 @@ ghost use Rattle.session_view.specs.declared.notes.Note.TheVariants.{Ended};
 ghost use Rattle.session_view.specs.declared.view_entry.SyncKind.TheVariants.{Full};
 ghost use Rattle.idle_feed.specs.NotedFeeds.{CanCommit, IsChangeTo, NotesAllOf, entries_after_change};
 
-use crate::view_change::ViewChange;
 use crate::feed::Feed;
+use crate::view_change::ViewChange;
 use imap_answers::Answer;
 use mailbox_rows::Rows;
 use session_view::{
-    Note, SilentFlags, SyncForm, SyncKind, SyncOutcome, SyncPlan, SyncPlanAfterFlags, View, counts_tell,
-    notes_keep_up, replay_reply, sync_by_comparison,
+    Note, SilentFlags, SyncForm, SyncKind, SyncOutcome, SyncPlan, SyncPlanAfterFlags, View,
+    counts_tell, notes_keep_up, replay_reply, sync_by_comparison,
 };
 use std::alloc::{AllocError, Global};
 
@@ -163,7 +163,9 @@ fn plan_in_place(
     ensures change { IfOk result (λ plan. IsChangeTo rows.now view.old.entries plan.change) }
     ensures can { IfOk result (λ plan. CanCommit view.old.entries plan.change) }
 {
-    let SyncPlanAfterFlags { first, told } = view.plan_sync_after_flags(alloc, rows, notes, first, form)?;
+    let SyncPlanAfterFlags { first, told } = view.plan_sync_after_flags(
+        alloc, rows, notes, first, form,
+    )?;
     let SyncPlan {
         answers,
         patch,
@@ -197,7 +199,13 @@ fn plan_rebuilt_view(
     counts_tell();
     let listed = rows.count();
     let seen = replay_reply(alloc, rows, view.entries(), &first, &[])?;
-    let SyncOutcome { entries, answers } = sync_by_comparison(alloc, form.kind, form.modseq, rows, &seen)?;
+    let SyncOutcome { entries, answers } = sync_by_comparison(
+        alloc,
+        form.kind,
+        form.modseq,
+        rows,
+        &seen,
+    )?;
     let whole = is_all(form.kind, entries.len(), listed);
     Ok(PlannedSync {
         answers,

@@ -7,7 +7,7 @@ ghost use Rattle.session_view.specs.declared.view_entry.ViewEntry.{ViewEntry};
 ghost use Rattle.idle_feed.specs.NotedFeeds.{CanCommit, IsChangeTo, IsLeftNoted, IsLeftBy, NotesAllOf, entries_after_change};
 
 use crate::feed::{Feed, TakenNotes};
-use session_view::{Changes, ViewEntries, Note, Patch, SilentFlags, View};
+use session_view::{Changes, Note, Patch, SilentFlags, View, ViewEntries};
 
 /// What a sync does to a view, with all memory that it takes.
 #[derive(Drop)]

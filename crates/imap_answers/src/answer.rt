@@ -2,8 +2,10 @@ ghost use Rattle.std.specs.Prelude.{◌≡◌, ◌↔◌, IfOk, IsTrue};
 
 use crate::codes::{Code, Notice};
 use crate::fetch_items::FetchItems;
+use crate::fixed_words::{
+    ByeReason, CompletedWord, Continuation, EnabledExtensions, Login, Refusal,
+};
 use crate::mailbox::{MailboxState, SearchResults, StatusItems};
-use crate::fixed_words::{ByeReason, CompletedWord, Continuation, EnabledExtensions, Login, Refusal};
 use imap_types::{Flags, Name, Octets};
 use std::alloc::{AllocError, Global};
 

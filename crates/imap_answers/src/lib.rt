@@ -4,11 +4,11 @@
 mod answer;
 mod codes;
 mod fetch_items;
-mod mailbox;
 mod fixed_words;
+mod mailbox;
 
 pub use answer::Answer;
 pub use codes::{Code, Notice};
 pub use fetch_items::{FetchItems, SectionData, Sections};
-pub use mailbox::{MailboxState, SearchResults, StatusItems};
 pub use fixed_words::{ByeReason, CompletedWord, Continuation, EnabledExtensions, Login, Refusal};
+pub use mailbox::{MailboxState, SearchResults, StatusItems};

@@ -12,9 +12,9 @@ ghost use Rattle.imap_commands.specs.Gives.{GivesOrLacksMemory};
 ghost use Rattle.imap_commands.specs.Report.{gone_code, message_at};
 
 use crate::command_args::{CopyArgs, CopyTarget, OpenMailbox};
-use crate::intent::{NamedMessages, Intent};
+use crate::intent::{Intent, NamedMessages};
 use crate::limits::intent_within_limits;
-use crate::named_messages::{messages_named, names_of, set_of, existing_messages};
+use crate::named_messages::{existing_messages, messages_named, names_of, set_of};
 use crate::report::{CommandReport, gone_code};
 use crate::versions::old_ids;
 use crdt_ops::Kind;

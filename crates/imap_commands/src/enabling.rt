@@ -5,8 +5,8 @@ ghost use Rattle.std.specs.List.{filter, list_any};
 ghost use Rattle.imap_commands.specs.Enabling.{asks_condstore, asks_condstore_first, asks_imap4rev2, begins_with_condstore, enable_report, enabled_by, enabled_of, fetch_asks_modseq, is_condstore, is_imap4rev2, is_modseq_item, search_asks_modseq, status_asks_modseq};
 ghost use Rattle.imap_query.specs.Hits.{step_names_modseq};
 
-use crate::simple_commands::one_answer;
 use crate::report::CommandReport;
+use crate::simple_commands::one_answer;
 use imap_answers::{Answer, EnabledExtensions};
 use imap_syntax::{FetchItem, SearchStep, SearchTest, StatusItem};
 use imap_types::Octets;

@@ -9,7 +9,7 @@ ghost use Rattle.imap_commands.specs.NamedMessages.{messages_named_by};
 ghost use Rattle.imap_commands.specs.Gives.{GivesOrLacksMemory};
 
 use crate::command_args::OpenMailbox;
-use crate::intent::{NamedMessages, Intent};
+use crate::intent::{Intent, NamedMessages};
 use crate::limits::{intent_within_limits, within_limits};
 use crate::named_messages::messages_named;
 use crate::report::{CommandReport, gone_code};
@@ -125,7 +125,11 @@ fn expunges_at(
 }
 
 /// What UID EXPUNGE tells, by the mailbox before it and what it found there: that it names messages that are gone, if it does.
-pub fn uid_expunge_report(alloc: Global, mailbox: &OpenMailbox<'_>, found: &NamedMessages) -> CommandReport
+pub fn uid_expunge_report(
+    alloc: Global,
+    mailbox: &OpenMailbox<'_>,
+    found: &NamedMessages,
+) -> CommandReport
     ensures { (uids : List SequenceRange) → found.now ≡ messages_named_by true uids mailbox.now.view → result ≡ uid_expunge_report mailbox.now uids }
 {
     let code = gone_code(&mailbox.rows, mailbox.view.entries(), found.numbers());

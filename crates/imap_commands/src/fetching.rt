@@ -10,7 +10,7 @@ ghost use Rattle.imap_commands.specs.Gives.{GivesOrLacksMemory};
 ghost use Rattle.imap_commands.specs.Report.{are_some_gone, entry_at, gone_code, message_at};
 
 use crate::command_args::{FetchArgs, OpenMailbox};
-use crate::intent::{NamedMessages, Intent};
+use crate::intent::{Intent, NamedMessages};
 use crate::limits::intent_within_limits;
 use crate::named_messages::messages_named;
 use crate::report::{CommandReport, entry_at, gone_code};
@@ -135,7 +135,12 @@ pub fn fetch_report(
 }
 
 /// The code beside these answers: where each of the messages has one, none is gone.
-fn code_for_answers(told: &[Answer], rows: &Rows<'_>, view: &ViewEntries, numbers: &[u32]) -> Option<Code>
+fn code_for_answers(
+    told: &[Answer],
+    rows: &Rows<'_>,
+    view: &ViewEntries,
+    numbers: &[u32],
+) -> Option<Code>
     requires { length told.now ≡ length numbers.now → are_some_gone rows.now view.now.items numbers.now ≡ false }
     ensures { result ≡ gone_code rows.now view.now.items numbers.now }
 {
@@ -163,7 +168,11 @@ fn fetch_answers_of(
 }
 
 /// The messages with these numbers, as queries see them.
-fn shown_of(alloc: Global, view: &ViewEntries, numbers: &[u32]) -> Result<Vec<ViewedMessage>, AllocError>
+fn shown_of(
+    alloc: Global,
+    view: &ViewEntries,
+    numbers: &[u32],
+) -> Result<Vec<ViewedMessage>, AllocError>
     ensures { IfOk result (λ shown. shown.items ≡ shown_of view.now.items numbers.now) }
 {
     let mut shown = Vec::with_capacity(alloc, numbers.len())?;
@@ -173,7 +182,11 @@ fn shown_of(alloc: Global, view: &ViewEntries, numbers: &[u32]) -> Result<Vec<Vi
     Ok(shown)
 }
 
-fn push_shown(view: &ViewEntries, number: u32, shown: &mut Vec<ViewedMessage>) -> Result<(), AllocError>
+fn push_shown(
+    view: &ViewEntries,
+    number: u32,
+    shown: &mut Vec<ViewedMessage>,
+) -> Result<(), AllocError>
     ensures { OnOk result (shown.new.items ≡ shown.old.items ++ shown_at number (entry_at view.now.items number)) }
 {
     if let Some(entry) = entry_at(view, number) {

@@ -8,49 +8,44 @@
 
 mod appending;
 mod command_args;
-mod simple_commands;
-mod flag_change;
 mod copying;
 mod enabling;
-mod login;
 mod expunging;
 mod fetching;
+mod flag_change;
 mod flag_sets;
 mod intent;
 mod issuable;
 mod laws;
 mod limits;
+mod login;
 mod mailboxes;
 mod named_messages;
 mod printable;
+mod report;
 mod searching;
 mod selecting;
 mod session;
+mod simple_commands;
 mod storing;
-mod report;
 mod versions;
 
-pub use appending::{append_report, append_intent};
+pub use appending::{append_intent, append_report};
 pub use command_args::{
-    AppendArgs, CopyArgs, FetchArgs, CopyTarget, OpenMailbox, SearchArgs, StoreArgs,
+    AppendArgs, CopyArgs, CopyTarget, FetchArgs, OpenMailbox, SearchArgs, StoreArgs,
 };
-pub use simple_commands::{
-    capability_report, idle_report, list_report, logout_report, namespace_report, status_report,
-    status_intent,
-};
-pub use flag_change::changed_flags;
-pub use copying::{copy_report, copy_intent, move_report, move_intent};
+pub use copying::{copy_intent, copy_report, move_intent, move_report};
 pub use enabling::{
     asks_condstore, enable_report, fetch_asks_modseq, search_asks_modseq, status_asks_modseq,
 };
-pub use login::login_intent;
-pub use expunging::{close_intent, expunge_intent, uid_expunge_report, uid_expunge_intent};
-pub use fetching::{fetch_report, fetch_intent};
+pub use expunging::{close_intent, expunge_intent, uid_expunge_intent, uid_expunge_report};
+pub use fetching::{fetch_intent, fetch_report};
+pub use flag_change::changed_flags;
 pub use flag_sets::{
     added_flags_are_the_union, changed_flags_are_spelled, removed_flags_are_the_difference,
     replaced_flags_are_those_given,
 };
-pub use intent::{NamedMessages, Intent};
+pub use intent::{Intent, NamedMessages};
 pub use issuable::{
     copies_are_issuable, expunges_are_issuable, moves_are_issuable, seen_stores_are_issuable,
     stores_are_issuable,
@@ -58,8 +53,10 @@ pub use issuable::{
 pub use laws::{
     lawful_name_is, listed_keywords_are_borne, one_set_of_keywords, searches_are_by_keys,
 };
+pub use login::login_intent;
 pub use mailboxes::{
-    create_intent, created_name, delete_intent, is_lawful_name, subscribe_intent, unsubscribe_intent,
+    create_intent, created_name, delete_intent, is_lawful_name, subscribe_intent,
+    unsubscribe_intent,
 };
 pub use printable::{
     append_is_printable, constant_answers_are_printable, copies_are_printable, fetch_is_printable,
@@ -67,8 +64,12 @@ pub use printable::{
     status_is_printable, store_is_printable, sync_is_printable, uid_expunge_is_printable,
     views_stay_numbered,
 };
-pub use searching::{search_report, search_intent};
-pub use selecting::{select_report, select_intent};
-pub use session::{Credentials, Session, State};
-pub use storing::{store_report, store_intent};
 pub use report::{CommandReport, entry_at, gone_code, message_at};
+pub use searching::{search_intent, search_report};
+pub use selecting::{select_intent, select_report};
+pub use session::{Credentials, Session, State};
+pub use simple_commands::{
+    capability_report, idle_report, list_report, logout_report, namespace_report, status_intent,
+    status_report,
+};
+pub use storing::{store_intent, store_report};

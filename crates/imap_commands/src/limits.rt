@@ -5,7 +5,7 @@ ghost use Rattle.std.specs.List.{list_any};
 ghost use Rattle.imap_commands.specs.Gives.{GivesOrLacksMemory};
 ghost use Rattle.imap_commands.specs.Limits.{has_many_keywords, has_many_versions, within_limits};
 
-use crate::intent::{NamedMessages, Intent};
+use crate::intent::{Intent, NamedMessages};
 use crdt_ops::{Kind, MAX_OLD_IDS};
 use imap_answers::Refusal;
 use imap_types::MAX_KEYWORDS;

@@ -10,7 +10,7 @@ use crate::report::{entry_at, message_at};
 use imap_answers::Refusal;
 use imap_types::{NumberSet, SequenceSet};
 use mailbox_rows::Rows;
-use session_view::{BadSet, ViewEntries, View};
+use session_view::{BadSet, View, ViewEntries};
 use std::alloc::{AllocError, Global};
 
 /// The numbers of the messages that a set names; `NoSuchMessage` exactly where it names one that there isn't, or `NoMemory`.

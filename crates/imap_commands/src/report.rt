@@ -8,7 +8,7 @@ ghost use Rattle.mailbox_rows.specs.RowViews.{listed_message};
 
 use imap_answers::{Answer, Code};
 use mailbox_rows::{Row, Rows};
-use session_view::{ViewEntries, ViewEntry, SilentFlags};
+use session_view::{SilentFlags, ViewEntries, ViewEntry};
 use std::alloc::Global;
 use std::marker::Model;
 

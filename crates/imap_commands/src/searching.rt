@@ -7,14 +7,14 @@ ghost use Rattle.imap_commands.specs.Gives.{GivesOrLacksMemory};
 ghost use Rattle.imap_commands.specs.Searching.{IsSearchResult, IsSearchReport, search_intent, shown_from, step_is_in_range, test_is_in_range};
 
 use crate::command_args::{OpenMailbox, SearchArgs};
-use crate::simple_commands::one_answer;
 use crate::report::CommandReport;
+use crate::simple_commands::one_answer;
 use crdt_ops::Kind;
 use imap_answers::{Answer, Refusal, SearchResults};
 use imap_query::{ViewedMessage, search};
 use imap_syntax::{SearchStep, SearchTest};
 use imap_types::Octets;
-use session_view::{ViewEntries, View, count_of};
+use session_view::{View, ViewEntries, count_of};
 use std::alloc::{AllocError, Global};
 
 /// Nothing, which is what SEARCH issues, or `NoSuchMessage`: a set of numbers in its keys, wherever it stands, names one that no message has.

@@ -16,7 +16,7 @@ ghost use Rattle.imap_commands.specs.Report.{entry_at, gone_code, message_at};
 
 use crate::command_args::{OpenMailbox, StoreArgs};
 use crate::flag_change::changed_flags;
-use crate::intent::{NamedMessages, Intent};
+use crate::intent::{Intent, NamedMessages};
 use crate::limits::intent_within_limits;
 use crate::named_messages::{messages_named, names_of, set_of};
 use crate::report::{CommandReport, entry_at, gone_code, message_at};
@@ -25,7 +25,7 @@ use crdt_ops::Kind;
 use imap_answers::{Answer, Code, FetchItems, Refusal, Sections};
 use imap_types::{Flags, Octets, Versions, is_lawful_keyword};
 use mailbox_rows::{Row, Rows};
-use session_view::{ViewEntries, SilentFlags};
+use session_view::{SilentFlags, ViewEntries};
 use std::alloc::{AllocError, Global};
 
 /// What STORE issues in the mailbox, and the messages that it found for that, or the first reason against it: `NoSuchMessage`, `ReadOnly`,

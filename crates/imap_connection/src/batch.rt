@@ -8,9 +8,9 @@ ghost use Rattle.imap_connection.specs.Conversation.{IsPrefixOf};
 ghost use Rattle.imap_connection.specs.Endings.{failed_reads, failed_writes};
 ghost use Rattle.imap_connection.specs.Requests.{texts};
 
+use crate::answer_writer::tell_reply;
 use crate::end_of_conversation::{Ended, ended_by};
 use crate::io_traits::Port;
-use crate::answer_writer::tell_reply;
 use imap_node::Reply;
 use imap_syntax::{Command, Tagged};
 use imap_types::Octets;

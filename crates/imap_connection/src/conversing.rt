@@ -9,11 +9,11 @@ ghost use Rattle.imap_connection.specs.Endings.{IsSaid, bye_text_of, failed, fai
 ghost use Rattle.imap_connection.specs.Conversing.{Converses, Ends, Halts, Holds, IsWritten, Leaves, Talked};
 ghost use Rattle.imap_connection.specs.declared.end_of_conversation.Ended.TheVariants.{ReadFailed, WriteFailed};
 
+use crate::answer_writer::{write_held, write_much};
 use crate::batch::Batch;
 use crate::end_of_conversation::{Ended, bye_text, ended_by};
 use crate::io_traits::{Port, Sink, Source};
 use crate::request_steps::take_item;
-use crate::answer_writer::{write_held, write_much};
 use imap_answers::Login;
 use imap_lex::{FrameFault, Framer, Item, Limits};
 use imap_types::Octets;

@@ -4,43 +4,43 @@
 //! [`Port`]; `specs/Conversing.antt` says what it is. A node stands in `imap_node`; what callers of these calls need of it is passed on here.
 #![tactic(auto)]
 
+mod answer_writer;
 mod batch;
 mod conversing;
 mod dump;
 mod end_of_conversation;
-mod io_traits;
 mod fault;
+mod interleaving;
+mod io_traits;
 mod laws;
 mod memory_io;
 mod node_port;
 mod node_talks;
-mod interleaving;
 mod replies;
 mod request;
-mod turn_writer;
 mod request_steps;
 mod talk_steps;
 mod turn;
+mod turn_writer;
 mod wire;
-mod answer_writer;
 
 pub use conversing::converse;
 pub use dump::write_dump;
 pub use end_of_conversation::Ended;
-pub use io_traits::{Port, Sink, Source};
 pub use fault::PortFault;
 pub use imap_node::{
     Answers, Auth, Credentials, Issued, MAX_SESSIONS, Node, OpenFault, Reply, Session, SessionNo,
     State,
 };
+pub use interleaving::{Deliveries, NoOthers, Others};
+pub use io_traits::{Port, Sink, Source};
 pub use laws::{
     commands_are_answered, faults_can_be_printed, faults_end_the_stream, one_dump,
     others_come_between, pieces_are_one_stream,
 };
-pub use memory_io::{MemorySource, MemorySink};
+pub use memory_io::{MemorySink, MemorySource};
 pub use node_port::NodePort;
 pub use node_talks::nodes_converse;
-pub use interleaving::{Deliveries, NoOthers, Others};
 pub use replies::is_without_memory;
 pub use request::{Request, request_of};
 pub use talk_steps::{poll_turns, talk};

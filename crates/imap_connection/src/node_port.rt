@@ -5,9 +5,9 @@ ghost use Rattle.imap_node.specs.Sessions.{IsOpen};
 ghost use Rattle.imap_connection.specs.PortCalls.{Command};
 ghost use Rattle.imap_connection.specs.NodePorts.{IsAway, NodeSteps, login_by};
 
-use crate::io_traits::Port;
 use crate::fault::PortFault;
 use crate::interleaving::Others;
+use crate::io_traits::Port;
 use imap_answers::Login;
 use imap_node::{Auth, Node, OpenFault, Reply, SessionNo};
 use imap_syntax::{IdleLine, Tagged};

@@ -10,12 +10,12 @@ ghost use Rattle.imap_connection.specs.Requests.{Fails, Handles, IsAskingOf, is_
 ghost use Rattle.imap_connection.specs.declared.end_of_conversation.Ended.TheVariants.{Logout, NoMemory};
 ghost use Rattle.imap_connection.specs.declared.request.Request.TheVariants as requests;
 
+use crate::answer_writer::tell_reply;
 use crate::batch::{Batch, is_brief};
 use crate::end_of_conversation::{Ended, ended_by};
 use crate::io_traits::Port;
 use crate::replies::is_without_memory;
 use crate::request::{Request, request_of};
-use crate::answer_writer::tell_reply;
 use imap_answers::Answer;
 use imap_lex::Item;
 use imap_node::Reply;

@@ -17,11 +17,11 @@ ghost use Rattle.imap_connection.specs.declared.turn.Turn.{Turn};
 
 use crate::replies::is_without_memory;
 use crate::request::{Request, request_of};
-use crate::turn_writer::{send, send_polled, send_reply, show};
 use crate::turn::{TalkFault, TalkFaultKind, Turn};
+use crate::turn_writer::{send, send_polled, send_reply, show};
 use imap_answers::{Answer, ByeReason};
 use imap_grammar::{IdleLine, Tagged};
-use imap_lex::{FrameFaultKind, FrameFault, Framer, Item};
+use imap_lex::{FrameFault, FrameFaultKind, Framer, Item};
 use imap_node::{Node, Reply, SessionNo, State};
 use imap_types::{Moment, Octets};
 use std::alloc::Global;

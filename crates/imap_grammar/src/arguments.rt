@@ -4,9 +4,10 @@ ghost use Rattle.imap_grammar.specs.CommandReading.{arguments_at, condstore_at, 
 ghost use Rattle.imap_syntax.specs.Words.{command_word, status_items, status_word, uid_words};
 
 use crate::append::append;
+use crate::element_list::{ListElement, element_list};
 use crate::fault::ParseFault;
 use crate::fetch::fetch;
-use crate::element_list::{ListElement, element_list};
+use crate::grammar_word::leading_word;
 use crate::listing::list;
 use crate::modifier::modifier_word;
 use crate::scan::{skip, space};
@@ -15,8 +16,7 @@ use crate::sets::spaced_set;
 use crate::status::StatusItems;
 use crate::store::store;
 use crate::text::{plain, spaced_mailbox, spaced_texts};
-use crate::grammar_word::leading_word;
-use imap_syntax::{OctetClass, Command, CommandWord, WrittenValues, StatusItem, Transfer};
+use imap_syntax::{Command, CommandWord, OctetClass, StatusItem, Transfer, WrittenValues};
 use imap_types::{Name, Octets, SequenceSet};
 use std::alloc::Global;
 
@@ -212,7 +212,10 @@ fn move_messages(alloc: Global, by_uid: bool, octets: &[u8]) -> Result<(Command,
 }
 
 /// The messages to copy or move, and the mailbox that they go to.
-fn messages_and_mailbox(alloc: Global, octets: &[u8]) -> Result<((SequenceSet, Name), &[u8]), ParseFault>
+fn messages_and_mailbox(
+    alloc: Global,
+    octets: &[u8],
+) -> Result<((SequenceSet, Name), &[u8]), ParseFault>
     ensures { Gives (λ x. (x.0, x.1.now)) result (copied_at octets.now) }
 {
     let (messages, rest) = spaced_set(alloc, octets)?;

@@ -5,15 +5,17 @@ ghost use Rattle.imap_syntax.specs.Words.{fetch_word, fetch_words, section_word,
 ghost use Rattle.imap_syntax.specs.Items.{fast_items};
 ghost use Rattle.imap_grammar.specs.declared.fault.ParseFault.TheVariants.{BadSyntax, NotInProfile};
 
-use crate::fault::ParseFault;
 use crate::element_list::{ListElement, element_list};
+use crate::fault::ParseFault;
+use crate::grammar_word::{GrammarWord, find};
 use crate::modifier::{changed_since, left_out_fault};
 use crate::numbers::{number, nz};
 use crate::scan::{skip, space, span};
 use crate::sets::spaced_set;
 use crate::text::text;
-use crate::grammar_word::{GrammarWord, find};
-use imap_syntax::{OctetClass, Command, Fetch, FetchItem, FetchWord, WrittenValues, Partial, SectionWord};
+use imap_syntax::{
+    Command, Fetch, FetchItem, FetchWord, OctetClass, Partial, SectionWord, WrittenValues,
+};
 use imap_types::{FieldNames, Octets, Section};
 use std::alloc::{AllocError, Global};
 
@@ -206,7 +208,11 @@ fn body(alloc: Global, peek: bool, octets: &[u8]) -> Result<(FetchItem, &[u8]), 
 }
 
 /// A section between brackets.
-fn bracketed_section(alloc: Global, peek: bool, octets: &[u8]) -> Result<(Section, &[u8]), ParseFault>
+fn bracketed_section(
+    alloc: Global,
+    peek: bool,
+    octets: &[u8],
+) -> Result<(Section, &[u8]), ParseFault>
     ensures { Gives (λ x. (x.0, x.1.now)) result (bracketed_at octets.now) }
 {
     match octets {

@@ -2,12 +2,12 @@ ghost use Rattle.std.specs.Prelude.{◌≡◌, IfOk, OnOk};
 ghost use Rattle.imap_grammar.specs.Reading.{Gives, flag_at, flag_group_at, flags_of, maybe_flags_at, named_at, no_flags, stored_at, stored_texts_at, with_flag};
 ghost use Rattle.imap_syntax.specs.Words.{system_flags, system_word};
 
-use crate::fault::ParseFault;
 use crate::element_list::{ListElement, element_list};
+use crate::fault::ParseFault;
+use crate::grammar_word::{GrammarWord, find};
 use crate::scan::{skip, span};
 use crate::text::plain;
-use crate::grammar_word::{GrammarWord, find};
-use imap_syntax::{OctetClass, Flag, SystemFlag};
+use imap_syntax::{Flag, OctetClass, SystemFlag};
 use imap_types::{Flags, Octets};
 use std::alloc::{AllocError, Global};
 

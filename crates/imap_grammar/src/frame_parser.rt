@@ -8,9 +8,9 @@ ghost use Rattle.imap_grammar.specs.declared.fault.ParseFault.TheVariants.{BadSy
 
 use crate::arguments::arguments;
 use crate::fault::ParseFault;
-use crate::scan::{skip, span};
 use crate::grammar_word::find_command;
-use imap_syntax::{OctetClass, Command, CommandWord, Tagged};
+use crate::scan::{skip, span};
+use imap_syntax::{Command, CommandWord, OctetClass, Tagged};
 use imap_types::Octets;
 use std::alloc::Global;
 

@@ -4,7 +4,7 @@ ghost use Rattle.imap_syntax.specs.Words.{command_word, command_words};
 
 use crate::fault::ParseFault;
 use crate::scan::span;
-use imap_syntax::{OctetClass, CommandWord};
+use imap_syntax::{CommandWord, OctetClass};
 
 /// A word of the grammar, which is read without ASCII case.
 pub trait GrammarWord: Copy {
@@ -107,7 +107,10 @@ pub fn find_command(text: &[u8]) -> Option<CommandWord>
 }
 
 /// The first of the values whose word stands in front, but for ASCII case.
-pub fn leading_word<'a, W: GrammarWord>(values: &[W], octets: &'a [u8]) -> Result<(W, &'a [u8]), ParseFault>
+pub fn leading_word<'a, W: GrammarWord>(
+    values: &[W],
+    octets: &'a [u8],
+) -> Result<(W, &'a [u8]), ParseFault>
     ensures { Gives (λ x. (x.0, x.1.now)) result (named_at W.word_of values.now octets.now) }
 {
     let (letters, rest) = span(OctetClass::Item, octets);

@@ -9,13 +9,15 @@ ghost use Rattle.imap_syntax.specs.declared.search.SearchStep.TheVariants.{And, 
 use crate::class::is_in;
 use crate::dates::date;
 use crate::fault::ParseFault;
+use crate::grammar_word::find;
 use crate::modifier::left_out_fault;
 use crate::numbers::number;
 use crate::scan::{skip, space, span};
 use crate::sets::{set, spaced_set};
 use crate::text::{plain, spaced_text, spaced_texts};
-use crate::grammar_word::find;
-use imap_syntax::{OctetClass, DateRelation, SearchKeyWord, SearchStep, SearchTest, SystemFlag, TextPlace};
+use imap_syntax::{
+    DateRelation, OctetClass, SearchKeyWord, SearchStep, SearchTest, SystemFlag, TextPlace,
+};
 use std::alloc::{AllocError, Global};
 
 /// The greatest number of octets and the greatest mod-sequence: 2^63 - 1.
@@ -291,7 +293,11 @@ fn next_key(
 }
 
 /// What a key's word has behind it.
-fn leaf(alloc: Global, word: SearchKeyWord, octets: &[u8]) -> Result<(SearchTest, &[u8]), ParseFault>
+fn leaf(
+    alloc: Global,
+    word: SearchKeyWord,
+    octets: &[u8],
+) -> Result<(SearchTest, &[u8]), ParseFault>
     ensures { Gives (λ x. (x.0, x.1.now)) result (leaf_at word octets.now) }
 {
     match word {
@@ -317,7 +323,11 @@ fn keyword(alloc: Global, is_set: bool, octets: &[u8]) -> Result<(SearchTest, &[
     Ok((SearchTest::Keyword { keyword, is_set }, rest))
 }
 
-fn text_key(alloc: Global, place: TextPlace, octets: &[u8]) -> Result<(SearchTest, &[u8]), ParseFault>
+fn text_key(
+    alloc: Global,
+    place: TextPlace,
+    octets: &[u8],
+) -> Result<(SearchTest, &[u8]), ParseFault>
     ensures { Gives (λ x. (x.0, x.1.now)) result (leaf_at (key.Place place) octets.now) }
 {
     let (text, rest) = spaced_text(alloc, octets)?;

@@ -7,16 +7,17 @@ mod append;
 mod arguments;
 mod class;
 mod dates;
+mod element_list;
 mod fault;
 mod fetch;
 mod flags;
+mod frame_parser;
+mod grammar_word;
 mod idle;
 mod keys;
-mod element_list;
 mod listing;
 mod modifier;
 mod numbers;
-mod frame_parser;
 mod scan;
 mod search;
 mod searching;
@@ -24,13 +25,12 @@ mod sets;
 mod status;
 mod store;
 mod text;
-mod grammar_word;
 
 pub use fault::ParseFault;
+pub use frame_parser::{one_reading, parse, tag_of};
 pub use idle::idle_line;
 pub use imap_syntax::{
-    Append, Command, CommandWord, DateRelation, Fetch, FetchItem, Flag, IdleLine, ListNames, WrittenValues,
+    Append, Command, CommandWord, DateRelation, Fetch, FetchItem, Flag, IdleLine, ListNames,
     Partial, Search, SearchOption, SearchStep, SearchTest, StatusItem, Store, StoreAction,
-    StoreMode, SystemFlag, Tagged, TextPlace, Transfer,
+    StoreMode, SystemFlag, Tagged, TextPlace, Transfer, WrittenValues,
 };
-pub use frame_parser::{one_reading, parse, tag_of};

@@ -6,7 +6,7 @@ ghost use Rattle.imap_syntax.specs.declared.octet_class.OctetClass.TheVariants.{
 use crate::fault::ParseFault;
 use crate::scan::{skip, skip_word, space, span};
 use crate::text::text;
-use imap_syntax::{OctetClass, Command, ListNames};
+use imap_syntax::{Command, ListNames, OctetClass};
 use imap_types::Octets;
 use std::alloc::Global;
 

@@ -3,14 +3,14 @@ ghost use Rattle.imap_grammar.specs.KeyReading.{below_at, charset_at, charset_na
 ghost use Rattle.imap_syntax.specs.KeyWords.{option_word, search_options};
 ghost use Rattle.imap_grammar.specs.Reading.{Gives, named_at};
 
-use crate::fault::ParseFault;
-use crate::keys::keys;
 use crate::element_list::{ListElement, element_list};
+use crate::fault::ParseFault;
+use crate::grammar_word::find;
+use crate::keys::keys;
 use crate::modifier::left_out_fault;
 use crate::scan::{skip, space, span};
 use crate::text::spaced_text;
-use crate::grammar_word::find;
-use imap_syntax::{OctetClass, Command, WrittenValues, Search, SearchOption, SearchSteps};
+use imap_syntax::{Command, OctetClass, Search, SearchOption, SearchSteps, WrittenValues};
 use std::alloc::Global;
 
 /// How deep NOT, OR and parentheses may stand in one another.

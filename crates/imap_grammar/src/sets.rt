@@ -1,8 +1,8 @@
 ghost use Rattle.std.specs.Prelude.{◌≡◌};
 ghost use Rattle.imap_grammar.specs.Reading.{Gives, bound_at, range_at, ranged_at, set_at, spaced};
 
-use crate::fault::ParseFault;
 use crate::element_list::{ListElement, element_list};
+use crate::fault::ParseFault;
 use crate::numbers::nz;
 use crate::scan::space;
 use imap_types::{SequenceBound, SequenceRange, SequenceSet};

@@ -2,8 +2,8 @@ ghost use Rattle.std.specs.Prelude.{◌≡◌};
 ghost use Rattle.imap_grammar.specs.Reading.{Gives, named_at};
 ghost use Rattle.imap_syntax.specs.Words.{status_items, status_word};
 
-use crate::fault::ParseFault;
 use crate::element_list::ListElement;
+use crate::fault::ParseFault;
 use crate::grammar_word::{GrammarWord, leading_word};
 use imap_syntax::StatusItem;
 use std::alloc::Global;

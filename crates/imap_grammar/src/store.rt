@@ -5,10 +5,10 @@ ghost use Rattle.imap_syntax.specs.Words.{store_actions, store_word};
 
 use crate::fault::ParseFault;
 use crate::flags::store_flags;
+use crate::grammar_word::{GrammarWord, leading_word};
 use crate::modifier::unchanged_since;
 use crate::scan::space;
 use crate::sets::spaced_set;
-use crate::grammar_word::{GrammarWord, leading_word};
 use imap_syntax::{Command, Store, StoreAction, StoreMode};
 use imap_types::Flags;
 use std::alloc::Global;

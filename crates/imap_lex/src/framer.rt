@@ -3,7 +3,7 @@
 ghost use Rattle.std.specs.Prelude.{◌≡◌, OnOk, IfOk, IfErr, IsOk, Ok};
 
 use crate::cutting::cut_piece;
-use crate::fault::{FrameFaultKind, FrameFault};
+use crate::fault::{FrameFault, FrameFaultKind};
 use crate::item::Item;
 use crate::limits::Limits;
 use crate::progress::FrameProgress;

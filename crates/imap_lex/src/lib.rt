@@ -14,7 +14,7 @@ mod limits;
 mod literal_mark;
 mod progress;
 
-pub use fault::{FrameFaultKind, FrameFault};
+pub use fault::{FrameFault, FrameFaultKind};
 pub use framer::Framer;
 pub use item::{Frame, Item};
 pub use laws::{any_cuts, faults_come_first, frames_are_given, given_are_frames};

@@ -233,7 +233,11 @@ fn push_new(first: u32, end: u32, notes: &mut Vec<Note>) -> Result<(), AllocErro
 }
 
 /// What a replica's own next operations change in the mailboxes that they name; `Err` where there is no memory for it. Cost: what they name, for each mailbox.
-pub fn change_notes_of_issue(alloc: Global, replica: &ReplicaState, ops: &[SoundOp]) -> Result<ChangeNotes, AllocError>
+pub fn change_notes_of_issue(
+    alloc: Global,
+    replica: &ReplicaState,
+    ops: &[SoundOp],
+) -> Result<ChangeNotes, AllocError>
     requires { IsReady replica.now ops.now }
     ensures { IfOk result (λ change_notes. AreChangeNotes replica.now.start replica.now.applied (replica.now.applied ++ ops.now) change_notes) }
 {
@@ -283,7 +287,11 @@ fn notes_of_mailbox(
 }
 
 /// What is known of the mailbox that an operation names before it; `Err` where there is no memory for it.
-pub fn snapshot_of(alloc: Global, replica: &ReplicaState, ops: &[SoundOp]) -> Result<MailboxSnapshot, AllocError>
+pub fn snapshot_of(
+    alloc: Global,
+    replica: &ReplicaState,
+    ops: &[SoundOp],
+) -> Result<MailboxSnapshot, AllocError>
     requires { (op : Op) × (ops.now ≡ op ∷ []) }
     ensures { (op : Op) → ops.now ≡ op ∷ [] → IfOk result (λ ahead. IsSnapshotOf replica.now.start replica.now.applied (op ∷ []) (name_of op.kind) ahead) }
 {
@@ -292,7 +300,11 @@ pub fn snapshot_of(alloc: Global, replica: &ReplicaState, ops: &[SoundOp]) -> Re
 }
 
 /// What one operation changed that a replica has just applied, of which this was known before it; `Err` where there is no memory for it. Cost: what it changed.
-pub fn change_notes_of_delivery(alloc: Global, replica: &ReplicaState, ahead: MailboxSnapshot) -> Result<ChangeNotes, AllocError>
+pub fn change_notes_of_delivery(
+    alloc: Global,
+    replica: &ReplicaState,
+    ahead: MailboxSnapshot,
+) -> Result<ChangeNotes, AllocError>
     ensures { (before : List Op) (op : Op) → IsSnapshotOf replica.now.start before (op ∷ []) (name_of op.kind) ahead → replica.now.applied ≡ before ++ op ∷ [] → IfOk result (λ change_notes. AreChangeNotes replica.now.start before replica.now.applied change_notes) }
 {
     let _list = replica.op_list();
@@ -317,7 +329,11 @@ pub fn coarse_change_notes(alloc: Global, ops: &[SoundOp]) -> Result<ChangeNotes
 }
 
 /// Tells of the mailbox that an operation names that all of it may differ.
-fn push_folder(alloc: Global, kind: &Kind, folders: &mut Vec<MailboxNotes>) -> Result<(), AllocError>
+fn push_folder(
+    alloc: Global,
+    kind: &Kind,
+    folders: &mut Vec<MailboxNotes>,
+) -> Result<(), AllocError>
     ensures { OnOk result (folders.new.items ≡ with_all_differing folders.old.items (name_of kind.now)) }
 {
     let name = kind.name();

@@ -12,10 +12,10 @@ ghost use Rattle.imap_node.specs.Sessions.{IsOpen, session_at, with_changed};
 ghost use Rattle.session_view.specs.ViewState.{ViewState};
 ghost use Rattle.uid_projection.specs.declared.first_numbers.Counters.{Counters};
 
-use crate::session_change::{SessionChange, StateChange};
 use crate::change_notes::ChangeNotes;
+use crate::session_change::{SessionChange, StateChange};
 use crate::sessions::{SessionNo, Sessions};
-use idle_feed::{ViewChange, Feed, TakenNotes, commit, note_all};
+use idle_feed::{Feed, TakenNotes, ViewChange, commit, note_all};
 use imap_commands::{Session, State};
 use std::alloc::Global;
 use std::marker::Model;
@@ -205,7 +205,12 @@ fn note_one(place: &Option<Session>, change_notes: &ChangeNotes, feed: &mut Feed
     }
 }
 
-fn go_in(places: &mut Vec<Option<Session>>, feeds: &mut Vec<Feed>, session: SessionNo, going: SessionChange)
+fn go_in(
+    places: &mut Vec<Option<Session>>,
+    feeds: &mut Vec<Feed>,
+    session: SessionNo,
+    going: SessionChange,
+)
     requires opened { IsOpen places.old.items session }
     requires can { (s : Session) → session_at places.old.items session ≡ Some s → CanChangeState s.state going.onward }
     ensures sessions { places.new.items ≡ with_changed places.old.items session (λ s. changed_session s going) }

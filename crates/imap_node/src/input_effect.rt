@@ -9,14 +9,14 @@ ghost use Rattle.std.specs.Option.{option_map};
 ghost use Rattle.imap_node.specs.Nodes.{IsReady};
 ghost use Rattle.imap_node.specs.Responses.{IsCommandEffect, IsInputEffect, tag_of_idle, condstore_after, messages_named_by_input, tagged_lines_of_idle, idling_after, sync_effect, tagged_lines_of, report_effect};
 
-use crate::sync_and_state::state_after_command;
+use crate::command_tables::{is_enabling, is_idle, is_on, is_selecting, sync_of, word_of};
 use crate::input::Input;
 use crate::replica::ReplicaState;
-use crate::command_tables::{is_enabling, is_idle, is_on, is_selecting, sync_of, word_of};
 use crate::reports::command_report;
+use crate::sync_and_state::state_after_command;
 use crdt_ops::SoundOp;
 use imap_answers::{Answer, Code, CompletedWord, Notice};
-use imap_commands::{NamedMessages, Session, State, CommandReport};
+use imap_commands::{CommandReport, NamedMessages, Session, State};
 use imap_syntax::{Command, Tagged};
 use imap_types::Octets;
 use mailbox_rows::Rows;
@@ -74,7 +74,11 @@ pub fn draft_effect(
 }
 
 /// A full sync alone, with this behind it.
-fn draft_sync_effect(alloc: Global, session: &Session, tail: Vec<Answer>) -> Result<EffectDraft, AllocError>
+fn draft_sync_effect(
+    alloc: Global,
+    session: &Session,
+    tail: Vec<Answer>,
+) -> Result<EffectDraft, AllocError>
     ensures { IfOk result (λ course. effect_from session.now.state course ≡ sync_effect session.now tail.items) }
 {
     Ok(EffectDraft {

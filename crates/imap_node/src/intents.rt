@@ -26,10 +26,10 @@ use crate::reports::mailbox_before;
 use crdt_ops::Kind;
 use imap_answers::Refusal;
 use imap_commands::{
-    AppendArgs, CopyArgs, FetchArgs, NamedMessages, OpenMailbox, State, StoreArgs, Intent,
-    append_intent, close_intent, copy_intent, create_intent, created_name, delete_intent, expunge_intent,
-    fetch_intent, login_intent, move_intent, search_intent, select_intent, status_intent, store_intent,
-    subscribe_intent, uid_expunge_intent, unsubscribe_intent,
+    AppendArgs, CopyArgs, FetchArgs, Intent, NamedMessages, OpenMailbox, State, StoreArgs,
+    append_intent, close_intent, copy_intent, create_intent, created_name, delete_intent,
+    expunge_intent, fetch_intent, login_intent, move_intent, search_intent, select_intent,
+    status_intent, store_intent, subscribe_intent, uid_expunge_intent, unsubscribe_intent,
 };
 use imap_syntax::{Command, IdleLine, SearchStep};
 use imap_types::{DateTime, Flags, Name, Octets, SequenceSet, Text};
@@ -48,7 +48,13 @@ pub fn input_intent(
     ensures found { IfOk result (λ wanted. wanted.found ≡ messages_named_by_input replica.now.start replica.now.applied state.now input.now) }
 {
     match input {
-        Input::Command { tagged, .. } => command_intent(alloc, replica, stamp, state, &tagged.command),
+        Input::Command { tagged, .. } => command_intent(
+            alloc,
+            replica,
+            stamp,
+            state,
+            &tagged.command,
+        ),
         Input::Line {
             line: IdleLine::Done,
         } => intent_without_messages(alloc, Ok(Vec::new(alloc))),
@@ -60,7 +66,10 @@ pub fn input_intent(
 }
 
 /// Operations only, of an input that names no messages.
-fn intent_without_messages(alloc: Global, kinds: Result<Vec<Kind>, Refusal>) -> Result<Intent, Refusal>
+fn intent_without_messages(
+    alloc: Global,
+    kinds: Result<Vec<Kind>, Refusal>,
+) -> Result<Intent, Refusal>
     ensures gives { (want : Result (List Kind) Refusal) → GivesOrLacksMemory (λ kinds. kinds.items) kinds want → GivesOrLacksMemory (λ wanted. wanted.kinds.items) result want }
     ensures found { IfOk result (λ wanted. wanted.found ≡ no_messages_named) }
 {
@@ -88,20 +97,41 @@ fn command_intent(
         Command::Capability => intent_without_messages(alloc, Ok(Vec::new(alloc))),
         Command::Noop => intent_without_messages(alloc, Ok(Vec::new(alloc))),
         Command::Logout => intent_without_messages(alloc, Ok(Vec::new(alloc))),
-        Command::Login { user, password } => intent_without_messages(alloc, intent_to_login(alloc, state, user, password)),
+        Command::Login { user, password } => intent_without_messages(
+            alloc,
+            intent_to_login(alloc, state, user, password),
+        ),
         Command::Enable { .. } => intent_without_messages(alloc, no_kinds_if_known(alloc, state)),
-        Command::Select { name, .. } => intent_without_messages(alloc, intent_to_select(alloc, replica, state, name)),
-        Command::Examine { name, .. } => intent_without_messages(alloc, intent_to_select(alloc, replica, state, name)),
-        Command::Create { name } => intent_without_messages(alloc, intent_to_create(alloc, replica, state, name)),
-        Command::Delete { name } => intent_without_messages(alloc, intent_to_delete(alloc, replica, state, name)),
-        Command::Subscribe { name } => intent_without_messages(alloc, intent_to_subscribe(alloc, replica, state, name)),
+        Command::Select { name, .. } => intent_without_messages(
+            alloc,
+            intent_to_select(alloc, replica, state, name),
+        ),
+        Command::Examine { name, .. } => intent_without_messages(
+            alloc,
+            intent_to_select(alloc, replica, state, name),
+        ),
+        Command::Create { name } => intent_without_messages(
+            alloc,
+            intent_to_create(alloc, replica, state, name),
+        ),
+        Command::Delete { name } => intent_without_messages(
+            alloc,
+            intent_to_delete(alloc, replica, state, name),
+        ),
+        Command::Subscribe { name } => intent_without_messages(
+            alloc,
+            intent_to_subscribe(alloc, replica, state, name),
+        ),
         Command::Unsubscribe { name } => intent_without_messages(
             alloc,
             intent_to_unsubscribe(alloc, replica, state, name),
         ),
         Command::ListNames(_) => intent_without_messages(alloc, no_kinds_if_known(alloc, state)),
         Command::Namespace => intent_without_messages(alloc, no_kinds_if_known(alloc, state)),
-        Command::Status { name, .. } => intent_without_messages(alloc, intent_to_status(alloc, replica, state, name)),
+        Command::Status { name, .. } => intent_without_messages(
+            alloc,
+            intent_to_status(alloc, replica, state, name),
+        ),
         Command::Append(append) => {
             let asked = AppendArgs {
                 name: &append.name,
@@ -109,14 +139,20 @@ fn command_intent(
                 date: &append.date,
                 text: &append.text,
             };
-            intent_without_messages(alloc, intent_to_append(alloc, replica, stamp, state, &asked))
+            intent_without_messages(
+                alloc,
+                intent_to_append(alloc, replica, stamp, state, &asked),
+            )
         }
         Command::Idle => intent_without_messages(alloc, no_kinds_if_known(alloc, state)),
         Command::Close => selected_intent(alloc, replica, state, command),
         Command::Unselect => intent_without_messages(alloc, no_kinds_if_selected(alloc, state)),
         Command::Expunge => selected_intent(alloc, replica, state, command),
         Command::UidExpunge { .. } => selected_intent(alloc, replica, state, command),
-        Command::Search(search) => intent_without_messages(alloc, intent_to_search(alloc, state, search.steps.as_slice())),
+        Command::Search(search) => intent_without_messages(
+            alloc,
+            intent_to_search(alloc, state, search.steps.as_slice()),
+        ),
         Command::Fetch(_) => selected_intent(alloc, replica, state, command),
         Command::Store(_) => selected_intent(alloc, replica, state, command),
         Command::Copy(_) => selected_intent(alloc, replica, state, command),
@@ -282,7 +318,11 @@ fn intent_to_append(
     append_intent(alloc, replica.exists(asked.name), stamp, asked)
 }
 
-fn intent_to_search(alloc: Global, state: &State, steps: &[SearchStep]) -> Result<Vec<Kind>, Refusal>
+fn intent_to_search(
+    alloc: Global,
+    state: &State,
+    steps: &[SearchStep],
+) -> Result<Vec<Kind>, Refusal>
     ensures { GivesOrLacksMemory (λ kinds. kinds.items) result (when_selected state.now (λ view read_only. search_intent view.entries steps.now)) }
 {
     let State::Selected { view, .. } = state else {

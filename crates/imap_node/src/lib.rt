@@ -6,24 +6,24 @@
 //! own answers, and what they make of their session.
 #![tactic(auto)]
 
-mod input_effect;
-mod sync_and_state;
-mod feeds;
-mod session_change;
-mod input;
-mod ready_ops;
-mod laws;
 mod change_notes;
+mod command_tables;
+mod feeds;
+mod input;
+mod input_effect;
+mod intents;
+mod laws;
 mod node;
 mod plan;
 mod printable;
+mod ready_ops;
 mod replica;
 mod reply;
+mod reports;
+mod session_change;
 mod sessions;
 mod shared_list;
-mod command_tables;
-mod reports;
-mod intents;
+mod sync_and_state;
 
 pub use imap_commands::{Credentials, Session, State};
 pub use input::Input;

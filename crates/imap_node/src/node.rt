@@ -23,15 +23,17 @@ ghost use Rattle.subs_state.specs.Subscriptions.{IsMadeBy as AreMadeBy};
 ghost use Rattle.subs_state.specs.Table.{subscriptions_of};
 ghost use Rattle.uid_projection.specs.declared.first_numbers.Counters.{Counters};
 
+use crate::change_notes::{
+    ChangeNotes, MailboxSnapshot, change_notes_of_delivery, coarse_change_notes, snapshot_of,
+};
+use crate::command_tables::{closes, ends_idling, leaves};
 use crate::feeds::{Feeds, may_be_told};
 use crate::input::Input;
+use crate::plan::{Plan, PreparedInput, PreparedReply, SessionStep, prepare_for};
 use crate::ready_ops::ReadyOps;
-use crate::change_notes::{MailboxSnapshot, ChangeNotes, snapshot_of, coarse_change_notes, change_notes_of_delivery};
-use crate::plan::{PreparedReply, SessionStep, Plan, PreparedInput, prepare_for};
 use crate::replica::ReplicaState;
 use crate::reply::Reply;
 use crate::sessions::{Auth, OpenFault, SessionNo, Sessions};
-use crate::command_tables::{closes, ends_idling, leaves};
 use causal_inbox::{DeliverFault, Delivered, Drained, HeldOps, Stall};
 use crdt_ops::SoundOp;
 use folder_state::Folders;

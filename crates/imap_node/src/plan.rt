@@ -18,26 +18,31 @@ ghost use Rattle.imap_node.specs.Rooms.{HasRoomFor};
 ghost use Rattle.imap_node.specs.Sessions.{IsOpen, session_at};
 ghost use Rattle.session_view.specs.ViewState.{ViewState};
 
-use crate::input_effect::{EffectDraft, completed_line, condstore_after, draft_effect, idling_after, append_answers};
-use crate::sync_and_state::{RebuiltState, ReplicaAfter, SyncInput, UnsentChanges, sync_rebuilt_state, sync_in_place, is_settled};
-use crate::feeds::Feeds;
-use crate::session_change::{SessionChange, StateChange};
-use crate::input::Input;
-use crate::ready_ops::{ReadyOps, ready_next_ops};
 use crate::change_notes::{ChangeNotes, change_notes_of_issue};
+use crate::feeds::Feeds;
+use crate::input::Input;
+use crate::input_effect::{
+    EffectDraft, append_answers, completed_line, condstore_after, draft_effect, idling_after,
+};
+use crate::intents::input_intent;
+use crate::ready_ops::{ReadyOps, ready_next_ops};
 use crate::replica::ReplicaState;
 use crate::reply::{Answers, Issued, Reply, Silents, copied_ops};
-use crate::sessions::{SessionNo, Sessions};
 use crate::reports::rows_after;
-use crate::intents::input_intent;
+use crate::session_change::{SessionChange, StateChange};
+use crate::sessions::{SessionNo, Sessions};
+use crate::sync_and_state::{
+    RebuiltState, ReplicaAfter, SyncInput, UnsentChanges, is_settled, sync_in_place,
+    sync_rebuilt_state,
+};
 use crdt_ops::SoundOp;
 use idle_feed::Feed;
 use imap_answers::{Answer, CompletedWord, Refusal};
-use imap_commands::{NamedMessages, Session, State, Intent};
+use imap_commands::{Intent, NamedMessages, Session, State};
 use imap_syntax::Command;
 use imap_types::{DateTime, Moment, Octets};
-use mailbox_rows::Rows;
 use mail_text::civil;
+use mailbox_rows::Rows;
 use session_view::{SilentFlags, SyncKind};
 use std::alloc::{AllocError, Global};
 
@@ -118,7 +123,13 @@ pub fn prepare_for(
     if place >= places.len() {
         unreachable!()
     }
-    prepare_at(alloc, replica, &mut places[place], feeds.feed_of(number), input)
+    prepare_at(
+        alloc,
+        replica,
+        &mut places[place],
+        feeds.feed_of(number),
+        input,
+    )
 }
 
 /// The same of the session at this place.
@@ -185,7 +196,10 @@ fn tag_at_rest<'a>(
 {
     let tag = noop_tag(input)?;
     let change_notes = ChangeNotes::none(alloc);
-    let unsent = UnsentChanges { feed, change_notes: &change_notes };
+    let unsent = UnsentChanges {
+        feed,
+        change_notes: &change_notes,
+    };
     let rests = is_settled(&session.state, &unsent, Some(SyncKind::Full));
     drop(change_notes);
     if rests { Some(tag) } else { None }
@@ -312,7 +326,10 @@ fn prepared_reply(
     let ops = ReadyOps::new(ops);
     let copies = shared_copies(alloc, ops.as_slice())?;
     let change_notes = change_notes_of_issue(alloc, replica, ops.as_slice())?;
-    let unsent = UnsentChanges { feed, change_notes: &change_notes };
+    let unsent = UnsentChanges {
+        feed,
+        change_notes: &change_notes,
+    };
     let answered = answers_to(
         alloc,
         replica,

@@ -124,7 +124,11 @@ fn has_numbers(replica: &ReplicaState, count: usize) -> bool
 }
 
 /// The replica's next operations, of these kinds.
-fn next_ops(alloc: Global, replica: &ReplicaState, kinds: Vec<Kind>) -> Result<Vec<SoundOp>, AllocError>
+fn next_ops(
+    alloc: Global,
+    replica: &ReplicaState,
+    kinds: Vec<Kind>,
+) -> Result<Vec<SoundOp>, AllocError>
     requires can { CanIssueAll replica.now.applied kinds.items }
     requires numbers { (clock : List (ℕ × ℕ)) → IsClockOf id_of replica.now.applied clock → count_of clock replica.now.start.replica + length kinds.items ≤ 4294967295 }
     ensures next { IfOk result (λ ops. AreNext replica.now.start.replica replica.now.applied kinds.items ops.items) }

@@ -19,14 +19,14 @@ ghost use Rattle.imap_types.specs.declared.sequence_set.SequenceRange.{SequenceR
 ghost use Rattle.uid_projection.specs.UidsAndModSeqs.{uidnext_of};
 ghost use Rattle.uid_projection.specs.Listing.{listing};
 
-use crate::replica::ReplicaState;
 use crate::command_tables::is_selected;
+use crate::replica::ReplicaState;
 use crdt_ops::SoundOp;
 use imap_commands::{
-    CopyArgs, FetchArgs, NamedMessages, CopyTarget, OpenMailbox, SearchArgs, State, StoreArgs, CommandReport,
-    append_report, capability_report, copy_report, enable_report, fetch_report, idle_report, list_report,
-    logout_report, move_report, namespace_report, search_report, select_report, status_report,
-    store_report, uid_expunge_report,
+    CommandReport, CopyArgs, CopyTarget, FetchArgs, NamedMessages, OpenMailbox, SearchArgs, State,
+    StoreArgs, append_report, capability_report, copy_report, enable_report, fetch_report,
+    idle_report, list_report, logout_report, move_report, namespace_report, search_report,
+    select_report, status_report, store_report, uid_expunge_report,
 };
 use imap_query::{ListMode, MailboxCounters};
 use imap_syntax::{Command, StatusItem, Tagged};
@@ -201,7 +201,11 @@ fn copy_target_of<'a>(
 }
 
 /// What a view's mailbox has before these operations.
-fn rows_before<'a>(alloc: Global, replica: &'a ReplicaState, view: &View) -> Result<Rows<'a>, AllocError>
+fn rows_before<'a>(
+    alloc: Global,
+    replica: &'a ReplicaState,
+    view: &View,
+) -> Result<Rows<'a>, AllocError>
     ensures { IfOk result (λ rows. rows ≡ rows_for replica.now.start replica.now.applied view.now) }
 {
     let (uidvalidity, rows) = replica.numbered_rows(alloc, view.name())?;
@@ -259,7 +263,12 @@ fn report_of_status(
     status_report(alloc, name, items, marks, &rows)
 }
 
-fn report_of_append(alloc: Global, replica: &ReplicaState, ops: &[SoundOp], name: &Name) -> CommandReport
+fn report_of_append(
+    alloc: Global,
+    replica: &ReplicaState,
+    ops: &[SoundOp],
+    name: &Name,
+) -> CommandReport
     requires { IsReady replica.now ops.now }
     ensures { result ≡ append_report (validity_of replica.now.start name.now (replica.now.applied ++ ops.now)) (uidnext_of replica.now.start name.now replica.now.applied) }
 {

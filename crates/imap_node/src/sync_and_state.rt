@@ -20,10 +20,10 @@ ghost use Rattle.session_view.specs.Views.{AreRising};
 ghost use Rattle.std.specs.List.{list_any};
 ghost use Rattle.idle_feed.specs.NotedFeeds.{CanCommit, IsChangeTo, entries_after_change};
 
-use crate::session_change::StateChange;
 use crate::change_notes::ChangeNotes;
 use crate::replica::ReplicaState;
 use crate::reports::{rows_after, validity_after};
+use crate::session_change::StateChange;
 use crdt_ops::SoundOp;
 use idle_feed::{Feed, NotedChanges, PlannedSync, plan};
 use imap_answers::Answer;
@@ -32,7 +32,8 @@ use imap_syntax::Command;
 use imap_types::Name;
 use mailbox_rows::Rows;
 use session_view::{
-    ViewEntries, SilentFlags, SyncForm, SyncKind, SyncOutcome, View, are_shifting, replay_reply, sync_by_comparison,
+    SilentFlags, SyncForm, SyncKind, SyncOutcome, View, ViewEntries, are_shifting, replay_reply,
+    sync_by_comparison,
 };
 use std::alloc::{AllocError, Global};
 use std::marker::Model;
@@ -317,7 +318,11 @@ fn rebuild_state(
 }
 
 /// The flags that are set in front of a sync: in silence, and by the answers that tell them, but for those that the messages of the view have already.
-fn flags_before_sync(alloc: Global, state: &State, front: &SyncInput<'_>) -> Result<Vec<SilentFlags>, AllocError>
+fn flags_before_sync(
+    alloc: Global,
+    state: &State,
+    front: &SyncInput<'_>,
+) -> Result<Vec<SilentFlags>, AllocError>
     ensures { IfOk result (λ first. (view : ViewState) → view_of state.now ≡ Some view → after_silent view.entries first.items ≡ after_silent view.entries (front.now.silent ++ all_fetched_flags front.now.own)) }
 {
     match state {
@@ -378,7 +383,9 @@ fn answers_and_state(
     match sync {
         None => Ok((entries, Vec::new(alloc))),
         Some(kind) => {
-            let SyncOutcome { entries, answers } = sync_by_comparison(alloc, kind, modseq, rows, &entries)?;
+            let SyncOutcome { entries, answers } = sync_by_comparison(
+                alloc, kind, modseq, rows, &entries,
+            )?;
             Ok((entries, answers))
         }
     }

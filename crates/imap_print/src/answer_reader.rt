@@ -4,9 +4,9 @@ ghost use Rattle.imap_answers.specs.Printed.{text_of_answer};
 ghost use Rattle.imap_answers.specs.declared.answer.Answer.{Answer};
 
 use crate::fault::ReadFault;
+use crate::line_readers::line;
 use crate::printable::is_printable;
 use crate::printer::print;
-use crate::line_readers::line;
 use crate::scanner::skip;
 use imap_answers::Answer;
 use std::alloc::{AllocError, Global};

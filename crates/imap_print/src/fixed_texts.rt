@@ -6,7 +6,9 @@ ghost use Rattle.imap_print.specs.Tables.{all_attributes, bye_reasons, commands,
 ghost use Rattle.imap_answers.specs.Words.{attributes_text, bye_text, command_text, continuation_text, enabled_text, greeting_text, refusal_text};
 
 use crate::scanner::skip;
-use imap_answers::{ByeReason, CompletedWord, Continuation, EnabledExtensions, Login, MailboxState, Refusal};
+use imap_answers::{
+    ByeReason, CompletedWord, Continuation, EnabledExtensions, Login, MailboxState, Refusal,
+};
 
 /// A value that stands for one fixed text.
 pub trait FixedText: Copy {

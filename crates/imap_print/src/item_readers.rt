@@ -6,7 +6,9 @@ ghost use Rattle.imap_print.specs.Reading.{Gives, after, flag_at, item_at, lead}
 ghost use Rattle.imap_print.specs.ReadingAnswers.{bodies_at, body_at, data_at, date_at, date_or, fetch_items_at, fields_at, flags_at, flags_from, flags_or, modseq_or, next_field_at, origin_or, permanent_at, permanent_from, section_at, small_option, status_items_at};
 
 use crate::fault::ReadFault;
-use crate::scanner::{counted_octets, expect, field, value_before_text, lead, literal, number, skip, small, words};
+use crate::scanner::{
+    counted_octets, expect, field, lead, literal, number, skip, small, value_before_text, words,
+};
 use imap_answers::{FetchItems, SectionData, Sections, StatusItems};
 use imap_types::{DateTime, FieldNames, Flags, Keywords, Octets, Section, Text};
 use std::alloc::Global;

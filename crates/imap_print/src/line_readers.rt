@@ -8,11 +8,13 @@ ghost use Rattle.imap_answers.specs.declared.codes.Code.TheVariants as code;
 ghost use Rattle.imap_answers.specs.declared.codes.Notice.TheVariants as notice;
 
 use crate::fault::ReadFault;
-use crate::item_readers::{fetch_items, flags, item, narrow, permanent_flags, status_items};
-use crate::scanner::{ScanClass, expect, value_before_text, number, set, skip, small, span, string};
 use crate::fixed_texts::{
     attributes_word, bye_word, command_word, continuation_word, enabled_word, login_word,
     refusal_word,
+};
+use crate::item_readers::{fetch_items, flags, item, narrow, permanent_flags, status_items};
+use crate::scanner::{
+    ScanClass, expect, number, set, skip, small, span, string, value_before_text,
 };
 use imap_answers::{Answer, Code, CompletedWord, Notice, SearchResults, StatusItems};
 use imap_types::{Name, NumberSet, Octets};
@@ -262,7 +264,11 @@ fn fetch(alloc: Global, number: u32, bytes: &[u8]) -> Result<(Answer, &[u8]), Re
 }
 
 #[tactic(auto, unfolding(crate::specs::ReadingAnswers::tagged_at))]
-fn tagged_line<'a>(alloc: Global, tag: &[u8], bytes: &'a [u8]) -> Result<(Answer, &'a [u8]), ReadFault>
+fn tagged_line<'a>(
+    alloc: Global,
+    tag: &[u8],
+    bytes: &'a [u8],
+) -> Result<(Answer, &'a [u8]), ReadFault>
     ensures { Gives (λ x. (x.0, x.1.now)) result (tagged_at tag.now bytes.now) }
 {
     let rest = expect(bytes, b" ")?;
@@ -330,7 +336,10 @@ fn number_in_code(bytes: &[u8]) -> Result<(u64, &[u8]), ReadFault>
 }
 
 #[tactic(auto, unfolding(crate::specs::ReadingAnswers::copied_at))]
-fn copyuid_code(alloc: Global, bytes: &[u8]) -> Result<((u32, NumberSet, NumberSet), &[u8]), ReadFault>
+fn copyuid_code(
+    alloc: Global,
+    bytes: &[u8],
+) -> Result<((u32, NumberSet, NumberSet), &[u8]), ReadFault>
     ensures { Gives (λ x. (x.0, x.1.now)) result (copied_at bytes.now) }
 {
     let (uidvalidity, rest) = number(bytes);

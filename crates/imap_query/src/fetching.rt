@@ -6,14 +6,14 @@ ghost use Rattle.imap_query.specs.declared.fetching.Part.TheVariants as part;
 ghost use Rattle.mailbox_rows.specs.RowViews.{listed_message, row_of};
 ghost use Rattle.mail_text.specs.HeaderFields.{fields_of};
 
-use crate::heads::{fetch_heads, are_answerable_by_heads};
 use crate::answer_room::make_room;
+use crate::heads::{are_answerable_by_heads, fetch_heads};
 use crate::viewed_message::ViewedMessage;
 use imap_answers::{Answer, FetchItems, SectionData, Sections};
 use imap_syntax::{FetchItem, Partial};
 use imap_types::{DateTime, Flags, Octets, Section, Text};
-use mailbox_rows::{Row, Rows};
 use mail_text::{body, fields, header, other_fields, partial};
+use mailbox_rows::{Row, Rows};
 use std::alloc::{AllocError, Global};
 
 /// How FETCH asks (RFC 9051, section 6.4.5; RFC 7162, section 3.1.4).
@@ -357,7 +357,11 @@ fn part_of(item: &FetchItem) -> Part
 }
 
 /// The sections, where some are asked.
-fn sections_where(alloc: Global, asked: FetchSpec<'_>, row: &Row<'_>) -> Result<Sections, AllocError>
+fn sections_where(
+    alloc: Global,
+    asked: FetchSpec<'_>,
+    row: &Row<'_>,
+) -> Result<Sections, AllocError>
     requires { asked.parts ≡ parts_of asked.items.now }
     ensures { IfOk result (λ sections. sections ≡ are_sections (listed_message row.now).text asked.entry.items.now) }
 {
@@ -418,7 +422,10 @@ fn section_of(
 {
     match section {
         Section::Whole => whole(alloc, row, partial),
-        Section::Header => Text::from_slice(alloc, partial_octets(header(row.shown_text()), partial)),
+        Section::Header => Text::from_slice(
+            alloc,
+            partial_octets(header(row.shown_text()), partial),
+        ),
         Section::Text => Text::from_slice(alloc, partial_octets(body(row.shown_text()), partial)),
         Section::Fields { names } => named_fields(alloc, names.names(), partial, row),
         Section::FieldsNot { names } => unnamed_fields(alloc, names.names(), partial, row),

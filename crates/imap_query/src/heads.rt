@@ -9,10 +9,12 @@ ghost use Rattle.imap_query.specs.Hits.{MayAdd};
 ghost use Rattle.imap_query.specs.Search.{hits_in, number_or_uid};
 ghost use Rattle.mailbox_rows.specs.RowViews.{head_of, listed_head, row_of};
 
-use crate::fetching::{FetchSpec, FetchParts, answers_at_once, push_fetch, tells_modseq, tells_uid};
+use crate::answer_room::make_room;
+use crate::fetching::{
+    FetchParts, FetchSpec, answers_at_once, push_fetch, tells_modseq, tells_uid,
+};
 use crate::keys::FlagTest;
 use crate::messages::{has_flag, is_as};
-use crate::answer_room::make_room;
 use crate::searching::{Hit, name_of};
 use crate::viewed_message::ViewedMessage;
 use imap_answers::{Answer, FetchItems, Sections};
@@ -82,7 +84,11 @@ fn is_kept(changed_since: Option<u64>, head: &RowHead<'_>) -> bool
 
 /// What is told of a message.
 #[inline(always)]
-fn items_of(alloc: Global, asked: FetchSpec<'_>, head: &RowHead<'_>) -> Result<FetchItems, AllocError>
+fn items_of(
+    alloc: Global,
+    asked: FetchSpec<'_>,
+    head: &RowHead<'_>,
+) -> Result<FetchItems, AllocError>
     requires { asked.parts ≡ parts_of asked.items.now }
     ensures { IfOk result (λ told. told ≡ head_items asked.entry.items.now asked.entry.mode (listed_head head.now)) }
 {

@@ -12,8 +12,8 @@ use crate::messages::{is_as, is_flagged};
 use crate::viewed_message::ViewedMessage;
 use imap_syntax::{DateRelation, SearchStep, SearchTest, SystemFlag, TextPlace};
 use imap_types::{DateTime, Day, SequenceBound, SequenceRange};
-use mailbox_rows::Row;
 use mail_text::{body, contains_nocase, field_contains_nocase, written_day};
+use mailbox_rows::Row;
 use std::alloc::{AllocError, Global};
 
 /// A test of a system flag.

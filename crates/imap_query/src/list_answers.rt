@@ -127,7 +127,11 @@ fn append_name(alloc: Global, reference: &[u8], pattern: &[u8]) -> Result<Vec<u8
 }
 
 /// The names that a pattern matches, ascending.
-fn matching_names(alloc: Global, pattern: &[u8], names: &[Name]) -> Result<Vec<ListEntry>, AllocError>
+fn matching_names(
+    alloc: Global,
+    pattern: &[u8],
+    names: &[Name],
+) -> Result<Vec<ListEntry>, AllocError>
     ensures { IfOk result (λ entries. entries.items ≡ placed_all (shown_mailboxes pattern.now names.now) []) }
 {
     let pattern = &Pattern::new(alloc, pattern)?;

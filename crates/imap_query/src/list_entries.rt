@@ -57,7 +57,11 @@ fn root(alloc: Global) -> Result<Vec<ListEntry>, AllocError>
 }
 
 #[tactic(auto, using(crate::proofs::PlacingLemmas::placed_all_joined))]
-fn listed_entries(alloc: Global, pattern: &[u8], folders: &[Name]) -> Result<Vec<ListEntry>, AllocError>
+fn listed_entries(
+    alloc: Global,
+    pattern: &[u8],
+    folders: &[Name],
+) -> Result<Vec<ListEntry>, AllocError>
     ensures { IfOk result (λ entries. entries.items ≡ placed_all (entries_found pattern.now folders.now) []) }
 {
     let pattern = &Pattern::new(alloc, pattern)?;

@@ -1,10 +1,10 @@
 //! What commands with several arguments ask.
 
 use crate::fetch::FetchItem;
-use crate::written_values::WrittenValues;
 use crate::search::SearchOption;
 use crate::steps::SearchSteps;
 use crate::store::StoreAction;
+use crate::written_values::WrittenValues;
 use imap_types::{DateTime, Flags, Name, Octets, SequenceSet, Text};
 
 /// What LIST asks (RFC 9051, section 6.3.9).

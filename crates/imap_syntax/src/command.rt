@@ -1,6 +1,6 @@
 use crate::arguments::{Append, Fetch, ListNames, Search, Store, Transfer};
-use crate::written_values::WrittenValues;
 use crate::status::StatusItem;
+use crate::written_values::WrittenValues;
 use imap_types::{Name, Octets, SequenceSet};
 
 /// A command and its tag (RFC 9051, section 2.2.1).
@@ -22,27 +22,49 @@ pub enum Command {
     /// RFC 9051, section 6.1.3.
     Logout,
     /// RFC 9051, section 6.2.3.
-    Login { user: Octets, password: Octets },
+    Login {
+        user: Octets,
+        password: Octets,
+    },
     /// RFC 9051, section 6.3.1. The names are as they were written.
-    Enable { names: WrittenValues<Octets> },
+    Enable {
+        names: WrittenValues<Octets>,
+    },
     /// RFC 9051, section 6.3.2; `condstore` turns mod-sequences on (RFC 7162, section 3.1.8).
-    Select { name: Name, condstore: bool },
+    Select {
+        name: Name,
+        condstore: bool,
+    },
     /// RFC 9051, section 6.3.3; `condstore` as in `Select`.
-    Examine { name: Name, condstore: bool },
+    Examine {
+        name: Name,
+        condstore: bool,
+    },
     /// RFC 9051, section 6.3.4.
-    Create { name: Name },
+    Create {
+        name: Name,
+    },
     /// RFC 9051, section 6.3.5.
-    Delete { name: Name },
+    Delete {
+        name: Name,
+    },
     /// RFC 9051, section 6.3.7.
-    Subscribe { name: Name },
+    Subscribe {
+        name: Name,
+    },
     /// RFC 9051, section 6.3.8.
-    Unsubscribe { name: Name },
+    Unsubscribe {
+        name: Name,
+    },
     /// LIST (RFC 9051, section 6.3.9).
     ListNames(ListNames),
     /// RFC 9051, section 6.3.10.
     Namespace,
     /// RFC 9051, section 6.3.11. The items are at least one, as they were written.
-    Status { name: Name, items: WrittenValues<StatusItem> },
+    Status {
+        name: Name,
+        items: WrittenValues<StatusItem>,
+    },
     /// RFC 9051, section 6.3.12.
     Append(Append),
     /// RFC 2177, section 3.
@@ -54,7 +76,9 @@ pub enum Command {
     /// RFC 9051, section 6.4.3.
     Expunge,
     /// UID EXPUNGE (RFC 9051, section 6.4.9).
-    UidExpunge { uids: SequenceSet },
+    UidExpunge {
+        uids: SequenceSet,
+    },
     /// RFC 9051, section 6.4.4.
     Search(Search),
     /// RFC 9051, section 6.4.5.

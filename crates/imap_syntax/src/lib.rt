@@ -4,27 +4,27 @@
 #![tactic(auto)]
 
 mod arguments;
-mod octet_class;
 mod command;
 mod fetch;
 mod flags;
 mod idle;
-mod written_values;
+mod octet_class;
 mod search;
 mod status;
 mod steps;
 mod store;
 mod word;
+mod written_values;
 
 pub use arguments::{Append, Fetch, ListNames, Search, Store, Transfer};
-pub use octet_class::OctetClass;
 pub use command::{Command, Tagged};
 pub use fetch::{FetchItem, FetchWord, Partial, SectionWord};
 pub use flags::{Flag, SystemFlag};
 pub use idle::IdleLine;
-pub use written_values::WrittenValues;
+pub use octet_class::OctetClass;
 pub use search::{DateRelation, SearchKeyWord, SearchOption, SearchStep, SearchTest, TextPlace};
 pub use status::StatusItem;
 pub use steps::SearchSteps;
 pub use store::{StoreAction, StoreMode};
 pub use word::CommandWord;
+pub use written_values::WrittenValues;

@@ -7,7 +7,7 @@ use crate::told::is_clock;
 use crdt_ops::SoundOp;
 use crossbeam_channel::{Receiver, unbounded};
 use imap_node::Reply;
-use replica_links::{LinkInput, PeerMsg, LinkMsg, ReplicaTaker, link_worker};
+use replica_links::{LinkInput, LinkMsg, PeerMsg, ReplicaTaker, link_worker};
 use replica_lock::{Gate, Outcome, Pass, Shared};
 use std::alloc::{AllocError, Global};
 use std::rt::Clock;

@@ -5,7 +5,7 @@ use crate::deeds::Ending;
 use crate::told::tell_answers;
 use crdt_ops::SoundOp;
 use merge_laws::Caused;
-use replica_lock::{Book, BookEvent, FinishFault, EntryRef, Outcome};
+use replica_lock::{Book, BookEvent, EntryRef, FinishFault, Outcome};
 use std::alloc::{AllocError, Global};
 
 /// What is left of a replica: its book, or why it isn't handed out, and what its callers saw.

@@ -5,7 +5,7 @@ use crate::fixtures::{copies, operations};
 use crate::told::{all_lines, tell_message};
 use crdt_ops::SoundOp;
 use crossbeam_channel::{Receiver, Sender, unbounded};
-use replica_links::{Gate, PeerMsg, LinkMsg, PeerLinks};
+use replica_links::{Gate, LinkMsg, PeerLinks, PeerMsg};
 use std::alloc::{AllocError, Global};
 use std::sync::Wait;
 use std::sync::atomic::{AtomicU64, Ordering};

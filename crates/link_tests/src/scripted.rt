@@ -6,7 +6,9 @@ use crate::told::{all_lines, with_clock};
 use crdt_ops::SoundOp;
 use crossbeam_channel::{Receiver, Sender, unbounded};
 use merge_laws::Caused;
-use replica_links::{Gate, LinkInput, PeerMsg, LinkMsg, PeerLinks, Taker, Took, ask_all, link_worker};
+use replica_links::{
+    Gate, LinkInput, LinkMsg, PeerLinks, PeerMsg, Taker, Took, ask_all, link_worker,
+};
 use std::alloc::{AllocError, Global};
 use std::sync::Wait;
 use std::test::*;

@@ -5,7 +5,7 @@ use crdt_ops::SoundOp;
 use crossbeam_channel::Receiver;
 use merge_laws::Caused;
 use replica_links::LinkMsg;
-use replica_lock::{Book, BookEvent, JournalEntry, EntryRef, Outcome};
+use replica_lock::{Book, BookEvent, EntryRef, JournalEntry, Outcome};
 use std::alloc::{AllocError, Global};
 use std::sync::Wait;
 use tags_clocks::{Clock, OpId};

@@ -3,22 +3,22 @@
 //! It shares no code with nodes and conversations: it reads frames by the grammar, answers by their texts, and operations by theirs, and applies these as replicas do.
 #![tactic(auto)]
 
-mod expected_lines;
 mod auditing;
-mod open_dump;
+mod dump_state;
 mod event;
-mod line_forms;
+mod expected_lines;
 mod gaps;
 mod gone_messages;
+mod in_progress;
 mod laws;
 mod line_audit;
+mod line_forms;
 mod lines;
 mod op_lines;
+mod open_dump;
 mod results;
-mod in_progress;
 mod sessions;
 mod slots;
-mod dump_state;
 mod transcript;
 mod verdict;
 

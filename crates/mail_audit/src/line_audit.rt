@@ -6,8 +6,8 @@ ghost use Rattle.mail_script.specs.Fields.{is_session_name};
 ghost use Rattle.mail_audit.specs.Audits.{Audits, IsSpokenLine, Part, spoken_line};
 ghost use Rattle.mail_audit.specs.AuditProgress.{AreHeard, EndsAt, IsOpen, HasTaken};
 
-use crate::open_dump::{OpenDump, DumpStep};
-use crate::lines::{SpokenLine, replica_of_dump, read_spoken};
+use crate::lines::{SpokenLine, read_spoken, replica_of_dump};
+use crate::open_dump::{DumpStep, OpenDump};
 use crate::results::is_result;
 use crate::sessions::AuditSessions;
 use crate::verdict::AuditEnd;

@@ -7,7 +7,7 @@ ghost use Rattle.crdt_ops.specs.declared.op.Op.{Op};
 ghost use Rattle.mail_audit.specs.DumpLines.{IsDumpLine};
 ghost use Rattle.mail_audit.specs.Forms.{AreIdsText, AreLetterFields, AreMessageFields, AreTagFields, IsOtherLine, IsSpokenLine, IsStateLine};
 
-use crate::lines::{replica_of_dump, read_spoken};
+use crate::lines::{read_spoken, replica_of_dump};
 use crate::results::is_result;
 use crdt_ops::{Op, OpFault, read_op};
 use std::alloc::{AllocError, Global};

@@ -8,7 +8,7 @@ ghost use Rattle.mail_audit.specs.SlotSteps.{EventFits, after_event, no_slots, p
 ghost use Rattle.mail_audit.specs.declared.event.SlotEvent.TheVariants.{Exists as CountTold, Expunge as GoneTold, Tells as UidTold};
 
 use crate::event::SlotEvent;
-use crate::gaps::{known_before, fits_between, has_room};
+use crate::gaps::{fits_between, has_room, known_before};
 use crate::gone_messages::gone_before;
 use std::alloc::{AllocError, Global};
 use std::marker::Model;

@@ -4,7 +4,7 @@ ghost use Rattle.std.specs.Prelude.{◌≤◌, IfOk, length, vec_len};
 
 use crate::answers::{Answer, answer_of};
 use crate::commands::{Ask, Command, MailboxAsk, push_line};
-use crate::fault::{BenchFault, status_result, read_fault};
+use crate::fault::{BenchFault, read_fault, status_result};
 use crate::replies::Reading;
 use std::alloc::Global;
 use std::io::{ErrorKind, Read, Write};

@@ -1,8 +1,8 @@
 //! Connections that idle (RFC 2177): how long a message takes to all of them, and what they cost others.
 
-use crate::idle_board::Board;
 use crate::client::{Client, Dial};
 use crate::fault::BenchFault;
+use crate::idle_board::Board;
 use crate::measuring::measure;
 use crate::preparing::{connect_and_login, connect_and_select, connect_and_select_when};
 use crate::report::{Report, Tally};

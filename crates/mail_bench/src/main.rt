@@ -3,10 +3,11 @@
 #![tactic(auto)]
 
 mod answers;
-mod idle_board;
+mod bench_output;
 mod client;
 mod commands;
 mod fault;
+mod idle_board;
 mod idling;
 mod laws;
 mod measuring;
@@ -15,7 +16,6 @@ mod program;
 mod replies;
 mod report;
 mod settings;
-mod bench_output;
 mod times;
 mod work;
 mod workload;

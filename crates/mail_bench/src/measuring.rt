@@ -5,7 +5,7 @@ use crate::fault::BenchFault;
 use crate::preparing::connect_and_select;
 use crate::report::{Report, Tally};
 use crate::settings::Settings;
-use crate::work::{Mailing, WorkPlan, Visiting, Work, commands_of, now, since, work_for};
+use crate::work::{Mailing, Visiting, Work, WorkPlan, commands_of, now, since, work_for};
 use std::alloc::Global;
 use std::rt::Clock;
 use std::thread;

@@ -60,7 +60,11 @@ pub fn prepare<R: Dial>(rt: &R, alloc: Global, settings: &Settings<'_>) -> Resul
 }
 
 /// Appends to the mailbox what it lacks, and gives how many messages it has.
-fn fill_mailbox(alloc: Global, settings: &Settings<'_>, client: &mut Client) -> Result<u32, BenchFault> {
+fn fill_mailbox(
+    alloc: Global,
+    settings: &Settings<'_>,
+    client: &mut Client,
+) -> Result<u32, BenchFault> {
     open(client, settings.mailbox)?;
     append_all(alloc, settings, client)?;
     client.select(settings.mailbox)?;

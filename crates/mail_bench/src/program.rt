@@ -1,5 +1,6 @@
 //! The program's way from its command line to its status.
 
+use crate::bench_output::{settings_or_status, tell_fault};
 use crate::client::Dial;
 use crate::fault::BenchFault;
 use crate::idling::{BYSTANDERS, LISTENERS, beside_idle, fan_out};
@@ -7,7 +8,6 @@ use crate::measuring::{measure, measure_visits};
 use crate::preparing::prepare;
 use crate::report::Report;
 use crate::settings::Settings;
-use crate::bench_output::{settings_or_status, tell_fault};
 use crate::times::Summary;
 use crate::work::WorkPlan;
 use crate::workload::Workload;

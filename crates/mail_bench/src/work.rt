@@ -216,7 +216,12 @@ pub struct Visiting<'a, R: Dial> {
 
 impl<R: Dial> Work for Visiting<'_, R> {
     fn turn(&mut self, _number: u64) -> Result<(), BenchFault> {
-        let mut client = connect_and_login(self.rt, self.alloc, self.settings, self.settings.address)?;
+        let mut client = connect_and_login(
+            self.rt,
+            self.alloc,
+            self.settings,
+            self.settings.address,
+        )?;
         client.logout()
     }
 

@@ -158,7 +158,12 @@ fn deliver_and_print(
 }
 
 /// The line that tells what came of an operation that was handed over.
-fn outcome_line_of(source: Source, id: OpId, replica: ReplicaId, told: DeliveryResult) -> OutcomeLine
+fn outcome_line_of(
+    source: Source,
+    id: OpId,
+    replica: ReplicaId,
+    told: DeliveryResult,
+) -> OutcomeLine
     ensures { result ≡ outcome_line_of source id replica told }
 {
     match source {

@@ -54,7 +54,11 @@ fn are_same(one: &Node, other: &Node) -> bool
 }
 
 /// Has all replicas exchange what they received, and prints what came of it.
-pub fn exchange(alloc: Global, stage: &mut ScriptState, printed: &mut Vec<u8>) -> Result<(), ServeFault>
+pub fn exchange(
+    alloc: Global,
+    stage: &mut ScriptState,
+    printed: &mut Vec<u8>,
+) -> Result<(), ServeFault>
     ensures ok { OnOk result ((more : List ℕ) × Settles (script_contents_of stage.old) more (script_contents_of stage.new) × (printed.new.items ≡ printed.old.items ++ more)) }
     ensures err { IfErr result (λ fault. fault ≡ NoMemory) }
     ensures kept { OnErr result (printed.new.items ≡ printed.old.items) }

@@ -3,24 +3,24 @@
 //! them.
 #![tactic(auto)]
 
-mod program_request;
 mod audit_run;
 mod deliveries;
 mod dump_forms;
 mod dump_laws;
-mod replay_end;
 mod exchanges;
-mod script_join;
 mod program;
+mod program_request;
+mod replay_end;
 mod replay_run;
+mod replay_status;
+mod script_join;
 mod script_service;
 mod script_state;
-mod replay_status;
 mod transcript_lines;
 
-pub use program_request::{ProgramRequest, read_words};
 pub use audit_run::{audit_file, audit_from};
-pub use replay_end::ReplayEnd;
 pub use program::run;
+pub use program_request::{ProgramRequest, read_words};
+pub use replay_end::ReplayEnd;
 pub use replay_run::{MAX_READS, replay};
 pub use replay_status::tell;

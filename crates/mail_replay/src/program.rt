@@ -1,7 +1,7 @@
 //! The program's way from its command line to its status.
 
-use crate::program_request::{ProgramRequest, read_words};
 use crate::audit_run::{audit_file, audit_from};
+use crate::program_request::{ProgramRequest, read_words};
 use crate::replay_end::ReplayEnd;
 use crate::replay_run::replay;
 use crate::replay_status::tell;

@@ -23,14 +23,16 @@ ghost use Rattle.imap_connection.specs.declared.turn.Turn.{Turn};
 use crate::deliveries::{deliver, drain, forge};
 use crate::exchanges::{compare, exchange};
 use crate::script_join::join;
-use crate::script_state::{Connection, ScriptReplica, ScriptSession, ScriptState, replica_place, session_place};
+use crate::script_state::{
+    Connection, ScriptReplica, ScriptSession, ScriptState, replica_place, session_place,
+};
 use crate::transcript_lines::{write_answer, write_turns};
-use imap_lex::{FrameFaultKind, Framer, Limits};
-use imap_print::{Answer, ByeReason, Login};
 use imap_connection::{
     Auth, Node, OpenFault, SessionNo, State, TalkFault, TalkFaultKind, Turn, poll_turns, talk,
     write_dump,
 };
+use imap_lex::{FrameFaultKind, Framer, Limits};
+use imap_print::{Answer, ByeReason, Login};
 use imap_types::{Moment, Octets};
 use mail_script::{LineFault, ScriptLine, SessionName, read_line};
 use std::alloc::{AllocError, AllocFailed, Global};

@@ -9,8 +9,8 @@ ghost use Rattle.crdt_ops.specs.Ops.{id_of};
 
 use causal_inbox::find_in;
 use crdt_ops::SoundOp;
-use imap_lex::Framer;
 use imap_connection::{Node, SessionNo};
+use imap_lex::Framer;
 use imap_types::Moment;
 use mail_script::SessionName;
 use merge_laws::Caused;

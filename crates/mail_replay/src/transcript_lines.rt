@@ -7,8 +7,8 @@ ghost use Rattle.mail_script.specs.declared.transcript.Speaker.TheVariants.{Serv
 ghost use Rattle.mail_replay.specs.Transcript.{transcript, turn_line};
 ghost use Rattle.imap_connection.specs.declared.turn.Turn.{Turn};
 
-use imap_print::{Answer, print};
 use imap_connection::Turn;
+use imap_print::{Answer, print};
 use mail_script::{SessionName, Speaker, write_transcript_line};
 use std::alloc::{AllocError, Global};
 

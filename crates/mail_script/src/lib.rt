@@ -2,16 +2,16 @@
 #![tactic(auto)]
 
 mod fields;
-mod script_lines;
 mod outcome_line;
 mod script;
+mod script_lines;
 mod session_name;
 mod transcript;
 
-pub use script_lines::{ScriptLines, cut_in_turn};
 pub use outcome_line::{
     BrokenRule, DeliveryResult, JoinResult, OutcomeLine, SettleResult, write_outcome,
 };
 pub use script::{LineFault, ScriptLine, one_meaning, read_line};
+pub use script_lines::{ScriptLines, cut_in_turn};
 pub use session_name::{MAX_SESSION_NAME_OCTETS, SessionName};
 pub use transcript::{Speaker, write_transcript_line};

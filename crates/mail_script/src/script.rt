@@ -6,7 +6,7 @@ ghost use Rattle.mail_script.specs.declared.script.LineFault.TheVariants.{NoMemo
 ghost use Rattle.mail_script.specs.Reading.{Gives, agree_at, cut_at, deliver_at, fields_at, forge_at, join_at, keyword_at, line_at, node_at, open_at, word_or_words_at, words_at};
 ghost use Rattle.mail_script.specs.Script.{Says};
 
-use crate::fields::{split_field, first_numbers, id, moment, replica, session, session_and_text};
+use crate::fields::{first_numbers, id, moment, replica, session, session_and_text, split_field};
 use crate::session_name::SessionName;
 use imap_types::{EscapeFault, Moment, Octets};
 use std::alloc::{AllocError, Global};

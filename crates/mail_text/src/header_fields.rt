@@ -27,7 +27,12 @@ pub fn other_fields(alloc: Global, text: &[u8], names: &[Octets]) -> Result<Vec<
 }
 
 /// The header fields of these names, where `named`, or all others.
-fn select_fields(alloc: Global, text: &[u8], names: &[Octets], named: bool) -> Result<Vec<u8>, AllocError>
+fn select_fields(
+    alloc: Global,
+    text: &[u8],
+    names: &[Octets],
+    named: bool,
+) -> Result<Vec<u8>, AllocError>
     ensures { IfOk result (λ kept. kept.items ≡ fields_of named names.now text.now) }
 {
     let mut found = Vec::new(alloc);

@@ -4,13 +4,13 @@
 
 mod dates;
 mod field_words;
+mod header_and_body;
 mod header_fields;
 mod text_lines;
-mod header_and_body;
 mod text_search;
 
 pub use dates::{civil, date_ok, written_day};
 pub use field_words::field_contains_nocase;
-pub use header_fields::{fields, other_fields};
 pub use header_and_body::{body, header, partial};
+pub use header_fields::{fields, other_fields};
 pub use text_search::contains_nocase;

@@ -7,8 +7,8 @@ ghost use Rattle.mailbox_rows.specs.ModSeqLog.{AreAmong, AreAscending, changed_s
 ghost use Rattle.mailbox_rows.specs.ListingEntries.{AreRising};
 
 use crate::entry::ListingEntry;
-use crate::patched_list::PatchedList;
 use crate::entry_search::first_from;
+use crate::patched_list::PatchedList;
 use std::alloc::{AllocError, Global};
 
 /// The entries whose mod-sequences are above this one, by a pass over all.
@@ -42,7 +42,11 @@ fn push_at(
 }
 
 /// Puts an entry behind the others, where its mod-sequence is above this one.
-fn push_changed(found: &mut Vec<ListingEntry>, entry: ListingEntry, modseq: u64) -> Result<(), AllocError>
+fn push_changed(
+    found: &mut Vec<ListingEntry>,
+    entry: ListingEntry,
+    modseq: u64,
+) -> Result<(), AllocError>
     ensures { OnOk result (found.new.items ≡ found.old.items ++ changed_since modseq (entry ∷ [])) }
 {
     if modseq < entry.modseq {

@@ -2,11 +2,11 @@
 
 ghost use Rattle.std.specs.Prelude.{◌≡◌, ◌≤◌, ◌<◌, [], IfOk, OnOk, length, set};
 
-use crate::modseq_log::ModSeqLog;
 use crate::entry::ListingEntry;
 use crate::entry_list::EntryList;
+use crate::modseq_log::ModSeqLog;
 use crate::overlay::EntryOverlay;
-use crate::{uid_index, entry_search};
+use crate::{entry_search, uid_index};
 use chunk_list::ChunkList;
 use indexmap::IndexMap;
 use std::alloc::{AllocError, Global};

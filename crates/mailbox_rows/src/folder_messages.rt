@@ -172,7 +172,11 @@ fn look_up_near<'a, V>(table: &'a IndexMap<OpId, V>, entry: &ListingEntry) -> Op
 }
 
 /// The row of an entry with these versions, and the date and text of this Append.
-fn with_letter<'a>(entry: &ListingEntry, versions: Versions<'a>, letter: Option<&'a DatedText>) -> Row<'a>
+fn with_letter<'a>(
+    entry: &ListingEntry,
+    versions: Versions<'a>,
+    letter: Option<&'a DatedText>,
+) -> Row<'a>
     ensures { listed_message result ≡ with_numbers entry.now (message_data_of versions.entry.list.now (option_map (λ letter. letter.now) letter.entry)) }
 {
     match letter {

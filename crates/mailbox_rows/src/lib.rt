@@ -3,27 +3,27 @@
 #![tactic(auto)]
 
 mod changed_entries;
-mod modseq_log;
 mod entry;
-mod owned_row;
-mod uid_index;
 mod entry_list;
+mod entry_search;
+mod entry_table;
 mod folder_messages;
+mod listing_rows;
+mod modseq_log;
 mod overlay;
+mod owned_row;
 mod patched_list;
 mod pieces;
 mod row;
-mod listing_rows;
-mod entry_search;
-mod entry_table;
+mod uid_index;
 mod window;
 
 pub use entry::ListingEntry;
-pub use owned_row::{OwnedRow, VersionsCow};
 pub use entry_list::EntryList;
-pub use folder_messages::{OwnedMessage, DatedText, FolderMessages};
-pub use overlay::EntryOverlay;
-pub use row::{Row, RowHead};
-pub use listing_rows::Rows;
 pub use entry_table::EntryTable;
+pub use folder_messages::{DatedText, FolderMessages, OwnedMessage};
+pub use listing_rows::Rows;
+pub use overlay::EntryOverlay;
+pub use owned_row::{OwnedRow, VersionsCow};
+pub use row::{Row, RowHead};
 pub use window::Window;

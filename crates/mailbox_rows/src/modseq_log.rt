@@ -135,7 +135,10 @@ fn rebuilt_log(alloc: Global, entries: &ChunkList<ListingEntry>) -> Result<ModSe
 }
 
 /// The same in the entries' order.
-fn changes_of(alloc: Global, entries: &ChunkList<ListingEntry>) -> Result<Vec<ModSeqChange>, AllocError>
+fn changes_of(
+    alloc: Global,
+    entries: &ChunkList<ListingEntry>,
+) -> Result<Vec<ModSeqChange>, AllocError>
     ensures { IfOk result (λ list. list.items ≡ changes_of entries.now.items) }
 {
     let mut list = Vec::with_capacity(alloc, entries.len())?;

@@ -6,11 +6,11 @@ ghost use Rattle.mailbox_rows.specs.ListingEntries.{AreIndexed, AreRising, index
 ghost use Rattle.mailbox_rows.specs.EntryTables.{HasEdits};
 
 use crate::changed_entries::{changed_entries_among, changed_entries_by_scan};
-use crate::modseq_log::ModSeqLog;
 use crate::entry::ListingEntry;
 use crate::entry_list::EntryList;
+use crate::modseq_log::ModSeqLog;
 use crate::patched_list::PatchedList;
-use crate::{uid_index, entry_search};
+use crate::{entry_search, uid_index};
 use chunk_list::ChunkList;
 use indexmap::IndexMap;
 use std::alloc::{AllocError, Global};

@@ -69,7 +69,12 @@ fn base_item<T: Copy + Drop>(base: &ChunkList<T>, from: usize, more: usize) -> O
 }
 
 /// Lets the piece at this place have so many items, and the next one the others. There is room for one piece more.
-fn split_piece<T: Copy + Drop>(base: &ChunkList<T>, pieces: &mut Vec<Piece<T>>, at: usize, count: usize)
+fn split_piece<T: Copy + Drop>(
+    base: &ChunkList<T>,
+    pieces: &mut Vec<Piece<T>>,
+    at: usize,
+    count: usize,
+)
     requires pieces { ArePieces base.now.items 0 pieces.old.items }
     requires within { at < vec_len pieces.old }
     requires fits { length (items_of base.now.items pieces.old.items) < 2 ^ 64 }

@@ -7,10 +7,10 @@ ghost use Rattle.std.specs.Option.{unwrap_or};
 ghost use Rattle.mailbox_rows.specs.MessageData.{entry_under, no_message_data, with_numbers, row_by, rows_by, owned_message_data, kept_message_data};
 
 use crate::entry::ListingEntry;
-use crate::owned_row::{OwnedRow, VersionsCow};
 use crate::entry_list::EntryList;
-use crate::folder_messages::{OwnedMessage, FolderMessages, bare_row, head_with};
+use crate::folder_messages::{FolderMessages, OwnedMessage, bare_row, head_with};
 use crate::overlay::EntryOverlay;
+use crate::owned_row::{OwnedRow, VersionsCow};
 use crate::row::{Row, RowHead};
 use imap_types::{Versions, copy_versions};
 use indexmap::IndexMap;
@@ -109,7 +109,11 @@ impl<'a> Window<'a> {
     }
 
     /// The message at this place to be held, with copies of the versions that are the window's own; `Err` where there is no memory for them.
-    pub fn owned_row_at(&self, alloc: Global, place: usize) -> Result<Option<OwnedRow<'a>>, AllocError>
+    pub fn owned_row_at(
+        &self,
+        alloc: Global,
+        place: usize,
+    ) -> Result<Option<OwnedRow<'a>>, AllocError>
         ensures { IfOk result (λ row. option_map owned_message row ≡ slice_get self.now place) }
     {
         match self.entries.get(place) {

@@ -48,7 +48,8 @@ pub struct FirstFollower<F> {
     pub follower: F,
 }
 
-impl<A: Replicated, B: Replicated<Op = A::Op>, F: Follower<A>> Follower<Pair<A, B>> for FirstFollower<F> {
+impl<A: Replicated, B: Replicated<Op = A::Op>, F: Follower<A>> Follower<Pair<A, B>>
+    for FirstFollower<F> {
     type Start = F::Start;
 
     ghost start = { λ x. F.start x.follower };

@@ -1,8 +1,8 @@
 //! Each read and each write failing in turn.
 
 use crate::made_up::MadeUp;
+use imap_connection::{Ended, MemorySink, MemorySource, converse};
 use imap_lex::FrameFaultKind;
-use imap_connection::{Ended, MemorySource, MemorySink, converse};
 use std::alloc::Global;
 use std::sync::Wait;
 use std::test::*;

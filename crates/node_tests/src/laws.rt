@@ -1,12 +1,12 @@
 //! The laws can be called: each is the contract of a function that does nothing.
 
-use imap_grammar::one_reading;
-use imap_lex::{any_cuts, faults_come_first, frames_are_given, given_are_frames};
-use imap_node::{answers_are_printable, listings_are_showable};
 use imap_connection::{
     commands_are_answered, faults_can_be_printed, faults_end_the_stream, one_dump,
     others_come_between, pieces_are_one_stream,
 };
+use imap_grammar::one_reading;
+use imap_lex::{any_cuts, faults_come_first, frames_are_given, given_are_frames};
+use imap_node::{answers_are_printable, listings_are_showable};
 use uid_projection::{
     concurrent_stores_leave_one_message, keywords_are_lawful, names_are_applied,
     numbers_are_for_good, numbers_have_bounds, rows_are_writable, store_beside_expunge,

@@ -1,9 +1,9 @@
 //! A port without a replica.
 
 use imap_answers::{Answer, CompletedWord, Continuation, Login, Notice, Refusal};
+use imap_connection::{Port, PortFault};
 use imap_node::{Answers, Issued, Reply, Silents};
 use imap_syntax::{Command, IdleLine, Tagged};
-use imap_connection::{Port, PortFault};
 use imap_types::Octets;
 use std::alloc::{AllocError, Global};
 

@@ -1,10 +1,11 @@
 //! Conversations over the port of a node.
 
 use crdt_ops::SoundOp;
-use imap_node::{Auth, Credentials, Node};
 use imap_connection::{
-    Deliveries, Ended, MemorySource, NoOthers, NodePort, Others, MemorySink, converse, nodes_converse,
+    Deliveries, Ended, MemorySink, MemorySource, NoOthers, NodePort, Others, converse,
+    nodes_converse,
 };
+use imap_node::{Auth, Credentials, Node};
 use imap_types::{Moment, Octets};
 use std::alloc::Global;
 use std::sync::Wait;

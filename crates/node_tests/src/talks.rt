@@ -3,8 +3,8 @@
 ghost use Rattle.std.specs.Prelude.{IsTrue, ◌↔◌};
 ghost use Rattle.imap_node.specs.Nodes.{IsGoing};
 
-use imap_lex::{Framer, Limits};
 use imap_connection::{Auth, Credentials, Node, SessionNo, State, Turn, talk};
+use imap_lex::{Framer, Limits};
 use imap_types::{Moment, Name, Octets};
 use merge_laws::Caused;
 use std::alloc::Global;

@@ -2,16 +2,16 @@
 #![tactic(auto)]
 
 mod have_answer;
-mod replica_taker;
+mod link_input;
 mod op_taker;
 mod peer_msg;
+mod replica_taker;
 mod took;
-mod link_input;
 
 pub use have_answer::{PeerLinks, ask_all, give_ops, take_ops};
-pub use replica_taker::ReplicaTaker;
-pub use op_taker::{Taker, hand_on};
-pub use peer_msg::{PeerMsg, LinkMsg};
-pub use replica_lock::Gate;
-pub use took::Took;
 pub use link_input::{LinkInput, link_worker};
+pub use op_taker::{Taker, hand_on};
+pub use peer_msg::{LinkMsg, PeerMsg};
+pub use replica_lock::Gate;
+pub use replica_taker::ReplicaTaker;
+pub use took::Took;

@@ -4,7 +4,7 @@ ghost use Rattle.replica_links.specs.Links.{IsBegun, IsLetterAnswered, IsWorked,
 
 use crate::have_answer::{PeerLinks, ask_all, give_ops, take_ops};
 use crate::op_taker::Taker;
-use crate::peer_msg::{PeerMsg, LinkMsg};
+use crate::peer_msg::{LinkMsg, PeerMsg};
 use crossbeam_channel::Receiver;
 use replica_lock::Gate;
 use std::rt::Clock;

@@ -9,8 +9,8 @@ ghost use Rattle.replica_lock.specs.declared.outcome.Outcome.TheVariants as outc
 
 use crate::book::JournalEntry;
 use crate::event::BookEvent;
-use crate::outcome::Outcome;
 use crate::fetch_exchange::{FetchExchange, completes};
+use crate::outcome::Outcome;
 use imap_answers::{Answer, CompletedWord};
 use imap_node::{Reply, SessionNo};
 use imap_types::{Moment, Octets};

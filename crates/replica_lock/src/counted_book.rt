@@ -58,7 +58,11 @@ impl<L: Ledger> CountedBook<L> {
         ensures { result ≡ book }
     {
         let news = book.len();
-        CountedBook { book, calls, last_visible: news }
+        CountedBook {
+            book,
+            calls,
+            last_visible: news,
+        }
     }
 
     /// How many entries the journal has.

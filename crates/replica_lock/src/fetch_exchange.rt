@@ -6,8 +6,8 @@ ghost use Rattle.replica_lock.specs.FetchAnswers.{fetch_exchange_answers, fetch_
 ghost use Rattle.replica_lock.specs.declared.event.BookEvent.TheVariants.{Command};
 ghost use Rattle.replica_lock.specs.declared.outcome.Outcome.TheVariants.{Replied};
 
-use crate::outcome::Outcome;
 use crate::fetch_answers::FetchAnswers;
+use crate::outcome::Outcome;
 use imap_answers::{Answer, CompletedWord};
 use imap_node::{Reply, SessionNo};
 use imap_syntax::Tagged;

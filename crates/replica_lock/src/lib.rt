@@ -5,31 +5,31 @@
 //! passes of a replica together count its journal's entries.
 #![tactic(auto)]
 
-mod session_signals;
 mod book;
+mod compact_entry;
 mod comparing;
+mod counted_book;
 mod event;
 mod faults;
-mod joined_book;
-mod compact_entry;
-mod laws;
+mod fetch_answers;
+mod fetch_exchange;
 mod fetch_line;
-mod counted_book;
+mod joined_book;
+mod laws;
+mod node_step;
 mod outcome;
 mod pass;
+mod session_signals;
 mod shared;
-mod fetch_answers;
-mod node_step;
-mod fetch_exchange;
 
 pub use book::{Book, JournalEntry};
+pub use compact_entry::{CompactEntry, EntryRef};
 pub use event::BookEvent;
 pub use faults::{CallFault, FinishFault, JoinFault, NoRoom};
-pub use compact_entry::{CompactEntry, EntryRef};
-pub use laws::same_operations_hold_the_same;
-pub use fetch_line::{FetchLine, SystemFlags};
-pub use outcome::Outcome;
-pub use pass::Pass;
-pub use shared::{Gate, Shared, LockTurn};
 pub use fetch_answers::FetchAnswers;
 pub use fetch_exchange::FetchExchange;
+pub use fetch_line::{FetchLine, SystemFlags};
+pub use laws::same_operations_hold_the_same;
+pub use outcome::Outcome;
+pub use pass::Pass;
+pub use shared::{Gate, LockTurn, Shared};

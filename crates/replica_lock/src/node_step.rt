@@ -7,11 +7,11 @@ ghost use Rattle.replica_lock.specs.Steps.{Awaits, IsStep, TakesInput, ends_sess
 ghost use Rattle.replica_lock.specs.declared.event.BookEvent.TheVariants as events;
 ghost use Rattle.replica_lock.specs.declared.outcome.Outcome.TheVariants as outcomes;
 
+use crate::compact_entry::{CompactEntry, PendingEntry, is_done};
 use crate::event::{BookEvent, event_of};
 use crate::faults::NoRoom;
-use crate::compact_entry::{PendingEntry, CompactEntry, is_done};
-use crate::outcome::Outcome;
 use crate::fetch_exchange::FetchExchange;
+use crate::outcome::Outcome;
 use causal_inbox::{DeliverFault, Delivered};
 use crdt_ops::SoundOp;
 use imap_node::{Auth, Input, Node, OpenFault, Reply, SessionNo};

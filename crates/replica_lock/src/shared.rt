@@ -6,13 +6,13 @@ ghost use Rattle.crdt_ops.specs.declared.op.Op.{Op};
 ghost use Rattle.merge_laws.specs.Orders.{IsCausal};
 ghost use Rattle.imap_node.specs.Operations.{clock_of, id_of};
 
-use crate::session_signals::SessionSignals;
 use crate::book::Book;
+use crate::counted_book::CountedBook;
 use crate::event::BookEvent;
 use crate::faults::{CallFault, FinishFault};
-use crate::counted_book::CountedBook;
 use crate::outcome::Outcome;
 use crate::pass::Pass;
+use crate::session_signals::SessionSignals;
 use crdt_ops::SoundOp;
 use imap_node::{Auth, SessionNo};
 use imap_syntax::{Command, IdleLine, Tagged};
@@ -290,7 +290,8 @@ impl<L: Ledger> Shared<L> {
         let locked = self.bells.signal_of(session).wait_while(
             rt,
             self.locked.lock(rt),
-            |locked| !locked.has_session_change(session, seen) && locked.book().node().is_open(session),
+            |locked| !locked.has_session_change(session, seen)
+                && locked.book().node().is_open(session),
         );
         if !locked.has_session_change(session, seen) {
             return None;

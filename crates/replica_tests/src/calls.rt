@@ -3,7 +3,7 @@
 use crate::fixtures::{Mailboxes, Trouble, empty, operations};
 use crate::telling::tell_mailboxes;
 use causal_inbox::Inbox;
-use merge_laws::{Follower, NotReady, FirstFollower, Replicated, Unfollowed};
+use merge_laws::{FirstFollower, Follower, NotReady, Replicated, Unfollowed};
 use std::alloc::{AllocError, Global};
 use std::test::Fail;
 

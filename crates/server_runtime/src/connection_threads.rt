@@ -6,12 +6,12 @@ ghost use Rattle.server_runtime.specs.Calls.{OpensByCall, StepsByCall};
 
 use crate::feeder::feed;
 use crate::server_state::ServerState;
-use crate::shared_phase::SharedPhase;
-use crate::session_reader::SessionReader;
 use crate::session_port::SessionPort;
+use crate::session_reader::SessionReader;
+use crate::shared_phase::SharedPhase;
 use crate::socket::{SocketReader, SocketWriter};
-use imap_lex::Limits;
 use imap_connection::{Ended, Sink, Source, Wire, converse};
+use imap_lex::Limits;
 use log::{Log, info};
 use replica_links::Gate;
 use replica_lock::{Pass, Shared};

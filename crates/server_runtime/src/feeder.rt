@@ -82,7 +82,11 @@ fn poll_and_write<L: Ledger, R: Wait>(
         None => false,
     };
     drop(phase);
-    if told { PollOutcome::Done } else { PollOutcome::Failed }
+    if told {
+        PollOutcome::Done
+    } else {
+        PollOutcome::Failed
+    }
 }
 
 fn write_all(stream: &TcpStream, text: &[u8]) -> bool {

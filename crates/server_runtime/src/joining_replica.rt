@@ -1,7 +1,7 @@
 //! Replicas that join while the server runs.
 
-use crate::server_state::ServerState;
 use crate::replica_handle::{CopyRequest, others};
+use crate::server_state::ServerState;
 use crdt_ops::SoundOp;
 use crossbeam_channel::{Receiver, Sender, unbounded};
 use replica_lock::{Book, Pass, Shared};

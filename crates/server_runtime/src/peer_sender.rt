@@ -3,7 +3,7 @@
 use crate::server_state::ServerState;
 use crdt_ops::SoundOp;
 use merge_laws::Caused;
-use replica_links::{PeerMsg, LinkMsg, PeerLinks};
+use replica_links::{LinkMsg, PeerLinks, PeerMsg};
 use std::alloc::{AllocError, Global};
 use std::sync::Wait;
 use tags_clocks::Clock;
@@ -19,7 +19,11 @@ pub struct PeerSender<'a, R: Wait> {
 impl<'a, R: Wait> PeerSender<'a, R> {
     /// Letters of the replica at this place.
     pub fn new(rt: &'a R, server: &'a ServerState<'a>, own: usize) -> PeerSender<'a, R> {
-        PeerSender { rt, server: server, own }
+        PeerSender {
+            rt,
+            server: server,
+            own,
+        }
     }
 
     fn send(&self, to: usize, message: LinkMsg) {

@@ -1,9 +1,9 @@
 //! The program's way from its command line to its status.
 
-use crate::server_state::{ServerState, StopCounter};
 use crate::joining_replica::JoiningReplica;
-use crate::replica_threads::{StartMode, ReplicaSetup, serve};
-use crate::replica_handle::{JoinSignal, CopyRequest, JoiningReplicas, ReplicaHandle};
+use crate::replica_handle::{CopyRequest, JoinSignal, JoiningReplicas, ReplicaHandle};
+use crate::replica_threads::{ReplicaSetup, StartMode, serve};
+use crate::server_state::{ServerState, StopCounter};
 use crossbeam_channel::{Receiver, Sender, unbounded};
 use log::{Log, error};
 use replica_links::PeerMsg;
@@ -225,7 +225,10 @@ fn await_join<'a>(
 }
 
 /// Adds a way to call a replica that is to join, and gives the replica's ends of it.
-fn add_join_signal(alloc: Global, calls: &mut Vec<JoinSignal>) -> Result<(Receiver<()>, Sender<()>), RunFault> {
+fn add_join_signal(
+    alloc: Global,
+    calls: &mut Vec<JoinSignal>,
+) -> Result<(Receiver<()>, Sender<()>), RunFault> {
     let (begin, begins) = unbounded(alloc)?;
     let (ends, done) = unbounded(alloc)?;
     calls.push(JoinSignal { begin, done })?;

@@ -5,7 +5,7 @@ ghost use Rattle.server_runtime.specs.Places.{all_but};
 
 use crdt_ops::SoundOp;
 use crossbeam_channel::{Receiver, Sender};
-use replica_links::{PeerMsg, LinkMsg};
+use replica_links::{LinkMsg, PeerMsg};
 use std::alloc::{AllocError, Global};
 use std::net::{Net, SocketAddr, TcpListener, TcpStream};
 use std::sync::{Mutex, Wait};

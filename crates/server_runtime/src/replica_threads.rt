@@ -3,10 +3,10 @@
 ghost use Rattle.std.specs.Prelude.{◌≡◌};
 
 use crate::connection_threads::{ReplicaContext, connection_worker, refuse_connection};
-use crate::server_state::ServerState;
 use crate::joining_replica::{JoinedReplica, JoiningReplica, lend_copies};
 use crate::peer_sender::PeerSender;
 use crate::replica_handle::{CopyRequest, others};
+use crate::server_state::ServerState;
 use crate::totals::{Totals, totals_of};
 use crossbeam_channel::Receiver;
 use imap_node::Node;
@@ -182,7 +182,10 @@ fn run_part<
         beginning,
     } = part;
     let (begun, asks) = match beginning {
-        StartMode::Listening(listener) => (start_listening(alloc, server, replica, own, listener), false),
+        StartMode::Listening(listener) => (
+            start_listening(alloc, server, replica, own, listener),
+            false,
+        ),
         StartMode::Joining(joiner) => match joiner.join(rt, alloc, server, replica, own) {
             Some(joined) => (Some(joined), true),
             None => return true,
@@ -249,7 +252,14 @@ fn new_book(alloc: Global, replica: ReplicaId) -> Option<Book> {
 fn run_replica<
     L: Ledger + Send + Sync,
     R: Threads + Wait + Clock + Log + Sync + Net<Listener = TcpListener, Stream = TcpStream>,
->(rt: &R, alloc: Global, blank: Blank, server: &ServerState<'_>, book: Book, ends: ReplicaInputs) -> bool
+>(
+    rt: &R,
+    alloc: Global,
+    blank: Blank,
+    server: &ServerState<'_>,
+    book: Book,
+    ends: ReplicaInputs,
+) -> bool
     requires { (blank.name ≡ L.name) × (blank.parts ≡ L.parts) × (L.parts ≡ 4294967295) }
 {
     let (shared, first) = Shared::<L>::new(blank, book);
@@ -335,7 +345,11 @@ fn next_pass<L: Ledger, R: Wait>(
 }
 
 /// Serves a connection to its end, closes it, and gives its pass back.
-fn serve_connection<L: Ledger + Send + Sync, R: Threads + Wait + Clock + Log + Sync, G: Gate + Send + Drop>(
+fn serve_connection<
+    L: Ledger + Send + Sync,
+    R: Threads + Wait + Clock + Log + Sync,
+    G: Gate + Send + Drop,
+>(
     rt: &R,
     alloc: Global,
     context: &ReplicaContext<'_, L>,
@@ -437,7 +451,10 @@ fn serve_listener<
 }
 
 /// A connection ended. Behind the first one those join that are to, and behind the last one the threads of all replicas are woken, so that they end too.
-fn end_one<R: Wait + Net<Listener = TcpListener, Stream = TcpStream>>(rt: &R, server: &ServerState<'_>) {
+fn end_one<R: Wait + Net<Listener = TcpListener, Stream = TcpStream>>(
+    rt: &R,
+    server: &ServerState<'_>,
+) {
     server.joining.begin_all(rt);
     if !server.stop.end_one(rt) {
         return;

@@ -12,17 +12,17 @@ ghost use Rattle.replica_lock.specs.declared.event.BookEvent.TheVariants as even
 ghost use Rattle.replica_lock.specs.declared.outcome.Outcome.TheVariants.{Opened, Replied};
 
 use crate::connection_threads::ReplicaContext;
-use crate::server_state::{ServerState, auth_of, login_of};
 use crate::peer_sender::PeerSender;
+use crate::server_state::{ServerState, auth_of, login_of};
 use crate::shared_phase::SharedPhase;
 use crdt_ops::SoundOp;
 use imap_answers::Login;
+use imap_connection::{Port, PortFault};
 use imap_node::{OpenFault, Reply, SessionNo};
 use imap_syntax::{Command, IdleLine, Tagged};
-use imap_connection::{Port, PortFault};
 use imap_types::Moment;
 use replica_links::Gate;
-use replica_lock::{CallFault, Outcome, Pass, Shared, LockTurn};
+use replica_lock::{CallFault, LockTurn, Outcome, Pass, Shared};
 use std::alloc::Global;
 use std::rt::Clock;
 use std::sync::ledger::Ledger;

@@ -2,9 +2,11 @@
 
 use crdt_ops::{SoundOp, into_sound_op, read_op};
 use crossbeam_channel::{Receiver, unbounded};
-use server_runtime::{Access, ServerState, PeerSender, JoiningReplicas, ReplicaHandle, StopCounter};
 use merge_laws::Caused;
-use replica_links::{PeerMsg, LinkMsg, PeerLinks};
+use replica_links::{LinkMsg, PeerLinks, PeerMsg};
+use server_runtime::{
+    Access, JoiningReplicas, PeerSender, ReplicaHandle, ServerState, StopCounter,
+};
 use std::alloc::Global;
 use std::net::{IpAddr, Ipv4Addr, SocketAddr};
 use std::sync::{Mutex, Wait};
@@ -66,7 +68,12 @@ fn next_letter<R: Wait>(rt: &R, alloc: Global, letters: &Receiver<PeerMsg>) -> P
 }
 
 /// What the next letter to the replica at a place brings.
-fn letter_at<R: Wait>(rt: &R, alloc: Global, letters: &[Receiver<PeerMsg>], place: usize) -> Parcel {
+fn letter_at<R: Wait>(
+    rt: &R,
+    alloc: Global,
+    letters: &[Receiver<PeerMsg>],
+    place: usize,
+) -> Parcel {
     match letters.get(place) {
         Some(letters) => next_letter(rt, alloc, letters),
         None => Parcel::Others,
@@ -126,7 +133,10 @@ fn send_all<R: Wait>(rt: &R, alloc: Global, house: &ServerState<'_>) -> Option<(
 
 /// What the first replica of three sends. What comes to the first, the second and the third, in that order, until nothing does.
 fn sent<R: Wait>(rt: &R, alloc: Global) -> Option<[Parcel; 6]> {
-    let Stations { replicas: stations, letters } = three_stations(alloc)?;
+    let Stations {
+        replicas: stations,
+        letters,
+    } = three_stations(alloc)?;
     let house = ServerState {
         access: Access::Preauth,
         replicas: stations,

@@ -6,8 +6,10 @@ use crate::callers::{Caller, Line, hear};
 use crate::doors::{Door, Keeper, Signs, Way, wait_for};
 use imap_node::Node;
 use log::Log;
-use server_runtime::{Access, ReplicaContext, ServerState, JoiningReplicas, StopCounter, serve_over};
 use replica_lock::{Book, Pass, Shared};
+use server_runtime::{
+    Access, JoiningReplicas, ReplicaContext, ServerState, StopCounter, serve_over,
+};
 use std::alloc::{AllocError, Global};
 use std::marker::Brand;
 use std::net::{Net, TcpListener, TcpStream};

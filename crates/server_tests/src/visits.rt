@@ -2,8 +2,8 @@
 
 use crate::clients::Client;
 use imap_types::Moment;
-use server_runtime::ServerState;
 use mail_text::civil;
+use server_runtime::ServerState;
 use std::alloc::Global;
 use std::net::{Net, SocketAddr, TcpListener, TcpStream};
 use std::rt::Clock;
@@ -57,7 +57,11 @@ impl Visit {
 }
 
 /// The address at which the replica at a place listens, once it does.
-fn address_at<R: Wait + Clock>(rt: &R, house: &ServerState<'_>, place: usize) -> Option<SocketAddr> {
+fn address_at<R: Wait + Clock>(
+    rt: &R,
+    house: &ServerState<'_>,
+    place: usize,
+) -> Option<SocketAddr> {
     let station = house.replicas.get(place)?;
     for _ in 0..6_000u32 {
         let address = *station.address.lock(rt);

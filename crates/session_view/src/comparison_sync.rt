@@ -6,8 +6,8 @@ ghost use Rattle.session_view.specs.Views.{AreRising, entries_of, same_flags};
 ghost use Rattle.session_view.specs.declared.view_entry.ViewEntry.{ViewEntry};
 ghost use Rattle.session_view.specs.Sync.{exists_if_more, exists_of_sync, fetch_if_changed, fetch_of_row, fetches_of_sync, expunges, staying_entries, staying_entry, expunge_if_gone, expunges_of_sync, entries_staying, sync_answers, view_after_sync};
 
-use crate::view_entry::{ViewEntries, ViewEntry, SyncKind, count_of, last_uid, uid_at};
 use crate::message_list::MessageList;
+use crate::view_entry::{SyncKind, ViewEntries, ViewEntry, count_of, last_uid, uid_at};
 use chunk_list::ChunkList;
 use imap_answers::{Answer, FetchItems, Sections};
 use imap_types::Flags;

@@ -5,8 +5,8 @@ ghost use Rattle.mailbox_rows.specs.RowViews.{AreRisingRows};
 ghost use Rattle.session_view.specs.Views.{AreRising};
 ghost use Rattle.session_view.specs.Replay.{after_answer, after_answers, after_silent, arrivals_up_to, with_fetched_flags, with_flags_at, view_after_reply, without_message};
 
-use crate::view_entry::{ViewEntries, ViewEntry, copy_entries, last_uid, uid_at};
 use crate::comparison_sync::push_rows;
+use crate::view_entry::{ViewEntries, ViewEntry, copy_entries, last_uid, uid_at};
 use imap_answers::Answer;
 use imap_types::Flags;
 use mailbox_rows::Rows;
@@ -111,11 +111,22 @@ fn take_in(
     let uid = last_uid(entries);
     let wanted = (count as usize).saturating_sub(entries.len());
     let _count = rows.count();
-    push_rows(alloc, rows, rows.place_after_uid(uid), wanted as u32, entries)
+    push_rows(
+        alloc,
+        rows,
+        rows.place_after_uid(uid),
+        wanted as u32,
+        entries,
+    )
 }
 
 /// Sets the flags of the message with this number to a copy of these, if there is one.
-fn set_flags_at(alloc: Global, number: u32, flags: &Flags, entries: &mut ViewEntries) -> Result<(), AllocError>
+fn set_flags_at(
+    alloc: Global,
+    number: u32,
+    flags: &Flags,
+    entries: &mut ViewEntries,
+) -> Result<(), AllocError>
     ensures { OnOk result (entries.new.items ≡ with_flags_at entries.old.items number flags.now) }
 {
     let copy = flags.copy(alloc)?;

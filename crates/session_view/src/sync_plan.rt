@@ -11,11 +11,11 @@ ghost use Rattle.session_view.specs.Views.{AreRising, last_from, last_uid};
 ghost use Rattle.session_view.specs.Walks.{IsWalk, gone_numbers, notes_left};
 ghost use Rattle.session_view.specs.declared.view_entry.SyncKind.TheVariants.{Full};
 
-use crate::notes::Note;
-use crate::view_entry::{ViewEntries, ViewEntry, SyncForm, SyncKind, count_of, last_uid, uid_at};
-use crate::set_places::count_below;
-use crate::reply_replay::{SilentFlags, set_flags, take_number};
 use crate::comparison_sync::{are_same, change_of, push_exists, push_new};
+use crate::notes::Note;
+use crate::reply_replay::{SilentFlags, set_flags, take_number};
+use crate::set_places::count_below;
+use crate::view_entry::{SyncForm, SyncKind, ViewEntries, ViewEntry, count_of, last_uid, uid_at};
 use chunk_list::ReservedRoom;
 use imap_answers::Answer;
 use mailbox_rows::{Row, Rows};
@@ -150,7 +150,11 @@ fn is_whole(count: usize, listed: usize, left: usize) -> bool
 }
 
 /// Room for these messages, where there are some, behind so many.
-fn place_for(alloc: Global, count: usize, came: &[ViewEntry]) -> Result<ReservedRoom<ViewEntry>, AllocError>
+fn place_for(
+    alloc: Global,
+    count: usize,
+    came: &[ViewEntry],
+) -> Result<ReservedRoom<ViewEntry>, AllocError>
     ensures { IfOk result (λ place. (came.now ≡ []) ⊎ ((count ≤ place.most) × (length came.now ≤ place.room))) }
 {
     if came.is_empty() {

@@ -1,6 +1,8 @@
 //! The replicated subscriptions.
 
-use crate::subs_table::{NameTags, remove_tags_of, add_tag_of, make_room, subscribed_names, tag_ids};
+use crate::subs_table::{
+    NameTags, add_tag_of, make_room, remove_tags_of, subscribed_names, tag_ids,
+};
 use crdt_ops::{Ids, SoundOp};
 use imap_types::Name;
 use indexmap::IndexMap;

@@ -18,13 +18,13 @@ ghost use Rattle.uid_projection.specs.UidsAndModSeqs.{kind_names_folder, has_ver
 ghost use Rattle.uid_projection.specs.EntryMoves.{AreApart, IsNext, has_entry, loses, moved_entries, with_line};
 ghost use Rattle.uid_projection.specs.ChartTable.{IsTable, chart_at};
 
-use crate::exhaustion::is_same_name;
 use crate::chart::Chart;
-use crate::charts::Charts;
-use crate::folder_ahead::FolderAhead;
-use crate::entry_moves::{added_origin, begin_line, renew, settle};
-use crate::first_numbers::first_of;
 use crate::chart_table::chart_of;
+use crate::charts::Charts;
+use crate::entry_moves::{added_origin, begin_line, renew, settle};
+use crate::exhaustion::is_same_name;
+use crate::first_numbers::first_of;
+use crate::folder_ahead::FolderAhead;
 use crdt_ops::{Kind, Op, SoundOp};
 use imap_types::Name;
 use mailbox_rows::{EntryList, EntryOverlay, EntryTable};

@@ -16,7 +16,7 @@ ghost use Rattle.uid_projection.specs.ChartRows.{entry_with};
 
 use folder_state::Folders;
 use imap_types::Name;
-use mailbox_rows::{ListingEntry, EntryList, EntryTable, Row};
+use mailbox_rows::{EntryList, EntryTable, ListingEntry, Row};
 
 /// The row of the entry with this UID, if it is there.
 pub fn row_with<'a>(

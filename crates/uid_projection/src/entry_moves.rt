@@ -7,7 +7,7 @@ ghost use Rattle.crdt_ops.specs.SortedSets.{same_id};
 ghost use Rattle.mailbox_rows.specs.ListingEntries.{IsAt, Lacks};
 
 use crdt_ops::{Kind, Op};
-use mailbox_rows::{ListingEntry, EntryList};
+use mailbox_rows::{EntryList, ListingEntry};
 use tags_clocks::OpId;
 
 /// The origin of the message tag that an operation adds, where it adds one.

@@ -14,8 +14,8 @@ ghost use Rattle.uid_projection.specs.UidsAndModSeqs.{begins_line, first_uid, ha
 ghost use Rattle.uid_projection.specs.ChartTable.{IsTable};
 
 use crate::chart::Chart;
-use crate::first_numbers::{Counters, first_of};
 use crate::chart_table::uidnext_in;
+use crate::first_numbers::{Counters, first_of};
 use crdt_ops::{Kind, Op, SoundOp};
 use folder_state::Folders;
 use imap_types::Name;
@@ -92,13 +92,7 @@ fn begins_line(value: &Folders, folder: &Name, front: &[SoundOp], op: &Op) -> bo
 }
 
 /// Whether both are one folder, in which the origin has no version after these operations.
-fn begins_anew(
-    value: &Folders,
-    folder: &Name,
-    own: &Name,
-    origin: &OpId,
-    front: &[SoundOp],
-) -> bool
+fn begins_anew(value: &Folders, folder: &Name, own: &Name, origin: &OpId, front: &[SoundOp]) -> bool
     ensures { (list : List Op) → IsApplied (list ++ front.now) → IsMadeBy (contents_of value.now) list → result ≡ (bytes_eq folder.now own.now && not (has_version folder.now origin.now (list ++ front.now))) }
 {
     if !is_same_name(folder, own) {

@@ -15,15 +15,15 @@ ghost use Rattle.folder_state.specs.Tables.{contents_of};
 ghost use Rattle.uid_projection.specs.FolderAhead.{IsAhead, IsHeld, IsHeldAt, IsOrderly, tag_data_ahead, folder_of, dated_texts_ahead, message_ahead, tags_ahead};
 ghost use Rattle.uid_projection.specs.TagChanges.{change_value};
 
-use crate::tag_changes::{LentDatedText, note_dated_text, note_tag, note_tags_gone};
 use crate::messages_ahead::MessagesAhead;
 use crate::presence_ahead::{has_tag_left, has_tag_put};
+use crate::tag_changes::{LentDatedText, note_dated_text, note_tag, note_tags_gone};
 use crate::touched_origins::touch;
 use crdt_ops::{Kind, Op, SoundOp};
 use folder_state::{Folder, Folders};
 use imap_types::{DateTime, Flags, Name, Text, Version};
 use indexmap::IndexMap;
-use mailbox_rows::{OwnedMessage, FolderMessages};
+use mailbox_rows::{FolderMessages, OwnedMessage};
 use std::alloc::{AllocError, Global};
 use tags_clocks::OpId;
 
@@ -347,7 +347,10 @@ fn kept_dated_text<'a>(value: &'a Folders, id: &OpId) -> Option<LentDatedText<'a
 }
 
 /// The message with these versions, and with this date and text or none.
-fn with_dated_text<'a>(letter: Option<LentDatedText<'a>>, versions: Vec<Version>) -> OwnedMessage<'a>
+fn with_dated_text<'a>(
+    letter: Option<LentDatedText<'a>>,
+    versions: Vec<Version>,
+) -> OwnedMessage<'a>
     ensures versions { result.versions ≡ versions }
     ensures date { option_map (λ date. date.now) result.date ≡ option_map (λ l. l.date) (option_map change_value letter.entry) }
     ensures text { option_map (λ text. text.now) result.text ≡ option_map (λ l. l.text) (option_map change_value letter.entry) }

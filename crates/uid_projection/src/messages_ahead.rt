@@ -9,9 +9,9 @@ ghost use Rattle.crdt_ops.specs.SortedSets.{same_id};
 ghost use Rattle.folder_state.specs.FolderTables.{body_in_folder};
 ghost use Rattle.uid_projection.specs.TagChanges.{AreAll, Grows, HasOrigin, IsWhole, bodies_of, kept_of, origin_of};
 
-use crate::tag_changes::{TagChange, note_change};
 use crate::overlay::{has_kept, has_listed, kept_origin, origin_of, place_kept, place_listed};
 use crate::presence_ahead::has_change_put;
+use crate::tag_changes::{TagChange, note_change};
 use crate::touched_origins::{list, touch};
 use folder_state::Folder;
 use imap_types::{Flags, Version};

@@ -12,10 +12,10 @@ ghost use Rattle.uid_projection.specs.Incarnations.{begins_incarnation, deletes_
 ghost use Rattle.uid_projection.specs.UidsAndModSeqs.{highest_modseq_of};
 ghost use Rattle.uid_projection.specs.ChartTable.{IsTable};
 
-use crate::exhaustion::{begins, is_same_name};
 use crate::chart::Chart;
 use crate::chart_ahead::is_about;
 use crate::chart_table::chart_of;
+use crate::exhaustion::{begins, is_same_name};
 use crdt_ops::{Kind, SoundOp};
 use folder_state::Folders;
 use imap_types::Name;

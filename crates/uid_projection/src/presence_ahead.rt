@@ -8,8 +8,8 @@ ghost use Rattle.crdt_ops.specs.SortedSets.{same_id};
 ghost use Rattle.folder_state.specs.FolderTables.{folder_ids};
 ghost use Rattle.uid_projection.specs.TagChanges.{IsKeptTag, value_at_key, is_put, is_tag, is_there, is_there_at, kept_of, tag_over};
 
-use crate::tag_changes::TagChange;
 use crate::messages_ahead::MessagesAhead;
+use crate::tag_changes::TagChange;
 use folder_state::Folder;
 use indexmap::IndexMap;
 use tags_clocks::OpId;

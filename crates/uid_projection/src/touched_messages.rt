@@ -15,11 +15,11 @@ ghost use Rattle.uid_projection.specs.ChartTable.{origin_at};
 ghost use Rattle.uid_projection.specs.TouchedMessages.{AddsUids, RowsStayExcept, names_message};
 
 use crate::chart::Chart;
-use crate::charts::Charts;
 use crate::chart_ahead::is_about;
+use crate::chart_table::chart_of;
+use crate::charts::Charts;
 use crate::entry_moves::added_origin;
 use crate::origins::origin_at;
-use crate::chart_table::chart_of;
 use crdt_ops::{Op, SoundOp};
 use imap_types::Name;
 use indexmap::IndexMap;
@@ -63,7 +63,12 @@ fn uids_of_messages_named(
 }
 
 /// Puts the UIDs of the messages that the operation names behind the others, where it is about the folder.
-fn push_uids_named(uids: &mut Vec<u32>, chart: &Chart, folder: &Name, op: &Op) -> Result<(), AllocError>
+fn push_uids_named(
+    uids: &mut Vec<u32>,
+    chart: &Chart,
+    folder: &Name,
+    op: &Op,
+) -> Result<(), AllocError>
     ensures { OnOk result (AddsUids (λ g. names_message (origin_at chart.now.versions.entries) folder.now g op.now) chart.now.entries.entries uids.old.items uids.new.items) }
 {
     if !is_about(&op.kind, folder) {

@@ -2,7 +2,7 @@
 
 use imap_answers::{Answer, FetchItems, Notice};
 use imap_types::Flags;
-use session_view::{ViewEntries, SilentFlags};
+use session_view::{SilentFlags, ViewEntries};
 use std::alloc::{AllocError, Global};
 
 /// A message as the client knows it.

@@ -12,9 +12,9 @@ mod joining;
 mod laws;
 mod node_places;
 mod run_events;
+mod session_events;
 mod settling;
 mod stepping;
-mod session_events;
 mod world;
 
 pub use agreement::{Agreement, agree};

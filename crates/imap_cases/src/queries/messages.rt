@@ -7,7 +7,7 @@ use crate::parts::flags_named;
 use crate::queries::fields::octets;
 use case_lines::{Trouble, long_number, number, parted};
 use imap_types::{DATE_TIME_OCTETS, DateTime, Escape, Flags, Text, Version, Versions};
-use mailbox_rows::{OwnedRow, VersionsCow, Rows};
+use mailbox_rows::{OwnedRow, Rows, VersionsCow};
 use std::alloc::Global;
 use tags_clocks::{OpId, ReplicaId};
 

@@ -5,7 +5,7 @@ use crate::queries::messages::{Message, standing_with};
 use case_lines::{Trouble, long_number, number};
 use chunk_list::ChunkList;
 use imap_types::{DateTime, Flags, Name, SequenceBound, SequenceRange, SequenceSet};
-use session_view::{ViewEntries, ViewEntry, View, are_rising};
+use session_view::{View, ViewEntries, ViewEntry, are_rising};
 use std::alloc::Global;
 
 /// A view of INBOX, whose UIDs ascend.
