@@ -1,9 +1,11 @@
+-- The order of two clocks, as `Clock::compare` gives it.
+
 use Rattle.std.specs.Prelude.{ℕ, List}
 use Rattle.tags_clocks.specs.declared.clock.ClockOrder.{ClockOrder}
 use Rattle.tags_clocks.specs.declared.clock.ClockOrder.TheVariants.{Before, After, Equal, Concurrent}
 use Rattle.tags_clocks.specs.Clock.{IsCoveredBy}
 
--- How the one clock stands to the other: within it, the other way round, both, or neither.
+-- `es` is covered by `fs`, the other way round, both, or neither.
 abbrev pub Compares : ClockOrder → List (ℕ × ℕ) → List (ℕ × ℕ) → Type 0
 Compares Before es fs = IsCoveredBy es fs × ¬ IsCoveredBy fs es
 Compares After es fs = (¬ IsCoveredBy es fs) × IsCoveredBy fs es
