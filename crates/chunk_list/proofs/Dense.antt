@@ -1,4 +1,4 @@
--- Neighbours that hold more items together than a chunk takes.
+-- Dense chunks: two neighbours hold more items than fit into one.
 use Rattle.std.proofs.Common.{◌≡◌, ℕ, suc, ◌+◌, ◌-◌, ◌*◌, ◌<◌, ◌≤◌, List, [], ◌∷◌, ◌++◌, length, get_or, take, drop, set, map, ap, sym, subst, ◌∙◌, arith, length-append, inl, inr, Bool, IsTrue, ◌↔◌}
 use Rattle.std.proofs.Math.Numerals.{add-one}
 use Rattle.std.proofs.lemmas.Bool.{cases_lt, cases_order}
@@ -9,7 +9,7 @@ use Rattle.chunk_list.specs.declared.chunks.TheConstants.{CHUNK}
 use Rattle.chunk_list.proofs.Free.{free_append}
 use Rattle.chunk_list.proofs.Splitting.{chunk_is, parted}
 
--- Dense chunks in front of others, and behind them.
+-- Dense chunks before others, and after them.
 pub dense_front : {T : Type 0} (free : ℕ) (xs ys : List (Chunk T)) → AreDense free (xs ++ ys) → AreDense free xs
 dense_front free [] ys h = tt
 dense_front free (c ∷ xs) ys h = (h.0, dense_front (CHUNK - length c.items.items) xs ys h.1)
@@ -22,7 +22,7 @@ pub dense_joined : {T : Type 0} (free : ℕ) (xs ys : List (Chunk T)) → AreDen
 dense_joined free [] ys front back = back
 dense_joined free (c ∷ xs) ys front back = (front.0, dense_joined (CHUNK - length c.items.items) xs ys front.1 back)
 
--- Fewer free places in front do no harm.
+-- Chunks are dense after fewer free places too.
 pub dense_less : {T : Type 0} (few many : ℕ) (cs : List (Chunk T)) → few ≤ many → AreDense many cs → AreDense few cs
 dense_less few many [] h d = tt
 dense_less few many (c ∷ cs) h d = (omega (arith, h, d.0), d.1)
@@ -31,12 +31,12 @@ pub dense_down : {T : Type 0} (free : ℕ) (cs : List (Chunk T)) → AreDense fr
 dense_down free [] h = tt
 dense_down free (c ∷ cs) h = (h.0, dense_down (CHUNK - length c.items.items) cs h.1)
 
--- They are few for their items.
+-- There are few dense chunks for their items.
 pub dense_few : {T : Type 0} (free before : ℕ) (cs : List (Chunk T)) → free ≤ CHUNK → AreChunks before cs → AreDense free cs → CHUNK * length cs + free ≤ 2 * length (items_of cs) + CHUNK
 dense_few free before [] h k d = omega (arith, h)
 dense_few free before (c ∷ cs) h k d = omega (arith, k.0.most, d.0, dense_few (CHUNK - length c.items.items) (before + length c.items.items) cs (omega arith) k.1 d.1, length-append c.items.items (items_of cs))
 
--- Around one of them.
+-- Dense chunks around one of them.
 module _ {T : Type 0} (cs : List (Chunk T)) (i : ℕ) (d : Chunk T) (inside : i < length cs) (h : AreDense 0 cs) where
   pub dense_before : AreDense 0 (take i cs)
   dense_before = dense_front 0 (take i cs) (drop i cs) (subst (AreDense 0) (sym (take-append-drop i cs)) h)
@@ -44,15 +44,15 @@ module _ {T : Type 0} (cs : List (Chunk T)) (i : ℕ) (d : Chunk T) (inside : i 
   pub dense_from : AreDense (free_behind 0 (take i cs)) (get_or cs i d ∷ drop (suc i) cs)
   dense_from = dense_back 0 (take i cs) (get_or cs i d ∷ drop (suc i) cs) (subst (AreDense 0) (parted cs i d inside) h)
 
-  -- One has become another of no fewer items.
+  -- A chunk is replaced by one with at least as many items.
   pub dense_with : (c : Chunk T) → length (get_or cs i d).items.items ≤ length c.items.items → AreDense 0 (set cs i c)
   dense_with c more = subst (AreDense 0) (sym (set_split cs i c inside)) (dense_joined 0 (take i cs) (c ∷ drop (suc i) cs) dense_before (omega (arith, more, dense_from.0), dense_less _ _ (drop (suc i) cs) (omega (arith, more)) dense_from.1))
 
--- The free places of the chunk in front of a place.
+-- The free places of the chunk at a place.
 free_in_front : {T : Type 0} (cs : List (Chunk T)) (i : ℕ) (d : Chunk T) → i < length cs → free_behind 0 (take (i + 1) cs) ≡ CHUNK - length (get_or cs i d).items.items
 free_in_front cs i d inside = ap (free_behind 0) (take_more cs i d inside) ∙ free_append 0 (take i cs) (get_or cs i d ∷ [])
 
--- One chunk between others, which has lost an item.
+-- One chunk between others has lost an item.
 pub loose_between : {T : Type 0} (front : List (Chunk T)) (c : Chunk T) (behind : List (Chunk T)) (at : ℕ) → length front ≡ at → AreDense 0 front → free_behind 0 front ≤ length c.items.items → AreDense (CHUNK - (length c.items.items + 1)) behind → AreNearlyDense (front ++ c ∷ behind) at
 loose_between front c behind at many before here after =
     let front_is : take at (front ++ c ∷ behind) ≡ front = take_at front (c ∷ behind) at many in
@@ -63,13 +63,13 @@ loose_between front c behind at many before here after =
       behind = λ d. subst (λ k. AreDense (CHUNK - (length k.items.items + 1)) (drop (at + 1) (front ++ c ∷ behind))) (sym (get_or_at front c behind d at many)) (subst (AreDense (CHUNK - (length c.items.items + 1))) (sym behind_is) after);
     }
 
--- A chunk has lost an item, and those behind it know it.
+-- A chunk has lost an item, and the starts of the chunks after it are corrected.
 pub dense_lost : {T : Type 0} (cs : List (Chunk T)) (i : ℕ) (d : Chunk T) → i < length cs → AreDense 0 cs → (c : Chunk T) → length c.items.items + 1 ≡ length (get_or cs i d).items.items → AreNearlyDense (take i cs ++ c ∷ map with_one_less (drop (suc i) cs)) i
 dense_lost cs i d inside h c many =
     let from = dense_from cs i d inside h in
     loose_between (take i cs) c (map with_one_less (drop (suc i) cs)) i (length-take-le i cs (omega (arith, inside))) (dense_before cs i d inside h) (omega (arith, many, from.0)) (dense_down _ (drop (suc i) cs) (subst (λ n. AreDense (CHUNK - n) (drop (suc i) cs)) (sym many) from.1))
 
--- The same, where it and the next one are to be one, and where it and the one in front are.
+-- The chunks when it and the next one are to be joined, and when it and the one before it are.
 filled_next : {T : Type 0} (d : Chunk T) (cs : List (Chunk T)) (at : ℕ) → AreNearlyDense cs at → at + 1 < length cs → ((e : Chunk T) → length (get_or cs at e).items.items + length (get_or cs (at + 1) e).items.items ≤ CHUNK) → FillOne cs at
 filled_next d cs at loose inside fits = record {
   front = loose.front;
@@ -103,7 +103,7 @@ fill_front (c ∷ cs) at loose some inside fits =
     let back : at ≡ at - 1 + 1 = omega (arith, some) in
     filled_front c (c ∷ cs) (at - 1) (subst (AreNearlyDense (c ∷ cs)) back loose) (omega (arith, some, inside)) (λ e. subst (λ j. length (get_or (c ∷ cs) (at - 1) e).items.items + length (get_or (c ∷ cs) j e).items.items ≤ CHUNK) back (fits e))
 
--- They are dense where it can be joined with neither.
+-- The chunks are dense if it can be joined with neither.
 module _ {T : Type 0} (d : Chunk T) (cs : List (Chunk T)) (at : ℕ) (h : AreChunks 0 cs) (loose : AreNearlyDense cs at) (inside : at < length cs) (alone : 0 < at → length (get_or cs (at - 1) d).items.items + length (get_or cs at d).items.items ≤ CHUNK → ⊥) (apart : at + 1 < length cs → length (get_or cs at d).items.items + length (get_or cs (at + 1) d).items.items ≤ CHUNK → ⊥) where
   more_here : free_behind 0 (take at cs) < length (get_or cs at d).items.items
   more_here = elim (cases_order at 0) [
@@ -136,7 +136,7 @@ pub dense_alone : {T : Type 0} (cs : List (Chunk T)) (at : ℕ) → AreChunks 0 
 dense_alone [] at h loose inside alone apart = tt
 dense_alone (c ∷ cs) at h loose inside alone apart = densely c (c ∷ cs) at h loose inside (alone c) (apart c)
 
--- The same, as a test of two neighbours tells it.
+-- The same two facts from the result of the test of two neighbours.
 pub told_next : {T : Type 0} (cs xs : List (Chunk T)) (at : ℕ) (r : Bool) → xs ≡ cs → AreNearlyDense cs at → (IsTrue r → (0 < at + 1) × (at + 1 < length xs)) → ((d : Chunk T) → IsTrue r ↔ FitOne xs (at + 1) d) → IsTrue r → FillOne cs at
 told_next cs xs at r is loose both told t =
     let back : at + 1 - 1 ≡ at = omega arith in

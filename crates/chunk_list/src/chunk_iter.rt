@@ -1,4 +1,4 @@
-//! The items from a place on.
+//! An iterator over the items of a list from one place to its end.
 
 ghost use Rattle.std.specs.Prelude.{◌≡◌, ◌++◌};
 ghost use Rattle.chunk_list.specs.Chunks.{AreSome, items_of};
@@ -6,7 +6,7 @@ ghost use Rattle.chunk_list.specs.Chunks.{AreSome, items_of};
 use crate::chunks::Chunk;
 use std::marker::Model;
 
-/// Items that are still to come.
+/// The items from one place of a list to its end, in order.
 #[derive(Drop)]
 pub struct ChunkIter<'a, T> {
     front: &'a [T],
@@ -25,7 +25,7 @@ impl<'a, T> Model for ChunkIter<'a, T> {
 }
 
 impl<'a, T> ChunkIter<'a, T> {
-    /// These items, and behind them those of these chunks.
+    /// These items, and then those of these chunks.
     pub(crate) fn new(front: &'a [T], behind: &'a [Chunk<T>]) -> ChunkIter<'a, T>
         requires { AreSome behind.now }
         ensures { result ≡ front.now ++ items_of behind.now }

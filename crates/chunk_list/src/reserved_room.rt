@@ -1,4 +1,4 @@
-//! Room for lists, made apart from them.
+//! Room for lists, reserved apart from them.
 
 ghost use Rattle.std.specs.Prelude.{◌≡◌, ◌*◌, ◌≤◌, All, IfOk, vec_capacity, vec_len};
 ghost use Rattle.chunk_list.specs.Room.{IsReady, IsSpare, most_items};
@@ -7,7 +7,7 @@ use crate::chunks::{CHUNK, Chunk, MOST_CHUNKS};
 use std::alloc::{AllocError, Global};
 use std::marker::Model;
 
-/// Room that a list can take over: a list of at most so many items finds places for so many more.
+/// Room that a list of at most `most` items can adopt, for `room` further items.
 #[derive(Drop)]
 pub struct ReservedRoom<T> {
     chunks: Vec<Chunk<T>>,
@@ -27,7 +27,7 @@ impl<T> Model for ReservedRoom<T> {
 }
 
 impl<T: Drop> ReservedRoom<T> {
-    /// No room.
+    /// Room for no items.
     pub fn none(alloc: Global) -> ReservedRoom<T>
         ensures { result.room ≡ 0 }
     {
@@ -37,7 +37,8 @@ impl<T: Drop> ReservedRoom<T> {
         }
     }
 
-    /// Room for `additional` items more in a list of at most `most`. `Err` where there is no memory for it.
+    /// Room for `additional` further items in a list of at most `most` items. `Err` if memory runs
+    /// out.
     pub fn new(alloc: Global, most: usize, additional: usize) -> Result<ReservedRoom<T>, AllocError>
         ensures { IfOk result (λ growth. (most ≤ growth.most) × (additional ≤ growth.room)) }
     {
@@ -51,14 +52,14 @@ impl<T: Drop> ReservedRoom<T> {
         Ok(ReservedRoom { chunks, spares })
     }
 
-    /// For how many items it has room.
+    /// How many items it has room for.
     pub(crate) fn room(&self) -> usize
         ensures { result ≡ self.now.room }
     {
         CHUNK * self.spares.len()
     }
 
-    /// The places for chunks, and the spares.
+    /// The empty vector that has places for all chunks, and the spares.
     pub(crate) fn into_parts(self) -> (Vec<Chunk<T>>, Vec<Vec<T>>)
         ensures ready { IsReady result.0 result.1 }
         ensures most { self.most ≡ most_items (vec_capacity result.0) (vec_len result.1) }
@@ -69,7 +70,7 @@ impl<T: Drop> ReservedRoom<T> {
     }
 }
 
-/// So many spares, with places for so many. `Err` where there is no memory for them.
+/// `count` spares, in a vector with `places` places. `Err` if memory runs out.
 fn spares_for<T: Drop>(
     alloc: Global,
     count: usize,
