@@ -7,7 +7,7 @@ use Rattle.imap_types.specs.declared.escape.Escape.{Escape}
 use Rattle.imap_types.specs.declared.escape.EscapeFault.{EscapeFault}
 use Rattle.imap_types.specs.declared.escape.Escape.TheVariants.{Field, Text}
 
--- what stands for itself is read so
+-- an octet that stands for itself is read as itself
 pub unescaped_plain : (e : Escape) (b : ℕ) (rest : List ℕ) → is_plain e b ≡ true → unescape e (b ∷ rest) ≡ with_octet_in_front (b ∷ []) (unescape e rest)
 unescaped_plain e b [] p = rw p refl
 unescaped_plain e b (c ∷ []) p = rw p refl
@@ -52,7 +52,7 @@ not_true : (b : Bool) → not b ≡ true → b ≡ false
 not_true true h = cc
 not_true false h = refl
 
--- the three octets are those that spell it
+-- three octets that the test accepts are the spelling of their octet
 escape_spells : (e : Escape) (a b c : ℕ) → is_escape e a b c ≡ true → (hex_octet b c < 256) × (escape_octet e (hex_octet b c) ≡ a ∷ b ∷ c ∷ [])
 escape_spells e a b c h =
     let p = and_parts _ _ h in
@@ -67,7 +67,7 @@ escape_spells e a b c h =
       escaped_other e (hex_octet b c) m ∙ (λ i. sym k i ∷ (ap hex_digit d.0 ∙ b'.0) i ∷ (ap hex_digit d.1 ∙ c'.0) i ∷ []),
     )
 
--- and what spells an octet are such three
+-- and the spelling of an octet that doesn't stand for itself is accepted
 spells_escape : (e : Escape) (octet : ℕ) → octet < 256 → is_plain e octet ≡ false → (is_escape e 126 (hex_digit (octet / 16)) (hex_digit (octet % 16)) ≡ true) × (hex_octet (hex_digit (octet / 16)) (hex_digit (octet % 16)) ≡ octet)
 spells_escape e octet h p =
     let b = digit_on (octet / 16) (omega arith) in
@@ -91,7 +91,7 @@ plain_taken : (e : Escape) (a : ℕ) (rest octets octets' : List ℕ) → is_pla
 plain_taken e a rest octets octets' p o h =
     one_taken e a (a ∷ []) rest octets octets' (let k = plain_small e a p in omega arith) (escaped_plain e a p) o h
 
--- what is read is spelled so
+-- a text is the spelling of the octets that are read from it
 pub unescaped_takes : (e : Escape) (text octets : List ℕ) → unescape e text ≡ Some octets → AreOctets octets × (text ≡ escape_text e octets)
 unescaped_takes e [] octets h =
     let k : ◌≡◌ {A = List ℕ} [] octets = cc in subst (λ (os : List ℕ). AreOctets os × ([] ≡ escape_text e os)) k (tt, refl)
@@ -121,7 +121,7 @@ unescaped_takes e (a ∷ b ∷ c ∷ rest) octets h =
       ]
     ]
 
--- what is spelled so is read
+-- the spelling of octets is read as these octets
 pub unescaped_again : (e : Escape) (octets : List ℕ) → AreOctets octets → unescape e (escape_text e octets) ≡ Some octets
 unescaped_again e [] a = refl
 unescaped_again e (octet ∷ octets) a =
@@ -141,7 +141,7 @@ found_by e text (Err f) g = tt
 pub only_by : (e : Escape) (text : List ℕ) (r : Result (List ℕ) EscapeFault) → GivesRead (λ o. o) r (unescape e text) → (octets : List ℕ) → AreOctets octets → text ≡ escape_text e octets → GivesRead (λ o. o) r (Some octets)
 only_by e text r g octets a k = subst (GivesRead (λ o. o) r) (ap (unescape e) k ∙ unescaped_again e octets a) g
 
--- one more read octet
+-- one further octet was read
 pub front_more : (octets : List ℕ) (octet : ℕ) (r : Option (List ℕ)) → with_octet_in_front (octets ++ octet ∷ []) r ≡ with_octet_in_front octets (with_octet_in_front (octet ∷ []) r)
 front_more octets octet None = refl
 front_more octets octet (Some more) = ap (λ (os : List ℕ). Some os) (append_assoc octets (octet ∷ []) more)

@@ -52,22 +52,22 @@ ascending_with : (w : List ℕ) (vs : List (List ℕ)) → AreAscending vs → A
 ascending_with w [] h = tt
 ascending_with w (v ∷ vs) h = first_step w v vs (with_word w vs) (octet_order w v) refl h (λ k. chained v w vs k h)
 
--- a keyword more makes keywords of keywords
+-- keywords with one inserted are keywords
 pub keywords_with : (w : List ℕ) (vs : List (List ℕ)) → AreKeywords vs → AreKeywords (with_word (to_lower_case w) vs)
 keywords_with w vs h = (all_with is_lower_case (to_lower_case w) vs (is_lowered-lowered w) h.0, ascending_with (to_lower_case w) vs h.1)
 
--- the first of what is left
+-- the first of the words that are left
 pub dropped : (ws : List (List ℕ)) (i : ℕ) (w : List ℕ) → i < length ws → w ≡ get_or ws i w → drop i ws ≡ w ∷ drop (i + 1) ws
 dropped ws i w l e = drop-cons ws i w l ∙ ap (λ v. v ∷ drop (suc i) ws) (sym e) ∙ ap (λ j. w ∷ drop j ws) (sym (add-one i))
 
--- a keyword found
+-- a word that is the keyword
 pub hit : (k w : List ℕ) (ws : List (List ℕ)) (i : ℕ) (b : Bool) → i < length ws → w ≡ get_or ws i w → IsTrue b ↔ (to_lower_case w ≡ to_lower_case k) → b ≡ true → has_keyword k (drop i ws) ≡ has_keyword k ws → true ≡ has_keyword k ws
 hit k w ws i b l e t h inv =
     let f : bytes_eq (to_lower_case w) (to_lower_case k) ≡ true = (bytes_eq-Decides _ _).1 (t.0 h) in
     let g : has_keyword k (w ∷ drop (i + 1) ws) ≡ true = ap (λ c. c || has_keyword k (drop (i + 1) ws)) f in
     sym (sym inv ∙ ap (has_keyword k) (dropped ws i w l e) ∙ g)
 
--- and one passed over
+-- and one that isn't
 pub miss : (k w : List ℕ) (ws : List (List ℕ)) (i : ℕ) (b : Bool) → i < length ws → w ≡ get_or ws i w → IsTrue b ↔ (to_lower_case w ≡ to_lower_case k) → b ≡ false → has_keyword k (drop i ws) ≡ has_keyword k ws → has_keyword k (drop (i + 1) ws) ≡ has_keyword k ws
 miss k w ws i b l e t h inv =
     let f : bytes_eq (to_lower_case w) (to_lower_case k) ≡ false = same_from_decides _ _ (bytes_eq-Decides (to_lower_case w) (to_lower_case k)) t ∙ h in

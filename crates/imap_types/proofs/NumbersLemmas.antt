@@ -28,7 +28,7 @@ range-append a (suc k) m b e =
     let g : suc (k + m) ≡ suc k + m = omega arith in
     ap (λ xs. a ∷ xs) (range-append (a + 1) k m b (omega arith)) ∙ ap (range_with_len a) g
 
--- two runs that touch are one
+-- two runs without a gap are one
 numbers_of-joined : (a b : Run) → a.first ≤ a.last → a.last + 1 ≡ b.first → b.first ≤ b.last → range_with_len a.first (suc (b.last - a.first)) ≡ numbers_of a ++ numbers_of b
 numbers_of-joined a b h e k =
     let g : suc (b.last - a.first) ≡ suc (a.last - a.first) + suc (b.last - b.first) = omega arith in
@@ -55,7 +55,7 @@ greatest-last low (suc i) (r ∷ s ∷ rs) d e h =
     let m : greatest (numbers_in (r ∷ s ∷ rs)) ≡ max r.last (greatest (numbers_in (s ∷ rs))) = greatest-runs r (s ∷ rs) h.1 in
     m ∙ omega arith
 
--- the last run and the next as one
+-- the last run and the next one as one run
 pub runs_joined : (low i : ℕ) (rs : List Run) (d next : Run) → suc i ≡ length rs → AreRunsFrom low rs → (get_or rs i d).last + 1 ≡ next.first → next.first ≤ next.last → AreRunsFrom low (set rs i (record { first = (get_or rs i d).first; last = next.last })) × (numbers_in (set rs i (record { first = (get_or rs i d).first; last = next.last })) ≡ numbers_in rs ++ numbers_of next)
 runs_joined low i [] d next e h t o = absurd (omega arith)
 runs_joined low zero (r ∷ []) d next e h t o =
@@ -66,7 +66,7 @@ runs_joined low (suc i) (r ∷ s ∷ rs) d next e h t o =
     let k = runs_joined (r.last + 2) i (s ∷ rs) d next (omega arith) h.2 t o in
     ((h.0, h.1, k.0), ap (λ ns. numbers_of r ++ ns) k.1 ∙ sym (append_assoc (numbers_of r) (numbers_in (s ∷ rs)) (numbers_of next)))
 
--- a run behind a gap
+-- a run after a gap
 runs_apart : (low : ℕ) (rs : List Run) (next : Run) → AreRunsFrom low rs → low ≤ next.first → greatest (numbers_in rs) + 1 < next.first → next.first ≤ next.last → AreRunsFrom low (rs ++ next ∷ [])
 runs_apart low [] next h l g o = (l, o, tt)
 runs_apart low (r ∷ rs) next h l g o =
@@ -79,7 +79,7 @@ runs_apart_last i rs d next e h g n o =
     let m : ((get_or rs i d).last + 1 ≡ next.first) → ⊥ = n in
     runs_apart 1 rs next h (omega arith) (omega (arith, m)) o
 
--- one number in front of runs that begin further up
+-- one number before runs that begin at least two above it
 alone : (n : ℕ) (rs : List Run) → AreRunsFrom (n + 2) rs → with_number n rs ≡ record { first = n; last = n } ∷ rs
 alone n [] h = refl
 alone n (r ∷ rs) h = grind (arith, nat_tests)
@@ -99,7 +99,7 @@ runs_of-range a (suc k) ns rs e h =
     let g : (record { first = a; last = a + 1 + k } ∷ rs) ≡ (record { first = a; last = a + suc k } ∷ rs) = ap (λ (n : ℕ). record { first = a; last = n } ∷ rs) (sym f) in
     ap (with_number a) (runs_of-range (a + 1) k ns rs e h') ∙ joins a (a + 1 + k) rs ∙ g
 
--- the runs of the numbers of runs
+-- the runs of the numbers of runs are these runs
 pub runs_of-numbers : (low : ℕ) (rs : List Run) → AreRunsFrom low rs → runs_of (numbers_in rs) ≡ rs
 runs_of-numbers low [] h = refl
 runs_of-numbers low (r ∷ rs) h =
@@ -140,7 +140,7 @@ pub test_from_runs : (low : ℕ) (rs : List Run) → AreRunsFrom low rs → are_
 test_from_runs low [] h = refl
 test_from_runs low (r ∷ rs) h = and_from _ _ (and_from _ _ (le-leb _ _ h.0) (le-leb _ _ h.1)) (test_from_runs (r.last + 2) rs h.2)
 
--- the numbers of the runs of rising numbers are these numbers, and the runs have gaps
+-- the runs of rising numbers have these numbers, and gaps between them
 RunsBack : ℕ → List ℕ → List Run → Type 0
 RunsBack low ns rs = AreRunsFrom low rs × (numbers_in rs ≡ ns)
 

@@ -15,7 +15,7 @@ use Rattle.imap_types.specs.Unions.{union_of, united_flags, with_flags}
 use Rattle.imap_types.specs.declared.version.Version.{Version}
 use Rattle.imap_types.proofs.WordLemmas.{all_by, all_held, any_folded, ascending_folded, one_ascending}
 
--- ---- one version more
+-- ---- one further version
 
 or-false : (b : Bool) → (b || false) ≡ b
 or-false true = refl
@@ -44,7 +44,7 @@ united_more vs old new i v l e o n =
     n ∙ (λ j. with_flags (o j) (flags (e j))) ∙ sym (union_more (map flags (take i vs)) (flags (get_or vs i v)))
     ∙ ap union_of (sym (map-append flags (take i vs) (get_or vs i v ∷ [])) ∙ ap (map flags) (sym (take-suc vs i v l) ∙ ap (λ j. take j vs) (sym (add-one i))))
 
--- ---- what one of the versions has
+-- ---- what any of the versions has
 
 pub any_mapped : (p : Flags → Bool) (vs : List Version) → list_any p (map (λ v. v.flags) vs) ≡ list_any (λ v. p v.flags) vs
 any_mapped p [] = refl
@@ -89,23 +89,23 @@ each_within (v ∷ vs) words f =
     (all_by (holds words) v.flags.keywords (λ z i. f z (or_left (holds v.flags.keywords z) (one_holds vs z) i)))
     (each_within vs words (λ z i. f z (or_right (holds v.flags.keywords z) (one_holds vs z) i)))
 
--- where both tests say so, they are the union's
+-- if both tests pass, the keywords are those of the union
 pub same_from_tests : (vs : List Version) (words : List (List ℕ)) → AreAscending words → all_within vs words ≡ true → list_all (one_holds vs) words ≡ true → (united_flags vs).keywords ≡ words
 same_from_tests vs words a h k =
     one_ascending (united_flags vs).keywords words (ascending_united vs) a
     (λ z i. within_each vs words z h (sym (any_united (bytes_eq z) vs) ∙ i))
     (λ z i. any_united (bytes_eq z) vs ∙ all_held (one_holds vs) words z k i)
 
--- and both say so of the union's
+-- and both pass for the keywords of the union
 pub tests_from_same : (vs : List Version) (words : List (List ℕ)) → (united_flags vs).keywords ≡ words → (all_within vs words ≡ true) × (list_all (one_holds vs) words ≡ true)
 tests_from_same vs words e = (
   each_within vs words (λ z i. sym (ap (λ ws. holds ws z) e) ∙ any_united (bytes_eq z) vs ∙ i),
   all_by (one_holds vs) words (λ z i. sym (any_united (bytes_eq z) vs) ∙ ap (λ ws. holds ws z) e ∙ i),
 )
 
--- ---- the union put to other keywords
+-- ---- the union added to other keywords
 
--- the keywords of all versions, one after another, put to ascending ones are the union put to them
+-- adding the keywords of all versions to ascending ones, one after another, is adding the union
 pub united_added : (vs : List Version) (old : List (List ℕ)) → AreAscending old
     → fold (λ done word. with_word word done) old (flat_map (λ v. v.flags.keywords) vs) ≡ fold (λ done word. with_word word done) old (united_flags vs).keywords
 united_added vs old a =

@@ -14,7 +14,7 @@ use Rattle.imap_types.specs.Ascending.{AreAscending, ComesBefore, octet_order}
 use Rattle.imap_types.specs.Keywords.{AreKeywords, is_lower_case, to_lower_case, with_word}
 use Rattle.imap_types.specs.Members.{holds}
 
--- ---- what holds of a word, where words are put in their places
+-- ---- what holds of a word when words are inserted
 
 same_word : (w v : List ℕ) → octet_order w v ≡ Equal → w ≡ v
 same_word w v e = slice_cmp-IsAntisymmetric nat_cmp-IsAntisymmetric w v e
@@ -42,17 +42,17 @@ any_step p w v vs rest Less e h = refl
 any_step p w v vs rest Equal e h = sym (ap (λ (u : List ℕ). p u || (p v || list_any p vs)) (same_word w v e) ∙ or-twice (p v) (list_any p vs))
 any_step p w v vs rest Greater e h = ap (λ (b : Bool). p v || b) h ∙ or-turned (p w) (p v) (list_any p vs)
 
--- with one word more, it holds of that one or of another
+-- with one word inserted, it holds of that word or of another
 any_with : (p : List ℕ → Bool) (w : List ℕ) (vs : List (List ℕ)) → list_any p (with_word w vs) ≡ (p w || list_any p vs)
 any_with p w [] = refl
 any_with p w (v ∷ vs) = any_step p w v vs (with_word w vs) (octet_order w v) refl (any_with p w vs)
 
--- and so with many
+-- and so with many words inserted
 pub any_folded : (p : List ℕ → Bool) (start words : List (List ℕ)) → list_any p (fold (λ done word. with_word word done) start words) ≡ (list_any p start || list_any p words)
 any_folded p start [] = sym (or-none (list_any p start))
 any_folded p start (w ∷ ws) = any_folded p (with_word w start) ws ∙ ap (λ (b : Bool). b || list_any p ws) (any_with p w start) ∙ or-moved (p w) (list_any p start) (list_any p ws)
 
--- ---- words in their places ascend
+-- ---- inserted words ascend
 
 later : (w v : List ℕ) → octet_order w v ≡ Greater → ComesBefore v w
 later w v e = nat_list_cmp_total.antisymm v w ∙ ap ordering_reverse e
@@ -152,15 +152,15 @@ pub all_by : (p : List ℕ → Bool) (xs : List (List ℕ)) → ((z : List ℕ) 
 all_by p [] f = refl
 all_by p (x ∷ xs) f = and_from (p x) (list_all p xs) (f x (holds_first x xs)) (all_by p xs (λ z i. f z (holds_rest z x xs i)))
 
--- ---- keywords put to others, one after another
+-- ---- keywords added to others, one after another
 
--- a keyword stands in lower case
+-- a keyword is in lower case
 lowered_at : (words : List (List ℕ)) (i : ℕ) (d : List ℕ) → list_all is_lower_case words ≡ true → i < length words → to_lower_case (get_or words i d) ≡ get_or words i d
 lowered_at [] i d h l = absurd (omega arith)
 lowered_at (word ∷ words) zero d h l = (bytes_eq-Decides (to_lower_case word) word).0 (and_parts (is_lower_case word) (list_all is_lower_case words) h).0
 lowered_at (word ∷ words) (suc i) d h l = lowered_at words i d (and_parts (is_lower_case word) (list_all is_lower_case words) h).1 (omega arith)
 
--- one keyword more
+-- one further keyword
 pub union_step : (more : List (List ℕ)) (start old new : List (List ℕ)) (i : ℕ) (word : List ℕ) → AreKeywords more → i < length more → word ≡ get_or more i word
     → old ≡ fold (λ done word. with_word word done) start (take i more) → new ≡ with_word (to_lower_case word) old → new ≡ fold (λ done word. with_word word done) start (take (i + 1) more)
 union_step more start old new i word k l e o n =

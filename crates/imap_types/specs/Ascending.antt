@@ -1,18 +1,21 @@
+-- The order of octet strings, in which lists of names and keywords ascend.
+
 use Rattle.std.specs.Prelude.{◌≡◌, ℕ, List, [], ◌∷◌}
 use Rattle.std.specs.Cmp.Lexicographic.{slice_cmp}
 use Rattle.std.specs.Ordering.{nat_cmp}
 use Rattle.std.specs.declared.cmp.Ordering.{Ordering}
 use Rattle.std.specs.declared.cmp.Ordering.TheVariants.{Less}
 
--- How octet strings compare: by the first octet that differs, a beginning before what it begins.
+-- The order of two octet strings: by the first octet that differs, and a string before those that
+-- it begins.
 abbrev pub octet_order : List ℕ → List ℕ → Ordering
 octet_order a b = slice_cmp nat_cmp a b
 
--- One octet string stands before another.
+-- The first octet string comes before the second.
 abbrev pub ComesBefore : List ℕ → List ℕ → Type 0
 ComesBefore a b = octet_order a b ≡ Less
 
--- Octet strings stand in ascending order, none twice.
+-- Octet strings that ascend strictly.
 abbrev pub AreAscending : List (List ℕ) → Type 0
 AreAscending [] = Unit {0}
 AreAscending (a ∷ []) = Unit {0}

@@ -1,3 +1,5 @@
+-- The test by which octets are a date-time (RFC 9051, section 9, date-time).
+
 use Rattle.std.specs.Prelude.{ℕ, Bool, true, false, ◌&&◌, nat_le, List, [], ◌∷◌, pos}
 use Rattle.jiff.specs.Words.{days_in_month}
 use Rattle.imap_types.specs.DateTimes.{date_time_picture, day_at, fits_mark, month_at, two_digits, year_at}
@@ -9,11 +11,11 @@ matches_picture [] (b ∷ bs) = false
 matches_picture (m ∷ ms) [] = false
 matches_picture (m ∷ ms) (b ∷ bs) = fits_mark m b && matches_picture ms bs
 
--- Whether a day exists.
+-- Whether the calendar has this day.
 abbrev pub is_day : ℕ → ℕ → ℕ → Bool
 is_day year month day = nat_le year 9999 && nat_le 1 month && nat_le month 12 && nat_le 1 day && nat_le day (days_in_month (pos year) month)
 
--- Whether a text has a time of the day, and a zone less than a day away.
+-- Whether a text has a time of day, and a zone less than a day away.
 abbrev pub is_time : List ℕ → Bool
 is_time text = nat_le (two_digits text 13) 23 && nat_le (two_digits text 16) 59 && nat_le (two_digits text 19) 60 && nat_le (two_digits text 23) 23 && nat_le (two_digits text 25) 59
 

@@ -1,3 +1,6 @@
+-- Date-times and the names of months, as RFC 9051 spells them (section 9, date-time and
+-- date-month).
+
 use Rattle.std.specs.Prelude.{◌≡◌, ℕ, ◌+◌, ◌-◌, ◌*◌, ◌<◌, ◌≤◌, Bool, true, not, ◌&&◌, ◌||◌, ◌==◌, nat_lt, List, length, take, drop, map, codes, IsTrue, if◌then◌else◌, pos, slice_index}
 use Rattle.std.specs.Char.{to_ascii_lowercase}
 use Rattle.std.specs.Str.{bytes_eq}
@@ -7,12 +10,12 @@ use Rattle.jiff.specs.Words.{IsDate}
 abbrev pub is_digit : ℕ → Bool
 is_digit octet = not (nat_lt octet 48) && not (nat_lt 57 octet)
 
--- The picture of a date-time: `9` for a digit, `m` for a letter of the month, `+` for either sign, and else the octet itself
--- (RFC 9051, section 9, date-time).
+-- The picture of a date-time: `9` for a digit, `m` for a letter of the month, `+` for either sign,
+-- and any other octet for itself (RFC 9051, section 9, date-time).
 abbrev pub date_time_picture : List ℕ
 date_time_picture = codes "\"99-mmm-9999 99:99:99 +9999\""
 
--- Whether an octet may stand where the picture has this mark: `9` is 57, `m` 109, `+` 43, `-` 45.
+-- Whether an octet fits this mark of the picture: `9` is 57, `m` 109, `+` 43, `-` 45.
 abbrev pub fits_mark : ℕ → ℕ → Bool
 fits_mark mark octet =
     if mark == 57 then is_digit octet
@@ -24,15 +27,16 @@ HasPicture picture text =
     (length text ≡ length picture)
     × ((k : ℕ) → k < length picture → IsTrue (fits_mark (slice_index picture k) (slice_index text k)))
 
--- The number that the two digits at a place write.
+-- The number that the two digits at a place and after it write.
 abbrev pub two_digits : List ℕ → ℕ → ℕ
 two_digits text place = (slice_index text place - 48) * 10 + (slice_index text (place + 1) - 48)
 
--- Whether letters are the name of a month, in any case.
+-- Whether the letters are the name, in any case.
 abbrev pub are_letters_of : List ℕ → List ℕ → Bool
 are_letters_of name letters = bytes_eq (map to_ascii_lowercase letters) (map to_ascii_lowercase name)
 
--- The number of a month by its three letters in any case, and 0 where they name none (RFC 9051, section 9, date-month).
+-- The number of the month that three letters name in any case; 0 if they name none (RFC 9051,
+-- section 9, date-month).
 abbrev pub month_of : List ℕ → ℕ
 month_of letters =
     if are_letters_of (codes "jan") letters then 1
@@ -58,7 +62,7 @@ month_at text = month_of (take 3 (drop 4 text))
 abbrev pub day_at : List ℕ → ℕ
 day_at text = two_digits text 1
 
--- The time is a time of the day or its leap second, and the zone is less than a day away.
+-- The time is one of the day or its leap second, and the zone is less than a day away.
 pub record HasTime (text : List ℕ) : Type 0 where
   pub hour : two_digits text 13 ≤ 23
   pub minute : two_digits text 16 ≤ 59
@@ -66,7 +70,8 @@ pub record HasTime (text : List ℕ) : Type 0 where
   pub zone_hour : two_digits text 23 ≤ 23
   pub zone_minute : two_digits text 25 ≤ 59
 
--- A date-time with its quotes and a digit first (RFC 9051, section 9, date-time), on a day of the proleptic Gregorian calendar.
+-- A date-time with its quotes and two digits of the day (RFC 9051, section 9, date-time), on a day
+-- of the proleptic Gregorian calendar.
 pub record IsDateTime (text : List ℕ) : Type 0 where
   pub form : HasPicture date_time_picture text
   pub date : IsDate (pos (year_at text)) (pos (month_at text)) (pos (day_at text))

@@ -1,3 +1,5 @@
+-- The escape in which lines of text spell octets, and how it is read.
+
 use Rattle.std.specs.Prelude.{◌≡◌, ℕ, ◌+◌, ◌-◌, ◌*◌, ◌/◌, ◌%◌, ◌<◌, Bool, not, ◌&&◌, ◌||◌, ◌==◌, nat_lt, List, [], ◌∷◌, ◌++◌, Option, Some, None, Result, Ok, Err, if◌then◌else◌}
 use Rattle.std.specs.List.{flat_map}
 use Rattle.imap_types.specs.declared.escape.Escape.{Escape}
@@ -5,7 +7,7 @@ use Rattle.imap_types.specs.declared.escape.Escape.TheVariants.{Field, Text}
 use Rattle.imap_types.specs.declared.escape.EscapeFault.{EscapeFault}
 use Rattle.imap_types.specs.declared.escape.EscapeFault.TheVariants.{NotEscaped, NoMemory}
 
--- Whether an octet stands for itself: 33 to 126 without `~` (126), in a text the space (32) too.
+-- Whether an octet stands for itself: 33 to 126 without `~` (126); in a text the space (32) too.
 abbrev pub is_plain : Escape → ℕ → Bool
 is_plain Field octet = not (nat_lt octet 33) && nat_lt octet 126
 is_plain Text octet = not (nat_lt octet 32) && nat_lt octet 126
@@ -43,12 +45,12 @@ hex_octet high low = hex_value high * 16 + hex_value low
 abbrev pub is_escape : Escape → ℕ → ℕ → ℕ → Bool
 is_escape escape mark high low = (mark == 126) && (is_hex high && (is_hex low && not (is_plain escape (hex_octet high low))))
 
--- Octets in front of those that were read.
+-- `front` before the octets that were read, if any.
 abbrev pub with_octet_in_front : List ℕ → Option (List ℕ) → Option (List ℕ)
 with_octet_in_front front None = None
 with_octet_in_front front (Some octets) = Some (front ++ octets)
 
--- The octets that a text in the escape stands for, if it is one.
+-- The octets that a text in the escape stands for; `None` if it is the spelling of none.
 abbrev pub unescape : Escape → List ℕ → Option (List ℕ)
 unescape escape [] = Some []
 unescape escape (a ∷ []) = if is_plain escape a then Some (a ∷ []) else None
@@ -57,12 +59,12 @@ unescape escape (a ∷ b ∷ c ∷ rest) =
     if is_plain escape a then with_octet_in_front (a ∷ []) (unescape escape (b ∷ c ∷ rest))
     else (if is_escape escape a b c then with_octet_in_front (hex_octet b c ∷ []) (unescape escape rest) else None)
 
--- A fault other than for memory says that nothing could be read.
+-- A fault other than that of memory means that nothing can be read.
 abbrev pub FailsToRead : {Y : Type 0} → EscapeFault → Option Y → Type 0
 FailsToRead NoMemory read = Unit {0}
 FailsToRead NotEscaped read = read ≡ None
 
--- A reader gives what could be read, or runs out of memory.
+-- A reader gives what can be read, or runs out of memory.
 abbrev pub GivesRead : {X Y : Type 0} → (X → Y) → Result X EscapeFault → Option Y → Type 0
 GivesRead view (Ok x) read = read ≡ Some (view x)
 GivesRead view (Err e) read = FailsToRead e read

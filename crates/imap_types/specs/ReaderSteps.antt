@@ -1,25 +1,28 @@
+-- The parts of readers of texts: a reading function gives what a text begins with and the rest, or
+-- nothing if the text can't be read.
+
 use Rattle.std.specs.Prelude.{◌≡◌, ℕ, ◌==◌, List, [], ◌∷◌, ◌++◌, Option, Some, None, Result, Ok, Err, if◌then◌else◌}
 
--- What readers of texts are put together from: a reading function gives what stands in front of a text, or nothing where it can't be read.
-
 infixl 10 ◌>>=◌
--- What a reader makes of the value in front, and of what is behind it, where neither fails.
+-- What the next reader gives of the value that was read and of what follows it, if both can be
+-- read.
 abbrev pub ◌>>=◌ : {A B : Type 0} → Option A → (A → Option B) → Option B
 None >>= f = None
 (Some x) >>= f = f x
 
--- What the code answers is what a reading function gives, where a fault says what it does of that.
+-- The code's result is what the reading function gives; `Fails` says what a fault means for the
+-- reading function.
 abbrev pub GivesBy : {X Y F : Type 0} → (F → Option Y → Type 0) → (X → Y) → Result X F → Option Y → Type 0
 GivesBy Fails view (Ok x) read = read ≡ Some (view x)
 GivesBy Fails view (Err fault) read = Fails fault read
 
--- What stands behind these octets.
+-- The octets that follow the given ones at the beginning of a text, if it begins with them.
 abbrev pub after : List ℕ → List ℕ → Option (List ℕ)
 after [] octets = Some octets
 after (wanted ∷ more) [] = None
 after (wanted ∷ more) (octet ∷ octets) = if octet == wanted then after more octets else None
 
--- A value with more in front, where it could be read.
+-- The list of a reading with `front` before it, if it could be read.
 abbrev pub with_front : {X Y : Type 0} → List X → Option (List X × Y) → Option (List X × Y)
 with_front front None = None
 with_front front (Some x) = Some (front ++ x.0, x.1)

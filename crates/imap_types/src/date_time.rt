@@ -1,3 +1,5 @@
+//! Date-times of messages, as they are written (RFC 9051, section 9, date-time).
+
 ghost use Rattle.std.specs.Prelude.{◌≡◌, ◌↔◌, ◌+◌, ◌<◌, ◌≤◌, length, IfSome, IsSome, IsTrue, pos, codes, slice_index};
 ghost use Rattle.jiff.specs.Words.{IsDate};
 ghost use Rattle.imap_types.specs.DateTimes.{HasPicture, HasTime, IsDateTime, date_time_picture, day_at, is_digit, fits_mark, month_at, month_of, two_digits, year_at};
@@ -5,16 +7,16 @@ ghost use Rattle.imap_types.specs.DateTimes.{HasPicture, HasTime, IsDateTime, da
 use jiff::civil::Date;
 use std::marker::Model;
 
-/// The octets of a date-time, its quotes among them.
+/// The number of octets of a date-time, including its quotes.
 pub const DATE_TIME_OCTETS: usize = 28;
 
-/// A date-time as it is written, with its quotes and a digit first: `"dd-Mon-yyyy hh:mm:ss +zzzz"`
-/// (RFC 9051, section 9, date-time). Its day exists; its month keeps its case.
+/// A date-time as it is written, with its quotes: `"dd-Mon-yyyy hh:mm:ss +zzzz"` (RFC 9051, section
+/// 9, date-time). The day has two digits and exists in the calendar; the month keeps its case.
 pub struct DateTime {
     octets: [u8; 28],
 }
 
-// By hand, so that crates above let it go as a whole.
+// By hand, so that crates above drop it whole.
 impl Drop for DateTime {
     fn drop(self) {
         let Self { octets: _ } = self;
@@ -35,7 +37,7 @@ impl Model for DateTime {
 impl DateTime {
     ghost use Rattle.imap_types.specs.DateTimes.{IsDateTime};
 
-    /// The date-time of these octets; `None` where they aren't one.
+    /// The date-time of these octets; `None` if they aren't one.
     pub fn new(octets: [u8; 28]) -> Option<DateTime>
         ensures exact { IsSome result ↔ IsDateTime octets }
         ensures value { IfSome result (λ made. made ≡ octets) }
@@ -50,7 +52,7 @@ impl DateTime {
         }
     }
 
-    /// The first moment of 1970 in UTC.
+    /// The first second of 1970 in UTC.
     pub fn epoch() -> DateTime
         ensures { result ≡ codes "\"01-Jan-1970 00:00:00 +0000\"" }
     {
@@ -59,7 +61,7 @@ impl DateTime {
         }
     }
 
-    /// The octets, quotes included.
+    /// The octets, including the quotes.
     pub fn as_bytes(&self) -> &[u8]
         ensures value { result.now ≡ self.now }
         ensures form { IsDateTime self.now }
@@ -67,7 +69,7 @@ impl DateTime {
         &self.octets
     }
 
-    /// Whether both are written alike.
+    /// Whether both have the same octets.
     pub fn same(&self, other: &DateTime) -> bool
         ensures { IsTrue result ↔ (self.now ≡ other.now) }
     {
@@ -80,7 +82,7 @@ impl DateTime {
         &self.octets
     }
 
-    /// An equal one.
+    /// A copy of the date-time.
     pub fn copy(&self) -> DateTime
         ensures { result ≡ self.now }
     {
@@ -152,7 +154,7 @@ fn two_digits(octets: &[u8], place: usize) -> u8
     (octets[place] - b'0') * 10 + (octets[place + 1] - b'0')
 }
 
-/// The number of the month that the letters name in any case, or 0.
+/// The number of the month that the three letters name in any case; 0 if they name none.
 pub fn month_of(letters: &[u8]) -> i8
     ensures value { result ≡ pos (month_of letters.now) }
 {

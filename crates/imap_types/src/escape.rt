@@ -1,4 +1,4 @@
-//! The escape in which lines of text carry any octets.
+//! The escape by which lines of text carry any octets.
 
 ghost use Rattle.std.specs.Prelude.{◌≡◌, ◌++◌, ℕ, true, List, [], ◌∷◌, Option, Some, None, IfOk, OnErr, OnOk, ◌<◌, length};
 ghost use Rattle.imap_types.specs.Escape.{AreOctets, GivesRead, escape_text, escape_octet, hex_digit, hex_octet, is_escape, is_hex, is_plain, unescape, with_octet_in_front, hex_value};
@@ -6,23 +6,23 @@ ghost use Rattle.imap_types.specs.Escape.{AreOctets, GivesRead, escape_text, esc
 use crate::Octets;
 use std::alloc::{AllocError, AllocFailed, Global};
 
-/// Which octets stand for themselves. An octet from 33 to 126 other than `~` does; any other is `~` and two upper-case
-/// hexadecimal digits.
+/// Which octets stand for themselves: those from 33 to 126 other than `~`. Any other octet is
+/// written as `~` and two upper-case hexadecimal digits.
 #[derive(Clone, Copy, Debug, PartialEq, Eq)]
 pub enum Escape {
-    /// In a field of a line: the space is escaped too.
+    /// In a field of a line, the space is escaped too.
     Field,
-    /// In a text that ends its line: the space stands for itself.
+    /// In a text that ends its line, the space stands for itself.
     Text,
 }
 
-/// Why a text isn't read.
+/// Why a text can't be read.
 #[derive(thiserror::Error, Clone, Copy, Debug, PartialEq, Eq)]
 pub enum EscapeFault {
-    /// It isn't how the escape spells any octets.
+    /// The text isn't the escape's spelling of any octets.
     #[error("not escaped text")]
     NotEscaped,
-    /// There is no memory for the octets.
+    /// Memory ran out for the octets.
     #[error("no memory")]
     NoMemory,
 }
@@ -49,7 +49,7 @@ impl<T: Drop> From<AllocFailed<T>> for EscapeFault {
     }
 }
 
-/// Appends the octets in the escape; `Err` where there is no memory for it, and then `out` is as it was.
+/// Appends the octets in the escape. `Err` if memory runs out; `out` stays as it was.
 pub fn write_escaped(escape: Escape, octets: &[u8], out: &mut Vec<u8>) -> Result<(), AllocError>
     ensures ok { OnOk result (out.new.items ≡ out.old.items ++ escape_text escape octets.now) }
     ensures err { OnErr result (out.new.items ≡ out.old.items) }
@@ -103,8 +103,8 @@ fn hex_digit(number: u8) -> u8
     }
 }
 
-/// The octets that a text in the escape stands for. `NotEscaped` exactly where the escape spells no octets so, and
-/// `NoMemory` where there is no memory for them.
+/// The octets that a text in the escape stands for. `NotEscaped` exactly if the text is the
+/// spelling of no octets, and `NoMemory` if memory runs out.
 pub fn read_escaped(alloc: Global, escape: Escape, text: &[u8]) -> Result<Octets, EscapeFault>
     ensures value { GivesRead (λ octets. octets) result (unescape escape text.now) }
     ensures found { IfOk result (λ octets. AreOctets octets × (text.now ≡ escape_text escape octets)) }

@@ -1,3 +1,5 @@
+//! The flags of a message (RFC 9051, section 2.3.2).
+
 ghost use Rattle.std.specs.Prelude.{◌≡◌, ◌↔◌, ◌≤◌, [], length, false, IfOk, IsTrue};
 ghost use Rattle.std.specs.List.{list_all};
 ghost use Rattle.imap_types.specs.Keywords.{is_lawful_keyword};
@@ -7,10 +9,10 @@ use crate::keywords::is_lawful_keyword;
 use crate::{Keywords, Octets};
 use std::alloc::{AllocError, Global};
 
-/// The most keywords that a message may bear.
+/// The most keywords that a message may have.
 pub const MAX_KEYWORDS: usize = 32;
 
-/// A message's flags (RFC 9051, section 2.3.2).
+/// A message's flags: the system flags and the keywords (RFC 9051, section 2.3.2).
 #[derive(Drop)]
 pub struct Flags {
     /// `\Answered`.
@@ -23,12 +25,12 @@ pub struct Flags {
     pub seen: bool,
     /// `\Draft`.
     pub draft: bool,
-    /// The other flags.
+    /// All other flags.
     pub keywords: Keywords,
 }
 
 impl Flags {
-    /// No flags, in no memory.
+    /// No flags. It takes no memory.
     pub fn none(alloc: Global) -> Flags
         ensures answered { result.answered ≡ false }
         ensures flagged { result.flagged ≡ false }
@@ -47,7 +49,7 @@ impl Flags {
         }
     }
 
-    /// Whether both are the same flags.
+    /// Whether both have the same flags.
     pub fn same(&self, other: &Flags) -> bool
         ensures { IsTrue result ↔ (self.now ≡ other.now) }
     {
@@ -59,7 +61,7 @@ impl Flags {
             && self.keywords.same(&other.keywords)
     }
 
-    /// The same flags; `Err` where there is no memory for them.
+    /// A copy of the flags. `Err` if memory runs out.
     pub fn copy(&self, alloc: Global) -> Result<Flags, AllocError>
         ensures { IfOk result (λ copied. copied ≡ self.now) }
     {
@@ -73,7 +75,7 @@ impl Flags {
         })
     }
 
-    /// Whether a message may bear these flags: at most 32 keywords, each of 1 to 64 atom octets.
+    /// Whether a message may have these flags: at most 32 keywords, each of 1 to 64 atom octets.
     pub fn is_lawful(&self) -> bool
         ensures { IsTrue result ↔ IsLawfulFlags self.now }
     {

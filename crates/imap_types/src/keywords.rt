@@ -1,3 +1,5 @@
+//! Sets of keywords, and the octets of which they are made.
+
 ghost use Rattle.std.specs.Prelude.{◌≡◌, ◌↔◌, ◌≤◌, ◌==◌, [], length, if◌then◌else◌, IfErr, IfOk, IsTrue, OnErr, OnOk};
 ghost use Rattle.std.specs.List.{insert, list_all};
 ghost use Rattle.imap_types.specs.Keywords.{are_ascending, are_keywords, has_keyword, is_astring_octet, is_atom_octet, is_lawful_keyword, is_lower_case, to_lower_case, with_word};
@@ -8,18 +10,18 @@ use std::alloc::{AllocError, Global};
 use std::cmp::Ordering;
 use std::marker::Model;
 
-/// The longest keyword that a message may bear, in octets.
+/// The longest keyword that a message may have, in octets.
 pub const MAX_KEYWORD_OCTETS: usize = 64;
 
-/// So many keywords stand in the set itself; most messages have none or one.
+/// The number of keywords that the set holds in itself; most messages have none or one.
 const INLINE: usize = 1;
 
-/// A set of keywords: each in lower case, ascending by octets, none twice (RFC 9051, section 2.3.2).
+/// A set of keywords: each in lower case, distinct, ascending by octets (RFC 9051, section 2.3.2).
 pub struct Keywords {
     words: SmallVec<Octets, INLINE>,
 }
 
-// By hand, so that crates above let it go as a whole.
+// By hand, so that crates above drop it whole.
 impl Drop for Keywords {
     fn drop(self) {
         let Self { words: _ } = self;
@@ -40,7 +42,7 @@ impl Model for Keywords {
 impl Keywords {
     ghost use Rattle.imap_types.specs.Keywords.{AreKeywords};
 
-    /// No keywords, in no memory.
+    /// No keywords. It takes no memory.
     pub fn empty(alloc: Global) -> Keywords
         ensures { result ≡ [] }
     {
@@ -49,8 +51,8 @@ impl Keywords {
         }
     }
 
-    /// The set of these keywords, whose memory it takes over; `None` where they aren't in lower case and ascending, none
-    /// twice.
+    /// The set of these keywords, in the vector's memory; `None` if they aren't all in lower case,
+    /// or don't ascend strictly.
     pub fn new(words: Vec<Octets>) -> Option<Keywords>
         ensures { result ≡ (if are_keywords words.items then Some words.items else None) }
     {
@@ -63,8 +65,8 @@ impl Keywords {
         }
     }
 
-    /// Adds a keyword of any case in lower case; one that is there already changes nothing. `Err` where there is no
-    /// memory for it, and then nothing is changed.
+    /// Adds a keyword of any case, in lower case; a keyword that the set has changes nothing. `Err`
+    /// if memory runs out; the set stays as it was.
     pub fn insert(&mut self, alloc: Global, keyword: &[u8]) -> Result<(), AllocError>
         ensures ok { OnOk result (self.new ≡ with_word (to_lower_case keyword.now) self.old) }
         ensures err { OnErr result (self.new ≡ self.old) }
@@ -76,21 +78,21 @@ impl Keywords {
         Ok(())
     }
 
-    /// Whether a keyword of any case is one of these.
+    /// Whether the set has this keyword, compared without case.
     pub fn contains(&self, keyword: &[u8]) -> bool
         ensures { result ≡ has_keyword keyword.now self.now }
     {
         contains(self.as_slice(), keyword)
     }
 
-    /// How many there are.
+    /// The number of keywords.
     pub fn len(&self) -> usize
         ensures { result ≡ length self.now }
     {
         self.words.len()
     }
 
-    /// Whether there is none.
+    /// Whether the set has no keywords.
     pub fn is_empty(&self) -> bool
         ensures { IsTrue result ↔ (self.now ≡ []) }
     {
@@ -105,14 +107,14 @@ impl Keywords {
         self.words.as_slice()
     }
 
-    /// Whether both are the same keywords.
+    /// Whether both sets have the same keywords.
     pub fn same(&self, other: &Keywords) -> bool
         ensures { IsTrue result ↔ (self.now ≡ other.now) }
     {
         are_same(self.as_slice(), other.as_slice())
     }
 
-    /// The same keywords; `Err` where there is no memory for them.
+    /// A copy of the set. `Err` if memory runs out.
     pub fn copy(&self, alloc: Global) -> Result<Keywords, AllocError>
         ensures { IfOk result (λ copied. copied ≡ self.now) }
     {
@@ -130,7 +132,8 @@ fn to_lower_case(alloc: Global, text: &[u8]) -> Result<Octets, AllocError>
     Ok(Octets::new(octets))
 }
 
-/// Where the text stands among ascending ones, or at `Err` where it would go.
+/// The place of the text among ascending ones, or `Err` with the place at which it would be
+/// inserted.
 fn place_of(texts: &[Octets], text: &[u8]) -> Result<usize, usize>
     ensures there { IfOk result (λ place. with_word text.now texts.now ≡ texts.now) }
     ensures absent { IfErr result (λ place. (place ≤ length texts.now) × (with_word text.now texts.now ≡ insert texts.now place text.now)) }
@@ -156,7 +159,7 @@ fn contains(words: &[Octets], keyword: &[u8]) -> bool
     false
 }
 
-/// Whether both are the same octet strings in the same order.
+/// Whether both lists have the same octet strings in the same order.
 pub fn are_same(words: &[Octets], others: &[Octets]) -> bool
     ensures { IsTrue result ↔ (words.now ≡ others.now) }
 {
@@ -182,7 +185,7 @@ fn copy_words(alloc: Global, words: &[Octets]) -> Result<SmallVec<Octets, INLINE
     Ok(copies)
 }
 
-/// Whether a message may bear this keyword: 1 to 64 atom octets (RFC 9051, section 9, atom).
+/// Whether a message may have this keyword: 1 to 64 atom octets (RFC 9051, section 9, atom).
 pub fn is_lawful_keyword(keyword: &[u8]) -> bool
     ensures { result ≡ is_lawful_keyword keyword.now }
 {
@@ -195,7 +198,7 @@ fn has_atom_octets(octets: &[u8]) -> bool
     octets.iter().all(|octet| is_atom_octet(*octet))
 }
 
-/// Whether an octet may stand in an atom (RFC 9051, section 9, ATOM-CHAR).
+/// Whether the octet is one of an atom (RFC 9051, section 9, ATOM-CHAR).
 pub fn is_atom_octet(octet: u8) -> bool
     ensures { result ≡ is_atom_octet octet }
 {
@@ -206,14 +209,14 @@ pub fn is_atom_octet(octet: u8) -> bool
     octet >= 33 && octet < 127 && !is_special
 }
 
-/// Whether an octet may stand in an unquoted string (RFC 9051, section 9, ASTRING-CHAR).
+/// Whether the octet is one of an unquoted string (RFC 9051, section 9, ASTRING-CHAR).
 pub fn is_astring_octet(octet: u8) -> bool
     ensures { result ≡ is_astring_octet octet }
 {
     is_atom_octet(octet) || octet == b']'
 }
 
-/// Whether they are in lower case and ascending, none twice.
+/// Whether all words are in lower case and they ascend strictly.
 fn are_keywords(words: &[Octets]) -> bool
     ensures { result ≡ are_keywords words.now }
 {

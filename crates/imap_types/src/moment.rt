@@ -1,3 +1,5 @@
+//! Moments in seconds.
+
 ghost use Rattle.std.specs.Prelude.{◌≡◌, ◌≤◌, ◌↔◌, IfSome, IsSome};
 
 use std::marker::Model;
@@ -31,7 +33,7 @@ impl Moment {
         Moment { seconds: 0 }
     }
 
-    /// This many seconds after the epoch; `None` behind the end of the year 9999.
+    /// The moment `seconds` seconds after the epoch; `None` after the end of the year 9999.
     pub fn new(seconds: u64) -> Option<Moment>
         ensures some { IsSome result ↔ (seconds ≤ LAST_MOMENT) }
         ensures value { IfSome result (λ moment. moment ≡ seconds) }

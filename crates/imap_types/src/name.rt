@@ -1,3 +1,5 @@
+//! Names of mailboxes (RFC 9051, section 5.1).
+
 ghost use Rattle.imap_types.specs.Ascending.{octet_order};
 ghost use Rattle.std.specs.Prelude.{◌≡◌, ◌↔◌, IfOk, IsTrue, map};
 ghost use Rattle.std.specs.Char.{to_ascii_uppercase};
@@ -18,7 +20,7 @@ pub struct Name {
     octets: Vec<u8>,
 }
 
-// By hand, so that crates above let it go as a whole.
+// By hand, so that crates above drop it whole.
 impl Drop for Name {
     fn drop(self) {
         let Self { octets: _ } = self;
@@ -34,14 +36,14 @@ impl Model for Name {
 }
 
 impl Name {
-    /// The name of these octets as they stand, whose memory it takes over.
+    /// The name of exactly these octets, in the vector's memory.
     pub fn new(octets: Vec<u8>) -> Name
         ensures { result ≡ octets.items }
     {
         Name { octets }
     }
 
-    /// A name of a copy of these octets; `Err` where there is no memory for it.
+    /// The name of a copy of these octets. `Err` if memory runs out.
     pub fn from_slice(alloc: Global, octets: &[u8]) -> Result<Name, AllocError>
         ensures { IfOk result (λ copied. copied ≡ octets.now) }
     {
@@ -50,7 +52,7 @@ impl Name {
         })
     }
 
-    /// The name `INBOX`; `Err` where there is no memory for it.
+    /// The name `INBOX`. `Err` if memory runs out.
     pub fn inbox(alloc: Global) -> Result<Name, AllocError>
         ensures { IfOk result (λ name. name ≡ inbox) }
     {
@@ -72,35 +74,35 @@ impl Name {
         &self.octets
     }
 
-    /// Whether both are the same octets.
+    /// Whether both have the same octets.
     pub fn same(&self, other: &Name) -> bool
         ensures { IsTrue result ↔ (self.now ≡ other.now) }
     {
         self.as_bytes() == other.as_bytes()
     }
 
-    /// How the octets compare, by the first that differs.
+    /// The order of the octets, by the first that differs.
     pub fn compare(&self, other: &Name) -> Ordering
         ensures { result ≡ octet_order self.now other.now }
     {
         self.as_bytes().cmp(other.as_bytes())
     }
 
-    /// An equal name; `Err` where there is no memory for it.
+    /// A copy of the name. `Err` if memory runs out.
     pub fn copy(&self, alloc: Global) -> Result<Name, AllocError>
         ensures { IfOk result (λ copied. copied ≡ self.now) }
     {
         Name::from_slice(alloc, self.as_bytes())
     }
 
-    /// Whether it is `INBOX` in any case (RFC 9051, section 5.1).
+    /// Whether the name is `INBOX` in any case (RFC 9051, section 5.1).
     pub fn is_inbox(&self) -> bool
         ensures { result ≡ is_inbox self.now }
     {
         self.as_bytes().eq_ignore_ascii_case(b"INBOX")
     }
 
-    /// The name with `INBOX` of any case in capitals, and any other name as it stands.
+    /// The name with `INBOX` of any case in capitals; any other name is unchanged.
     pub fn fold_inbox(self) -> Name
         ensures { result ≡ fold_inbox self }
     {
@@ -112,8 +114,8 @@ impl Name {
         Name { octets }
     }
 
-    /// Whether a mailbox may bear this name: 1 to 255 octets of UTF-8, no control, `%` or `*`, no empty level
-    /// between separators `/`, and INBOX in capitals only.
+    /// Whether a mailbox may have this name: 1 to 255 octets of UTF-8 without controls, `%` and
+    /// `*`, no empty level between separators `/`, and INBOX in capitals only.
     pub fn is_lawful(&self) -> bool
         ensures { IsTrue result ↔ IsLawfulName self.now }
     {
@@ -153,7 +155,7 @@ fn has_no_empty_level(octets: &[u8]) -> bool
         .all(|level| !level.is_empty())
 }
 
-/// INBOX in capitals, or a name that isn't INBOX in any case.
+/// Whether a name that is INBOX in any case is in capitals.
 fn is_folded(octets: &[u8]) -> bool
     ensures { IsTrue result ↔ (fold_inbox octets.now ≡ octets.now) }
 {

@@ -1,23 +1,25 @@
+//! Sets of message numbers or UIDs, as runs.
+
 ghost use Rattle.std.specs.Prelude.{◌≡◌, ◌<◌, ◌≤◌, ◌-◌, ◌++◌, [], ◌∷◌, length, slice_set, IfNone, IfSome, OnErr, OnOk};
 ghost use Rattle.imap_types.specs.Numbers.{AreRunsFrom, are_runs_from, greatest, numbers_in, numbers_of};
 
 use std::alloc::{AllocError, Global};
 use std::marker::Model;
 
-/// Consecutive numbers, both ends included.
+/// The consecutive numbers from `first` to `last`, both included.
 #[derive(Clone, Copy, Debug, PartialEq, Eq)]
 pub struct Run {
     pub first: u32,
     pub last: u32,
 }
 
-/// A set of numbers from 1 on, as message numbers and UIDs are (RFC 9051, section 2.3.1). It is kept as runs with
-/// gaps between them, and seen by contracts as the rising list of its numbers.
+/// A set of numbers from 1, such as message numbers or UIDs (RFC 9051, section 2.3.1). It is stored
+/// as runs with gaps between them; contracts see the rising list of its numbers.
 pub struct NumberSet {
     runs: Vec<Run>,
 }
 
-// By hand, so that crates above let it go as a whole.
+// By hand, so that crates above drop it whole.
 impl Drop for NumberSet {
     fn drop(self) {
         let Self { runs: _ } = self;
@@ -40,7 +42,7 @@ impl NumberSet {
     ghost use Rattle.std.specs.Prelude.{◌≡◌, ◌↔◌, ◌<◌, ◌≤◌, ◌++◌, [], ◌∷◌, if◌then◌else◌, IfOk, OnErr, OnOk, IsTrue};
     ghost use Rattle.imap_types.specs.Numbers.{AreRisingFrom, are_runs_from, greatest, numbers_in, numbers_of, runs_of};
 
-    /// The set of no numbers.
+    /// The empty set.
     pub fn new(alloc: Global) -> NumberSet
         ensures { result ≡ [] }
     {
@@ -49,8 +51,8 @@ impl NumberSet {
         }
     }
 
-    /// The set of the numbers of these runs, whose memory it takes over; `None` where they aren't the fewest, ascending
-    /// from 1.
+    /// The set of the numbers of these runs, in the vector's memory; `None` if the runs don't
+    /// ascend from 1 with a gap between each two.
     pub fn from_runs(runs: Vec<Run>) -> Option<NumberSet>
         ensures { result ≡ (if are_runs_from 1 runs.items then Some (numbers_in runs.items) else None) }
     {
@@ -61,7 +63,7 @@ impl NumberSet {
         }
     }
 
-    /// Whether it has no numbers.
+    /// Whether the set is empty.
     pub fn is_empty(&self) -> bool
         ensures { IsTrue result ↔ (self.now ≡ []) }
     {
@@ -77,7 +79,7 @@ impl NumberSet {
         &self.runs
     }
 
-    /// The greatest number; 0 where there are none.
+    /// The greatest number; 0 if the set is empty.
     pub fn greatest(&self) -> u32
         ensures { result ≡ greatest self.now }
     {
@@ -87,7 +89,7 @@ impl NumberSet {
         }
     }
 
-    /// Adds a number above all that are there. `Err` where there is no memory for it; the set stays as it was.
+    /// Adds a number above all others. `Err` if memory runs out; the set stays as it was.
     pub fn push(&mut self, number: u32) -> Result<(), AllocError>
         requires { greatest self.old < number }
         ensures ok { OnOk result (self.new ≡ self.old ++ number ∷ []) }
@@ -99,7 +101,7 @@ impl NumberSet {
         })
     }
 
-    /// Adds a run of numbers above all that are there. `Err` where there is no memory for it; the set stays as it was.
+    /// Adds a run of numbers above all others. `Err` if memory runs out; the set stays as it was.
     pub fn push_run(&mut self, run: Run) -> Result<(), AllocError>
         requires order { run.first ≤ run.last }
         requires above { greatest self.old < run.first }
@@ -109,7 +111,7 @@ impl NumberSet {
         add_run(&mut self.runs, run)
     }
 
-    /// An equal set; `Err` where there is no memory for it.
+    /// A copy of the set. `Err` if memory runs out.
     pub fn copy(&self, alloc: Global) -> Result<NumberSet, AllocError>
         ensures { IfOk result (λ copied. copied ≡ self.now) }
     {
@@ -118,7 +120,7 @@ impl NumberSet {
         })
     }
 
-    /// Whether both have the same numbers.
+    /// Whether both sets have the same numbers.
     pub fn same(&self, other: &NumberSet) -> bool
         ensures { IsTrue result ↔ (self.now ≡ other.now) }
     {
@@ -126,7 +128,8 @@ impl NumberSet {
     }
 }
 
-/// Adds a run of numbers above all of these; it joins the last run where that ends just below.
+/// Adds a run of numbers above all others; it extends the last run if that ends just below. `Err`
+/// if memory runs out; the runs stay as they were.
 fn add_run(runs: &mut Vec<Run>, run: Run) -> Result<(), AllocError>
     requires runs { AreRunsFrom 1 runs.old.items }
     requires order { run.first ≤ run.last }
@@ -145,7 +148,7 @@ fn add_run(runs: &mut Vec<Run>, run: Run) -> Result<(), AllocError>
     Ok(())
 }
 
-/// The last of the runs and the next one as one run, where they touch.
+/// The last of the runs and the next one as one run, if there is no gap between them.
 fn joined_run(runs: &[Run], next: Run) -> Option<Run>
     requires runs { AreRunsFrom 1 runs.now }
     requires order { next.first ≤ next.last }
@@ -163,7 +166,7 @@ fn joined_run(runs: &[Run], next: Run) -> Option<Run>
     })
 }
 
-/// Whether runs ascend from 1 with gaps between them.
+/// Whether the runs ascend from 1 with gaps between them.
 fn are_runs(runs: &[Run]) -> bool
     ensures { result ≡ are_runs_from 1 runs.now }
 {

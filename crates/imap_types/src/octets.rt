@@ -1,3 +1,5 @@
+//! Octet strings.
+
 ghost use Rattle.imap_types.specs.Ascending.{octet_order};
 ghost use Rattle.std.specs.Prelude.{◌≡◌, ◌↔◌, IfOk, IsTrue};
 
@@ -6,12 +8,12 @@ use std::cmp::Ordering;
 use std::default::MadeWith;
 use std::marker::Model;
 
-/// Any octets, with memory of their own: a tag, a pattern, a keyword.
+/// Any octets, in memory of their own: a tag, a pattern, a keyword.
 pub struct Octets {
     octets: Vec<u8>,
 }
 
-// By hand, so that crates above let it go as a whole.
+// By hand, so that crates above drop it whole.
 impl Drop for Octets {
     fn drop(self) {
         let Self { octets: _ } = self;
@@ -39,14 +41,14 @@ impl MadeWith<Global> for Octets {
 }
 
 impl Octets {
-    /// These octets, whose memory it takes over.
+    /// These octets, in the vector's memory.
     pub fn new(octets: Vec<u8>) -> Octets
         ensures { result ≡ octets.items }
     {
         Octets { octets }
     }
 
-    /// A copy of these octets; `Err` where there is no memory for it.
+    /// A copy of these octets. `Err` if memory runs out.
     pub fn from_slice(alloc: Global, octets: &[u8]) -> Result<Octets, AllocError>
         ensures { IfOk result (λ copied. copied ≡ octets.now) }
     {
@@ -70,21 +72,21 @@ impl Octets {
         &self.octets
     }
 
-    /// Whether both hold the same octets.
+    /// Whether both have the same octets.
     pub fn same(&self, other: &Octets) -> bool
         ensures { IsTrue result ↔ (self.now ≡ other.now) }
     {
         self.as_bytes() == other.as_bytes()
     }
 
-    /// How the octets compare, by the first that differs.
+    /// The order of the octets, by the first that differs.
     pub fn compare(&self, other: &Octets) -> Ordering
         ensures { result ≡ octet_order self.now other.now }
     {
         self.as_bytes().cmp(other.as_bytes())
     }
 
-    /// An equal one; `Err` where there is no memory for it.
+    /// A copy of the octets. `Err` if memory runs out.
     pub fn copy(&self, alloc: Global) -> Result<Octets, AllocError>
         ensures { IfOk result (λ copied. copied ≡ self.now) }
     {

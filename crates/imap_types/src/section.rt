@@ -1,3 +1,5 @@
+//! Sections of a message (RFC 9051, section 6.4.5.1).
+
 use crate::keywords::are_same;
 use crate::octets::Octets;
 use std::alloc::{AllocError, Global};
@@ -7,7 +9,7 @@ use std::marker::Model;
 pub enum Section {
     /// The whole text.
     Whole,
-    /// The header with the empty line that ends it.
+    /// The header, including the empty line that ends it.
     Header,
     /// What follows the header.
     Text,
@@ -17,7 +19,7 @@ pub enum Section {
     FieldsNot { names: FieldNames },
 }
 
-// By hand, so that crates above let it go as a whole.
+// By hand, so that crates above drop it whole.
 impl Drop for Section {
     fn drop(self) {
         match self {
@@ -33,7 +35,7 @@ impl Drop for Section {
 impl Section {
     ghost use Rattle.std.specs.Prelude.{◌≡◌, ◌↔◌, IfOk, IsTrue};
 
-    /// Whether both are the same section, by names as they were written.
+    /// Whether both are the same section, with names that are written alike.
     pub fn same(&self, other: &Section) -> bool
         ensures { IsTrue result ↔ (self.now ≡ other.now) }
     {
@@ -49,7 +51,7 @@ impl Section {
         }
     }
 
-    /// An equal section; `Err` where there is no memory for it.
+    /// A copy of the section. `Err` if memory runs out.
     pub fn copy(&self, alloc: Global) -> Result<Section, AllocError>
         ensures { IfOk result (λ copied. copied ≡ self.now) }
     {
@@ -67,12 +69,12 @@ impl Section {
     }
 }
 
-/// Names of header fields as they were written, in order.
+/// Names of header fields, in order, as they were written.
 pub struct FieldNames {
     names: Vec<Octets>,
 }
 
-// By hand, so that crates above let it go as a whole.
+// By hand, so that crates above drop it whole.
 impl Drop for FieldNames {
     fn drop(self) {
         let Self { names: _ } = self;
@@ -90,7 +92,7 @@ impl Model for FieldNames {
 impl FieldNames {
     ghost use Rattle.std.specs.Prelude.{◌≡◌, ◌↔◌, IfOk, IsTrue};
 
-    /// These names, whose memory it takes over.
+    /// These names, in the vector's memory.
     pub fn new(names: Vec<Octets>) -> FieldNames
         ensures { result ≡ names.items }
     {
@@ -104,14 +106,14 @@ impl FieldNames {
         &self.names
     }
 
-    /// Whether both are the same names as they were written.
+    /// Whether both lists have the same names, written alike.
     pub fn same(&self, other: &FieldNames) -> bool
         ensures { IsTrue result ↔ (self.now ≡ other.now) }
     {
         are_same(self.names(), other.names())
     }
 
-    /// Equal names; `Err` where there is no memory for them.
+    /// A copy of the names. `Err` if memory runs out.
     pub fn copy(&self, alloc: Global) -> Result<FieldNames, AllocError>
         ensures { IfOk result (λ copied. copied ≡ self.now) }
     {

@@ -1,15 +1,17 @@
+//! Texts of messages.
+
 ghost use Rattle.std.specs.Prelude.{◌≡◌, ◌↔◌, IfOk, IsTrue};
 
 use std::alloc::{AllocError, Global};
 use std::marker::Model;
 use std::sync::ArcSlice;
 
-/// A message's text. Its copies share one memory, which is given back with the last of them.
+/// A message's text. Its copies share one memory, which is freed with the last of them.
 pub struct Text {
     octets: ArcSlice<u8>,
 }
 
-// By hand, so that crates above let it go as a whole.
+// By hand, so that crates above drop it whole.
 impl Drop for Text {
     fn drop(self) {
         let Self { octets: _ } = self;
@@ -26,7 +28,8 @@ impl Model for Text {
 }
 
 impl Text {
-    /// The text of these octets, whose memory it takes over; `Err` where there is no memory to share them.
+    /// The text of these octets, in the vector's memory. `Err` if memory runs out for the count of
+    /// its copies.
     pub fn new(octets: Vec<u8>) -> Result<Text, AllocError>
         ensures { IfOk result (λ text. text ≡ octets.items) }
     {
@@ -35,7 +38,7 @@ impl Text {
         })
     }
 
-    /// The text of a copy of these octets; `Err` where there is no memory for it.
+    /// The text of a copy of these octets. `Err` if memory runs out.
     pub fn from_slice(alloc: Global, octets: &[u8]) -> Result<Text, AllocError>
         ensures { IfOk result (λ text. text ≡ octets.now) }
     {
@@ -56,7 +59,7 @@ impl Text {
         self.as_bytes() == other.as_bytes()
     }
 
-    /// The same text, in the same memory. `Err` where so many copies share it that they can't be counted.
+    /// A copy that shares the text's memory. `Err` if there are more copies than can be counted.
     pub fn copy(&self) -> Result<Text, AllocError>
         ensures { IfOk result (λ copied. copied ≡ self.now) }
     {

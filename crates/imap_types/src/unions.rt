@@ -1,4 +1,4 @@
-//! The flags of several versions together.
+//! The union of the flags of several versions (RFC 9051, section 2.3.2).
 
 ghost use Rattle.std.specs.Prelude.{◌≡◌, ◌↔◌, IsTrue, OnOk};
 ghost use Rattle.std.specs.List.{fold, flat_map, list_all, list_any};
@@ -12,7 +12,8 @@ use crate::octets::Octets;
 use crate::version::Version;
 use std::alloc::{AllocError, Global};
 
-/// Puts the other flags to these; `Err` where there is no memory for a keyword.
+/// Adds the flags of `more` to `union`. `Err` if memory runs out for a keyword; some keywords may
+/// have been added then.
 pub fn add_flags(alloc: Global, union: &mut Flags, more: &Flags) -> Result<(), AllocError>
     ensures { OnOk result (union.new ≡ with_flags union.old more.now) }
 {
@@ -25,7 +26,7 @@ pub fn add_flags(alloc: Global, union: &mut Flags, more: &Flags) -> Result<(), A
     Ok(())
 }
 
-/// Puts the other keywords to these.
+/// Adds the keywords of `more` to `union`. `Err` if memory runs out; some may have been added then.
 fn add_keywords(alloc: Global, union: &mut Keywords, more: &Keywords) -> Result<(), AllocError>
     ensures { OnOk result (union.new ≡ fold (λ done word. with_word word done) union.old more.now) }
 {
@@ -35,7 +36,8 @@ fn add_keywords(alloc: Global, union: &mut Keywords, more: &Keywords) -> Result<
     Ok(())
 }
 
-/// Puts the keywords of each of the versions to these.
+/// Adds the keywords of each version to `union`. `Err` if memory runs out; some may have been added
+/// then.
 pub fn add_version_keywords(
     alloc: Global,
     union: &mut Keywords,
@@ -49,7 +51,7 @@ pub fn add_version_keywords(
     Ok(())
 }
 
-/// Whether these are just the keywords of the versions together.
+/// Whether `keywords` is exactly the union of the versions' keywords.
 pub fn is_keyword_union(versions: &[Version], keywords: &Keywords) -> bool
     ensures { IsTrue result ↔ ((united_flags versions.now).keywords ≡ keywords.now) }
 {
@@ -57,21 +59,21 @@ pub fn is_keyword_union(versions: &[Version], keywords: &Keywords) -> bool
     all_are_within(versions, words) && each_is_in_a_version(versions, words)
 }
 
-/// Whether each keyword of a version is one of these.
+/// Whether each keyword of each version is one of these words.
 fn all_are_within(versions: &[Version], words: &[Octets]) -> bool
     ensures { result ≡ list_all (λ version. are_within version.flags.keywords words.now) versions.now }
 {
     versions.iter().all(|version| are_within(version.flags.keywords.as_slice(), words))
 }
 
-/// Whether each of these keywords is one of a version's.
+/// Whether each word is a keyword of some version.
 fn each_is_in_a_version(versions: &[Version], words: &[Octets]) -> bool
     ensures { result ≡ list_all (λ word. list_any (λ version. holds version.flags.keywords word) versions.now) words.now }
 {
     words.iter().all(|word| is_in_a_version(versions, word))
 }
 
-/// Whether a version has this keyword.
+/// Whether some version has this keyword.
 fn is_in_a_version(versions: &[Version], word: &Octets) -> bool
     ensures { result ≡ list_any (λ version. holds version.flags.keywords word.now) versions.now }
 {

@@ -1,4 +1,4 @@
-//! One version of a message.
+//! A version of a message.
 
 ghost use Rattle.std.specs.Prelude.{◌≡◌, IfOk};
 
@@ -6,15 +6,15 @@ use crate::flags::Flags;
 use std::alloc::{AllocError, Global};
 use tags_clocks::OpId;
 
-/// A version of a message: a message tag that is present, with the flags that it carries.
+/// A version of a message: a message tag that is present, with its flags.
 pub struct Version {
-    /// The tag's id, which is that of the operation that added it.
+    /// The id of the tag, and of the operation that added it.
     pub id: OpId,
-    /// The flags that it carries.
+    /// The flags that the tag carries.
     pub flags: Flags,
 }
 
-// By hand, so that crates above let it go as a whole.
+// By hand, so that crates above drop it whole.
 impl Drop for Version {
     fn drop(self) {
         let Self { id: _, flags: _ } = self;
@@ -22,7 +22,7 @@ impl Drop for Version {
 }
 
 impl Version {
-    /// An equal one; `Err` where there is no memory for it.
+    /// A copy of the version. `Err` if memory runs out.
     pub fn copy(&self, alloc: Global) -> Result<Version, AllocError>
         ensures { IfOk result (λ copied. copied ≡ self.now) }
     {
@@ -33,7 +33,7 @@ impl Version {
     }
 }
 
-/// Copies of the versions, in their order; `Err` where there is no memory for them.
+/// Copies of the versions, in their order. `Err` if memory runs out.
 pub fn copy_versions(alloc: Global, versions: &[Version]) -> Result<Vec<Version>, AllocError>
     ensures { IfOk result (λ copies. copies.items ≡ versions.now) }
 {

@@ -1,4 +1,4 @@
-//! The versions of a message, as they are lent.
+//! Borrowed versions of a message.
 
 ghost use Rattle.std.specs.Prelude.{◌≡◌, ◌↔◌, IfOk, IsTrue, OnOk};
 ghost use Rattle.std.specs.List.{fold};
@@ -14,72 +14,73 @@ use crate::unions::{add_flags, add_version_keywords, is_keyword_union};
 use crate::version::Version;
 use std::alloc::{AllocError, Global};
 
-/// The versions of a message, lent by what keeps them, ascending by id (by replica, then by number). The message's flags are
-/// the union of theirs: each system flag that one of them has, and all their keywords.
+/// The versions of a message, borrowed from the table that owns them, ascending by id (by replica,
+/// then by number). The message's flags are the union of theirs: each system flag that any version
+/// has, and all their keywords.
 #[derive(Clone, Copy)]
 pub struct Versions<'a> {
-    /// Them, in their order.
+    /// The versions, in order.
     pub list: &'a [Version],
 }
 
 impl<'a> Versions<'a> {
-    /// These versions.
+    /// The versions of this list.
     pub fn new(list: &'a [Version]) -> Versions<'a>
         ensures { result.list.now ≡ list.now }
     {
         Versions { list }
     }
 
-    /// Them, in their order.
+    /// The versions, in order.
     pub fn as_slice(&self) -> &'a [Version]
         ensures { result.now ≡ self.now.list.now }
     {
         self.list
     }
 
-    /// Whether one of them is `\Answered`.
+    /// Whether any version is `\Answered`.
     pub fn answered(&self) -> bool
         ensures { result ≡ (united_flags self.now.list.now).answered }
     {
         any_is_answered(self.list)
     }
 
-    /// Whether one of them is `\Flagged`.
+    /// Whether any version is `\Flagged`.
     pub fn flagged(&self) -> bool
         ensures { result ≡ (united_flags self.now.list.now).flagged }
     {
         any_is_flagged(self.list)
     }
 
-    /// Whether one of them is `\Deleted`.
+    /// Whether any version is `\Deleted`.
     pub fn deleted(&self) -> bool
         ensures { result ≡ (united_flags self.now.list.now).deleted }
     {
         any_is_deleted(self.list)
     }
 
-    /// Whether one of them is `\Seen`.
+    /// Whether any version is `\Seen`.
     pub fn seen(&self) -> bool
         ensures { result ≡ (united_flags self.now.list.now).seen }
     {
         any_is_seen(self.list)
     }
 
-    /// Whether one of them is `\Draft`.
+    /// Whether any version is `\Draft`.
     pub fn draft(&self) -> bool
         ensures { result ≡ (united_flags self.now.list.now).draft }
     {
         any_is_draft(self.list)
     }
 
-    /// Whether one of them has this keyword, of any case.
+    /// Whether any version has this keyword, compared without case.
     pub fn has_keyword(&self, word: &[u8]) -> bool
         ensures { result ≡ has_keyword word.now (united_flags self.now.list.now).keywords }
     {
         any_has_keyword(self.list, word)
     }
 
-    /// Whether the union of their flags is just these flags. It takes no memory.
+    /// Whether the union of the versions' flags is exactly `flags`. It takes no memory.
     pub fn has_flags(&self, flags: &Flags) -> bool
         ensures { IsTrue result ↔ (united_flags self.now.list.now ≡ flags.now) }
     {
@@ -91,7 +92,7 @@ impl<'a> Versions<'a> {
             && is_keyword_union(self.list, &flags.keywords)
     }
 
-    /// The union of their flags; `Err` where there is no memory for it.
+    /// The union of the versions' flags. `Err` if memory runs out.
     pub fn flags(&self, alloc: Global) -> Result<Flags, AllocError>
         ensures { IfOk result (λ flags. flags ≡ united_flags self.now.list.now) }
     {
@@ -102,7 +103,8 @@ impl<'a> Versions<'a> {
         Ok(union)
     }
 
-    /// Puts all their keywords to these; `Err` where there is no memory for one, and then some may be there.
+    /// Adds all keywords of the versions to `keywords`. `Err` if memory runs out; some may have
+    /// been added then.
     pub fn add_keywords_to(&self, alloc: Global, keywords: &mut Keywords) -> Result<(), AllocError>
         ensures { OnOk result (keywords.new ≡ fold (λ done word. with_word word done) keywords.old (united_flags self.now.list.now).keywords) }
     {
