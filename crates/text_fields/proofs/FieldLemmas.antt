@@ -33,7 +33,7 @@ ok_part (Err e) len value l h = λ k. h (l, k)
 pub parsed_digits : {E : Type 0} (ds : List ℕ) (r : Result ℕ E) → has_no_leading_zero ds ≡ true → list_all is_ascii_digit ds ≡ true → ParsesUnsigned 64 10 ds r → SomeIff (result_ok r) (digits_value 10 ds < 2 ^ 64) (digits_value 10 ds)
 parsed_digits ds r z d h = ok_part r (length ds) (digits_value 10 ds) (some_digit ds z) (parse_digits digits_model 64 ds r h d)
 
--- digits without a leading zero are the text of their number
+-- digits without a leading zero are the text of the number that they write
 one_digit : (ds : List ℕ) → has_no_leading_zero ds ≡ true → get_or ds 0 0 ≡ 48 → length ds ≡ 1
 one_digit [] h k = absurd (let e : false ≡ true = h in cc)
 one_digit (d ∷ []) h k = refl
@@ -109,7 +109,7 @@ not_true : (b : Bool) → not b ≡ true → b ≡ false
 not_true true h = absurd cc
 not_true false h = refl
 
--- what is cut is joined by the separator
+-- the parts of a cut, joined by the separator, are the text
 pub cut_takes : (separator : ℕ) (text : List ℕ) (parts : List ℕ × List ℕ) → cut_at separator text ≡ Some parts → text ≡ parts.0 ++ separator ∷ parts.1
 cut_takes separator [] parts h = absurd cc
 cut_takes separator (octet ∷ octets) parts h =
@@ -123,7 +123,7 @@ cut_takes separator (octet ∷ octets) parts h =
           ap (λ (t : List ℕ). octet ∷ t) (cut_takes separator octets y.0 y.1) ∙ sym (λ i. y.2 i ++ separator ∷ y.3 i)
     ]
 
--- what is joined so is cut at the first separator
+-- parts joined by a separator that the first one lacks are cut there
 pub cut_again : (separator : ℕ) (front back : List ℕ) → list_all (λ octet. not (eqb octet separator)) front ≡ true → cut_at separator (front ++ separator ∷ back) ≡ Some (front, back)
 cut_again separator [] back h = let t : eqb separator separator ≡ true = eq-eqb separator separator refl in rw t refl
 cut_again separator (octet ∷ front) back h =

@@ -1,38 +1,38 @@
+-- How the readers take a field apart. What a field means is defined by its text (`id_text` and
+-- `entry_text` of Fields); laws of the crates that read whole lines join the two.
+
 use Rattle.std.specs.Prelude.{ℕ, Bool, true, false, not, ◌&&◌, ◌==◌, nat_le, List, [], ◌∷◌, ◌++◌, Option, Some, None, option_and_then, if◌then◌else◌}
 use Rattle.std.specs.Char.{is_ascii_digit}
 use Rattle.std.specs.List.{list_all}
 use Rattle.std.specs.Str.Parse.{digits_value}
 use Rattle.tags_clocks.specs.declared.id.OpId.{OpId}
 
--- How the readers take a field apart. What a field says is told by its text (`id_text` and `entry_text` of Fields), and the laws of the
--- crates that read whole lines join the two.
-
 infixl 10 ◌>>=◌
--- What follows a reading, where there is one.
+-- What the next reading gives of the value of this one, if both succeed.
 abbrev pub ◌>>=◌ : {A B : Type 0} → Option A → (A → Option B) → Option B
 read >>= next = option_and_then next read
 
--- Octets in front of the first part of a cut.
+-- Octets before the first part of a cut.
 abbrev pub in_front : List ℕ → Option (List ℕ × List ℕ) → Option (List ℕ × List ℕ)
 in_front front None = None
 in_front front (Some cut) = Some (front ++ cut.0, cut.1)
 
--- What stands before the first separator, and what behind it.
+-- What comes before the first separator, and what comes after it.
 abbrev pub cut_at : ℕ → List ℕ → Option (List ℕ × List ℕ)
 cut_at separator [] = None
 cut_at separator (octet ∷ octets) = if octet == separator then Some ([], octets) else in_front (octet ∷ []) (cut_at separator octets)
 
--- Whether a text has a first octet, which is no zero (48) with more behind it.
+-- Whether a text isn't empty, and doesn't begin with zero (48) unless that is all of it.
 abbrev pub has_no_leading_zero : List ℕ → Bool
 has_no_leading_zero [] = false
 has_no_leading_zero (digit ∷ []) = true
 has_no_leading_zero (digit ∷ next ∷ digits) = not (digit == 48)
 
--- The number up to the limit that the digits write without a leading zero.
+-- The number that the digits write without a leading zero, if it is at most the limit.
 unfoldable pub number_at : ℕ → List ℕ → Option ℕ
 number_at limit text = if (has_no_leading_zero text && list_all is_ascii_digit text) && nat_le (digits_value 10 text) limit then Some (digits_value 10 text) else None
 
--- A number from 1 on.
+-- The number, if it is at least 1.
 abbrev pub positive : ℕ → Option ℕ
 positive number = if number == 0 then None else Some number
 
@@ -42,7 +42,7 @@ replica_at text = do
   number ← number_at 65535 text
   positive number
 
--- The replica and the number on either side of a mark.
+-- The replica before the first mark, and the number after it.
 unfoldable pub pair_at : ℕ → List ℕ → Option (ℕ × ℕ)
 pair_at mark text = do
   parts ← cut_at mark text

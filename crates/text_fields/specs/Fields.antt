@@ -1,3 +1,5 @@
+-- The texts of fields: replicas, numbers and ids of operations, and entries of clocks.
+
 use Rattle.std.specs.Prelude.{ℕ, ◌<◌, ◌≤◌, List, ◌∷◌, ◌++◌}
 use Rattle.std.specs.Fmt.{decimal}
 use Rattle.tags_clocks.specs.declared.id.OpId.{OpId}
@@ -6,7 +8,7 @@ use Rattle.tags_clocks.specs.declared.id.OpId.{OpId}
 abbrev pub IsReplica : ℕ → Type 0
 IsReplica replica = (0 < replica) × (replica ≤ 65535)
 
--- The number of an operation among its replica's.
+-- The number of an operation among those of its replica.
 abbrev pub IsNumber : ℕ → Type 0
 IsNumber number = (0 < number) × (number ≤ 4294967295)
 

@@ -1,4 +1,4 @@
-//! Fields, read.
+//! Readers of fields.
 
 ghost use Rattle.std.specs.Prelude.{◌≡◌, ◌<◌, ◌≤◌, ◌&&◌, ◌^◌, true, IfSome, SomeIff};
 ghost use Rattle.std.specs.Option.{option_map};
@@ -10,7 +10,8 @@ ghost use Rattle.text_fields.specs.FieldReading.{cut_at, has_no_leading_zero, id
 use std::str;
 use tags_clocks::{OpId, ReplicaId};
 
-/// What stands before the first separator, and what behind it; `None` where there is no separator.
+/// What comes before the first separator, and what comes after it; `None` if the text has no
+/// separator.
 pub fn split(separator: u8, text: &[u8]) -> Option<(&[u8], &[u8])>
     ensures { option_map (λ parts. (parts.0.now, parts.1.now)) result ≡ cut_at separator text.now }
 {
@@ -44,7 +45,8 @@ fn has_no_leading_zero(text: &[u8]) -> bool
     }
 }
 
-/// The number up to the limit that digits write without a leading zero.
+/// The number that decimal digits write without a leading zero, if it is at most `limit`; else
+/// `None`.
 #[tactic(auto, unfolding(crate::specs::FieldReading::number_at))]
 pub fn number(text: &[u8], limit: u64) -> Option<u64>
     ensures read { result ≡ number_at limit text.now }
@@ -64,7 +66,7 @@ pub fn number(text: &[u8], limit: u64) -> Option<u64>
     }
 }
 
-/// The number that digits write, where it has 64 bits.
+/// The number that digits write, if it fits into 64 bits.
 fn parse_digits(digits: &[u8]) -> Option<u64>
     requires { (has_no_leading_zero digits.now && list_all is_ascii_digit digits.now) ≡ true }
     ensures { SomeIff result (digits_value 10 digits.now < 2 ^ 64) (digits_value 10 digits.now) }
@@ -75,7 +77,7 @@ fn parse_digits(digits: &[u8]) -> Option<u64>
     text.parse::<u64>().ok()
 }
 
-/// The replica whose number, from 1 to 65,535, the text writes.
+/// The replica whose number, from 1 to 65,535, the text writes; `None` if it writes none.
 #[tactic(auto, unfolding(crate::specs::FieldReading::replica_at))]
 pub fn replica(text: &[u8]) -> Option<ReplicaId>
     ensures { result ≡ replica_at text.now }
@@ -84,7 +86,8 @@ pub fn replica(text: &[u8]) -> Option<ReplicaId>
     ReplicaId::new(number as u32)
 }
 
-/// The replica and the number, from 1 to 4,294,967,295, on either side of the first mark.
+/// The replica before the first `mark`, and the number from 1 to 4,294,967,295 after it; `None` if
+/// the text isn't such a pair.
 #[tactic(auto, unfolding(crate::specs::FieldReading::pair_at))]
 pub fn pair(mark: u8, text: &[u8]) -> Option<(ReplicaId, u32)>
     ensures read { option_map (λ pair. (pair.0, pair.1)) result ≡ pair_at mark text.now }
@@ -99,7 +102,8 @@ pub fn pair(mark: u8, text: &[u8]) -> Option<(ReplicaId, u32)>
     Some((replica, number as u32))
 }
 
-/// The id of an operation: the replica, a colon and the number.
+/// The id of an operation, written as the replica, a colon and the number; `None` if the text isn't
+/// one.
 #[tactic(auto, unfolding(crate::specs::FieldReading::id_at))]
 pub fn id(text: &[u8]) -> Option<OpId>
     ensures { result ≡ id_at text.now }

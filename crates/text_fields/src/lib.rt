@@ -1,4 +1,14 @@
-//! Fields of a line: numbers, replicas and ids of operations as text, read and written with one spelling each.
+//! Fields of a line of text: numbers, replicas and ids of operations, each with exactly one
+//! spelling.
+//!
+//! A number is written in decimal digits without a leading zero, a replica as a number from 1 to
+//! 65,535, an id as the replica, a colon and a number from 1 to 4,294,967,295. `push_number` and
+//! `push_id` append these texts. The readers take no memory: they return the value of a field, or
+//! `None` for any other text, such as a number above its limit.
+//!
+//! Contracts say what a field is by its text (`id_text` and `entry_text` of `specs/Fields.antt`)
+//! and how it is read (`specs/FieldReading.antt`). The crates that read and write whole lines prove
+//! that reading and writing are inverse.
 #![tactic(auto)]
 
 mod field_reader;
