@@ -14,7 +14,7 @@ use Rattle.imap_lex.specs.Framing.{FrameProgress, Cut, with_items, cut_onward, a
 pub with_items-with_items : (front items : List Item) (cut : Cut) → with_items front (with_items items cut) ≡ with_items (front ++ items) cut
 with_items-with_items front items cut = ap (λ all. (all, cut.1)) (sym (append_assoc front items cut.0))
 
--- A stretch and what comes behind it are read one after the other.
+-- The octets `xs` and those after them are read one after another.
 pub goes_on-append : (limits : Limits) (state : Result FrameProgress FrameFaultKind) (xs ys : List ℕ) → cut_onward limits state (xs ++ ys) ≡ with_items (cut_onward limits state xs).0 (cut_onward limits (cut_onward limits state xs).1 ys)
 goes_on-append limits state [] ys = refl
 goes_on-append limits state (x ∷ xs) ys =
@@ -22,12 +22,12 @@ goes_on-append limits state (x ∷ xs) ys =
     ap (with_items n.0) (goes_on-append limits n.1 xs ys)
     ∙ with_items-with_items n.0 (cut_onward limits n.1 xs).0 (cut_onward limits (cut_onward limits n.1 xs).1 ys)
 
--- Behind a fault nothing comes.
+-- Nothing comes after a fault.
 pub goes_on-fault : (limits : Limits) (why : FrameFaultKind) (xs : List ℕ) → cut_onward limits (Err why) xs ≡ ([], Err why)
 goes_on-fault limits why [] = refl
 goes_on-fault limits why (x ∷ xs) = ap (with_items []) (goes_on-fault limits why xs)
 
--- Piece by piece it is the whole.
+-- Pieces give what the whole gives.
 pub fed-joined : (limits : Limits) (state : Result FrameProgress FrameFaultKind) (pieces : List (List ℕ)) → cut_of_pieces limits state pieces ≡ cut_onward limits state (concat_pieces pieces)
 fed-joined limits state [] = refl
 fed-joined limits state (piece ∷ pieces) =
@@ -79,7 +79,7 @@ fault_by NulByte items cut h e = e
 fault_by NoMemory items cut h e = absurd h
 fault_by Failed items cut h e = absurd h
 
--- Where memory runs out, the items so far begin those of the cut.
+-- If memory runs out, the items so far are the first of the cut.
 lacks_memory : (items : List Item) (cut whole : Cut) → with_items items cut ≡ whole → Faults NoMemory items whole
 lacks_memory items cut whole e = (cut.0, ap (λ c. c.0) (sym e))
 
@@ -91,7 +91,7 @@ faults_at limits p octet octets why items cut e f =
     in
     fault_by why items cut (octet_fault limits p octet why e) (sym f ∙ ap (with_items items) g ∙ ap (λ all. (all, Err why)) (append-nil items))
 
--- What is left of a piece where taking its next octet fails.
+-- What is left of a piece if its next octet makes a fault.
 pub stops_at : (limits : Limits) (p : FrameProgress) (i : ℕ) (piece : List ℕ) (why : FrameFaultKind) (items : List Item) (cut : Cut) → i < length piece → (why ≡ NoMemory) ⊎ (after_octet limits p (get_or piece i 0) ≡ Err why) → with_items items (cut_onward limits (Ok p) (drop i piece)) ≡ cut → Faults why items cut
 stops_at limits p i piece why items cut h fails e =
     elim fails [
@@ -136,7 +136,7 @@ literal_nul limits p (b ∷ bs) l h =
           ∙ ap (with_items []) (literal_nul limits (after_literal p (b ∷ [])) bs (omega arith) (rw f at h))
     ]
 
--- Octets of a literal at the front of a piece.
+-- Octets of a literal at the beginning of a piece.
 pub literal_front : (limits : Limits) (p q : FrameProgress) (items : List Item) (n : ℕ) (octets rest piece : List ℕ) → octets ≡ take n piece → rest ≡ drop n piece → length octets ≤ p.awaited → has_nul octets ≡ false → q ≡ after_literal p octets → with_items items (cut_onward limits (Ok p) piece) ≡ with_items items (cut_onward limits (Ok q) rest)
 literal_front limits p q items n octets rest piece e f l h g =
     let whole : piece ≡ octets ++ rest = sym (take-append-drop n piece) ∙ ap (λ t. t ++ drop n piece) (sym e) ∙ ap (λ t. octets ++ t) (sym f) in
@@ -164,7 +164,7 @@ literal_stops limits p items n octets piece why e l fails =
           subst (λ (w : FrameFaultKind). Faults w items cut) (sym k.0) all
     ]
 
--- Octets of a line none of which ends it, read one by one.
+-- Octets of a line, none of which ends it, read one by one.
 inside_step : (limits : Limits) (p : FrameProgress) (octet : ℕ) → is_inside octet ≡ true → p.awaited ≡ 0 → p.outside < limits.line → after_octet limits p octet ≡ Ok (None, with_octet p octet)
 inside_step limits p octet h e l =
     let parts = and_parts (not (eqb octet 10)) (not (eqb octet 0)) h in
@@ -197,7 +197,7 @@ inside_read limits p (suc n) (b ∷ bs) h e l =
       | inr f ↦ let g = rw f at h in absurd (omega arith)
     ]
 
--- Octets of a line at the front of a piece.
+-- Octets of a line at the beginning of a piece.
 pub inside_front : (limits : Limits) (p q : FrameProgress) (items : List Item) (n : ℕ) (octets rest piece : List ℕ) → octets ≡ take n piece → rest ≡ drop n piece → n ≤ prefix_len is_inside piece → p.awaited ≡ 0 → p.outside + n ≤ limits.line → q ≡ with_octets p octets → with_items items (cut_onward limits (Ok p) piece) ≡ with_items items (cut_onward limits (Ok q) rest)
 inside_front limits p q items n octets rest piece e f h z l g =
     let read : cut_onward limits (Ok p) octets ≡ ([], Ok (with_octets p octets)) =
@@ -211,6 +211,6 @@ inside_front limits p q items n octets rest piece e f h z l g =
     ∙ ap (λ q. with_items [] (cut_onward limits (Ok q) rest)) (sym g)
     )
 
--- Where memory runs out at the front of a piece.
+-- Memory runs out at the beginning of a piece.
 pub lacks_here : (items : List Item) (cut : Cut) (why : FrameFaultKind) → why ≡ NoMemory → Faults why items (with_items items cut)
 lacks_here items cut why e = subst (λ (w : FrameFaultKind). Faults w items (with_items items cut)) (sym e) (lacks_memory items cut (with_items items cut) refl)

@@ -12,7 +12,7 @@ use Rattle.imap_lex.proofs.LineLemmas.{line_parts, no_nul_parts, no_nul_both}
 use Rattle.imap_lex.proofs.StepLemmas.{at_line, step_nul, step_full, step_end, ended_too_long}
 use Rattle.imap_lex.proofs.RunLemmas.{run_on, run_step, run_commands, run_rest, run_to_line}
 
--- What is these frames and this rest gives these items.
+-- A stream of these frames and this rest gives these items.
 pub given_by_frames : (limits : Limits) (stream rest : List ℕ) (items : List Item) → AreFrames limits stream items rest → (p : FrameProgress) × (cut_onward limits (Ok start) stream ≡ (items, Ok p)) × (octets_so_far p ≡ rest) × (cut_onward limits (Ok start) rest).1 ≡ Ok p
 given_by_frames limits stream rest items h =
     let r = run_rest limits rest h.last h.is_rest in (
@@ -25,7 +25,7 @@ given_by_frames limits stream rest items h =
       ap (λ c. c.1) r.1,
     )
 
--- What has come where a line is full, and where LF ends one with a mark of too much.
+-- The progress when a line is full, and when LF ends a line whose mark announces too much.
 at_full_line : (limits : Limits) (rest : List ℕ) (p : FrameProgress) (octet : ℕ) → (cut_onward limits (Ok start) rest).1 ≡ Ok p → octet ≢ 0 → IsFullLine limits rest → after_octet limits p octet ≡ Err LineTooLong
 at_full_line limits rest p octet e h f =
     let k : (cut_onward limits (Ok start) rest).1 ≡ Ok (at_line f.parts f.line) = ap (λ t. (cut_onward limits (Ok start) t).1) f.rest_is ∙ ap (λ c. c.1) (run_to_line limits f.parts f.line f.taken f.open_line) in
@@ -63,7 +63,7 @@ at_fault limits rest p octet LiteralTooLong e h = ap (after_octet limits p) h.0 
 at_fault limits rest p octet NoMemory e h = absurd h
 at_fault limits rest p octet Failed e h = absurd h
 
--- A stream fails where an octet makes a fault.
+-- A stream fails at an octet that makes a fault.
 pub given_by_fault : (limits : Limits) (stream : List ℕ) (items : List Item) (why : FrameFaultKind) → FailsAt limits stream items why → cut_onward limits (Ok start) stream ≡ (items, Err why)
 given_by_fault limits stream items why h =
     let g = given_by_frames limits h.front h.rest items h.before in

@@ -13,7 +13,7 @@ last_of (x ∷ xs) =
       | inr h ↦ inr (x ∷ h.0, h.1, ap (λ t. x ∷ t) h.2)
     ]
 
--- What ends a line.
+-- The octet that ends a line.
 last_octet : (line : List ℕ) (octet : ℕ) → get_or (line ++ octet ∷ []) (length (line ++ octet ∷ []) - 1) 0 ≡ octet
 last_octet line octet = get_or_push line octet 0 (length (line ++ octet ∷ []) - 1) (omega (arith, length_push line octet))
 
@@ -35,7 +35,7 @@ end_parts line octet h =
 end_at : (inside : List ℕ) → is_end (inside ++ 13 ∷ []) 10 ≡ true
 end_at inside = and_from (eqb 10 10) (eqb (get_or (inside ++ 13 ∷ []) (length (inside ++ 13 ∷ []) - 1) 0) 13) refl (eq-eqb (get_or (inside ++ 13 ∷ []) (length (inside ++ 13 ∷ []) - 1) 0) 13 (last_octet inside 13))
 
--- CRLF that doesn't end a text stands in all but its last octet.
+-- If a text's end isn't a CRLF, each CRLF of it is in all but its last octet.
 before_last : (line front back : List ℕ) (octet : ℕ) (last : ℕ) → line ++ octet ∷ [] ≡ front ++ 13 ∷ 10 ∷ (back ++ last ∷ []) → line ≡ front ++ 13 ∷ 10 ∷ back
 before_last line front back octet last e =
     (same_from_push line (front ++ 13 ∷ 10 ∷ back) octet last (e ∙ sym (append_assoc front (13 ∷ 10 ∷ back) (last ∷ [])))).0
@@ -54,7 +54,7 @@ ended_line line inside h e = record {
   ];
 }
 
--- And one with another octet is open still.
+-- An open line with another octet is still open.
 pub open_more : (line : List ℕ) (octet : ℕ) → HasNoCrlf line → is_end line octet ≡ false → HasNoCrlf (line ++ octet ∷ [])
 open_more line octet h goes front back e =
     elim (last_of back) [

@@ -7,18 +7,18 @@ use Rattle.std.proofs.lemmas.Slice.Eq.{bytes_eq-Decides}
 use Rattle.imap_lex.specs.Marks.{AreDigits, IsNumber, IsMarked, IsUnmarked, closing, value_of}
 use Rattle.imap_lex.specs.MarkReading.{closing_at, digits_at, mark_at, mark_behind, mark_of_number, or_else}
 
--- Digits make a number no smaller.
+-- Further digits make a number no smaller.
 pub grows : (n : ℕ) (ds : List ℕ) → n ≤ value_of n ds
 grows n [] = omega arith
 grows n (d ∷ ds) = omega (arith, grows (n * 10 + (d - 48)) ds)
 
--- Where 64 bits don't hold a front of the digits, they don't hold all.
+-- If 64 bits can't hold the number of the first digits, they can't hold that of all.
 pub too_large : (n i v : ℕ) (ds : List ℕ) → i < length ds → (n * 10 + (get_or ds i 0 - 48) < 2 ^ 64 → ⊥) → value_of n (drop i ds) ≡ v → v < 2 ^ 64 → ⊥
 too_large n i v ds h wide e small =
     let step : value_of n (drop i ds) ≡ value_of (n * 10 + (get_or ds i 0 - 48)) (drop (i + 1) ds) = at_drop_more (value_of n) ds i 0 h in
     wide (omega (arith, grows (n * 10 + (get_or ds i 0 - 48)) (drop (i + 1) ds)))
 
--- The digits at the front of a text.
+-- The digits at the beginning of a text.
 digits_taken : (text : List ℕ) → AreDigits (take (digits_at text) text)
 digits_taken [] = tt
 digits_taken (b ∷ bs) =
@@ -65,7 +65,7 @@ numbered_is : (v n : ℕ) (plus : Bool) (o : Option Bool) → mark_of_number v o
 numbered_is v n plus None h = absurd cc
 numbered_is v n plus (Some q) h = let e : ◌≡◌ {A = ℕ × Bool} (v, q) (n, plus) = cc in (ap (λ m. m.0) e, ap (λ m. Some m.1) e)
 
--- The mark behind a brace.
+-- The mark after a brace.
 behind_is : (text : List ℕ) (n : ℕ) (plus : Bool) → mark_behind text ≡ Some (n, plus) → (digits : List ℕ) × IsNumber n digits × (text ≡ digits ++ closing plus)
 behind_is text n plus h =
     elim (cases_Bool (eqb (digits_at text) 0)) [
@@ -106,7 +106,7 @@ behind_found [] n plus h = absurd (h.not_empty refl)
 behind_found (d ∷ ds) n plus h =
     behind_at (d ∷ ds ++ closing plus) (d ∷ ds) n plus refl (digits_before_closing (d ∷ ds) plus h.are_digits) (ne_eqb (length (d ∷ ds)) 0 (λ e. omega arith)) h.value
 
--- No brace stands behind a mark's brace.
+-- No brace comes after the brace of a mark.
 has_brace : List ℕ → Bool
 has_brace [] = false
 has_brace (b ∷ bs) = eqb b 123 || has_brace bs
@@ -151,7 +151,7 @@ mark_is (b ∷ bs) n plus h =
       | inr f ↦ marked_further b bs n plus (mark_is bs n plus (rw f at h))
     ]
 
--- And a line's mark is read.
+-- And the mark of a line is read.
 found_in : (before digits : List ℕ) (n : ℕ) (plus : Bool) → IsNumber n digits → mark_at (before ++ 123 ∷ (digits ++ closing plus)) ≡ Some (n, plus)
 found_in [] digits n plus h = rw (behind_found digits n plus h) refl
 found_in (b ∷ before) digits n plus h =

@@ -19,13 +19,13 @@ use Rattle.imap_lex.proofs.MarkLemmas.{mark_is, unmarked_is}
 use Rattle.imap_lex.proofs.StepLemmas.{announced_of-push, at_line, at_literal, ended, ended_literal, ended_too_long, ended_whole, literal_whole, octets_of-push, outside_of-push, readies-push, ready_is, step_end, step_full, step_line, step_literal, step_nul}
 use Rattle.imap_lex.proofs.RunLemmas.{run_step}
 
--- A rest, with what the framer keeps of it.
+-- A rest, and the framer's progress after it.
 abbrev pub IsKept : Limits → List ℕ → List Item → FrameProgress → Type 0
 IsKept limits rest items p =
     ((o : IsOpenLine limits rest items) × (p ≡ at_line o.parts o.line))
     ⊎ ((o : IsOpenLiteral limits rest items) × (p ≡ at_literal o.parts o.line o.n o.literal))
 
--- A stream that gave these items, with what the framer keeps.
+-- A stream that gave these items, and the framer's progress after it.
 pub record HasRead (limits : Limits) (stream : List ℕ) (items : List Item) (p : FrameProgress) : Type 0 where
   pub commands : List (List ℕ × List Item)
   pub last : List Item
@@ -38,7 +38,8 @@ pub record HasRead (limits : Limits) (stream : List ℕ) (items : List Item) (p 
 flat_map-push : {X A : Type 0} (f : X → List A) (xs : List X) (x : X) → flat_map f (xs ++ x ∷ []) ++ [] ≡ flat_map f xs ++ f x
 flat_map-push f xs x = append-nil (flat_map f (xs ++ x ∷ [])) ∙ flat_map-append f xs (x ∷ []) ∙ ap (λ t. flat_map f xs ++ t) (append-nil (f x))
 
--- What an octet does to a rest: it goes on, a command or a refused front is whole, or there is a fault.
+-- The effect of an octet on a rest: the rest continues, a command or a refused beginning is
+-- complete, or there is a fault.
 pub data Change (limits : Limits) (rest : List ℕ) (items : List Item) (p : FrameProgress) (octet : ℕ) : Type 0 where
   longer : (item : Option Item) (q : FrameProgress) → after_octet limits p octet ≡ Ok (item, q) → IsKept limits (rest ++ octet ∷ []) (items ++ option_to_list item) q → Change limits rest items p octet
   finished : (item : Item) → after_octet limits p octet ≡ Ok (Some item, start) → IsFrame limits (rest ++ octet ∷ []) (items ++ item ∷ []) ⊎ IsRefusedFront limits (rest ++ octet ∷ []) (items ++ item ∷ []) → Change limits rest items p octet
@@ -52,7 +53,7 @@ parts_push : (parts : List Part) (part : Part) → ArePartsOfCommand parts → I
 parts_push [] part h k = (k, tt)
 parts_push (p ∷ ps) part h k = (h.0, parts_push ps part h.1 k)
 
--- One octet more of a line.
+-- One further octet of a line.
 taken_more : (limits : Limits) (parts : List Part) (line : List ℕ) (octet : ℕ) → KeepLimits limits parts line → octet ≢ 0 → octets_outside parts + length line < limits.line → KeepLimits limits parts (line ++ octet ∷ [])
 taken_more limits parts line octet h nul l =
     let n = length_push line octet in
@@ -63,7 +64,7 @@ taken_more limits parts line octet h nul l =
       no_nul = subst HasNoNul (append_assoc (octets_of parts) line (octet ∷ [])) (no_nul_both (octets_of parts ++ line) (octet ∷ []) h.no_nul (nul, tt));
     }
 
--- One part more.
+-- One further part.
 taken_part : (limits : Limits) (parts : List Part) (part : Part) → KeepLimits limits parts part.line → IsPart part → announced_octets parts + length part.literal ≤ limits.literals → HasNoNul part.literal → KeepLimits limits (parts ++ part ∷ []) []
 taken_part limits parts part h is_part fits nul =
     let o = outside_of-push parts part in
@@ -79,7 +80,7 @@ taken_part limits parts part h is_part fits nul =
       no_nul = subst HasNoNul text (no_nul_both (octets_of parts ++ part.line) part.literal h.no_nul nul);
     }
 
--- Behind a line with a mark comes an open literal, or where it is whole an open line.
+-- After a line with a mark comes an open literal, or an open line if the literal is complete.
 literal_kept : (limits : Limits) (parts : List Part) (line : List ℕ) (n : ℕ) (plus : Bool) (literal rest : List ℕ) (items : List Item) → KeepLimits limits parts line → IsLine line → IsMarked n plus line → announced_octets parts + n ≤ limits.literals → length literal ≤ n → HasNoNul literal → rest ≡ octets_of parts ++ (line ++ literal) → items ≡ readies parts ++ ready plus → IsKept limits rest items (at_literal parts line n literal)
 literal_kept limits parts line n plus literal rest items taken ends mark fits l nul e f =
     elim (cases_lt (length literal) n) [
@@ -104,7 +105,7 @@ literal_kept limits parts line n plus literal rest items taken ends mark fits l 
           )
     ]
 
--- LF behind CR.
+-- LF after CR.
 end_change : (limits : Limits) (rest : List ℕ) (items : List Item) (o : IsOpenLine limits rest items) → octets_outside o.parts + length o.line < limits.line → is_end o.line 10 ≡ true → (m : Option (ℕ × Bool)) → mark_at (o.line ++ 10 ∷ []) ≡ m → Change limits rest items (at_line o.parts o.line) 10
 end_change limits rest items o l e m k =
     let s = end_parts o.line 10 e in
@@ -188,7 +189,7 @@ change limits rest items p octet kept =
       ]
     ]
 
--- The same of equal texts.
+-- What was read of a stream was read of an equal stream.
 reread : (limits : Limits) (stream stream' : List ℕ) (items items' : List Item) (p : FrameProgress) → stream' ≡ stream → items' ≡ items → HasRead limits stream items p → HasRead limits stream' items' p
 reread limits stream stream' items items' p e f h =
     record { commands = h.commands; last = h.last; rest = h.rest; are_commands = h.are_commands; kept = h.kept; stream_is = e ∙ h.stream_is; items_are = f ∙ h.items_are }
@@ -219,7 +220,7 @@ commands_push : (limits : Limits) (commands : List (List ℕ × List Item)) (c :
 commands_push limits [] c h k = (k, tt)
 commands_push limits (d ∷ ds) c h k = (h.0, commands_push limits ds c h.1 k)
 
--- Nothing has come.
+-- Nothing was read.
 nothing_kept : (limits : Limits) → IsKept limits [] [] start
 nothing_kept limits = inl (
   record {
@@ -233,7 +234,7 @@ nothing_kept limits = inl (
   refl,
 )
 
--- One octet of a stream: it is read, or makes a fault.
+-- One octet of a stream: either it is read, or it makes a fault.
 abbrev pub ReadsOctet : (limits : Limits) (stream : List ℕ) (items : List Item) (p : FrameProgress) (rest : List ℕ) (octet : ℕ) → Type 0
 ReadsOctet limits stream items p rest octet =
     ((item : Option Item) × (q : FrameProgress) × (after_octet limits p octet ≡ Ok (item, q)) × HasRead limits (stream ++ octet ∷ []) (items ++ option_to_list item) q)
@@ -281,7 +282,7 @@ read_octet limits stream items p octet h =
       | failed why e m ↦ inr (why, e, m)
     ]
 
--- A stretch of a stream: it is read, or an octet of it makes a fault.
+-- Several octets of a stream: either they are read, or one of them makes a fault.
 abbrev pub ReadsStretch : (limits : Limits) (past : List ℕ) (items : List Item) (p : FrameProgress) (octets : List ℕ) → Type 0
 ReadsStretch limits past items p octets =
     ((more : List Item) × (q : FrameProgress) × (cut_onward limits (Ok p) octets ≡ (more, Ok q)) × HasRead limits (past ++ octets) (items ++ more) q)
@@ -350,7 +351,7 @@ frames_by_given limits stream items p e =
           absurd cc
     ]
 
--- What ends in a fault fails at an octet.
+-- A stream that ends in a fault fails at an octet.
 pub fault_by_given : (limits : Limits) (stream : List ℕ) (items : List Item) (why : FrameFaultKind) → cut_onward limits (Ok start) stream ≡ (items, Err why) → FailsAt limits stream items why
 fault_by_given limits stream items why e =
     elim (read_all limits stream) [

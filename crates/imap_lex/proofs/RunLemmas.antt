@@ -14,14 +14,14 @@ use Rattle.imap_lex.proofs.CutLemmas.{goes_on-append}
 use Rattle.imap_lex.proofs.LineLemmas.{line_parts, open_step, no_nul_parts}
 use Rattle.imap_lex.proofs.StepLemmas.{at_line, at_literal, quietly, ended, step_literal, step_line, step_end, ended_whole, ended_too_long, ended_literal, literal_whole, ready_is, outside_of-push, announced_of-push}
 
--- One octet, and what comes behind it.
+-- One octet, and those after it.
 pub run_step : (limits : Limits) (p : FrameProgress) (octet : ℕ) (octets : List ℕ) (o : Outcome) → after_octet limits p octet ≡ o → cut_onward limits (Ok p) (octet ∷ octets) ≡ with_items (cut_of_stream o).0 (cut_onward limits (cut_of_stream o).1 octets)
 run_step limits p octet octets o e = ap (λ o. with_items (cut_of_stream o).0 (cut_onward limits (cut_of_stream o).1 octets)) e
 
 run_last : (limits : Limits) (p : FrameProgress) (octet : ℕ) (o : Outcome) → after_octet limits p octet ≡ o → cut_onward limits (Ok p) (octet ∷ []) ≡ cut_of_stream o
 run_last limits p octet o e = run_step limits p octet [] o e ∙ ap (λ items. (items, (cut_of_stream o).1)) (append-nil (cut_of_stream o).0)
 
--- A stretch that is read to this, and what comes behind it.
+-- Octets that are read to this state, and those after them.
 pub run_on : (limits : Limits) (state : Result FrameProgress FrameFaultKind) (xs ys : List ℕ) (cut : Cut) → cut_onward limits state xs ≡ cut → cut_onward limits state (xs ++ ys) ≡ with_items cut.0 (cut_onward limits cut.1 ys)
 run_on limits state xs ys cut e = goes_on-append limits state xs ys ∙ ap (λ c. with_items c.0 (cut_onward limits c.1 ys)) e
 
@@ -55,7 +55,7 @@ run_literal limits parts line n literal (b ∷ bs) whole e l nul =
     run_step limits (at_literal parts line n literal) b bs (quietly (at_literal parts line n (literal ++ b ∷ []))) (step_literal limits parts line n literal b nul.0 (omega arith))
     ∙ ap (with_items []) (run_literal limits parts line n (literal ++ b ∷ []) bs whole (e ∙ sym (append_assoc literal (b ∷ []) bs)) l nul.1)
 
--- A line with a mark, and so much of its literal.
+-- A line with a mark, and as much of its literal.
 pub run_marked : (limits : Limits) (parts : List Part) (line : List ℕ) (n : ℕ) (plus : Bool) (literal : List ℕ) → IsLine line → IsMarked n plus line → HasNoNul line → HasNoNul literal → octets_outside parts + length line ≤ limits.line → announced_octets parts + n ≤ limits.literals → length literal ≤ n → cut_onward limits (Ok (at_line parts [])) (line ++ literal) ≡ (ready plus, Ok (at_literal parts line n literal))
 run_marked limits parts line n plus literal h m nul nul' l k short =
     let front : cut_onward limits (Ok (at_line parts [])) line ≡ (option_to_list (ready_item plus), Ok (at_literal parts line n [])) =
@@ -84,7 +84,7 @@ run_parts limits done (part ∷ parts) h nul l k =
     ∙ ap (with_items (ready part.plus)) (run_parts limits (done ++ part ∷ []) parts h.1 p.1 (omega arith) (omega arith))
     ∙ ap (λ ps. (readies (part ∷ parts), Ok (at_line ps []))) (append_assoc done (part ∷ []) parts)
 
--- The parts of a command, and what comes behind them.
+-- The parts of a command, and what comes after them.
 pub run_front : (limits : Limits) (parts : List Part) (line behind : List ℕ) → KeepLimits limits parts line → cut_onward limits (Ok start) (octets_of parts ++ behind) ≡ with_items (readies parts) (cut_onward limits (Ok (at_line parts [])) behind)
 run_front limits parts line behind h =
     let p = no_nul_parts (octets_of parts) line h.no_nul in
@@ -92,7 +92,7 @@ run_front limits parts line behind h =
     let a = h.announced in
     run_on limits (Ok start) (octets_of parts) behind (readies parts, Ok (at_line parts [])) (run_parts limits [] parts h.are_parts p.0 (omega arith) (omega arith))
 
--- A command whose last line ends so.
+-- A command whose last line ends like this.
 run_command : (limits : Limits) (parts : List Part) (line : List ℕ) (text : List ℕ) (items : List Item) (last : Item) → KeepLimits limits parts line → IsLine line → text ≡ octets_of parts ++ line → items ≡ readies parts ++ last ∷ [] → ended limits parts line ≡ Ok (Some last, start) → cut_onward limits (Ok start) text ≡ (items, Ok start)
 run_command limits parts line text items last taken h e f g =
     let p = no_nul_parts (octets_of parts) line taken.no_nul in
@@ -129,7 +129,7 @@ run_to_line limits parts line taken h =
     ∙ ap (with_items (readies parts)) (run_open limits parts [] line line refl h p.1 taken.outside)
     ∙ ap (λ all. (all, Ok (at_line parts line))) (append-nil (readies parts))
 
--- A rest, and what has come of it.
+-- A rest, and the progress after it.
 pub run_rest : (limits : Limits) (rest : List ℕ) (items : List Item) → IsRest limits rest items → (p : FrameProgress) × (cut_onward limits (Ok start) rest ≡ (items, Ok p)) × (octets_so_far p ≡ rest)
 run_rest limits rest items h =
     elim h [

@@ -13,21 +13,21 @@ use Rattle.imap_lex.specs.MarkReading.{line_effect_of}
 use Rattle.imap_lex.specs.Framing.{FrameProgress, Outcome, after_octet, after_ending, is_end, with_octet, ready_item}
 use Rattle.imap_lex.proofs.MarkLemmas.{mark_found, unmarked_found}
 
--- Where these parts have come, and this much of a line.
+-- The progress after these parts and this much of a line.
 abbrev pub at_line : List Part → List ℕ → FrameProgress
 at_line parts line =
     record { front = octets_of parts; line = line; outside = octets_outside parts + length line; announced = announced_octets parts; awaited = 0 }
 
--- Where these parts have come, a line with a mark of n octets, and this much of its literal.
+-- The progress after these parts, a line with a mark of n octets, and this much of its literal.
 abbrev pub at_literal : List Part → List ℕ → ℕ → List ℕ → FrameProgress
 at_literal parts line n literal =
     record { front = octets_of parts ++ (line ++ literal); line = []; outside = octets_outside parts + length line; announced = announced_octets parts + n; awaited = n - length literal }
 
--- Nothing is given, and this has come.
+-- No item, and this progress.
 abbrev pub quietly : FrameProgress → Outcome
 quietly p = Ok (None, p)
 
--- One part more.
+-- One further part.
 pub octets_of-push : (parts : List Part) (part : Part) → octets_of (parts ++ part ∷ []) ≡ octets_of parts ++ (part.line ++ part.literal)
 octets_of-push parts part = flat_map-append (λ (p : Part). p.line ++ p.literal) parts (part ∷ []) ∙ ap (λ t. octets_of parts ++ t) (append-nil (part.line ++ part.literal))
 
@@ -40,13 +40,13 @@ announced_of-push parts part = let e : announced_octets (parts ++ part ∷ []) �
 pub readies-push : (parts : List Part) (part : Part) → readies (parts ++ part ∷ []) ≡ readies parts ++ ready part.plus
 readies-push parts part = flat_map-append (λ (p : Part). ready p.plus) parts (part ∷ []) ∙ ap (λ t. readies parts ++ t) (append-nil (ready part.plus))
 
--- One octet more of a line.
+-- One further octet of a line.
 line_more : (parts : List Part) (line : List ℕ) (octet : ℕ) → with_octet (at_line parts line) octet ≡ at_line parts (line ++ octet ∷ [])
 line_more parts line octet =
     let e : octets_outside parts + length line + 1 ≡ octets_outside parts + length (line ++ octet ∷ []) = omega (arith, length_push line octet) in
     λ k. record { front = octets_of parts; line = line ++ octet ∷ []; outside = e k; announced = announced_octets parts; awaited = 0 }
 
--- One octet more of a literal.
+-- One further octet of a literal.
 literal_more : (parts : List Part) (line : List ℕ) (n : ℕ) (literal : List ℕ) (octet : ℕ) → record (at_literal parts line n literal) { front = (octets_of parts ++ (line ++ literal)) ++ octet ∷ []; awaited = n - length literal - 1 } ≡ at_literal parts line n (literal ++ octet ∷ [])
 literal_more parts line n literal octet =
     let e : n - length literal - 1 ≡ n - length (literal ++ octet ∷ []) = omega (arith, length_push literal octet) in
@@ -55,7 +55,7 @@ literal_more parts line n literal octet =
     in
     λ k. record { front = f k; line = []; outside = octets_outside parts + length line; announced = announced_octets parts + n; awaited = e k }
 
--- A literal that is whole makes a part.
+-- A complete literal makes a part.
 pub literal_whole : (parts : List Part) (part : Part) (n : ℕ) → length part.literal ≡ n → at_literal parts part.line n part.literal ≡ at_line (parts ++ part ∷ []) []
 literal_whole parts part n h =
     let e : octets_outside parts + length part.line ≡ octets_outside (parts ++ part ∷ []) + 0 = omega (arith, outside_of-push parts part) in
@@ -64,7 +64,7 @@ literal_whole parts part n h =
     let z : n - length part.literal ≡ 0 = omega arith in
     λ k. record { front = f k; line = []; outside = e k; announced = g k; awaited = z k }
 
--- What each octet brings.
+-- The result of each octet.
 pub step_nul : (limits : Limits) (p : FrameProgress) (octet : ℕ) → octet ≡ 0 → after_octet limits p octet ≡ Err NulByte
 step_nul limits p octet e = rw (eq-eqb octet 0 e) refl
 
@@ -79,7 +79,7 @@ step_line limits parts line octet h l e =
 pub step_full : (limits : Limits) (parts : List Part) (line : List ℕ) (octet : ℕ) → octet ≢ 0 → limits.line ≤ octets_outside parts + length line → after_octet limits (at_line parts line) octet ≡ Err LineTooLong
 step_full limits parts line octet h l = rw (ne_eqb octet 0 h, le-leb limits.line (octets_outside parts + length line) l) refl
 
--- What ends the line of this text brings.
+-- The result of the end of this line.
 abbrev pub ended : Limits → List Part → List ℕ → Outcome
 ended limits parts text = after_ending (at_line parts text) (line_effect_of text (limits.literals - announced_octets parts))
 

@@ -1,3 +1,5 @@
+-- The commands of a stream, and the octet that makes a fault (RFC 9051, sections 2.2 and 4.3).
+
 use Rattle.std.specs.Prelude.{◌≡◌, ◌≢◌, ℕ, ◌+◌, ◌<◌, ◌≤◌, Bool, true, false, List, [], ◌∷◌, ◌++◌, ◌⊎◌, length, sum_by}
 use Rattle.std.specs.List.{flat_map}
 use Rattle.imap_lex.specs.declared.fault.FrameFaultKind.{FrameFaultKind}
@@ -7,11 +9,12 @@ use Rattle.imap_lex.specs.declared.item.Item.TheVariants.{Ready, Frame, Refused}
 use Rattle.imap_lex.specs.declared.limits.Limits.{Limits}
 use Rattle.imap_lex.specs.Marks.{crlf, IsMarked, IsUnmarked}
 
--- CRLF stands nowhere in the text.
+-- The text has no CRLF.
 abbrev pub HasNoCrlf : List ℕ → Type 0
 HasNoCrlf text = (front back : List ℕ) → text ≢ front ++ 13 ∷ 10 ∷ back
 
--- A line: it ends with CRLF, which stands nowhere before its end. So it is the shortest front of a text that ends so.
+-- A line: it ends with CRLF, and has no CRLF before its end. So it is the shortest beginning of a
+-- text that ends so.
 pub record IsLine (text : List ℕ) : Type 0 where
   pub inside : List ℕ
   pub ends : text ≡ inside ++ crlf
@@ -33,33 +36,34 @@ pub record IsPart (part : Part) : Type 0 where
   pub line : IsLine part.line
   pub mark : IsMarked (length part.literal) part.plus part.line
 
--- Each of them is a part.
+-- All of these are parts.
 abbrev pub ArePartsOfCommand : List Part → Type 0
 ArePartsOfCommand [] = Unit {0}
 ArePartsOfCommand (part ∷ parts) = IsPart part × ArePartsOfCommand parts
 
--- Their octets, one part behind the other.
+-- The octets of parts, one part after another.
 abbrev pub octets_of : List Part → List ℕ
 octets_of parts = flat_map (λ part. part.line ++ part.literal) parts
 
--- How many of them stand outside literals.
+-- How many of these octets are outside literals.
 abbrev pub octets_outside : List Part → ℕ
 octets_outside parts = sum_by (λ part. length part.line) parts
 
--- How many of them stand in literals.
+-- How many of these octets are in literals.
 abbrev pub announced_octets : List Part → ℕ
 announced_octets parts = sum_by (λ part. length part.literal) parts
 
--- Behind a mark `{n}` the client waits for leave to go on; behind `{n+}` it doesn't (RFC 9051, section 4.3).
+-- After a mark `{n}` the client waits until the server is ready; after `{n+}` it doesn't (RFC 9051,
+-- section 4.3).
 abbrev pub ready : Bool → List Item
 ready true = []
 ready false = Ready ∷ []
 
--- The items of some parts.
+-- The items of these parts.
 abbrev pub readies : List Part → List Item
 readies parts = flat_map (λ part. ready part.plus) parts
 
--- Parts and a line behind them that keep the limits and have no NUL.
+-- Parts and a line after them, within the limits and without NUL.
 pub record KeepLimits (limits : Limits) (parts : List Part) (line : List ℕ) : Type 0 where
   pub are_parts : ArePartsOfCommand parts
   pub outside : octets_outside parts + length line ≤ limits.line
@@ -76,7 +80,7 @@ pub record IsFrame (limits : Limits) (text : List ℕ) (items : List Item) : Typ
   pub text_is : text ≡ octets_of parts ++ line
   pub items_are : items ≡ readies parts ++ Frame text ∷ []
 
--- A front of a command whose last mark `{n}` announces more than the limit leaves.
+-- The beginning of a command, whose last mark `{n}` announces more than the limit leaves.
 pub record IsRefusedFront (limits : Limits) (text : List ℕ) (items : List Item) : Type 0 where
   pub parts : List Part
   pub line : List ℕ
@@ -97,7 +101,7 @@ pub record IsOpenLine (limits : Limits) (text : List ℕ) (items : List Item) : 
   pub text_is : text ≡ octets_of parts ++ line
   pub items_are : items ≡ readies parts
 
--- Less than a command: parts, a line with a mark, and less than the mark announces.
+-- Less than a command: parts, a line with a mark, and fewer octets than the mark announces.
 pub record IsOpenLiteral (limits : Limits) (text : List ℕ) (items : List Item) : Type 0 where
   pub parts : List Part
   pub line : List ℕ
@@ -113,17 +117,17 @@ pub record IsOpenLiteral (limits : Limits) (text : List ℕ) (items : List Item)
   pub text_is : text ≡ octets_of parts ++ (line ++ literal)
   pub items_are : items ≡ readies parts ++ ready plus
 
--- What a stream has behind its last whole command, and the items that it gives so far.
+-- What a stream has after its last whole command, and the items that this gives so far.
 abbrev pub IsRest : Limits → List ℕ → List Item → Type 0
 IsRest limits text items = IsOpenLine limits text items ⊎ IsOpenLiteral limits text items
 
--- Commands and refused fronts, each with the items that it gives.
+-- Commands and refused beginnings of commands, each with the items that it gives.
 abbrev pub AreCommands : Limits → List (List ℕ × List Item) → Type 0
 AreCommands limits [] = Unit {0}
 AreCommands limits (c ∷ cs) = (IsFrame limits c.0 c.1 ⊎ IsRefusedFront limits c.0 c.1) × AreCommands limits cs
 
--- The stream is commands and refused fronts, one behind the other, and a rest that is less than a command; and these are
--- the items that they give.
+-- The stream is made of commands and refused beginnings, one after another, and a rest that is less
+-- than a command; these are the items that they give.
 pub record AreFrames (limits : Limits) (stream : List ℕ) (items : List Item) (rest : List ℕ) : Type 0 where
   pub commands : List (List ℕ × List Item)
   pub last : List Item
@@ -132,7 +136,7 @@ pub record AreFrames (limits : Limits) (stream : List ℕ) (items : List Item) (
   pub stream_is : stream ≡ flat_map (λ c. c.0) commands ++ rest
   pub items_are : items ≡ flat_map (λ c. c.1) commands ++ last
 
--- Behind this rest the next octet is one more than the limit of those outside literals.
+-- After this rest, the next octet is one more than the limit outside literals.
 pub record IsFullLine (limits : Limits) (rest : List ℕ) : Type 0 where
   pub parts : List Part
   pub line : List ℕ
@@ -141,7 +145,7 @@ pub record IsFullLine (limits : Limits) (rest : List ℕ) : Type 0 where
   pub full : octets_outside parts + length line ≡ limits.line
   pub rest_is : rest ≡ octets_of parts ++ line
 
--- Behind this rest LF ends a line with a mark `{n+}` that announces more than the limit leaves.
+-- After this rest, LF ends a line with a mark `{n+}` that announces more than the limit leaves.
 pub record IsTooLongAtLf (limits : Limits) (rest : List ℕ) : Type 0 where
   pub parts : List Part
   pub line : List ℕ
@@ -152,7 +156,7 @@ pub record IsTooLongAtLf (limits : Limits) (rest : List ℕ) : Type 0 where
   pub too_long : limits.literals < announced_octets parts + n
   pub rest_is : rest ≡ octets_of parts ++ line
 
--- The octet makes this fault behind this rest.
+-- The octet makes this fault after this rest.
 abbrev pub MakesFault : Limits → List ℕ → ℕ → FrameFaultKind → Type 0
 MakesFault limits rest octet NulByte = octet ≡ 0
 MakesFault limits rest octet LineTooLong = (octet ≢ 0) × IsFullLine limits rest
@@ -160,7 +164,7 @@ MakesFault limits rest octet LiteralTooLong = (octet ≡ 10) × IsTooLongAtLf li
 MakesFault limits rest octet NoMemory = ⊥
 MakesFault limits rest octet Failed = ⊥
 
--- The stream's first octet that makes a fault makes this one; these are the items before it.
+-- The first octet of the stream that makes a fault makes this one; the items are those before it.
 pub record FailsAt (limits : Limits) (stream : List ℕ) (items : List Item) (why : FrameFaultKind) : Type 0 where
   pub front : List ℕ
   pub octet : ℕ

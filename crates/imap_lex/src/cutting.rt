@@ -1,4 +1,4 @@
-//! Takes a piece of input.
+//! Reading a piece of input into items.
 
 ghost use Rattle.std.specs.Prelude.{◌≡◌, ◌<◌, length, IfOk, OnOk, IfErr, Ok};
 ghost use Rattle.std.specs.List.{prefix_len};
@@ -10,8 +10,9 @@ use crate::limits::Limits;
 use crate::progress::FrameProgress;
 use std::alloc::Global;
 
-/// Takes a piece of the stream, and appends the items that it completes. Behind an `Err` the items before the fault are
-/// there (with `NoMemory` some of them), and the progress is of no further use.
+/// Reads a piece of the stream, and appends the items that it completes. After an `Err` the items
+/// before the fault have been appended (with `NoMemory`, some of them), and the progress can't be
+/// used.
 pub(crate) fn cut_piece(
     alloc: Global,
     limits: Limits,
@@ -29,8 +30,8 @@ pub(crate) fn cut_piece(
     Ok(())
 }
 
-/// Takes the front of a piece, and gives what stands behind it: as much of a literal
-/// as there is, or of a line up to an LF or NUL, or else one octet.
+/// Reads the beginning of a piece, and returns the rest: as much of a literal as the piece has, or
+/// of a line up to LF, NUL or the limit, or else one octet.
 fn cut_front<'a>(
     alloc: Global,
     limits: Limits,
@@ -62,7 +63,7 @@ fn cut_front<'a>(
     Ok(&piece[1..])
 }
 
-/// How many octets stand before the first LF or NUL.
+/// The number of octets before the first LF or NUL.
 fn count_inside(octets: &[u8]) -> usize
     ensures { result ≡ prefix_len is_inside octets.now }
 {

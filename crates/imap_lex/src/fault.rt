@@ -1,4 +1,4 @@
-//! Why a connection's octets can't be cut any further.
+//! Why no further commands can be read from a connection.
 
 ghost use Rattle.std.specs.Prelude.{◌≡◌};
 
@@ -6,33 +6,34 @@ use crate::item::Item;
 use std::alloc::{AllocError, AllocFailed};
 use thiserror::Error;
 
-/// Why the framer failed. It answers `Failed` from then on.
+/// Why the framer failed. Every later call returns `Failed`.
 #[derive(Clone, Copy, Debug, PartialEq, Eq, Error)]
 pub enum FrameFaultKind {
-    /// A command has more octets outside its literals than the limit.
+    /// A command has more octets outside its literals than the limit allows.
     #[error("line too long")]
     LineTooLong,
     /// A mark `{n+}` announces more octets than the limit leaves.
     #[error("literal too long")]
     LiteralTooLong,
-    /// An octet is NUL, also within a literal (RFC 9051, section 9: neither `CHAR` nor `CHAR8` has it).
+    /// An octet is NUL, even within a literal (RFC 9051, section 9: neither `CHAR` nor `CHAR8`
+    /// includes it).
     #[error("NUL octet")]
     NulByte,
-    /// There was no memory for an octet or an item.
+    /// Memory ran out for an octet or an item.
     #[error("no memory")]
     NoMemory,
-    /// The framer failed earlier.
+    /// The framer failed in an earlier call.
     #[error("failed earlier")]
     Failed,
 }
 
-/// A fault, with the items that came before it in the same piece of input.
+/// A fault, and the items that came before it in the same piece of input.
 #[derive(Drop, Debug)]
 pub struct FrameFault {
-    /// The items before the fault. With `NoMemory` some of the first ones that the piece completes: memory may run out at any of its
-    /// octets.
+    /// The items before the fault. With `NoMemory`, the first items that the piece completes,
+    /// possibly not all: memory may run out at any octet.
     pub items: Vec<Item>,
-    /// Which fault.
+    /// Which fault it is.
     pub why: FrameFaultKind,
 }
 

@@ -1,4 +1,4 @@
-//! The framer of one connection.
+//! The framer of a connection.
 
 ghost use Rattle.std.specs.Prelude.{◌≡◌, OnOk, IfOk, IfErr, IsOk, Ok};
 
@@ -10,8 +10,8 @@ use crate::progress::FrameProgress;
 use std::alloc::Global;
 use std::marker::Model;
 
-/// Cuts the octets of a connection into commands, however they arrive (RFC 9051, section 2.2.2). CRLF alone ends a line; a
-/// CR or LF by itself is an ordinary octet.
+/// Reads the octets of a connection as commands, in whatever pieces they arrive (RFC 9051, section
+/// 2.2.2). Only CRLF ends a line; a CR or LF by itself is an ordinary octet.
 #[derive(Drop)]
 pub struct Framer {
     limits: Limits,
@@ -41,13 +41,15 @@ impl Framer {
         }
     }
 
-    /// Takes the next octets of the stream, and gives what they complete. Its time and memory are in proportion to the
-    /// piece and to what it holds of a command, never to what a mark announces.
+    /// Reads the next octets of the stream, and returns the items that they complete. Its time and
+    /// memory are proportional to the piece and to what has been read of a command, never to what a
+    /// mark announces.
     ///
-    /// The first octet that makes a fault decides: a NUL (`NulByte`), the first octet outside literals past the limit
-    /// (`LineTooLong`), the LF behind a mark `{n+}` that passes the limit of literals (`LiteralTooLong`). Where memory runs
-    /// out, it is `NoMemory`. Each of them comes with the items before it (`NoMemory` with some of the first that the piece
-    /// completes), and every later call answers `Failed`.
+    /// The first octet that makes a fault decides which one it is: a NUL (`NulByte`), the first
+    /// octet outside literals past the limit (`LineTooLong`), or the LF after a mark `{n+}` that
+    /// passes the limit of literals (`LiteralTooLong`). If memory runs out the fault is `NoMemory`.
+    /// Each fault carries the items before it (`NoMemory` the first of them, possibly not all), and
+    /// every later call returns `Failed`.
     pub fn feed(&mut self, alloc: Global, piece: &[u8]) -> Result<Vec<Item>, FrameFault>
         ensures limits { self.new.limits ≡ self.old.limits }
         ensures ok { IfOk result (λ items. cut_onward self.old.limits self.old.state piece.now ≡ (items.items, self.new.state)) }

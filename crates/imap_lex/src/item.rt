@@ -1,10 +1,11 @@
-//! What the framer gives.
+//! The items that the framer returns.
 
 ghost use Rattle.std.specs.Prelude.{◌≡◌};
 
 use std::marker::Model;
 
-/// The octets of one command, or of a refused front of one: its lines with their CRLFs, and its literals.
+/// The octets of a command, or of the refused beginning of one: its lines with their CRLFs, and its
+/// literals.
 #[derive(Drop, Debug)]
 pub struct Frame {
     octets: Vec<u8>,
@@ -19,7 +20,7 @@ impl Model for Frame {
 }
 
 impl Frame {
-    /// The frame of these octets, whose memory it takes over.
+    /// The frame of these octets, in the vector's memory.
     pub fn new(octets: Vec<u8>) -> Frame
         ensures { result ≡ octets.items }
     {
@@ -42,14 +43,14 @@ impl Frame {
     }
 }
 
-/// One thing that a stream of commands gives.
+/// What a stream of commands gives, one after another.
 #[derive(Drop, Debug)]
 pub enum Item {
-    /// The client waits behind a mark `{n}`: `+ ready` is to be sent (RFC 9051, section 4.3).
+    /// The client waits after a mark `{n}`: `+ ready` is to be sent (RFC 9051, section 4.3).
     Ready,
     /// A whole command.
     Frame(Frame),
-    /// A literal `{n}` would pass the limit: the command so far, with the mark and its CRLF. It is dropped, and the next
-    /// command begins behind it.
+    /// A literal `{n}` would pass the limit: the command up to the mark and its CRLF. It is
+    /// dropped, and the next command begins after it.
     Refused(Frame),
 }

@@ -6,12 +6,12 @@ ghost use Rattle.std.specs.List.{prefix_len};
 ghost use Rattle.imap_lex.specs.Marks.{value_of};
 ghost use Rattle.imap_lex.specs.MarkReading.{closing_at, fit_to_limit, mark_behind, mark_at, line_effect_of};
 
-/// What the end of a line brings.
+/// What the end of a line means.
 #[derive(Clone, Copy)]
 pub(crate) enum LineEffect {
-    /// No mark: the command is whole.
+    /// The line has no mark: the command is complete.
     Whole,
-    /// A literal of so many octets; with `plus` the client sends it at once.
+    /// A literal of `octets` octets follows; with `plus` the client sends it at once.
     Literal { octets: usize, plus: bool },
     /// The mark of a literal that passes the limit.
     TooLong { plus: bool },
@@ -20,12 +20,12 @@ pub(crate) enum LineEffect {
 /// A mark `{n}` or, with `plus`, `{n+}`.
 #[derive(Clone, Copy)]
 struct Mark {
-    /// n, where a `usize` holds it.
+    /// The number of octets, if it fits into a `usize`.
     octets: Option<usize>,
     plus: bool,
 }
 
-/// What the end of this line brings, where literals may have `room` octets more.
+/// What the end of this line means, if literals may have `room` further octets.
 pub(crate) fn read_line_effect(line: &[u8], room: usize) -> LineEffect
     ensures { result ≡ line_effect_of line.now room }
 {
@@ -45,7 +45,8 @@ pub(crate) fn read_line_effect(line: &[u8], room: usize) -> LineEffect
     }
 }
 
-/// The mark at the line's end: the first brace that opens one, since none stands within a mark.
+/// The mark at the line's end: the first brace that begins one decides, since a mark has no brace
+/// inside.
 fn read_mark(line: &[u8]) -> Option<Mark>
     ensures { result ≡ fit_to_limit (mark_at line.now) }
 {
@@ -61,7 +62,7 @@ fn read_mark(line: &[u8]) -> Option<Mark>
     None
 }
 
-/// The mark whose brace stands before this text.
+/// The mark whose opening brace comes just before this text.
 fn read_mark_behind(text: &[u8]) -> Option<Mark>
     ensures { result ≡ fit_to_limit (mark_behind text.now) }
 {
@@ -77,7 +78,7 @@ fn read_mark_behind(text: &[u8]) -> Option<Mark>
     })
 }
 
-/// Whether a mark that is closed so has its `+`.
+/// Whether the mark that these octets close has a `+`; `None` if they don't close a mark.
 fn closing_plus(closing: &[u8]) -> Option<bool>
     ensures { result ≡ closing_at closing.now }
 {
@@ -90,7 +91,7 @@ fn closing_plus(closing: &[u8]) -> Option<bool>
     }
 }
 
-/// How many digits stand at the front of a text.
+/// The number of digits at the beginning of a text.
 fn count_digits(text: &[u8]) -> usize
     ensures { result ≡ prefix_len is_ascii_digit text.now }
 {
@@ -99,7 +100,7 @@ fn count_digits(text: &[u8]) -> usize
         .count()
 }
 
-/// The number that digits spell, where a `usize` holds it. It may have leading zeros.
+/// The number that digits write, if it fits into a `usize`. It may have leading zeros.
 fn number(digits: &[u8]) -> Option<usize>
     ensures { SomeIff result (value_of 0 digits.now < 2 ^ 64) (value_of 0 digits.now) }
 {
@@ -110,7 +111,7 @@ fn number(digits: &[u8]) -> Option<usize>
     Some(number)
 }
 
-/// The number with one digit more behind it.
+/// The number with a further digit after it.
 fn with_digit(number: usize, digit: u8) -> Option<usize>
     ensures { SomeIff result (number * 10 + (digit - 48) < 2 ^ 64) (number * 10 + (digit - 48)) }
 {

@@ -1,4 +1,4 @@
-//! What has come of the next command.
+//! What was read of the next command.
 
 ghost use Rattle.std.specs.Prelude.{◌≡◌, ◌⊎◌, ◌+◌, ◌-◌, ◌^◌, ◌<◌, ◌≤◌, ◌++◌, true, false, length, IfOk, IfErr, OnOk, Ok, Err};
 ghost use Rattle.imap_lex.specs.declared.fault.FrameFaultKind.TheVariants.{NoMemory, NulByte};
@@ -11,18 +11,18 @@ use std::alloc::Global;
 use std::marker::Model;
 use std::mem;
 
-/// What has come of the next command.
+/// What was read of the next command.
 #[derive(Drop)]
 pub(crate) struct FrameProgress {
     /// Its lines that ended with a mark, with the octets of their literals.
     front: Vec<u8>,
-    /// The octets behind them, of a line that hasn't ended.
+    /// The octets after these, of a line that hasn't ended.
     line: Vec<u8>,
-    /// How many octets stand outside literals.
+    /// The number of octets outside literals.
     outside: usize,
-    /// How many octets the marks announced.
+    /// The number of octets that the marks announced.
     announced: usize,
-    /// How many of those are still to come.
+    /// How many of the announced octets haven't been read.
     awaited: usize,
 }
 
@@ -38,7 +38,7 @@ impl FrameProgress {
     ghost use Rattle.imap_lex.specs.MarkReading.{line_effect_of};
     ghost use Rattle.imap_lex.specs.Framing.{start, has_nul, after_literal, after_octet, after_line_octet, after_ending, with_octets};
 
-    /// Nothing has come.
+    /// Nothing was read.
     pub(crate) fn new(alloc: Global) -> FrameProgress
         ensures { result ≡ start }
     {
@@ -51,14 +51,14 @@ impl FrameProgress {
         }
     }
 
-    /// How many octets of a literal are still to come.
+    /// How many octets of a literal haven't been read.
     pub(crate) fn awaited_octets(&self) -> usize
         ensures { result ≡ self.now.awaited }
     {
         self.awaited
     }
 
-    /// Takes the next octets of a literal, all at once. Behind an `Err` it is of no further use.
+    /// Takes the next octets of a literal, all at once. After an `Err` the progress can't be used.
     pub(crate) fn take_literal(&mut self, octets: &[u8]) -> Result<(), FrameFaultKind>
         requires { length octets.now ≤ self.old.awaited }
         ensures ok { OnOk result ((has_nul octets.now ≡ false) × (self.new ≡ after_literal self.old octets.now)) }
@@ -72,14 +72,15 @@ impl FrameProgress {
         Ok(())
     }
 
-    /// How many more octets may stand outside literals.
+    /// How many further octets may be outside literals.
     pub(crate) fn room(&self, limits: Limits) -> usize
         ensures { result ≡ limits.line - self.now.outside }
     {
         limits.line.saturating_sub(self.outside)
     }
 
-    /// Takes octets of a line, none of which ends it, all at once. Behind an `Err` it is of no further use.
+    /// Takes octets of a line, none of which ends it, all at once. After an `Err` the progress
+    /// can't be used.
     pub(crate) fn take_inside(&mut self, octets: &[u8]) -> Result<(), FrameFaultKind>
         requires { self.old.outside + length octets.now < 2 ^ 64 }
         ensures ok { OnOk result (self.new ≡ with_octets self.old octets.now) }
@@ -90,7 +91,8 @@ impl FrameProgress {
         Ok(())
     }
 
-    /// Takes the next octet of a line, and gives the item that it completes. Behind an `Err` it is of no further use.
+    /// Takes the next octet of a line, and returns the item that it completes, if any. After an
+    /// `Err` the progress can't be used.
     pub(crate) fn take(
         &mut self,
         alloc: Global,
@@ -107,7 +109,7 @@ impl FrameProgress {
         self.take_line_octet(alloc, limits, octet)
     }
 
-    /// Takes an octet of a line that is no NUL.
+    /// Takes an octet of a line other than NUL.
     fn take_line_octet(
         &mut self,
         alloc: Global,
@@ -129,7 +131,7 @@ impl FrameProgress {
         Ok(None)
     }
 
-    /// Ends the line that has come, whose last octets are CRLF.
+    /// Ends the line that was read, whose last octets are CRLF.
     fn end_line(&mut self, alloc: Global, limits: Limits) -> Result<Option<Item>, FrameFaultKind>
         ensures ok { IfOk result (λ item. after_ending self.old (line_effect_of self.old.line (limits.literals - self.old.announced)) ≡ Ok (item, self.new)) }
         ensures err { IfErr result (λ why. (why ≡ NoMemory) ⊎ (after_ending self.old (line_effect_of self.old.line (limits.literals - self.old.announced)) ≡ Err why)) }
@@ -152,7 +154,7 @@ impl FrameProgress {
         }
     }
 
-    /// Gives the octets that have come, and begins anew.
+    /// Returns the octets that were read, and starts with the next command.
     fn finish(&mut self, alloc: Global) -> Result<Frame, FrameFaultKind>
         ensures ok { IfOk result (λ frame. (frame ≡ self.old.front ++ self.old.line) × (self.new ≡ start)) }
         ensures err { IfErr result (λ why. why ≡ NoMemory) }
