@@ -51,6 +51,6 @@ unfolding key_within
 within-key zero steps text h = over-key (λ steps. never) never-key steps text h
 within-key (suc levels) steps text h = over-key (key_within levels) (within-key levels) steps text h
 
--- what SEARCH spells are the steps of a key
+-- the steps that a frame of SEARCH spells are those of a key
 pub search-key : (steps : List SearchStep) (text : List ℕ) → search_keys steps text → IsKey steps
 search-key steps text h = subst IsKey h.2 (all_of-key (key_within 64) (within-key 64) h.0 text h.1)

@@ -1,3 +1,6 @@
+-- Which frame spells which command (RFC 9051, sections 6 and 9; RFC 7162, section 7; RFC 2177,
+-- section 3).
+
 use Rattle.std.specs.Prelude.{ℕ, Bool, true, false, List, codes, ◌++◌, ◌∷◌, [], ◌⊎◌}
 use Rattle.imap_syntax.specs.Keys.{charset, return_options, search_keys}
 use Rattle.imap_syntax.specs.Languages.{◌⌢◌, nothing, sp, crlf, word, in_parens, listed, optional}
@@ -15,12 +18,12 @@ use Rattle.imap_syntax.specs.declared.status.StatusItem.{StatusItem}
 use Rattle.imap_syntax.specs.declared.word.CommandWord.{CommandWord}
 use Rattle.imap_syntax.specs.declared.word.CommandWord.TheVariants as words
 
--- The word in front, which is UID where the command takes UIDs (RFC 9051, section 6.4.9).
+-- The first word of a command: UID if the command takes UIDs (RFC 9051, section 6.4.9).
 abbrev pub first_word : Bool → CommandWord → CommandWord
 first_word true own = words.Uid
 first_word false own = own
 
--- Behind UID the command's own word.
+-- After UID, the command's own word.
 abbrev pub own_word : Bool → CommandWord → List ℕ → Type 0
 own_word true own = sp ⌢ word (command_word own)
 own_word false own = nothing
@@ -58,21 +61,23 @@ abbrev pub condstore_parameter : Bool → List ℕ → Type 0
 condstore_parameter true = sp ⌢ in_parens (word (codes "CONDSTORE"))
 condstore_parameter false = nothing
 
--- What STATUS asks (RFC 9051, section 9, status-att).
+-- An item of STATUS (RFC 9051, section 9, status-att).
 abbrev pub status_item : StatusItem → List ℕ → Type 0
 status_item item = word (status_word item)
 
--- The option SUBSCRIBED, or none, between parentheses (RFC 9051, section 9, list-select-opts and list-return-opts).
+-- The option SUBSCRIBED, or none, between parentheses (RFC 9051, section 9, list-select-opts and
+-- list-return-opts).
 abbrev pub options : Bool → List ℕ → Type 0
 options true = in_parens (word (codes "SUBSCRIBED"))
 options false = in_parens nothing
 
--- What LIST selects: the option and a space. None may be left out whole.
+-- The selection of LIST: the option and a space. If there is no option, all of it may be missing.
 abbrev pub selection : Bool → List ℕ → Type 0
 selection true text = (options true ⌢ sp) text
 selection false text = nothing text ⊎ (options false ⌢ sp) text
 
--- What LIST returns: RETURN and the option. None may be left out whole.
+-- The return options of LIST: RETURN and the option. If there is no option, all of it may be
+-- missing.
 abbrev pub returns : Bool → List ℕ → Type 0
 returns true text = (sp ⌢ word (codes "RETURN") ⌢ sp ⌢ options true) text
 returns false text = nothing text ⊎ (sp ⌢ word (codes "RETURN") ⌢ sp ⌢ options false) text
@@ -81,7 +86,7 @@ returns false text = nothing text ⊎ (sp ⌢ word (codes "RETURN") ⌢ sp ⌢ o
 abbrev pub modifier : List ℕ → ℕ → List ℕ → Type 0
 modifier letters value = in_parens (word letters ⌢ sp ⌢ number_to 9223372036854775807 value)
 
--- What each command has behind its word.
+-- The arguments of each command, after its word.
 abbrev pub arguments : Command → List ℕ → Type 0
 -- RFC 9051, section 6.1.1
 arguments commands.Capability = nothing

@@ -1,3 +1,6 @@
+-- The dates of commands: date-times of APPEND and days of SEARCH (RFC 9051, section 9, date-time
+-- and date).
+
 use Rattle.std.specs.Prelude.{codes, ◌≡◌, ◌⊎◌, ℕ, ◌≤◌, List, ◌∷◌, length, pos}
 use Rattle.jiff.specs.Words.{IsDate}
 use Rattle.imap_types.specs.DateTimes.{IsDateTime, month_of}
@@ -5,12 +8,13 @@ use Rattle.imap_types.specs.declared.day.Day.{Day}
 use Rattle.imap_syntax.specs.Languages.{◌⌢◌, exactly}
 use Rattle.imap_syntax.specs.Strings.{number_to}
 
--- A date-time as it is written: with a digit first, or with a space for a zero there (RFC 9051, section 9, date-time).
+-- A date-time as it is written: with two digits of the day, or with a space in place of a leading
+-- zero (RFC 9051, section 9, date-time).
 abbrev pub date_time : List ℕ → List ℕ → Type 0
 date_time value text =
     IsDateTime value × ((text ≡ value) ⊎ ((rest : List ℕ) × (value ≡ 34 ∷ 48 ∷ rest) × (text ≡ 34 ∷ 32 ∷ rest)))
 
--- A number up to a limit in at least and at most so many digits.
+-- A number up to `limit`, in `least` to `most` digits.
 abbrev pub digits_to : ℕ → ℕ → ℕ → ℕ → List ℕ → Type 0
 digits_to least most limit value text = number_to limit value text × (least ≤ length text) × (length text ≤ most)
 
@@ -34,11 +38,11 @@ hyphen = exactly (codes "-")
 abbrev pub quote : List ℕ → Type 0
 quote = exactly (codes "\"")
 
--- A day that the calendar has, as `d-Mon-yyyy` (RFC 9051, section 9, date-text).
+-- A day that exists, as `d-Mon-yyyy` (RFC 9051, section 9, date-text).
 abbrev pub date_text : Day → List ℕ → Type 0
 date_text this text =
     (day_of_month this.day ⌢ hyphen ⌢ month_name this.month ⌢ hyphen ⌢ year_number this.year) text × IsDate (pos this.year) (pos this.month) (pos this.day)
 
--- The same, with quotes or without (RFC 9051, section 9, date).
+-- A day that exists, with or without quotes (RFC 9051, section 9, date).
 abbrev pub date : Day → List ℕ → Type 0
 date this text = date_text this text ⊎ (quote ⌢ date_text this ⌢ quote) text

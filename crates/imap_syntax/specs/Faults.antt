@@ -1,3 +1,6 @@
+-- When a frame has a tag, and when it names a command: what the faults of frames depend on (RFC
+-- 9051, section 9, command).
+
 use Rattle.std.specs.Prelude.{◌≡◌, ℕ, Bool, false, List, [], ◌∷◌, ◌++◌, IsTrue}
 use Rattle.std.specs.List.{list_all}
 use Rattle.imap_syntax.specs.Languages.{word}
@@ -7,7 +10,7 @@ use Rattle.imap_syntax.specs.declared.octet_class.OctetClass.{OctetClass}
 use Rattle.imap_syntax.specs.declared.octet_class.OctetClass.TheVariants.{Tag, Atom}
 use Rattle.imap_syntax.specs.declared.word.CommandWord.{CommandWord}
 
--- A frame is a tag, a space and this rest.
+-- A frame is this tag, a space and this rest.
 abbrev pub IsTagged : List ℕ → List ℕ → List ℕ → Type 0
 IsTagged frame tag rest = run Tag tag tag × (frame ≡ tag ++ 32 ∷ rest)
 
@@ -20,7 +23,8 @@ abbrev pub begins_in : OctetClass → List ℕ → Bool
 begins_in class [] = false
 begins_in class (octet ∷ octets) = is_in class octet
 
--- The atom octets behind the tag are the word of a command, in any case: one of this grammar, or one that it leaves out.
+-- The atom octets after the tag are the word of a command in any case: one of this grammar, or one
+-- that it leaves out.
 abbrev pub NamesCommand : List ℕ → Type 0
 NamesCommand frame =
     (tag letters rest : List ℕ) × (named : CommandWord) × IsTagged frame tag (letters ++ rest)

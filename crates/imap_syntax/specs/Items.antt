@@ -1,3 +1,5 @@
+-- Items of FETCH, and the sections that they name (RFC 9051, section 9, fetch and section).
+
 use Rattle.std.specs.Prelude.{◌≡◌, ◌⊎◌, ℕ, Bool, true, false, List, [], ◌∷◌, codes, Option, Some, None}
 use Rattle.imap_types.specs.declared.section.Section.{Section}
 use Rattle.imap_types.specs.declared.section.Section.TheVariants.{Whole, Header, Text, Fields, FieldsNot}
@@ -28,7 +30,7 @@ abbrev pub partial : Option Partial → List ℕ → Type 0
 partial None = nothing
 partial (Some this) = exactly (codes "<") ⌢ number_to 4294967295 this.start ⌢ exactly (codes ".") ⌢ nz this.count ⌢ exactly (codes ">")
 
--- The word of each item.
+-- The word of an item for a section; BODY.PEEK if it peeks (RFC 9051, section 9, fetch-att).
 abbrev pub body_word : Bool → FetchWord
 body_word true = words.BodyPeek
 body_word false = words.Body
@@ -41,7 +43,7 @@ item_word items.Uid = words.Uid
 item_word items.ModSeq = words.ModSeq
 item_word (items.Body peek this_section this_partial) = body_word peek
 
--- What each item has behind its word.
+-- What follows the word of each item.
 abbrev pub item_behind : FetchItem → List ℕ → Type 0
 item_behind items.Flags = nothing
 item_behind items.InternalDate = nothing
@@ -50,11 +52,11 @@ item_behind items.Uid = nothing
 item_behind items.ModSeq = nothing
 item_behind (items.Body peek this_section this_partial) = (exactly (codes "[") ⌢ section this_section ⌢ exactly (codes "]")) ⌢ partial this_partial
 
--- What FETCH asks (RFC 9051, section 9, fetch-att).
+-- An item of FETCH (RFC 9051, section 9, fetch-att).
 abbrev pub fetch_item : FetchItem → List ℕ → Type 0
 fetch_item item = word (fetch_word (item_word item)) ⌢ item_behind item
 
--- What FAST stands for (RFC 9051, section 6.4.5).
+-- The items that FAST abbreviates (RFC 9051, section 6.4.5).
 abbrev pub fast_items : List FetchItem
 fast_items = items.Flags ∷ items.InternalDate ∷ items.Size ∷ []
 

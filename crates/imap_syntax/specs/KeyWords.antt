@@ -1,3 +1,5 @@
+-- The words of SEARCH: its return options and keys (RFC 9051, section 9, search).
+
 use Rattle.std.specs.Prelude.{ℕ, Bool, true, false, List, [], ◌∷◌, codes}
 use Rattle.imap_syntax.specs.declared.flags.SystemFlag.{SystemFlag}
 use Rattle.imap_syntax.specs.declared.flags.SystemFlag.TheVariants as system
@@ -10,7 +12,7 @@ use Rattle.imap_syntax.specs.declared.search.SearchOption.TheVariants as option
 use Rattle.imap_syntax.specs.declared.search.TextPlace.{TextPlace}
 use Rattle.imap_syntax.specs.declared.search.TextPlace.TheVariants as place
 
--- What SEARCH can answer (RFC 9051, section 9, search-return-opt).
+-- The return options of SEARCH (RFC 9051, section 9, search-return-opt).
 abbrev pub option_word : SearchOption → List ℕ
 option_word option.Min = codes "MIN"
 option_word option.Max = codes "MAX"
@@ -20,7 +22,8 @@ option_word option.Count = codes "COUNT"
 abbrev pub search_options : List SearchOption
 search_options = option.Min ∷ option.Max ∷ option.All ∷ option.Count ∷ []
 
--- The words that begin keys (RFC 9051, section 9, search-key; RFC 7162, section 7, for MODSEQ).
+-- The words with which keys begin (RFC 9051, section 9, search-key; RFC 7162, section 7, for
+-- MODSEQ).
 abbrev pub flag_key : SystemFlag → Bool → List ℕ
 flag_key system.Answered true = codes "ANSWERED"
 flag_key system.Answered false = codes "UNANSWERED"

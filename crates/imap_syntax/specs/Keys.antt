@@ -1,3 +1,5 @@
+-- The arguments of SEARCH (RFC 9051, section 9, search-program; RFC 7162, section 7).
+
 use Rattle.std.specs.Prelude.{◌≡◌, ◌⊎◌, ℕ, zero, suc, List, [], ◌∷◌, ◌++◌, codes}
 use Rattle.imap_syntax.specs.Dates.{date}
 use Rattle.imap_syntax.specs.KeyWords.{key_word, option_word}
@@ -16,7 +18,7 @@ use Rattle.imap_syntax.specs.declared.search.SearchTest.TheVariants as tests
 abbrev pub greatest : ℕ
 greatest = 9223372036854775807
 
--- A key that stands for itself (RFC 9051, section 9, search-key; RFC 7162, section 7, for MODSEQ).
+-- A key that is a single test (RFC 9051, section 9, search-key; RFC 7162, section 7, for MODSEQ).
 abbrev pub test : SearchTest → List ℕ → Type 0
 test tests.All = word (key_word key.All)
 test (tests.System flag is_set) = word (key_word (key.System flag is_set))
@@ -30,7 +32,7 @@ test (tests.ModSeq value) = word (key_word key.ModSeq) ⌢ sp ⌢ number_to grea
 test (tests.Uids uids) = word (key_word key.Uid) ⌢ sp ⌢ sequence_set uids
 test (tests.Numbers numbers) = sequence_set numbers
 
--- Keys side by side must all hit: their steps, each behind the first with an And.
+-- Of keys in a row all must match: the steps of all, with an And after each but the first.
 abbrev pub and_all : List SearchStep → List (List SearchStep) → List SearchStep
 and_all steps [] = steps
 and_all steps (key ∷ keys) = and_all (steps ++ key ++ And ∷ []) keys
@@ -39,7 +41,8 @@ abbrev pub all_of : List (List SearchStep) → List SearchStep
 all_of [] = []
 all_of (key ∷ keys) = and_all key keys
 
--- One key over the language of the keys inside it, with its steps: a test, NOT, OR, or keys between parentheses.
+-- A key over the language of the keys inside it, with its steps: a test, NOT, OR, or keys between
+-- parentheses.
 abbrev pub key_over : (List SearchStep → List ℕ → Type 0) → List SearchStep → List ℕ → Type 0
 key_over inner steps text =
     ((this : SearchTest) × test this text × (Test this ∷ [] ≡ steps))
@@ -47,16 +50,17 @@ key_over inner steps text =
     ⊎ (((this that : List SearchStep) × (word (key_word key.Or) ⌢ sp ⌢ inner this ⌢ sp ⌢ inner that) text × (this ++ that ++ Or ∷ [] ≡ steps))
     ⊎ ((keys : List (List SearchStep)) × in_parens (listed sp inner keys) text × (all_of keys ≡ steps))))
 
--- A key with so many levels of NOT, OR and parentheses at most.
+-- A key with at most this many levels of NOT, OR and parentheses.
 unfoldable pub key_within : ℕ → List SearchStep → List ℕ → Type 0
 key_within zero = key_over (λ steps. never)
 key_within (suc levels) = key_over (key_within levels)
 
--- One or more keys, each with 64 levels at most.
+-- One or more keys, each with at most 64 levels.
 abbrev pub search_keys : List SearchStep → List ℕ → Type 0
 search_keys steps text = (keys : List (List SearchStep)) × listed sp (key_within 64) keys text × (all_of keys ≡ steps)
 
--- RETURN with its options and a space, or nothing for none (RFC 9051, section 9, search-return-opts).
+-- RETURN with its options and a space; without options, nothing (RFC 9051, section 9,
+-- search-return-opts).
 abbrev pub search_option : SearchOption → List ℕ → Type 0
 search_option this = word (option_word this)
 

@@ -1,12 +1,14 @@
+-- Languages of texts, from which the grammar of commands is built (RFC 9051, section 9).
+
 use Rattle.std.specs.Prelude.{codes, ◌≡◌, ℕ, List, [], ◌∷◌, ◌++◌, Option, Some, None}
 use Rattle.imap_types.specs.Keywords.{to_lower_case}
 
 infixr 7 ◌⌢◌
--- A language is a fact about texts. A text of `P ⌢ Q` is a text of P and behind it a text of Q.
+-- A language is a fact about texts. A text of `P ⌢ Q` is a text of P and, after it, a text of Q.
 abbrev pub ◌⌢◌ : (List ℕ → Type 0) → (List ℕ → Type 0) → List ℕ → Type 0
 (P ⌢ Q) text = (front back : List ℕ) × P front × Q back × (text ≡ front ++ back)
 
--- This text alone.
+-- Only this text.
 abbrev pub exactly : List ℕ → List ℕ → Type 0
 exactly this text = text ≡ this
 
@@ -34,12 +36,12 @@ never text = ⊥
 abbrev pub in_parens : (List ℕ → Type 0) → List ℕ → Type 0
 in_parens P = exactly (codes "(") ⌢ P ⌢ exactly (codes ")")
 
--- A value behind a space, or nothing.
+-- A value after a space, or nothing.
 abbrev pub optional : {A : Type 0} → (A → List ℕ → Type 0) → Option A → List ℕ → Type 0
 optional form None = nothing
 optional form (Some value) = sp ⌢ form value
 
--- Each value behind a separator.
+-- Values, each after a separator.
 abbrev pub each_behind : {A : Type 0} → (List ℕ → Type 0) → (A → List ℕ → Type 0) → List A → List ℕ → Type 0
 each_behind separator form [] = nothing
 each_behind separator form (value ∷ values) = separator ⌢ form value ⌢ each_behind separator form values

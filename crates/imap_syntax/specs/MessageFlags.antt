@@ -1,3 +1,6 @@
+-- Flags as they are written, and the set of flags that they name (RFC 9051, sections 2.3.2 and 9,
+-- flag).
+
 use Rattle.std.specs.Prelude.{codes, ◌≡◌, ◌⊎◌, ℕ, Bool, true, false, List, [], Option}
 use Rattle.std.specs.List.{list_any}
 use Rattle.std.specs.Option.{unwrap_or}
@@ -18,7 +21,7 @@ abbrev pub flag : Flag → List ℕ → Type 0
 flag (System known) = exactly (codes "\\") ⌢ word (system_word known)
 flag (Keyword keyword) = run Atom keyword
 
--- A flag that is written is this system flag.
+-- Whether a written flag is this system flag.
 abbrev pub is_system : SystemFlag → Flag → Bool
 is_system Answered (System Answered) = true
 is_system Flagged (System Flagged) = true
@@ -27,13 +30,13 @@ is_system Seen (System Seen) = true
 is_system Draft (System Draft) = true
 is_system _ _ = false
 
--- It is this keyword, in any case of letters.
+-- Whether a written flag is this keyword, in any case.
 abbrev pub is_keyword : List ℕ → Flag → Bool
 is_keyword word (System known) = false
 is_keyword word (Keyword keyword) = bytes_eq word (to_lower_case keyword)
 
--- The set of the flags that are written: each system flag that is, and each keyword that is, once, in lower case (RFC 9051, section 2.3.2).
--- There is one such set.
+-- The set of the written flags: each system flag among them, and each keyword among them once, in
+-- lower case (RFC 9051, section 2.3.2). There is exactly one such set.
 pub record AreWritten (written : List Flag) (flags : Flags) : Type 0 where
   pub answered : flags.answered ≡ list_any (is_system Answered) written
   pub flagged : flags.flagged ≡ list_any (is_system Flagged) written
@@ -43,17 +46,19 @@ pub record AreWritten (written : List Flag) (flags : Flags) : Type 0 where
   pub set : AreKeywords flags.keywords
   pub keywords : (word : List ℕ) → list_any (bytes_eq word) flags.keywords ≡ list_any (is_keyword word) written
 
--- No flags or more between parentheses (RFC 9051, section 9, flag-list).
+-- Any number of flags between parentheses (RFC 9051, section 9, flag-list).
 abbrev pub flag_group : List Flag → List ℕ → Type 0
 flag_group written = in_parens (maybe_listed sp flag written)
 
--- What STORE takes: a group, or one or more flags without parentheses (RFC 9051, section 9, store-att-flags).
+-- The flags of STORE: a group, or one or more flags without parentheses (RFC 9051, section 9,
+-- store-att-flags).
 abbrev pub stored_texts : List Flag → List ℕ → Type 0
 stored_texts written text = flag_group written text ⊎ listed sp flag written text
 
 abbrev pub stored : Flags → List ℕ → Type 0
 stored flags text = (written : List Flag) × stored_texts written text × AreWritten written flags
 
--- What APPEND takes: a group behind a space, or nothing for no flags (RFC 9051, section 9, append).
+-- The flags of APPEND: a group after a space, or nothing if there are no flags (RFC 9051, section
+-- 9, append).
 abbrev pub append_flags : Flags → List ℕ → Type 0
 append_flags flags text = (given : Option (List Flag)) × optional flag_group given text × AreWritten (unwrap_or given []) flags

@@ -1,3 +1,5 @@
+-- Strings, mailbox names and numbers in commands (RFC 9051, section 9).
+
 use Rattle.std.specs.Prelude.{codes, ◌≤◌, false, ◌≡◌, ◌≢◌, ◌⊎◌, ℕ, ◌+◌, ◌-◌, ◌*◌, Bool, not, ◌&&◌, ◌||◌, ◌==◌, List, [], ◌∷◌, ◌++◌, length, IsTrue, if◌then◌else◌}
 use Rattle.std.specs.List.{list_all}
 use Rattle.imap_types.specs.DateTimes.{is_digit}
@@ -7,11 +9,12 @@ use Rattle.imap_syntax.specs.Languages.{◌⌢◌, exactly, nothing}
 use Rattle.imap_syntax.specs.declared.octet_class.OctetClass.{OctetClass}
 use Rattle.imap_syntax.specs.declared.octet_class.OctetClass.TheVariants.{Tag, Atom, Astring, Pattern, Digit, Item}
 
--- Whether an octet may stand in a pattern without quotes: an astring octet, `%` or `*` (RFC 9051, section 9, list-char).
+-- Whether an octet is one of a pattern without quotes: an astring octet, `%` or `*` (RFC 9051,
+-- section 9, list-char).
 abbrev pub is_pattern_octet : ℕ → Bool
 is_pattern_octet octet = is_astring_octet octet || (octet == 37) || (octet == 42)
 
--- The octets of each class. The words of arguments have atom octets other than `[`.
+-- The octets of each class. The words of items have atom octets other than `[` (91).
 abbrev pub is_in : OctetClass → ℕ → Bool
 is_in Tag octet = is_tag_octet octet
 is_in Atom octet = is_atom_octet octet
@@ -24,12 +27,13 @@ is_in Item octet = is_atom_octet octet && not (octet == 91)
 abbrev pub run : OctetClass → List ℕ → List ℕ → Type 0
 run class value text = (value ≢ []) × IsTrue (list_all (is_in class) value) × (text ≡ value)
 
--- The text between quotes: `"` (34) and `\` (92) are written `\"` and `\\` (RFC 9051, section 9, QUOTED-CHAR).
+-- The octets between quotes: `"` (34) and `\` (92) are written `\"` and `\\` (RFC 9051, section 9,
+-- QUOTED-CHAR).
 abbrev pub quoted_escape : List ℕ → List ℕ
 quoted_escape [] = []
 quoted_escape (octet ∷ octets) = if (octet == 34) || (octet == 92) then 92 ∷ octet ∷ quoted_escape octets else octet ∷ quoted_escape octets
 
--- Whether an octet may stand between quotes: none of NUL, CR and LF.
+-- Whether an octet is allowed between quotes: all but NUL, CR and LF.
 abbrev pub is_quotable : ℕ → Bool
 is_quotable octet = not ((octet == 0) || (octet == 13) || (octet == 10))
 
@@ -37,7 +41,7 @@ is_quotable octet = not ((octet == 0) || (octet == 13) || (octet == 10))
 abbrev pub quoted : List ℕ → List ℕ → Type 0
 quoted value text = IsTrue (list_all is_quotable value) × (text ≡ codes "\"" ++ (quoted_escape value ++ codes "\""))
 
--- The number that decimal digits write, behind a number so far.
+-- The number that decimal digits write after those of `so_far`.
 abbrev pub number_of : ℕ → List ℕ → ℕ
 number_of so_far [] = so_far
 number_of so_far (digit ∷ digits) = number_of (so_far * 10 + (digit - 48)) digits
@@ -54,7 +58,7 @@ optional_plus text = exactly (codes "+") text ⊎ nothing text
 abbrev pub literal : List ℕ → List ℕ → Type 0
 literal value = exactly (codes "{") ⌢ number (length value) ⌢ optional_plus ⌢ exactly (codes "}\r\n") ⌢ exactly value
 
--- Octets of a class as they stand, or a string in either form.
+-- Octets of a class for themselves, or a string in either form.
 abbrev pub text_of : OctetClass → List ℕ → List ℕ → Type 0
 text_of class value text = run class value text ⊎ (quoted value text ⊎ literal value text)
 
@@ -66,7 +70,7 @@ astring = text_of Astring
 abbrev pub pattern : List ℕ → List ℕ → Type 0
 pattern = text_of Pattern
 
--- A mailbox name: an astring, of which INBOX is meant in any case (RFC 9051, section 9, mailbox).
+-- A mailbox name: an astring, in which INBOX has any case (RFC 9051, section 9, mailbox).
 abbrev pub mailbox : List ℕ → List ℕ → Type 0
 mailbox name text = (written : List ℕ) × astring written text × (fold_inbox written ≡ name)
 
@@ -79,6 +83,6 @@ begins octet (first ∷ octets) = first == octet
 abbrev pub number_to : ℕ → ℕ → List ℕ → Type 0
 number_to limit value text = number value text × (value ≤ limit)
 
--- A number from 1 to 4,294,967,295 without leading zero (RFC 9051, section 9, nz-number).
+-- A number from 1 to 4,294,967,295 without a leading zero (RFC 9051, section 9, nz-number).
 abbrev pub nz : ℕ → List ℕ → Type 0
 nz value text = number value text × (begins 48 text ≡ false) × (value ≤ 4294967295)

@@ -1,3 +1,5 @@
+-- The words of commands and of their items and flags (RFC 9051, section 9).
+
 use Rattle.std.specs.Prelude.{ℕ, List, [], ◌∷◌, codes, Bool, true, false}
 use Rattle.imap_syntax.specs.declared.word.CommandWord.{CommandWord}
 use Rattle.imap_syntax.specs.declared.word.CommandWord.TheVariants.{Capability, Noop, Logout, Login, Enable, Select, Examine, Create, Delete, Subscribe, Unsubscribe, ListNames, Namespace, Status, Append, Idle, Close, Unselect, Expunge, Search, Fetch, Store, Copy, Move, Uid, Rename, StartTls, Authenticate}
@@ -44,7 +46,7 @@ command_word Rename = codes "RENAME"
 command_word StartTls = codes "STARTTLS"
 command_word Authenticate = codes "AUTHENTICATE"
 
--- All of them.
+-- All words of commands.
 abbrev pub command_words : List CommandWord
 command_words =
     Capability ∷ Noop ∷ Logout ∷ Login ∷ Enable ∷ Select ∷ Examine ∷ Create ∷ Delete ∷ Subscribe ∷ Unsubscribe ∷ ListNames
@@ -55,7 +57,8 @@ command_words =
 abbrev pub uid_words : List CommandWord
 uid_words = Copy ∷ Move ∷ Expunge ∷ Fetch ∷ Store ∷ Search ∷ []
 
--- What STATUS can ask (RFC 9051, section 9, status-att; RFC 7162, section 3.1.7, for HIGHESTMODSEQ).
+-- The words of STATUS items (RFC 9051, section 9, status-att; RFC 7162, section 3.1.7, for
+-- HIGHESTMODSEQ).
 abbrev pub status_word : StatusItem → List ℕ
 status_word status.Messages = codes "MESSAGES"
 status_word status.UidNext = codes "UIDNEXT"
@@ -65,7 +68,7 @@ status_word status.Deleted = codes "DELETED"
 status_word status.Size = codes "SIZE"
 status_word status.HighestModSeq = codes "HIGHESTMODSEQ"
 
--- All of it.
+-- All items of STATUS.
 abbrev pub status_items : List StatusItem
 status_items =
     status.Messages ∷ status.UidNext ∷ status.UidValidity ∷ status.Unseen ∷ status.Deleted ∷ status.Size ∷ status.HighestModSeq ∷ []
@@ -81,7 +84,7 @@ system_word system.Draft = codes "Draft"
 abbrev pub system_flags : List SystemFlag
 system_flags = system.Answered ∷ system.Flagged ∷ system.Deleted ∷ system.Seen ∷ system.Draft ∷ []
 
--- What STORE does, loudly or silently (RFC 9051, section 9, store-att-flags).
+-- The words of STORE, with and without `.SILENT` (RFC 9051, section 9, store-att-flags).
 abbrev pub mode_word : StoreMode → Bool → List ℕ
 mode_word store.Replace false = codes "FLAGS"
 mode_word store.Replace true = codes "FLAGS.SILENT"

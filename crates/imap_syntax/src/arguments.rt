@@ -1,4 +1,4 @@
-//! What commands with several arguments ask.
+//! The arguments of commands that have several.
 
 use crate::fetch::FetchItem;
 use crate::search::SearchOption;
@@ -7,17 +7,17 @@ use crate::store::StoreAction;
 use crate::written_values::WrittenValues;
 use imap_types::{DateTime, Flags, Name, Octets, SequenceSet, Text};
 
-/// What LIST asks (RFC 9051, section 6.3.9).
+/// The arguments of LIST (RFC 9051, section 6.3.9).
 pub struct ListNames {
-    /// The selection option SUBSCRIBED.
+    /// Whether the selection option SUBSCRIBED is given.
     pub subscribed_only: bool,
     pub reference: Octets,
     pub pattern: Octets,
-    /// The return option SUBSCRIBED.
+    /// Whether the return option SUBSCRIBED is given.
     pub return_subscribed: bool,
 }
 
-// By hand, so that crates above let it go as a whole.
+// By hand, so that crates above drop it whole.
 impl Drop for ListNames {
     fn drop(self) {
         let Self {
@@ -29,16 +29,16 @@ impl Drop for ListNames {
     }
 }
 
-/// What APPEND asks (RFC 9051, section 6.3.12).
+/// The arguments of APPEND (RFC 9051, section 6.3.12).
 pub struct Append {
     pub name: Name,
     pub flags: Flags,
-    /// Where none is given the message takes the moment of the command.
+    /// The message's internal date; if it is missing, the moment of the command.
     pub date: Option<DateTime>,
     pub text: Text,
 }
 
-// By hand, so that crates above let it go as a whole.
+// By hand, so that crates above drop it whole.
 impl Drop for Append {
     fn drop(self) {
         let Self {
@@ -50,16 +50,17 @@ impl Drop for Append {
     }
 }
 
-/// What SEARCH asks (RFC 9051, section 6.4.4). A charset, which is UTF-8 or US-ASCII, isn't kept.
+/// The arguments of SEARCH (RFC 9051, section 6.4.4). A charset, which is UTF-8 or US-ASCII, isn't
+/// stored.
 pub struct Search {
     pub by_uid: bool,
-    /// As they were written.
+    /// The return options, as they were written.
     pub options: WrittenValues<SearchOption>,
-    /// Those of a key, in the order in which they are worked off, each behind those that it works on.
+    /// The steps of the key in postfix order: each comes after the steps of its operands.
     pub steps: SearchSteps,
 }
 
-// By hand, so that crates above let it go as a whole.
+// By hand, so that crates above drop it whole.
 impl Drop for Search {
     fn drop(self) {
         let Self {
@@ -70,18 +71,18 @@ impl Drop for Search {
     }
 }
 
-/// What FETCH asks (RFC 9051, section 6.4.5).
+/// The arguments of FETCH (RFC 9051, section 6.4.5).
 pub struct Fetch {
     pub by_uid: bool,
-    /// Message numbers, or UIDs where `by_uid` says so.
+    /// Message numbers, or UIDs if `by_uid`.
     pub messages: SequenceSet,
-    /// At least one, as they were written, and those of FAST in its place.
+    /// One or more items, as they were written; FAST is replaced by its three items.
     pub items: WrittenValues<FetchItem>,
-    /// A mod-sequence up to 2^63 - 1 (RFC 7162, section 3.1.4.1).
+    /// A mod-sequence of at most 2^63 - 1 (RFC 7162, section 3.1.4.1).
     pub changed_since: Option<u64>,
 }
 
-// By hand, so that crates above let it go as a whole.
+// By hand, so that crates above drop it whole.
 impl Drop for Fetch {
     fn drop(self) {
         let Self {
@@ -93,18 +94,18 @@ impl Drop for Fetch {
     }
 }
 
-/// What STORE asks (RFC 9051, section 6.4.6).
+/// The arguments of STORE (RFC 9051, section 6.4.6).
 pub struct Store {
     pub by_uid: bool,
-    /// Message numbers, or UIDs where `by_uid` says so.
+    /// Message numbers, or UIDs if `by_uid`.
     pub messages: SequenceSet,
-    /// A mod-sequence up to 2^63 - 1 (RFC 7162, section 3.1.3).
+    /// A mod-sequence of at most 2^63 - 1 (RFC 7162, section 3.1.3).
     pub unchanged_since: Option<u64>,
     pub action: StoreAction,
     pub flags: Flags,
 }
 
-// By hand, so that crates above let it go as a whole.
+// By hand, so that crates above drop it whole.
 impl Drop for Store {
     fn drop(self) {
         let Self {
@@ -117,16 +118,16 @@ impl Drop for Store {
     }
 }
 
-/// What COPY and MOVE ask (RFC 9051, sections 6.4.7 and 6.4.8).
+/// The arguments of COPY and MOVE (RFC 9051, sections 6.4.7 and 6.4.8).
 pub struct Transfer {
     pub by_uid: bool,
-    /// Message numbers, or UIDs where `by_uid` says so.
+    /// Message numbers, or UIDs if `by_uid`.
     pub messages: SequenceSet,
-    /// The mailbox to which the messages come.
+    /// The destination mailbox.
     pub name: Name,
 }
 
-// By hand, so that crates above let it go as a whole.
+// By hand, so that crates above drop it whole.
 impl Drop for Transfer {
     fn drop(self) {
         let Self {

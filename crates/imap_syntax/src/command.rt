@@ -1,3 +1,5 @@
+//! Commands, and commands with their tags.
+
 use crate::arguments::{Append, Fetch, ListNames, Search, Store, Transfer};
 use crate::status::StatusItem;
 use crate::written_values::WrittenValues;
@@ -8,12 +10,13 @@ use imap_types::{Name, Octets, SequenceSet};
 pub struct Tagged {
     /// One or more octets, which the tagged answer repeats.
     pub tag: Octets,
-    /// What the client wants.
+    /// The command without its tag.
     pub command: Command,
 }
 
-/// What a client can want (RFC 9051, section 6). In names INBOX of any case stands in capitals; nothing else about a name
-/// is changed or asked. Sets name message numbers, or UIDs where `by_uid` says so (RFC 9051, section 6.4.9).
+/// A command of a client (RFC 9051, section 6). In mailbox names, INBOX of any case is in capitals;
+/// names are otherwise unchanged and unchecked. Sets name message numbers, or UIDs if `by_uid` (RFC
+/// 9051, section 6.4.9).
 pub enum Command {
     /// RFC 9051, section 6.1.1.
     Capability,
@@ -26,7 +29,7 @@ pub enum Command {
         user: Octets,
         password: Octets,
     },
-    /// RFC 9051, section 6.3.1. The names are as they were written.
+    /// RFC 9051, section 6.3.1. The names, as they were written.
     Enable {
         names: WrittenValues<Octets>,
     },
@@ -60,7 +63,7 @@ pub enum Command {
     ListNames(ListNames),
     /// RFC 9051, section 6.3.10.
     Namespace,
-    /// RFC 9051, section 6.3.11. The items are at least one, as they were written.
+    /// RFC 9051, section 6.3.11. One or more items, as they were written.
     Status {
         name: Name,
         items: WrittenValues<StatusItem>,
@@ -91,7 +94,7 @@ pub enum Command {
     Move(Transfer),
 }
 
-// By hand, so that crates above let it go as a whole.
+// By hand, so that crates above drop it whole.
 impl Drop for Command {
     fn drop(self) {
         match self {

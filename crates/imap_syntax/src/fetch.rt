@@ -1,15 +1,17 @@
+//! Items of FETCH.
+
 use imap_types::Section;
 
-/// What FETCH asks of a message (RFC 9051, section 6.4.5).
+/// An item of FETCH (RFC 9051, section 6.4.5).
 pub enum FetchItem {
     Flags,
     InternalDate,
-    /// RFC822.SIZE: the octets of the whole text.
+    /// RFC822.SIZE: the number of octets of the whole text.
     Size,
     Uid,
     /// RFC 7162, section 3.1.4.2.
     ModSeq,
-    /// A section of the text; `peek` leaves `\Seen` as it is.
+    /// A section of the text; with `peek`, FETCH doesn't set `\Seen`.
     Body {
         peek: bool,
         section: Section,
@@ -17,7 +19,7 @@ pub enum FetchItem {
     },
 }
 
-// By hand, so that crates above let it go as a whole.
+// By hand, so that crates above drop it whole.
 impl Drop for FetchItem {
     fn drop(self) {
         match self {
@@ -35,7 +37,8 @@ impl Drop for FetchItem {
     }
 }
 
-/// At most `count` octets, from 1 on, of a section, `start` octets from its beginning (RFC 9051, section 6.4.5, partial).
+/// At most `count` octets of a section, at least 1, from its octet `start`, counted from 0 (RFC
+/// 9051, section 6.4.5, partial).
 #[derive(Clone, Copy, Debug, PartialEq, Eq)]
 pub struct Partial {
     pub start: u32,

@@ -1,6 +1,8 @@
+//! Flags as a client writes them.
+
 use imap_types::Octets;
 
-/// The flags that RFC 9051, section 2.3.2 defines and a client may set.
+/// The system flags that a client may set (RFC 9051, section 2.3.2).
 #[derive(Clone, Copy, Debug, PartialEq, Eq)]
 pub enum SystemFlag {
     Answered,

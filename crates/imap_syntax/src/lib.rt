@@ -1,6 +1,22 @@
-//! The commands of IMAP4rev2 (RFC 9051) that this server takes, as values.
+//! The commands of IMAP4rev2 (RFC 9051) that this server accepts, as values, and the definition of
+//! which frame spells which command.
 //!
-//! `specs/Commands.antt` says which frame spells which command, production by production.
+//! A `Command` is the command's word with its arguments; a `Tagged` adds the tag. The types carry
+//! what a command promises: sets name numbers from 1, a search's steps are those of one key
+//! (`IsKey` of `specs/SearchKeys.antt`), flags are a set.
+//!
+//! `specs/Commands.antt` says which frame spells which command (`IsSpelled`), production by
+//! production, in the names and sections of RFC 9051, RFC 7162 and RFC 2177. The languages from
+//! which it is built are in `specs/Languages.antt`; `specs/Faults.antt` says when a frame has a tag
+//! and names a command. Reading frames is left to the crates above.
+//!
+//! # Decided
+//!
+//! - LIST is `Command::ListNames`, since a variant `List` would hide the library's name in
+//!   definitions. Lists of items (ENABLE, STATUS, FETCH, RETURN) are stored as written; FAST is
+//!   replaced by its three items. `1` and `1:1` are one range. CHARSET isn't stored.
+//! - SEARCH is stored as steps in postfix order, so that a stack evaluates it without recursion.
+//!   Their type, `SearchSteps`, holds the steps of one key and nothing else.
 #![tactic(auto)]
 
 mod arguments;

@@ -1,4 +1,6 @@
-/// The classes of octets that stand for themselves (RFC 9051, section 9).
+//! Classes of octets.
+
+/// The classes of octets that stand for themselves in commands (RFC 9051, section 9).
 #[derive(Clone, Copy)]
 pub enum OctetClass {
     Tag,
@@ -6,6 +8,6 @@ pub enum OctetClass {
     Astring,
     Pattern,
     Digit,
-    /// The words of arguments: atom octets other than `[`, which ends them.
+    /// The octets of an item's word: atom octets other than `[`, which ends the word.
     Item,
 }

@@ -1,16 +1,18 @@
+//! Options and keys of SEARCH.
+
 use crate::flags::SystemFlag;
 use imap_types::{Day, Octets, SequenceSet};
 
-/// What SEARCH answers (RFC 9051, section 6.4.4).
+/// A return option of SEARCH (RFC 9051, section 6.4.4).
 #[derive(Clone, Copy, Debug, PartialEq, Eq)]
 pub enum SearchOption {
-    /// The least number that hits.
+    /// The least matching number.
     Min,
-    /// The greatest number that hits.
+    /// The greatest matching number.
     Max,
-    /// All numbers that hit.
+    /// All matching numbers.
     All,
-    /// How many hit.
+    /// The number of matching messages.
     Count,
 }
 
@@ -22,47 +24,49 @@ pub enum TextPlace {
     From,
     Subject,
     To,
-    /// What follows the header.
+    /// The text after the header.
     Body,
     /// The whole message.
     Text,
 }
 
-/// How the day of a message's internal date, whatever its zone, stands to the day that a key names.
+/// How the day of a message's internal date, as it is written in its own zone, relates to the day
+/// that a key names.
 #[derive(Clone, Copy, Debug, PartialEq, Eq)]
 pub enum DateRelation {
-    /// Earlier.
+    /// Earlier than the named day.
     Before,
-    /// The same.
+    /// The named day.
     On,
-    /// The same or later.
+    /// The named day or later.
     Since,
 }
 
-/// What one key asks of a message (RFC 9051, section 6.4.4).
+/// A single test of a message (RFC 9051, section 6.4.4).
 pub enum SearchTest {
     All,
-    /// The flag is set, or isn't.
+    /// The system flag is set, or isn't.
     System { flag: SystemFlag, is_set: bool },
-    /// The keyword is set, or isn't; it is as it was written.
+    /// The keyword is set, or isn't; the keyword is stored as it was written.
     Keyword { keyword: Octets, is_set: bool },
-    /// The text stands there.
+    /// The text occurs at this place.
     Holds { place: TextPlace, text: Octets },
-    /// The text stands in a header field of this name.
+    /// The text occurs in a header field of this name.
     Header { name: Octets, text: Octets },
-    /// The day of the internal date stands so to this day, which the calendar has.
+    /// The day of the internal date has this relation to `day`, a day that exists.
     Dated { order: DateRelation, day: Day },
-    /// More octets than these, up to 2^63 - 1.
+    /// The message has more than `octets` octets, a number of at most 2^63 - 1.
     Larger { octets: u64 },
-    /// Fewer octets than these, up to 2^63 - 1.
+    /// The message has fewer than `octets` octets, a number of at most 2^63 - 1.
     Smaller { octets: u64 },
-    /// This mod-sequence or a greater one, up to 2^63 - 1 (RFC 7162, section 3.1.5).
+    /// The message's mod-sequence is at least `value`, which is at most 2^63 - 1 (RFC 7162, section
+    /// 3.1.5).
     ModSeq { value: u64 },
     Uids { uids: SequenceSet },
     Numbers { numbers: SequenceSet },
 }
 
-// By hand, so that crates above let it go as a whole.
+// By hand, so that crates above drop it whole.
 impl Drop for SearchTest {
     fn drop(self) {
         match self {
@@ -84,18 +88,18 @@ impl Drop for SearchTest {
     }
 }
 
-/// A step of the search, behind the steps of what it works on.
+/// A step of a search; it comes after the steps of its operands.
 pub enum SearchStep {
     Test(SearchTest),
-    /// The last result turned.
+    /// Negates the last result.
     Not,
-    /// One of the last two results.
+    /// Whether either of the last two results holds.
     Or,
-    /// Both of the last two results.
+    /// Whether both of the last two results hold.
     And,
 }
 
-// By hand, so that crates above let it go as a whole.
+// By hand, so that crates above drop it whole.
 impl Drop for SearchStep {
     fn drop(self) {
         match self {
@@ -107,7 +111,7 @@ impl Drop for SearchStep {
     }
 }
 
-/// The words that begin keys.
+/// The words with which search keys begin (RFC 9051, section 9, search-key).
 #[derive(Clone, Copy)]
 pub enum SearchKeyWord {
     All,

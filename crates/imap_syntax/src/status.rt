@@ -1,16 +1,18 @@
-/// What STATUS can ask of a mailbox (RFC 9051, section 6.3.11; RFC 7162, section 3.1.7).
+//! Items of STATUS.
+
+/// An item of STATUS (RFC 9051, section 6.3.11; RFC 7162, section 3.1.7).
 #[derive(Clone, Copy, Debug, PartialEq, Eq)]
 pub enum StatusItem {
-    /// How many messages there are.
+    /// The number of messages.
     Messages,
-    /// The next message's UID.
+    /// The UID that the next message will get.
     UidNext,
     UidValidity,
-    /// How many messages lack `\Seen`.
+    /// The number of messages without `\Seen`.
     Unseen,
-    /// How many messages have `\Deleted`.
+    /// The number of messages with `\Deleted`.
     Deleted,
-    /// The octets of all messages together.
+    /// The number of octets of all messages together.
     Size,
     HighestModSeq,
 }

@@ -5,12 +5,12 @@ ghost use Rattle.std.specs.Prelude.{◌≡◌};
 use crate::search::SearchStep;
 use std::marker::Model;
 
-/// The steps of one key, in the order in which they are worked off, each behind those that it works on.
+/// The steps of one key in postfix order: each comes after the steps of its operands.
 pub struct SearchSteps {
     steps: Vec<SearchStep>,
 }
 
-// By hand, so that crates above let it go as a whole.
+// By hand, so that crates above drop it whole.
 impl Drop for SearchSteps {
     fn drop(self) {
         let Self { steps: _ } = self;
@@ -32,7 +32,7 @@ impl Model for SearchSteps {
 impl SearchSteps {
     ghost use Rattle.imap_syntax.specs.SearchKeys.{IsKey};
 
-    /// These steps, which are a key's, and whose memory it takes over.
+    /// These steps, which are those of one key, in the vector's memory.
     pub fn new(steps: Vec<SearchStep>) -> SearchSteps
         requires { IsKey steps.items }
         ensures { result ≡ steps.items }
@@ -40,7 +40,7 @@ impl SearchSteps {
         SearchSteps { steps }
     }
 
-    /// Them, in their order: those of a key.
+    /// The steps of the key, in order.
     pub fn as_slice(&self) -> &[SearchStep]
         ensures steps { result.now ≡ self.now }
         ensures key { IsKey self.now }

@@ -1,18 +1,20 @@
-/// What STORE does with its flags (RFC 9051, section 6.4.6).
+//! Actions of STORE.
+
+/// What STORE does with the flags that it names (RFC 9051, section 6.4.6).
 #[derive(Clone, Copy, Debug, PartialEq, Eq)]
 pub enum StoreMode {
-    /// FLAGS: a message has these flags and no others.
+    /// FLAGS: the message gets these flags and no others.
     Replace,
-    /// +FLAGS
+    /// +FLAGS: the message gets these flags too.
     Add,
-    /// -FLAGS
+    /// -FLAGS: the message loses these flags.
     Remove,
 }
 
-/// The word of STORE.
+/// What the word of STORE says: the mode, and whether it is silent.
 #[derive(Clone, Copy, Debug, PartialEq, Eq)]
 pub struct StoreAction {
     pub mode: StoreMode,
-    /// `.SILENT`: the client wants no answer with the flags.
+    /// `.SILENT`: the client asks for no answer with the flags.
     pub silent: bool,
 }

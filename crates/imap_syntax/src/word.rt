@@ -1,4 +1,7 @@
-/// The word of a command (RFC 9051, section 6; RFC 2177, section 3): those of this grammar, and those that it leaves out.
+//! Words of commands.
+
+/// The word of a command (RFC 9051, section 6; RFC 2177, section 3): those of this grammar, and
+/// those that it leaves out.
 #[derive(Clone, Copy, Debug, PartialEq, Eq)]
 pub enum CommandWord {
     Capability,
@@ -26,10 +29,10 @@ pub enum CommandWord {
     Copy,
     Move,
     Uid,
-    /// Left out of this grammar.
+    /// Not in this grammar.
     Rename,
-    /// Left out of this grammar.
+    /// Not in this grammar.
     StartTls,
-    /// Left out of this grammar.
+    /// Not in this grammar.
     Authenticate,
 }

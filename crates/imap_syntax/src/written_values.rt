@@ -1,3 +1,5 @@
+//! Lists of values as a client wrote them.
+
 use std::marker::Model;
 
 /// Values in the order in which they were written.
@@ -5,7 +7,7 @@ pub struct WrittenValues<T> {
     values: Vec<T>,
 }
 
-// By hand, so that crates above let it go as a whole.
+// By hand, so that crates above drop it whole.
 impl<T: Drop> Drop for WrittenValues<T> {
     fn drop(self) {
         let Self { values: _ } = self;
@@ -23,7 +25,7 @@ impl<T> Model for WrittenValues<T> {
 impl<T> WrittenValues<T> {
     ghost use Rattle.std.specs.Prelude.{◌≡◌};
 
-    /// These values, whose memory it takes over.
+    /// These values, in the vector's memory.
     pub fn new(values: Vec<T>) -> WrittenValues<T>
         ensures { result ≡ values.items }
     {
