@@ -25,7 +25,7 @@ epoch d h =
 digit : (q : ℕ) → q < 10 → is_digit (48 + q) ≡ true
 digit q h = let a : nat_lt (48 + q) 48 ≡ false = le-ltb _ _ (omega arith) in let b : nat_lt 57 (48 + q) ≡ false = le-ltb _ _ (omega arith) in rw (a, b) refl
 
--- two digits give back their number
+-- two digits write their number
 again : (n : ℕ) → (48 + n / 10 - 48) * 10 + (48 + n % 10 - 48) ≡ n
 again n = omega (arith, div-add-mod n 10)
 
@@ -73,7 +73,7 @@ fits a b c d y z hd hy hz h i s hh hi hs =
     let s2 = digit (s % 10) (omega (arith, div-add-mod s 10)) in
     rw (d1, d2, y1, y2, z1, z2, h1, h2, i1, i2, s1, s2) refl
 
--- the day that the calendar has
+-- the day is one of the calendar
 has_day : (d : Date) → is_day (unsigned_abs d.year) d.month d.day ≡ true
 has_day d =
     let y : unsigned_abs d.year ≤ 9999 = omega (arith, ints, d.year_in) in
@@ -81,7 +81,7 @@ has_day d =
     let n = d.day_in in
     and_from _ _ (and_from _ _ (and_from _ _ (and_from _ _ (le-leb _ _ y) (le-leb _ _ m.0)) (le-leb _ _ m.1)) (le-leb _ _ n.0)) (le-leb _ _ n.1)
 
--- the time of the day, in UTC
+-- the time is one of the day, in UTC
 has_time : (text : List ℕ) → two_digits text 13 ≤ 23 → two_digits text 16 ≤ 59 → two_digits text 19 ≤ 60 → two_digits text 23 ≤ 23 → two_digits text 25 ≤ 59 → is_time text ≡ true
 has_time text h i s z n = and_from _ _ (and_from _ _ (and_from _ _ (and_from _ _ (le-leb _ _ h) (le-leb _ _ i)) (le-leb _ _ s)) (le-leb _ _ z)) (le-leb _ _ n)
 
@@ -103,7 +103,7 @@ spelled a b c d y z h i s =
     34 ∷ (48 + d / 10) ∷ (48 + d % 10) ∷ 45 ∷ a ∷ b ∷ c ∷ 45 ∷ (48 + y / 10) ∷ (48 + y % 10) ∷ (48 + z / 10) ∷ (48 + z % 10) ∷ 32
     ∷ (48 + h / 10) ∷ (48 + h % 10) ∷ 58 ∷ (48 + i / 10) ∷ (48 + i % 10) ∷ 58 ∷ (48 + s / 10) ∷ (48 + s % 10) ∷ codes " +0000\""
 
--- what is written of a day and its seconds is a date-time
+-- the text of a day and its seconds is a date-time
 pub lawful : (day : Date) (seconds : ℕ) → seconds < 86400 → IsDateTime (utc_text (unsigned_abs day.year) day.month day.day seconds)
 lawful day seconds l =
     let m = has_letters day.month day.month_in.0 day.month_in.1 in

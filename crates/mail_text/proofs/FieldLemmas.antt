@@ -6,12 +6,12 @@ use Rattle.mail_text.specs.HeaderFields.{asked_fields_in, is_asked_field, before
 use Rattle.mail_text.specs.KeptLines.{kept_lines, is_kept_line, takes_line}
 use Rattle.mail_text.specs.TextLines.{in_first, is_empty_line, lines_of}
 
--- fields, the first of which is kept or not
+-- fields, the first of which is selected or not
 abbrev from : (List ℕ → Bool) → Bool → List (List (List ℕ)) → List ℕ
 from asked keep [] = []
 from asked keep (field ∷ fields) = is_kept_line keep (concat field) ++ asked_fields_in asked fields
 
--- lines kept, without an empty one
+-- the selected lines, without an empty one
 abbrev only : (List ℕ → Bool) → Bool → List (List ℕ) → List ℕ
 only asked keep [] = []
 only asked keep (line ∷ lines) = is_kept_line (takes_line asked keep line) line ++ only asked (takes_line asked keep line) lines
@@ -26,7 +26,7 @@ kept-parts asked keep (line ∷ lines) =
           rw f (ap (λ xs. is_kept_line t line ++ xs) (kept-parts asked t lines) ∙ sym (append_assoc (is_kept_line t line) (only asked t (field_lines lines)) (empty_line lines)))
     ]
 
--- one more line in front of the first field
+-- one further line before the first field
 from-in_first : (asked : List ℕ → Bool) (keep : Bool) (line : List ℕ) (field : List (List ℕ)) (fields : List (List (List ℕ))) → from asked keep (in_first line (field ∷ fields)) ≡ is_kept_line keep line ++ from asked keep (field ∷ fields)
 from-in_first asked true line field fields = append_assoc line (concat field) (asked_fields_in asked fields)
 from-in_first asked false line field fields = refl
@@ -77,7 +77,7 @@ only-from asked keep line (next ∷ lines) =
 only-first : (asked : List ℕ → Bool) (line : List ℕ) (lines : List (List ℕ)) → only asked (asked line) (line ∷ lines) ≡ is_kept_line (asked line) line ++ only asked (asked line) lines
 only-first asked line lines = elim (cases_Bool (is_continuation line)) [ inl t ↦ rw t refl | inr f ↦ rw f refl ]
 
--- the fields asked for are what is kept line by line
+-- the selected fields are the lines that are selected one by one
 pub fields-kept : (named : Bool) (names : List (List ℕ)) (text line tail : List ℕ) → lines_of text ≡ line ∷ lines_of tail → kept_lines (is_asked_field named names) (is_asked_field named names line) (lines_of text) ≡ fields_of named names text
 fields-kept named names text line tail e =
     let asked : List ℕ → Bool = is_asked_field named names in
@@ -107,7 +107,7 @@ no_colon (a ∷ line) n =
       | inr f ↦ rw f (ap (with_octet a) (no_colon line (λ j m o q. n (suc j) (omega arith) (omega arith) q)))
     ]
 
--- blanks at the end
+-- blanks at the end of a text
 all-behind : (xs : List ℕ) (b : ℕ) → is_blank b ≡ true → list_all is_blank (xs ++ b ∷ []) ≡ list_all is_blank xs
 all-behind [] b h = rw h refl
 all-behind (x ∷ xs) b h = ap (λ r. is_blank x && r) (all-behind xs b h)
@@ -147,7 +147,7 @@ pub asked_start : (named : Bool) (names : List (List ℕ)) (text line tail found
     → found ++ kept_lines (is_asked_field named names) keep (lines_of text) ≡ fields_of named names text
 asked_start named names text line tail found keep n k e = (λ i. n i ++ kept_lines (is_asked_field named names) (k i) (lines_of text)) ∙ fields-kept named names text line tail e
 
--- one step of the lines
+-- one step over the lines
 pub asked_step : (asked : List ℕ → Bool) (keep next : Bool) (found new : List ℕ) (rest line tail total : List ℕ) → lines_of rest ≡ line ∷ lines_of tail → is_empty_line line ≡ false → next ≡ takes_line asked keep line → new ≡ found ++ is_kept_line next line
     → found ++ kept_lines asked keep (lines_of rest) ≡ total → new ++ kept_lines asked next (lines_of tail) ≡ total
 asked_step asked keep next found new rest line tail total e f t n i =

@@ -4,7 +4,7 @@ use Rattle.std.specs.List.{concat}
 use Rattle.memchr.specs.Find.{OccursAt, Nowhere}
 use Rattle.mail_text.specs.TextLines.{crlf, in_first, is_crlf, lines_of}
 
--- a place of a word, one octet further on
+-- a place of a word, one octet later
 pub further : (a : ℕ) (text word : List ℕ) (k : ℕ) → OccursAt text word k → OccursAt (a ∷ text) word (suc k)
 further a text word k o =
     let f = o.fits in
@@ -15,7 +15,7 @@ nearer a text word k o =
     let f = o.fits in
     record { fits = omega arith; reads = λ j l. let e : suc k + j ≡ suc (k + j) = omega arith in ap (slice_index (a ∷ text)) (sym e) ∙ o.reads j l }
 
--- and one at the beginning
+-- a place at the beginning
 pub here : (a b : ℕ) (rest : List ℕ) → OccursAt (a ∷ b ∷ rest) crlf 0 → is_crlf a b ≡ true
 here a b rest o = and_from _ _ (eq-eqb a 13 (o.reads 0 (omega arith))) (eq-eqb b 10 (o.reads 1 (omega arith)))
 
@@ -40,7 +40,7 @@ first_cut (a ∷ b ∷ rest) (suc k) o n =
           rw (f, e) (ap (in_first a) (first_cut (b ∷ rest) k (nearer a (b ∷ rest) crlf k o) (λ j l m p. n (suc j) (omega arith) (omega arith) (further a (b ∷ rest) crlf j p))))
     ]
 
--- and without any the text is one line
+-- a text without CRLF is one line
 pub no_cut : (text : List ℕ) → text ≢ [] → Nowhere (OccursAt text crlf) 0 (length text + 1) → lines_of text ≡ text ∷ []
 no_cut [] e n = absurd (e refl)
 no_cut (a ∷ []) e n = refl

@@ -35,7 +35,7 @@ ends text rest line tail w e p f =
       body = w.body ∙ b;
     }
 
--- no more lines
+-- no further lines
 pub all_header : (text rest : List ℕ) → IsWithin text rest → length rest < 1 → IsAfterHeader text rest
 all_header text [] w l = let k : header_of text ≡ w.front = w.header ∙ append_nil w.front in record { split = w.split ∙ ap (λ xs. xs ++ []) (sym k); body = w.body }
 all_header text (x ∷ rest) w l = absurd (omega arith)

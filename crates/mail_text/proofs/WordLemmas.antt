@@ -26,7 +26,7 @@ starts_with a (b ∷ rest) =
       | inr f ↦ let s = joined_start a (lines_of (b ∷ rest)) in record { more = s.more; others = s.others; are = rw f s.are }
     ]
 
--- a blank begins no empty line
+-- a line that begins with a blank isn't empty
 blank_line : (octet : ℕ) (more : List ℕ) → is_blank octet ≡ true → is_empty_line (octet ∷ more) ≡ false
 blank_line octet more h =
     elim (cases_Bool (octet == 32)) [
@@ -45,7 +45,7 @@ nil_behind (x ∷ xs) = ap (λ ys. x ∷ ys) (nil_behind xs)
 pub begins_going : (text : List ℕ) → IsInContinuation text text
 begins_going text = record { front = []; split = refl; lines = refl; others = refl }
 
--- a line that goes on
+-- a line that continues the field
 pub goes : (text rest line tail : List ℕ) → IsInContinuation text rest → lines_of rest ≡ line ∷ lines_of tail → line ++ tail ≡ rest → is_continuation rest ≡ true → IsInContinuation text tail
 unfolding first_or
 goes text [] line tail g e p h = absurd cc
@@ -64,7 +64,7 @@ goes text (a ∷ rest) line tail g e p h =
       others = g.others ∙ k;
     }
 
--- and one that doesn't
+-- a line that doesn't
 record NoneGoing (rest : List ℕ) : Type 0 where
   going : continuation_lines (field_lines (lines_of rest)) ≡ []
   gone : after_continuations (field_lines (lines_of rest)) ≡ field_lines (lines_of rest)
@@ -94,7 +94,7 @@ pub all_gone : (text rest : List ℕ) → IsInContinuation text rest → length 
 all_gone text [] g l = stops text [] g refl
 all_gone text (x ∷ rest) g l = absurd (omega arith)
 
--- the first field: a line with those that go on
+-- the first field: a line and those that continue it
 split_fields : (line : List ℕ) (lines : List (List ℕ)) → fields_in (line ∷ lines) ≡ (line ∷ continuation_lines lines) ∷ fields_in (after_continuations lines)
 split_fields line [] = refl
 split_fields line (next ∷ lines) =
@@ -132,7 +132,7 @@ pub no_text : (text : List ℕ) → length text ≡ 0 → fields_in (field_lines
 no_text [] l = refl
 no_text (x ∷ text) l = absurd (omega arith)
 
--- one field further
+-- one further field
 pub passes : (name word text line octets rest : List ℕ) (is : Bool) → IsFirstField text line octets rest → is ≡ (has_asked_name (name ∷ []) line && holds word (after_colon octets))
     → any_field_holds name word text ≡ (is || any_field_holds name word rest)
 passes name word text line octets rest is f e =
@@ -147,7 +147,7 @@ pub no_more : (name word text : List ℕ) → length text < 1 → any_field_hold
 no_more name word [] l = refl
 no_more name word (x ∷ text) l = absurd (omega arith)
 
--- what is behind the first colon
+-- the octets after the first colon
 pub behind_at : (octets : List ℕ) (k : ℕ) → k < length octets → Passes (is_byte 58) octets k → Nowhere (Passes (is_byte 58) octets) 0 k → after_colon octets ≡ drop (k + 1) octets
 behind_at [] k l p n = absurd (omega arith)
 behind_at (a ∷ octets) zero l p n = rw p refl

@@ -1,3 +1,5 @@
+-- The lines of a text, and those of its header and body (RFC 5322, section 2.1).
+
 use Rattle.std.specs.Prelude.{ℕ, Bool, ◌&&◌, ◌==◌, List, [], ◌∷◌, if◌then◌else◌}
 use Rattle.std.specs.Str.{bytes_eq}
 
@@ -9,7 +11,7 @@ crlf = 13 ∷ 10 ∷ []
 abbrev pub is_crlf : ℕ → ℕ → Bool
 is_crlf a b = (a == 13) && (b == 10)
 
--- One more at the front of the first of some lists.
+-- An element added at the beginning of the first list.
 abbrev pub in_first : {A : Type 0} → A → List (List A) → List (List A)
 in_first a [] = (a ∷ []) ∷ []
 in_first a (xs ∷ xss) = (a ∷ xs) ∷ xss
@@ -20,16 +22,16 @@ lines_of [] = []
 lines_of (a ∷ []) = (a ∷ []) ∷ []
 lines_of (a ∷ b ∷ rest) = if is_crlf a b then (a ∷ b ∷ []) ∷ lines_of rest else in_first a (lines_of (b ∷ rest))
 
--- Whether a line is the empty one.
+-- Whether a line is only CRLF.
 abbrev pub is_empty_line : List ℕ → Bool
 is_empty_line line = bytes_eq line crlf
 
--- The lines through the first empty one, or all.
+-- The lines up to and including the first empty one, or all if no line is empty.
 abbrev pub header_lines : List (List ℕ) → List (List ℕ)
 header_lines [] = []
 header_lines (line ∷ lines) = if is_empty_line line then line ∷ [] else line ∷ header_lines lines
 
--- The lines behind the first empty one.
+-- The lines after the first empty one.
 abbrev pub body_lines : List (List ℕ) → List (List ℕ)
 body_lines [] = []
 body_lines (line ∷ lines) = if is_empty_line line then lines else body_lines lines

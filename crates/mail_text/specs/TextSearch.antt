@@ -1,3 +1,5 @@
+-- Words in texts and in header fields, as SEARCH looks for them (RFC 9051, section 6.4.4).
+
 use Rattle.std.specs.Prelude.{ℕ, Bool, ◌&&◌, ◌||◌, ◌==◌, List, [], ◌∷◌, length, take, if◌then◌else◌}
 use Rattle.std.specs.List.{concat, list_any}
 use Rattle.std.specs.Str.{bytes_eq}
@@ -5,21 +7,22 @@ use Rattle.imap_types.specs.Keywords.{to_lower_case}
 use Rattle.mail_text.specs.HeaderFields.{field_lines, fields_in, first_asked, has_asked_name}
 use Rattle.mail_text.specs.TextLines.{lines_of}
 
--- Whether a text begins with a word, in any case of ASCII letters.
+-- Whether a text begins with a word, compared without case.
 abbrev pub begins_with : List ℕ → List ℕ → Bool
 begins_with word text = bytes_eq (to_lower_case (take (length word) text)) (to_lower_case word)
 
--- Whether some place of a text begins with a word, in any case of ASCII letters. The text's end is a place too.
+-- Whether a word occurs at some place of a text, compared without case. The text's end is a place
+-- too.
 abbrev pub holds : List ℕ → List ℕ → Bool
 holds word [] = begins_with word []
 holds word (octet ∷ octets) = begins_with word (octet ∷ octets) || holds word octets
 
--- The octets behind the first colon.
+-- The octets after the first colon.
 abbrev pub after_colon : List ℕ → List ℕ
 after_colon [] = []
 after_colon (octet ∷ octets) = if octet == 58 then octets else after_colon octets
 
--- Whether a field of this name, as its lines, holds a word behind its first colon.
+-- Whether a field, given as its lines, has this name and holds a word after its first colon.
 abbrev pub field_holds : List ℕ → List ℕ → List (List ℕ) → Bool
 field_holds name word field = first_asked (has_asked_name (name ∷ [])) field && holds word (after_colon (concat field))
 

@@ -1,3 +1,5 @@
+//! Date-times of moments, and days of date-times (RFC 9051, section 9, date-time).
+
 ghost use Rattle.std.specs.Prelude.{◌≡◌, ◌↔◌, ◌+◌, ◌/◌, ◌%◌, ◌<◌, ◌≤◌, IsTrue, length, pos, slice_index, unsigned_abs};
 ghost use Rattle.jiff.specs.Words.{epoch_day};
 ghost use Rattle.imap_types.specs.DateTimes.{IsDateTime, is_digit, two_digits};
@@ -7,7 +9,7 @@ use imap_types::{DATE_TIME_OCTETS, DateTime, Day, Moment};
 use jiff::ToSpan;
 use jiff::civil::{Date, date};
 
-/// The seconds of a day.
+/// The number of seconds of a day.
 const DAY: u64 = 86_400;
 
 /// A moment's date-time in UTC (RFC 9051, section 9, date-time).
@@ -22,7 +24,8 @@ pub fn civil(moment: Moment) -> DateTime
     }
 }
 
-/// Whether octets are a date-time with its quotes and a digit first (RFC 9051, section 9, date-time).
+/// Whether octets are a date-time with its quotes and two digits of the day (RFC 9051, section 9,
+/// date-time).
 pub fn date_ok(octets: &[u8]) -> bool
     ensures { IsTrue result ↔ IsDateTime octets.now }
 {
@@ -34,7 +37,7 @@ pub fn date_ok(octets: &[u8]) -> bool
     DateTime::new(text).is_some()
 }
 
-/// The day of a date-time as it is written, whatever its zone.
+/// The day of a date-time as it is written, in its own zone.
 pub fn written_day(date: &DateTime) -> Day
     ensures { result ≡ written_day date.now }
 {
@@ -46,7 +49,7 @@ pub fn written_day(date: &DateTime) -> Day
     }
 }
 
-/// The number that the two digits at a place of a date-time write.
+/// The number that the two digits from `place` of a date-time write.
 fn two_digits(octets: &[u8], place: usize) -> u8
     requires within { place + 1 < length octets.now }
     requires tens { IsTrue (is_digit (slice_index octets.now place)) }
@@ -57,7 +60,7 @@ fn two_digits(octets: &[u8], place: usize) -> u8
     (octets[place] - b'0') * 10 + (octets[place + 1] - b'0')
 }
 
-/// The day so many days after the first of 1970.
+/// The day `days` days after 1 January 1970.
 fn day_after_epoch(days: u32) -> Date
     requires { days ≤ 2_932_896 }
     ensures { epoch_day result ≡ pos days }
@@ -68,7 +71,7 @@ fn day_after_epoch(days: u32) -> Date
     }
 }
 
-/// The octets of a day's date-time in UTC, so many seconds after its midnight.
+/// The octets of the date-time in UTC, `seconds` seconds after a day's midnight.
 fn utc_octets(day: Date, seconds: u32) -> [u8; 28]
     requires { seconds < 86_400 }
     ensures { result ≡ utc_text (unsigned_abs day.year) day.month day.day seconds }
@@ -111,7 +114,7 @@ fn utc_octets(day: Date, seconds: u32) -> [u8; 28]
     ]
 }
 
-/// The three letters that name a month.
+/// The three letters that name a month from 1 to 12.
 fn month_name(month: u8) -> [u8; 3]
     ensures { result ≡ month_name month }
 {

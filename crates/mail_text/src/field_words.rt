@@ -1,3 +1,5 @@
+//! Words in the header fields of a message.
+
 ghost use Rattle.std.specs.Prelude.{◌≡◌, ◌≤◌, ◌&&◌, [], ◌∷◌, length, IfOk, MatchOption};
 ghost use Rattle.mail_text.specs.Cuts.{IsAfterContinuation, IsFirstField};
 ghost use Rattle.mail_text.specs.HeaderFields.{field_lines, fields_in, has_asked_name};
@@ -10,20 +12,21 @@ use crate::text_search::contains_nocase;
 use bstr::ByteSlice;
 use std::alloc::{AllocError, Global};
 
-/// A header field.
+/// A header field of a text.
 #[derive(Clone, Copy)]
 struct Field<'a> {
-    /// Its first line.
+    /// The field's first line.
     line: &'a [u8],
-    /// All its octets, line ends included.
+    /// All octets of the field, including line ends.
     octets: &'a [u8],
-    /// What follows it in the text.
+    /// What follows the field in the text.
     rest: &'a [u8],
 }
 
-/// Whether a word stands in a header field of this name, behind its first colon, in any case of ASCII letters
-/// (RFC 9051, section 6.4.4, HEADER). An empty word stands in each field. Time is linear in the text's length; `Err`
-/// where there is no memory for a field in lower case.
+/// Whether a word occurs in a header field of this name, after the field's first colon, without
+/// regard to the case of ASCII letters (RFC 9051, section 6.4.4, HEADER). An empty word occurs in
+/// each field. Time is linear in the text's length. `Err` if memory runs out for a field in lower
+/// case.
 pub fn field_contains_nocase(
     alloc: Global,
     text: &[u8],
@@ -47,7 +50,7 @@ pub fn field_contains_nocase(
     Ok(false)
 }
 
-/// Whether a field of this first line and these octets has this name and holds a word.
+/// Whether the field with this first line and these octets has this name and holds a word.
 fn holds(
     alloc: Global,
     line: &[u8],
@@ -63,7 +66,8 @@ fn holds(
     contains_nocase(alloc, after_colon(octets), word)
 }
 
-/// The first field of a text that begins within a header; `None` where the header has no more.
+/// The first field of a text that begins inside a header; `None` if the header has no further
+/// field.
 fn first_field(text: &[u8]) -> Option<Field<'_>>
     ensures { MatchOption result (fields_in (field_lines (lines_of text.now)) ≡ []) (λ field. IsFirstField text.now field.line.now field.octets.now field.rest.now) }
 {
@@ -79,7 +83,7 @@ fn first_field(text: &[u8]) -> Option<Field<'_>>
     Some(Field { line, octets, rest })
 }
 
-/// What follows the lines that go on with the field before them.
+/// What follows the lines that continue the field before them.
 fn after_continuations(text: &[u8]) -> &[u8]
     ensures cut { IsAfterContinuation text.now result.now }
     ensures within { length result.now ≤ length text.now }

@@ -1,18 +1,21 @@
+//! The header of a message and what follows it (RFC 9051, section 6.4.5.1).
+
 ghost use Rattle.std.specs.Prelude.{◌≡◌, ◌≤◌, ◌++◌, length};
 ghost use Rattle.mail_text.specs.Cuts.{IsAfterHeader};
 ghost use Rattle.mail_text.specs.HeaderAndBody.{body_of, header_of, partial_of};
 
 use crate::text_lines::{first_line, is_empty_line};
 
-/// The header of a message's text: its lines through the first empty one, or all (RFC 9051, section 6.4.5.1, HEADER).
-/// Time is linear in the header's length.
+/// The header of a message's text: its lines up to and including the first empty one, or all if no
+/// line is empty (RFC 9051, section 6.4.5.1, HEADER). Time is linear in the header's length.
 pub fn header(text: &[u8]) -> &[u8]
     ensures { result.now ≡ header_of text.now }
 {
     parts(text).0
 }
 
-/// What follows the header of a message's text (RFC 9051, section 6.4.5.1, TEXT), in the time of [`header`].
+/// What follows the header of a message's text (RFC 9051, section 6.4.5.1, TEXT). Time is linear in
+/// the header's length.
 pub fn body(text: &[u8]) -> &[u8]
     ensures { result.now ≡ body_of text.now }
 {
@@ -47,7 +50,8 @@ fn after_header(text: &[u8]) -> &[u8]
     rest
 }
 
-/// At most `count` octets from the place `start` on, the first of which is 0 (RFC 9051, section 6.4.5, partial).
+/// At most `count` octets from place `start`; the first octet has place 0 (RFC 9051, section 6.4.5,
+/// partial).
 pub fn partial(octets: &[u8], start: u32, count: u32) -> &[u8]
     ensures { result.now ≡ partial_of start count octets.now }
 {

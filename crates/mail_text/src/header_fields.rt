@@ -1,3 +1,5 @@
+//! The header fields of a message by their names (RFC 9051, section 6.4.5.1).
+
 ghost use Rattle.std.specs.Prelude.{◌≡◌, ◌≢◌, true, false, ◌++◌, [], OnOk, IfOk};
 ghost use Rattle.std.specs.Option.{option_map};
 ghost use Rattle.imap_types.specs.Keywords.{has_keyword};
@@ -9,24 +11,25 @@ use bstr::ByteSlice;
 use imap_types::Octets;
 use std::alloc::{AllocError, Global};
 
-/// The header fields of these names with the lines that continue them, in the order of the text, and then the empty
-/// line where there is one (RFC 9051, section 6.4.5.1, HEADER.FIELDS). Time is linear in the text's length for each
-/// name; `Err` where there is no memory for them.
+/// The header fields with one of these names, including the lines that continue them, in the order
+/// of the text, and then the empty line if there is one (RFC 9051, section 6.4.5.1, HEADER.FIELDS).
+/// Time is linear in the text's length for each name. `Err` if memory runs out.
 pub fn fields(alloc: Global, text: &[u8], names: &[Octets]) -> Result<Vec<u8>, AllocError>
     ensures { IfOk result (λ kept. kept.items ≡ fields_of true names.now text.now) }
 {
     select_fields(alloc, text, names, true)
 }
 
-/// The header fields of all other names, and lines without a name, as [`fields`] gives those of these names
-/// (RFC 9051, section 6.4.5.1, HEADER.FIELDS.NOT).
+/// The header fields with other names, and lines without a name, in the order of the text, and then
+/// the empty line if there is one (RFC 9051, section 6.4.5.1, HEADER.FIELDS.NOT). Time is linear in
+/// the text's length for each name. `Err` if memory runs out.
 pub fn other_fields(alloc: Global, text: &[u8], names: &[Octets]) -> Result<Vec<u8>, AllocError>
     ensures { IfOk result (λ kept. kept.items ≡ fields_of false names.now text.now) }
 {
     select_fields(alloc, text, names, false)
 }
 
-/// The header fields of these names, where `named`, or all others.
+/// The header fields with one of these names if `named`, else all others.
 fn select_fields(
     alloc: Global,
     text: &[u8],
@@ -67,7 +70,7 @@ fn push_taken(found: &mut Vec<u8>, keep: bool, line: &[u8]) -> Result<(), AllocE
     Ok(())
 }
 
-/// Whether a line is kept.
+/// Whether a line is selected; `keep` says whether the line before it was.
 fn takes(line: &[u8], keep: bool, names: &[Octets], named: bool) -> bool
     ensures { result ≡ takes_line (is_asked_field named names.now) keep line.now }
 {
@@ -78,7 +81,7 @@ fn takes(line: &[u8], keep: bool, names: &[Octets], named: bool) -> bool
     }
 }
 
-/// Whether a line goes on with the field before it.
+/// Whether a line continues the field before it.
 pub fn is_continuation(line: &[u8]) -> bool
     ensures { result ≡ is_continuation line.now }
 {
@@ -94,7 +97,7 @@ fn is_blank(octet: u8) -> bool
     octet == b' ' || octet == b'\t'
 }
 
-/// Whether a line begins a field that is asked for.
+/// Whether a line begins a selected field.
 fn is_asked_field(line: &[u8], names: &[Octets], named: bool) -> bool
     ensures { result ≡ is_asked_field named names.now line.now }
 {

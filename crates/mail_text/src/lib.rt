@@ -1,5 +1,20 @@
-//! The texts of messages (RFC 5322): their header and what follows it, header fields, partials, words in them in any
-//! case; and date-times of moments.
+//! The texts of messages (RFC 5322): header and body, header fields by name, partial texts, words
+//! compared without case; and the date-times of moments.
+//!
+//! `header` and `body` divide a text at its first empty line; `fields` and `other_fields` select
+//! header fields as FETCH asks for them (RFC 9051, section 6.4.5.1); `partial` cuts a range of
+//! octets. `contains_nocase` and `field_contains_nocase` look for a word as SEARCH does (RFC 9051,
+//! section 6.4.4). `civil` gives the date-time of a moment in UTC, `written_day` the day of a
+//! date-time in its own zone.
+//!
+//! Contracts say what each result is as a filter or a cut of the whole text: the text's lines, the
+//! fields that these lines form, and those among them that are selected. Calls that make new octets
+//! return `Err` if memory runs out; all others take none.
+//!
+//! # Decided
+//!
+//! - Octets in messages are found by `bstr`, whose contracts say where each search ends in the
+//!   words of `memchr`; that crate is a dependency only for its lemmas.
 #![tactic(auto)]
 
 mod dates;

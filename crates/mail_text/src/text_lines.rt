@@ -1,3 +1,5 @@
+//! The lines of a text (RFC 5322, section 2.1).
+
 ghost use Rattle.std.specs.Prelude.{◌≡◌, ◌≢◌, ◌∷◌, ◌+◌, ◌++◌, ◌<◌, [], length, drop};
 ghost use Rattle.mail_text.specs.TextLines.{is_empty_line, lines_of};
 
@@ -16,7 +18,7 @@ pub fn first_line(text: &[u8]) -> (&[u8], &[u8])
     }
 }
 
-/// Whether a line is the empty one.
+/// Whether a line is only CRLF.
 pub fn is_empty_line(line: &[u8]) -> bool
     ensures { result ≡ is_empty_line line.now }
 {
