@@ -1,3 +1,6 @@
+-- Which answers may be sent: the grammar of responses, read as conditions on the value of an answer
+-- (RFC 9051, section 9; RFC 7162, section 7).
+
 use Rattle.std.specs.Prelude.{◌≡◌, ℕ, ◌<◌, ◌^◌, Bool, not, ◌&&◌, ◌||◌, ◌==◌, is_some, List, [], ◌∷◌, length, Option, Some, None, IsTrue}
 use Rattle.std.specs.List.{list_all}
 use Rattle.imap_types.specs.DateTimes.{IsDateTime}
@@ -18,24 +21,26 @@ use Rattle.imap_answers.specs.declared.fetch_items.SectionData.{SectionData}
 use Rattle.imap_answers.specs.declared.mailbox.SearchResults.{SearchResults}
 use Rattle.imap_answers.specs.declared.mailbox.StatusItems.{StatusItems}
 
--- A fact holds of each element.
+-- A property holds for each element.
 abbrev pub Each : {X : Type 0} → (X → Type 0) → List X → Type 0
 Each P [] = Unit {0}
 Each P (x ∷ xs) = P x × Each P xs
 
--- A fact holds of what is there.
+-- A property holds for the value of an option, if it has one.
 abbrev pub Where : {X : Type 0} → (X → Type 0) → Option X → Type 0
 Where P None = Unit {0}
 Where P (Some x) = P x
 
--- A number of 32 bits, as message numbers and UIDs are, and one of 64 bits (RFC 9051, section 9, number and number64).
+-- A number of 32 bits, such as a message number or UID (RFC 9051, section 9, number).
 abbrev pub IsSmall : ℕ → Type 0
 IsSmall n = n < 2 ^ 32
 
+-- A number of 64 bits (RFC 9051, section 9, number64).
 abbrev pub IsWide : ℕ → Type 0
 IsWide n = n < 2 ^ 64
 
--- A number from 1 on in 32 bits, as message numbers, UIDs and UIDVALIDITY are (RFC 9051, section 9, nz-number).
+-- A number of 32 bits from 1 on: a message number, UID or UIDVALIDITY (RFC 9051, section 9,
+-- nz-number).
 abbrev pub IsNonzero : ℕ → Type 0
 IsNonzero n = (0 < n) × IsSmall n
 
@@ -51,7 +56,7 @@ IsTag tag = IsTrue (not (length tag == 0) && list_all is_tag_octet tag)
 abbrev pub IsAtom : List ℕ → Type 0
 IsAtom word = IsTrue (not (length word == 0) && list_all is_atom_octet word)
 
--- A set of numbers that isn't empty (RFC 9051, section 9, sequence-set).
+-- A set of numbers that isn't empty, in ascending order (RFC 9051, section 9, sequence-set).
 pub record IsSet (numbers : List ℕ) : Type 0 where
   pub filled : 0 < length numbers
   pub rising : AreRisingFrom 1 numbers
@@ -61,11 +66,12 @@ pub record IsSet (numbers : List ℕ) : Type 0 where
 abbrev pub AreFlags : Flags → Type 0
 AreFlags flags = AreKeywords flags.keywords × Each IsAtom flags.keywords
 
--- A name with INBOX in capitals (RFC 9051, section 5.1).
+-- A mailbox name in which INBOX is in capitals (RFC 9051, section 5.1).
 abbrev pub IsFolded : List ℕ → Type 0
 IsFolded name = fold_inbox name ≡ name
 
--- One name of a header field or more, of lengths that can be counted (RFC 9051, section 9, header-list).
+-- One or more names of header fields, each with a length of 64 bits (RFC 9051, section 9,
+-- header-list).
 abbrev pub AreFieldNames : List (List ℕ) → Type 0
 AreFieldNames names = (0 < length names) × Each (λ name. IsWide (length name)) names
 
@@ -77,17 +83,18 @@ IsSection section.Text = Unit {0}
 IsSection (section.Fields names) = AreFieldNames names
 IsSection (section.FieldsNot names) = AreFieldNames names
 
+-- A section with its octets, and the offset of a partial range (RFC 9051, section 7.5.2).
 pub record IsPart (part : SectionData) : Type 0 where
   pub section : IsSection part.section
   pub origin : Where IsSmall part.origin
   pub octets : IsWide (length part.octets)
 
--- Whether anything is told of a message.
+-- Whether there is at least one item of a message.
 abbrev pub tells_of_message : FetchItems → Bool
 tells_of_message items =
     is_some items.uid || is_some items.flags || is_some items.date || is_some items.size || is_some items.modseq || not (length items.sections == 0)
 
--- What FETCH tells: one thing at least (RFC 9051, section 9, msg-att).
+-- The items of FETCH: at least one (RFC 9051, section 9, msg-att).
 pub record AreFetchItems (items : FetchItems) : Type 0 where
   pub some : IsTrue (tells_of_message items)
   pub uid : Where IsNonzero items.uid
@@ -97,12 +104,13 @@ pub record AreFetchItems (items : FetchItems) : Type 0 where
   pub modseq : Where IsModSeq items.modseq
   pub sections : Each IsPart items.sections
 
--- Whether anything is told of a mailbox.
+-- Whether there is at least one item of a mailbox.
 abbrev pub tells_of_mailbox : StatusItems → Bool
 tells_of_mailbox items =
     is_some items.messages || is_some items.uidnext || is_some items.uidvalidity || is_some items.unseen || is_some items.deleted || is_some items.size || is_some items.highest_modseq
 
--- What STATUS tells: one thing at least, as each STATUS asks for one (RFC 9051, section 6.3.11).
+-- The items of STATUS: at least one, since each STATUS command asks for one (RFC 9051, section
+-- 6.3.11).
 pub record AreStatusItems (items : StatusItems) : Type 0 where
   pub some : IsTrue (tells_of_mailbox items)
   pub messages : Where IsSmall items.messages
@@ -113,11 +121,12 @@ pub record AreStatusItems (items : StatusItems) : Type 0 where
   pub size : Where IsWide items.size
   pub highest_modseq : Where IsModSeq items.highest_modseq
 
--- All hits, none or a set.
+-- All hits of a search: none, or a set.
 abbrev pub AreHits : List ℕ → Type 0
 AreHits [] = Unit {0}
 AreHits (hit ∷ hits) = IsSet (hit ∷ hits)
 
+-- The results of a search (RFC 9051, section 7.3.4; RFC 7162, section 3.1.10).
 pub record AreResults (results : SearchResults) : Type 0 where
   pub min : Where IsNonzero results.min
   pub max : Where IsNonzero results.max
@@ -125,13 +134,15 @@ pub record AreResults (results : SearchResults) : Type 0 where
   pub count : Where IsSmall results.count
   pub modseq : Where IsModSeq results.modseq
 
--- A UIDVALIDITY, and as many UIDs before copying as behind it (RFC 9051, section 7.1, COPYUID).
+-- A UIDVALIDITY, the UIDs of the copied messages, and as many UIDs of the copies (RFC 9051, section
+-- 7.1, COPYUID).
 pub record IsCopied (uidvalidity : ℕ) (source copies : List ℕ) : Type 0 where
   pub validity : IsNonzero uidvalidity
   pub sources : IsSet source
   pub copied : IsSet copies
   pub alike : length source ≡ length copies
 
+-- The code of an untagged OK (RFC 9051, section 7.1; RFC 7162, section 3.1.2.1).
 abbrev pub IsNotice : Notice → Type 0
 IsNotice notice.Closed = Unit {0}
 IsNotice (notice.UidValidity value) = IsNonzero value
@@ -140,6 +151,7 @@ IsNotice (notice.PermanentFlags flags) = Where AreFlags flags
 IsNotice (notice.HighestModSeq modseq) = IsModSeq modseq
 IsNotice (notice.CopyUid uidvalidity source copies) = IsCopied uidvalidity source copies
 
+-- The code of a tagged OK (RFC 9051, section 7.1; RFC 7162, section 3.1.3).
 abbrev pub IsCode : Code → Type 0
 IsCode code.ReadWrite = Unit {0}
 IsCode code.ReadOnly = Unit {0}
@@ -148,10 +160,11 @@ IsCode (code.CopyUid uidvalidity source copies) = IsCopied uidvalidity source co
 IsCode (code.Modified refused) = IsSet refused
 IsCode code.ExpungeIssued = Unit {0}
 
--- An answer that may be sent (RFC 9051, section 9; RFC 7162, section 7): its tag is a tag, its keywords are atoms, its names are
--- folded, no set that it has to name is empty, it tells one thing at least where it tells things of a message or a mailbox, its
--- header fields are one at least, message numbers, UIDs, UIDVALIDITY and mod-sequences are from 1 on, as many UIDs were copied as
--- there are copies, and its numbers have the bits that they are kept in.
+-- An answer that may be sent (RFC 9051, section 9; RFC 7162, section 7). Its tag is a tag, its
+-- keywords are atoms, and its names are folded. No set that it must name is empty. FETCH and STATUS
+-- send at least one item, and HEADER.FIELDS names at least one field. Message numbers, UIDs,
+-- UIDVALIDITY and mod-sequences are from 1 on. COPYUID has as many copies as sources. Each number
+-- fits the bits of its type.
 abbrev pub IsPrintable : Answer → Type 0
 IsPrintable (answer.Greeting login) = Unit {0}
 IsPrintable (answer.Continue awaited) = Unit {0}

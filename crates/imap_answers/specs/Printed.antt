@@ -1,3 +1,5 @@
+-- The text of each answer (RFC 9051, section 7; RFC 7162, section 3.1).
+
 use Rattle.std.specs.Prelude.{ℕ, Bool, true, false, List, [], ◌∷◌, ◌++◌, map, codes, decimal, Option, Some, None}
 use Rattle.imap_types.specs.Flags.{flag_texts}
 use Rattle.imap_types.specs.declared.date_time.DateTime.{DateTime}
@@ -19,20 +21,22 @@ use Rattle.imap_answers.specs.declared.mailbox.StatusItems.{StatusItems}
 use Rattle.imap_answers.specs.Strings.{crlf, field_text, item, labelled_number, literal_text, name_text, separated_by, set_text}
 use Rattle.imap_answers.specs.Words.{attributes_text, bye_text, command_text, continuation_text, enabled_text, greeting_text, refusal_text}
 
--- Flags in parentheses, with spaces (32) between them (RFC 9051, section 9, flag-list).
+-- Flags in parentheses, separated by spaces (32) (RFC 9051, section 9, flag-list).
 abbrev pub flags_text : Flags → List ℕ
 flags_text flags = codes "(" ++ separated_by 32 (flag_texts flags) ++ codes ")"
 
--- The flags that can be changed for good: these and any new keyword, or none (RFC 9051, section 7.1).
+-- The flags that can be changed permanently: these and any new keyword, or none (RFC 9051, section
+-- 7.1, PERMANENTFLAGS).
 abbrev pub permanent_text : Option Flags → List ℕ
 permanent_text None = codes "()"
 permanent_text (Some flags) = codes "(" ++ separated_by 32 (flag_texts flags ++ codes "\\*" ∷ []) ++ codes ")"
 
--- The UIDs before and after copying.
+-- The UIDs of the copied messages, then those of their copies.
 abbrev pub sets_text : List ℕ → List ℕ → List ℕ
 sets_text source copies = set_text source ++ codes " " ++ set_text copies
 
--- A UIDVALIDITY, and the UIDs before and after copying (RFC 9051, section 7.1, COPYUID).
+-- The UIDVALIDITY of the copies, then the UIDs of sources and copies (RFC 9051, section 7.1,
+-- COPYUID).
 abbrev pub copied_text : ℕ → List ℕ → List ℕ → List ℕ
 copied_text uidvalidity source copies = codes "[COPYUID " ++ decimal uidvalidity ++ codes " " ++ sets_text source copies ++ codes "]"
 
@@ -45,7 +49,7 @@ notice_text (notice.PermanentFlags flags) = codes "[PERMANENTFLAGS " ++ permanen
 notice_text (notice.HighestModSeq modseq) = codes "[HIGHESTMODSEQ " ++ decimal modseq ++ codes "]"
 notice_text (notice.CopyUid uidvalidity source copies) = copied_text uidvalidity source copies
 
--- A UIDVALIDITY, and the UID of what was appended (RFC 9051, section 7.1, APPENDUID).
+-- The UIDVALIDITY and UID of the appended message (RFC 9051, section 7.1, APPENDUID).
 abbrev pub appended_text : ℕ → ℕ → List ℕ
 appended_text uidvalidity uid = codes "[APPENDUID " ++ decimal uidvalidity ++ codes " " ++ decimal uid ++ codes "]"
 
@@ -58,12 +62,12 @@ code_text (code.CopyUid uidvalidity source copies) = copied_text uidvalidity sou
 code_text (code.Modified refused) = codes "[MODIFIED " ++ set_text refused ++ codes "]"
 code_text code.ExpungeIssued = codes "[EXPUNGEISSUED]"
 
--- The same with a space behind it, and nothing where there is none.
+-- The code of a tagged OK and a space, or nothing if there is no code.
 abbrev pub code_before : Option Code → List ℕ
 code_before None = []
 code_before (Some code) = code_text code ++ codes " "
 
--- What STATUS tells, each number behind its word (RFC 9051, section 7.3.3).
+-- The items of STATUS, each a word and its number (RFC 9051, section 7.3.3).
 abbrev pub status_texts : StatusItems → List (List ℕ)
 status_texts items =
     item (codes "MESSAGES ") items.messages
@@ -74,12 +78,12 @@ status_texts items =
     ++ item (codes "SIZE ") items.size
     ++ item (codes "HIGHESTMODSEQ ") items.highest_modseq
 
--- All hits, where there are any (RFC 9051, section 7.3.4).
+-- All hits, if any (RFC 9051, section 7.3.4).
 abbrev pub all_text : List ℕ → List ℕ
 all_text [] = []
 all_text (hit ∷ hits) = codes " ALL " ++ set_text (hit ∷ hits)
 
--- What a search found (RFC 9051, section 7.3.4; RFC 7162, section 3.1.10).
+-- The results of a search (RFC 9051, section 7.3.4; RFC 7162, section 3.1.10).
 abbrev pub results_text : SearchResults → List ℕ
 results_text results =
     labelled_number (codes " MIN ") results.min
@@ -88,7 +92,7 @@ results_text results =
     ++ labelled_number (codes " COUNT ") results.count
     ++ labelled_number (codes " MODSEQ ") results.modseq
 
--- A part of a message, as it was asked (RFC 9051, section 9, section-spec).
+-- The name of a section, as the command gave it (RFC 9051, section 9, section-spec).
 abbrev pub section_text : Section → List ℕ
 section_text section.Whole = []
 section_text section.Header = codes "HEADER"
@@ -96,29 +100,31 @@ section_text section.Text = codes "TEXT"
 section_text (section.Fields names) = codes "HEADER.FIELDS (" ++ separated_by 32 (map field_text names) ++ codes ")"
 section_text (section.FieldsNot names) = codes "HEADER.FIELDS.NOT (" ++ separated_by 32 (map field_text names) ++ codes ")"
 
--- Where a partial begins.
+-- The offset of a partial range, if any (RFC 9051, section 7.5.2).
 abbrev pub origin_text : Option ℕ → List ℕ
 origin_text None = []
 origin_text (Some origin) = codes "<" ++ decimal origin ++ codes ">"
 
--- A part of a message with its octets (RFC 9051, section 7.5.2).
+-- A section of a message with its octets (RFC 9051, section 7.5.2).
 abbrev pub body_text : SectionData → List ℕ
 body_text part = codes "BODY[" ++ section_text part.section ++ codes "]" ++ origin_text part.origin ++ codes " " ++ literal_text part.octets
 
--- The flags of a message, its date and its mod-sequence, each where it is told (RFC 9051, section 7.5.2; RFC 7162, section 3.1.4.1).
+-- The flags of a message, if sent (RFC 9051, section 7.5.2).
 abbrev pub flags_item : Option Flags → List (List ℕ)
 flags_item None = []
 flags_item (Some flags) = (codes "FLAGS " ++ flags_text flags) ∷ []
 
+-- The internal date of a message, if sent (RFC 9051, section 7.5.2).
 abbrev pub date_item : Option DateTime → List (List ℕ)
 date_item None = []
 date_item (Some date) = (codes "INTERNALDATE " ++ date) ∷ []
 
+-- The mod-sequence of a message, if sent (RFC 7162, section 3.1.4.1).
 abbrev pub modseq_item : Option ℕ → List (List ℕ)
 modseq_item None = []
 modseq_item (Some modseq) = (codes "MODSEQ (" ++ decimal modseq ++ codes ")") ∷ []
 
--- What FETCH tells of a message (RFC 9051, section 7.5.2).
+-- The items of FETCH in their order (RFC 9051, section 7.5.2).
 abbrev pub fetch_texts : FetchItems → List (List ℕ)
 fetch_texts items =
     item (codes "UID ") items.uid
@@ -136,12 +142,12 @@ list_text name state subscribed = codes "* LIST " ++ attributes_text state subsc
 abbrev pub status_text : List ℕ → StatusItems → List ℕ
 status_text name items = codes "* STATUS " ++ name_text name ++ codes " (" ++ separated_by 32 (status_texts items) ++ codes ")"
 
--- The end of the tag in ESEARCH, and whether it tells UIDs (RFC 9051, section 7.3.4).
+-- The text after the tag in ESEARCH, by whether the hits are UIDs (RFC 9051, section 7.3.4).
 abbrev pub uid_mark : Bool → List ℕ
 uid_mark true = codes "\") UID"
 uid_mark false = codes "\")"
 
--- A search's hits (RFC 9051, section 7.3.4).
+-- The results of the search with this tag, as ESEARCH sends them (RFC 9051, section 7.3.4).
 abbrev pub search_text : List ℕ → Bool → SearchResults → List ℕ
 search_text tag by_uid results = codes "* ESEARCH (TAG \"" ++ tag ++ uid_mark by_uid ++ results_text results
 
@@ -149,7 +155,7 @@ search_text tag by_uid results = codes "* ESEARCH (TAG \"" ++ tag ++ uid_mark by
 abbrev pub fetch_text : ℕ → FetchItems → List ℕ
 fetch_text number items = codes "* " ++ decimal number ++ codes " FETCH (" ++ separated_by 32 (fetch_texts items) ++ codes ")"
 
--- The tagged line of a command that is done (RFC 9051, section 7.1.1).
+-- The tagged line of a completed command (RFC 9051, section 7.1.1).
 abbrev pub completed_text : List ℕ → Option Code → CompletedWord → List ℕ
 completed_text tag code command = tag ++ codes " OK " ++ code_before code ++ command_text command ++ codes " completed"
 
@@ -174,6 +180,6 @@ line_of_answer answer.LiteralTooLong = codes "* NO [LIMIT] literal too long"
 line_of_answer (answer.Completed tag code command) = completed_text tag code command
 line_of_answer (answer.Refused tag reason) = tag ++ codes " " ++ refusal_text reason
 
--- The one text of an answer (RFC 9051, section 7; the words behind codes are this project's own).
+-- The one text of an answer (RFC 9051, section 7; the words after codes are this project's own).
 abbrev pub text_of_answer : Answer → List ℕ
 text_of_answer answer = line_of_answer answer ++ crlf

@@ -1,3 +1,6 @@
+-- The parts of answers that are fixed texts (RFC 9051, sections 7.1 to 7.3 and 7.6; the words after
+-- codes are this project's own).
+
 use Rattle.std.specs.Prelude.{ℕ, Bool, true, false, List, codes}
 use Rattle.imap_answers.specs.declared.fixed_words.Login.{Login}
 use Rattle.imap_answers.specs.declared.fixed_words.Login.TheVariants as login
@@ -14,17 +17,17 @@ use Rattle.imap_answers.specs.declared.fixed_words.CompletedWord.TheVariants as 
 use Rattle.imap_answers.specs.declared.mailbox.MailboxState.{MailboxState}
 use Rattle.imap_answers.specs.declared.mailbox.MailboxState.TheVariants as state
 
--- The greetings (RFC 9051, sections 7.1.1 and 7.1.4).
+-- The greetings, without their line ends (RFC 9051, sections 7.1.1 and 7.1.4).
 abbrev pub greeting_text : Login → List ℕ
 greeting_text login.Wanted = codes "* OK [CAPABILITY IMAP4rev2 IDLE CONDSTORE] ready"
 greeting_text login.Given = codes "* PREAUTH [CAPABILITY IMAP4rev2 IDLE CONDSTORE] ready"
 
--- What the server waits for (RFC 9051, section 7.6; RFC 2177).
+-- The continuation requests (RFC 9051, section 7.6; RFC 2177).
 abbrev pub continuation_text : Continuation → List ℕ
 continuation_text continuation.Ready = codes "+ ready"
 continuation_text continuation.Idling = codes "+ idling"
 
--- The extensions that are on now (RFC 9051, section 7.2.1).
+-- The answer to ENABLE: the extensions that are on now (RFC 9051, section 7.2.1).
 abbrev pub enabled_text : EnabledExtensions → List ℕ
 enabled_text enabled.Nothing = codes "* ENABLED"
 enabled_text enabled.Condstore = codes "* ENABLED CONDSTORE"
@@ -32,7 +35,7 @@ enabled_text enabled.Imap4Rev2 = codes "* ENABLED IMAP4rev2"
 enabled_text enabled.CondstoreImap4Rev2 = codes "* ENABLED CONDSTORE IMAP4rev2"
 enabled_text enabled.Imap4Rev2Condstore = codes "* ENABLED IMAP4rev2 CONDSTORE"
 
--- Why the connection ends (RFC 9051, section 7.1.5).
+-- The answer that announces the end of a connection, with its reason (RFC 9051, section 7.1.5).
 abbrev pub bye_text : ByeReason → List ℕ
 bye_text bye.LoggingOut = codes "* BYE logging out"
 bye_text bye.LineTooLong = codes "* BYE line too long"
@@ -42,7 +45,7 @@ bye_text bye.NoMemory = codes "* BYE no memory"
 bye_text bye.ReplicaChanged = codes "* BYE replica changed"
 bye_text bye.TooManySessions = codes "* BYE too many sessions"
 
--- Why a command isn't done, behind its tag (RFC 9051, sections 7.1.2 and 7.1.3).
+-- The text after the tag of a refused command (RFC 9051, sections 7.1.2 and 7.1.3).
 abbrev pub refusal_text : Refusal → List ℕ
 refusal_text refusal.NoSuchMailbox = codes "NO [NONEXISTENT] no such mailbox"
 refusal_text refusal.NoDestination = codes "NO [TRYCREATE] no such mailbox"
@@ -64,7 +67,7 @@ refusal_text refusal.NotNow = codes "BAD not now"
 refusal_text refusal.NoSuchMessage = codes "BAD no such message"
 refusal_text refusal.DoneExpected = codes "BAD DONE expected"
 
--- A command's name in capitals.
+-- A command's name in capitals, as a tagged OK repeats it.
 abbrev pub command_text : CompletedWord → List ℕ
 command_text command.Capability = codes "CAPABILITY"
 command_text command.Noop = codes "NOOP"

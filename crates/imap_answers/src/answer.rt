@@ -1,3 +1,5 @@
+//! An answer to a client as one value (RFC 9051, section 7).
+
 ghost use Rattle.std.specs.Prelude.{◌≡◌, ◌↔◌, IfOk, IsTrue};
 
 use crate::codes::{Code, Notice};
@@ -9,23 +11,24 @@ use crate::mailbox::{MailboxState, SearchResults, StatusItems};
 use imap_types::{Flags, Name, Octets};
 use std::alloc::{AllocError, Global};
 
-/// One answer to a client (RFC 9051, section 7).
+/// One answer to a client (RFC 9051, section 7). Which values may be sent is said by `IsPrintable`
+/// (`specs/Printable`).
 pub enum Answer {
     /// The greeting of a connection.
     Greeting {
         login: Login,
     },
-    /// The client may go on.
+    /// The server waits for more from the client.
     Continue {
         with: Continuation,
     },
-    /// What the server can do.
+    /// The server's capabilities.
     Capability,
     /// The extensions that are on now.
     Enabled {
         extensions: EnabledExtensions,
     },
-    /// Where mailboxes live.
+    /// The namespaces of mailboxes (RFC 9051, section 7.3.2).
     Namespace,
     /// The flags of the mailbox.
     Flags {
@@ -35,7 +38,7 @@ pub enum Answer {
     Exists {
         count: u32,
     },
-    /// The message of this number, from 1 on, is gone.
+    /// The message with this number, from 1 on, was removed.
     Expunge {
         number: u32,
     },
@@ -45,11 +48,11 @@ pub enum Answer {
         state: MailboxState,
         subscribed: bool,
     },
-    /// Something told by an untagged OK.
+    /// An untagged OK with a code.
     Tell {
         notice: Notice,
     },
-    /// Numbers of a mailbox.
+    /// The counts and numbers that STATUS asked for.
     Status {
         name: Name,
         items: StatusItems,
@@ -60,33 +63,33 @@ pub enum Answer {
         by_uid: bool,
         results: SearchResults,
     },
-    /// The message of this number, from 1 on.
+    /// Data of the message with this number, from 1 on.
     Fetch {
         number: u32,
         items: FetchItems,
     },
-    /// The connection ends.
+    /// The server closes the connection.
     Bye {
         reason: ByeReason,
     },
-    /// A line had no tag.
+    /// `BAD` for a line without a tag.
     NoTag,
-    /// A line without a tag had literals that are too long.
+    /// `NO` for literals that are too long, after a line without a tag.
     LiteralTooLong,
-    /// The command with this tag is done.
+    /// The command with this tag is completed.
     Completed {
         tag: Octets,
         code: Option<Code>,
         command: CompletedWord,
     },
-    /// The command with this tag isn't done.
+    /// The command with this tag is refused.
     Refused {
         tag: Octets,
         reason: Refusal,
     },
 }
 
-// By hand, so that crates above let it go as a whole.
+// By hand, so that crates above drop it whole.
 impl Drop for Answer {
     fn drop(self) {
         match self {
@@ -128,7 +131,7 @@ impl Drop for Answer {
 }
 
 impl Answer {
-    /// Whether both are the same answer.
+    /// Whether both are the same answer, compared by value.
     pub fn same(&self, other: &Answer) -> bool
         ensures { IsTrue result ↔ (self.now ≡ other.now) }
     {
@@ -204,7 +207,7 @@ impl Answer {
         }
     }
 
-    /// An equal answer; `Err` where there is no memory for it.
+    /// An equal answer; `Err` if memory runs out.
     pub fn copy(&self, alloc: Global) -> Result<Answer, AllocError>
         ensures { IfOk result (λ copied. copied ≡ self.now) }
     {
@@ -266,6 +269,7 @@ impl Answer {
     }
 }
 
+/// Whether both have the same STATUS items.
 fn are_same_items(items: &StatusItems, others: &StatusItems) -> bool
     ensures { IsTrue result ↔ (items.now ≡ others.now) }
 {
@@ -275,7 +279,7 @@ fn are_same_items(items: &StatusItems, others: &StatusItems) -> bool
         && items.highest_modseq == others.highest_modseq
 }
 
-/// Whether both count the same messages.
+/// Whether the counts of messages and the sizes are the same.
 fn are_same_counts(items: &StatusItems, others: &StatusItems) -> bool
     ensures { IsTrue result ↔ ((items.now.messages ≡ others.now.messages) × (items.now.unseen ≡ others.now.unseen) × (items.now.deleted ≡ others.now.deleted) × (items.now.size ≡ others.now.size)) }
 {
@@ -285,6 +289,7 @@ fn are_same_counts(items: &StatusItems, others: &StatusItems) -> bool
         && items.size == others.size
 }
 
+/// Whether both are the same code, or both none.
 fn are_same_codes(code: &Option<Code>, other: &Option<Code>) -> bool
     ensures { IsTrue result ↔ (code.now ≡ other.now) }
 {
@@ -295,6 +300,7 @@ fn are_same_codes(code: &Option<Code>, other: &Option<Code>) -> bool
     }
 }
 
+/// An equal code, if any; `Err` if memory runs out.
 fn copy_code(alloc: Global, code: &Option<Code>) -> Result<Option<Code>, AllocError>
     ensures { IfOk result (λ copied. copied ≡ code.now) }
 {

@@ -1,4 +1,4 @@
-//! What stands in brackets behind an OK (RFC 9051, section 7.1; RFC 7162, section 3.1.2).
+//! The codes in brackets after an OK (RFC 9051, section 7.1; RFC 7162, sections 3.1.2 and 3.1.3).
 
 ghost use Rattle.std.specs.Prelude.{◌≡◌, ◌↔◌, IfOk, IsTrue};
 
@@ -7,28 +7,31 @@ use std::alloc::{AllocError, Global};
 
 /// The code of a tagged OK. UIDVALIDITY and UIDs are from 1 on.
 pub enum Code {
+    /// SELECT opened the mailbox for reading and writing.
     ReadWrite,
+    /// EXAMINE opened the mailbox for reading only.
     ReadOnly,
     /// The appended message has this UID under this UIDVALIDITY.
     AppendUid {
         uidvalidity: u32,
         uid: u32,
     },
-    /// The messages with the UIDs in `source` were copied, in order, to those in `copies` under this UIDVALIDITY.
+    /// The messages with the UIDs in `source` were copied; the copies have the UIDs in `copies`, in
+    /// the same order, under this UIDVALIDITY.
     CopyUid {
         uidvalidity: u32,
         source: NumberSet,
         copies: NumberSet,
     },
-    /// These messages weren't changed, since UNCHANGEDSINCE refused them: numbers, or UIDs in the UID form.
+    /// The messages that UNCHANGEDSINCE left unchanged: message numbers, or UIDs after UID STORE.
     Modified {
         refused: NumberSet,
     },
-    /// Some of the messages named are gone.
+    /// Some of the named messages were removed.
     ExpungeIssued,
 }
 
-// By hand, so that crates above let it go as a whole.
+// By hand, so that crates above drop it whole.
 impl Drop for Code {
     fn drop(self) {
         match self {
@@ -50,7 +53,7 @@ impl Drop for Code {
 }
 
 impl Code {
-    /// Whether both are the same code.
+    /// Whether both are the same code, compared by value.
     pub fn same(&self, other: &Code) -> bool
         ensures { IsTrue result ↔ (self.now ≡ other.now) }
     {
@@ -86,7 +89,7 @@ impl Code {
         }
     }
 
-    /// An equal code; `Err` where there is no memory for it.
+    /// An equal code; `Err` if memory runs out.
     pub fn copy(&self, alloc: Global) -> Result<Code, AllocError>
         ensures { IfOk result (λ copied. copied ≡ self.now) }
     {
@@ -114,27 +117,29 @@ impl Code {
     }
 }
 
-/// What an untagged OK tells.
+/// The code of an untagged OK.
 pub enum Notice {
-    /// The mailbox that was selected is left.
+    /// The mailbox that was selected is closed.
     Closed,
     /// The UIDVALIDITY of the mailbox, from 1 on.
     UidValidity {
         value: u32,
     },
-    /// The next UID of the mailbox, from 1 on.
+    /// The UIDNEXT of the mailbox, from 1 on.
     UidNext {
         uid: u32,
     },
-    /// The flags that can be changed for good, and any new keyword; `None` where nothing can be changed.
+    /// The flags that can be changed permanently, and any new keyword; `None` if nothing can be
+    /// changed.
     PermanentFlags {
         flags: Option<Flags>,
     },
-    /// The greatest mod-sequence of the mailbox.
+    /// The greatest mod-sequence of the mailbox, from 1 on.
     HighestModSeq {
         modseq: u64,
     },
-    /// The messages with the UIDs in `source` were moved, in order, to those in `copies` under this UIDVALIDITY.
+    /// The messages with the UIDs in `source` were moved; they now have the UIDs in `copies`, in
+    /// the same order, under this UIDVALIDITY.
     CopyUid {
         uidvalidity: u32,
         source: NumberSet,
@@ -142,7 +147,7 @@ pub enum Notice {
     },
 }
 
-// By hand, so that crates above let it go as a whole.
+// By hand, so that crates above drop it whole.
 impl Drop for Notice {
     fn drop(self) {
         match self {
@@ -161,7 +166,7 @@ impl Drop for Notice {
 }
 
 impl Notice {
-    /// Whether both tell the same.
+    /// Whether both are the same notice, compared by value.
     pub fn same(&self, other: &Notice) -> bool
         ensures { IsTrue result ↔ (self.now ≡ other.now) }
     {
@@ -193,7 +198,7 @@ impl Notice {
         }
     }
 
-    /// An equal one; `Err` where there is no memory for it.
+    /// An equal notice; `Err` if memory runs out.
     pub fn copy(&self, alloc: Global) -> Result<Notice, AllocError>
         ensures { IfOk result (λ copied. copied ≡ self.now) }
     {
@@ -229,7 +234,7 @@ pub fn are_same_flags(flags: &Option<Flags>, others: &Option<Flags>) -> bool
     }
 }
 
-/// The same flags, where there are any.
+/// Equal flags, if any; `Err` if memory runs out.
 pub fn copy_flags(alloc: Global, flags: &Option<Flags>) -> Result<Option<Flags>, AllocError>
     ensures { IfOk result (λ copied. copied ≡ flags.now) }
 {

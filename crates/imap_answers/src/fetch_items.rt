@@ -1,4 +1,4 @@
-//! What a FETCH answer tells of a message (RFC 9051, section 7.5.2).
+//! The data of a message in a FETCH answer (RFC 9051, section 7.5.2).
 
 ghost use Rattle.std.specs.Prelude.{◌≡◌, ◌↔◌, IfOk, IsTrue};
 
@@ -7,21 +7,23 @@ use imap_types::{DateTime, Flags, Section, Text};
 use std::alloc::{AllocError, Global};
 use std::marker::Model;
 
-/// A message's parts, of what was asked.
+/// The items of a message that a FETCH answer sends; `None` for those left out.
 pub struct FetchItems {
+    /// Its UID, from 1 on.
     pub uid: Option<u32>,
+    /// All flags of the message.
     pub flags: Option<Flags>,
-    /// When it was appended.
+    /// Its internal date.
     pub date: Option<DateTime>,
-    /// The octets of its text.
+    /// The length of its text in octets.
     pub size: Option<u64>,
-    /// Its mod-sequence (RFC 7162, section 3.1.4.1).
+    /// Its mod-sequence, from 1 on (RFC 7162, section 3.1.4.1).
     pub modseq: Option<u64>,
-    /// Parts of its text, in the order asked.
+    /// Sections of its text, in the order of the command.
     pub sections: Sections,
 }
 
-// By hand, so that crates above let it go as a whole.
+// By hand, so that crates above drop it whole.
 impl Drop for FetchItems {
     fn drop(self) {
         let Self {
@@ -36,7 +38,7 @@ impl Drop for FetchItems {
 }
 
 impl FetchItems {
-    /// Whether both tell the same.
+    /// Whether both have the same items, compared by value.
     pub fn same(&self, other: &FetchItems) -> bool
         ensures { IsTrue result ↔ (self.now ≡ other.now) }
     {
@@ -48,7 +50,7 @@ impl FetchItems {
             && self.sections.same(&other.sections)
     }
 
-    /// Equal items; `Err` where there is no memory for them.
+    /// Equal items; `Err` if memory runs out.
     pub fn copy(&self, alloc: Global) -> Result<FetchItems, AllocError>
         ensures { IfOk result (λ copied. copied ≡ self.now) }
     {
@@ -63,6 +65,7 @@ impl FetchItems {
     }
 }
 
+/// Whether both are the same date-time, or both none.
 fn are_same_dates(date: &Option<DateTime>, other: &Option<DateTime>) -> bool
     ensures { IsTrue result ↔ (date.now ≡ other.now) }
 {
@@ -73,6 +76,7 @@ fn are_same_dates(date: &Option<DateTime>, other: &Option<DateTime>) -> bool
     }
 }
 
+/// An equal date-time, if any.
 fn copy_date(date: &Option<DateTime>) -> Option<DateTime>
     ensures { result ≡ date.now }
 {
@@ -82,16 +86,17 @@ fn copy_date(date: &Option<DateTime>) -> Option<DateTime>
     }
 }
 
-/// A part of a message's text.
+/// A section of a message's text, with its octets.
 pub struct SectionData {
+    /// The section.
     pub section: Section,
-    /// Where the octets begin in the section, where a partial was asked.
+    /// The offset of the octets in the section, if the command named a partial range.
     pub origin: Option<u32>,
-    /// Where the whole text is asked, shared with the message.
+    /// The octets; they share the message's memory if they are its whole text.
     pub octets: Text,
 }
 
-// By hand, so that crates above let it go as a whole.
+// By hand, so that crates above drop it whole.
 impl Drop for SectionData {
     fn drop(self) {
         let Self {
@@ -103,7 +108,7 @@ impl Drop for SectionData {
 }
 
 impl SectionData {
-    /// Whether both are the same part.
+    /// Whether both are the same section with the same octets.
     pub fn same(&self, other: &SectionData) -> bool
         ensures { IsTrue result ↔ (self.now ≡ other.now) }
     {
@@ -112,7 +117,7 @@ impl SectionData {
             && self.octets.same(&other.octets)
     }
 
-    /// An equal part; `Err` where there is no memory for it.
+    /// An equal value; `Err` if memory runs out.
     pub fn copy(&self, alloc: Global) -> Result<SectionData, AllocError>
         ensures { IfOk result (λ copied. copied ≡ self.now) }
     {
@@ -124,12 +129,12 @@ impl SectionData {
     }
 }
 
-/// Parts of a message's text in order, seen by contracts as their list.
+/// Sections of a message's text, in order. Contracts see them as a list.
 pub struct Sections {
     parts: Vec<SectionData>,
 }
 
-// By hand, so that crates above let it go as a whole.
+// By hand, so that crates above drop it whole.
 impl Drop for Sections {
     fn drop(self) {
         let Self { parts: _ } = self;
@@ -146,27 +151,27 @@ impl Model for Sections {
 }
 
 impl Sections {
-    /// These parts, whose memory it takes over.
+    /// The sections in `parts`, whose memory is taken over.
     pub fn new(parts: Vec<SectionData>) -> Sections
         ensures { result ≡ parts.items }
     {
         Sections { parts }
     }
 
-    /// The parts, in order.
+    /// The sections, in order.
     pub fn parts(&self) -> &[SectionData]
         ensures { result.now ≡ self.now }
     {
         &self.parts
     }
-    /// Whether both are the same parts.
+    /// Whether both are the same sections in the same order.
     pub fn same(&self, other: &Sections) -> bool
         ensures { IsTrue result ↔ (self.now ≡ other.now) }
     {
         are_same_parts(self.parts(), other.parts())
     }
 
-    /// Equal parts; `Err` where there is no memory for them.
+    /// Equal sections; `Err` if memory runs out.
     pub fn copy(&self, alloc: Global) -> Result<Sections, AllocError>
         ensures { IfOk result (λ copied. copied ≡ self.now) }
     {
@@ -176,6 +181,7 @@ impl Sections {
     }
 }
 
+/// Whether both lists are the same sections in the same order.
 fn are_same_parts(parts: &[SectionData], others: &[SectionData]) -> bool
     ensures { IsTrue result ↔ (parts.now ≡ others.now) }
 {
@@ -190,6 +196,7 @@ fn are_same_parts(parts: &[SectionData], others: &[SectionData]) -> bool
     true
 }
 
+/// Equal sections; `Err` if memory runs out.
 fn copy_parts(alloc: Global, parts: &[SectionData]) -> Result<Vec<SectionData>, AllocError>
     ensures { IfOk result (λ copied. copied.items ≡ parts.now) }
 {

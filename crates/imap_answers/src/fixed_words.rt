@@ -2,12 +2,12 @@
 
 use std::alloc::{AllocError, AllocFailed};
 
-/// What a greeting says of the user (RFC 9051, sections 7.1.1 and 7.1.4).
+/// Whether a connection begins with a login (RFC 9051, sections 7.1.1 and 7.1.4).
 #[derive(Clone, Copy, Debug, PartialEq, Eq)]
 pub enum Login {
-    /// `OK`: the user is to log in.
+    /// `OK`: the user must log in.
     Wanted,
-    /// `PREAUTH`: the user is known already.
+    /// `PREAUTH`: the user is logged in already.
     Given,
 }
 
@@ -26,12 +26,12 @@ impl Login {
     }
 }
 
-/// What the server waits for (RFC 9051, section 7.6; RFC 2177).
+/// What the server is waiting for (RFC 9051, section 7.6; RFC 2177).
 #[derive(Clone, Copy, Debug, PartialEq, Eq)]
 pub enum Continuation {
     /// The octets of a literal.
     Ready,
-    /// The end of IDLE.
+    /// The line that ends IDLE.
     Idling,
 }
 
@@ -39,7 +39,7 @@ impl Continuation {
     ghost use Rattle.std.specs.Prelude.{◌≡◌};
     ghost use Rattle.imap_answers.specs.Words.{continuation_text};
 
-    /// The line without its end.
+    /// The line without its line end.
     pub fn text(self) -> &'static [u8]
         ensures { result.now ≡ continuation_text self }
     {
@@ -50,7 +50,8 @@ impl Continuation {
     }
 }
 
-/// Which of the extensions that ENABLE asked for are on now, in the order first asked (RFC 9051, section 7.2.1).
+/// The extensions that ENABLE turned on, in the order in which they were first named (RFC 9051,
+/// section 7.2.1).
 #[derive(Clone, Copy, Debug, PartialEq, Eq)]
 pub enum EnabledExtensions {
     Nothing,
@@ -78,7 +79,7 @@ impl EnabledExtensions {
     }
 }
 
-/// Why the server ends the connection (RFC 9051, section 7.1.5).
+/// Why the server closes the connection (RFC 9051, section 7.1.5).
 #[derive(Clone, Copy, Debug, PartialEq, Eq)]
 pub enum ByeReason {
     LoggingOut,
@@ -110,24 +111,25 @@ impl ByeReason {
     }
 }
 
-/// Why a command isn't done: each is a tagged NO or BAD with its text (RFC 9051, sections 7.1.2 and 7.1.3).
+/// Why a command is refused. Each reason is a tagged NO or BAD with its own text (RFC 9051,
+/// sections 7.1.2 and 7.1.3).
 #[derive(Clone, Copy, Debug, PartialEq, Eq)]
 pub enum Refusal {
-    /// `NO [NONEXISTENT]`: the mailbox named isn't there.
+    /// `NO [NONEXISTENT]`: the named mailbox doesn't exist.
     NoSuchMailbox,
-    /// `NO [TRYCREATE]`: the mailbox that messages are to go to isn't there.
+    /// `NO [TRYCREATE]`: the destination mailbox doesn't exist.
     NoDestination,
-    /// `NO [ALREADYEXISTS]`: CREATE of a mailbox that is there.
+    /// `NO [ALREADYEXISTS]`: CREATE of an existing mailbox.
     MailboxExists,
-    /// `NO [CANNOT]`: no mailbox may bear the name.
+    /// `NO [CANNOT]`: no mailbox may have this name.
     NameNotAllowed,
     /// `NO [CANNOT]`: DELETE of INBOX.
     InboxStays,
-    /// `NO [CANNOT]`: a form that this server leaves out.
+    /// `NO [CANNOT]`: a form that this server doesn't support.
     NotInProfile,
     /// `NO [AUTHENTICATIONFAILED]`: wrong user or password.
     LoginFailed,
-    /// `NO`: a change in a mailbox selected by EXAMINE.
+    /// `NO`: a change to a mailbox opened by EXAMINE.
     ReadOnly,
     /// `NO [LIMIT]`: an operation would give a message more than 32 keywords.
     TooManyKeywords,
@@ -135,21 +137,21 @@ pub enum Refusal {
     TooManyVersions,
     /// `NO [LIMIT]`: a keyword of more than 64 octets.
     KeywordTooLong,
-    /// `NO [LIMIT]`: a counter is at its end.
+    /// `NO [LIMIT]`: a counter has no numbers left.
     NumberUsedUp,
-    /// `NO [LIMIT]`: the command's literals are too long together.
+    /// `NO [LIMIT]`: the command's literals together are too long.
     LiteralTooLong,
-    /// `NO [UNAVAILABLE]`: there is no memory for it now.
+    /// `NO [UNAVAILABLE]`: memory ran out.
     NoMemory,
     /// `BAD`: no such command.
     UnknownCommand,
-    /// `BAD`: not the form of the command.
+    /// `BAD`: the command's syntax is wrong.
     BadSyntax,
     /// `BAD`: the session's state doesn't allow the command.
     NotNow,
-    /// `BAD`: a message number above the greatest.
+    /// `BAD`: a message number above that of the last message.
     NoSuchMessage,
-    /// `BAD`: IDLE was ended by another line than DONE.
+    /// `BAD`: a line other than DONE ended IDLE.
     DoneExpected,
 }
 
@@ -157,7 +159,7 @@ impl Refusal {
     ghost use Rattle.std.specs.Prelude.{◌≡◌};
     ghost use Rattle.imap_answers.specs.Words.{refusal_text};
 
-    /// What stands behind the tag.
+    /// The line after its tag and space, without the line end.
     pub fn text(self) -> &'static [u8]
         ensures { result.now ≡ refusal_text self }
     {
@@ -207,7 +209,7 @@ impl<T: Drop> From<AllocFailed<T>> for Refusal {
     }
 }
 
-/// The command that a tagged OK answers.
+/// The command that a tagged OK names as completed.
 #[derive(Clone, Copy, Debug, PartialEq, Eq)]
 pub enum CompletedWord {
     Capability,
@@ -246,7 +248,7 @@ impl CompletedWord {
     ghost use Rattle.std.specs.Prelude.{◌≡◌};
     ghost use Rattle.imap_answers.specs.Words.{command_text};
 
-    /// The word in capitals, of two words in the UID forms.
+    /// The command's name in capitals; the UID forms have two words.
     pub fn text(self) -> &'static [u8]
         ensures { result.now ≡ command_text self }
     {

@@ -1,18 +1,18 @@
-//! What answers tell of mailboxes and searches.
+//! The data of mailboxes and of searches in LIST, STATUS and ESEARCH answers.
 
 ghost use Rattle.std.specs.Prelude.{◌≡◌, ◌↔◌, IfOk, IsTrue};
 
 use imap_types::NumberSet;
 use std::alloc::{AllocError, Global};
 
-/// Whether a name in LIST is a mailbox (RFC 9051, section 7.3.1).
+/// What a name in LIST is (RFC 9051, section 7.3.1).
 #[derive(Clone, Copy, Debug, PartialEq, Eq)]
 pub enum MailboxState {
-    /// It can be selected.
+    /// A mailbox, which can be selected.
     There,
-    /// It is only a level above other mailboxes.
+    /// Only a level of the hierarchy above other mailboxes.
     NoSelect,
-    /// There is no mailbox of this name.
+    /// No mailbox has this name.
     NonExistent,
 }
 
@@ -20,7 +20,7 @@ impl MailboxState {
     ghost use Rattle.std.specs.Prelude.{◌≡◌};
     ghost use Rattle.imap_answers.specs.Words.{attributes_text};
 
-    /// The attributes in LIST of a name in this state that is subscribed or isn't.
+    /// The attributes in LIST of a name in this state, by whether it is subscribed.
     pub fn attributes(self, subscribed: bool) -> &'static [u8]
         ensures { result.now ≡ attributes_text self subscribed }
     {
@@ -35,40 +35,42 @@ impl MailboxState {
     }
 }
 
-/// What STATUS tells, of what was asked (RFC 9051, section 7.3.3; RFC 7162, section 3.1.7).
+/// The items of a mailbox that STATUS sends; `None` for those that weren't asked for (RFC 9051,
+/// section 7.3.3; RFC 7162, section 3.1.7).
 #[derive(Clone, Copy, Debug, PartialEq, Eq)]
 pub struct StatusItems {
-    /// How many messages there are.
+    /// The number of messages.
     pub messages: Option<u32>,
-    /// The next UID.
+    /// The UIDNEXT, from 1 on.
     pub uidnext: Option<u32>,
-    /// The UIDVALIDITY.
+    /// The UIDVALIDITY, from 1 on.
     pub uidvalidity: Option<u32>,
-    /// How many messages lack `\Seen`.
+    /// The number of messages without `\Seen`.
     pub unseen: Option<u32>,
-    /// How many messages have `\Deleted`.
+    /// The number of messages with `\Deleted`.
     pub deleted: Option<u32>,
-    /// The octets of all messages together.
+    /// The total length of all messages in octets.
     pub size: Option<u64>,
-    /// The greatest mod-sequence.
+    /// The greatest mod-sequence, from 1 on.
     pub highest_modseq: Option<u64>,
 }
 
-/// What a search found, of what was asked (RFC 9051, section 7.3.4; RFC 7162, section 3.1.10).
+/// The results of a search; `None` for those that weren't asked for (RFC 9051, section 7.3.4; RFC
+/// 7162, section 3.1.10).
 pub struct SearchResults {
-    /// The least hit.
+    /// The least hit, a message number or UID from 1 on.
     pub min: Option<u32>,
-    /// The greatest hit.
+    /// The greatest hit, a message number or UID from 1 on.
     pub max: Option<u32>,
-    /// All hits; left out where there are none.
+    /// All hits; empty if there are none or ALL wasn't asked for.
     pub all: NumberSet,
-    /// How many hits there are.
+    /// The number of hits.
     pub count: Option<u32>,
-    /// The greatest mod-sequence of the hits.
+    /// The greatest mod-sequence among the hits, from 1 on.
     pub modseq: Option<u64>,
 }
 
-// By hand, so that crates above let it go as a whole.
+// By hand, so that crates above drop it whole.
 impl Drop for SearchResults {
     fn drop(self) {
         let Self {
@@ -82,7 +84,7 @@ impl Drop for SearchResults {
 }
 
 impl SearchResults {
-    /// Whether both tell the same.
+    /// Whether both are the same results, compared by value.
     pub fn same(&self, other: &SearchResults) -> bool
         ensures { IsTrue result ↔ (self.now ≡ other.now) }
     {
@@ -93,7 +95,7 @@ impl SearchResults {
             && self.modseq == other.modseq
     }
 
-    /// Equal results; `Err` where there is no memory for them.
+    /// Equal results; `Err` if memory runs out.
     pub fn copy(&self, alloc: Global) -> Result<SearchResults, AllocError>
         ensures { IfOk result (λ copied. copied ≡ self.now) }
     {
