@@ -11,8 +11,8 @@ use crate::mailbox::{MailboxState, SearchResults, StatusItems};
 use imap_types::{Flags, Name, Octets};
 use std::alloc::{AllocError, Global};
 
-/// One answer to a client (RFC 9051, section 7). Which values may be sent is said by `IsPrintable`
-/// (`specs/Printable`).
+/// One answer to a client (RFC 9051, section 7). `IsPrintable` (`specs/Printable`) says which
+/// values may be sent.
 pub enum Answer {
     /// The greeting of a connection.
     Greeting {

@@ -1,5 +1,4 @@
-//! Answers of the server as values, and the definition of their texts (RFC 9051, section 7; RFC
-//! 7162).
+//! Answers of the server as values, with the definition of their texts (RFC 9051, section 7).
 //!
 //! [`Answer`] has one variant for each kind of line that the server sends: greetings, untagged
 //! answers, continuation requests and tagged lines. Parts that are one fixed text each give that

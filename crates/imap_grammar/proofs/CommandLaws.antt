@@ -1,4 +1,4 @@
--- What stands behind a command's word is read as its arguments, and nothing else is.
+-- What follows a command's word is read as its arguments, and only its arguments are.
 use Rattle.std.proofs.Common.{◌≡◌, ℕ, Bool, true, false, cond, codes, eqb, List, [], ◌∷◌, Option, Some, ap, inl, inr, sym, ◌∙◌, refl, subst}
 use Rattle.std.proofs.lemmas.Bool.{eqb-true}
 use Rattle.imap_syntax.specs.Commands.{word_of, arguments, condstore_parameter, first_word, own_word, status_item, modifier, returns, selection}
@@ -34,11 +34,11 @@ use Rattle.imap_grammar.proofs.Spans.{run_reads}
 use Rattle.imap_grammar.proofs.Texts.{mailbox_reads, text_reads}
 use Rattle.imap_grammar.proofs.WordLaws.{after_word_again, after_word_takes, ends_item, named_at_again, named_at_takes, status_reads, table_reads, word_first}
 
--- A command read, with its word and its arguments.
+-- A command that was read, with its word and its arguments.
 abbrev pub Found : CommandWord → List ℕ → Command × List ℕ → Type 0
 Found named octets x = (word_of x.0 ≡ named) × Front (arguments x.0) octets x.1
 
--- The arguments are of one kind, from which the command is made.
+-- A command made from a single value is read like that value.
 found_by : {A : Type 0} {read : List ℕ → Option (A × List ℕ)} {form : A → List ℕ → Type 0} (reads : Reads read form Closes) (make : A → Command) (named : CommandWord)
     → ((value : A) (text : List ℕ) → form value text → (word_of (make value) ≡ named) × arguments (make value) text)
     → (octets : List ℕ) (x : Command × List ℕ) → made make read octets ≡ Some x → Found named octets x
@@ -180,9 +180,9 @@ store_parts =
     (λ octets rest value f s. action_no_peek value.0 (sp ⌢ stored value.1) octets rest f))
     (λ octets rest value f s. store_begin value.0 value.1.0 (sp ⌢ stored value.1.1) octets rest f))
 
--- ---- Behind UID.
+-- ---- Commands after UID.
 
--- Arguments behind a word of their own.
+-- Arguments that follow a word of their own.
 abbrev Own : CommandWord → List ℕ → Command × List ℕ → Type 0
 Own own octets x = (word_of x.0 ≡ words.Uid) × ((mid : List ℕ) → Front (sp ⌢ word (command_word own)) mid octets → Front (arguments x.0) mid x.1)
 
@@ -257,7 +257,7 @@ copy_front true own octets rest Q f =
     sp_ends (word (command_word own)) octets p.0 p.1
 copy_front false own octets rest Q f = sp_ends Q octets rest (without_nothing _ octets rest f)
 
--- The command takes message numbers or UIDs, and its parts are read in either case.
+-- A command that takes message numbers or UIDs is read in both forms.
 either_again : {A : Type 0} {read : List ℕ → Option (A × List ℕ)} {form : A → List ℕ → Type 0} (reads : Reads read form Closes) (make : Bool → A → Command) (own : CommandWord) (value : A)
     → named command_word uid_words (command_word own) ≡ Some own → list_all (is_in Item) (to_lower_case (command_word own)) ≡ true
     → ((octets : List ℕ) → uid_arguments_at own octets ≡ made (make true) read octets) → ((octets : List ℕ) → arguments_at own octets ≡ made (make false) read octets)
@@ -303,7 +303,7 @@ arguments_again (commands.Copy asked) octets rest f s =
 arguments_again (commands.Move asked) octets rest f s =
     either_again copied_reads move_of words.Move (asked.messages, asked.name) refl refl (λ from. refl) (λ from. refl) (λ from to g. sp_ends _ from to g) asked.by_uid octets rest f s
 
--- No octet of a word stands behind the command's word.
+-- No octet of a word follows the command's word.
 pub arguments_end : (this : Command) (octets rest : List ℕ) → Front (arguments this) octets rest → Closes rest → Ends octets
 arguments_end commands.Capability octets rest f s = end_alone octets rest f s
 arguments_end commands.Noop octets rest f s = end_alone octets rest f s

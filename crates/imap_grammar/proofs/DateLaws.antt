@@ -1,4 +1,4 @@
--- Days, as keys of SEARCH name them.
+-- Days, as the keys of SEARCH write them.
 use Rattle.std.proofs.Common.{◌≡◌, ℕ, ◌≤◌, true, false, cond, ◌||◌, nat_lt, List, [], ◌∷◌, ◌++◌, Option, Some, None, length, inl, inr, ap, sym, ◌∙◌, refl, subst, arith, eqb}
 use Rattle.std.proofs.lemmas.Bool.{and_parts, eqb-true, le-ltb, ltb-false, or_parts}
 use Rattle.std.proofs.lemmas.Bool.Decides.{nat_tests}

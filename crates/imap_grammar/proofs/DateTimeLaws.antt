@@ -42,7 +42,7 @@ date_to y m d h =
     let last : d ≤ days_in_month (pos y) m = let k = h.2.1 in omega (arith, ints) in
     and_from _ _ (above_not 9999 y year) (and_from _ _ (above_not m 1 low) (and_from _ _ (above_not 12 m high) (and_from _ _ (above_not d 1 first) (above_not (days_in_month (pos y) m) d last))))
 
--- what the code makes of 28 octets
+-- the date-time that the code makes from 28 octets
 pub date_made : (octets made : List ℕ) → 28 ≤ length octets → IsDateTime (zeroed (take 28 octets)) → made ≡ zeroed (take 28 octets) → date_time_at octets ≡ Some (made, drop 28 octets)
 date_made octets made l h e =
     ap (λ b. cond b None (cond (is_date_time (zeroed (take 28 octets))) (Some (zeroed (take 28 octets), drop 28 octets)) None)) (le-ltb _ _ l)

@@ -2,7 +2,7 @@ use Rattle.std.proofs.Common.{◌≡◌, ℕ, ◌+◌, ◌-◌, ◌*◌, ◌≤�
 use Rattle.std.proofs.lemmas.Bool.{cases_lt}
 use Rattle.imap_syntax.specs.Strings.{number_of}
 
--- the number, or the cap where it passes it on the way
+-- the number that the digits write after n, or the cap once it is exceeded
 abbrev pub capped : ℕ → ℕ → List ℕ → ℕ
 capped cap n [] = n
 capped cap n (d ∷ ds) = capped cap (min (min (n * 10) cap + (d - 48)) cap) ds
@@ -15,7 +15,7 @@ at_cap : (cap : ℕ) (ds : List ℕ) → capped cap cap ds ≡ cap
 at_cap cap [] = refl
 at_cap cap (d ∷ ds) = let e : min (min (cap * 10) cap + (d - 48)) cap ≡ cap = omega arith in ap (λ n. capped cap n ds) e ∙ at_cap cap ds
 
--- below the cap it is the number, and else the number is no smaller
+-- the capped number is the lesser of the number and the cap
 pub capped_is : (cap n : ℕ) (ds : List ℕ) → n ≤ cap → capped cap n ds ≡ min (number_of n ds) cap
 capped_is cap n [] h = omega arith
 capped_is cap n (d ∷ ds) h =

@@ -1,4 +1,5 @@
--- Flags put together one after another are the set of those that are written, and there is one such set.
+-- Adding flags one after another gives the set of those that are written, and there is only one
+-- such set.
 use Rattle.std.proofs.Common.{◌≡◌, ◌⊎◌, inl, inr, ℕ, Bool, true, false, ◌||◌, List, [], ◌∷◌, refl, sym, ap, ◌∙◌, subst}
 use Rattle.std.proofs.lemmas.Bool.{false≢true, or_cases, or_left, or_right}
 use Rattle.std.proofs.lemmas.Cmp.{nat_list_cmp_total, tied_itself}
@@ -141,7 +142,7 @@ written_are written = record {
   keywords = λ word. keyword_all word written no_flags;
 }
 
--- ---- there is one such set
+-- ---- there is only one such set
 
 abbrev IsWithin : List (List ℕ) → List (List ℕ) → Type 0
 IsWithin xs ys = (z : List ℕ) → holds xs z ≡ true → holds ys z ≡ true

@@ -61,7 +61,7 @@ word_front octets w h = ((span (is_in Atom) octets).0, named_takes command_word 
 word_span : (octets rest : List ℕ) (w : CommandWord) (f : Front (word (command_word w)) octets rest) → begins_in Atom rest ≡ false → span (is_in Atom) octets ≡ (f.0, rest)
 word_span octets rest w f s = ap (span (is_in Atom)) f.2 ∙ span_again Atom f.0 rest (word_atoms (command_word w) f.0 (command_atoms w) f.1) s
 
--- what is read is spelled
+-- a command that is read is one that the frame spells
 pub spelled_by : (frame : List ℕ) (tag : List ℕ × List ℕ) (w : CommandWord) (t : Tagged) → tag_at frame ≡ Some tag → word_at tag.1 ≡ Some w → tagged_at tag.0 w (span (is_in Atom) tag.1).1 ≡ Some t → IsSpelled t frame
 spelled_by frame tag w t h i j =
     let a = bind_some (ended_at w (span (is_in Atom) tag.1).1) _ t j in
@@ -84,7 +84,7 @@ pub record IsRead (frame : List ℕ) (t : Tagged) : Type 0 where
   pub word : word_at rest ≡ Some (word_of t.command)
   pub all : tagged_at t.tag (word_of t.command) (span (is_in Atom) rest).1 ≡ Some t
 
--- what is spelled is read
+-- a command that the frame spells is read
 pub read_again : (frame : List ℕ) (t : Tagged) → IsSpelled t frame → IsRead frame t
 read_again frame t h =
     let c : Command = t.command in
@@ -104,7 +104,7 @@ read_again frame t h =
       all = ap (λ (y : List ℕ × List ℕ). tagged_at t.tag w y.1) cut ∙ ap (λ r. r >>= λ this. Some (record { tag = t.tag; command = this })) (ended_again c s.0 r.0 s.2 r.2);
     }
 
--- the one that a frame spells
+-- the command that a frame spells, if any
 reading_at : List ℕ → Option Tagged
 reading_at frame = tag_at frame >>= λ tag. word_at tag.1 >>= λ w. tagged_at tag.0 w (span (is_in Atom) tag.1).1
 
@@ -118,7 +118,7 @@ reading_is frame t r =
 pub one_reading : (this that : Tagged) (frame : List ℕ) → IsSpelled this frame → IsSpelled that frame → this ≡ that
 one_reading this that frame h i = some_is this that (sym (reading_is frame this (read_again frame this h)) ∙ reading_is frame that (read_again frame that i))
 
--- what parse tells
+-- the answers of parse
 word_found : (r : Result Tagged ParseFault) (frame : List ℕ) (tag : List ℕ × List ℕ) (o : Option CommandWord) → tag_at frame ≡ Some tag → word_at tag.1 ≡ o → AnswersWord r tag.0 o (span (is_in Atom) tag.1).1 → IfOk r (λ t. IsSpelled t frame)
 word_found (Err e) frame tag o h i a = tt
 word_found (Ok t) frame tag None h i a = cc

@@ -1,4 +1,4 @@
--- A reader and a form: what is read is written so, and what is written so is read again.
+-- A reader and a form: what is read has the form, and what has the form is read.
 use Rattle.std.proofs.Common.{◌&&◌, ◌||◌, arith, ◌≡◌, ℕ, Bool, true, false, cond, not, List, [], ◌∷◌, ◌++◌, Option, Some, None, inl, inr, ◌⊎◌, ap, sym, ◌∙◌, refl, subst, append_assoc, eqb}
 use Rattle.std.proofs.lemmas.Bool.{eqb-true, eq-eqb}
 use Rattle.std.proofs.lemmas.List.{append-nil}
@@ -7,7 +7,7 @@ use Rattle.imap_syntax.specs.Languages.{◌⌢◌, exactly, nothing, sp, in_pare
 use Rattle.imap_grammar.specs.Reading.{◌>>=◌, after, before, both, enclosed_at, made, parens_at, peeked_at, peeks, spaced}
 use Rattle.imap_syntax.specs.Strings.{begins, is_pattern_octet}
 
--- a text of the language stands in front and leaves the rest
+-- the octets are a text of the language and then the rest
 abbrev pub Front : (List ℕ → Type 0) → List ℕ → List ℕ → Type 0
 Front P octets rest = (text : List ℕ) × P text × (octets ≡ text ++ rest)
 
@@ -19,14 +19,14 @@ pub parted : (P Q : List ℕ → Type 0) (octets rest : List ℕ) → Front (P �
 parted P Q octets rest f =
     (f.1.1 ++ rest, (f.1.0, f.1.2, f.2 ∙ ap (λ xs. xs ++ rest) f.1.4 ∙ append_assoc f.1.0 f.1.1 rest), (f.1.1, f.1.3, refl))
 
--- the whole
+-- a prefix that leaves no rest is all octets
 pub whole_from : (P : List ℕ → Type 0) (octets : List ℕ) → Front P octets [] → P octets
 whole_from P octets f = subst P (sym (f.2 ∙ append-nil f.0)) f.1
 
 pub whole_to : (P : List ℕ → Type 0) (octets : List ℕ) → P octets → Front P octets []
 whole_to P octets p = (octets, p, sym (append-nil octets))
 
--- steps that may fail
+-- steps that may fail, one after another
 pub bind_some : {A B : Type 0} (r : Option A) (f : A → Option B) (y : B) → (r >>= f) ≡ Some y → (x : A) × (r ≡ Some x) × (f x ≡ Some y)
 bind_some None f y h = cc
 bind_some (Some x) f y h = (x, refl, h)
@@ -42,7 +42,7 @@ guarded false r y h = (refl, h)
 pub some_is : {A : Type 0} (x y : A) → ◌≡◌ {A = Option A} (Some x) (Some y) → x ≡ y
 some_is x y h = cc
 
--- these octets
+-- the fixed octets that were skipped
 pub after_takes : (ps octets rest : List ℕ) → after ps octets ≡ Some rest → Front (exactly ps) octets rest
 after_takes [] octets rest h = ([], refl, cc)
 after_takes (p ∷ ps) [] rest h = cc
@@ -66,7 +66,7 @@ pub record Reads {A : Type 0} (read : List ℕ → Option (A × List ℕ)) (form
   pub takes : (octets : List ℕ) (x : A × List ℕ) → read octets ≡ Some x → Front (form x.0) octets x.1
   pub again : (octets rest : List ℕ) (value : A) → Front (form value) octets rest → stops rest → read octets ≡ Some (value, rest)
 
--- the rest begins with an octet of no word
+-- the rest doesn't begin with an octet of words
 abbrev pub ends : List ℕ → Bool
 ends [] = false
 ends (octet ∷ octets) = not (is_pattern_octet octet)
@@ -90,7 +90,7 @@ module _ {A : Type 0} {read : List ℕ → Option (A × List ℕ)} {form : A →
         ap (λ r. r >>= read) (after_again (32 ∷ []) octets p.0 p.1) ∙ reads.again p.0 rest value p.2 s;
   }
 
-  -- a stronger demand on the rest
+  -- a reader also satisfies a stronger condition on the rest
   pub stopping : (more : List ℕ → Type 0) → ((rest : List ℕ) → more rest → stops rest) → Reads read form more
   stopping more h = record { takes = reads.takes; again = λ octets rest value f s. reads.again octets rest value f (h rest s) }
 
@@ -146,14 +146,14 @@ pub closes_no_space : (rest : List ℕ) → Closes rest → begins 32 rest ≡ f
 closes_no_space [] h = refl
 closes_no_space (b ∷ bs) h = close_no b h
 
--- what a front of these octets is
+-- a prefix that is exactly these octets
 pub exactly_is : (ps octets rest : List ℕ) → Front (exactly ps) octets rest → octets ≡ ps ++ rest
 exactly_is ps octets rest f = f.2 ∙ ap (λ xs. xs ++ rest) f.1
 
 pub front_exactly : (ps rest : List ℕ) → Front (exactly ps) (ps ++ rest) rest
 front_exactly ps rest = (ps, refl, refl)
 
--- nothing in front
+-- an empty prefix
 pub with_nothing : (P : List ℕ → Type 0) (text : List ℕ) → P text → (nothing ⌢ P) text
 with_nothing P text p = ([], text, refl, p, refl)
 
@@ -166,7 +166,7 @@ without_nothing P octets rest f =
 pub to_end : {A : Type 0} {read : List ℕ → Option (A × List ℕ)} {form : A → List ℕ → Type 0} → Reads read form Ends → Reads read form Closes
 to_end reads = stopping reads Closes closes_ends
 
--- Between two octets.
+-- A value between two octets.
 pub enclosed_reads : {A : Type 0} {read : List ℕ → Option (A × List ℕ)} {form : A → List ℕ → Type 0} (opening closing : ℕ) → Reads read form (λ rest. begins closing rest ≡ true) → (stops : List ℕ → Type 0)
     → Reads (enclosed_at opening closing read) (λ value. exactly (opening ∷ []) ⌢ form value ⌢ exactly (closing ∷ [])) stops
 enclosed_reads {A} {read} {form} opening closing reads stops = record {
@@ -206,7 +206,7 @@ front_begins b Q octets rest f =
     let p = parted (exactly (b ∷ [])) Q octets rest f in
     ap (begins b) (exactly_is (b ∷ []) octets p.0 p.1) ∙ eq-eqb b b refl
 
--- a value behind a space that is looked for
+-- a space and an octet that are looked for
 pub peeks_space : (mark : ℕ) (octets : List ℕ) → begins mark octets ≡ true → peeks mark (32 ∷ octets) ≡ true
 peeks_space mark [] h = h
 peeks_space mark (b ∷ bs) h = h
@@ -248,7 +248,7 @@ pub optional_ends : {A : Type 0} (form : A → List ℕ → Type 0) (value : Opt
 optional_ends form None octets rest f s = subst Ends (sym (exactly_is [] octets rest f)) s
 optional_ends form (Some v) octets rest f s = sp_ends (form v) octets rest f
 
--- A key in front says how the rest is read.
+-- A key is read first, and says how the rest is read.
 pub keyed_reads : {A B : Type 0} {read : List ℕ → Option (A × List ℕ)} {form : A → List ℕ → Type 0} {stops : List ℕ → Type 0} → Reads read form stops
     → (next : A → List ℕ → Option (B × List ℕ)) (key : B → A) (form_next : B → List ℕ → Type 0) (stops_next : List ℕ → Type 0)
     → ((first : A) (octets : List ℕ) (x : B × List ℕ) → next first octets ≡ Some x → (key x.0 ≡ first) × Front (form_next x.0) octets x.1)

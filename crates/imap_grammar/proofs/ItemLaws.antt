@@ -242,7 +242,7 @@ item_stop (items.Body peek this_section this_partial) octets rest f s =
 pub item_reads : Reads item_at fetch_item Ends
 item_reads = keyed_reads (table_reads fetch_word fetch_words fetch_found fetch_letters) item_behind_at item_word item_behind Ends item_takes item_again item_stop
 
--- ---- What FETCH takes.
+-- ---- The items of a FETCH.
 
 list_reads : Reads (listed_at 32 item_at) (listed sp fetch_item) Closes
 list_reads = listed_reads 32 item_reads Closes closes_no_space closes_ends (λ octets. refl)

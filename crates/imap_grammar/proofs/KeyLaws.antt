@@ -37,7 +37,8 @@ use Rattle.imap_grammar.proofs.Spans.{ends_stop, run_reads}
 use Rattle.imap_grammar.proofs.Texts.{text_reads}
 use Rattle.imap_grammar.proofs.WordLaws.{NoItem, ends_item, named_at_again, named_at_takes, word_first}
 
--- A key's word is found among those of all keys, its letters are those of words, and it can't be taken for a set of numbers, nor for what may stand in front of keys.
+-- A key's word is found among those of all keys, has only octets of words, and can't be taken for a
+-- set of numbers, nor for what may come before keys.
 abbrev IsKeyWord : SearchKeyWord → Type 0
 IsKeyWord w =
     (named key_word key_words (key_word w) ≡ Some w)
@@ -169,7 +170,7 @@ pub set_first : (set : List SequenceRange) (octets rest : List ℕ) → Front (s
 set_first [] octets rest f = absurd f.1
 set_first (r ∷ rs) octets rest f = let p = parted (range r) _ octets rest f in range_first r octets p.0 p.1
 
--- ---- Keys side by side are a list.
+-- ---- Keys separated by spaces are a list.
 
 module _ (inner : List ℕ → Option (List SearchStep × List ℕ)) where
   abbrev and_front : List SearchStep → Option (List (List SearchStep) × List ℕ) → Option (List SearchStep × List ℕ)

@@ -1,4 +1,4 @@
--- Keys, as the code reads them.
+-- Keys, as the loop of the code reads them.
 use Rattle.std.proofs.Common.{◌≡◌, ◌≢◌, ℕ, zero, suc, ◌-◌, ◌+◌, ◌<◌, List, [], ◌∷◌, ◌++◌, Option, Some, None, refl, sym, ap, ◌∙◌, arith}
 use Rattle.imap_grammar.specs.KeyReading.{below_at, level_at, more_keys_at, or_more}
 use Rattle.imap_grammar.specs.Reading.{◌>>=◌, Fails, next_at}

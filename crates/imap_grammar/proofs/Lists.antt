@@ -1,4 +1,4 @@
--- Lists of values, as a loop reads them.
+-- Lists of values, as the loop of the code reads them.
 use Rattle.std.proofs.Common.{◌≡◌, ℕ, zero, suc, ◌-◌, ◌+◌, ◌≤◌, ◌<◌, List, [], ◌∷◌, ◌++◌, Option, Some, None, refl, sym, ap, ◌∙◌, append_assoc, arith, length, subst, false, cond, eqb, inl, inr, length-append}
 use Rattle.std.proofs.lemmas.Bool.{eqb-true, eq-eqb}
 use Rattle.std.proofs.lemmas.List.{append-nil}
@@ -10,7 +10,7 @@ use Rattle.imap_syntax.specs.Strings.{begins}
 use Rattle.imap_grammar.proofs.Fronts.{Front, Reads, bind_some, chosen, exactly_is, joined, parted, some_is}
 
 module _ {A : Type 0} where
-  -- what was read before, and what is still read
+  -- the values read so far, and those read next
   abbrev pub with_list : List A → Option (List A × List ℕ) → Option (List A × List ℕ)
   with_list front read = read >>= λ x. Some (front ++ x.0, x.1)
 
@@ -56,7 +56,7 @@ module _ {A : Type 0} where
     fails NoTag front count i octets total lt h so_far = absurd h
     fails UnknownCommand front count i octets total lt h so_far = absurd h
 
--- The list's own law.
+-- The law of lists.
 module _ {A : Type 0} (separator : ℕ) {read : List ℕ → Option (A × List ℕ)} {form : A → List ℕ → Type 0} {stops : List ℕ → Type 0} (reads : Reads read form stops) where
   abbrev Behind : List A → List ℕ → Type 0
   Behind = each_behind (exactly (separator ∷ [])) form
@@ -110,7 +110,7 @@ module _ {A : Type 0} (separator : ℕ) {read : List ℕ → Option (A × List �
         ∙ ap (λ r. r >>= λ next. and_more (more_at n separator read) (separator ∷ p.0) next) x
         ∙ ap (λ r. r >>= λ others. Some (v ∷ others.0, others.1)) (more_again n vs q.0 rest q.2 s (omega arith))
 
-    -- there are no more values than octets
+    -- there are at most as many values as octets
     behind_length : (values : List A) (octets rest : List ℕ) → Front (Behind values) octets rest → length values ≤ length octets
     behind_length [] octets rest f = omega arith
     behind_length (v ∷ vs) octets rest f =

@@ -9,7 +9,7 @@ use Rattle.imap_grammar.specs.Reading.{after, named}
 pub dropped : {X : Type 0} (xs : List X) (i : ℕ) (x : X) → i < length xs → x ≡ get_or xs i x → drop i xs ≡ x ∷ drop (i + 1) xs
 dropped xs i x l e = drop-cons xs i x l ∙ ap (λ v. v ∷ drop (suc i) xs) (sym e) ∙ ap (λ j. x ∷ drop j xs) (sym (add-one i))
 
--- nothing is behind octets that are wanted of none
+-- no octets remain to match a prefix that isn't empty
 after-nil : (ws : List ℕ) → 0 < length ws → after ws [] ≡ None
 after-nil [] l = absurd (omega arith)
 after-nil (w ∷ ws) l = refl
@@ -20,7 +20,7 @@ after-short ws rest i total l m e =
     sym e ∙ ap (after (drop i ws)) n ∙ after-nil (drop i ws) (omega (arith, length-drop i ws))
 
 module _ {W : Type 0} (word_of : W → List ℕ) where
-  -- a value found
+  -- a value whose word equals the text
   pub found : (text : List ℕ) (ws : List W) (i : ℕ) (w : W) (shown : List ℕ) (b : Bool) → i < length ws → w ≡ get_or ws i w → shown ≡ word_of w → IsTrue b ↔ (to_lower_case text ≡ to_lower_case shown) → b ≡ true
       → named word_of (drop i ws) text ≡ named word_of ws text → Some w ≡ named word_of ws text
   found text ws i w shown b l e s t h inv =
@@ -28,7 +28,7 @@ module _ {W : Type 0} (word_of : W → List ℕ) where
       let g : named word_of (w ∷ drop (i + 1) ws) text ≡ Some w = ap (λ c. cond c (Some w) (named word_of (drop (i + 1) ws) text)) f in
       sym (sym inv ∙ ap (λ vs. named word_of vs text) (dropped ws i w l e) ∙ g)
 
-  -- and one passed over
+  -- a value whose word differs from the text
   pub passed : (text : List ℕ) (ws : List W) (i : ℕ) (w : W) (shown : List ℕ) (b : Bool) → i < length ws → w ≡ get_or ws i w → shown ≡ word_of w → IsTrue b ↔ (to_lower_case text ≡ to_lower_case shown) → b ≡ false
       → named word_of (drop i ws) text ≡ named word_of ws text → named word_of (drop (i + 1) ws) text ≡ named word_of ws text
   passed text ws i w shown b l e s t h inv =

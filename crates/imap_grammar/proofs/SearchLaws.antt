@@ -83,7 +83,7 @@ maybe_again (v ∷ vs) octets rest f s =
 group_reads : (end : List ℕ → Type 0) → Reads (spaced (parens_at maybe_options_at)) (λ values. sp ⌢ in_parens (maybe_listed sp search_option values)) end
 group_reads end = spaced_reads (enclosed_reads 40 41 (record { takes = maybe_takes; again = λ octets rest values f s. maybe_again values octets rest f s }) end)
 
--- ---- Words in front that are others.
+-- ---- Words other than the one looked for.
 
 abbrev Other : List ℕ → List ℕ → Type 0
 Other letters octets = bytes_eq (to_lower_case (span (is_in Item) octets).0) (to_lower_case letters) ≡ false
@@ -260,7 +260,7 @@ charset_again octets rest f s = elim f.1 [
       ∙ after_again (32 ∷ []) t.0 rest t.2
 ]
 
--- what is read are the steps of a key
+-- the steps that are read are those of a key
 pub keys_are : (octets : List ℕ) (x : List SearchStep × List ℕ) → keys_at (below_at 65) octets ≡ Some x → IsKey x.0
 keys_are octets x h = let f = (all_reads (within_reads 64)).takes octets x h in search-key x.0 f.0 f.1
 

@@ -86,7 +86,7 @@ bound_again : (value : SequenceBound) (octets rest : List ℕ) → Front (bound 
 bound_again (Number n) octets rest f s = bound_number octets rest n f ∙ ap (λ r. r >>= λ first. Some (Number first.0, first.1)) (nz_reads.again octets rest n f s)
 bound_again Greatest octets rest f s = ap bound_at (exactly_is (42 ∷ []) octets rest f)
 
--- the rest goes on with neither a digit nor `:`
+-- the rest begins with neither a digit nor `:`
 abbrev pub NoRange : List ℕ → Type 0
 NoRange rest = NoDigit rest × (begins 58 rest ≡ false)
 

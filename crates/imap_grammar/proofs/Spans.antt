@@ -55,7 +55,7 @@ run_again class octets rest value f s =
     let g : span (is_in class) octets ≡ (value, rest) = ap (span (is_in class)) e ∙ span_again class value rest f.1.1 s in
     ap (λ (y : List ℕ × List ℕ). cond (is_nil y.0) None (Some y)) g ∙ ap (λ b. cond b None (Some (value, rest))) (is_nil-not value f.1.0)
 
--- every class has pattern octets alone
+-- each class has only octets of patterns
 pub pattern_octet : (class : OctetClass) (b : ℕ) → is_in class b ≡ true → is_pattern_octet b ≡ true
 pattern_octet Tag b h = grind (arith, nat_tests)
 pattern_octet Atom b h = grind (arith, nat_tests)

@@ -13,7 +13,7 @@ use Rattle.imap_syntax.specs.declared.octet_class.OctetClass.TheVariants.{Tag, A
 use Rattle.imap_grammar.proofs.Fronts.{Front, Reads, Ends, made_reads, joined, parted, bind_some, chosen, guarded, some_is, after_takes}
 use Rattle.imap_grammar.proofs.Spans.{run_takes, run_again, ends_stop}
 
--- one more in front of what was read
+-- one octet before the octets that were read
 front_some : (b : ℕ) (r : Option (List ℕ × List ℕ)) (x : List ℕ × List ℕ) → with_front (b ∷ []) r ≡ Some x → (y : List ℕ × List ℕ) × (r ≡ Some y) × (x.0 ≡ b ∷ y.0) × (x.1 ≡ y.1)
 front_some b None x h = cc
 front_some b (Some y) x h = let e : ◌≡◌ {A = List ℕ × List ℕ} (b ∷ y.0, y.1) x = cc in (y, refl, sym (ap (λ z. z.0) e), sym (ap (λ z. z.1) e))
@@ -91,7 +91,7 @@ quoted_front_again octets rest value f =
     let e : octets ≡ 34 ∷ (quoted_escape value ++ 34 ∷ rest) = f.2 ∙ ap (λ xs. xs ++ rest) f.1.1 ∙ ap (λ xs. 34 ∷ xs) (append_assoc (quoted_escape value) (34 ∷ []) rest) in
     (quoted_escape value ++ 34 ∷ rest, e, quoted_again value rest f.1.0)
 
--- so many octets
+-- the first n octets
 pub octets_takes : (n : ℕ) (octets : List ℕ) (x : List ℕ × List ℕ) → octets_at n octets ≡ Some x → (length x.0 ≡ n) × (octets ≡ x.0 ++ x.1)
 octets_takes n octets x h =
     let g = guarded (nat_lt (length octets) n) (Some (take n octets, drop n octets)) x h in

@@ -1,4 +1,4 @@
--- A word is found without ASCII case.
+-- A word is found in any ASCII case.
 use Rattle.std.proofs.Common.{eqb, sym, false, None, subst, ◌++◌, ◌≡◌, ℕ, true, cond, List, [], ◌∷◌, Some, inl, inr, ap, ◌∙◌, refl, arith}
 use Rattle.std.proofs.lemmas.Bool.{and_parts, and_from, cases_Bool, eqb-true}
 use Rattle.std.proofs.lemmas.Bool.Decides.{nat_tests}
@@ -30,7 +30,7 @@ module _ {W : Type 0} (word_of : W → List ℕ) where
         | inr f ↦ named_takes vs text w f.1
       ]
 
-  -- texts that differ by case alone
+  -- texts that differ only in case
   named_same : (ws : List W) (text other : List ℕ) → to_lower_case text ≡ to_lower_case other → named word_of ws text ≡ named word_of ws other
   named_same [] text other h = refl
   named_same (v ∷ vs) text other h =
@@ -74,7 +74,7 @@ is_command_word Authenticate = (refl, refl)
 pub command_again : (text : List ℕ) (w : CommandWord) → word (command_word w) text → named command_word command_words text ≡ Some w
 command_again text w e = named_again command_word command_words text w (is_command_word w).0 e
 
--- case is nothing to atoms
+-- an octet whose lower case is an atom octet is one
 atom_lower : (b : ℕ) → is_atom_octet (to_ascii_lowercase b) ≡ true → is_atom_octet b ≡ true
 atom_lower b h = grind (arith, nat_tests)
 
@@ -89,7 +89,7 @@ word_atoms letters text h e = atoms_lower text (ap (list_all is_atom_octet) e �
 pub command_atoms : (w : CommandWord) → list_all is_atom_octet (to_lower_case (command_word w)) ≡ true
 command_atoms w = (is_command_word w).1
 
--- words as the arguments have them, which `[` ends too
+-- words of arguments, which `[` ends too
 item_octet : (b : ℕ) → is_in Item (to_ascii_lowercase b) ≡ true → is_in Item b ≡ true
 item_octet b h = grind (arith, nat_tests)
 
@@ -168,6 +168,6 @@ word_begins letters (b ∷ text) octets rest m h n o w e =
     let i = items_lower (b ∷ text) (ap (list_all (is_in Item)) w ∙ h) in
     ap (begins m) e ∙ item_not b m (and_parts (is_in Item b) (list_all (is_in Item) text) i).0 o
 
--- the first octet of a word is an octet of words
+-- a word's first octet belongs to words
 pub word_first : (letters octets rest : List ℕ) (m : ℕ) → list_all (is_in Item) (to_lower_case letters) ≡ true → is_nil (to_lower_case letters) ≡ false → is_in Item m ≡ false → Front (word letters) octets rest → begins m octets ≡ false
 word_first letters octets rest m h n o f = word_begins letters f.0 octets rest m h n o f.1 f.2

@@ -1,3 +1,5 @@
+//! The arguments of APPEND (RFC 9051, section 6.3.12).
+
 ghost use Rattle.std.specs.Prelude.{◌≡◌, length};
 ghost use Rattle.imap_grammar.specs.Reading.{Gives, both, literal_at, spaced, zeroed};
 ghost use Rattle.imap_grammar.specs.CommandReading.{append_at, append_date_at, append_flags_at, date_time_at, literal_text_at};
@@ -11,7 +13,8 @@ use imap_syntax::{Append, Command};
 use imap_types::{DateTime, Flags, Text};
 use std::alloc::Global;
 
-/// The arguments of APPEND (RFC 9051, section 6.3.12).
+/// Reads the arguments of APPEND: a mailbox, flags, a date-time and a literal (RFC 9051, section
+/// 6.3.12).
 pub fn append(alloc: Global, octets: &[u8]) -> Result<(Command, &[u8]), ParseFault>
     ensures { Gives (λ x. (x.0, x.1.now)) result (append_at octets.now) }
 {
@@ -33,7 +36,7 @@ pub fn append(alloc: Global, octets: &[u8]) -> Result<(Command, &[u8]), ParseFau
     }
 }
 
-/// The message: its flags, its date and its text.
+/// Reads the message: its flags, its date-time and its text.
 fn message(
     alloc: Global,
     octets: &[u8],
@@ -50,6 +53,7 @@ fn message(
     }
 }
 
+/// Reads the message's date-time, if any, and its text.
 fn dated_text(alloc: Global, octets: &[u8]) -> Result<((Option<DateTime>, Text), &[u8]), ParseFault>
     ensures { Gives (λ x. (x.0, x.1.now)) result (both append_date_at (spaced literal_text_at) octets.now) }
 {
@@ -58,7 +62,7 @@ fn dated_text(alloc: Global, octets: &[u8]) -> Result<((Option<DateTime>, Text),
     Ok(((date, text), rest))
 }
 
-/// ` (flag flag ..)`, or nothing for no flags.
+/// Reads ` (flag flag ..)`, or nothing, which means no flags.
 fn append_flags(alloc: Global, octets: &[u8]) -> Result<(Flags, &[u8]), ParseFault>
     ensures { Gives (λ x. (x.0, x.1.now)) result (append_flags_at octets.now) }
 {
@@ -70,7 +74,7 @@ fn append_flags(alloc: Global, octets: &[u8]) -> Result<(Flags, &[u8]), ParseFau
     Ok((collect_flags(alloc, &written)?, rest))
 }
 
-/// A space and a date-time, or nothing.
+/// Reads a space and a date-time, or nothing.
 fn append_date(octets: &[u8]) -> Result<(Option<DateTime>, &[u8]), ParseFault>
     ensures { Gives (λ x. (x.0, x.1.now)) result (append_date_at octets.now) }
 {
@@ -82,7 +86,8 @@ fn append_date(octets: &[u8]) -> Result<(Option<DateTime>, &[u8]), ParseFault>
     Ok((Some(date), rest))
 }
 
-/// A date-time (RFC 9051, section 9, date-time), which has a space or a digit first.
+/// Reads a quoted date-time of 28 octets, whose day may begin with a space (RFC 9051, section 9,
+/// date-time).
 fn date_time(octets: &[u8]) -> Result<(DateTime, &[u8]), ParseFault>
     ensures { Gives (λ x. (x.0, x.1.now)) result (date_time_at octets.now) }
 {
@@ -96,7 +101,7 @@ fn date_time(octets: &[u8]) -> Result<(DateTime, &[u8]), ParseFault>
     }
 }
 
-/// The octets with a zero for a space behind the first quote.
+/// The octets, with a zero in place of a space after the first quote.
 fn zero_for_space(octets: &[u8]) -> [u8; 28]
     requires { length octets.now ≡ 28 }
     ensures { result ≡ zeroed octets.now }
@@ -109,7 +114,8 @@ fn zero_for_space(octets: &[u8]) -> [u8; 28]
     text
 }
 
-/// The message's text. A literal8 and UTF8 (RFC 9051, section 9; RFC 6855) are forms that this server leaves out.
+/// Reads the message's text. A literal8 and UTF8 (RFC 9051, section 9; RFC 6855) are forms that
+/// this server doesn't support.
 fn literal_text(alloc: Global, octets: &[u8]) -> Result<(Text, &[u8]), ParseFault>
     ensures { Gives (λ x. (x.0, x.1.now)) result (literal_text_at octets.now) }
 {
@@ -123,7 +129,7 @@ fn literal_text(alloc: Global, octets: &[u8]) -> Result<(Text, &[u8]), ParseFaul
     }
 }
 
-/// The text of a literal, whose octets its copies share.
+/// Reads a literal after its `{`, as a text whose copies share its octets.
 fn shared_text(alloc: Global, octets: &[u8]) -> Result<(Text, &[u8]), ParseFault>
     ensures { Gives (λ x. (x.0, x.1.now)) result (literal_at octets.now) }
 {

@@ -1,3 +1,5 @@
+//! The arguments of commands, by the command's word (RFC 9051, section 6).
+
 ghost use Rattle.std.specs.Prelude.{◌≡◌};
 ghost use Rattle.imap_grammar.specs.Reading.{Gives, listed_at, named_at, parens_at, spaced};
 ghost use Rattle.imap_grammar.specs.CommandReading.{arguments_at, condstore_at, copied_at, copy_at, create_at, delete_at, enable_at, examine_at, login_at, move_at, opened_at, select_at, status_at, subscribe_at, uid_arguments_at, uid_at, uid_expunge_at, unsubscribe_at};
@@ -20,7 +22,8 @@ use imap_syntax::{Command, CommandWord, OctetClass, StatusItem, Transfer, Writte
 use imap_types::{Name, Octets, SequenceSet};
 use std::alloc::Global;
 
-/// What stands behind a command's word, as `specs/Commands.antt` of `imap_syntax` says of each.
+/// Reads what follows a command's word; `specs/Commands` of `imap_syntax` says what that is for
+/// each command.
 pub fn arguments(
     alloc: Global,
     word: CommandWord,
@@ -58,6 +61,7 @@ pub fn arguments(
     }
 }
 
+/// Reads the arguments of LOGIN: a user and a password (RFC 9051, section 6.2.3).
 fn login(alloc: Global, octets: &[u8]) -> Result<(Command, &[u8]), ParseFault>
     ensures { Gives (λ x. (x.0, x.1.now)) result (login_at octets.now) }
 {
@@ -65,7 +69,7 @@ fn login(alloc: Global, octets: &[u8]) -> Result<(Command, &[u8]), ParseFault>
     Ok((Command::Login { user, password }, rest))
 }
 
-/// Reads atoms.
+/// Reads one atom of a list.
 struct Atoms;
 
 impl ListElement for Atoms {
@@ -81,6 +85,7 @@ impl ListElement for Atoms {
     }
 }
 
+/// Reads the arguments of ENABLE: names of extensions (RFC 9051, section 6.3.1).
 fn enable(alloc: Global, octets: &[u8]) -> Result<(Command, &[u8]), ParseFault>
     ensures { Gives (λ x. (x.0, x.1.now)) result (enable_at octets.now) }
 {
@@ -93,6 +98,7 @@ fn enable(alloc: Global, octets: &[u8]) -> Result<(Command, &[u8]), ParseFault>
     ))
 }
 
+/// Reads the arguments of SELECT (RFC 9051, section 6.3.2).
 fn select(alloc: Global, octets: &[u8]) -> Result<(Command, &[u8]), ParseFault>
     ensures { Gives (λ x. (x.0, x.1.now)) result (select_at octets.now) }
 {
@@ -100,6 +106,7 @@ fn select(alloc: Global, octets: &[u8]) -> Result<(Command, &[u8]), ParseFault>
     Ok((Command::Select { name, condstore }, rest))
 }
 
+/// Reads the arguments of EXAMINE (RFC 9051, section 6.3.3).
 fn examine(alloc: Global, octets: &[u8]) -> Result<(Command, &[u8]), ParseFault>
     ensures { Gives (λ x. (x.0, x.1.now)) result (examine_at octets.now) }
 {
@@ -107,7 +114,7 @@ fn examine(alloc: Global, octets: &[u8]) -> Result<(Command, &[u8]), ParseFault>
     Ok((Command::Examine { name, condstore }, rest))
 }
 
-/// The mailbox to open, and whether CONDSTORE stands behind it.
+/// Reads the mailbox to open, and whether CONDSTORE follows.
 fn mailbox_to_open(alloc: Global, octets: &[u8]) -> Result<((Name, bool), &[u8]), ParseFault>
     ensures { Gives (λ x. (x.0, x.1.now)) result (opened_at octets.now) }
 {
@@ -116,7 +123,7 @@ fn mailbox_to_open(alloc: Global, octets: &[u8]) -> Result<((Name, bool), &[u8])
     Ok(((name, condstore), rest))
 }
 
-/// ` (CONDSTORE)` or nothing (RFC 7162, section 3.1.8).
+/// Reads ` (CONDSTORE)` or nothing (RFC 7162, section 3.1.8).
 fn condstore(octets: &[u8]) -> Result<(bool, &[u8]), ParseFault>
     ensures { Gives (λ x. (x.0, x.1.now)) result (condstore_at octets.now) }
 {
@@ -133,6 +140,7 @@ fn condstore(octets: &[u8]) -> Result<(bool, &[u8]), ParseFault>
     }
 }
 
+/// Reads the argument of CREATE (RFC 9051, section 6.3.4).
 fn create(alloc: Global, octets: &[u8]) -> Result<(Command, &[u8]), ParseFault>
     ensures { Gives (λ x. (x.0, x.1.now)) result (create_at octets.now) }
 {
@@ -140,6 +148,7 @@ fn create(alloc: Global, octets: &[u8]) -> Result<(Command, &[u8]), ParseFault>
     Ok((Command::Create { name }, rest))
 }
 
+/// Reads the argument of DELETE (RFC 9051, section 6.3.5).
 fn delete(alloc: Global, octets: &[u8]) -> Result<(Command, &[u8]), ParseFault>
     ensures { Gives (λ x. (x.0, x.1.now)) result (delete_at octets.now) }
 {
@@ -147,6 +156,7 @@ fn delete(alloc: Global, octets: &[u8]) -> Result<(Command, &[u8]), ParseFault>
     Ok((Command::Delete { name }, rest))
 }
 
+/// Reads the argument of SUBSCRIBE (RFC 9051, section 6.3.7).
 fn subscribe(alloc: Global, octets: &[u8]) -> Result<(Command, &[u8]), ParseFault>
     ensures { Gives (λ x. (x.0, x.1.now)) result (subscribe_at octets.now) }
 {
@@ -154,6 +164,7 @@ fn subscribe(alloc: Global, octets: &[u8]) -> Result<(Command, &[u8]), ParseFaul
     Ok((Command::Subscribe { name }, rest))
 }
 
+/// Reads the argument of UNSUBSCRIBE (RFC 9051, section 6.3.8).
 fn unsubscribe(alloc: Global, octets: &[u8]) -> Result<(Command, &[u8]), ParseFault>
     ensures { Gives (λ x. (x.0, x.1.now)) result (unsubscribe_at octets.now) }
 {
@@ -161,6 +172,7 @@ fn unsubscribe(alloc: Global, octets: &[u8]) -> Result<(Command, &[u8]), ParseFa
     Ok((Command::Unsubscribe { name }, rest))
 }
 
+/// Reads the arguments of STATUS: a mailbox and items (RFC 9051, section 6.3.11).
 fn status(alloc: Global, octets: &[u8]) -> Result<(Command, &[u8]), ParseFault>
     ensures { Gives (λ x. (x.0, x.1.now)) result (status_at octets.now) }
 {
@@ -177,7 +189,7 @@ fn status(alloc: Global, octets: &[u8]) -> Result<(Command, &[u8]), ParseFault>
     }
 }
 
-/// ` (item item ..)`.
+/// Reads ` (item item ..)`.
 fn status_items(alloc: Global, octets: &[u8]) -> Result<(Vec<StatusItem>, &[u8]), ParseFault>
     ensures { Gives (λ x. (x.0.items, x.1.now)) result (spaced (parens_at (listed_at 32 (named_at status_word status_items))) octets.now) }
 {
@@ -187,6 +199,7 @@ fn status_items(alloc: Global, octets: &[u8]) -> Result<(Vec<StatusItem>, &[u8])
     Ok((items, rest))
 }
 
+/// Reads the arguments of COPY (RFC 9051, section 6.4.7).
 fn copy(alloc: Global, by_uid: bool, octets: &[u8]) -> Result<(Command, &[u8]), ParseFault>
     ensures { Gives (λ x. (x.0, x.1.now)) result (copy_at by_uid octets.now) }
 {
@@ -199,6 +212,7 @@ fn copy(alloc: Global, by_uid: bool, octets: &[u8]) -> Result<(Command, &[u8]), 
     Ok((Command::Copy(transfer), rest))
 }
 
+/// Reads the arguments of MOVE (RFC 9051, section 6.4.8).
 fn move_messages(alloc: Global, by_uid: bool, octets: &[u8]) -> Result<(Command, &[u8]), ParseFault>
     ensures { Gives (λ x. (x.0, x.1.now)) result (move_at by_uid octets.now) }
 {
@@ -211,7 +225,7 @@ fn move_messages(alloc: Global, by_uid: bool, octets: &[u8]) -> Result<(Command,
     Ok((Command::Move(transfer), rest))
 }
 
-/// The messages to copy or move, and the mailbox that they go to.
+/// Reads the messages to copy or move, and the destination mailbox.
 fn messages_and_mailbox(
     alloc: Global,
     octets: &[u8],
@@ -223,6 +237,7 @@ fn messages_and_mailbox(
     Ok(((messages, name), rest))
 }
 
+/// The commands that may follow UID.
 const UID_WORDS: [CommandWord; 6] = [
     CommandWord::Copy,
     CommandWord::Move,
@@ -232,7 +247,7 @@ const UID_WORDS: [CommandWord; 6] = [
     CommandWord::Search,
 ];
 
-/// The forms that take UIDs (RFC 9051, section 6.4.9).
+/// Reads a command's word after UID, and its arguments (RFC 9051, section 6.4.9).
 fn uid(alloc: Global, octets: &[u8]) -> Result<(Command, &[u8]), ParseFault>
     ensures { Gives (λ x. (x.0, x.1.now)) result (uid_at octets.now) }
 {
@@ -240,12 +255,14 @@ fn uid(alloc: Global, octets: &[u8]) -> Result<(Command, &[u8]), ParseFault>
     uid_arguments(alloc, word, rest)
 }
 
+/// Reads the command's word after UID.
 fn uid_word(octets: &[u8]) -> Result<(CommandWord, &[u8]), ParseFault>
     ensures { Gives (λ x. (x.0, x.1.now)) result (named_at command_word uid_words octets.now) }
 {
     leading_word(&UID_WORDS, octets)
 }
 
+/// Reads the arguments of a command that takes UIDs.
 fn uid_arguments(
     alloc: Global,
     word: CommandWord,
@@ -264,6 +281,7 @@ fn uid_arguments(
     }
 }
 
+/// Reads the argument of UID EXPUNGE: a set of UIDs (RFC 9051, section 6.4.9).
 fn uid_expunge(alloc: Global, octets: &[u8]) -> Result<(Command, &[u8]), ParseFault>
     ensures { Gives (λ x. (x.0, x.1.now)) result (uid_expunge_at octets.now) }
 {

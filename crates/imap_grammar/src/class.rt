@@ -1,3 +1,5 @@
+//! Classes of octets (RFC 9051, section 9).
+
 ghost use Rattle.std.specs.Prelude.{◌≡◌};
 ghost use Rattle.imap_types.specs.DateTimes.{is_digit};
 ghost use Rattle.imap_syntax.specs.Strings.{is_in, is_pattern_octet};
@@ -5,7 +7,7 @@ ghost use Rattle.imap_syntax.specs.Strings.{is_in, is_pattern_octet};
 use imap_syntax::OctetClass;
 use imap_types::{is_astring_octet, is_atom_octet};
 
-/// Whether an octet is of the class.
+/// Whether an octet belongs to a class.
 pub fn is_in(class: OctetClass, octet: u8) -> bool
     ensures { result ≡ is_in class octet }
 {

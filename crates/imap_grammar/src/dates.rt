@@ -1,3 +1,5 @@
+//! Days, as the keys of SEARCH write them (RFC 9051, section 9, date).
+
 ghost use Rattle.std.specs.Prelude.{◌≡◌, ◌<◌, ◌≤◌, ◌-◌, ◌^◌, IfOk};
 ghost use Rattle.imap_types.specs.DateTimes.{month_of};
 ghost use Rattle.imap_grammar.specs.Reading.{Gives, date_at, date_text_at, digits_at, month_name_at};
@@ -8,7 +10,7 @@ use crate::scan::{run, skip};
 use imap_syntax::OctetClass;
 use imap_types::Day;
 
-/// The day that a key of SEARCH names, with quotes or without (RFC 9051, section 9, date).
+/// Reads the day of a SEARCH key, with or without quotes (RFC 9051, section 9, date).
 pub fn date(octets: &[u8]) -> Result<(Day, &[u8]), ParseFault>
     ensures { Gives (λ x. (x.0, x.1.now)) result (date_at octets.now) }
 {
@@ -25,7 +27,7 @@ pub fn date(octets: &[u8]) -> Result<(Day, &[u8]), ParseFault>
     }
 }
 
-/// `d-Mon-yyyy`, on a day that the calendar has (RFC 9051, section 9, date-text).
+/// Reads `d-Mon-yyyy`, a day that exists in the calendar (RFC 9051, section 9, date-text).
 fn date_text(octets: &[u8]) -> Result<(Day, &[u8]), ParseFault>
     ensures { Gives (λ x. (x.0, x.1.now)) result (date_text_at octets.now) }
 {
@@ -38,7 +40,7 @@ fn date_text(octets: &[u8]) -> Result<(Day, &[u8]), ParseFault>
     }
 }
 
-/// A number up to a limit in at least and at most so many digits.
+/// Reads a number up to `limit`, written in `least` to `most` digits.
 fn digits(octets: &[u8], least: usize, most: usize, limit: u16) -> Result<(u16, &[u8]), ParseFault>
     ensures value { Gives (λ x. (x.0, x.1.now)) result (digits_at least most limit octets.now) }
     ensures bound { IfOk result (λ x. x.0 ≤ limit) }
@@ -51,7 +53,7 @@ fn digits(octets: &[u8], least: usize, most: usize, limit: u16) -> Result<(u16, 
     Ok((value as u16, rest))
 }
 
-/// Three octets, where the name of a month should stand.
+/// Takes the three octets of a month's name, whatever they are.
 fn month_name(octets: &[u8]) -> Result<(&[u8], &[u8]), ParseFault>
     ensures { Gives (λ x. (month_of x.0.now, x.1.now)) result (month_name_at octets.now) }
 {

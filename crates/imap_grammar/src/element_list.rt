@@ -1,11 +1,14 @@
+//! Lists of values with a separator between each two.
+
 ghost use Rattle.std.specs.Prelude.{◌≡◌, ◌∷◌, [], length, option_map};
 ghost use Rattle.imap_grammar.specs.Reading.{Gives, listed_at, next_at};
 
 use crate::fault::ParseFault;
 use std::alloc::Global;
 
-/// What reads one value of a list.
+/// A reader of the values of a list.
 pub trait ListElement {
+    /// The type of the values.
     type Value: Drop;
 
     ghost use Rattle.std.specs.Prelude.{ℕ, List, Option};
@@ -13,12 +16,12 @@ pub trait ListElement {
 
     ghost read_at: { List ℕ → Option (Self.Value × List ℕ) };
 
-    /// The value that stands in front, and the rest.
+    /// Reads the value that the octets begin with, and gives the rest.
     fn read(alloc: Global, octets: &[u8]) -> Result<(Self::Value, &[u8]), ParseFault>
         ensures { Gives (λ x. (x.0, x.1.now)) result (read_at octets.now) };
 }
 
-/// One or more values with a separator between each two, and the rest.
+/// Reads one or more values with a separator between each two, and gives the rest.
 pub fn element_list<E: ListElement>(
     alloc: Global,
     separator: u8,
@@ -29,7 +32,7 @@ pub fn element_list<E: ListElement>(
     let mut values = Vec::new(alloc);
     let (first, mut rest) = E::read(alloc, octets)?;
     values.push(first)?;
-    // Each turn takes a separator, so there are no more turns than octets.
+    // Each turn takes a separator, so there are at most as many turns as octets.
     for _ in 0..octets.len() {
         let Some((value, after)) = next::<E>(alloc, separator, rest)? else {
             return Ok((values, rest));
@@ -40,7 +43,7 @@ pub fn element_list<E: ListElement>(
     Ok((values, rest))
 }
 
-/// The value behind a separator, where one stands in front.
+/// Reads a separator and a value, if the octets begin with a separator.
 fn next<E: ListElement>(
     alloc: Global,
     separator: u8,

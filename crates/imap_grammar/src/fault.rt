@@ -1,21 +1,23 @@
+//! Faults of frames that give no command.
+
 use std::alloc::{AllocError, AllocFailed};
 
-/// Why a frame gives no command. Each leaves everything as it was.
+/// Why a frame gives no command. A fault changes nothing.
 #[derive(Clone, Copy, Debug, PartialEq, Eq, thiserror::Error)]
 pub enum ParseFault {
     /// The frame doesn't begin with a tag and a space.
     #[error("no tag")]
     NoTag,
-    /// The word behind the tag is no command's.
+    /// The word after the tag is no command's.
     #[error("unknown command")]
     UnknownCommand,
-    /// The command isn't written as its form asks.
+    /// The command's syntax is wrong.
     #[error("bad syntax")]
     BadSyntax,
-    /// A form of IMAP that this server leaves out.
+    /// A form of IMAP that this server doesn't support.
     #[error("not in this profile")]
     NotInProfile,
-    /// There is no memory for the command.
+    /// Memory ran out.
     #[error("no memory")]
     NoMemory,
 }

@@ -1,3 +1,5 @@
+//! The arguments of FETCH (RFC 9051, section 6.4.5; RFC 7162, section 3.1.4).
+
 ghost use Rattle.std.specs.Prelude.{◌≡◌, ◌⊎◌, IfOk};
 ghost use Rattle.imap_grammar.specs.Reading.{Gives, alone_at, body_at, bracketed_at, fetched_at, field_names_at, item_at, item_behind_at, named_at, partial_at, section_at, section_behind_at};
 ghost use Rattle.imap_grammar.specs.CommandReading.{fetch_at};
@@ -19,6 +21,7 @@ use imap_syntax::{
 use imap_types::{FieldNames, Octets, Section};
 use std::alloc::{AllocError, Global};
 
+/// The words that begin items.
 const FETCH_WORDS: [FetchWord; 7] = [
     FetchWord::Flags,
     FetchWord::InternalDate,
@@ -47,6 +50,7 @@ impl GrammarWord for FetchWord {
     }
 }
 
+/// The words that begin sections.
 const SECTION_WORDS: [SectionWord; 4] = [
     SectionWord::Header,
     SectionWord::Text,
@@ -69,7 +73,8 @@ impl GrammarWord for SectionWord {
     }
 }
 
-/// The arguments of FETCH (RFC 9051, section 6.4.5; RFC 7162, section 3.1.4), in no more memory than they take: a journal keeps them for good.
+/// Reads the arguments of FETCH (RFC 9051, section 6.4.5; RFC 7162, section 3.1.4). Spare capacity
+/// is released, since a journal stores the command for good.
 pub fn fetch(alloc: Global, by_uid: bool, octets: &[u8]) -> Result<(Command, &[u8]), ParseFault>
     ensures { Gives (λ x. (x.0, x.1.now)) result (fetch_at by_uid octets.now) }
 {
@@ -86,6 +91,7 @@ pub fn fetch(alloc: Global, by_uid: bool, octets: &[u8]) -> Result<(Command, &[u
     Ok((Command::Fetch(fetch), rest))
 }
 
+/// Reads items in parentheses, FAST, or one item.
 fn fetch_items(alloc: Global, octets: &[u8]) -> Result<(Vec<FetchItem>, &[u8]), ParseFault>
     ensures { Gives (λ x. (x.0.items, x.1.now)) result (fetched_at octets.now) }
 {
@@ -102,7 +108,7 @@ fn fetch_items(alloc: Global, octets: &[u8]) -> Result<(Vec<FetchItem>, &[u8]), 
     }
 }
 
-/// FAST or one item.
+/// Reads FAST or one item.
 fn alone(alloc: Global, octets: &[u8]) -> Result<(Vec<FetchItem>, &[u8]), ParseFault>
     ensures { Gives (λ x. (x.0.items, x.1.now)) result (alone_at octets.now) }
 {
@@ -116,7 +122,7 @@ fn alone(alloc: Global, octets: &[u8]) -> Result<(Vec<FetchItem>, &[u8]), ParseF
     Ok((items, rest))
 }
 
-/// What FAST stands for.
+/// The three items that FAST means.
 fn fast(alloc: Global) -> Result<Vec<FetchItem>, AllocError>
     ensures { IfOk result (λ items. items.items ≡ fast_items) }
 {
@@ -127,7 +133,7 @@ fn fast(alloc: Global) -> Result<Vec<FetchItem>, AllocError>
     Ok(items)
 }
 
-/// Reads items.
+/// Reads one item of a list.
 struct Items;
 
 impl ListElement for Items {
@@ -142,6 +148,7 @@ impl ListElement for Items {
     }
 }
 
+/// Reads one item.
 fn item(alloc: Global, octets: &[u8]) -> Result<(FetchItem, &[u8]), ParseFault>
     ensures { Gives (λ x. (x.0, x.1.now)) result (item_at octets.now) }
 {
@@ -149,7 +156,7 @@ fn item(alloc: Global, octets: &[u8]) -> Result<(FetchItem, &[u8]), ParseFault>
     item_behind(alloc, word, rest)
 }
 
-/// An item's word. Some are of forms that this server leaves out.
+/// Reads an item's word. Some words belong to forms that this server doesn't support.
 fn fetch_word(octets: &[u8]) -> Result<(FetchWord, &[u8]), ParseFault>
     ensures { Gives (λ x. (x.0, x.1.now)) result (named_at fetch_word fetch_words octets.now) }
 {
@@ -174,6 +181,7 @@ fn fetch_word(octets: &[u8]) -> Result<(FetchWord, &[u8]), ParseFault>
     }
 }
 
+/// Reads the rest of the item that this word begins.
 fn item_behind(
     alloc: Global,
     word: FetchWord,
@@ -192,6 +200,7 @@ fn item_behind(
     }
 }
 
+/// Reads the section and the partial range of BODY or BODY.PEEK.
 fn body(alloc: Global, peek: bool, octets: &[u8]) -> Result<(FetchItem, &[u8]), ParseFault>
     ensures { Gives (λ x. (x.0, x.1.now)) result (body_at peek octets.now) }
 {
@@ -207,7 +216,7 @@ fn body(alloc: Global, peek: bool, octets: &[u8]) -> Result<(FetchItem, &[u8]), 
     ))
 }
 
-/// A section between brackets.
+/// Reads a section between brackets.
 fn bracketed_section(
     alloc: Global,
     peek: bool,
@@ -228,7 +237,8 @@ fn bracketed_section(
     }
 }
 
-/// The fault where brackets lack: BODY alone is a form that this server leaves out, BODY.PEEK alone is none.
+/// The fault if the brackets are missing: only BODY without them is a form of IMAP, which this
+/// server doesn't support.
 fn no_section(peek: bool) -> ParseFault
     ensures { (result ≡ BadSyntax) ⊎ (result ≡ NotInProfile) }
 {
@@ -239,6 +249,8 @@ fn no_section(peek: bool) -> ParseFault
     }
 }
 
+/// Reads a section up to its bracket; nothing means the whole text (RFC 9051, section 9,
+/// section-spec).
 fn section(alloc: Global, octets: &[u8]) -> Result<(Section, &[u8]), ParseFault>
     ensures { Gives (λ x. (x.0, x.1.now)) result (section_at octets.now) }
 {
@@ -254,7 +266,7 @@ fn section(alloc: Global, octets: &[u8]) -> Result<(Section, &[u8]), ParseFault>
     }
 }
 
-/// A section's word. Numbered parts and MIME are forms that this server leaves out.
+/// Reads a section's word. Numbered parts and MIME are forms that this server doesn't support.
 fn section_word(octets: &[u8]) -> Result<(SectionWord, &[u8]), ParseFault>
     ensures { Gives (λ x. (x.0, x.1.now)) result (named_at section_word section_words octets.now) }
 {
@@ -271,6 +283,7 @@ fn section_word(octets: &[u8]) -> Result<(SectionWord, &[u8]), ParseFault>
     }
 }
 
+/// Reads the rest of the section that this word begins.
 fn section_behind(
     alloc: Global,
     word: SectionWord,
@@ -292,7 +305,7 @@ fn section_behind(
     }
 }
 
-/// Reads astrings.
+/// Reads one astring of a list.
 struct Astrings;
 
 impl ListElement for Astrings {
@@ -308,7 +321,7 @@ impl ListElement for Astrings {
     }
 }
 
-/// ` (name name ..)` (RFC 9051, section 9, header-list).
+/// Reads ` (name name ..)` (RFC 9051, section 9, header-list).
 fn field_names(alloc: Global, octets: &[u8]) -> Result<(FieldNames, &[u8]), ParseFault>
     ensures { Gives (λ x. (x.0, x.1.now)) result (field_names_at octets.now) }
 {
@@ -318,7 +331,7 @@ fn field_names(alloc: Global, octets: &[u8]) -> Result<(FieldNames, &[u8]), Pars
     Ok((FieldNames::new(names), rest))
 }
 
-/// `<start.count>` or nothing.
+/// Reads `<start.count>` or nothing (RFC 9051, section 9, partial).
 fn partial_range(octets: &[u8]) -> Result<(Option<Partial>, &[u8]), ParseFault>
     ensures { Gives (λ x. (x.0, x.1.now)) result (partial_at octets.now) }
 {

@@ -1,3 +1,5 @@
+//! Flags of messages (RFC 9051, section 9, flag).
+
 ghost use Rattle.std.specs.Prelude.{◌≡◌, IfOk, OnOk};
 ghost use Rattle.imap_grammar.specs.Reading.{Gives, flag_at, flag_group_at, flags_of, maybe_flags_at, named_at, no_flags, stored_at, stored_texts_at, with_flag};
 ghost use Rattle.imap_syntax.specs.Words.{system_flags, system_word};
@@ -11,6 +13,7 @@ use imap_syntax::{Flag, OctetClass, SystemFlag};
 use imap_types::{Flags, Octets};
 use std::alloc::{AllocError, Global};
 
+/// The system flags.
 const SYSTEM_FLAGS: [SystemFlag; 5] = [
     SystemFlag::Answered,
     SystemFlag::Flagged,
@@ -35,7 +38,7 @@ impl GrammarWord for SystemFlag {
     }
 }
 
-/// Reads flags.
+/// Reads one flag of a list.
 struct FlagTexts;
 
 impl ListElement for FlagTexts {
@@ -50,6 +53,7 @@ impl ListElement for FlagTexts {
     }
 }
 
+/// Reads one flag: a `\` and a system flag, or a keyword.
 fn one_flag(alloc: Global, octets: &[u8]) -> Result<(Flag, &[u8]), ParseFault>
     ensures { Gives (λ x. (x.0, x.1.now)) result (flag_at octets.now) }
 {
@@ -66,7 +70,7 @@ fn one_flag(alloc: Global, octets: &[u8]) -> Result<(Flag, &[u8]), ParseFault>
     }
 }
 
-/// A system flag behind its `\`. Any other word there is a flag that this server leaves out.
+/// Reads a system flag after its `\`. Any other word is a flag that this server doesn't support.
 fn system_flag(octets: &[u8]) -> Result<(SystemFlag, &[u8]), ParseFault>
     ensures { Gives (λ x. (x.0, x.1.now)) result (named_at system_word system_flags octets.now) }
 {
@@ -82,7 +86,7 @@ fn system_flag(octets: &[u8]) -> Result<(SystemFlag, &[u8]), ParseFault>
     }
 }
 
-/// Flags between parentheses, or one or more without (RFC 9051, section 9, store-att-flags).
+/// Reads flags in parentheses, or one or more without (RFC 9051, section 9, store-att-flags).
 pub fn store_flags(alloc: Global, octets: &[u8]) -> Result<(Flags, &[u8]), ParseFault>
     ensures { Gives (λ x. (x.0, x.1.now)) result (stored_at octets.now) }
 {
@@ -90,6 +94,7 @@ pub fn store_flags(alloc: Global, octets: &[u8]) -> Result<(Flags, &[u8]), Parse
     Ok((collect_flags(alloc, &written)?, rest))
 }
 
+/// Reads the flags of STORE as they are written.
 fn stored_texts(alloc: Global, octets: &[u8]) -> Result<(Vec<Flag>, &[u8]), ParseFault>
     ensures { Gives (λ x. (x.0.items, x.1.now)) result (stored_texts_at octets.now) }
 {
@@ -104,7 +109,7 @@ fn stored_texts(alloc: Global, octets: &[u8]) -> Result<(Vec<Flag>, &[u8]), Pars
     }
 }
 
-/// No flags or more between parentheses (RFC 9051, section 9, flag-list).
+/// Reads zero or more flags in parentheses, as they are written (RFC 9051, section 9, flag-list).
 pub fn flag_group(alloc: Global, octets: &[u8]) -> Result<(Vec<Flag>, &[u8]), ParseFault>
     ensures { Gives (λ x. (x.0.items, x.1.now)) result (flag_group_at octets.now) }
 {
@@ -114,6 +119,7 @@ pub fn flag_group(alloc: Global, octets: &[u8]) -> Result<(Vec<Flag>, &[u8]), Pa
     Ok((written, rest))
 }
 
+/// Reads zero or more flags up to the closing parenthesis.
 fn maybe_flags(alloc: Global, octets: &[u8]) -> Result<(Vec<Flag>, &[u8]), ParseFault>
     ensures { Gives (λ x. (x.0.items, x.1.now)) result (maybe_flags_at octets.now) }
 {
@@ -128,7 +134,7 @@ fn maybe_flags(alloc: Global, octets: &[u8]) -> Result<(Vec<Flag>, &[u8]), Parse
     }
 }
 
-/// The set of these flags.
+/// The set of these flags; `Err` if memory runs out.
 pub fn collect_flags(alloc: Global, written: &[Flag]) -> Result<Flags, AllocError>
     ensures { IfOk result (λ flags. flags ≡ flags_of no_flags written.now) }
 {
@@ -139,6 +145,7 @@ pub fn collect_flags(alloc: Global, written: &[Flag]) -> Result<Flags, AllocErro
     Ok(flags)
 }
 
+/// Adds a flag to a set. An `Err`, if memory runs out, may leave `flags` changed.
 fn add(alloc: Global, flags: &mut Flags, flag: &Flag) -> Result<(), AllocError>
     ensures { OnOk result (flags.new ≡ with_flag flags.old flag.now) }
 {

@@ -1,3 +1,5 @@
+//! Whole frames: a tag, a command and the end of the line (RFC 9051, sections 2.2 and 9).
+
 ghost use Rattle.std.specs.Prelude.{◌≡◌, ◌↔◌, ◌⊎◌, ℕ, List, IfOk, MatchOption, Ok, Err, option_map};
 ghost use Rattle.imap_syntax.specs.Commands.{IsSpelled};
 ghost use Rattle.imap_syntax.specs.Faults.{HasTag, IsTagged, NamesCommand};
@@ -14,14 +16,15 @@ use imap_syntax::{Command, CommandWord, OctetClass, Tagged};
 use imap_types::Octets;
 use std::alloc::Global;
 
-/// The command that a whole frame spells, CRLF included.
+/// Reads the command that a whole frame spells, CRLF included.
 ///
-/// The faults: `NoTag` and `UnknownCommand` exactly where `specs/Faults.antt` of `imap_syntax` says; `BadSyntax` and `NotInProfile` only
-/// where no command is spelled; `NoMemory` in place of any answer but the first two.
+/// The faults: `NoTag` and `UnknownCommand` exactly if `specs/Faults` of `imap_syntax` says so;
+/// `BadSyntax` and `NotInProfile` only if the frame spells no command; `NoMemory` in place of any
+/// answer but the first two faults.
 pub fn parse(alloc: Global, frame: &[u8]) -> Result<Tagged, ParseFault>
-    // What is read is spelled so.
+    // A command that is read is one that the frame spells.
     ensures found { IfOk result (λ tagged. IsSpelled tagged frame.now) }
-    // What is spelled so is read, unless memory runs out.
+    // A command that the frame spells is read, unless memory runs out.
     ensures only { (tagged : Tagged) → IsSpelled tagged frame.now → (result ≡ Ok tagged) ⊎ (result ≡ Err NoMemory) }
     ensures no_tag { (result ≡ Err NoTag) ↔ (HasTag frame.now → ⊥) }
     ensures unknown { (result ≡ Err UnknownCommand) ↔ (HasTag frame.now × (NamesCommand frame.now → ⊥)) }
@@ -29,7 +32,7 @@ pub fn parse(alloc: Global, frame: &[u8]) -> Result<Tagged, ParseFault>
     parse_frame(alloc, frame)
 }
 
-/// The tag with which a frame begins; `None` where no tag and space stand first.
+/// The tag of a frame; `None` if the frame doesn't begin with a tag and a space.
 pub fn tag_of(frame: &[u8]) -> Option<&[u8]>
     ensures { MatchOption result (HasTag frame.now → ⊥) (λ tag. (rest : List ℕ) × IsTagged frame.now tag.now rest) }
 {
@@ -44,6 +47,7 @@ pub fn one_reading()
     ensures { (this that : Tagged) (frame : List ℕ) → IsSpelled this frame → IsSpelled that frame → this ≡ that }
 {}
 
+/// Reads the tag of a frame, its command's word, and the rest.
 fn parse_frame(alloc: Global, frame: &[u8]) -> Result<Tagged, ParseFault>
     ensures { AnswersTag result (tag_at frame.now) }
 {
@@ -59,6 +63,7 @@ fn parse_frame(alloc: Global, frame: &[u8]) -> Result<Tagged, ParseFault>
     Ok(Tagged { tag, command })
 }
 
+/// Splits a frame after its tag and space; `None` if it doesn't begin so.
 fn split_tag(frame: &[u8]) -> Option<(&[u8], &[u8])>
     ensures { option_map (λ x. (x.0.now, x.1.now)) result ≡ tag_at frame.now }
 {
@@ -77,7 +82,7 @@ fn split_tag(frame: &[u8]) -> Option<(&[u8], &[u8])>
     }
 }
 
-/// The command of this word, with its arguments and CRLF.
+/// Reads the arguments of the command with this word, and the CRLF that ends it.
 fn command_to_end(alloc: Global, word: CommandWord, octets: &[u8]) -> Result<Command, ParseFault>
     ensures { Gives (λ x. x) result (ended_at word octets.now) }
 {
@@ -89,8 +94,8 @@ fn command_to_end(alloc: Global, word: CommandWord, octets: &[u8]) -> Result<Com
     Ok(command)
 }
 
-/// The fault of what stands where the line should end: behind the literal of APPEND, a space begins a form that this
-/// server leaves out (RFC 3502).
+/// The fault of octets in place of the line end. After the literal of APPEND, a space begins a form
+/// that this server doesn't support (RFC 3502).
 fn trailing_fault(word: CommandWord, octets: &[u8]) -> ParseFault
     ensures { (result ≡ BadSyntax) ⊎ (result ≡ NotInProfile) }
 {

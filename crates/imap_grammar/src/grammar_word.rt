@@ -1,3 +1,5 @@
+//! Words of the grammar, and finding them without regard to ASCII case.
+
 ghost use Rattle.std.specs.Prelude.{◌≡◌};
 ghost use Rattle.imap_grammar.specs.Reading.{Gives, named, named_at};
 ghost use Rattle.imap_syntax.specs.Words.{command_word, command_words};
@@ -6,7 +8,7 @@ use crate::fault::ParseFault;
 use crate::scan::span;
 use imap_syntax::{CommandWord, OctetClass};
 
-/// A word of the grammar, which is read without ASCII case.
+/// A value that stands for a word of the grammar, which is read without regard to ASCII case.
 pub trait GrammarWord: Copy {
     ghost use Rattle.std.specs.Prelude.{ℕ, List};
 
@@ -56,6 +58,7 @@ impl GrammarWord for CommandWord {
     }
 }
 
+/// All words of commands.
 const COMMAND_WORDS: [CommandWord; 28] = [
     CommandWord::Capability,
     CommandWord::Noop,
@@ -87,7 +90,7 @@ const COMMAND_WORDS: [CommandWord; 28] = [
     CommandWord::Authenticate,
 ];
 
-/// The first of the values whose word is this text, but for ASCII case.
+/// The first of the values whose word is this text, ignoring ASCII case.
 pub fn find<W: GrammarWord>(values: &[W], text: &[u8]) -> Option<W>
     ensures { result ≡ named W.word_of values.now text.now }
 {
@@ -99,14 +102,15 @@ pub fn find<W: GrammarWord>(values: &[W], text: &[u8]) -> Option<W>
     None
 }
 
-/// The command's word that this text is, but for ASCII case.
+/// The command's word that equals this text, ignoring ASCII case.
 pub fn find_command(text: &[u8]) -> Option<CommandWord>
     ensures { result ≡ named command_word command_words text.now }
 {
     find(&COMMAND_WORDS, text)
 }
 
-/// The first of the values whose word stands in front, but for ASCII case.
+/// Reads a word and gives the first of the values with that word, ignoring ASCII case, and the
+/// rest.
 pub fn leading_word<'a, W: GrammarWord>(
     values: &[W],
     octets: &'a [u8],

@@ -1,3 +1,6 @@
+//! The keys of SEARCH, read as steps in postfix order (RFC 9051, section 6.4.4; RFC 7162, section
+//! 3.1.5).
+
 ghost use Rattle.std.specs.Prelude.{◌≡◌, ◌⊎◌, ◌++◌, ◌∷◌, [], IfOk, OnOk, option_map};
 ghost use Rattle.imap_grammar.specs.KeyReading.{below_at, keys_at, leaf_at, level_at, numbers_at, worded_at};
 ghost use Rattle.imap_syntax.specs.KeyWords.{key_word, key_words};
@@ -20,9 +23,11 @@ use imap_syntax::{
 };
 use std::alloc::{AllocError, Global};
 
-/// The greatest number of octets and the greatest mod-sequence: 2^63 - 1.
+/// The greatest number of octets and the greatest mod-sequence, 2^63 - 1 (RFC 9051, section 9,
+/// number64).
 const GREATEST: u64 = 9_223_372_036_854_775_807;
 
+/// The words that begin keys.
 const KEY_WORDS: [SearchKeyWord; 30] = [
     SearchKeyWord::All,
     SearchKeyWord::System {
@@ -106,7 +111,7 @@ const KEY_WORDS: [SearchKeyWord; 30] = [
     SearchKeyWord::Or,
 ];
 
-/// A key below so many levels, of NOT, OR and parentheses, that may still be opened, itself included.
+/// Reads a key that nests at most `levels` levels of NOT, OR and parentheses, itself included.
 #[cycle(keys)]
 pub fn below(
     alloc: Global,
@@ -122,6 +127,7 @@ pub fn below(
 }
 
 #[cycle(keys)]
+/// Reads a key whose inner keys nest at most `levels` levels.
 fn level(
     alloc: Global,
     levels: usize,
@@ -146,7 +152,7 @@ fn level(
     }
 }
 
-/// A sequence set as a key.
+/// Reads a sequence set as a key.
 fn numbers(alloc: Global, octets: &[u8]) -> Result<(Vec<SearchStep>, &[u8]), ParseFault>
     ensures { Gives (λ x. (x.0.items, x.1.now)) result (numbers_at octets.now) }
 {
@@ -154,6 +160,7 @@ fn numbers(alloc: Global, octets: &[u8]) -> Result<(Vec<SearchStep>, &[u8]), Par
     Ok((alone(alloc, SearchTest::Numbers { numbers })?, rest))
 }
 
+/// The steps of a key that is one test.
 fn alone(alloc: Global, test: SearchTest) -> Result<Vec<SearchStep>, AllocError>
     ensures { IfOk result (λ steps. steps.items ≡ Test test ∷ []) }
 {
@@ -162,7 +169,7 @@ fn alone(alloc: Global, test: SearchTest) -> Result<Vec<SearchStep>, AllocError>
     Ok(steps)
 }
 
-/// The word that begins a key.
+/// Reads the word that begins a key.
 fn key_word(octets: &[u8]) -> Result<(SearchKeyWord, &[u8]), ParseFault>
     ensures { Gives (λ x. (x.0, x.1.now)) result (named_at key_word key_words octets.now) }
 {
@@ -173,7 +180,8 @@ fn key_word(octets: &[u8]) -> Result<(SearchKeyWord, &[u8]), ParseFault>
     }
 }
 
-/// The fault of what is no key: `$` (RFC 5182) and the keys of dates in headers are forms that this server leaves out.
+/// The fault of octets that begin no key. `$` (RFC 5182) and the keys for dates in headers are
+/// forms that this server doesn't support.
 fn no_key(octets: &[u8]) -> ParseFault
     ensures { (result ≡ BadSyntax) ⊎ (result ≡ NotInProfile) }
 {
@@ -184,6 +192,7 @@ fn no_key(octets: &[u8]) -> ParseFault
 }
 
 #[cycle(keys)]
+/// Reads the rest of the key that this word begins.
 fn key_of_word(
     alloc: Global,
     levels: usize,
@@ -208,7 +217,7 @@ fn key_of_word(
     }
 }
 
-/// A space and a key below so many levels.
+/// Reads a space and a key that nests at most `levels` levels.
 #[cycle(keys)]
 fn spaced_key(
     alloc: Global,
@@ -220,7 +229,7 @@ fn spaced_key(
     below(alloc, levels, space(octets)?)
 }
 
-/// A key that holds no other.
+/// Reads the rest of a key that holds no other key.
 fn leaf_key(
     alloc: Global,
     word: SearchKeyWord,
@@ -232,6 +241,7 @@ fn leaf_key(
     Ok((alone(alloc, test)?, rest))
 }
 
+/// Joins the steps of two keys by OR. An `Err`, if memory runs out, may leave `steps` longer.
 fn or_key(steps: &mut Vec<SearchStep>, second: Vec<SearchStep>) -> Result<(), AllocError>
     ensures { OnOk result (steps.new.items ≡ steps.old.items ++ second.items ++ Or ∷ []) }
 {
@@ -241,6 +251,7 @@ fn or_key(steps: &mut Vec<SearchStep>, second: Vec<SearchStep>) -> Result<(), Al
     Ok(())
 }
 
+/// Joins the steps of two keys by AND. An `Err`, if memory runs out, may leave `steps` longer.
 fn and_key(steps: &mut Vec<SearchStep>, second: Vec<SearchStep>) -> Result<(), AllocError>
     ensures { OnOk result (steps.new.items ≡ steps.old.items ++ second.items ++ And ∷ []) }
 {
@@ -250,7 +261,7 @@ fn and_key(steps: &mut Vec<SearchStep>, second: Vec<SearchStep>) -> Result<(), A
     Ok(())
 }
 
-/// One or more keys with single spaces, which must all hit.
+/// Reads one or more keys separated by single spaces, joined by AND.
 #[cycle(keys)]
 pub fn keys(
     alloc: Global,
@@ -260,7 +271,7 @@ pub fn keys(
     ensures { Gives (λ x. (x.0.items, x.1.now)) result (keys_at (below_at levels) octets.now) }
 {
     let (mut steps, mut rest) = below(alloc, levels, octets)?;
-    // Each turn takes a space, so there are no more turns than octets.
+    // Each turn takes a space, so there are at most as many turns as octets.
     for _ in 0..octets.len() {
         let Some((more, after)) = next_key(alloc, levels, rest)? else {
             return Ok((steps, rest));
@@ -271,7 +282,7 @@ pub fn keys(
     Ok((steps, rest))
 }
 
-/// The key behind a space, where one stands in front.
+/// Reads a space and a key, if the octets begin with a space.
 #[cycle(keys)]
 fn next_key(
     alloc: Global,
@@ -292,7 +303,7 @@ fn next_key(
     }
 }
 
-/// What a key's word has behind it.
+/// Reads what follows the word of a key that holds no other key, and gives its test.
 fn leaf(
     alloc: Global,
     word: SearchKeyWord,
@@ -316,6 +327,7 @@ fn leaf(
     }
 }
 
+/// Reads the keyword of KEYWORD or UNKEYWORD.
 fn keyword(alloc: Global, is_set: bool, octets: &[u8]) -> Result<(SearchTest, &[u8]), ParseFault>
     ensures { Gives (λ x. (x.0, x.1.now)) result (leaf_at (key.Keyword is_set) octets.now) }
 {
@@ -323,6 +335,7 @@ fn keyword(alloc: Global, is_set: bool, octets: &[u8]) -> Result<(SearchTest, &[
     Ok((SearchTest::Keyword { keyword, is_set }, rest))
 }
 
+/// Reads the text that a message's place must hold.
 fn text_key(
     alloc: Global,
     place: TextPlace,
@@ -334,6 +347,7 @@ fn text_key(
     Ok((SearchTest::Holds { place, text }, rest))
 }
 
+/// Reads the field name and the text of HEADER.
 fn header(alloc: Global, octets: &[u8]) -> Result<(SearchTest, &[u8]), ParseFault>
     ensures { Gives (λ x. (x.0, x.1.now)) result (leaf_at key.Header octets.now) }
 {
@@ -341,6 +355,7 @@ fn header(alloc: Global, octets: &[u8]) -> Result<(SearchTest, &[u8]), ParseFaul
     Ok((SearchTest::Header { name, text }, rest))
 }
 
+/// Reads the day of BEFORE, ON or SINCE.
 fn date_key(order: DateRelation, octets: &[u8]) -> Result<(SearchTest, &[u8]), ParseFault>
     ensures { Gives (λ x. (x.0, x.1.now)) result (leaf_at (key.Dated order) octets.now) }
 {
@@ -348,6 +363,7 @@ fn date_key(order: DateRelation, octets: &[u8]) -> Result<(SearchTest, &[u8]), P
     Ok((SearchTest::Dated { order, day }, rest))
 }
 
+/// Reads the size of LARGER.
 fn larger(octets: &[u8]) -> Result<(SearchTest, &[u8]), ParseFault>
     ensures { Gives (λ x. (x.0, x.1.now)) result (leaf_at key.Larger octets.now) }
 {
@@ -355,6 +371,7 @@ fn larger(octets: &[u8]) -> Result<(SearchTest, &[u8]), ParseFault>
     Ok((SearchTest::Larger { octets }, rest))
 }
 
+/// Reads the size of SMALLER.
 fn smaller(octets: &[u8]) -> Result<(SearchTest, &[u8]), ParseFault>
     ensures { Gives (λ x. (x.0, x.1.now)) result (leaf_at key.Smaller octets.now) }
 {
@@ -362,13 +379,14 @@ fn smaller(octets: &[u8]) -> Result<(SearchTest, &[u8]), ParseFault>
     Ok((SearchTest::Smaller { octets }, rest))
 }
 
-/// A space and a number of octets.
+/// Reads a space and a number of octets.
 fn size(octets: &[u8]) -> Result<(u64, &[u8]), ParseFault>
     ensures { Gives (λ x. (x.0, x.1.now)) result (spaced (number_at 9223372036854775807) octets.now) }
 {
     number(space(octets)?, GREATEST)
 }
 
+/// Reads the mod-sequence of MODSEQ.
 fn since(octets: &[u8]) -> Result<(SearchTest, &[u8]), ParseFault>
     ensures { Gives (λ x. (x.0, x.1.now)) result (leaf_at key.ModSeq octets.now) }
 {
@@ -376,6 +394,7 @@ fn since(octets: &[u8]) -> Result<(SearchTest, &[u8]), ParseFault>
     Ok((SearchTest::ModSeq { value }, rest))
 }
 
+/// Reads the set of UID.
 fn uids(alloc: Global, octets: &[u8]) -> Result<(SearchTest, &[u8]), ParseFault>
     ensures { Gives (λ x. (x.0, x.1.now)) result (leaf_at key.Uid octets.now) }
 {
@@ -383,7 +402,8 @@ fn uids(alloc: Global, octets: &[u8]) -> Result<(SearchTest, &[u8]), ParseFault>
     Ok((SearchTest::Uids { uids }, rest))
 }
 
-/// A mod-sequence. An entry's name in front of it (RFC 7162, section 3.1.5) is a form that this server leaves out.
+/// Reads a mod-sequence. An entry name before it (RFC 7162, section 3.1.5) is a form that this
+/// server doesn't support.
 fn modseq(octets: &[u8]) -> Result<(u64, &[u8]), ParseFault>
     ensures { Gives (λ x. (x.0, x.1.now)) result (number_at 9223372036854775807 octets.now) }
 {

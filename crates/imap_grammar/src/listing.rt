@@ -1,3 +1,5 @@
+//! The arguments of LIST (RFC 9051, section 6.3.9).
+
 ghost use Rattle.std.specs.Prelude.{◌≡◌, codes};
 ghost use Rattle.imap_grammar.specs.Reading.{Gives, after_word, text_at};
 ghost use Rattle.imap_grammar.specs.CommandReading.{list_at, options_at, options_inner_at, returns_at, selection_at};
@@ -10,7 +12,8 @@ use imap_syntax::{Command, ListNames, OctetClass};
 use imap_types::Octets;
 use std::alloc::Global;
 
-/// The arguments of LIST (RFC 9051, section 6.3.9).
+/// Reads the arguments of LIST: selection options, a reference, a pattern and return options (RFC
+/// 9051, section 6.3.9).
 pub fn list(alloc: Global, octets: &[u8]) -> Result<(Command, &[u8]), ParseFault>
     ensures { Gives (λ x. (x.0, x.1.now)) result (list_at octets.now) }
 {
@@ -27,7 +30,7 @@ pub fn list(alloc: Global, octets: &[u8]) -> Result<(Command, &[u8]), ParseFault
     Ok((Command::ListNames(list), rest))
 }
 
-/// A pattern. A list of patterns is a form that this server leaves out.
+/// Reads a pattern. A list of patterns is a form that this server doesn't support.
 fn pattern(alloc: Global, octets: &[u8]) -> Result<(Octets, &[u8]), ParseFault>
     ensures { Gives (λ x. (x.0, x.1.now)) result (text_at Pattern octets.now) }
 {
@@ -40,7 +43,7 @@ fn pattern(alloc: Global, octets: &[u8]) -> Result<(Octets, &[u8]), ParseFault>
     }
 }
 
-/// The selection options and a space, or nothing.
+/// Reads the selection options and a space, or nothing; gives whether SUBSCRIBED is among them.
 fn selection(octets: &[u8]) -> Result<(bool, &[u8]), ParseFault>
     ensures { Gives (λ x. (x.0, x.1.now)) result (selection_at octets.now) }
 {
@@ -57,7 +60,8 @@ fn selection(octets: &[u8]) -> Result<(bool, &[u8]), ParseFault>
     }
 }
 
-/// A space, RETURN and the return options, or nothing.
+/// Reads a space, RETURN and the return options, or nothing; gives whether SUBSCRIBED is among
+/// them.
 fn returns(octets: &[u8]) -> Result<(bool, &[u8]), ParseFault>
     ensures { Gives (λ x. (x.0, x.1.now)) result (returns_at octets.now) }
 {
@@ -74,7 +78,7 @@ fn returns(octets: &[u8]) -> Result<(bool, &[u8]), ParseFault>
     }
 }
 
-/// `(SUBSCRIBED)` or `()`.
+/// Reads `(SUBSCRIBED)` or `()`.
 fn options(octets: &[u8]) -> Result<(bool, &[u8]), ParseFault>
     ensures { Gives (λ x. (x.0, x.1.now)) result (options_at octets.now) }
 {
@@ -82,6 +86,7 @@ fn options(octets: &[u8]) -> Result<(bool, &[u8]), ParseFault>
     options_inner(rest)
 }
 
+/// Reads options up to and including the closing parenthesis.
 fn options_inner(octets: &[u8]) -> Result<(bool, &[u8]), ParseFault>
     ensures { Gives (λ x. (x.0, x.1.now)) result (options_inner_at octets.now) }
 {
@@ -98,7 +103,7 @@ fn options_inner(octets: &[u8]) -> Result<(bool, &[u8]), ParseFault>
     }
 }
 
-/// The one option. Any other word is an option that this server leaves out.
+/// Reads SUBSCRIBED. Any other word is an option that this server doesn't support.
 fn subscribed_option(octets: &[u8]) -> Result<&[u8], ParseFault>
     ensures { Gives (λ rest. rest.now) result (after_word (codes "SUBSCRIBED") octets.now) }
 {

@@ -1,3 +1,6 @@
+//! Modifiers of FETCH and STORE with a mod-sequence, and words of forms that this server doesn't
+//! support (RFC 7162, section 3.1).
+
 ghost use Rattle.std.specs.Prelude.{◌≡◌, ◌<◌, ◌-◌, ◌^◌, ◌⊎◌, codes};
 ghost use Rattle.imap_grammar.specs.Reading.{Gives, after_word, modifier_at, modifier_group_at, peeks};
 ghost use Rattle.imap_grammar.specs.declared.fault.ParseFault.TheVariants.{BadSyntax, NotInProfile};
@@ -10,7 +13,7 @@ use imap_syntax::OctetClass;
 /// The greatest mod-sequence (RFC 7162, section 7, mod-sequence-value).
 const MAX_MODSEQ: u64 = 9_223_372_036_854_775_807;
 
-/// Whether a space and then this octet stand in front.
+/// Whether the octets begin with a space and then `mark`.
 pub fn peeks(mark: u8, octets: &[u8]) -> bool
     ensures { result ≡ peeks mark octets.now }
 {
@@ -21,20 +24,21 @@ pub fn peeks(mark: u8, octets: &[u8]) -> bool
     }
 }
 
-/// ` (CHANGEDSINCE n)` or nothing (RFC 7162, section 3.1.4.1).
+/// Reads ` (CHANGEDSINCE n)` or nothing (RFC 7162, section 3.1.4.1).
 pub fn changed_since(octets: &[u8]) -> Result<(Option<u64>, &[u8]), ParseFault>
     ensures { Gives (λ x. (x.0, x.1.now)) result (modifier_at (codes "CHANGEDSINCE") octets.now) }
 {
     modifier(b"CHANGEDSINCE", octets)
 }
 
-/// ` (UNCHANGEDSINCE n)` or nothing (RFC 7162, section 3.1.3).
+/// Reads ` (UNCHANGEDSINCE n)` or nothing (RFC 7162, section 3.1.3).
 pub fn unchanged_since(octets: &[u8]) -> Result<(Option<u64>, &[u8]), ParseFault>
     ensures { Gives (λ x. (x.0, x.1.now)) result (modifier_at (codes "UNCHANGEDSINCE") octets.now) }
 {
     modifier(b"UNCHANGEDSINCE", octets)
 }
 
+/// Reads a space and the modifier with this word, or nothing.
 fn modifier<'a>(letters: &[u8], octets: &'a [u8]) -> Result<(Option<u64>, &'a [u8]), ParseFault>
     ensures { Gives (λ x. (x.0, x.1.now)) result (modifier_at letters.now octets.now) }
 {
@@ -46,6 +50,7 @@ fn modifier<'a>(letters: &[u8], octets: &'a [u8]) -> Result<(Option<u64>, &'a [u
     Ok((Some(value), rest))
 }
 
+/// Reads the modifier with this word, its parentheses included.
 fn modifier_group<'a>(letters: &[u8], octets: &'a [u8]) -> Result<(u64, &'a [u8]), ParseFault>
     ensures { Gives (λ x. (x.0, x.1.now)) result (modifier_group_at letters.now octets.now) }
 {
@@ -57,7 +62,8 @@ fn modifier_group<'a>(letters: &[u8], octets: &'a [u8]) -> Result<(u64, &'a [u8]
     Ok((value, rest))
 }
 
-/// The modifier's word. VANISHED and QRESYNC (RFC 7162, section 3.2) are forms that this server leaves out.
+/// Reads the modifier's word. VANISHED and QRESYNC (RFC 7162, section 3.2) are forms that this
+/// server doesn't support.
 pub fn modifier_word<'a>(letters: &[u8], octets: &'a [u8]) -> Result<&'a [u8], ParseFault>
     ensures { Gives (λ rest. rest.now) result (after_word letters.now octets.now) }
 {
@@ -68,7 +74,8 @@ pub fn modifier_word<'a>(letters: &[u8], octets: &'a [u8]) -> Result<&'a [u8], P
     Err(left_out_fault(octets, &[b"VANISHED", b"QRESYNC"]))
 }
 
-/// The fault where one of these words stands in front, or none.
+/// The fault of octets that can't be read: `NotInProfile` if they begin with one of `words`, else
+/// `BadSyntax`.
 pub fn left_out_fault(octets: &[u8], words: &[&[u8]]) -> ParseFault
     ensures { (result ≡ BadSyntax) ⊎ (result ≡ NotInProfile) }
 {

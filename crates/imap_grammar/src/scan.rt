@@ -1,3 +1,5 @@
+//! Steps over octets: classes, fixed octets, spaces and words.
+
 ghost use Rattle.std.specs.Prelude.{◌≡◌, ◌<◌, ◌≤◌, length, [], ◌∷◌, IfSome};
 ghost use Rattle.imap_syntax.specs.Strings.{is_in, number_of};
 ghost use Rattle.imap_grammar.specs.Reading.{Gives, after, after_word, run_at, span, after_plus};
@@ -6,7 +8,7 @@ use crate::class::is_in;
 use crate::fault::ParseFault;
 use imap_syntax::OctetClass;
 
-/// The longest front of octets of a class, and the rest.
+/// Splits the octets after the longest prefix whose octets all belong to a class.
 pub fn span(class: OctetClass, octets: &[u8]) -> (&[u8], &[u8])
     ensures { (result.0.now, result.1.now) ≡ span (is_in class) octets.now }
 {
@@ -20,7 +22,7 @@ pub fn span(class: OctetClass, octets: &[u8]) -> (&[u8], &[u8])
     octets.split_at(len)
 }
 
-/// One or more octets of a class, and the rest.
+/// As `span`, but the prefix must not be empty.
 pub fn run(class: OctetClass, octets: &[u8]) -> Result<(&[u8], &[u8]), ParseFault>
     ensures { Gives (λ x. (x.0.now, x.1.now)) result (run_at class octets.now) }
 {
@@ -31,7 +33,7 @@ pub fn run(class: OctetClass, octets: &[u8]) -> Result<(&[u8], &[u8]), ParseFaul
     Ok((front, rest))
 }
 
-/// What stands behind these octets.
+/// The octets after a prefix that they must begin with.
 pub fn skip<'a>(octets: &'a [u8], wanted: &[u8]) -> Result<&'a [u8], ParseFault>
     ensures { Gives (λ rest. rest.now) result (after wanted.now octets.now) }
 {
@@ -50,14 +52,14 @@ pub fn skip<'a>(octets: &'a [u8], wanted: &[u8]) -> Result<&'a [u8], ParseFault>
     Ok(rest)
 }
 
-/// What stands behind one space.
+/// The octets after one space, which they must begin with.
 pub fn space(octets: &[u8]) -> Result<&[u8], ParseFault>
     ensures { Gives (λ rest. rest.now) result (after (32 ∷ []) octets.now) }
 {
     skip(octets, b" ")
 }
 
-/// What stands behind a word, whose case is nothing.
+/// The octets after a word that they must begin with, in any case.
 pub fn skip_word<'a>(octets: &'a [u8], letters: &[u8]) -> Result<&'a [u8], ParseFault>
     ensures { Gives (λ rest. rest.now) result (after_word letters.now octets.now) }
 {

@@ -1,3 +1,6 @@
+//! The words of SEARCH: its return options and its keys (RFC 9051, sections 6.4.4 and 9; RFC 7162,
+//! section 3.1.5).
+
 ghost use Rattle.std.specs.Prelude.{◌≡◌};
 ghost use Rattle.imap_syntax.specs.KeyWords.{flag_key, order_key, place_key};
 
@@ -42,6 +45,7 @@ impl GrammarWord for SearchKeyWord {
     }
 }
 
+/// The key for a system flag that is set, or not set.
 fn flag_key(flag: SystemFlag, is_set: bool) -> &'static [u8]
     ensures { result.now ≡ flag_key flag is_set }
 {
@@ -64,6 +68,7 @@ fn flag_key(flag: SystemFlag, is_set: bool) -> &'static [u8]
     }
 }
 
+/// The key for a text in this place of a message.
 fn place_key(place: TextPlace) -> &'static [u8]
     ensures { result.now ≡ place_key place }
 {
@@ -78,6 +83,7 @@ fn place_key(place: TextPlace) -> &'static [u8]
     }
 }
 
+/// The key for messages dated before, on or since a day.
 fn order_key(order: DateRelation) -> &'static [u8]
     ensures { result.now ≡ order_key order }
 {

@@ -1,3 +1,5 @@
+//! The arguments of SEARCH (RFC 9051, section 6.4.4).
+
 ghost use Rattle.std.specs.Prelude.{◌≡◌};
 ghost use Rattle.imap_grammar.specs.KeyReading.{below_at, charset_at, charset_name_at, is_charset, keys_at, maybe_options_at, returned_at, returned_group_at, search_at};
 ghost use Rattle.imap_syntax.specs.KeyWords.{option_word, search_options};
@@ -13,9 +15,10 @@ use crate::text::spaced_text;
 use imap_syntax::{Command, OctetClass, Search, SearchOption, SearchSteps, WrittenValues};
 use std::alloc::Global;
 
-/// How deep NOT, OR and parentheses may stand in one another.
+/// The number of levels that NOT, OR and parentheses may nest.
 const MAX_LEVELS: usize = 64;
 
+/// The return options.
 const SEARCH_OPTIONS: [SearchOption; 4] = [
     SearchOption::Min,
     SearchOption::Max,
@@ -23,7 +26,7 @@ const SEARCH_OPTIONS: [SearchOption; 4] = [
     SearchOption::Count,
 ];
 
-/// The arguments of SEARCH (RFC 9051, section 6.4.4).
+/// Reads the arguments of SEARCH: RETURN, CHARSET and the keys (RFC 9051, section 6.4.4).
 pub fn search(alloc: Global, by_uid: bool, octets: &[u8]) -> Result<(Command, &[u8]), ParseFault>
     ensures { Gives (λ x. (x.0, x.1.now)) result (search_at by_uid octets.now) }
 {
@@ -38,7 +41,7 @@ pub fn search(alloc: Global, by_uid: bool, octets: &[u8]) -> Result<(Command, &[
     Ok((Command::Search(search), rest))
 }
 
-/// The keys, which are one key together.
+/// Reads the keys, which together are one key.
 fn key(alloc: Global, octets: &[u8]) -> Result<(SearchSteps, &[u8]), ParseFault>
     ensures { Gives (λ x. (x.0, x.1.now)) result (keys_at (below_at 65) octets.now) }
 {
@@ -46,7 +49,7 @@ fn key(alloc: Global, octets: &[u8]) -> Result<(SearchSteps, &[u8]), ParseFault>
     Ok((SearchSteps::new(steps), rest))
 }
 
-/// RETURN with its options and a space, or nothing.
+/// Reads RETURN with its options and a space, or nothing.
 fn return_clause(alloc: Global, octets: &[u8]) -> Result<(Vec<SearchOption>, &[u8]), ParseFault>
     ensures { Gives (λ x. (x.0.items, x.1.now)) result (returned_at octets.now) }
 {
@@ -57,6 +60,7 @@ fn return_clause(alloc: Global, octets: &[u8]) -> Result<(Vec<SearchOption>, &[u
     returned_group(alloc, rest)
 }
 
+/// Reads the options of RETURN, in parentheses, and the spaces around them.
 fn returned_group(alloc: Global, octets: &[u8]) -> Result<(Vec<SearchOption>, &[u8]), ParseFault>
     ensures { Gives (λ x. (x.0.items, x.1.now)) result (returned_group_at octets.now) }
 {
@@ -67,6 +71,7 @@ fn returned_group(alloc: Global, octets: &[u8]) -> Result<(Vec<SearchOption>, &[
     Ok((options, rest))
 }
 
+/// Reads zero or more options up to the closing parenthesis.
 fn maybe_options(alloc: Global, octets: &[u8]) -> Result<(Vec<SearchOption>, &[u8]), ParseFault>
     ensures { Gives (λ x. (x.0.items, x.1.now)) result (maybe_options_at octets.now) }
 {
@@ -81,7 +86,7 @@ fn maybe_options(alloc: Global, octets: &[u8]) -> Result<(Vec<SearchOption>, &[u
     }
 }
 
-/// Reads options.
+/// Reads one option of a list.
 struct Options;
 
 impl ListElement for Options {
@@ -97,7 +102,7 @@ impl ListElement for Options {
     }
 }
 
-/// An option. SAVE (RFC 9051, section 6.4.4.1) is one that this server leaves out.
+/// Reads an option. SAVE (RFC 9051, section 6.4.4.1) is one that this server doesn't support.
 fn search_option(octets: &[u8]) -> Result<(SearchOption, &[u8]), ParseFault>
     ensures { Gives (λ x. (x.0, x.1.now)) result (named_at option_word search_options octets.now) }
 {
@@ -108,7 +113,7 @@ fn search_option(octets: &[u8]) -> Result<(SearchOption, &[u8]), ParseFault>
     }
 }
 
-/// What stands behind CHARSET, its name and a space, or the octets themselves.
+/// The octets after CHARSET, its name and a space, or all octets if they don't begin with CHARSET.
 fn charset(alloc: Global, octets: &[u8]) -> Result<&[u8], ParseFault>
     ensures { Gives (λ rest. rest.now) result (charset_at octets.now) }
 {
@@ -119,7 +124,7 @@ fn charset(alloc: Global, octets: &[u8]) -> Result<&[u8], ParseFault>
     charset_name(alloc, rest)
 }
 
-/// A charset's name. Others than UTF-8 and US-ASCII are left out.
+/// The octets after a charset's name and a space. Only UTF-8 and US-ASCII are supported.
 fn charset_name(alloc: Global, octets: &[u8]) -> Result<&[u8], ParseFault>
     ensures { Gives (λ rest. rest.now) result (charset_name_at octets.now) }
 {
@@ -130,6 +135,7 @@ fn charset_name(alloc: Global, octets: &[u8]) -> Result<&[u8], ParseFault>
     space(rest)
 }
 
+/// Whether this charset is supported; its name may be in any case.
 fn is_charset(name: &[u8]) -> bool
     ensures { result ≡ is_charset name.now }
 {

@@ -1,3 +1,5 @@
+//! Sequence sets (RFC 9051, section 9, sequence-set).
+
 ghost use Rattle.std.specs.Prelude.{◌≡◌};
 ghost use Rattle.imap_grammar.specs.Reading.{Gives, bound_at, range_at, ranged_at, set_at, spaced};
 
@@ -8,7 +10,8 @@ use crate::scan::space;
 use imap_types::{SequenceBound, SequenceRange, SequenceSet};
 use std::alloc::Global;
 
-/// A sequence set (RFC 9051, section 9, sequence-set), in no more memory than it takes: a journal keeps it for good.
+/// Reads a sequence set (RFC 9051, section 9, sequence-set). Spare capacity is released, since a
+/// journal stores the command for good.
 pub fn set(alloc: Global, octets: &[u8]) -> Result<(SequenceSet, &[u8]), ParseFault>
     ensures { Gives (λ x. (x.0, x.1.now)) result (set_at octets.now) }
 {
@@ -17,14 +20,14 @@ pub fn set(alloc: Global, octets: &[u8]) -> Result<(SequenceSet, &[u8]), ParseFa
     Ok((SequenceSet::new(ranges), rest))
 }
 
-/// A space and a sequence set.
+/// Reads a space and a sequence set.
 pub fn spaced_set(alloc: Global, octets: &[u8]) -> Result<(SequenceSet, &[u8]), ParseFault>
     ensures { Gives (λ x. (x.0, x.1.now)) result (spaced set_at octets.now) }
 {
     set(alloc, space(octets)?)
 }
 
-/// Reads the ranges of a set.
+/// Reads one range of a set.
 struct Ranges;
 
 impl ListElement for Ranges {
@@ -39,6 +42,7 @@ impl ListElement for Ranges {
     }
 }
 
+/// Reads one number, `*`, or two of these with a `:` between (RFC 9051, section 9, seq-range).
 fn range(octets: &[u8]) -> Result<(SequenceRange, &[u8]), ParseFault>
     ensures { Gives (λ x. (x.0, x.1.now)) result (range_at octets.now) }
 {
@@ -46,7 +50,7 @@ fn range(octets: &[u8]) -> Result<(SequenceRange, &[u8]), ParseFault>
     range_from(first, rest)
 }
 
-/// The range that begins with this bound.
+/// Reads the rest of the range that begins with this bound.
 fn range_from(first: SequenceBound, octets: &[u8]) -> Result<(SequenceRange, &[u8]), ParseFault>
     ensures { Gives (λ x. (x.0, x.1.now)) result (ranged_at first octets.now) }
 {
@@ -62,6 +66,7 @@ fn range_from(first: SequenceBound, octets: &[u8]) -> Result<(SequenceRange, &[u
     }
 }
 
+/// Reads a number or `*`. `$` (RFC 5182) is a form that this server doesn't support.
 fn bound(octets: &[u8]) -> Result<(SequenceBound, &[u8]), ParseFault>
     ensures { Gives (λ x. (x.0, x.1.now)) result (bound_at octets.now) }
 {

@@ -1,3 +1,5 @@
+//! The items of STATUS (RFC 9051, section 6.3.11; RFC 7162, section 3.1.7).
+
 ghost use Rattle.std.specs.Prelude.{◌≡◌};
 ghost use Rattle.imap_grammar.specs.Reading.{Gives, named_at};
 ghost use Rattle.imap_syntax.specs.Words.{status_items, status_word};
@@ -8,6 +10,7 @@ use crate::grammar_word::{GrammarWord, leading_word};
 use imap_syntax::StatusItem;
 use std::alloc::Global;
 
+/// All items of STATUS.
 const STATUS_ITEMS: [StatusItem; 7] = [
     StatusItem::Messages,
     StatusItem::UidNext,
@@ -36,7 +39,7 @@ impl GrammarWord for StatusItem {
     }
 }
 
-/// Reads what STATUS asks.
+/// Reads one item of a list.
 pub struct StatusItems;
 
 impl ListElement for StatusItems {
@@ -52,6 +55,7 @@ impl ListElement for StatusItems {
     }
 }
 
+/// Reads one item.
 fn status_item(octets: &[u8]) -> Result<(StatusItem, &[u8]), ParseFault>
     ensures { Gives (λ x. (x.0, x.1.now)) result (named_at status_word status_items octets.now) }
 {

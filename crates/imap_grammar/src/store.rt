@@ -1,3 +1,5 @@
+//! The arguments of STORE (RFC 9051, section 6.4.6; RFC 7162, section 3.1.3).
+
 ghost use Rattle.std.specs.Prelude.{◌≡◌, codes};
 ghost use Rattle.imap_grammar.specs.Reading.{Gives, both, modifier_at, named_at, spaced, stored_at};
 ghost use Rattle.imap_grammar.specs.CommandReading.{store_at};
@@ -45,6 +47,7 @@ impl GrammarWord for StoreAction {
     }
 }
 
+/// The six actions of STORE.
 const STORE_ACTIONS: [StoreAction; 6] = [
     StoreAction {
         mode: StoreMode::Replace,
@@ -72,7 +75,8 @@ const STORE_ACTIONS: [StoreAction; 6] = [
     },
 ];
 
-/// The arguments of STORE (RFC 9051, section 6.4.6; RFC 7162, section 3.1.3).
+/// Reads the arguments of STORE: messages, UNCHANGEDSINCE, an action and flags (RFC 9051, section
+/// 6.4.6; RFC 7162, section 3.1.3).
 pub fn store(alloc: Global, by_uid: bool, octets: &[u8]) -> Result<(Command, &[u8]), ParseFault>
     ensures { Gives (λ x. (x.0, x.1.now)) result (store_at by_uid octets.now) }
 {
@@ -95,7 +99,7 @@ pub fn store(alloc: Global, by_uid: bool, octets: &[u8]) -> Result<(Command, &[u
     }
 }
 
-/// The change of each message.
+/// Reads how each message is to be changed.
 fn store_change(
     alloc: Global,
     octets: &[u8],
@@ -108,6 +112,7 @@ fn store_change(
     Ok(((unchanged_since, (action, flags)), rest))
 }
 
+/// Reads FLAGS, +FLAGS or -FLAGS, with or without .SILENT.
 fn store_action(octets: &[u8]) -> Result<(StoreAction, &[u8]), ParseFault>
     ensures { Gives (λ x. (x.0, x.1.now)) result (named_at store_word store_actions octets.now) }
 {

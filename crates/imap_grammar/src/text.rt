@@ -1,3 +1,5 @@
+//! Strings and mailbox names (RFC 9051, section 9).
+
 ghost use Rattle.std.specs.Prelude.{◌≡◌, ◌<◌, ◌≤◌, ◌-◌, ◌^◌, length, min, true, false};
 ghost use Rattle.imap_syntax.specs.Strings.{is_quotable, number_of};
 ghost use Rattle.imap_grammar.specs.Reading.{Gives, both, literal_at, mailbox_at, octets_at, quoted_at, run_at, spaced, text_at, after_plus};
@@ -10,7 +12,8 @@ use imap_syntax::OctetClass;
 use imap_types::{Name, Octets};
 use std::alloc::Global;
 
-/// An astring or a pattern (RFC 9051, section 9): octets of the class as they stand, or a string in either form.
+/// Reads an astring or a pattern: octets of the class without quotes, a quoted string, or a literal
+/// (RFC 9051, section 9, astring and list-mailbox).
 pub fn text(alloc: Global, class: OctetClass, octets: &[u8]) -> Result<(Octets, &[u8]), ParseFault>
     ensures { Gives (λ x. (x.0, x.1.now)) result (text_at class octets.now) }
 {
@@ -24,14 +27,14 @@ pub fn text(alloc: Global, class: OctetClass, octets: &[u8]) -> Result<(Octets, 
     }
 }
 
-/// A space and an astring.
+/// Reads a space and an astring.
 pub fn spaced_text(alloc: Global, octets: &[u8]) -> Result<(Octets, &[u8]), ParseFault>
     ensures { Gives (λ x. (x.0, x.1.now)) result (spaced (text_at Astring) octets.now) }
 {
     text(alloc, OctetClass::Astring, space(octets)?)
 }
 
-/// Two astrings, with a space in front of each.
+/// Reads two astrings, each after a space.
 pub fn spaced_texts(alloc: Global, octets: &[u8]) -> Result<((Octets, Octets), &[u8]), ParseFault>
     ensures { Gives (λ x. (x.0, x.1.now)) result (spaced (both (text_at Astring) (spaced (text_at Astring))) octets.now) }
 {
@@ -40,7 +43,7 @@ pub fn spaced_texts(alloc: Global, octets: &[u8]) -> Result<((Octets, Octets), &
     Ok(((first, second), rest))
 }
 
-/// One or more octets of a class as they stand.
+/// Reads one or more octets of a class without quotes.
 pub fn plain(alloc: Global, class: OctetClass, octets: &[u8]) -> Result<(Octets, &[u8]), ParseFault>
     ensures { Gives (λ x. (x.0, x.1.now)) result (run_at class octets.now) }
 {
@@ -48,7 +51,7 @@ pub fn plain(alloc: Global, class: OctetClass, octets: &[u8]) -> Result<(Octets,
     Ok((Octets::from_slice(alloc, front)?, rest))
 }
 
-/// A mailbox name (RFC 9051, section 9, mailbox), with INBOX of any case in capitals.
+/// Reads a mailbox name; INBOX in any case becomes capitals (RFC 9051, section 9, mailbox).
 pub fn mailbox(alloc: Global, octets: &[u8]) -> Result<(Name, &[u8]), ParseFault>
     ensures { Gives (λ x. (x.0, x.1.now)) result (mailbox_at octets.now) }
 {
@@ -56,14 +59,14 @@ pub fn mailbox(alloc: Global, octets: &[u8]) -> Result<(Name, &[u8]), ParseFault
     Ok((Name::new(written.into_vec()).fold_inbox(), rest))
 }
 
-/// A space and a mailbox name.
+/// Reads a space and a mailbox name.
 pub fn spaced_mailbox(alloc: Global, octets: &[u8]) -> Result<(Name, &[u8]), ParseFault>
     ensures { Gives (λ x. (x.0, x.1.now)) result (spaced mailbox_at octets.now) }
 {
     mailbox(alloc, space(octets)?)
 }
 
-/// What stands up to the closing quote, without the escapes.
+/// Reads a string up to its closing quote, and takes out the escapes (RFC 9051, section 9, quoted).
 fn quoted_string(alloc: Global, octets: &[u8]) -> Result<(Octets, &[u8]), ParseFault>
     ensures { Gives (λ x. (x.0, x.1.now)) result (quoted_at false octets.now) }
 {
@@ -92,13 +95,14 @@ fn quoted_string(alloc: Global, octets: &[u8]) -> Result<(Octets, &[u8]), ParseF
     Err(ParseFault::BadSyntax)
 }
 
+/// Whether an octet may be in a quoted string without a `\`.
 fn is_quotable(octet: u8) -> bool
     ensures { result ≡ is_quotable octet }
 {
     octet != 0 && octet != b'\r' && octet != b'\n'
 }
 
-/// A literal behind its `{` (RFC 9051, section 9, literal).
+/// Reads a literal after its `{` (RFC 9051, section 9, literal).
 #[tactic(auto, unfolding(crate::specs::Reading::literal_at))]
 pub fn literal(alloc: Global, octets: &[u8]) -> Result<(Octets, &[u8]), ParseFault>
     ensures { Gives (λ x. (x.0, x.1.now)) result (literal_at octets.now) }
@@ -108,6 +112,7 @@ pub fn literal(alloc: Global, octets: &[u8]) -> Result<(Octets, &[u8]), ParseFau
     counted_octets(alloc, digits, rest)
 }
 
+/// The octets after a `+`, if they begin with one.
 fn after_plus(octets: &[u8]) -> &[u8]
     ensures { result.now ≡ after_plus octets.now }
 {
@@ -117,7 +122,7 @@ fn after_plus(octets: &[u8]) -> &[u8]
     }
 }
 
-/// As many octets as the digits say.
+/// Takes as many octets as the digits say.
 fn counted_octets<'a>(
     alloc: Global,
     digits: &[u8],
