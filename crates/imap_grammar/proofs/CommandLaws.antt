@@ -38,7 +38,7 @@ use Rattle.imap_grammar.proofs.WordLaws.{after_word_again, after_word_takes, end
 abbrev pub Found : CommandWord → List ℕ → Command × List ℕ → Type 0
 Found named octets x = (word_of x.0 ≡ named) × Front (arguments x.0) octets x.1
 
--- A command made from a single value is read like that value.
+-- A command made from one value has its word, and its arguments are that value's text.
 found_by : {A : Type 0} {read : List ℕ → Option (A × List ℕ)} {form : A → List ℕ → Type 0} (reads : Reads read form Closes) (make : A → Command) (named : CommandWord)
     → ((value : A) (text : List ℕ) → form value text → (word_of (make value) ≡ named) × arguments (make value) text)
     → (octets : List ℕ) (x : Command × List ℕ) → made make read octets ≡ Some x → Found named octets x

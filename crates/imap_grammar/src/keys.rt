@@ -126,8 +126,8 @@ pub fn below(
     level(alloc, levels - 1, octets)
 }
 
-#[cycle(keys)]
 /// Reads a key whose inner keys nest at most `levels` levels.
+#[cycle(keys)]
 fn level(
     alloc: Global,
     levels: usize,
@@ -191,8 +191,8 @@ fn no_key(octets: &[u8]) -> ParseFault
     left_out_fault(octets, &[b"SENTBEFORE", b"SENTON", b"SENTSINCE"])
 }
 
-#[cycle(keys)]
 /// Reads the rest of the key that this word begins.
+#[cycle(keys)]
 fn key_of_word(
     alloc: Global,
     levels: usize,

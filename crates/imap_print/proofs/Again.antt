@@ -19,12 +19,12 @@ use Rattle.imap_types.specs.Names.{fold_inbox, inbox, is_inbox}
 use Rattle.imap_print.specs.declared.scanner.ScanClass.{ScanClass}
 use Rattle.imap_print.specs.declared.scanner.ScanClass.TheVariants.{Astring}
 
--- a prefix is there
+-- a prefix is skipped
 pub after-again : (ps rest : List ℕ) → after ps (ps ++ rest) ≡ Some rest
 after-again [] rest = refl
 after-again (p ∷ ps) rest = rw (eq-eqb p p refl) (after-again ps rest)
 
--- what stands behind a prefix
+-- what is skipped is the prefix
 pub after-takes : (ps bs rest : List ℕ) → after ps bs ≡ Some rest → bs ≡ ps ++ rest
 after-takes [] bs rest h = cc
 after-takes (p ∷ ps) [] rest h = cc
@@ -109,11 +109,11 @@ not_begun true l [] end a h = h
 not_begun false l [] end a h = h
 not_begun f l (t ∷ ts) end a h = ap (after (lead f l)) (spaced-front f t ts end) ∙ lead-apart f l t (spaced false ts ++ end) (and_parts _ _ a).0
 
--- where both are there, the first is read
+-- one step that succeeds
 step : {A B : Type 0} (r : Option A) (x : A) (f : A → Option B) → r ≡ Some x → (r >>= f) ≡ f x
 step r x f e = ap (λ o. o >>= f) e
 
--- strings
+-- a string after its opening quote
 pub quoted-again : (string rest : List ℕ) → quoted_from false (flat_map escaped_octet string ++ (34 ∷ rest)) ≡ Some (string, rest)
 quoted-again [] rest = refl
 quoted-again (b ∷ bs) rest =
@@ -125,7 +125,7 @@ quoted-again (b ∷ bs) rest =
       ]
     ]
 
--- octets of unquoted strings are none of these
+-- an octet of a string without quotes differs from an octet outside that class
 not_octet : (k c : ℕ) → is_astring_octet k ≡ false → is_astring_octet c ≡ true → eqb c k ≡ false
 not_octet k c f t = elim (cases_Bool (eqb c k)) [
   | inl e ↦ absurd (false≢true (sym f ∙ ap is_astring_octet (sym (eqb-true c k e)) ∙ t))

@@ -73,12 +73,12 @@ copied-again u s c rest h i j =
     ∙ ap (λ o. o >>= λ sets. Some ((small u, sets.0.0, sets.0.1), sets.1)) (sets-again s c rest i j)
     ∙ ap (λ k. Some ((k, s, c), rest)) (small-again u h)
 
--- the flags that can be changed for good
+-- the flags that can be changed permanently
 permanent-notice-again : (flags : Option Flags) (rest : List ℕ) → Where AreFlags flags → permanent_notice_at (permanent_text flags ++ (93 ∷ rest)) ≡ Some (notice.PermanentFlags flags, rest)
 unfolding permanent_notice_at
 permanent-notice-again flags rest h = ap (λ o. o >>= λ flags. followed (notice.PermanentFlags flags.0) (after (codes "]") flags.1)) (permanent-again flags (93 ∷ rest) h)
 
--- what an untagged OK tells
+-- the code of an untagged OK
 notice-again : (n : Notice) (rest : List ℕ) → IsNotice n → notice_at (notice_text n ++ rest) ≡ Some (n, rest)
 unfolding notice_at
 notice-again notice.Closed rest h = refl
@@ -201,7 +201,7 @@ no_code command.UidCopy rest = refl
 no_code command.UidMove rest = refl
 no_code command.UidExpunge rest = refl
 
--- the tagged line of a command that isn't done
+-- the tagged line of a refused command
 refused-again : (tag : List ℕ) (reason : Refusal) (rest : List ℕ) → tagged_at tag (32 ∷ (refusal_text reason ++ rest)) ≡ Some (answer.Refused tag reason, rest)
 unfolding tagged_at
 refused-again tag refusal.NoSuchMailbox rest = refl

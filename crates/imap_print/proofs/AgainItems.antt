@@ -98,7 +98,7 @@ status-items-again items rest h =
     let done : (g : Bool) → spaced g [] ++ end ≡ end = λ g. nothing_left g end in
     (λ k. (record { messages = (ap (λ (x : Listed (Option ℕ)). small_option x.0) p1 ∙ small_same items.messages h.messages) k; uidnext = (ap (λ (x : Listed (Option ℕ)). small_option x.0) p2 ∙ small_same items.uidnext (unzeroed items.uidnext h.uidnext)) k; uidvalidity = (ap (λ (x : Listed (Option ℕ)). small_option x.0) p3 ∙ small_same items.uidvalidity (unzeroed items.uidvalidity h.uidvalidity)) k; unseen = (ap (λ (x : Listed (Option ℕ)). small_option x.0) p4 ∙ small_same items.unseen h.unseen) k; deleted = (ap (λ (x : Listed (Option ℕ)). small_option x.0) p5 ∙ small_same items.deleted h.deleted) k; size = (p6 k).0; highest_modseq = (p7 k).0 }, (ap (λ (x : Listed (Option ℕ)). x.2) p7 ∙ done (f6 && has_none a7)) k))
 
--- texts with octets on a list take as many octets as there are texts
+-- nonempty texts of a list take at least as many octets as there are texts
 lead_fits : (f : Bool) (t rest : List ℕ) → 0 < length t → suc (length rest) ≤ length (lead f t ++ rest)
 lead_fits true t rest w = omega (arith, length-append t rest)
 lead_fits false t rest w = omega (arith, length-append t rest)
@@ -160,14 +160,14 @@ origin-again (Some n) rest h =
     ap (λ (x : ℕ × List ℕ). after (codes ">") x.1 >>= λ rest. Some (Some (small x.0), rest)) read
     ∙ ap (λ k. Some (Some k, 32 ∷ rest)) (small-again n h)
 
--- what stands behind the section of a part
+-- what follows the name of a section
 data-again : (origin : Option ℕ) (octets rest : List ℕ) → Where IsSmall origin → IsWide (length octets) → data_at (93 ∷ (origin_text origin ++ (32 ∷ (literal_text octets ++ rest)))) ≡ Some ((origin, octets), rest)
 unfolding data_at
 data-again origin octets rest h l =
     ap (λ o. o >>= λ origin. (after (codes " ") origin.1 >>= λ between. (literal_at between >>= λ octets. Some ((origin.0, octets.0), octets.1)))) (origin-again origin (literal_text octets ++ rest) h)
     ∙ ap (λ o. o >>= λ octets. Some ((origin, octets.0), octets.1)) (literal-again octets rest l)
 
--- a part with its octets
+-- a section with its octets
 body-again : (part : SectionData) (rest : List ℕ) → IsPart part → body_at (section_text part.section ++ (93 ∷ (origin_text part.origin ++ (32 ∷ (literal_text part.octets ++ rest))))) ≡ Some (part, rest)
 unfolding body_at
 body-again part rest h =
@@ -199,7 +199,7 @@ pub bodies_filled : (parts : List SectionData) → Each (λ (t : List ℕ). 0 < 
 bodies_filled [] = tt
 bodies_filled (part ∷ parts) = (omega arith, bodies_filled parts)
 
--- texts of FETCH that don't begin alike
+-- a label differs from the beginnings of the texts of FETCH
 pub apart_flags : (l : List ℕ) (flags : Option Flags) (ts : List (List ℕ)) → ((x : List ℕ) → apart l (codes "FLAGS " ++ x) ≡ true) → list_all (apart l) ts ≡ true → list_all (apart l) (flags_item flags ++ ts) ≡ true
 apart_flags l None ts h a = a
 apart_flags l (Some flags) ts h a = and_from _ (list_all (apart l) ts) (h _) a
@@ -264,7 +264,7 @@ modseq-item-again f (Some m) ts end h a n =
     ∙ ap (λ (x : ℕ × List ℕ). after (codes ")") x.1 >>= λ rest. Some (Some x.0, false, rest)) (number-again m (41 ∷ rest) h)
     ∙ (λ k. Some (Some m, sym (not_first f) k, spaced (sym (not_first f) k) ts ++ end))
 
--- what FETCH tells
+-- the items of FETCH
 pub fetch-items-again : (items : FetchItems) (rest : List ℕ) → AreFetchItems items → fetch_items_at (spaced true (fetch_texts items) ++ (41 ∷ rest)) ≡ Some (items, 41 ∷ rest)
 unfolding fetch_items_at
 fetch-items-again items rest h =
@@ -323,7 +323,7 @@ fetch-items-again items rest h =
     ∙ ap (λ o. o >>= λ parts. Some (record { uid = small_option items.uid; flags = items.flags; date = items.date; size = items.size; modseq = items.modseq; sections = parts.0 }, parts.1)) p6
     ∙ ap (λ u. Some (record { uid = u; flags = items.flags; date = items.date; size = items.size; modseq = items.modseq; sections = items.sections }, end)) (small_same items.uid (unzeroed items.uid h.uid))
 
--- the end of a line ends a set of numbers, and so does a space or a bracket
+-- a set of numbers ends at the end of a line, at a space or at a bracket
 line_ends : (rest : List ℕ) → EndsSet (13 ∷ rest)
 line_ends rest = record { number = λ n. refl; colon = refl; comma = refl }
 
@@ -333,7 +333,7 @@ space_ends rest = record { number = λ n. refl; colon = refl; comma = refl }
 pub bracket_ends : (rest : List ℕ) → EndsSet (93 ∷ rest)
 bracket_ends rest = record { number = λ n. refl; colon = refl; comma = refl }
 
--- what a search found, as texts of a list
+-- all hits of a search, as a text of a list
 all_item : List ℕ → List (List ℕ)
 all_item [] = []
 all_item (hit ∷ hits) = (codes "ALL " ++ set_text (hit ∷ hits)) ∷ []
@@ -365,7 +365,7 @@ all-again (hit ∷ hits) ts rest h a =
     ap (λ (x : List ℕ). all_or (after (codes " ALL ") x) x) (spaced-front false (codes "ALL " ++ text) ts (13 ∷ rest) ∙ lead-parts false (codes "ALL ") text more)
     ∙ set-again (hit ∷ hits) more h (list_ends ts rest)
 
--- the texts of what a search found
+-- the results of a search, as texts of a list
 result_texts : SearchResults → List (List ℕ)
 result_texts results =
     item (codes "MIN ") results.min ++ (item (codes "MAX ") results.max ++ (all_item results.all ++ (item (codes "COUNT ") results.count ++ (item (codes "MODSEQ ") results.modseq ++ []))))
@@ -395,7 +395,7 @@ results_listed results =
     ∙ append_assoc (spaced false a1) (spaced false a2) (spaced false a3 ++ (spaced false a4 ++ spaced false a5))) in
     parts ∙ sym joined
 
--- they don't go on the mark of UIDs
+-- no results begin with the word UID
 pub not_by_uid : (results : SearchResults) (rest : List ℕ) → after (codes " UID") (results_text results ++ (13 ∷ rest)) ≡ None
 unfolding result_texts
 not_by_uid results rest =

@@ -43,7 +43,7 @@ flag-again f false text ts end a n =
     ap (λ o. flag_or f o (spaced f ts ++ end)) (not_begun f text ts end a n)
     ∙ (λ k. (false, sym (still_first f) k, spaced (sym (still_first f) k) ts ++ end))
 
--- where a list ends, or goes on, a number ends
+-- a number ends at the end of a list or at its next text
 EndsNumber : List ℕ → Type 0
 EndsNumber rest = (n : ℕ) → number_from n rest ≡ (n, rest)
 
@@ -110,7 +110,7 @@ words_fit f (k ∷ ks) end w =
     let front : length (spaced f (k ∷ ks) ++ end) ≡ length (lead f k ++ (spaced false ks ++ end)) = ap length (spaced-front f k ks end) in
     omega (arith, front, lead_filled f k (spaced false ks ++ end) w.0, words_fit false ks end w.1)
 
--- texts that don't begin alike
+-- texts that differ from their beginning on
 apart_where : (l : List ℕ) (b : Bool) (t : List ℕ) (ts : List (List ℕ)) → apart l t ≡ true → list_all (apart l) ts ≡ true → list_all (apart l) (where_there b t ++ ts) ≡ true
 apart_where l true t ts h a = and_from (apart l t) (list_all (apart l) ts) h a
 apart_where l false t ts h a = a
@@ -144,12 +144,12 @@ length_none : (ks : List (List ℕ)) → eqb (length ks) 0 ≡ has_none ks
 length_none [] = refl
 length_none (k ∷ ks) = ne_eqb (suc (length ks)) 0 (λ e. absurd (omega arith))
 
--- Whether no flags are there.
+-- Whether there are no flags.
 pub still_of : Flags → Bool
 still_of flags =
     ((((((true && has_none (where_there flags.answered (codes "\\Answered"))) && has_none (where_there flags.flagged (codes "\\Flagged"))) && has_none (where_there flags.deleted (codes "\\Deleted"))) && has_none (where_there flags.seen (codes "\\Seen"))) && has_none (where_there flags.draft (codes "\\Draft"))) && has_none flags.keywords)
 
--- The flags that these readings make.
+-- The flags that these readings give.
 abbrev finished : Listed Bool → Listed Bool → Listed Bool → Listed Bool → Listed Bool → Option (List (List ℕ) × List ℕ) → Option (Listed Flags)
 finished a b c d e o =
     o >>= λ words.
@@ -210,7 +210,7 @@ closed_stop : (g : Bool) (rest : List ℕ) (go : WordsGo) → words_on (after (l
 closed_stop true rest go = refl
 closed_stop false rest go = refl
 
--- a parenthesis ends them
+-- a parenthesis ends a list of flags
 closes : (g : Bool) (rest : List ℕ) → EndsFlags g (41 ∷ rest)
 closes g rest = record {
   answered = λ f. no_flag f 41 (codes "Answered") rest refl refl;
@@ -236,7 +236,7 @@ any_atoms : (g : Bool) (rest : List ℕ) → span (is_in Atom) (lead g (codes "\
 any_atoms true rest = refl
 any_atoms false rest = refl
 
--- so does that of any new keyword
+-- the `\*` for any new keyword ends a list of flags
 any_ends : (g : Bool) (rest : List ℕ) → EndsFlags g (lead g (codes "\\*") ++ rest)
 any_ends g rest = record {
   answered = λ f. any_flag f g 65 (codes "nswered") rest refl;
@@ -272,7 +272,7 @@ any_apart : (g : Bool) (rest : List ℕ) → after (41 ∷ []) (lead g (codes "\
 any_apart true rest = refl
 any_apart false rest = refl
 
--- the flags that can be changed for good
+-- the flags that can be changed permanently
 pub permanent-again : (flags : Option Flags) (rest : List ℕ) → Where AreFlags flags → permanent_at (permanent_text flags ++ rest) ≡ Some (flags, rest)
 unfolding permanent_from
 permanent-again None rest h = refl

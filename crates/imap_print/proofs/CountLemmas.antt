@@ -5,7 +5,7 @@ use Rattle.std.proofs.lemmas.Grind.{flat_map-append}
 use Rattle.imap_types.specs.Numbers.{AreRisingFrom, greatest, numbers_in, numbers_of}
 use Rattle.imap_types.specs.declared.number_set.Run.{Run}
 
--- rising numbers are no more than the greatest of them
+-- ascending numbers from low on are at most as many as the greatest allows
 rising_from : (low n : ℕ) (ns : List ℕ) → AreRisingFrom low (n ∷ ns) → length (n ∷ ns) + low ≤ greatest (n ∷ ns) + 1
 rising_from low n [] h = omega (arith, h.0)
 rising_from low n (m ∷ ms) h = omega (arith, h.0, rising_from (n + 1) m ms h.1)
@@ -14,7 +14,7 @@ pub rising_fits : (ns : List ℕ) → AreRisingFrom 1 ns → length ns ≤ great
 rising_fits [] h = omega arith
 rising_fits (n ∷ ns) h = omega (arith, rising_from 1 n ns h)
 
--- how many numbers the first runs have, and one run more
+-- the count of numbers in the first runs and one further run
 pub one_run_more : (runs : List Run) (i : ℕ) (d : Run) → i < length runs → length (numbers_in (take (i + 1) runs)) ≡ length (numbers_in (take i runs)) + suc ((slice_index_or runs i d).last - (slice_index_or runs i d).first)
 one_run_more runs i d l =
     let run = slice_index_or runs i d in

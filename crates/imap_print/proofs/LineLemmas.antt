@@ -1,4 +1,4 @@
--- The lines that most commands get, and what a line's beginning leaves.
+-- The lines that answer most commands, and octets that begin with the old ones.
 use Rattle.std.proofs.Common.{◌≡◌, ◌≤◌, ◌∙◌, ℕ, List, [], ◌++◌, None, refl, arith, ap, sym, append_assoc, append-nil, length, take}
 use Rattle.std.proofs.lemmas.List.{length-take, take-append-le, take_all}
 use Rattle.std.specs.Prelude.{codes, decimal}
@@ -30,7 +30,7 @@ pub done_line_is : (tag : List ℕ) (command : CompletedWord) → done_line tag 
 unfolding line_of_answer
 done_line_is tag command = sym (done_joined tag (codes " OK ") (command_text command) (codes " completed") crlf)
 
--- ---- a beginning of a line
+-- ---- octets that begin with the old ones
 
 pub starts_same : (old new : List ℕ) → new ≡ old → StartsWith old new
 starts_same old new e = ap (take (length old)) e ∙ take_all (length old) old (omega arith)

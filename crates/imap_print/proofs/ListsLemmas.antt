@@ -7,7 +7,7 @@ append_none : {X : Type 0} (xs : List X) → xs ++ [] ≡ xs
 append_none [] = refl
 append_none (x ∷ xs) = ap (λ ys. x ∷ ys) (append_none xs)
 
--- a list goes on where its front ended
+-- a list's texts follow those of its first part
 pub spaced-append : (f : Bool) (xs ys : List (List ℕ)) → spaced f (xs ++ ys) ≡ spaced f xs ++ spaced (f && has_none xs) ys
 spaced-append true [] ys = refl
 spaced-append true (x ∷ xs) ys = ap (λ zs. x ++ zs) (flat_map-append (λ next. 32 ∷ next) xs ys) ∙ sym (append_assoc x _ _)
@@ -30,11 +30,11 @@ pub begins : (f : Bool) (a : List ℕ) → Lists f [] a a f
 begins true a = record { still_is = refl; text = sym (append_none a) }
 begins false a = record { still_is = refl; text = sym (append_none a) }
 
--- one text behind another
+-- one text after another
 pub behind : (a b c x y : List ℕ) → Appends a b x → Appends b c y → Appends a c (x ++ y)
 behind a b c x y p q = q ∙ ap (λ zs. zs ++ y) p ∙ append_assoc a x y
 
--- one text on a list, behind its space
+-- one text of a list, after its space
 pub listed : (f : Bool) (a b c text : List ℕ) → Appends a b (cond f [] (32 ∷ [])) → Appends b c text → Lists f (text ∷ []) a c false
 listed true a b c text p q = record {
   still_is = refl;
@@ -45,7 +45,7 @@ listed false a b c text p q = record {
   text = q ∙ ap (λ zs. zs ++ text) p ∙ append_assoc a (32 ∷ []) text ∙ ap (λ zs. a ++ 32 ∷ zs) (sym (append_none text));
 }
 
--- the step of a loop that puts the text of each element on a list
+-- the step of a loop that appends the text of each element to a list
 pub lists_more : {X : Type 0} (f : X → List ℕ) (xs : List X) (i : ℕ) (x : X) (first still : Bool) (a b c : List ℕ) → i < length xs → x ≡ get_or xs i x → Lists first (map f (take i xs)) a b still → Lists still (f x ∷ []) b c false → Lists first (map f (take (i + 1) xs)) a c false
 lists_more {X} f xs i x first still a b c l e p q =
     let whole : take (i + 1) xs ≡ take i xs ++ x ∷ [] = take_more xs i x l ∙ ap (λ z. take i xs ++ z ∷ []) (sym e) in

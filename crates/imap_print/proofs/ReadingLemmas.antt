@@ -9,7 +9,7 @@ use Rattle.imap_answers.specs.declared.fetch_items.SectionData.{SectionData}
 use Rattle.imap_print.specs.ReadingAnswers.{bodies_at, bodies_on, body_at, fields_at, fields_on, next_field_at}
 use Rattle.imap_print.specs.Reading.{◌>>=◌, Fails, after, counted, is_in, lead, run_at, runs_at, runs_on, span, with_front, words_at, words_on}
 
--- nothing stands behind a prefix of which some is missing
+-- octets that end within a prefix don't begin with it
 pub after-missing : (i : ℕ) (ps bs : List ℕ) → i < length ps → length bs < 1 → after (drop i ps) bs ≡ None
 after-missing i [] bs h l = absurd (omega arith)
 after-missing zero (p ∷ ps) [] h l = refl
@@ -31,7 +31,7 @@ runs-end i n found rest l h =
     ap (λ k. with_front found (runs_at k rest)) e
     ∙ ap (λ o. with_front found (runs_on (run_at rest).0 o (run_at rest).1 (runs_at (n - (i + 1))))) h
 
--- a run with more behind it
+-- a run with further runs after it
 pub runs-more : (i n : ℕ) (found : List Run) (rest more : List ℕ) → i < n → after (codes ",") (run_at rest).1 ≡ Some more → with_front found (runs_at (n - i) rest) ≡ with_front (found ++ (run_at rest).0 ∷ []) (runs_at (n - (i + 1)) more)
 runs-more i n found rest more l h =
     let e : n - i ≡ suc (n - (i + 1)) = omega arith in
@@ -39,7 +39,7 @@ runs-more i n found rest more l h =
     ∙ ap (λ o. with_front found (runs_on (run_at rest).0 o (run_at rest).1 (runs_at (n - (i + 1))))) h
     ∙ with_front-twice found (run_at rest).0 (runs_at (n - (i + 1)) more)
 
--- a word with more behind it
+-- a word with further words after it
 pub words-more : (i n : ℕ) (still : Bool) (found : List (List ℕ)) (rest behind : List ℕ) → i < n → after (lead still []) rest ≡ Some behind → eqb (length (span (is_in Atom) behind).0) 0 ≡ false → with_front found (words_at (n - i) still rest) ≡ with_front (found ++ (span (is_in Atom) behind).0 ∷ []) (words_at (n - (i + 1)) false (span (is_in Atom) behind).1)
 words-more i n still found rest behind l h f =
     let e : n - i ≡ suc (n - (i + 1)) = omega arith in
@@ -49,7 +49,7 @@ words-more i n still found rest behind l h f =
     ∙ ap (λ b. with_front found (cond b (Some ([], rest)) (with_front (w.0 ∷ []) (words_at (n - (i + 1)) false w.1)))) f
     ∙ with_front-twice found w.0 (words_at (n - (i + 1)) false w.1)
 
--- names of header fields: the last, a fault, and one more
+-- names of header fields: the last, a fault, and a further one
 pub fields-end : (i n : ℕ) (still : Bool) (found : List (List ℕ)) (rest behind : List ℕ) (out : Option (List (List ℕ) × List ℕ)) → i < n → after (codes ")") rest ≡ Some behind → with_front found (fields_at (n - i) still rest) ≡ out → out ≡ Some (found, behind)
 fields-end i n still found rest behind out l h inv =
     let e : n - i ≡ suc (n - (i + 1)) = omega arith in
@@ -75,7 +75,7 @@ fields-more i n still found rest out name tail l h inv f =
     ∙ ap (λ o. with_front found (o >>= λ name. with_front (name.0 ∷ []) (fields_at (n - (i + 1)) false name.1))) f
     ∙ with_front-twice found name (fields_at (n - (i + 1)) false tail))
 
--- parts of a message: the last, a fault, and one more
+-- sections of a message: the last, a fault, and a further one
 pub bodies-end : (i n : ℕ) (still : Bool) (found : List SectionData) (rest : List ℕ) (out : Option (List SectionData × List ℕ)) → i < n → after (lead still (codes "BODY[")) rest ≡ None → with_front found (bodies_at (n - i) still rest) ≡ out → out ≡ Some (found, rest)
 bodies-end i n still found rest out l h inv =
     let e : n - i ≡ suc (n - (i + 1)) = omega arith in
@@ -108,7 +108,7 @@ counted_by true bytes front rest n e h =
     let l : n ≤ length bytes = leb-true _ _ e in
     ap (λ (x : List ℕ × List ℕ). length x.0) (sym same) ∙ length-take-le n bytes l
 
--- so many octets are so many
+-- the first n octets are n octets
 pub counted-length : (n : ℕ) (bytes front rest : List ℕ) → counted n bytes ≡ Some (front, rest) → length front ≡ n
 counted-length n bytes front rest h = counted_by (leb n (length bytes)) bytes front rest n refl h
 

@@ -1,4 +1,6 @@
--- The reader's own steps for strings, numbers and lists. What an answer's text is, `printed` of imap_answers says.
+-- The reader's steps for strings, numbers and lists, as functions that the code equals.
+-- `text_of_answer` of `imap_answers` says what an answer's text is (RFC 9051, sections 7 and 9).
+
 use Rattle.std.specs.Prelude.{◌≡◌, ℕ, zero, suc, ◌+◌, ◌-◌, ◌*◌, Bool, true, false, ◌&&◌, not, ◌==◌, nat_le, List, [], ◌∷◌, ◌++◌, length, take, drop, min, codes, Option, Some, None, Result, Ok, Err, if◌then◌else◌}
 use Rattle.imap_types.specs.DateTimes.{is_digit}
 use Rattle.imap_types.specs.Keywords.{is_astring_octet, is_atom_octet, is_tag_octet}
@@ -10,80 +12,83 @@ use Rattle.imap_print.specs.declared.fault.ReadFault.TheVariants.{NoMemory, NotP
 use Rattle.imap_print.specs.declared.scanner.ScanClass.{ScanClass}
 use Rattle.imap_print.specs.declared.scanner.ScanClass.TheVariants.{Tag, Astring, Atom}
 
--- What a function returned, seen by view, is what reading gives, unless memory ran out.
+-- A fault means that nothing was read; `NoMemory` may take the place of any result.
 abbrev pub Fails : {Y : Type 0} → ReadFault → Option Y → Type 0
 Fails NoMemory read = Unit {0}
 Fails NotPrinted read = read ≡ None
 
+-- The result of the code is that of a reading function, unless memory runs out.
 abbrev pub Gives : {X Y : Type 0} → (X → Y) → Result X ReadFault → Option Y → Type 0
 Gives = GivesBy Fails
 
--- A value with what stands behind it, where that is there.
+-- A value with the rest, if the text after it was skipped.
 abbrev pub followed : {A : Type 0} → A → Option (List ℕ) → Option (A × List ℕ)
 followed x None = None
 followed x (Some rest) = Some (x, rest)
 
--- The first of two that is there.
+-- The first of two results, if any, else the second.
 abbrev pub or_else : {A : Type 0} → Option A → Option A → Option A
 or_else None other = other
 or_else (Some x) other = Some x
 
--- What is read, in a wider value.
+-- What is read, put through a function.
 abbrev pub within : {A B : Type 0} → (A → B) → Option (A × List ℕ) → Option (B × List ℕ)
 within f None = None
 within f (Some x) = Some (f x.0, x.1)
 
--- The first of some values whose text begins the octets.
+-- The value and the rest if its text was skipped, else another result.
 abbrev pub word_or : {X : Type 0} → X → Option (List ℕ) → Option (X × List ℕ) → Option (X × List ℕ)
 word_or x None other = other
 word_or x (Some rest) other = Some (x, rest)
 
+-- The first of some values whose text the octets begin with.
 abbrev pub word_at : {X : Type 0} → (X → List ℕ) → List X → List ℕ → Option (X × List ℕ)
 word_at text [] bytes = None
 word_at text (x ∷ xs) bytes = word_or x (after (text x) bytes) (word_at text xs bytes)
 
--- The longest front of octets that meet a test, and the rest.
+-- The longest prefix whose octets all pass a test, and the rest.
 abbrev pub span : (ℕ → Bool) → List ℕ → List ℕ × List ℕ
 span p [] = ([], [])
 span p (b ∷ bs) = if p b then (b ∷ (span p bs).0, (span p bs).1) else ([], b ∷ bs)
 
--- Whether an octet is of a class.
+-- Whether an octet belongs to a class.
 abbrev pub is_in : ScanClass → ℕ → Bool
 is_in Tag octet = is_tag_octet octet
 is_in Astring octet = is_astring_octet octet
 is_in Atom octet = is_atom_octet octet
 
--- The number that digits go on with, at most what 64 bits hold, and the rest.
+-- The number that further digits continue, at most the greatest of 64 bits, and the rest.
 abbrev pub number_from : ℕ → List ℕ → ℕ × List ℕ
 number_from value [] = (value, [])
 number_from value (b ∷ bs) =
     if is_digit b then number_from (min (min (value * 10) 18446744073709551615 + (b - 48)) 18446744073709551615) bs else (value, b ∷ bs)
 
--- At most what 32 bits hold.
+-- The number, or the greatest of 32 bits if it is greater.
 abbrev pub small : ℕ → ℕ
 small number = min number 4294967295
 
--- One octet more in front.
+-- What is read, with one octet before it.
 abbrev pub with_octet : ℕ → Option (List ℕ × List ℕ) → Option (List ℕ × List ℕ)
 with_octet b None = None
 with_octet b (Some x) = Some (b ∷ x.0, x.1)
 
--- What stands before the next `"` (34) that has no `\` (92) before it, and what stands behind that.
+-- The string up to the next `"` (34) that no `\` (92) escapes, without escapes, and the rest.
 abbrev pub quoted_from : Bool → List ℕ → Option (List ℕ × List ℕ)
 quoted_from escaped [] = None
 quoted_from true (b ∷ bs) = with_octet b (quoted_from false bs)
 quoted_from false (b ∷ bs) =
     if b == 34 then Some ([], bs) else (if b == 92 then quoted_from true bs else with_octet b (quoted_from false bs))
 
--- A string in quotes, or the octets that need none.
+-- A string after its opening quote if that was skipped, else a string without quotes.
 abbrev pub string_or : Option (List ℕ) → List ℕ → Option (List ℕ × List ℕ)
 string_or None bytes = Some (span (is_in Astring) bytes)
 string_or (Some rest) bytes = quoted_from false rest
 
+-- A string, with or without quotes.
 abbrev pub string_at : List ℕ → Option (List ℕ × List ℕ)
 string_at bytes = string_or (after (codes "\"") bytes) bytes
 
--- So many octets, where they are there.
+-- The first `count` octets, if there are as many, and the rest.
 abbrev pub counted : ℕ → List ℕ → Option (List ℕ × List ℕ)
 counted count bytes = if nat_le count (length bytes) then Some (take count bytes, drop count bytes) else None
 
@@ -98,33 +103,36 @@ literal_at bytes = do
 unfoldable pub field_at : List ℕ → Option (List ℕ × List ℕ)
 field_at bytes = or_else (literal_at bytes) (string_at bytes)
 
--- A run of numbers.
+-- A run from its first number: a second number if a `:` was skipped, else only the first.
 abbrev pub run_or : ℕ → Option (List ℕ) → List ℕ → Run × List ℕ
 run_or first None rest = (record { first = small first; last = small first }, rest)
 run_or first (Some more) rest = (record { first = small first; last = small (number_from 0 more).0 }, (number_from 0 more).1)
 
+-- A run of numbers: one number, or two with a `:` between.
 abbrev pub run_at : List ℕ → Run × List ℕ
 run_at bytes = run_or (number_from 0 bytes).0 (after (codes ":") (number_from 0 bytes).1) (number_from 0 bytes).1
 
--- Runs with commas between them, at most so many.
+-- A run and the runs after it, if a comma was skipped, else only this run.
 abbrev pub runs_on : Run → Option (List ℕ) → List ℕ → (List ℕ → Option (List Run × List ℕ)) → Option (List Run × List ℕ)
 runs_on run None rest go = Some (run ∷ [], rest)
 runs_on run (Some more) rest go = with_front (run ∷ []) (go more)
 
+-- At most `fuel` runs separated by commas.
 abbrev pub runs_at : ℕ → List ℕ → Option (List Run × List ℕ)
 runs_at zero bytes = None
 runs_at (suc fuel) bytes = runs_on (run_at bytes).0 (after (codes ",") (run_at bytes).1) (run_at bytes).1 (runs_at fuel)
 
--- The numbers of runs that make a set.
+-- The numbers of runs, if these are a set.
 abbrev pub numbers_where : Bool → List Run → List ℕ → Option (List ℕ × List ℕ)
 numbers_where is_set runs rest = if is_set then Some (numbers_in runs, rest) else None
 
+-- A set of numbers.
 unfoldable pub set_at : List ℕ → Option (List ℕ × List ℕ)
 set_at bytes = do
   runs ← runs_at (length bytes) bytes
   numbers_where (are_runs_from 1 runs.0) runs.0 runs.1
 
--- A text of a list: behind a space, but for the first.
+-- A text of a list, after a space unless it is the first.
 abbrev pub lead : Bool → List ℕ → List ℕ
 lead is_first text = if is_first then text else 32 ∷ text
 
@@ -132,29 +140,32 @@ lead is_first text = if is_first then text else 32 ∷ text
 abbrev pub Listed : Type 0 → Type 0
 Listed X = X × Bool × List ℕ
 
--- Whether a flag is there.
+-- A flag that is set if its text was skipped.
 abbrev pub flag_or : Bool → Option (List ℕ) → List ℕ → Listed Bool
 flag_or is_first None bytes = (false, is_first, bytes)
 flag_or is_first (Some rest) bytes = (true, false, rest)
 
+-- Whether a flag comes next.
 abbrev pub flag_at : Bool → List ℕ → List ℕ → Listed Bool
 flag_at is_first text bytes = flag_or is_first (after (lead is_first text) bytes) bytes
 
--- A number behind its label, where there is one.
+-- The number after its label, if the label was skipped.
 abbrev pub item_or : Bool → Option (List ℕ) → List ℕ → Listed (Option ℕ)
 item_or is_first None bytes = (None, is_first, bytes)
 item_or is_first (Some rest) bytes = (Some (number_from 0 rest).0, false, (number_from 0 rest).1)
 
+-- A label and its number, if the label comes next.
 abbrev pub item_at : Bool → List ℕ → List ℕ → Listed (Option ℕ)
 item_at is_first label bytes = item_or is_first (after (lead is_first label) bytes) bytes
 
--- Words with spaces between them, at most so many, up to what isn't one.
+-- The words of a list from the next one on, if there is one.
 abbrev pub words_on : Option (List ℕ) → List ℕ → (List ℕ → Option (List (List ℕ) × List ℕ)) → Option (List (List ℕ) × List ℕ)
 words_on None bytes go = Some ([], bytes)
 words_on (Some rest) bytes go =
     if length (span (is_in Atom) rest).0 == 0 then Some ([], bytes)
     else with_front ((span (is_in Atom) rest).0 ∷ []) (go (span (is_in Atom) rest).1)
 
+-- Fewer than `fuel` words of a list, up to octets that are no word.
 abbrev pub words_at : ℕ → Bool → List ℕ → Option (List (List ℕ) × List ℕ)
 words_at zero is_first bytes = None
 words_at (suc fuel) is_first bytes = words_on (after (lead is_first []) bytes) bytes (words_at fuel false)

@@ -1,4 +1,7 @@
--- The reader's own steps for answers. What an answer's text is, `printed` of imap_answers says; `read` is held to that.
+-- The reader's steps for answers, as functions that the code equals. `text_of_answer` of
+-- `imap_answers` says what an answer's text is (RFC 9051, section 7); `read` is proved to invert
+-- it.
+
 use Rattle.std.specs.Prelude.{ℕ, zero, suc, ◌+◌, Bool, true, false, ◌&&◌, ◌==◌, List, [], ◌∷◌, length, codes, Option, Some, None, if◌then◌else◌}
 use Rattle.imap_types.specs.DateTimeTests.{is_date_time}
 use Rattle.imap_types.specs.Keywords.{are_keywords}
@@ -22,7 +25,7 @@ use Rattle.imap_answers.specs.Strings.{crlf}
 use Rattle.imap_print.specs.Tables.{all_attributes, bye_reasons, commands, continuations, enabled_words, logins, refusals}
 use Rattle.imap_answers.specs.Words.{attributes_text, bye_text, command_text, continuation_text, enabled_text, greeting_text, refusal_text}
 
--- The flags, and whether there are none.
+-- Flags of a list, and whether there are none.
 unfoldable pub flags_from : List ℕ → Option (Listed Flags)
 flags_from bytes =
     let answered = flag_at true (codes "\\Answered") bytes in
@@ -42,57 +45,61 @@ flags_at bytes = do
   flags ← flags_from opened
   followed flags.0 (after (codes ")") flags.2)
 
--- The flags that can be changed for good, behind the parenthesis.
+-- The flags that can be changed permanently, after the opening parenthesis.
 unfoldable pub permanent_from : List ℕ → Option (Option Flags × List ℕ)
 permanent_from bytes = do
   flags ← flags_from bytes
   any ← after (lead flags.1 (codes "\\*")) flags.2
   followed (Some flags.0) (after (codes ")") any)
 
+-- No flags if `()` was skipped, else the flags that can be changed permanently.
 abbrev pub permanent_or : Option (List ℕ) → List ℕ → Option (Option Flags × List ℕ)
 permanent_or None bytes = after (codes "(") bytes >>= permanent_from
 permanent_or (Some rest) bytes = Some (None, rest)
 
+-- The flags that can be changed permanently, in parentheses.
 abbrev pub permanent_at : List ℕ → Option (Option Flags × List ℕ)
 permanent_at bytes = permanent_or (after (codes "()") bytes) bytes
 
--- Two sets, behind a UIDVALIDITY.
+-- The second set of COPYUID, and the bracket that ends the code.
 unfoldable pub last_set_at : List ℕ → Option (List ℕ × List ℕ)
 last_set_at bytes = do
   between ← after (codes " ") bytes
   copies ← set_at between
   followed copies.0 (after (codes "]") copies.1)
 
+-- The two sets of COPYUID.
 unfoldable pub sets_at : List ℕ → Option ((List ℕ × List ℕ) × List ℕ)
 sets_at bytes = do
   source ← set_at bytes
   copies ← last_set_at source.1
   Some ((source.0, copies.0), copies.1)
 
+-- The UIDVALIDITY and the two sets of COPYUID.
 unfoldable pub copied_at : List ℕ → Option ((ℕ × List ℕ × List ℕ) × List ℕ)
 copied_at bytes = do
   beyond ← after (codes " ") (number_from 0 bytes).1
   sets ← sets_at beyond
   Some ((small (number_from 0 bytes).0, sets.0.0, sets.0.1), sets.1)
 
--- A number and what ends its code.
+-- A number and the bracket that ends its code.
 unfoldable pub coded_at : List ℕ → Option (ℕ × List ℕ)
 coded_at bytes = do
   rest ← after (codes "]") (number_from 0 bytes).1
   Some ((number_from 0 bytes).0, rest)
 
--- The first of some readings whose prefix is there.
+-- A reading after a prefix if that was skipped, else another reading.
 abbrev pub behind : {A : Type 0} → Option (List ℕ) → (List ℕ → Option A) → Option A → Option A
 behind None read other = other
 behind (Some rest) read other = read rest
 
--- The flags that can be changed for good, and what ends their code.
+-- The flags that can be changed permanently, and the bracket that ends their code.
 unfoldable pub permanent_notice_at : List ℕ → Option (Notice × List ℕ)
 permanent_notice_at bytes = do
   flags ← permanent_at bytes
   followed (notice.PermanentFlags flags.0) (after (codes "]") flags.1)
 
--- What an untagged OK tells.
+-- The code of an untagged OK.
 unfoldable pub notice_at : List ℕ → Option (Notice × List ℕ)
 notice_at bytes =
     behind (after (codes "[CLOSED]") bytes) (λ rest. Some (notice.Closed, rest))
@@ -102,14 +109,14 @@ notice_at bytes =
     (behind (after (codes "[PERMANENTFLAGS ") bytes) (λ rest. permanent_notice_at rest)
     (behind (after (codes "[COPYUID ") bytes) (λ rest. within (λ c. notice.CopyUid c.0 c.1 c.2) (copied_at rest)) None)))))
 
--- A UIDVALIDITY and a UID.
+-- The UIDVALIDITY and the UID of APPENDUID.
 unfoldable pub appended_at : List ℕ → Option ((ℕ × ℕ) × List ℕ)
 appended_at bytes = do
   between ← after (codes " ") (number_from 0 bytes).1
   uid ← coded_at between
   Some ((small (number_from 0 bytes).0, small uid.0), uid.1)
 
--- A set and what ends its code.
+-- The set of MODIFIED, and the bracket that ends the code.
 unfoldable pub modified_at : List ℕ → Option (Code × List ℕ)
 modified_at bytes = do
   refused ← set_at bytes
@@ -125,19 +132,21 @@ code_at bytes =
     (behind (after (codes "[COPYUID ") bytes) (λ rest. within (λ c. code.CopyUid c.0 c.1 c.2) (copied_at rest))
     (behind (after (codes "[MODIFIED ") bytes) (λ rest. modified_at rest) None)))))
 
--- A code and the space behind it, where there is one.
+-- A code and a space if a bracket comes next, else none.
 abbrev pub code_or : Option (List ℕ) → List ℕ → Option (Option Code × List ℕ)
 code_or None bytes = Some (None, bytes)
 code_or (Some _) bytes = code_at bytes >>= λ code. followed (Some code.0) (after (codes " ") code.1)
 
+-- The code of a tagged OK and a space, if there is a code.
 abbrev pub code_before_at : List ℕ → Option (Option Code × List ℕ)
 code_before_at bytes = code_or (after (codes "[") bytes) bytes
 
--- What STATUS tells.
+-- The number as 32 bits, if any.
 abbrev pub small_option : Option ℕ → Option ℕ
 small_option None = None
 small_option (Some n) = Some (small n)
 
+-- The items of STATUS.
 unfoldable pub status_items_at : List ℕ → StatusItems × List ℕ
 status_items_at bytes =
     let messages = item_at true (codes "MESSAGES ") bytes in
@@ -149,12 +158,12 @@ status_items_at bytes =
     let modseq = item_at size.1 (codes "HIGHESTMODSEQ ") size.2 in
     (record { messages = small_option messages.0; uidnext = small_option uidnext.0; uidvalidity = small_option uidvalidity.0; unseen = small_option unseen.0; deleted = small_option deleted.0; size = size.0; highest_modseq = modseq.0 }, modseq.2)
 
--- All hits of a search, where there are any.
+-- All hits of a search, if their label was skipped, else none.
 abbrev pub all_or : Option (List ℕ) → List ℕ → Option (List ℕ × List ℕ)
 all_or None bytes = Some ([], bytes)
 all_or (Some rest) bytes = set_at rest
 
--- What a search found.
+-- The results of a search.
 unfoldable pub results_at : List ℕ → Option (SearchResults × List ℕ)
 results_at bytes =
     let least = item_at false (codes "MIN ") bytes in
@@ -164,20 +173,21 @@ results_at bytes =
     let modseq = item_at false (codes "MODSEQ ") count.2 in
     Some (record { min = small_option least.0; max = small_option greatest.0; all = all.0; count = small_option count.0; modseq = modseq.0 }, modseq.2))
 
--- A name of a header field in a list.
+-- The next name of a header field.
 abbrev pub next_field_at : Bool → List ℕ → Option (List ℕ × List ℕ)
 next_field_at is_first bytes = after (lead is_first []) bytes >>= field_at
 
--- Names of header fields up to the parenthesis, at most so many.
+-- No further names if the parenthesis was skipped, else the next name and those after it.
 abbrev pub fields_on : Bool → Option (List ℕ) → List ℕ → (List ℕ → Option (List (List ℕ) × List ℕ)) → Option (List (List ℕ) × List ℕ)
 fields_on is_first (Some rest) bytes go = Some ([], rest)
 fields_on is_first None bytes go = next_field_at is_first bytes >>= λ name. with_front (name.0 ∷ []) (go name.1)
 
+-- Fewer than `fuel` names of header fields, up to the closing parenthesis.
 abbrev pub fields_at : ℕ → Bool → List ℕ → Option (List (List ℕ) × List ℕ)
 fields_at zero is_first bytes = None
 fields_at (suc fuel) is_first bytes = fields_on is_first (after (codes ")") bytes) bytes (fields_at fuel false)
 
--- A part of a message.
+-- The name of a section.
 unfoldable pub section_at : List ℕ → Option (Section × List ℕ)
 section_at bytes =
     behind (after (codes "HEADER.FIELDS (") bytes) (λ rest. within (λ names. section.Fields names) (fields_at (length rest + 1) true rest))
@@ -186,12 +196,12 @@ section_at bytes =
     (behind (after (codes "TEXT") bytes) (λ rest. Some (section.Text, rest))
     (Some (section.Whole, bytes)))))
 
--- Where a partial begins.
+-- The offset of a partial range if its `<` was skipped, else none.
 abbrev pub origin_or : Option (List ℕ) → List ℕ → Option (Option ℕ × List ℕ)
 origin_or None bytes = Some (None, bytes)
 origin_or (Some digits) bytes = after (codes ">") (number_from 0 digits).1 >>= λ rest. Some (Some (small (number_from 0 digits).0), rest)
 
--- What stands behind the section of a part.
+-- What follows the name of a section: an offset, if any, and the octets.
 unfoldable pub data_at : List ℕ → Option ((Option ℕ × List ℕ) × List ℕ)
 data_at bytes = do
   beyond ← after (codes "]") bytes
@@ -200,23 +210,24 @@ data_at bytes = do
   octets ← literal_at between
   Some ((origin.0, octets.0), octets.1)
 
--- A part with its octets, behind the bracket.
+-- A section with its octets, after the opening bracket.
 unfoldable pub body_at : List ℕ → Option (SectionData × List ℕ)
 body_at bytes = do
   section ← section_at bytes
   found ← data_at section.1
   Some (record { section = section.0; origin = found.0.0; octets = found.0.1 }, found.1)
 
--- Parts with their octets, at most so many.
+-- A section and those after it if `BODY[` was skipped, else none.
 abbrev pub bodies_on : Option (List ℕ) → List ℕ → (List ℕ → Option (List SectionData × List ℕ)) → Option (List SectionData × List ℕ)
 bodies_on None bytes go = Some ([], bytes)
 bodies_on (Some rest) bytes go = body_at rest >>= λ part. with_front (part.0 ∷ []) (go part.1)
 
+-- Fewer than `fuel` sections with their octets.
 abbrev pub bodies_at : ℕ → Bool → List ℕ → Option (List SectionData × List ℕ)
 bodies_at zero is_first bytes = None
 bodies_at (suc fuel) is_first bytes = bodies_on (after (lead is_first (codes "BODY[")) bytes) bytes (bodies_at fuel false)
 
--- The flags of a message, where they are told.
+-- The flags of a message, if their label was skipped.
 abbrev pub flags_or : Bool → Option (List ℕ) → List ℕ → Option (Listed (Option Flags))
 flags_or is_first None bytes = Some (None, is_first, bytes)
 flags_or is_first (Some rest) bytes = flags_at rest >>= λ flags. Some (Some flags.0, false, flags.1)
@@ -227,16 +238,17 @@ date_at bytes = do
   date ← counted 28 bytes
   if is_date_time date.0 then Some date else None
 
+-- The internal date of a message, if its label was skipped.
 abbrev pub date_or : Bool → Option (List ℕ) → List ℕ → Option (Listed (Option (List ℕ)))
 date_or is_first None bytes = Some (None, is_first, bytes)
 date_or is_first (Some rest) bytes = date_at rest >>= λ date. Some (Some date.0, false, date.1)
 
--- A mod-sequence in FETCH, where it is told.
+-- The mod-sequence of a message, if its label was skipped.
 abbrev pub modseq_or : Bool → Option (List ℕ) → List ℕ → Option (Listed (Option ℕ))
 modseq_or is_first None bytes = Some (None, is_first, bytes)
 modseq_or is_first (Some digits) bytes = after (codes ")") (number_from 0 digits).1 >>= λ rest. Some (Some (number_from 0 digits).0, false, rest)
 
--- What FETCH tells.
+-- The items of FETCH.
 unfoldable pub fetch_items_at : List ℕ → Option (FetchItems × List ℕ)
 fetch_items_at bytes =
     let uid = item_at true (codes "UID ") bytes in
@@ -255,22 +267,24 @@ list_at bytes = do
   name ← string_at beyond
   Some (answer.List name.0 attributes.0.state attributes.0.subscribed, name.1)
 
--- A mailbox in STATUS.
+-- The items of STATUS in parentheses.
 unfoldable pub status_list_at : List ℕ → Option (StatusItems × List ℕ)
 status_list_at bytes = do
   opened ← after (codes " (") bytes
   followed (status_items_at opened).0 (after (codes ")") (status_items_at opened).1)
 
+-- A mailbox in STATUS.
 unfoldable pub status_at : List ℕ → Option (Answer × List ℕ)
 status_at bytes = do
   name ← string_at bytes
   items ← status_list_at name.1
   Some (answer.Status name.0 items.0, items.1)
 
--- A search's hits, behind its tag.
+-- The results of the search with this tag, after the tag.
 abbrev pub search_from : List ℕ → Bool → List ℕ → Option (Answer × List ℕ)
 search_from tag by_uid bytes = within (λ results. answer.Search tag by_uid results) (results_at bytes)
 
+-- The results of a search, from its tag on.
 unfoldable pub search_at : List ℕ → Option (Answer × List ℕ)
 search_at bytes =
     if length (span (is_in Tag) bytes).0 == 0 then None
@@ -278,13 +292,13 @@ search_at bytes =
     behind (after (codes "\") UID") (span (is_in Tag) bytes).1) (λ rest. search_from (span (is_in Tag) bytes).0 true rest)
     (after (codes "\")") (span (is_in Tag) bytes).1 >>= λ rest. search_from (span (is_in Tag) bytes).0 false rest)
 
--- A message in FETCH, behind its number.
+-- A message in FETCH, after its number.
 unfoldable pub fetch_at : ℕ → List ℕ → Option (Answer × List ℕ)
 fetch_at number bytes = do
   items ← fetch_items_at bytes
   followed (answer.Fetch number items.0) (after (codes ")") items.1)
 
--- What an untagged OK tells, behind the OK.
+-- The code of an untagged OK, after the OK.
 unfoldable pub tell_at : List ℕ → Option (Answer × List ℕ)
 tell_at bytes = do
   notice ← notice_at bytes
@@ -308,13 +322,14 @@ worded_at bytes =
     (behind (after (codes "ESEARCH (TAG \"") bytes) (λ rest. search_at rest)
     (fixed_at bytes)))))
 
--- An untagged answer, behind the star.
+-- An untagged answer that begins with a number, else one that begins with a word.
 abbrev pub numbered_at : ℕ → List ℕ → List ℕ → Option (Answer × List ℕ)
 numbered_at number rest bytes =
     behind (after (codes " EXISTS") rest) (λ closed. Some (answer.Exists (small number), closed))
     (behind (after (codes " EXPUNGE") rest) (λ closed. Some (answer.Expunge (small number), closed))
     (behind (after (codes " FETCH (") rest) (λ items. fetch_at (small number) items) (worded_at bytes)))
 
+-- An untagged answer, after its `* `.
 unfoldable pub untagged_at : List ℕ → Option (Answer × List ℕ)
 untagged_at bytes = numbered_at (number_from 0 bytes).0 (number_from 0 bytes).1 bytes
 
@@ -327,24 +342,24 @@ star_at bytes =
     (or_else (within (λ reason. answer.Bye reason) (word_at bye_text bye_reasons bytes))
     (after (codes "* ") bytes >>= untagged_at))))
 
--- The command that is done.
+-- The name of a completed command, and `completed`.
 unfoldable pub done_at : List ℕ → Option (CompletedWord × List ℕ)
 done_at bytes = do
   command ← word_at command_text commands bytes
   followed command.0 (after (codes " completed") command.1)
 
--- The same with the tag.
+-- The name of a completed command, with its tag.
 abbrev pub tagged_done_at : List ℕ → List ℕ → Option ((List ℕ × CompletedWord) × List ℕ)
 tagged_done_at tag bytes = done_at bytes >>= λ command. Some ((tag, command.0), command.1)
 
--- The tagged line of a command that is done, behind the OK.
+-- The tagged line of a completed command, after the OK.
 unfoldable pub completed_at : List ℕ → List ℕ → Option (Answer × List ℕ)
 completed_at tag bytes = do
   code ← code_before_at bytes
   command ← done_at code.1
   Some (answer.Completed tag code.0 command.0, command.1)
 
--- A tagged line, behind its tag.
+-- A tagged line, after its tag.
 unfoldable pub tagged_at : List ℕ → List ℕ → Option (Answer × List ℕ)
 tagged_at tag bytes = do
   rest ← after (codes " ") bytes

@@ -1,3 +1,5 @@
+//! Reading of printed answers.
+
 ghost use Rattle.std.specs.Prelude.{◌≡◌, ◌++◌, List, ℕ, drop, length, IfOk, IfSome};
 ghost use Rattle.imap_answers.specs.Printable.{IsPrintable};
 ghost use Rattle.imap_answers.specs.Printed.{text_of_answer};
@@ -11,14 +13,15 @@ use crate::scanner::skip;
 use imap_answers::Answer;
 use std::alloc::{AllocError, Global};
 
-/// The answer whose text begins these octets, with the length of its text; `None` only where no answer's text begins
-/// them. `Err` where there is no memory for it.
+/// The answer whose text the octets begin with, among those that may be sent, and the length of
+/// that text in octets; `None` exactly if there is no such answer. `Err` if memory runs out.
 pub fn read(alloc: Global, text: &[u8]) -> Result<Option<(Answer, usize)>, AllocError>
-    // What is read is printed so.
+    // The octets begin with the text of the answer that is read.
     ensures found { IfOk result (λ read. IfSome read (λ x. (text.now ≡ text_of_answer x.0 ++ drop x.1 text.now) × (x.1 ≡ length (text_of_answer x.0)))) }
-    // What is read can be printed.
+    // The answer that is read may be sent.
     ensures printable { IfOk result (λ read. IfSome read (λ x. IsPrintable x.0)) }
-    // What is printed so is read, whatever follows it, unless memory runs out.
+    // An answer whose text the octets begin with is read, whatever follows it, unless memory runs
+    // out.
     ensures only { (answer : Answer) (rest : List ℕ) → IsPrintable answer → text.now ≡ text_of_answer answer ++ rest → IfOk result (λ read. read ≡ Some (answer, length (text_of_answer answer))) }
 {
     match line(alloc, text) {
@@ -34,7 +37,7 @@ pub fn read(alloc: Global, text: &[u8]) -> Result<Option<(Answer, usize)>, Alloc
     }
 }
 
-/// The answer with the length of its text, where that begins these octets.
+/// The answer and the length of its text, if the octets begin with that text.
 fn printed_prefix(
     alloc: Global,
     answer: Answer,
@@ -57,7 +60,7 @@ fn printed_prefix(
     }
 }
 
-/// The length of an answer's text, where that begins these octets.
+/// The length of an answer's text, if the octets begin with that text.
 fn printed_length(alloc: Global, answer: &Answer, text: &[u8]) -> Result<Option<usize>, AllocError>
     ensures found { IfOk result (λ read. IfSome read (λ size. (text.now ≡ text_of_answer answer.now ++ drop size text.now) × (size ≡ length (text_of_answer answer.now)))) }
     ensures only { (rest : List ℕ) → text.now ≡ text_of_answer answer.now ++ rest → IfOk result (λ read. read ≡ Some (length (text_of_answer answer.now))) }
@@ -70,7 +73,8 @@ fn printed_length(alloc: Global, answer: &Answer, text: &[u8]) -> Result<Option<
     }
 }
 
-/// No printed text begins another: what begins with the texts of two answers is no two answers.
+/// No answer's text is a prefix of another's: octets begin with the text of at most one answer that
+/// may be sent.
 pub fn one_reading()
     ensures { (one other : Answer) (rest more : List ℕ) → IsPrintable one → IsPrintable other → text_of_answer one ++ rest ≡ text_of_answer other ++ more → (one ≡ other) × (rest ≡ more) }
 {}

@@ -1,11 +1,13 @@
+//! The fault of readers.
+
 use std::alloc::{AllocError, AllocFailed};
 
-/// Why a reader has no value.
+/// Why a reader gives no value.
 #[derive(Clone, Copy)]
 pub enum ReadFault {
-    /// There is no memory for it now.
+    /// Memory ran out.
     NoMemory,
-    /// No text of such a value begins the octets.
+    /// The octets don't begin with the text of such a value.
     NotPrinted,
 }
 

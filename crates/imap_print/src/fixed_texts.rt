@@ -1,4 +1,4 @@
-//! The words that a reader tries.
+//! The fixed texts of answers, in the order in which a reader tries them.
 
 ghost use Rattle.std.specs.Prelude.{◌≡◌, ℕ, List, option_map};
 ghost use Rattle.imap_print.specs.Reading.{word_at};
@@ -19,7 +19,7 @@ pub trait FixedText: Copy {
         ensures { result.now ≡ word self };
 }
 
-/// The first candidate whose text begins the octets, and the rest.
+/// The first candidate whose text the octets begin with, and the rest.
 fn first_word<'a, W: FixedText>(candidates: &[W], bytes: &'a [u8]) -> Option<(W, &'a [u8])>
     ensures { option_map (λ x. (x.0, x.1.now)) result ≡ word_at W.word candidates.now bytes.now }
 {
@@ -31,7 +31,7 @@ fn first_word<'a, W: FixedText>(candidates: &[W], bytes: &'a [u8]) -> Option<(W,
     None
 }
 
-/// The attributes of a name in LIST.
+/// The attributes of a name in LIST, as a pair of what the name is and whether it is subscribed.
 #[derive(Clone, Copy)]
 pub struct Attributes {
     pub state: MailboxState,
@@ -94,7 +94,7 @@ impl FixedText for CompletedWord {
     }
 }
 
-/// The Login whose text comes first, and the rest.
+/// The greeting that the octets begin with, and the rest.
 pub fn login_word(bytes: &[u8]) -> Option<(Login, &[u8])>
     ensures { option_map (λ x. (x.0, x.1.now)) result ≡ word_at greeting_text logins bytes.now }
 {
@@ -102,7 +102,7 @@ pub fn login_word(bytes: &[u8]) -> Option<(Login, &[u8])>
     first_word(&candidates, bytes)
 }
 
-/// The Continuation whose text comes first, and the rest.
+/// The continuation request that the octets begin with, and the rest.
 pub fn continuation_word(bytes: &[u8]) -> Option<(Continuation, &[u8])>
     ensures { option_map (λ x. (x.0, x.1.now)) result ≡ word_at continuation_text continuations bytes.now }
 {
@@ -110,7 +110,7 @@ pub fn continuation_word(bytes: &[u8]) -> Option<(Continuation, &[u8])>
     first_word(&candidates, bytes)
 }
 
-/// The Enabled whose text comes first, and the rest.
+/// The answer to ENABLE that the octets begin with, and the rest.
 pub fn enabled_word(bytes: &[u8]) -> Option<(EnabledExtensions, &[u8])>
     ensures { option_map (λ x. (x.0, x.1.now)) result ≡ word_at enabled_text enabled_words bytes.now }
 {
@@ -124,7 +124,7 @@ pub fn enabled_word(bytes: &[u8]) -> Option<(EnabledExtensions, &[u8])>
     first_word(&candidates, bytes)
 }
 
-/// The ByeReason whose text comes first, and the rest.
+/// The BYE that the octets begin with, and the rest.
 pub fn bye_word(bytes: &[u8]) -> Option<(ByeReason, &[u8])>
     ensures { option_map (λ x. (x.0, x.1.now)) result ≡ word_at bye_text bye_reasons bytes.now }
 {
@@ -140,7 +140,7 @@ pub fn bye_word(bytes: &[u8]) -> Option<(ByeReason, &[u8])>
     first_word(&candidates, bytes)
 }
 
-/// The Refusal whose text comes first, and the rest.
+/// The refusal that the octets begin with, and the rest.
 pub fn refusal_word(bytes: &[u8]) -> Option<(Refusal, &[u8])>
     ensures { option_map (λ x. (x.0, x.1.now)) result ≡ word_at refusal_text refusals bytes.now }
 {
@@ -168,7 +168,7 @@ pub fn refusal_word(bytes: &[u8]) -> Option<(Refusal, &[u8])>
     first_word(&candidates, bytes)
 }
 
-/// The CommandWord whose text comes first, and the rest.
+/// The command's name that the octets begin with, and the rest.
 pub fn command_word(bytes: &[u8]) -> Option<(CompletedWord, &[u8])>
     ensures { option_map (λ x. (x.0, x.1.now)) result ≡ word_at command_text commands bytes.now }
 {
@@ -207,7 +207,7 @@ pub fn command_word(bytes: &[u8]) -> Option<(CompletedWord, &[u8])>
     first_word(&candidates, bytes)
 }
 
-/// The attributes whose text comes first, and the rest.
+/// The attributes that the octets begin with, and the rest.
 pub fn attributes_word(bytes: &[u8]) -> Option<(Attributes, &[u8])>
     ensures { option_map (λ x. (x.0, x.1.now)) result ≡ word_at (λ a. attributes_text a.state a.subscribed) all_attributes bytes.now }
 {

@@ -1,5 +1,5 @@
-//! Reading of lists in answers. A reader here is told whether the next text is the first of its list, and tells what it
-//! read, whether the next text is still the first, and what stands behind.
+//! Reading of lists in answers. `is_first` says whether the next text is the first of its list. A
+//! reader gives what it read, whether the text after that is still the first, and the rest.
 
 ghost use Rattle.std.specs.Prelude.{◌≡◌, true, codes, option_map};
 ghost use Rattle.imap_print.specs.Reading.{Gives, after, flag_at, item_at, lead};
@@ -13,7 +13,7 @@ use imap_answers::{FetchItems, SectionData, Sections, StatusItems};
 use imap_types::{DateTime, FieldNames, Flags, Keywords, Octets, Section, Text};
 use std::alloc::Global;
 
-/// What stands behind a text of a list, where it is there.
+/// The octets after a text of a list, if they begin with it.
 fn skip_text<'a>(is_first: bool, text: &[u8], bytes: &'a [u8]) -> Option<&'a [u8]>
     ensures { option_map (λ rest. rest.now) result ≡ after (lead is_first text.now) bytes.now }
 {
@@ -26,7 +26,7 @@ fn skip_text<'a>(is_first: bool, text: &[u8], bytes: &'a [u8]) -> Option<&'a [u8
     }
 }
 
-/// Whether a flag is there.
+/// Whether a flag comes next.
 fn flag<'a>(is_first: bool, text: &[u8], bytes: &'a [u8]) -> (bool, bool, &'a [u8])
     ensures there { result.0 ≡ (flag_at is_first text.now bytes.now).0 }
     ensures still { result.1 ≡ (flag_at is_first text.now bytes.now).1 }
@@ -38,7 +38,7 @@ fn flag<'a>(is_first: bool, text: &[u8], bytes: &'a [u8]) -> (bool, bool, &'a [u
     }
 }
 
-/// A number behind its label, where it is there.
+/// Reads a label and its number, if the label comes next.
 pub fn item<'a>(is_first: bool, label: &[u8], bytes: &'a [u8]) -> (Option<u64>, bool, &'a [u8])
     ensures number { result.0 ≡ (item_at is_first label.now bytes.now).0 }
     ensures still { result.1 ≡ (item_at is_first label.now bytes.now).1 }
@@ -53,7 +53,7 @@ pub fn item<'a>(is_first: bool, label: &[u8], bytes: &'a [u8]) -> (Option<u64>, 
     }
 }
 
-/// The same number in 32 bits, where there is one.
+/// The number as 32 bits, if any; greater numbers become 4,294,967,295.
 pub fn narrow(number: Option<u64>) -> Option<u32>
     ensures { result ≡ small_option number }
 {
@@ -63,6 +63,7 @@ pub fn narrow(number: Option<u64>) -> Option<u32>
     }
 }
 
+/// Reads the flags of a list, and gives whether there are none.
 #[tactic(auto, unfolding(crate::specs::ReadingAnswers::flags_from))]
 fn flags_from(alloc: Global, bytes: &[u8]) -> Result<(Flags, bool, &[u8]), ReadFault>
     ensures { Gives (λ x. (x.0, x.1, x.2.now)) result (flags_from bytes.now) }
@@ -90,7 +91,7 @@ fn flags_from(alloc: Global, bytes: &[u8]) -> Result<(Flags, bool, &[u8]), ReadF
     }
 }
 
-/// Flags in parentheses.
+/// Reads flags in parentheses.
 #[tactic(auto, unfolding(crate::specs::ReadingAnswers::flags_at))]
 pub fn flags(alloc: Global, bytes: &[u8]) -> Result<(Flags, &[u8]), ReadFault>
     ensures { Gives (λ x. (x.0, x.1.now)) result (flags_at bytes.now) }
@@ -100,7 +101,7 @@ pub fn flags(alloc: Global, bytes: &[u8]) -> Result<(Flags, &[u8]), ReadFault>
     value_before_text(flags, rest, b")")
 }
 
-/// The flags that can be changed for good.
+/// Reads the flags that can be changed permanently, in parentheses (RFC 9051, section 7.1).
 pub fn permanent_flags(alloc: Global, bytes: &[u8]) -> Result<(Option<Flags>, &[u8]), ReadFault>
     ensures { Gives (λ x. (x.0, x.1.now)) result (permanent_at bytes.now) }
 {
@@ -113,6 +114,7 @@ pub fn permanent_flags(alloc: Global, bytes: &[u8]) -> Result<(Option<Flags>, &[
     }
 }
 
+/// Reads the flags that can be changed permanently, after the opening parenthesis.
 #[tactic(auto, unfolding(crate::specs::ReadingAnswers::permanent_from))]
 fn permanent_from(alloc: Global, bytes: &[u8]) -> Result<(Option<Flags>, &[u8]), ReadFault>
     ensures { Gives (λ x. (x.0, x.1.now)) result (permanent_from bytes.now) }
@@ -127,7 +129,7 @@ fn permanent_from(alloc: Global, bytes: &[u8]) -> Result<(Option<Flags>, &[u8]),
     }
 }
 
-/// What STATUS tells.
+/// Reads the items of STATUS (RFC 9051, section 7.3.3).
 #[tactic(auto, unfolding(crate::specs::ReadingAnswers::status_items_at))]
 pub fn status_items(bytes: &[u8]) -> (StatusItems, &[u8])
     ensures items { result.0 ≡ (status_items_at bytes.now).0 }
@@ -152,6 +154,7 @@ pub fn status_items(bytes: &[u8]) -> (StatusItems, &[u8])
     (items, rest)
 }
 
+/// Reads fewer than `count` names of header fields, up to the closing parenthesis.
 fn fields(alloc: Global, count: usize, bytes: &[u8]) -> Result<(FieldNames, &[u8]), ReadFault>
     ensures { Gives (λ x. (x.0, x.1.now)) result (fields_at count true bytes.now) }
 {
@@ -171,6 +174,7 @@ fn fields(alloc: Global, count: usize, bytes: &[u8]) -> Result<(FieldNames, &[u8
     Err(ReadFault::NotPrinted)
 }
 
+/// Reads the next name of a header field.
 fn next_field(alloc: Global, is_first: bool, bytes: &[u8]) -> Result<(Octets, &[u8]), ReadFault>
     ensures { Gives (λ x. (x.0, x.1.now)) result (next_field_at is_first bytes.now) }
 {
@@ -178,7 +182,7 @@ fn next_field(alloc: Global, is_first: bool, bytes: &[u8]) -> Result<(Octets, &[
     field(alloc, rest)
 }
 
-/// A part of a message (RFC 9051, section 9, section-spec).
+/// Reads the name of a section (RFC 9051, section 9, section-spec).
 #[tactic(auto, unfolding(crate::specs::ReadingAnswers::section_at))]
 fn section(alloc: Global, bytes: &[u8]) -> Result<(Section, &[u8]), ReadFault>
     ensures { Gives (λ x. (x.0, x.1.now)) result (section_at bytes.now) }
@@ -200,6 +204,7 @@ fn section(alloc: Global, bytes: &[u8]) -> Result<(Section, &[u8]), ReadFault>
     }
 }
 
+/// Reads the offset of a partial range, if any.
 fn origin(bytes: &[u8]) -> Result<(Option<u32>, &[u8]), ReadFault>
     ensures { Gives (λ x. (x.0, x.1.now)) result (origin_or (after (codes "<") bytes.now) bytes.now) }
 {
@@ -213,6 +218,7 @@ fn origin(bytes: &[u8]) -> Result<(Option<u32>, &[u8]), ReadFault>
     }
 }
 
+/// Reads a section with its octets, after `BODY[`.
 #[tactic(auto, unfolding(crate::specs::ReadingAnswers::body_at))]
 fn body(alloc: Global, bytes: &[u8]) -> Result<(SectionData, &[u8]), ReadFault>
     ensures { Gives (λ x. (x.0, x.1.now)) result (body_at bytes.now) }
@@ -234,7 +240,7 @@ fn body(alloc: Global, bytes: &[u8]) -> Result<(SectionData, &[u8]), ReadFault>
     }
 }
 
-/// What stands behind the section of a part: where it begins, and its octets.
+/// Reads what follows the name of a section: its offset, if any, and its octets.
 #[tactic(auto, unfolding(crate::specs::ReadingAnswers::data_at))]
 fn octets_behind(alloc: Global, bytes: &[u8]) -> Result<((Option<u32>, Text), &[u8]), ReadFault>
     ensures { Gives (λ x. (x.0, x.1.now)) result (data_at bytes.now) }
@@ -246,6 +252,7 @@ fn octets_behind(alloc: Global, bytes: &[u8]) -> Result<((Option<u32>, Text), &[
     Ok(((origin, Text::new(octets.into_vec())?), rest))
 }
 
+/// Reads fewer than `count` sections with their octets, up to a text that begins none.
 fn bodies(
     alloc: Global,
     count: usize,
@@ -270,6 +277,7 @@ fn bodies(
     Err(ReadFault::NotPrinted)
 }
 
+/// Reads the flags of a message, if they come next.
 fn flags_item(
     alloc: Global,
     is_first: bool,
@@ -286,6 +294,7 @@ fn flags_item(
     }
 }
 
+/// Reads a date-time of 28 octets.
 #[tactic(auto, unfolding(crate::specs::ReadingAnswers::date_at))]
 fn date(bytes: &[u8]) -> Result<(DateTime, &[u8]), ReadFault>
     ensures { Gives (λ x. (x.0, x.1.now)) result (date_at bytes.now) }
@@ -299,6 +308,7 @@ fn date(bytes: &[u8]) -> Result<(DateTime, &[u8]), ReadFault>
     }
 }
 
+/// Reads the internal date of a message, if it comes next.
 fn date_item(is_first: bool, bytes: &[u8]) -> Result<(Option<DateTime>, bool, &[u8]), ReadFault>
     ensures { Gives (λ x. (x.0, x.1, x.2.now)) result (date_or is_first (after (lead is_first (codes "INTERNALDATE ")) bytes.now) bytes.now) }
 {
@@ -311,6 +321,7 @@ fn date_item(is_first: bool, bytes: &[u8]) -> Result<(Option<DateTime>, bool, &[
     }
 }
 
+/// Reads the mod-sequence of a message, if it comes next.
 fn modseq_item(is_first: bool, bytes: &[u8]) -> Result<(Option<u64>, bool, &[u8]), ReadFault>
     ensures { Gives (λ x. (x.0, x.1, x.2.now)) result (modseq_or is_first (after (lead is_first (codes "MODSEQ (")) bytes.now) bytes.now) }
 {
@@ -324,7 +335,7 @@ fn modseq_item(is_first: bool, bytes: &[u8]) -> Result<(Option<u64>, bool, &[u8]
     }
 }
 
-/// What FETCH tells.
+/// Reads the items of FETCH (RFC 9051, section 7.5.2).
 #[tactic(auto, unfolding(crate::specs::ReadingAnswers::fetch_items_at))]
 pub fn fetch_items(alloc: Global, bytes: &[u8]) -> Result<(FetchItems, &[u8]), ReadFault>
     ensures { Gives (λ x. (x.0, x.1.now)) result (fetch_items_at bytes.now) }

@@ -1,4 +1,17 @@
-//! Answers both ways (RFC 9051, section 7): the one text of each, reading what was printed, and the laws that join both.
+//! Printing and reading of the server's answers (RFC 9051, section 7).
+//!
+//! [`print`] appends the one text of an answer, `text_of_answer` of `imap_answers`, with its line
+//! end, or leaves the octets before it unchanged if memory runs out. It takes any answer as a
+//! value, also one that may not be sent.
+//!
+//! [`read`] answers the answer whose text the octets begin with, and the length of that text. What
+//! is read may be sent (`IsPrintable`), and each answer that may be sent is read from its text,
+//! whatever follows it, unless memory runs out. [`one_reading`] is the law that octets begin with
+//! the text of at most one such answer. `read` prints what it read and compares the text with the
+//! octets, so that its contract rests on that of `print`.
+//!
+//! Modules named `.._printers` and `.._readers` hold one function for each part of an answer;
+//! `specs/Reading` and `specs/ReadingAnswers` define what a reader gives for any octets.
 #![tactic(auto)]
 
 mod answer_reader;

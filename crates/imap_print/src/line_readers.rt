@@ -1,4 +1,5 @@
-//! Reading of answers, part by part. Each reader tells what it read and what stands behind that.
+//! Reading of answers, part by part (RFC 9051, section 7). Each reader gives what it read and the
+//! octets after it.
 
 ghost use Rattle.std.specs.Prelude.{codes};
 ghost use Rattle.imap_print.specs.Reading.{Gives, after, within};
@@ -20,7 +21,7 @@ use imap_answers::{Answer, Code, CompletedWord, Notice, SearchResults, StatusIte
 use imap_types::{Name, NumberSet, Octets};
 use std::alloc::Global;
 
-/// An answer with its line end.
+/// Reads an answer with its line end.
 #[tactic(auto, unfolding(crate::specs::ReadingAnswers::line_at))]
 pub fn line(alloc: Global, bytes: &[u8]) -> Result<(Answer, &[u8]), ReadFault>
     ensures { Gives (λ x. (x.0, x.1.now)) result (line_at bytes.now) }
@@ -29,6 +30,7 @@ pub fn line(alloc: Global, bytes: &[u8]) -> Result<(Answer, &[u8]), ReadFault>
     value_before_text(found, rest, b"\r\n")
 }
 
+/// Reads an answer without its line end.
 #[tactic(auto, unfolding(crate::specs::ReadingAnswers::answer_at))]
 fn answer(alloc: Global, bytes: &[u8]) -> Result<(Answer, &[u8]), ReadFault>
     ensures { Gives (λ x. (x.0, x.1.now)) result (answer_at bytes.now) }
@@ -41,6 +43,7 @@ fn answer(alloc: Global, bytes: &[u8]) -> Result<(Answer, &[u8]), ReadFault>
     }
 }
 
+/// Reads an answer without a tag.
 #[tactic(auto, unfolding(crate::specs::ReadingAnswers::star_at))]
 fn star(alloc: Global, bytes: &[u8]) -> Result<(Answer, &[u8]), ReadFault>
     ensures { Gives (λ x. (x.0, x.1.now)) result (star_at bytes.now) }
@@ -61,6 +64,7 @@ fn star(alloc: Global, bytes: &[u8]) -> Result<(Answer, &[u8]), ReadFault>
     untagged(alloc, rest)
 }
 
+/// Reads an untagged answer after its `* `.
 #[tactic(auto, unfolding(crate::specs::ReadingAnswers::untagged_at))]
 fn untagged(alloc: Global, bytes: &[u8]) -> Result<(Answer, &[u8]), ReadFault>
     ensures { Gives (λ x. (x.0, x.1.now)) result (untagged_at bytes.now) }
@@ -88,6 +92,7 @@ fn untagged(alloc: Global, bytes: &[u8]) -> Result<(Answer, &[u8]), ReadFault>
     }
 }
 
+/// Reads an untagged answer that begins with a word.
 #[tactic(auto, unfolding(crate::specs::ReadingAnswers::worded_at))]
 fn answer_of_word(alloc: Global, bytes: &[u8]) -> Result<(Answer, &[u8]), ReadFault>
     ensures { Gives (λ x. (x.0, x.1.now)) result (worded_at bytes.now) }
@@ -110,7 +115,7 @@ fn answer_of_word(alloc: Global, bytes: &[u8]) -> Result<(Answer, &[u8]), ReadFa
     }
 }
 
-/// An untagged answer that is one fixed text.
+/// Reads an untagged answer that is one fixed text.
 #[tactic(auto, unfolding(crate::specs::ReadingAnswers::fixed_at))]
 fn fixed_answer(bytes: &[u8]) -> Result<(Answer, &[u8]), ReadFault>
     ensures { Gives (λ x. (x.0, x.1.now)) result (fixed_at bytes.now) }
@@ -131,7 +136,7 @@ fn fixed_answer(bytes: &[u8]) -> Result<(Answer, &[u8]), ReadFault>
     }
 }
 
-/// The flags of a mailbox.
+/// Reads the flags of a mailbox.
 fn mailbox_flags(alloc: Global, bytes: &[u8]) -> Result<(Answer, &[u8]), ReadFault>
     ensures { Gives (λ x. (x.0, x.1.now)) result (within (λ flags. Flags flags) (flags_at bytes.now)) }
 {
@@ -139,6 +144,7 @@ fn mailbox_flags(alloc: Global, bytes: &[u8]) -> Result<(Answer, &[u8]), ReadFau
     Ok((Answer::Flags { flags }, rest))
 }
 
+/// Reads the code of an untagged OK, after the OK.
 #[tactic(auto, unfolding(crate::specs::ReadingAnswers::tell_at))]
 fn tell(alloc: Global, bytes: &[u8]) -> Result<(Answer, &[u8]), ReadFault>
     ensures { Gives (λ x. (x.0, x.1.now)) result (tell_at bytes.now) }
@@ -147,6 +153,7 @@ fn tell(alloc: Global, bytes: &[u8]) -> Result<(Answer, &[u8]), ReadFault>
     value_before_text(Answer::Tell { notice }, rest, b" ok")
 }
 
+/// Reads a name in LIST.
 #[tactic(auto, unfolding(crate::specs::ReadingAnswers::list_at))]
 fn list(alloc: Global, bytes: &[u8]) -> Result<(Answer, &[u8]), ReadFault>
     ensures { Gives (λ x. (x.0, x.1.now)) result (list_at bytes.now) }
@@ -166,6 +173,7 @@ fn list(alloc: Global, bytes: &[u8]) -> Result<(Answer, &[u8]), ReadFault>
     }
 }
 
+/// Reads a mailbox in STATUS.
 #[tactic(auto, unfolding(crate::specs::ReadingAnswers::status_at))]
 fn status(alloc: Global, bytes: &[u8]) -> Result<(Answer, &[u8]), ReadFault>
     ensures { Gives (λ x. (x.0, x.1.now)) result (status_at bytes.now) }
@@ -183,7 +191,7 @@ fn status(alloc: Global, bytes: &[u8]) -> Result<(Answer, &[u8]), ReadFault>
     }
 }
 
-/// What STATUS tells, in parentheses.
+/// Reads the items of STATUS in parentheses.
 #[tactic(auto, unfolding(crate::specs::ReadingAnswers::status_list_at))]
 fn status_list(bytes: &[u8]) -> Result<(StatusItems, &[u8]), ReadFault>
     ensures { Gives (λ x. (x.0, x.1.now)) result (status_list_at bytes.now) }
@@ -193,6 +201,7 @@ fn status_list(bytes: &[u8]) -> Result<(StatusItems, &[u8]), ReadFault>
     value_before_text(items, rest, b")")
 }
 
+/// Reads the results of a search, from its tag on.
 #[tactic(auto, unfolding(crate::specs::ReadingAnswers::search_at))]
 fn search(alloc: Global, bytes: &[u8]) -> Result<(Answer, &[u8]), ReadFault>
     ensures { Gives (λ x. (x.0, x.1.now)) result (search_at bytes.now) }
@@ -210,6 +219,7 @@ fn search(alloc: Global, bytes: &[u8]) -> Result<(Answer, &[u8]), ReadFault>
     }
 }
 
+/// Reads the results of the search with this tag.
 fn search_from<'a>(
     alloc: Global,
     tag: &[u8],
@@ -227,6 +237,7 @@ fn search_from<'a>(
     Ok((search, rest))
 }
 
+/// Reads the results of a search, after its tag.
 #[tactic(auto, unfolding(crate::specs::ReadingAnswers::results_at))]
 fn results(alloc: Global, bytes: &[u8]) -> Result<(SearchResults, &[u8]), ReadFault>
     ensures { Gives (λ x. (x.0, x.1.now)) result (results_at bytes.now) }
@@ -246,6 +257,7 @@ fn results(alloc: Global, bytes: &[u8]) -> Result<(SearchResults, &[u8]), ReadFa
     Ok((results, rest))
 }
 
+/// Reads all hits of a search, if they come next.
 fn all_hits(alloc: Global, bytes: &[u8]) -> Result<(NumberSet, &[u8]), ReadFault>
     ensures { Gives (λ x. (x.0, x.1.now)) result (all_or (after (codes " ALL ") bytes.now) bytes.now) }
 {
@@ -255,6 +267,7 @@ fn all_hits(alloc: Global, bytes: &[u8]) -> Result<(NumberSet, &[u8]), ReadFault
     }
 }
 
+/// Reads the items of the message with this number, and the closing parenthesis.
 #[tactic(auto, unfolding(crate::specs::ReadingAnswers::fetch_at))]
 fn fetch(alloc: Global, number: u32, bytes: &[u8]) -> Result<(Answer, &[u8]), ReadFault>
     ensures { Gives (λ x. (x.0, x.1.now)) result (fetch_at number bytes.now) }
@@ -263,6 +276,7 @@ fn fetch(alloc: Global, number: u32, bytes: &[u8]) -> Result<(Answer, &[u8]), Re
     value_before_text(Answer::Fetch { number, items }, rest, b")")
 }
 
+/// Reads a tagged line after its tag.
 #[tactic(auto, unfolding(crate::specs::ReadingAnswers::tagged_at))]
 fn tagged_line<'a>(
     alloc: Global,
@@ -284,6 +298,7 @@ fn tagged_line<'a>(
     }
 }
 
+/// Reads the tagged line of a completed command, after the OK.
 #[tactic(auto, unfolding(crate::specs::ReadingAnswers::completed_at))]
 fn completed_line<'a>(
     alloc: Global,
@@ -302,7 +317,7 @@ fn completed_line<'a>(
     }
 }
 
-/// The tag, and the command that is done.
+/// Reads the command's name and `completed`, and gives the tag with it.
 fn tagged_done<'a>(
     alloc: Global,
     tag: &[u8],
@@ -314,7 +329,7 @@ fn tagged_done<'a>(
     Ok(((Octets::from_slice(alloc, tag)?, command), rest))
 }
 
-/// The command that is done.
+/// Reads the name of a completed command, and `completed`.
 #[tactic(auto, unfolding(crate::specs::ReadingAnswers::done_at))]
 fn completed_word(bytes: &[u8]) -> Result<(CompletedWord, &[u8]), ReadFault>
     ensures { Gives (λ x. (x.0, x.1.now)) result (done_at bytes.now) }
@@ -325,7 +340,7 @@ fn completed_word(bytes: &[u8]) -> Result<(CompletedWord, &[u8]), ReadFault>
     }
 }
 
-/// A number and the bracket that ends its code.
+/// Reads a number and the bracket that ends its code.
 #[tactic(auto, unfolding(crate::specs::ReadingAnswers::coded_at))]
 fn number_in_code(bytes: &[u8]) -> Result<(u64, &[u8]), ReadFault>
     ensures { Gives (λ x. (x.0, x.1.now)) result (coded_at bytes.now) }
@@ -335,6 +350,7 @@ fn number_in_code(bytes: &[u8]) -> Result<(u64, &[u8]), ReadFault>
     Ok((found, rest))
 }
 
+/// Reads a UIDVALIDITY, two sets, and the bracket that ends their code.
 #[tactic(auto, unfolding(crate::specs::ReadingAnswers::copied_at))]
 fn copyuid_code(
     alloc: Global,
@@ -348,7 +364,7 @@ fn copyuid_code(
     Ok(((small(uidvalidity), source, copies), rest))
 }
 
-/// Two sets and the bracket that ends their code.
+/// Reads two sets and the bracket that ends their code.
 #[tactic(auto, unfolding(crate::specs::ReadingAnswers::sets_at))]
 fn sets(alloc: Global, bytes: &[u8]) -> Result<((NumberSet, NumberSet), &[u8]), ReadFault>
     ensures { Gives (λ x. (x.0, x.1.now)) result (sets_at bytes.now) }
@@ -363,6 +379,7 @@ fn sets(alloc: Global, bytes: &[u8]) -> Result<((NumberSet, NumberSet), &[u8]), 
     }
 }
 
+/// Reads a space, a set and the bracket that ends its code.
 #[tactic(auto, unfolding(crate::specs::ReadingAnswers::last_set_at))]
 fn last_set(alloc: Global, bytes: &[u8]) -> Result<(NumberSet, &[u8]), ReadFault>
     ensures { Gives (λ x. (x.0, x.1.now)) result (last_set_at bytes.now) }
@@ -372,6 +389,7 @@ fn last_set(alloc: Global, bytes: &[u8]) -> Result<(NumberSet, &[u8]), ReadFault
     value_before_text(copies, rest, b"]")
 }
 
+/// Reads the code of an untagged OK.
 #[tactic(auto, unfolding(crate::specs::ReadingAnswers::notice_at))]
 fn notice(alloc: Global, bytes: &[u8]) -> Result<(Notice, &[u8]), ReadFault>
     ensures { Gives (λ x. (x.0, x.1.now)) result (notice_at bytes.now) }
@@ -405,6 +423,7 @@ fn notice(alloc: Global, bytes: &[u8]) -> Result<(Notice, &[u8]), ReadFault>
     }
 }
 
+/// Reads the flags of PERMANENTFLAGS, and the bracket that ends their code.
 #[tactic(auto, unfolding(crate::specs::ReadingAnswers::permanent_notice_at))]
 fn permanent_notice(alloc: Global, bytes: &[u8]) -> Result<(Notice, &[u8]), ReadFault>
     ensures { Gives (λ x. (x.0, x.1.now)) result (permanent_notice_at bytes.now) }
@@ -413,6 +432,7 @@ fn permanent_notice(alloc: Global, bytes: &[u8]) -> Result<(Notice, &[u8]), Read
     value_before_text(Notice::PermanentFlags { flags }, rest, b"]")
 }
 
+/// Reads the UIDs of COPYUID in an untagged OK.
 fn copied_notice(alloc: Global, bytes: &[u8]) -> Result<(Notice, &[u8]), ReadFault>
     ensures { Gives (λ x. (x.0, x.1.now)) result (within (λ c. notice.CopyUid c.0 c.1 c.2) (copied_at bytes.now)) }
 {
@@ -425,6 +445,7 @@ fn copied_notice(alloc: Global, bytes: &[u8]) -> Result<(Notice, &[u8]), ReadFau
     Ok((notice, rest))
 }
 
+/// Reads a UIDVALIDITY, a UID, and the bracket that ends their code.
 #[tactic(auto, unfolding(crate::specs::ReadingAnswers::appended_at))]
 fn appenduid_code(bytes: &[u8]) -> Result<((u32, u32), &[u8]), ReadFault>
     ensures { Gives (λ x. (x.0, x.1.now)) result (appended_at bytes.now) }
@@ -435,6 +456,7 @@ fn appenduid_code(bytes: &[u8]) -> Result<((u32, u32), &[u8]), ReadFault>
     Ok(((small(uidvalidity), small(uid)), rest))
 }
 
+/// Reads the code of a tagged OK.
 #[tactic(auto, unfolding(crate::specs::ReadingAnswers::code_at))]
 fn code(alloc: Global, bytes: &[u8]) -> Result<(Code, &[u8]), ReadFault>
     ensures { Gives (λ x. (x.0, x.1.now)) result (code_at bytes.now) }
@@ -461,6 +483,7 @@ fn code(alloc: Global, bytes: &[u8]) -> Result<(Code, &[u8]), ReadFault>
     }
 }
 
+/// Reads the UIDs of COPYUID in a tagged OK.
 fn copied_code(alloc: Global, bytes: &[u8]) -> Result<(Code, &[u8]), ReadFault>
     ensures { Gives (λ x. (x.0, x.1.now)) result (within (λ c. code.CopyUid c.0 c.1 c.2) (copied_at bytes.now)) }
 {
@@ -473,6 +496,7 @@ fn copied_code(alloc: Global, bytes: &[u8]) -> Result<(Code, &[u8]), ReadFault>
     Ok((code, rest))
 }
 
+/// Reads the set of MODIFIED, and the bracket that ends its code.
 #[tactic(auto, unfolding(crate::specs::ReadingAnswers::modified_at))]
 fn modified_set(alloc: Global, bytes: &[u8]) -> Result<(Code, &[u8]), ReadFault>
     ensures { Gives (λ x. (x.0, x.1.now)) result (modified_at bytes.now) }
@@ -481,6 +505,7 @@ fn modified_set(alloc: Global, bytes: &[u8]) -> Result<(Code, &[u8]), ReadFault>
     value_before_text(Code::Modified { refused }, rest, b"]")
 }
 
+/// Reads the code of a tagged OK and a space, if a bracket comes next.
 fn code_before(alloc: Global, bytes: &[u8]) -> Result<(Option<Code>, &[u8]), ReadFault>
     ensures { Gives (λ x. (x.0, x.1.now)) result (code_before_at bytes.now) }
 {

@@ -1,5 +1,6 @@
-//! Lists in answers, with a space between any two texts. A function here is told whether its texts are the first of
-//! the list, and tells whether the next are. An `Err`, which is want of memory, may leave a beginning of a text.
+//! Printing of lists in answers, with a space between each two texts. `is_first` says whether the
+//! texts are the first of their list; the result says whether the next ones still are. An `Err`, if
+//! memory runs out, may leave part of a text.
 
 ghost use Rattle.std.specs.Prelude.{◌≡◌, ◌++◌, [], ◌∷◌, codes, map, true, if◌then◌else◌, IfOk, OnOk};
 ghost use Rattle.imap_types.specs.Flags.{flag_texts, where_there};
@@ -13,6 +14,7 @@ use imap_answers::{FetchItems, SectionData, StatusItems};
 use imap_types::{DateTime, Flags, Octets};
 use std::alloc::AllocError;
 
+/// Appends the space before a text, unless it is the first.
 fn push_space(is_first: bool, out: &mut Vec<u8>) -> Result<(), AllocError>
     ensures { OnOk result (Appends out.old.items out.new.items (if is_first then [] else codes " ")) }
 {
@@ -22,6 +24,7 @@ fn push_space(is_first: bool, out: &mut Vec<u8>) -> Result<(), AllocError>
     push_text(b" ", out)
 }
 
+/// Appends one text of a list.
 fn push_word(is_first: bool, text: &[u8], out: &mut Vec<u8>) -> Result<bool, AllocError>
     ensures { IfOk result (λ still. Lists is_first (text.now ∷ []) out.old.items out.new.items still) }
 {
@@ -30,6 +33,7 @@ fn push_word(is_first: bool, text: &[u8], out: &mut Vec<u8>) -> Result<bool, All
     Ok(false)
 }
 
+/// Appends a label and its number, if any.
 fn push_item(
     is_first: bool,
     label: &[u8],
@@ -48,6 +52,7 @@ fn push_item(
     }
 }
 
+/// Appends a system flag's text, if the flag is set.
 fn push_flag(
     is_first: bool,
     is_there: bool,
@@ -63,6 +68,7 @@ fn push_flag(
     }
 }
 
+/// Appends keywords.
 fn push_keywords(is_first: bool, keywords: &[Octets], out: &mut Vec<u8>) -> Result<bool, AllocError>
     ensures { IfOk result (λ still. Lists is_first keywords.now out.old.items out.new.items still) }
 {
@@ -73,7 +79,7 @@ fn push_keywords(is_first: bool, keywords: &[Octets], out: &mut Vec<u8>) -> Resu
     Ok(still)
 }
 
-/// The flags of a list in their order; tells whether there are none.
+/// Appends flags in their order, and gives whether there are none.
 pub fn push_flag_texts(flags: &Flags, out: &mut Vec<u8>) -> Result<bool, AllocError>
     ensures { IfOk result (λ still. Lists true (flag_texts flags.now) out.old.items out.new.items still) }
 {
@@ -86,7 +92,7 @@ pub fn push_flag_texts(flags: &Flags, out: &mut Vec<u8>) -> Result<bool, AllocEr
     Ok(still)
 }
 
-/// The flags of a list, and behind them that of any new keyword.
+/// Appends flags and then `\*`, which stands for any new keyword.
 pub fn push_flags_and_any(flags: &Flags, out: &mut Vec<u8>) -> Result<bool, AllocError>
     ensures { IfOk result (λ still. Lists true (flag_texts flags.now ++ codes "\\*" ∷ []) out.old.items out.new.items still) }
 {
@@ -95,7 +101,7 @@ pub fn push_flags_and_any(flags: &Flags, out: &mut Vec<u8>) -> Result<bool, Allo
     Ok(still)
 }
 
-/// What STATUS tells (RFC 9051, section 7.3.3).
+/// Appends the items of STATUS (RFC 9051, section 7.3.3).
 pub fn push_status_items(items: &StatusItems, out: &mut Vec<u8>) -> Result<bool, AllocError>
     ensures { IfOk result (λ still. Lists true (status_texts items.now) out.old.items out.new.items still) }
 {
@@ -109,7 +115,7 @@ pub fn push_status_items(items: &StatusItems, out: &mut Vec<u8>) -> Result<bool,
     Ok(still)
 }
 
-/// What FETCH tells (RFC 9051, section 7.5.2).
+/// Appends the items of FETCH (RFC 9051, section 7.5.2).
 pub fn push_fetch_items(items: &FetchItems, out: &mut Vec<u8>) -> Result<bool, AllocError>
     ensures { IfOk result (λ still. Lists true (fetch_texts items.now) out.old.items out.new.items still) }
 {
@@ -122,6 +128,7 @@ pub fn push_fetch_items(items: &FetchItems, out: &mut Vec<u8>) -> Result<bool, A
     Ok(still)
 }
 
+/// Appends the flags of a message, if any.
 fn push_flags_item(
     is_first: bool,
     flags: &Option<Flags>,
@@ -139,6 +146,7 @@ fn push_flags_item(
     }
 }
 
+/// Appends the internal date of a message, if any.
 fn push_date_item(
     is_first: bool,
     date: &Option<DateTime>,
@@ -156,6 +164,7 @@ fn push_date_item(
     }
 }
 
+/// Appends the mod-sequence of a message, if any.
 fn push_modseq_item(
     is_first: bool,
     modseq: Option<u64>,
@@ -173,6 +182,7 @@ fn push_modseq_item(
     }
 }
 
+/// Appends sections with their octets.
 fn push_bodies(is_first: bool, parts: &[SectionData], out: &mut Vec<u8>) -> Result<bool, AllocError>
     ensures { IfOk result (λ still. Lists is_first (map body_text parts.now) out.old.items out.new.items still) }
 {
@@ -185,7 +195,7 @@ fn push_bodies(is_first: bool, parts: &[SectionData], out: &mut Vec<u8>) -> Resu
     Ok(still)
 }
 
-/// The same number in 64 bits, where there is one.
+/// The number as 64 bits, if any.
 pub fn wide(number: Option<u32>) -> Option<u64>
     ensures { result ≡ number }
 {

@@ -1,5 +1,5 @@
-//! The parts of answers. Each function puts a text behind what is there; an `Err`, which is want of memory, may leave a
-//! beginning of it.
+//! Printing of the parts of answers. Each function appends a text to `out`. An `Err`, if memory
+//! runs out, may leave part of it.
 
 ghost use Rattle.std.specs.Prelude.{◌≡◌, ◌++◌, codes, decimal, map, OnOk};
 ghost use Rattle.imap_types.specs.Flags.{flag_texts};
@@ -16,8 +16,8 @@ use imap_answers::{Code, Notice, SearchResults, SectionData};
 use imap_types::{DateTime, FieldNames, Flags, NumberSet, Octets, Section};
 use std::alloc::AllocError;
 
-/// Flags with spaces between them, between two texts, of which the first ends in a parenthesis and the second begins with one
-/// (RFC 9051, section 9, flag-list).
+/// Appends flags separated by spaces, between two texts: the first ends with the opening
+/// parenthesis, the second begins with the closing one (RFC 9051, section 9, flag-list).
 pub fn push_flags(
     front: &[u8],
     flags: &Flags,
@@ -31,6 +31,7 @@ pub fn push_flags(
     push_text(end, out)
 }
 
+/// Appends the code PERMANENTFLAGS.
 fn push_permanent(flags: &Option<Flags>, out: &mut Vec<u8>) -> Result<(), AllocError>
     ensures { OnOk result (Appends out.old.items out.new.items (codes "[PERMANENTFLAGS " ++ permanent_text flags.now ++ codes "]")) }
 {
@@ -40,7 +41,7 @@ fn push_permanent(flags: &Option<Flags>, out: &mut Vec<u8>) -> Result<(), AllocE
     Ok(())
 }
 
-/// The flags that can be changed for good (RFC 9051, section 7.1).
+/// Appends the flags that can be changed permanently, in parentheses (RFC 9051, section 7.1).
 fn push_permanent_flags(flags: &Option<Flags>, out: &mut Vec<u8>) -> Result<(), AllocError>
     ensures { OnOk result (Appends out.old.items out.new.items (permanent_text flags.now)) }
 {
@@ -54,7 +55,7 @@ fn push_permanent_flags(flags: &Option<Flags>, out: &mut Vec<u8>) -> Result<(), 
     }
 }
 
-/// What an untagged OK tells (RFC 9051, section 7.1).
+/// Appends the code of an untagged OK (RFC 9051, section 7.1).
 pub fn push_notice(notice: &Notice, out: &mut Vec<u8>) -> Result<(), AllocError>
     ensures { OnOk result (Appends out.old.items out.new.items (notice_text notice.now)) }
 {
@@ -72,6 +73,7 @@ pub fn push_notice(notice: &Notice, out: &mut Vec<u8>) -> Result<(), AllocError>
     }
 }
 
+/// Appends a code that is a label and a number.
 fn push_code(label: &[u8], number: u64, out: &mut Vec<u8>) -> Result<(), AllocError>
     ensures { OnOk result (Appends out.old.items out.new.items (label.now ++ decimal number ++ codes "]")) }
 {
@@ -79,6 +81,7 @@ fn push_code(label: &[u8], number: u64, out: &mut Vec<u8>) -> Result<(), AllocEr
     push_text(b"]", out)
 }
 
+/// Appends the code COPYUID.
 fn push_copyuid(
     uidvalidity: u32,
     source: &NumberSet,
@@ -94,6 +97,7 @@ fn push_copyuid(
     Ok(())
 }
 
+/// Appends the UIDs of the copied messages, and those of their copies.
 fn push_sets(source: &NumberSet, copies: &NumberSet, out: &mut Vec<u8>) -> Result<(), AllocError>
     ensures { OnOk result (Appends out.old.items out.new.items (sets_text source.now copies.now)) }
 {
@@ -102,7 +106,7 @@ fn push_sets(source: &NumberSet, copies: &NumberSet, out: &mut Vec<u8>) -> Resul
     push_set(copies, out)
 }
 
-/// The code of a tagged OK with a space behind it, where there is one (RFC 9051, section 7.1).
+/// Appends the code of a tagged OK and a space, if there is a code (RFC 9051, section 7.1).
 pub fn push_code_before(code: &Option<Code>, out: &mut Vec<u8>) -> Result<(), AllocError>
     ensures { OnOk result (Appends out.old.items out.new.items (code_before code.now)) }
 {
@@ -115,6 +119,7 @@ pub fn push_code_before(code: &Option<Code>, out: &mut Vec<u8>) -> Result<(), Al
     }
 }
 
+/// Appends the code of a tagged OK.
 fn push_tagged_code(code: &Code, out: &mut Vec<u8>) -> Result<(), AllocError>
     ensures { OnOk result (Appends out.old.items out.new.items (code_text code.now)) }
 {
@@ -132,6 +137,7 @@ fn push_tagged_code(code: &Code, out: &mut Vec<u8>) -> Result<(), AllocError>
     }
 }
 
+/// Appends the code MODIFIED.
 fn push_modified(refused: &NumberSet, out: &mut Vec<u8>) -> Result<(), AllocError>
     ensures { OnOk result (Appends out.old.items out.new.items (codes "[MODIFIED " ++ set_text refused.now ++ codes "]")) }
 {
@@ -140,6 +146,7 @@ fn push_modified(refused: &NumberSet, out: &mut Vec<u8>) -> Result<(), AllocErro
     push_text(b"]", out)
 }
 
+/// Appends the code APPENDUID.
 fn push_appenduid(uidvalidity: u32, uid: u32, out: &mut Vec<u8>) -> Result<(), AllocError>
     ensures { OnOk result (Appends out.old.items out.new.items (appended_text uidvalidity uid)) }
 {
@@ -150,7 +157,7 @@ fn push_appenduid(uidvalidity: u32, uid: u32, out: &mut Vec<u8>) -> Result<(), A
     Ok(())
 }
 
-/// What a search found (RFC 9051, section 7.3.4).
+/// Appends the results of a search (RFC 9051, section 7.3.4).
 pub fn push_results(results: &SearchResults, out: &mut Vec<u8>) -> Result<(), AllocError>
     ensures { OnOk result (Appends out.old.items out.new.items (results_text results.now)) }
 {
@@ -162,6 +169,7 @@ pub fn push_results(results: &SearchResults, out: &mut Vec<u8>) -> Result<(), Al
     Ok(())
 }
 
+/// Appends all hits, if any.
 fn push_all(hits: &NumberSet, out: &mut Vec<u8>) -> Result<(), AllocError>
     ensures { OnOk result (Appends out.old.items out.new.items (all_text hits.now)) }
 {
@@ -172,7 +180,7 @@ fn push_all(hits: &NumberSet, out: &mut Vec<u8>) -> Result<(), AllocError>
     push_set(hits, out)
 }
 
-/// A mod-sequence in FETCH (RFC 7162, section 3.1.4.1).
+/// Appends a mod-sequence of FETCH (RFC 7162, section 3.1.4.1).
 pub fn push_modseq(modseq: u64, out: &mut Vec<u8>) -> Result<(), AllocError>
     ensures { OnOk result (Appends out.old.items out.new.items (codes "MODSEQ (" ++ decimal modseq ++ codes ")")) }
 {
@@ -180,7 +188,7 @@ pub fn push_modseq(modseq: u64, out: &mut Vec<u8>) -> Result<(), AllocError>
     push_text(b")", out)
 }
 
-/// A date in FETCH (RFC 9051, section 7.5.2).
+/// Appends an internal date of FETCH (RFC 9051, section 7.5.2).
 pub fn push_date(date: &DateTime, out: &mut Vec<u8>) -> Result<(), AllocError>
     ensures { OnOk result (Appends out.old.items out.new.items (codes "INTERNALDATE " ++ date.now)) }
 {
@@ -189,7 +197,7 @@ pub fn push_date(date: &DateTime, out: &mut Vec<u8>) -> Result<(), AllocError>
     Ok(())
 }
 
-/// A part of a message with its octets (RFC 9051, section 7.5.2).
+/// Appends a section of a message with its octets (RFC 9051, section 7.5.2).
 pub fn push_body(part: &SectionData, out: &mut Vec<u8>) -> Result<(), AllocError>
     ensures { OnOk result (Appends out.old.items out.new.items (body_text part.now)) }
 {
@@ -202,6 +210,7 @@ pub fn push_body(part: &SectionData, out: &mut Vec<u8>) -> Result<(), AllocError
     Ok(())
 }
 
+/// Appends the name of a section (RFC 9051, section 9, section-spec).
 fn push_section(section: &Section, out: &mut Vec<u8>) -> Result<(), AllocError>
     ensures { OnOk result (Appends out.old.items out.new.items (section_text section.now)) }
 {
@@ -214,7 +223,7 @@ fn push_section(section: &Section, out: &mut Vec<u8>) -> Result<(), AllocError>
     }
 }
 
-/// Writes names of header fields.
+/// Writes the name of one header field.
 struct Fields;
 
 impl TextWriter for Fields {
@@ -229,6 +238,7 @@ impl TextWriter for Fields {
     }
 }
 
+/// Appends a label, names of header fields and a closing parenthesis.
 fn push_named(label: &[u8], names: &FieldNames, out: &mut Vec<u8>) -> Result<(), AllocError>
     ensures { OnOk result (Appends out.old.items out.new.items (label.now ++ separated_by 32 (map field_text names.now) ++ codes ")")) }
 {
@@ -237,6 +247,7 @@ fn push_named(label: &[u8], names: &FieldNames, out: &mut Vec<u8>) -> Result<(),
     push_text(b")", out)
 }
 
+/// Appends the offset of a partial range, if any.
 fn push_origin(origin: Option<u32>, out: &mut Vec<u8>) -> Result<(), AllocError>
     ensures { OnOk result (Appends out.old.items out.new.items (origin_text origin)) }
 {

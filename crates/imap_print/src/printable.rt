@@ -1,6 +1,6 @@
-//! Whether an answer may be sent (RFC 9051, section 9). Of what the types of the program let through, tags, keywords, names, sets,
-//! numbers from 1 on and what may not be empty have to be tested; the functions without a result say what every value of a
-//! type keeps.
+//! The test whether an answer may be sent (RFC 9051, section 9). Types ensure most of its
+//! conditions; tested are tags, keywords, names, numbers from 1 on, and what must not be empty. The
+//! functions without a result (`.._fits`) state what every value of a type satisfies.
 
 ghost use Rattle.std.specs.Prelude.{◌≡◌, ◌↔◌, ◌+◌, ◌-◌, ◌^◌, min, not, ◌&&◌, ◌==◌, length, map, suc, sum, IsTrue};
 ghost use Rattle.std.specs.List.{list_all};
@@ -13,7 +13,7 @@ use crate::scanner::ScanClass;
 use imap_answers::{Answer, Code, FetchItems, Notice, SearchResults, SectionData, StatusItems};
 use imap_types::{DateTime, Flags, Name, NumberSet, Octets, Run, Section, Text};
 
-/// Whether an answer may be sent.
+/// Whether an answer may be sent (`IsPrintable` of `imap_answers`).
 pub fn is_printable(answer: &Answer) -> bool
     ensures { IsTrue result ↔ IsPrintable answer.now }
 {
@@ -35,6 +35,7 @@ pub fn is_printable(answer: &Answer) -> bool
     }
 }
 
+/// Whether the code of an untagged OK may be sent.
 fn is_notice(notice: &Notice) -> bool
     ensures { IsTrue result ↔ IsNotice notice.now }
 {
@@ -52,6 +53,7 @@ fn is_notice(notice: &Notice) -> bool
     }
 }
 
+/// Whether a code may be sent, or there is none.
 fn is_code_if_any(code: &Option<Code>) -> bool
     ensures { IsTrue result ↔ Where IsCode code.now }
 {
@@ -61,6 +63,7 @@ fn is_code_if_any(code: &Option<Code>) -> bool
     }
 }
 
+/// Whether the code of a tagged OK may be sent.
 fn is_code(code: &Code) -> bool
     ensures { IsTrue result ↔ IsCode code.now }
 {
@@ -76,7 +79,7 @@ fn is_code(code: &Code) -> bool
     }
 }
 
-/// Whether a UIDVALIDITY stands before two sets of one size that aren't empty.
+/// Whether the UIDVALIDITY is from 1 on, and the sets have the same size and aren't empty.
 fn is_copied(uidvalidity: u32, source: &NumberSet, copies: &NumberSet) -> bool
     ensures { IsTrue result ↔ IsCopied uidvalidity source.now copies.now }
 {
@@ -92,7 +95,7 @@ fn is_copied(uidvalidity: u32, source: &NumberSet, copies: &NumberSet) -> bool
     count(source) == count(copies)
 }
 
-/// How many numbers a set has.
+/// The count of numbers in a set.
 fn count(set: &NumberSet) -> u64
     ensures { result ≡ length set.now }
 {
@@ -100,7 +103,7 @@ fn count(set: &NumberSet) -> u64
     count_in(set.runs())
 }
 
-/// How many numbers runs have, or the greatest `u64` where they are more.
+/// The count of numbers in runs, or the greatest `u64` if it is greater.
 fn count_in(runs: &[Run]) -> u64
     ensures { result ≡ min (length (numbers_in runs.now)) (2 ^ 64 - 1) }
 {
@@ -111,13 +114,14 @@ fn count_in(runs: &[Run]) -> u64
     count
 }
 
-/// How many numbers a run has.
+/// The count of numbers in a run.
 fn size(run: &Run) -> u64
     ensures { result ≡ suc (run.now.last - run.now.first) }
 {
     u64::from(run.last.saturating_sub(run.first)) + 1
 }
 
+/// Whether the items of STATUS may be sent.
 fn are_status_items(items: &StatusItems) -> bool
     ensures { IsTrue result ↔ AreStatusItems items.now }
 {
@@ -137,6 +141,7 @@ fn are_status_items(items: &StatusItems) -> bool
     tells_of_mailbox(items)
 }
 
+/// Whether there is at least one item of a mailbox.
 fn tells_of_mailbox(items: &StatusItems) -> bool
     ensures { result ≡ tells_of_mailbox items.now }
 {
@@ -149,6 +154,7 @@ fn tells_of_mailbox(items: &StatusItems) -> bool
         || items.highest_modseq.is_some()
 }
 
+/// Whether the results of a search may be sent.
 fn are_results(results: &SearchResults) -> bool
     ensures { IsTrue result ↔ AreResults results.now }
 {
@@ -163,6 +169,7 @@ fn are_results(results: &SearchResults) -> bool
     is_modseq_if_any(results.modseq)
 }
 
+/// Whether the items of FETCH may be sent.
 fn are_fetch_items(items: &FetchItems) -> bool
     ensures { IsTrue result ↔ AreFetchItems items.now }
 {
@@ -183,6 +190,7 @@ fn are_fetch_items(items: &FetchItems) -> bool
     tells_of_message(items)
 }
 
+/// Whether there is at least one item of a message.
 fn tells_of_message(items: &FetchItems) -> bool
     ensures { result ≡ tells_of_message items.now }
 {
@@ -194,6 +202,7 @@ fn tells_of_message(items: &FetchItems) -> bool
         || !items.sections.parts().is_empty()
 }
 
+/// Whether the keywords of flags are atoms, or there are no flags.
 fn are_flags_if_any(flags: &Option<Flags>) -> bool
     ensures { IsTrue result ↔ Where AreFlags flags.now }
 {
@@ -203,12 +212,14 @@ fn are_flags_if_any(flags: &Option<Flags>) -> bool
     }
 }
 
+/// Whether the keywords of flags are atoms.
 fn are_flags(flags: &Flags) -> bool
     ensures { IsTrue result ↔ AreFlags flags.now }
 {
     are_atoms(flags.keywords.as_slice())
 }
 
+/// Whether all words are atoms.
 fn are_atoms(words: &[Octets]) -> bool
     ensures { IsTrue result ↔ Each IsAtom words.now }
 {
@@ -220,25 +231,28 @@ fn are_atoms(words: &[Octets]) -> bool
     true
 }
 
+/// Whether a word is an atom.
 fn is_atom(word: &Octets) -> bool
     ensures { IsTrue result ↔ IsAtom word.now }
 {
     is_word(ScanClass::Atom, word.as_bytes())
 }
 
+/// Whether octets are a tag.
 fn is_tag(tag: &Octets) -> bool
     ensures { IsTrue result ↔ IsTag tag.now }
 {
     is_word(ScanClass::Tag, tag.as_bytes())
 }
 
-/// Whether there are octets, all of a class.
+/// Whether a word isn't empty and its octets all belong to a class.
 fn is_word(class: ScanClass, word: &[u8]) -> bool
     ensures { result ≡ (not (length word.now == 0) && list_all (is_in class) word.now) }
 {
     !word.is_empty() && are_in(class, word)
 }
 
+/// Whether all octets belong to a class.
 fn are_in(class: ScanClass, octets: &[u8]) -> bool
     ensures { result ≡ list_all (is_in class) octets.now }
 {
@@ -250,13 +264,14 @@ fn are_in(class: ScanClass, octets: &[u8]) -> bool
     true
 }
 
-/// INBOX in capitals, or a name that isn't INBOX in any case.
+/// Whether a name is INBOX in capitals, or isn't INBOX in any case.
 fn is_folded(name: &Name) -> bool
     ensures { IsTrue result ↔ IsFolded name.now }
 {
     !name.is_inbox() || name.as_bytes() == b"INBOX".as_slice()
 }
 
+/// Whether a set isn't empty.
 fn is_set(set: &NumberSet) -> bool
     ensures { IsTrue result ↔ IsSet set.now }
 {
@@ -264,7 +279,7 @@ fn is_set(set: &NumberSet) -> bool
     !set.is_empty()
 }
 
-/// A set rises, and its numbers have 32 bits.
+/// States that a set is ascending and that its numbers have 32 bits.
 fn set_fits(set: &NumberSet)
     ensures rising { AreRisingFrom 1 set.now }
     ensures small { IsSmall (greatest set.now) }
@@ -273,6 +288,7 @@ fn set_fits(set: &NumberSet)
     let _greatest = set.greatest();
 }
 
+/// States that a date-time, if any, is well-formed.
 fn date_fits(date: &Option<DateTime>)
     ensures { Where IsDateTime date.now }
 {
@@ -281,6 +297,7 @@ fn date_fits(date: &Option<DateTime>)
     }
 }
 
+/// Whether all sections may be sent.
 fn are_parts(parts: &[SectionData]) -> bool
     ensures { IsTrue result ↔ Each IsPart parts.now }
 {
@@ -292,6 +309,7 @@ fn are_parts(parts: &[SectionData]) -> bool
     true
 }
 
+/// Whether a section with its octets may be sent.
 fn is_part(part: &SectionData) -> bool
     ensures { IsTrue result ↔ IsPart part.now }
 {
@@ -300,6 +318,7 @@ fn is_part(part: &SectionData) -> bool
     is_section(&part.section)
 }
 
+/// Whether a section's list of field names, if it has one, isn't empty.
 fn is_section(section: &Section) -> bool
     ensures { IsTrue result ↔ IsSection section.now }
 {
@@ -310,6 +329,7 @@ fn is_section(section: &Section) -> bool
     }
 }
 
+/// Whether there is at least one name of a header field.
 fn are_field_names(names: &[Octets]) -> bool
     ensures { IsTrue result ↔ AreFieldNames names.now }
 {
@@ -317,6 +337,7 @@ fn are_field_names(names: &[Octets]) -> bool
     !names.is_empty()
 }
 
+/// States that the lengths of names have 64 bits.
 fn names_fit(names: &[Octets])
     ensures { Each (λ name. IsWide (length name)) names.now }
 {
@@ -325,25 +346,28 @@ fn names_fit(names: &[Octets])
     }
 }
 
+/// States that the length of an octet string has 64 bits.
 fn octets_fit(octets: &Octets)
     ensures { IsWide (length octets.now) }
 {
     let _count = octets.as_bytes().len();
 }
 
+/// States that the length of a text has 64 bits.
 fn text_fits(text: &Text)
     ensures { IsWide (length text.now) }
 {
     let _count = text.as_bytes().len();
 }
 
-/// From 1 on.
+/// Whether a number is from 1 on.
 fn is_nonzero(number: u32) -> bool
     ensures { IsTrue result ↔ IsNonzero number }
 {
     number != 0
 }
 
+/// Whether a number is from 1 on, or there is none.
 fn is_nonzero_if_any(number: Option<u32>) -> bool
     ensures { IsTrue result ↔ Where IsNonzero number }
 {
@@ -353,13 +377,14 @@ fn is_nonzero_if_any(number: Option<u32>) -> bool
     }
 }
 
-/// From 1 on.
+/// Whether a mod-sequence is from 1 on.
 fn is_modseq(modseq: u64) -> bool
     ensures { IsTrue result ↔ IsModSeq modseq }
 {
     modseq != 0
 }
 
+/// Whether a mod-sequence is from 1 on, or there is none.
 fn is_modseq_if_any(modseq: Option<u64>) -> bool
     ensures { IsTrue result ↔ Where IsModSeq modseq }
 {
@@ -369,14 +394,17 @@ fn is_modseq_if_any(modseq: Option<u64>) -> bool
     }
 }
 
+/// States that a number has 32 bits.
 fn small_fits(number: u32)
     ensures { IsSmall number }
 {}
 
+/// States that a number, if any, has 32 bits.
 fn small_fits_if_any(number: Option<u32>)
     ensures { Where IsSmall number }
 {}
 
+/// States that a number, if any, has 64 bits.
 fn wide_fits_if_any(number: Option<u64>)
     ensures { Where IsWide number }
 {}

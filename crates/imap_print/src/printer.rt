@@ -1,3 +1,5 @@
+//! Printing of whole answers.
+
 ghost use Rattle.std.specs.Prelude.{◌≡◌, ◌++◌, codes, decimal, IfSome, OnErr, OnOk};
 ghost use Rattle.imap_print.specs.Appending.{Appends, StartsWith};
 ghost use Rattle.imap_print.specs.Lines.{EndsFlags, done_line, flags_end, numbered_line, only_flags};
@@ -15,11 +17,12 @@ use imap_types::{Flags, Name, Octets};
 use itoa::Buffer;
 use std::alloc::AllocError;
 
-/// So many octets most answers take at most, so that a line's memory is asked for once.
+/// The capacity, in octets, with which a line begins. Most answers fit, so that memory is requested
+/// once.
 const USUAL_LINE: usize = 128;
 
-/// Puts an answer's text with its line end behind what is there. `Err` where there is no memory for it, and then
-/// nothing is changed.
+/// Appends an answer's text with its line end to `out`. `Err` if memory runs out; `out` is then
+/// unchanged.
 pub fn print(answer: &Answer, out: &mut Vec<u8>) -> Result<(), AllocError>
     ensures ok { OnOk result (out.new.items ≡ out.old.items ++ text_of_answer answer.now) }
     ensures err { OnErr result (out.new.items ≡ out.old.items) }
@@ -34,7 +37,8 @@ pub fn print(answer: &Answer, out: &mut Vec<u8>) -> Result<(), AllocError>
     }
 }
 
-/// The same, of which an `Err` may leave a beginning. The usual lines are put there by few texts.
+/// Appends an answer's text; an `Err` may leave part of it. The most frequent lines are appended in
+/// few pieces.
 fn push_line(answer: &Answer, out: &mut Vec<u8>) -> Result<(), AllocError>
     ensures ok { OnOk result (Appends out.old.items out.new.items (text_of_answer answer.now)) }
     ensures err { OnErr result (StartsWith out.old.items out.new.items) }
@@ -58,7 +62,7 @@ fn push_line(answer: &Answer, out: &mut Vec<u8>) -> Result<(), AllocError>
     }
 }
 
-/// What stands behind the number, where FETCH tells flags that most messages bear, and nothing else.
+/// The text after the number, if FETCH sends only flags, and those that most messages have.
 fn usual_end(items: &FetchItems) -> Option<&'static [u8]>
     ensures { IfSome result (λ end. EndsFlags items.now end.now) }
 {
@@ -67,6 +71,7 @@ fn usual_end(items: &FetchItems) -> Option<&'static [u8]>
     Some(end)
 }
 
+/// The flags, if FETCH sends nothing else.
 fn only_flags(items: &FetchItems) -> Option<&Flags>
     ensures { IfSome result (λ flags. items.now ≡ only_flags flags.now) }
 {
@@ -84,7 +89,7 @@ fn only_flags(items: &FetchItems) -> Option<&Flags>
     }
 }
 
-/// The end of a line of flags, for the sets that most messages bear.
+/// The text after the number in a line of flags, for the sets that most messages have.
 fn flags_end(flags: &Flags) -> Option<&'static [u8]>
     ensures { IfSome result (λ end. end.now ≡ flags_end flags.now) }
 {
@@ -115,7 +120,7 @@ fn flags_end(flags: &Flags) -> Option<&'static [u8]>
     }
 }
 
-/// The line of the message with this number.
+/// Appends a line from the number of its message and the text after that number.
 #[tactic(auto, using(crate::proofs::LineLemmas::starts_same, crate::proofs::LineLemmas::starts_behind))]
 fn push_numbered_line(number: u32, end: &[u8], out: &mut Vec<u8>) -> Result<(), AllocError>
     ensures ok { OnOk result (Appends out.old.items out.new.items (numbered_line number end.now)) }
@@ -129,7 +134,7 @@ fn push_numbered_line(number: u32, end: &[u8], out: &mut Vec<u8>) -> Result<(), 
     Ok(())
 }
 
-/// The line of a command that is done without a code.
+/// Appends the line of a command that is completed without a code.
 #[tactic(auto, using(crate::proofs::LineLemmas::starts_same, crate::proofs::LineLemmas::starts_behind))]
 fn push_done_line(tag: &[u8], word: &[u8], out: &mut Vec<u8>) -> Result<(), AllocError>
     ensures ok { OnOk result (Appends out.old.items out.new.items (done_line tag.now word.now)) }
@@ -142,7 +147,8 @@ fn push_done_line(tag: &[u8], word: &[u8], out: &mut Vec<u8>) -> Result<(), Allo
     Ok(())
 }
 
-/// Any other line, by memory of its own, so that an `Err` leaves all as it was.
+/// Appends any other line. It is first written to memory of its own, so that an `Err` leaves `out`
+/// unchanged.
 #[tactic(auto, using(crate::proofs::LineLemmas::starts_same))]
 fn push_apart(answer: &Answer, out: &mut Vec<u8>) -> Result<(), AllocError>
     ensures ok { OnOk result (Appends out.old.items out.new.items (text_of_answer answer.now)) }
@@ -154,6 +160,7 @@ fn push_apart(answer: &Answer, out: &mut Vec<u8>) -> Result<(), AllocError>
     Ok(())
 }
 
+/// Appends an answer's text; an `Err` may leave part of it.
 fn push_any_line(answer: &Answer, out: &mut Vec<u8>) -> Result<(), AllocError>
     ensures { OnOk result (Appends out.old.items out.new.items (text_of_answer answer.now)) }
 {
@@ -161,6 +168,7 @@ fn push_any_line(answer: &Answer, out: &mut Vec<u8>) -> Result<(), AllocError>
     push_text(b"\r\n", out)
 }
 
+/// Appends an answer without its line end; an `Err` may leave part of it.
 #[tactic(auto, unfolding(imap_answers::specs::Printed::line_of_answer))]
 fn push_answer(answer: &Answer, out: &mut Vec<u8>) -> Result<(), AllocError>
     ensures { OnOk result (Appends out.old.items out.new.items (line_of_answer answer.now)) }
@@ -195,6 +203,7 @@ fn push_answer(answer: &Answer, out: &mut Vec<u8>) -> Result<(), AllocError>
     }
 }
 
+/// Appends an untagged OK.
 fn push_notice_line(notice: &Notice, out: &mut Vec<u8>) -> Result<(), AllocError>
     ensures { OnOk result (Appends out.old.items out.new.items (codes "* OK " ++ notice_text notice.now ++ codes " ok")) }
 {
@@ -203,6 +212,7 @@ fn push_notice_line(notice: &Notice, out: &mut Vec<u8>) -> Result<(), AllocError
     push_text(b" ok", out)
 }
 
+/// Appends the tagged line of a refused command.
 fn push_refused(tag: &Octets, reason: Refusal, out: &mut Vec<u8>) -> Result<(), AllocError>
     ensures { OnOk result (Appends out.old.items out.new.items (tag.now ++ codes " " ++ refusal_text reason)) }
 {
@@ -211,6 +221,7 @@ fn push_refused(tag: &Octets, reason: Refusal, out: &mut Vec<u8>) -> Result<(), 
     push_text(reason.text(), out)
 }
 
+/// Appends `* `, a number and a word.
 fn push_numbered(number: u32, word: &[u8], out: &mut Vec<u8>) -> Result<(), AllocError>
     ensures { OnOk result (Appends out.old.items out.new.items (codes "* " ++ decimal number ++ word.now)) }
 {
@@ -218,6 +229,7 @@ fn push_numbered(number: u32, word: &[u8], out: &mut Vec<u8>) -> Result<(), Allo
     push_text(word, out)
 }
 
+/// Appends a name in LIST.
 fn push_list(
     name: &Name,
     state: MailboxState,
@@ -233,6 +245,7 @@ fn push_list(
     Ok(())
 }
 
+/// Appends a mailbox in STATUS.
 fn push_status(name: &Name, items: &StatusItems, out: &mut Vec<u8>) -> Result<(), AllocError>
     ensures { OnOk result (Appends out.old.items out.new.items (status_text name.now items.now)) }
 {
@@ -244,6 +257,7 @@ fn push_status(name: &Name, items: &StatusItems, out: &mut Vec<u8>) -> Result<()
     Ok(())
 }
 
+/// Appends the results of a search.
 fn push_search(
     tag: &Octets,
     by_uid: bool,
@@ -259,13 +273,14 @@ fn push_search(
     Ok(())
 }
 
-/// The end of the tag in ESEARCH, and whether it tells UIDs.
+/// The text after the tag in ESEARCH, by whether the hits are UIDs.
 fn uid_mark(by_uid: bool) -> &'static [u8]
     ensures { result.now ≡ uid_mark by_uid }
 {
     if by_uid { b"\") UID" } else { b"\")" }
 }
 
+/// Appends the items of a message in FETCH.
 fn push_fetch(number: u32, items: &FetchItems, out: &mut Vec<u8>) -> Result<(), AllocError>
     ensures { OnOk result (Appends out.old.items out.new.items (fetch_text number items.now)) }
 {
@@ -275,6 +290,7 @@ fn push_fetch(number: u32, items: &FetchItems, out: &mut Vec<u8>) -> Result<(), 
     Ok(())
 }
 
+/// Appends the tagged line of a completed command.
 fn push_completed(
     tag: &Octets,
     code: &Option<Code>,

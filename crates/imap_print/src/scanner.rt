@@ -1,4 +1,4 @@
-//! Reading of strings, numbers and sets. Each reader tells what it read and what stands behind that.
+//! Reading of strings, numbers and sets. Each reader gives what it read and the octets after it.
 
 ghost use Rattle.std.specs.Prelude.{◌≡◌, false, [], option_map};
 ghost use Rattle.imap_types.specs.DateTimes.{is_digit};
@@ -8,7 +8,7 @@ use crate::fault::ReadFault;
 use imap_types::{NumberSet, Octets, Run, is_astring_octet, is_atom_octet};
 use std::alloc::Global;
 
-/// What stands behind a prefix.
+/// The octets after a prefix, if they begin with it.
 pub fn skip<'a>(bytes: &'a [u8], prefix: &[u8]) -> Option<&'a [u8]>
     ensures { option_map (λ rest. rest.now) result ≡ after prefix.now bytes.now }
 {
@@ -27,7 +27,7 @@ pub fn skip<'a>(bytes: &'a [u8], prefix: &[u8]) -> Option<&'a [u8]>
     Some(rest)
 }
 
-/// What stands behind a prefix, which has to be there.
+/// The octets after a prefix; `NotPrinted` if they don't begin with it.
 pub fn expect<'a>(bytes: &'a [u8], prefix: &[u8]) -> Result<&'a [u8], ReadFault>
     ensures { Gives (λ x. x.now) result (after prefix.now bytes.now) }
 {
@@ -37,7 +37,7 @@ pub fn expect<'a>(bytes: &'a [u8], prefix: &[u8]) -> Result<&'a [u8], ReadFault>
     }
 }
 
-/// A value, where this text stands behind it, and what stands behind that.
+/// The value `found`, if the octets begin with `text`, and the octets after that text.
 pub fn value_before_text<'a, T: Drop>(
     found: T,
     bytes: &'a [u8],
@@ -51,7 +51,8 @@ pub fn value_before_text<'a, T: Drop>(
     }
 }
 
-/// The number of the digits that come first, at most what 64 bits hold; 0 where there are none.
+/// Reads the number that the leading digits write; 0 if there are none, the greatest `u64` if it is
+/// greater.
 pub fn number(bytes: &[u8]) -> (u64, &[u8])
     ensures value { result.0 ≡ (number_from 0 bytes.now).0 }
     ensures rest { result.1.now ≡ (number_from 0 bytes.now).1 }
@@ -70,13 +71,14 @@ pub fn number(bytes: &[u8]) -> (u64, &[u8])
     (value, rest)
 }
 
+/// Whether an octet is a decimal digit.
 fn is_digit(octet: u8) -> bool
     ensures { result ≡ is_digit octet }
 {
     octet >= b'0' && octet <= b'9'
 }
 
-/// At most what 32 bits hold.
+/// The number as 32 bits; greater numbers become 4,294,967,295.
 pub fn small(number: u64) -> u32
     ensures { result ≡ small number }
 {
@@ -86,11 +88,11 @@ pub fn small(number: u64) -> u32
 /// A class of octets (RFC 9051, section 9).
 #[derive(Clone, Copy)]
 pub enum ScanClass {
-    /// Of a tag.
+    /// Octets of a tag.
     Tag,
-    /// Of an unquoted string.
+    /// Octets of a string without quotes.
     Astring,
-    /// Of an atom.
+    /// Octets of an atom.
     Atom,
 }
 
@@ -98,7 +100,7 @@ impl ScanClass {
     ghost use Rattle.std.specs.Prelude.{◌≡◌};
     ghost use Rattle.imap_print.specs.Reading.{is_in};
 
-    /// Whether an octet is of this class.
+    /// Whether an octet belongs to this class.
     pub fn has(self, octet: u8) -> bool
         ensures { result ≡ is_in self octet }
     {
@@ -110,7 +112,7 @@ impl ScanClass {
     }
 }
 
-/// The longest front of octets of a class, and the rest.
+/// Splits the octets after the longest prefix whose octets all belong to a class.
 pub fn span(class: ScanClass, bytes: &[u8]) -> (&[u8], &[u8])
     ensures front { result.0.now ≡ (span (is_in class) bytes.now).0 }
     ensures rest { result.1.now ≡ (span (is_in class) bytes.now).1 }
@@ -123,7 +125,7 @@ pub fn span(class: ScanClass, bytes: &[u8]) -> (&[u8], &[u8])
     (bytes, &[])
 }
 
-/// The string of these octets up to the `"` that ends it, and what stands behind that.
+/// Reads a string after its opening `"`, up to the closing one.
 fn quoted_string(alloc: Global, bytes: &[u8]) -> Result<(Octets, &[u8]), ReadFault>
     ensures { Gives (λ x. (x.0, x.1.now)) result (quoted_from false bytes.now) }
 {
@@ -145,7 +147,7 @@ fn quoted_string(alloc: Global, bytes: &[u8]) -> Result<(Octets, &[u8]), ReadFau
     Err(ReadFault::NotPrinted)
 }
 
-/// A string in quotes, or the octets that need none, and the rest.
+/// Reads a string, with or without quotes.
 pub fn string(alloc: Global, bytes: &[u8]) -> Result<(Octets, &[u8]), ReadFault>
     ensures { Gives (λ x. (x.0, x.1.now)) result (string_at bytes.now) }
 {
@@ -158,7 +160,7 @@ pub fn string(alloc: Global, bytes: &[u8]) -> Result<(Octets, &[u8]), ReadFault>
     }
 }
 
-/// A counted literal, and the rest.
+/// Reads a literal.
 #[tactic(auto, unfolding(crate::specs::Reading::literal_at))]
 pub fn literal(alloc: Global, bytes: &[u8]) -> Result<(Octets, &[u8]), ReadFault>
     ensures { Gives (λ x. (x.0, x.1.now)) result (literal_at bytes.now) }
@@ -170,7 +172,7 @@ pub fn literal(alloc: Global, bytes: &[u8]) -> Result<(Octets, &[u8]), ReadFault
     Ok((Octets::from_slice(alloc, front)?, rest))
 }
 
-/// So many octets, and the rest.
+/// Splits the octets after the first `count`.
 pub fn counted_octets(count: u64, bytes: &[u8]) -> Result<(&[u8], &[u8]), ReadFault>
     ensures { Gives (λ x. (x.0.now, x.1.now)) result (counted count bytes.now) }
 {
@@ -180,7 +182,7 @@ pub fn counted_octets(count: u64, bytes: &[u8]) -> Result<(&[u8], &[u8]), ReadFa
     Ok(bytes.split_at(count as usize))
 }
 
-/// The name of a header field, and the rest.
+/// Reads the name of a header field.
 #[tactic(auto, unfolding(crate::specs::Reading::field_at))]
 pub fn field(alloc: Global, bytes: &[u8]) -> Result<(Octets, &[u8]), ReadFault>
     ensures { Gives (λ x. (x.0, x.1.now)) result (field_at bytes.now) }
@@ -192,6 +194,7 @@ pub fn field(alloc: Global, bytes: &[u8]) -> Result<(Octets, &[u8]), ReadFault>
     }
 }
 
+/// Reads a run: one number, or two with a `:` between.
 fn run(bytes: &[u8]) -> (Run, &[u8])
     ensures run { result.0 ≡ (run_at bytes.now).0 }
     ensures rest { result.1.now ≡ (run_at bytes.now).1 }
@@ -216,6 +219,7 @@ fn run(bytes: &[u8]) -> (Run, &[u8])
     }
 }
 
+/// Reads at most `count` runs separated by commas.
 fn runs(alloc: Global, count: usize, bytes: &[u8]) -> Result<(Vec<Run>, &[u8]), ReadFault>
     ensures { Gives (λ x. (x.0.items, x.1.now)) result (runs_at count bytes.now) }
 {
@@ -232,7 +236,7 @@ fn runs(alloc: Global, count: usize, bytes: &[u8]) -> Result<(Vec<Run>, &[u8]), 
     Err(ReadFault::NotPrinted)
 }
 
-/// A set of numbers, and the rest.
+/// Reads a set of numbers.
 #[tactic(auto, unfolding(crate::specs::Reading::set_at))]
 pub fn set(alloc: Global, bytes: &[u8]) -> Result<(NumberSet, &[u8]), ReadFault>
     ensures { Gives (λ x. (x.0, x.1.now)) result (set_at bytes.now) }
@@ -244,7 +248,7 @@ pub fn set(alloc: Global, bytes: &[u8]) -> Result<(NumberSet, &[u8]), ReadFault>
     }
 }
 
-/// Words with spaces between them, the first of the list where `is_first`, up to what isn't one.
+/// Reads fewer than `count` words of a list, each after a space unless it is the first of the list.
 pub fn words(
     alloc: Global,
     count: usize,
@@ -272,7 +276,7 @@ pub fn words(
     Err(ReadFault::NotPrinted)
 }
 
-/// What stands between the texts of a list.
+/// What comes before a text of a list: a space, unless it is the first.
 pub fn lead(is_first: bool) -> &'static [u8]
     ensures { result.now ≡ lead is_first [] }
 {

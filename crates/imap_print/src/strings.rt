@@ -1,5 +1,5 @@
-//! Strings, numbers and sets of numbers as answers print them. Each function puts a text behind what is there; an
-//! `Err`, which is want of memory, may leave a beginning of it.
+//! Printing of strings, numbers and sets of numbers (RFC 9051, section 9). Each function appends a
+//! text to `out`. An `Err`, if memory runs out, may leave part of it.
 
 ghost use Rattle.std.specs.Prelude.{◌≡◌, ◌++◌, [], ◌∷◌, codes, decimal, flat_map, map, OnOk};
 ghost use Rattle.std.specs.List.{list_all, list_any};
@@ -11,13 +11,14 @@ use imap_types::{Name, NumberSet, Run, is_astring_octet};
 use itoa::Buffer;
 use std::alloc::AllocError;
 
+/// Appends a text.
 pub fn push_text(text: &[u8], out: &mut Vec<u8>) -> Result<(), AllocError>
     ensures { OnOk result (Appends out.old.items out.new.items text.now) }
 {
     out.extend_from_slice(text)
 }
 
-/// Decimal digits without leading zeros.
+/// Appends a number in decimal digits without leading zeros.
 pub fn push_number(number: u64, out: &mut Vec<u8>) -> Result<(), AllocError>
     ensures { OnOk result (Appends out.old.items out.new.items (decimal number)) }
 {
@@ -25,7 +26,7 @@ pub fn push_number(number: u64, out: &mut Vec<u8>) -> Result<(), AllocError>
     push_text(buffer.format(number).as_bytes(), out)
 }
 
-/// A label and a number.
+/// Appends a label and a number.
 pub fn push_label(label: &[u8], number: u64, out: &mut Vec<u8>) -> Result<(), AllocError>
     ensures { OnOk result (Appends out.old.items out.new.items (label.now ++ decimal number)) }
 {
@@ -33,7 +34,7 @@ pub fn push_label(label: &[u8], number: u64, out: &mut Vec<u8>) -> Result<(), Al
     push_number(number, out)
 }
 
-/// A label and its number, where there is one.
+/// Appends a label and its number, if there is a number.
 pub fn push_labelled(label: &[u8], number: Option<u64>, out: &mut Vec<u8>) -> Result<(), AllocError>
     ensures { OnOk result (Appends out.old.items out.new.items (labelled_number label.now number)) }
 {
@@ -43,7 +44,7 @@ pub fn push_labelled(label: &[u8], number: Option<u64>, out: &mut Vec<u8>) -> Re
     }
 }
 
-/// A mailbox name (RFC 9051, section 9, mailbox).
+/// Appends a mailbox name (RFC 9051, section 9, mailbox).
 pub fn push_name(name: &Name, out: &mut Vec<u8>) -> Result<(), AllocError>
     ensures { OnOk result (Appends out.old.items out.new.items (name_text name.now)) }
 {
@@ -56,7 +57,7 @@ pub fn push_name(name: &Name, out: &mut Vec<u8>) -> Result<(), AllocError>
     }
 }
 
-/// The name of a header field (RFC 9051, section 9, header-fld-name).
+/// Appends the name of a header field (RFC 9051, section 9, header-fld-name).
 pub fn push_field(name: &[u8], out: &mut Vec<u8>) -> Result<(), AllocError>
     ensures { OnOk result (Appends out.old.items out.new.items (field_text name.now)) }
 {
@@ -69,7 +70,7 @@ pub fn push_field(name: &[u8], out: &mut Vec<u8>) -> Result<(), AllocError>
     }
 }
 
-/// A counted literal (RFC 9051, section 9, literal).
+/// Appends a literal with its length (RFC 9051, section 9, literal).
 pub fn push_literal(string: &[u8], out: &mut Vec<u8>) -> Result<(), AllocError>
     ensures { OnOk result (Appends out.old.items out.new.items (literal_text string.now)) }
 {
@@ -79,6 +80,7 @@ pub fn push_literal(string: &[u8], out: &mut Vec<u8>) -> Result<(), AllocError>
     push_text(string, out)
 }
 
+/// Appends a string in quotes (RFC 9051, section 9, quoted).
 fn push_quoted(string: &[u8], out: &mut Vec<u8>) -> Result<(), AllocError>
     ensures { OnOk result (Appends out.old.items out.new.items (quoted_string string.now)) }
 {
@@ -87,6 +89,7 @@ fn push_quoted(string: &[u8], out: &mut Vec<u8>) -> Result<(), AllocError>
     push_text(b"\"", out)
 }
 
+/// Appends a string with its escapes.
 fn push_escaped(string: &[u8], out: &mut Vec<u8>) -> Result<(), AllocError>
     ensures { OnOk result (Appends out.old.items out.new.items (flat_map escaped_octet string.now)) }
 {
@@ -96,6 +99,7 @@ fn push_escaped(string: &[u8], out: &mut Vec<u8>) -> Result<(), AllocError>
     Ok(())
 }
 
+/// Appends an octet, after a `\` if it needs one.
 fn push_escaped_octet(octet: u8, out: &mut Vec<u8>) -> Result<(), AllocError>
     ensures { OnOk result (Appends out.old.items out.new.items (escaped_octet octet)) }
 {
@@ -106,8 +110,9 @@ fn push_escaped_octet(octet: u8, out: &mut Vec<u8>) -> Result<(), AllocError>
     }
 }
 
-/// What writes the text of one value.
+/// A writer of the texts of values.
 pub trait TextWriter {
+    /// The type of the values.
     type Value;
 
     ghost use Rattle.std.specs.Prelude.{ℕ, List, OnOk};
@@ -115,12 +120,12 @@ pub trait TextWriter {
 
     ghost text_of: { Self.Value → List ℕ };
 
-    /// Puts the text of a value behind what is there.
+    /// Appends the text of a value.
     fn push(value: &Self::Value, out: &mut Vec<u8>) -> Result<(), AllocError>
         ensures { OnOk result (Appends out.old.items out.new.items (text_of value.now)) };
 }
 
-/// The texts of values, with an octet between any two.
+/// Appends the texts of values, with an octet between each two.
 pub fn push_separated<W: TextWriter>(
     between: u8,
     values: &[W::Value],
@@ -135,7 +140,7 @@ pub fn push_separated<W: TextWriter>(
     Ok(())
 }
 
-/// The texts of values, with an octet before each.
+/// Appends the texts of values, with an octet before each.
 fn push_behind<W: TextWriter>(
     between: u8,
     values: &[W::Value],
@@ -150,7 +155,7 @@ fn push_behind<W: TextWriter>(
     Ok(())
 }
 
-/// Writes runs of numbers.
+/// Writes one run of numbers.
 struct Runs;
 
 impl TextWriter for Runs {
@@ -165,13 +170,14 @@ impl TextWriter for Runs {
     }
 }
 
-/// Numbers as runs (RFC 9051, section 9, sequence-set).
+/// Appends a set as runs separated by commas (RFC 9051, section 9, sequence-set).
 pub fn push_set(set: &NumberSet, out: &mut Vec<u8>) -> Result<(), AllocError>
     ensures { OnOk result (Appends out.old.items out.new.items (set_text set.now)) }
 {
     push_separated::<Runs>(b',', set.runs(), out)
 }
 
+/// Appends a run: one number, or the first and last of several.
 fn push_run(run: Run, out: &mut Vec<u8>) -> Result<(), AllocError>
     ensures { OnOk result (Appends out.old.items out.new.items (run_text run)) }
 {
@@ -183,19 +189,21 @@ fn push_run(run: Run, out: &mut Vec<u8>) -> Result<(), AllocError>
     push_number(u64::from(run.last), out)
 }
 
-/// Whether a string can stand without quotes.
+/// Whether a string can be printed without quotes.
 pub fn is_plain(string: &[u8]) -> bool
     ensures { result ≡ is_plain string.now }
 {
     !string.is_empty() && has_astring_octets(string) && !string.eq_ignore_ascii_case(b"nil")
 }
 
+/// Whether all octets of a string may be in an astring.
 fn has_astring_octets(string: &[u8]) -> bool
     ensures { result ≡ list_all is_astring_octet string.now }
 {
     string.iter().all(|octet| is_astring_octet(*octet))
 }
 
+/// Whether a string has a CR or LF.
 fn has_line_octet(string: &[u8]) -> bool
     ensures { result ≡ has_line_octet string.now }
 {
