@@ -8,7 +8,7 @@ use crate::fault::ParseFault;
 use crate::scan::span;
 use imap_syntax::{CommandWord, OctetClass};
 
-/// A value that stands for a word of the grammar, which is read without regard to ASCII case.
+/// A value that is written as one word of the grammar, in any ASCII case.
 pub trait GrammarWord: Copy {
     ghost use Rattle.std.specs.Prelude.{ℕ, List};
 

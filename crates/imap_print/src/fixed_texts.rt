@@ -10,7 +10,7 @@ use imap_answers::{
     ByeReason, CompletedWord, Continuation, EnabledExtensions, Login, MailboxState, Refusal,
 };
 
-/// A value that stands for one fixed text.
+/// A value with one fixed text.
 pub trait FixedText: Copy {
     ghost word: { Self → List ℕ };
 

@@ -92,7 +92,7 @@ pub fn push_flag_texts(flags: &Flags, out: &mut Vec<u8>) -> Result<bool, AllocEr
     Ok(still)
 }
 
-/// Appends flags and then `\*`, which stands for any new keyword.
+/// Appends flags and then `\*`, the flag for any new keyword.
 pub fn push_flags_and_any(flags: &Flags, out: &mut Vec<u8>) -> Result<bool, AllocError>
     ensures { IfOk result (λ still. Lists true (flag_texts flags.now ++ codes "\\*" ∷ []) out.old.items out.new.items still) }
 {
